@@ -1,2 +1,4 @@
 mod Examples
 pub mod Pasts
+pub mod LawsOfHandles
+pub mod Tables
