@@ -2,3 +2,4 @@ mod Examples
 pub mod Pasts
 pub mod LawsOfHandles
 pub mod Tables
+pub mod OneBlock
