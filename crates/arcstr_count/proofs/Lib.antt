@@ -2,3 +2,5 @@ mod Examples
 pub mod Pasts
 pub mod LawsOfHandles
 pub mod Tables
+pub mod Counting
+pub mod LawsOfBlocks
