@@ -3,3 +3,5 @@ pub mod Pasts
 pub mod LawsOfHandles
 pub mod Tables
 pub mod OneBlock
+pub mod Counting
+pub mod LawsOfBlocks
