@@ -5,3 +5,4 @@ pub mod Tables
 pub mod OneBlock
 pub mod Counting
 pub mod LawsOfBlocks
+pub mod Seats

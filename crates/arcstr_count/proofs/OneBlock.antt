@@ -20,6 +20,7 @@ use Rattle.arcstr_count.specs.Summary.{handles_of, handle_summary}
 use Rattle.arcstr_count.specs.OneBlock.{Keeps, IsOneBlock, EndsIn, states_after, look_reply}
 use Rattle.arcstr_count.proofs.Pasts.{past_of-step, IsPast-past_of}
 use Rattle.arcstr_count.proofs.LawsOfHandles.{IsIn, block_made}
+use Rattle.arcstr_count.proofs.LawsOfPasts.{word_stands, Sub_counted, Sub_last}
 use Rattle.arcstr_count.proofs.Tables.{length-numbers_below, length-handles_of, handle_at, handles-Clone, handles-Begin, handles-Sub, handles-Back}
 
 -- ---- the states of the handles, as a column of the table
@@ -112,10 +113,17 @@ on_block limit r w seats h state keeps i =
 
 -- ---- what the word says
 
+-- the one block was made
+pub made_one : (limit : ℕ) (r : List Step) (w : FlagAndCount) (seats : List HandleState) → Keeps limit r w seats
+    → 0 < makes (past_of limit r)
+made_one limit r w seats keeps = let one = keeps.one_block.made in omega arith
+
 -- the word stands for the block's living handles
-stands : (limit : ℕ) (r : List Step) (w : FlagAndCount) (seats : List HandleState) → Keeps limit r w seats
+pub stands : (limit : ℕ) (r : List Step) (w : FlagAndCount) (seats : List HandleState) → Keeps limit r w seats
     → Stands limit (past_of limit r) 0 w
-stands limit r w seats keeps = ?
+stands limit r w seats keeps =
+    subst (Stands limit (past_of limit r) 0) (sym keeps.left)
+    (word_stands limit (past_of limit r) 0 (IsPast-past_of limit r) (made_one limit r w seats keeps))
 
 -- a subtraction of a dropping handle is the last one exactly if the word says so, and finds a count to take from
 record Subtracts (limit : ℕ) (p : List Step) (h : ℕ) (w : FlagAndCount) : Type 0 where
@@ -124,7 +132,16 @@ record Subtracts (limit : ℕ) (p : List Step) (h : ℕ) (w : FlagAndCount) : Ty
 
 subtracts : (limit : ℕ) (r : List Step) (w : FlagAndCount) (seats : List HandleState) (h : ℕ) → Keeps limit r w seats
     → IsIn limit (past_of limit r) h Dropping → Subtracts limit (past_of limit r) h w
-subtracts limit r w seats h keeps i = ?
+subtracts limit r w seats h keeps i =
+    let accepted : is_accepted limit (past_of limit r) (Sub h) ≡ true =
+        ap (λ o. is_none (unless_dropping o)) (found_in limit (past_of limit r) h Dropping i) in
+    let same : word_left limit (past_of limit r) (block_of (past_of limit r) h) ≡ w =
+        ap (λ b. word_left limit (past_of limit r) b) (on_block limit r w seats h Dropping keeps i) ∙ sym keeps.left in
+    record {
+      counted = subst (λ (word : FlagAndCount). 0 < word.count) same
+          (Sub_counted limit (past_of limit r) h (IsPast-past_of limit r) accepted);
+      last = sym (Sub_last limit (past_of limit r) h (IsPast-past_of limit r) accepted) ∙ ap is_last same;
+    }
 
 -- ---- each step, accepted, with its answer and what it keeps
 
