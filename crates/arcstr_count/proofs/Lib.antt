@@ -4,3 +4,4 @@ pub mod LawsOfHandles
 pub mod Tables
 pub mod Counting
 pub mod LawsOfBlocks
+pub mod LawsOfPasts
