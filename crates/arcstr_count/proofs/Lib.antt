@@ -5,3 +5,4 @@ pub mod Tables
 pub mod Counting
 pub mod LawsOfBlocks
 pub mod LawsOfPasts
+pub mod Laws
