@@ -219,24 +219,24 @@ dropping-le-living limit p b =
     count-le (λ h. is_held limit p b is_dropping h) (λ h. is_held limit p b lives h) (births p)
     (λ h. dropping_lives (block_of p h == b) (state_of limit p h))
 
--- a handle that lives is among those that live on its block
-pub contains_living : (limit : ℕ) (p : List Step) (h : ℕ) (s : HandleState) → IsIn limit p h s → lives s ≡ true
-    → Contains (living limit p (block_of p h)) h
-contains_living limit p h s found alive =
-    contains_passing (λ k. is_held limit p (block_of p h) lives k) (births p) h found.born passes
+-- a handle in a state that passes is among those that pass on its block
+contains_held : (limit : ℕ) (p : List Step) (h : ℕ) (s : HandleState) (test : HandleState → Bool) → IsIn limit p h s → test s ≡ true
+    → Contains (filter (λ k. is_held limit p (block_of p h) test k) (numbers_below (births p))) h
+contains_held limit p h s test found passes =
+    contains_passing (λ k. is_held limit p (block_of p h) test k) (births p) h found.born here
   where
-    passes : is_held limit p (block_of p h) lives h ≡ true
-    passes = held_by (block_of p h) lives refl found.state ∙ rw (eq-eqb (block_of p h) (block_of p h) refl, alive) refl
+    here : is_held limit p (block_of p h) test h ≡ true
+    here = held_by (block_of p h) test refl found.state ∙ rw (eq-eqb (block_of p h) (block_of p h) refl, passes) refl
 
-pub some_living : (limit : ℕ) (p : List Step) (h : ℕ) (s : HandleState) → IsIn limit p h s → lives s ≡ true
-    → 0 < held limit p (block_of p h) lives
-some_living limit p h s found alive =
-    let member = contains_living limit p h s found alive in
+pub some_held : (limit : ℕ) (p : List Step) (h : ℕ) (s : HandleState) (test : HandleState → Bool) → IsIn limit p h s → test s ≡ true
+    → 0 < held limit p (block_of p h) test
+some_held limit p h s test found passes =
+    let member = contains_held limit p h s test found passes in
     let within = member.1 in
     omega arith
 
--- so it is the only one exactly if one lives there
+-- a handle that lives is the only one exactly if one lives there
 pub is_only-living : (limit : ℕ) (p : List Step) (h : ℕ) (s : HandleState) → IsIn limit p h s → lives s ≡ true
     → is_only h (living limit p (block_of p h)) ≡ (held limit p (block_of p h) lives == 1)
 is_only-living limit p h s found alive =
-    is_only-member (living limit p (block_of p h)) h (contains_living limit p h s found alive)
+    is_only-member (living limit p (block_of p h)) h (contains_held limit p h s lives found alive)

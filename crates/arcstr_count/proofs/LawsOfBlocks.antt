@@ -11,34 +11,34 @@ use Rattle.arcstr_count.specs.Marks.{is_marked, living, is_only}
 use Rattle.arcstr_count.specs.Answer.{is_accepted}
 use Rattle.arcstr_count.specs.Past.{IsPast, times_given}
 use Rattle.arcstr_count.specs.Left.{word_left, is_dropping, is_owing}
-use Rattle.arcstr_count.proofs.Counting.{one, held, Make_here, Make_elsewhere, Clone_here, Clone_elsewhere, changed_here, changed_elsewhere, dropping-le-living, some_living, is_only-living}
+use Rattle.arcstr_count.proofs.Counting.{one, held, Make_here, Make_elsewhere, Clone_here, Clone_elsewhere, changed_here, changed_elsewhere, dropping-le-living, some_held, is_only-living}
 use Rattle.arcstr_count.proofs.LawsOfHandles.{Clone-finds, Sub-finds, Leak-finds, Begin-changes, Sub-changes, Back-changes, IntoRaw-changes, FromRaw-changes}
 use Rattle.arcstr_count.proofs.Tables.{unmade_block, marked-Clone_other, given-Back, given-Back_other, marked-Leak_other}
 
 -- ---- the word, the mark and the counts of one block
 
 -- how many handles on a block are in a state that passes
-abbrev Counts : Type 0
+abbrev pub Counts : Type 0
 Counts = (HandleState → Bool) → ℕ
 
 -- an unmarked block: its word counts the living handles, which are at most limit + 1; while one lives
 -- it is neither owed nor given back, and once none does it is one of the two, once
-record Unmarked (limit : ℕ) (w : FlagAndCount) (n : Counts) (given : ℕ) : Type 0 where
-  flag : w.flag ≡ false
-  count : w.count ≡ n lives
-  few : n lives ≤ limit + 1
-  held : 0 < n lives → n is_owing + given ≡ 0
-  ended : n lives ≡ 0 → n is_owing + given ≡ 1
+pub record Unmarked (limit : ℕ) (w : FlagAndCount) (n : Counts) (given : ℕ) : Type 0 where
+  pub flag : w.flag ≡ false
+  pub count : w.count ≡ n lives
+  pub few : n lives ≤ limit + 1
+  pub held : 0 < n lives → n is_owing + given ≡ 0
+  pub ended : n lives ≡ 0 → n is_owing + given ≡ 1
 
 -- a marked block: its word counts no fewer than the dropping handles and at most limit + 1, and it is
 -- neither owed nor given back
-record Marked (limit : ℕ) (w : FlagAndCount) (n : Counts) (given : ℕ) : Type 0 where
-  flag : w.flag ≡ true
-  covered : n is_dropping ≤ w.count
-  bounded : w.count ≤ limit + 1
-  held : n is_owing + given ≡ 0
+pub record Marked (limit : ℕ) (w : FlagAndCount) (n : Counts) (given : ℕ) : Type 0 where
+  pub flag : w.flag ≡ true
+  pub covered : n is_dropping ≤ w.count
+  pub bounded : w.count ≤ limit + 1
+  pub held : n is_owing + given ≡ 0
 
-abbrev Balanced : ℕ → FlagAndCount → (marked : Bool) → Counts → (given : ℕ) → Type 0
+abbrev pub Balanced : ℕ → FlagAndCount → (marked : Bool) → Counts → (given : ℕ) → Type 0
 Balanced limit w false n given = Unmarked limit w n given
 Balanced limit w true n given = Marked limit w n given
 
@@ -237,7 +237,7 @@ after_Leak limit w n g false some fewer b = record {
 
 -- ---- so in each past
 
-abbrev Balance : ℕ → List Step → ℕ → Type 0
+abbrev pub Balance : ℕ → List Step → ℕ → Type 0
 Balance limit p b = Balanced limit (word_left limit p b) (is_marked limit p b) (λ test. held limit p b test) (times_given p b)
 
 same_test : (b : ℕ) → (b == b) ≡ true
@@ -289,7 +289,7 @@ module _ (limit : ℕ) (p : List Step) (past : IsPast limit p) where
           (λ test. held limit p (block_of p h) test) (λ test. held limit (Clone h ∷ p) (block_of p h) test)
           (times_given p (block_of p h)) (is_marked limit p (block_of p h))
           (λ test. Clone_here limit p h test past)
-          (some_living limit p h Free (Clone-finds limit p h a) refl) (dropping-le-living limit p (block_of p h)) before)
+          (some_held limit p h Free lives (Clone-finds limit p h a) refl) (dropping-le-living limit p (block_of p h)) before)
 
       elsewhere : b ≢ block_of p h → Balance limit p b → Balance limit (Clone h ∷ p) b
       elsewhere apart = unchanged (Clone h ∷ p) b (rw (other_test (block_of p h) b apart) refl)
@@ -368,13 +368,13 @@ module _ (limit : ℕ) (p : List Step) (past : IsPast limit p) where
       here : Balance limit p (block_of p h) → Balance limit (Leak h ∷ p) (block_of p h)
       here before = rw (same_test (block_of p h)) (after_Leak limit (word_left limit p (block_of p h))
           (λ test. held limit p (block_of p h) test) (times_given p (block_of p h)) (is_marked limit p (block_of p h))
-          (some_living limit p h Free (Leak-finds limit p h a) refl) (dropping-le-living limit p (block_of p h)) before)
+          (some_held limit p h Free lives (Leak-finds limit p h a) refl) (dropping-le-living limit p (block_of p h)) before)
 
       elsewhere : b ≢ block_of p h → Balance limit p b → Balance limit (Leak h ∷ p) b
       elsewhere apart = unchanged (Leak h ∷ p) b (rw (other_test (block_of p h) b apart) refl)
           (marked-Leak_other limit p h b apart) (λ test. refl) refl
 
-balance : (limit : ℕ) (p : List Step) (b : ℕ) → IsPast limit p → b < makes p → Balance limit p b
+pub balance : (limit : ℕ) (p : List Step) (b : ℕ) → IsPast limit p → b < makes p → Balance limit p b
 balance limit [] b past made = absurd (omega arith)
 balance limit (Make ∷ p) b past made = by_block (cases_eq b (makes p)) (λ older. balance limit p b past.1 older)
   where

@@ -6,3 +6,5 @@ pub mod OneBlock
 pub mod Counting
 pub mod LawsOfBlocks
 pub mod Seats
+pub mod LawsOfPasts
+pub mod Laws

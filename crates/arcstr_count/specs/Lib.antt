@@ -8,3 +8,4 @@ pub mod Left
 pub mod Summary
 pub mod After
 pub mod OneBlock
+pub mod Laws
