@@ -1,2 +1,4 @@
 mod Examples
 pub mod Pasts
+mod SentencesFronts
+mod SentencesMarked

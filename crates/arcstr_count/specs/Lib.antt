@@ -7,3 +7,4 @@ pub mod Past
 pub mod Left
 pub mod Summary
 pub mod After
+pub mod Sentences

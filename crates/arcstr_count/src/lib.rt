@@ -10,5 +10,6 @@ pub use steps::{HandleState, HandleSummary, Reply, Step};
 pub use words::{RC_MAX, Word};
 
 mod faults;
+pub mod sentences;
 mod steps;
 mod words;
