@@ -2,3 +2,4 @@ mod Examples
 pub mod Pasts
 mod SentencesFronts
 mod SentencesMarked
+mod SentencesRaw

@@ -135,23 +135,25 @@ OwesSentence limit history h =
     × (living_after limit front (block_after limit front h) ≡ h ∷ []))
     × (¬ HasAccepted limit history (Back h))
 
+-- Raw, if the first fact holds; else free, if the second does; else dropping, if the third does; else owing,
+-- if the fourth does; else gone.
+abbrev pub FirstThatHolds : (raw free dropping owing : Type 0) → HandleState → Type 0
+FirstThatHolds raw free dropping owing Raw = raw
+FirstThatHolds raw free dropping owing Free = (¬ raw) × free
+FirstThatHolds raw free dropping owing Dropping = (¬ raw) × (¬ free) × dropping
+FirstThatHolds raw free dropping owing Owing = (¬ raw) × (¬ free) × (¬ dropping) × owing
+FirstThatHolds raw free dropping owing Gone = (¬ raw) × (¬ free) × (¬ dropping) × (¬ owing)
+
 -- After a history a handle that was born is raw, if the last accepted one of `IntoRaw h` and `FromRaw h` is
 -- `IntoRaw h`; else free, if the history has no accepted `Begin h`; else dropping, if that `Begin h` came
 -- where its block was unmarked and the history has no accepted `Sub h`; else owing, if it owes; else gone.
 abbrev pub StateSentence : ℕ → List Step → ℕ → HandleState → Type 0
-StateSentence limit history h Raw = LastIsIntoRaw limit history h
-StateSentence limit history h Free = (¬ LastIsIntoRaw limit history h) × (¬ HasAccepted limit history (Begin h))
-StateSentence limit history h Dropping = (¬ LastIsIntoRaw limit history h)
-    × HasAccepted limit history (Begin h)
-    × (BeganUnmarked limit history h × (¬ HasAccepted limit history (Sub h)))
-StateSentence limit history h Owing = (¬ LastIsIntoRaw limit history h)
-    × HasAccepted limit history (Begin h)
-    × (¬ (BeganUnmarked limit history h × (¬ HasAccepted limit history (Sub h))))
-    × OwesSentence limit history h
-StateSentence limit history h Gone = (¬ LastIsIntoRaw limit history h)
-    × HasAccepted limit history (Begin h)
-    × (¬ (BeganUnmarked limit history h × (¬ HasAccepted limit history (Sub h))))
-    × (¬ OwesSentence limit history h)
+StateSentence limit history h state = FirstThatHolds
+    (LastIsIntoRaw limit history h)
+    (¬ HasAccepted limit history (Begin h))
+    (BeganUnmarked limit history h × (¬ HasAccepted limit history (Sub h)))
+    (OwesSentence limit history h)
+    state
 
 -- ---- living
 
