@@ -3,3 +3,6 @@ pub mod Pasts
 mod SentencesFronts
 mod SentencesMarked
 mod SentencesRaw
+mod SentencesTable
+mod SentencesDone
+mod SentencesState
