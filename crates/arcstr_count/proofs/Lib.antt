@@ -6,3 +6,4 @@ mod SentencesRaw
 mod SentencesTable
 mod SentencesDone
 mod SentencesState
+mod SentencesLiving

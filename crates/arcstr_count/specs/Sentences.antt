@@ -164,6 +164,14 @@ LivingSentence limit history b h =
     × ((state_after limit history h ≡ Some Free)
     ⊎ ((state_after limit history h ≡ Some Raw) ⊎ (state_after limit history h ≡ Some Dropping)))
 
+-- ---- a drop under way
+
+-- A drop is under way on block b: some handle on b is dropping or owing.
+abbrev pub UnderWaySentence : ℕ → List Step → ℕ → Type 0
+UnderWaySentence limit history b =
+    (h : ℕ) × (block_after limit history h ≡ b)
+    × ((state_after limit history h ≡ Some Dropping) ⊎ (state_after limit history h ≡ Some Owing))
+
 -- ---- times given
 
 -- `Back` of a handle on block b
