@@ -7,3 +7,4 @@ mod SentencesTable
 mod SentencesDone
 mod SentencesState
 mod SentencesLiving
+mod SentencesCounts

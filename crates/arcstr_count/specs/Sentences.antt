@@ -174,11 +174,11 @@ UnderWaySentence limit history b =
 
 -- ---- times given
 
--- `Back` of a handle on block b
-abbrev pub is_back_on : ℕ → ℕ → List Step → Step → Bool
-is_back_on limit b front (Back h) = block_after limit front h == b
-is_back_on limit b front s = false
+-- `Back` of a handle whose block is b
+abbrev pub is_back_on : (block : ℕ → ℕ) → ℕ → Step → Bool
+is_back_on block b (Back h) = block h == b
+is_back_on block b s = false
 
 -- How often a block was given back: the number of accepted `Back` steps on it.
 abbrev pub given_count : ℕ → List Step → ℕ → ℕ
-given_count limit history b = accepted_count limit history (λ front s. is_back_on limit b front s)
+given_count limit history b = accepted_count limit history (λ front s. is_back_on (λ h. block_after limit front h) b s)
