@@ -8,3 +8,4 @@ mod SentencesDone
 mod SentencesState
 mod SentencesLiving
 mod SentencesCounts
+mod SentencesBirths
