@@ -4,6 +4,7 @@ mod SentencesFronts
 mod SentencesMarked
 mod SentencesRaw
 mod SentencesTable
+mod SentencesFirst
 mod SentencesDone
 mod SentencesState
 mod SentencesLiving

@@ -45,7 +45,7 @@ born_in (s ∷ p) h b lt e = BornIn-more s p h b (born_in p h b lt e)
 
 -- ---- a handle that was born keeps its block
 
-abbrev Born : List Step → ℕ → ℕ → Type 0
+abbrev pub Born : List Step → ℕ → ℕ → Type 0
 Born p h b = (h < births p) × (block_of p h ≡ b)
 
 block_of-older : (p : List Step) (h b new : ℕ) → Born p h b → (if h == births p then new else block_of p h) ≡ b
@@ -53,7 +53,7 @@ block_of-older p h b new w =
     let older : (h == births p) ≡ false = ne_eqb h (births p) (λ e. let lt = w.0 in omega arith) in
     cond-false (h == births p) new (block_of p h) older ∙ w.1
 
-Born-more : (x : Step) (p : List Step) (h b : ℕ) → Born p h b → Born (x ∷ p) h b
+pub Born-more : (x : Step) (p : List Step) (h b : ℕ) → Born p h b → Born (x ∷ p) h b
 Born-more Make p h b w = (omega (arith, w.0), block_of-older p h b (makes p) w)
 Born-more (Clone g) p h b w = (omega (arith, w.0), block_of-older p h b (block_of p g) w)
 Born-more s p h b w = w

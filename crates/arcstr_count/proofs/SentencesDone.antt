@@ -9,9 +9,10 @@ use Rattle.arcstr_count.specs.History.{block_of, is_raw, has_begun, has_subtract
 use Rattle.arcstr_count.specs.Marks.{is_marked, living, is_only, began_unmarked, was_last, state_of}
 use Rattle.arcstr_count.specs.Answer.{is_accepted, handle_state}
 use Rattle.arcstr_count.specs.Past.{IsPast, past_of}
-use Rattle.arcstr_count.specs.Sentences.{owes_after, AcceptedWhere, HasAccepted, BeganUnmarked, OwesSentence}
+use Rattle.arcstr_count.specs.Sentences.{AcceptedWhere, HasAccepted, BeganUnmarked, OwesSentence}
 use Rattle.arcstr_count.proofs.Pasts.{IsPast-past_of}
 use Rattle.arcstr_count.proofs.SentencesFronts.{InPast, in_past, in_history}
+use Rattle.arcstr_count.proofs.SentencesFirst.{tests_owing, state_of_test}
 use Rattle.arcstr_count.proofs.SentencesTable.{free_passes, dropping_passes, handle_state_sentence}
 
 -- ---- a test on pasts, and an accepted step
@@ -59,7 +60,7 @@ has_begun-latest : (h : ℕ) (x : Step) (p : List Step) → has_begun (x ∷ p) 
 has_begun-latest h (Begin g) p e = elim (latest_if g h (has_begun p h) e) [ inl d ↦ inl (ap Begin d, tt) | inr d ↦ inr d ]
 has_begun-latest h s p e = inr e
 
-has_begun-kept : (h : ℕ) (x : Step) (p : List Step) → has_begun p h ≡ true → has_begun (x ∷ p) h ≡ true
+pub has_begun-kept : (h : ℕ) (x : Step) (p : List Step) → has_begun p h ≡ true → has_begun (x ∷ p) h ≡ true
 has_begun-kept h (Begin g) p e = kept_if (g == h) (has_begun p h) e
 has_begun-kept h s p e = e
 
@@ -67,7 +68,7 @@ pub begun_sentence : (limit : ℕ) (h : ℕ) (history : List Step) → (has_begu
 begun_sentence limit h history = test_sentence limit (Begin h) (λ _. Unit {0}) (λ p. has_begun p h) refl
     (has_begun-latest h) (λ p _. here_if h true (has_begun p h) refl) (λ x p _ e. has_begun-kept h x p e) history
 
-has_subtracted-latest : (h : ℕ) (x : Step) (p : List Step) → has_subtracted (x ∷ p) h ≡ true → ((x ≡ Sub h) × Unit {0}) ⊎ (has_subtracted p h ≡ true)
+pub has_subtracted-latest : (h : ℕ) (x : Step) (p : List Step) → has_subtracted (x ∷ p) h ≡ true → ((x ≡ Sub h) × Unit {0}) ⊎ (has_subtracted p h ≡ true)
 has_subtracted-latest h (Sub g) p e = elim (latest_if g h (has_subtracted p h) e) [ inl d ↦ inl (ap Sub d, tt) | inr d ↦ inr d ]
 has_subtracted-latest h s p e = inr e
 
@@ -93,37 +94,18 @@ given_sentence limit h history = test_sentence limit (Back h) (λ _. Unit {0}) (
 
 -- ---- a handle begins once, and subtracts once
 
-state_by-free : (raw begun unmarked subtracted last given : Bool) → state_by raw begun unmarked subtracted last given ≡ Free → begun ≡ false
-state_by-free true begun unmarked subtracted last given e = absurd (cc)
-state_by-free false false unmarked subtracted last given e = refl
-state_by-free false true true false last given e = absurd (cc)
-state_by-free false true true true true false e = absurd (cc)
-state_by-free false true true true true true e = absurd (cc)
-state_by-free false true true true false given e = absurd (cc)
-state_by-free false true false subtracted true false e = absurd (cc)
-state_by-free false true false subtracted true true e = absurd (cc)
-state_by-free false true false subtracted false given e = absurd (cc)
-
-state_by-dropping : (raw begun unmarked subtracted last given : Bool) → state_by raw begun unmarked subtracted last given ≡ Dropping → subtracted ≡ false
-state_by-dropping true begun unmarked subtracted last given e = absurd (cc)
-state_by-dropping false false unmarked subtracted last given e = absurd (cc)
-state_by-dropping false true unmarked false last given e = refl
-state_by-dropping false true true true true false e = absurd (cc)
-state_by-dropping false true true true true true e = absurd (cc)
-state_by-dropping false true true true false given e = absurd (cc)
-state_by-dropping false true false true true false e = absurd (cc)
-state_by-dropping false true false true true true e = absurd (cc)
-state_by-dropping false true false true false given e = absurd (cc)
-
-begins_once : (limit : ℕ) (p : List Step) (h : ℕ) → is_accepted limit p (Begin h) ≡ true → has_begun p h ≡ false
+pub begins_once : (limit : ℕ) (p : List Step) (h : ℕ) → is_accepted limit p (Begin h) ≡ true → has_begun p h ≡ false
 begins_once limit p h e =
-    let free = (handle_state_sentence limit p h Free).0 (free_passes (handle_state limit p h) e) in
-    state_by-free (is_raw p h) (has_begun p h) (began_unmarked limit p h) (has_subtracted p h) (was_last limit p h) (has_given p h) free.1
+    let born = (handle_state_sentence limit p h Free).0 (free_passes (handle_state limit p h) e) in
+    let free = (state_of_test limit p h Free).0 born.1 in
+    not-true (has_begun p h) free.1
 
 subtracts_once : (limit : ℕ) (p : List Step) (h : ℕ) → is_accepted limit p (Sub h) ≡ true → has_subtracted p h ≡ false
 subtracts_once limit p h e =
-    let dropping = (handle_state_sentence limit p h Dropping).0 (dropping_passes (handle_state limit p h) e) in
-    state_by-dropping (is_raw p h) (has_begun p h) (began_unmarked limit p h) (has_subtracted p h) (was_last limit p h) (has_given p h) dropping.1
+    let born = (handle_state_sentence limit p h Dropping).0 (dropping_passes (handle_state limit p h) e) in
+    let dropping = (state_of_test limit p h Dropping).0 born.1 in
+    let parts = and_parts (began_unmarked limit p h) (not (has_subtracted p h)) dropping.2 in
+    not-true (has_subtracted p h) parts.1
 
 -- ---- begun where the block was unmarked
 
@@ -187,7 +169,7 @@ is_only_one h xs e = rw e (eq-eqb h h refl)
 abbrev alone : ℕ → ℕ → List Step → Bool
 alone limit h p = not (is_marked limit p (block_of p h)) && is_only h (living limit p (block_of p h))
 
-was_last-subtracted : (limit : ℕ) (h : ℕ) (p : List Step) → was_last limit p h ≡ true → has_subtracted p h ≡ true
+pub was_last-subtracted : (limit : ℕ) (h : ℕ) (p : List Step) → was_last limit p h ≡ true → has_subtracted p h ≡ true
 was_last-subtracted limit h [] e = e
 was_last-subtracted limit h (Sub g ∷ p) e = go (g == h) e (was_last-subtracted limit h p)
   where
@@ -245,7 +227,7 @@ and_not_sentence a b P Q d e = (
   (λ w. and_from a (not b) (d.1 w.0) ((not_sentence b Q e).1 w.1)),
 )
 
-pub owes_sentence : (limit : ℕ) (history : List Step) (h : ℕ) → IsTrue (owes_after limit history h) ↔ OwesSentence limit history h
-owes_sentence limit history h = and_not_sentence (was_last limit (past_of limit history) h) (has_given (past_of limit history) h)
+pub owes_test : (limit : ℕ) (history : List Step) (h : ℕ) → (tests_owing limit (past_of limit history) h ≡ true) ↔ OwesSentence limit history h
+owes_test limit history h = and_not_sentence (was_last limit (past_of limit history) h) (has_given (past_of limit history) h)
     (AcceptedWhere limit history (Sub h) (λ front. Alone limit h (past_of limit front))) (HasAccepted limit history (Back h))
     (was_last_sentence limit h history) (given_sentence limit h history)

@@ -12,7 +12,7 @@ use Rattle.arcstr_count.proofs.SentencesFronts.{by_steps, none_in_nil, last_or_b
 -- ---- one more step of a past
 
 -- the latest step made the handle raw, or it was raw and the latest step is none of the two
-is_raw-latest : (x : Step) (p : List Step) (h : ℕ) → is_raw (x ∷ p) h ≡ true
+pub is_raw-latest : (x : Step) (p : List Step) (h : ℕ) → is_raw (x ∷ p) h ≡ true
     → (x ≡ IntoRaw h) ⊎ ((is_raw p h ≡ true) × (x ≢ IntoRaw h) × (x ≢ FromRaw h))
 is_raw-latest (IntoRaw g) p h r = go (g == h) refl r
   where

@@ -7,8 +7,7 @@ use Rattle.arcstr_count.specs.declared.steps.Step.{Step}
 use Rattle.arcstr_count.specs.declared.steps.Step.TheVariants.{Make, Look, Clone, Begin, Sub, Back, Leak, IntoRaw, FromRaw}
 use Rattle.arcstr_count.specs.declared.steps.HandleState.{HandleState}
 use Rattle.arcstr_count.specs.declared.steps.HandleState.TheVariants.{Free, Raw, Dropping, Owing, Gone}
-use Rattle.arcstr_count.specs.History.{makes, births, block_of, has_given, numbers_below}
-use Rattle.arcstr_count.specs.Marks.{was_last}
+use Rattle.arcstr_count.specs.History.{makes, births, block_of, numbers_below}
 use Rattle.arcstr_count.specs.Answer.{handle_state, is_accepted}
 use Rattle.arcstr_count.specs.Past.{past_of}
 use Rattle.arcstr_count.specs.After.{marked_after, living_after}
@@ -33,10 +32,6 @@ block_after limit history h = block_of (past_of limit history) h
 -- the state of a handle, and nothing of one that was never born
 abbrev pub state_after : ℕ → List Step → ℕ → Option HandleState
 state_after limit history h = handle_state limit (past_of limit history) h
-
--- the handle owes its block
-abbrev pub owes_after : ℕ → List Step → ℕ → Bool
-owes_after limit history h = was_last limit (past_of limit history) h && not (has_given (past_of limit history) h)
 
 -- ---- steps in a history
 
