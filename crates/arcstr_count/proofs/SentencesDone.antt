@@ -1,12 +1,11 @@
 -- What was done to a handle, as sentences on the fronts of the history.
-use Rattle.std.proofs.Common.{◌≡◌, ◌↔◌, ℕ, Bool, true, false, not, ◌&&◌, ◌==◌, if◌then◌else◌, is_none, IsTrue, IsFalse, Option, None, Some, List, [], ◌∷◌, ◌⊎◌, inl, inr, refl, sym, ap, subst}
+use Rattle.std.proofs.Common.{◌≡◌, ◌↔◌, ℕ, Bool, true, false, not, ◌&&◌, ◌==◌, if◌then◌else◌, IsFalse, List, [], ◌∷◌, ◌⊎◌, inl, inr, refl, sym, ap, subst}
 use Rattle.std.proofs.lemmas.Bool.{and_parts, and_from, not-true, not_from_false, false_from_ne_true, eqb-true, eq-eqb, cond-true}
 use Rattle.arcstr_count.specs.declared.steps.Step.{Step}
-use Rattle.arcstr_count.specs.declared.steps.Step.TheVariants.{Make, Look, Clone, Begin, Sub, Back, Leak, IntoRaw, FromRaw}
-use Rattle.arcstr_count.specs.declared.steps.HandleState.{HandleState}
-use Rattle.arcstr_count.specs.declared.steps.HandleState.TheVariants.{Free, Raw, Dropping, Owing, Gone}
-use Rattle.arcstr_count.specs.History.{block_of, is_raw, has_begun, has_subtracted, has_given, state_by}
-use Rattle.arcstr_count.specs.Marks.{is_marked, living, is_only, began_unmarked, was_last, state_of}
+use Rattle.arcstr_count.specs.declared.steps.Step.TheVariants.{Begin, Sub, Back}
+use Rattle.arcstr_count.specs.declared.steps.HandleState.TheVariants.{Free, Dropping}
+use Rattle.arcstr_count.specs.History.{block_of, has_begun, has_subtracted, has_given}
+use Rattle.arcstr_count.specs.Marks.{is_marked, living, is_only, began_unmarked, was_last}
 use Rattle.arcstr_count.specs.Answer.{is_accepted, handle_state}
 use Rattle.arcstr_count.specs.Past.{IsPast, past_of}
 use Rattle.arcstr_count.specs.Sentences.{AcceptedWhere, HasAccepted, BeganUnmarked, OwesSentence}

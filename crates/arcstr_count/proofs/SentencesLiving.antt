@@ -1,5 +1,5 @@
 -- The handles that live on a block, and those whose drops are under way, as sentences on single handles.
-use Rattle.std.proofs.Common.{◌≡◌, ◌≢◌, ◌↔◌, ℕ, zero, suc, ◌+◌, ◌<◌, Bool, true, false, ◌&&◌, ◌==◌, nat_lt, if◌then◌else◌, IsTrue, Some, List, [], ◌∷◌, ◌++◌, length, filter, get_or, slice_index, Contains, ◌⊎◌, inl, inr, refl, sym, ◌∙◌, ap, subst, arith}
+use Rattle.std.proofs.Common.{◌≡◌, ◌≢◌, ◌↔◌, ℕ, zero, suc, ◌+◌, ◌<◌, Bool, true, false, ◌&&◌, ◌==◌, if◌then◌else◌, Some, List, [], ◌∷◌, length, filter, slice_index, Contains, ◌⊎◌, inl, inr, refl, sym, ◌∙◌, subst, arith}
 use Rattle.std.specs.List.Sorted.{IsStrictlyIncreasing}
 use Rattle.std.proofs.lemmas.Bool.{and_parts, and_from, eqb-true, eq-eqb, cases_order}
 use Rattle.std.proofs.lemmas.List.{length_push, get_or_append_left, get_or_push}
@@ -12,7 +12,7 @@ use Rattle.arcstr_count.specs.History.{births, block_of, lives, numbers_below}
 use Rattle.arcstr_count.specs.Marks.{state_of, living}
 use Rattle.arcstr_count.specs.Answer.{handle_state}
 use Rattle.arcstr_count.specs.Past.{past_of}
-use Rattle.arcstr_count.specs.Left.{is_dropping, is_owing, dropping, owing}
+use Rattle.arcstr_count.specs.Left.{is_dropping, is_owing}
 use Rattle.arcstr_count.specs.After.{living_after, dropping_after, owing_after}
 use Rattle.arcstr_count.specs.Sentences.{block_after, state_after, LivingSentence, UnderWaySentence}
 use Rattle.arcstr_count.proofs.SentencesTable.{handle_state_sentence}

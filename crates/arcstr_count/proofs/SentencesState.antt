@@ -1,6 +1,6 @@
 -- The state of a handle is the one that the sentence on the fronts of the history says.
-use Rattle.std.proofs.Common.{◌≡◌, ◌↔◌, ℕ, ◌<◌, Bool, true, false, not, ◌&&◌, Some, List, [], ◌∷◌, inl, inr, refl, sym, subst}
-use Rattle.std.proofs.lemmas.Bool.{not-true, and_parts, and_from, false_from_ne_true}
+use Rattle.std.proofs.Common.{◌≡◌, ◌↔◌, ℕ, ◌<◌, Bool, true, false, not, Some, List, [], ◌∷◌, inl, inr, refl, sym, subst}
+use Rattle.std.proofs.lemmas.Bool.{not-true, and_parts, false_from_ne_true}
 use Rattle.arcstr_count.specs.declared.steps.Step.{Step}
 use Rattle.arcstr_count.specs.declared.steps.Step.TheVariants.{Begin, Sub, IntoRaw}
 use Rattle.arcstr_count.specs.declared.steps.HandleState.{HandleState}
@@ -15,7 +15,7 @@ use Rattle.arcstr_count.proofs.SentencesBirths.{Born-more}
 use Rattle.arcstr_count.proofs.SentencesRaw.{is_raw-latest, raw_sentence}
 use Rattle.arcstr_count.proofs.SentencesDone.{has_begun-kept, has_subtracted-latest, begins_once, was_last-subtracted, begun_sentence, began_unmarked_sentence, subtracted_sentence, owes_test, not_sentence, and_not_sentence}
 use Rattle.arcstr_count.proofs.SentencesFirst.{tests_free, tests_dropping, tests_owing, state_of_test}
-use Rattle.arcstr_count.proofs.SentencesTable.{free_passes, dropping_passes, handle_state_sentence}
+use Rattle.arcstr_count.proofs.SentencesTable.{dropping_passes, handle_state_sentence}
 
 -- ---- from tests to sentences
 

@@ -2,7 +2,7 @@
 --
 -- A history is the list of its steps in their natural order, and a front of it is a beginning of it.
 -- The laws in `src/sentences.rt` prove each sentence equal to its definition.
-use Rattle.std.specs.Prelude.{◌≡◌, ℕ, ◌<◌, Bool, true, false, not, ◌&&◌, ◌==◌, ◌⊎◌, IsTrue, IsFalse, Option, None, Some, List, [], ◌∷◌, ◌++◌, length, filter, take, slice_get}
+use Rattle.std.specs.Prelude.{◌≡◌, ℕ, ◌<◌, Bool, true, false, ◌&&◌, ◌==◌, ◌⊎◌, IsTrue, IsFalse, Option, None, Some, List, [], ◌∷◌, ◌++◌, length, filter, take, slice_get}
 use Rattle.arcstr_count.specs.declared.steps.Step.{Step}
 use Rattle.arcstr_count.specs.declared.steps.Step.TheVariants.{Make, Look, Clone, Begin, Sub, Back, Leak, IntoRaw, FromRaw}
 use Rattle.arcstr_count.specs.declared.steps.HandleState.{HandleState}
