@@ -43,7 +43,7 @@ pub record AcceptedWhere (limit : ℕ) (history : List Step) (s : Step) (P : Lis
   pub accepted : IsTrue (accepted_after limit front s)
   pub there : P front
 
--- The history has an accepted s.
+-- The history has an accepted step s.
 abbrev pub HasAccepted : ℕ → List Step → Step → Type 0
 HasAccepted limit history s = AcceptedWhere limit history s (λ front. Unit {0})
 
@@ -96,19 +96,29 @@ BornSentence limit history h b =
 
 -- ---- marked
 
+-- The history has an accepted `Leak` of a handle on block b.
+abbrev pub Leaked : ℕ → List Step → ℕ → Type 0
+Leaked limit history b = (h : ℕ) × AcceptedWhere limit history (Leak h) (λ front. block_after limit front h ≡ b)
+
+-- Handle h stands on block b, which is unmarked, and more than the limit of handles live on b.
+abbrev pub IsFull : ℕ → List Step → ℕ → ℕ → Type 0
+IsFull limit front h b =
+    (block_after limit front h ≡ b) × IsFalse (marked_after limit front b) × (limit < length (living_after limit front b))
+
+-- The history has an accepted `Clone` of a handle on block b, after a front with b unmarked and more than the
+-- limit of handles living on b.
+abbrev pub ClonedPastLimit : ℕ → List Step → ℕ → Type 0
+ClonedPastLimit limit history b = (h : ℕ) × AcceptedWhere limit history (Clone h) (λ front. IsFull limit front h b)
+
 -- Block b is marked after a history that has an accepted `Leak` on it, or an accepted `Clone` on it after a
 -- front with b unmarked and more than the limit of handles living on b.
 abbrev pub MarkedSentence : ℕ → List Step → ℕ → Type 0
-MarkedSentence limit history b =
-    ((h : ℕ) × AcceptedWhere limit history (Leak h) (λ front. block_after limit front h ≡ b))
-    ⊎ ((h : ℕ) × AcceptedWhere limit history (Clone h) (λ front. (block_after limit front h ≡ b)
-    × IsFalse (marked_after limit front b)
-    × (limit < length (living_after limit front b))))
+MarkedSentence limit history b = Leaked limit history b ⊎ ClonedPastLimit limit history b
 
 -- ---- the state of a handle
 
 -- The last accepted one of `IntoRaw h` and `FromRaw h` in the history is `IntoRaw h`: it is accepted after a
--- front, and no one of the two is accepted later.
+-- front, and neither of the two is accepted later.
 pub record LastIsIntoRaw (limit : ℕ) (history : List Step) (h : ℕ) : Type 0 where
   pub front : List Step
   pub later : List Step
@@ -122,12 +132,17 @@ abbrev pub BeganUnmarked : ℕ → List Step → ℕ → Type 0
 BeganUnmarked limit history h =
     AcceptedWhere limit history (Begin h) (λ front. IsFalse (marked_after limit front (block_after limit front h)))
 
+-- The block of h is unmarked, and h is the only handle that lives on it.
+abbrev pub LivesAlone : ℕ → List Step → ℕ → Type 0
+LivesAlone limit front h =
+    IsFalse (marked_after limit front (block_after limit front h))
+    × (living_after limit front (block_after limit front h) ≡ h ∷ [])
+
 -- Handle h owes its block after a history that has an accepted `Sub h` after a front with the block unmarked
 -- and h the only handle living on it, and no accepted `Back h`.
 abbrev pub OwesSentence : ℕ → List Step → ℕ → Type 0
 OwesSentence limit history h =
-    AcceptedWhere limit history (Sub h) (λ front. IsFalse (marked_after limit front (block_after limit front h))
-    × (living_after limit front (block_after limit front h) ≡ h ∷ []))
+    AcceptedWhere limit history (Sub h) (λ front. LivesAlone limit front h)
     × (¬ HasAccepted limit history (Back h))
 
 -- Raw, if the first fact holds; else free, if the second does; else dropping, if the third does; else owing,
