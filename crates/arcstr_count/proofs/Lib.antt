@@ -8,3 +8,13 @@ pub mod LawsOfBlocks
 pub mod Seats
 pub mod LawsOfPasts
 pub mod Laws
+mod SentencesFronts
+mod SentencesMarked
+mod SentencesRaw
+mod SentencesTable
+mod SentencesFirst
+mod SentencesDone
+mod SentencesState
+mod SentencesLiving
+mod SentencesCounts
+mod SentencesBirths

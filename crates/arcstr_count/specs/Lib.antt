@@ -9,3 +9,4 @@ pub mod Summary
 pub mod After
 pub mod OneBlock
 pub mod Laws
+pub mod Sentences

@@ -12,5 +12,6 @@ pub use words::{RC_MAX, Word};
 
 mod faults;
 mod history_laws;
+pub mod sentences;
 mod steps;
 mod words;
