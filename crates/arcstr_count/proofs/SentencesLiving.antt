@@ -16,12 +16,10 @@ use Rattle.arcstr_count.specs.Left.{is_dropping, is_owing}
 use Rattle.arcstr_count.specs.After.{living_after, dropping_after, owing_after}
 use Rattle.arcstr_count.specs.Sentences.{block_after, state_after, LivingSentence, UnderWaySentence}
 use Rattle.arcstr_count.proofs.SentencesTable.{handle_state_sentence}
+use Rattle.arcstr_count.proofs.Tables.{length-numbers_below}
+use Rattle.arcstr_count.proofs.Counting.{contains_passing}
 
 -- ---- the numbers below another
-
-pub length-numbers_below : (n : ℕ) → length (numbers_below n) ≡ n
-length-numbers_below zero = refl
-length-numbers_below (suc n) = omega (arith, length_push (numbers_below n) n, length-numbers_below n)
 
 numbers_below-at : (n k : ℕ) → k < n → slice_index (numbers_below n) k ≡ k
 numbers_below-at zero k lt = absurd (omega arith)
@@ -60,18 +58,8 @@ passing_below test (suc n) h c = elim (Contains-append_cases (filter test (numbe
   | inr w ↦ (let last = filter_one test n h w in (omega (arith, last.0), subst (λ k. test k ≡ true) last.0 last.1))
 ]
 
-below_passing : (test : ℕ → Bool) (n h : ℕ) → h < n → test h ≡ true → Contains (filter test (numbers_below n)) h
-below_passing test zero h lt e = absurd (omega arith)
-below_passing test (suc n) h lt e = rw (filter-append test (numbers_below n) (n ∷ [])) (elim (cases_order h n) [
-  | inl same ↦ Contains-append_right (filter test (numbers_below n)) (filter test (n ∷ [])) h (one_passes test n h (sym same) e)
-  | inr other ↦ elim other [
-    | inl below ↦ Contains-append_left (filter test (numbers_below n)) (filter test (n ∷ [])) h (below_passing test n h below e)
-    | inr above ↦ absurd (omega arith)
-  ]
-])
-
 pub passing_sentence : (test : ℕ → Bool) (n h : ℕ) → Contains (filter test (numbers_below n)) h ↔ ((h < n) × (test h ≡ true))
-passing_sentence test n h = (passing_below test n h, (λ w. below_passing test n h w.0 w.1))
+passing_sentence test n h = (passing_below test n h, (λ w. contains_passing test n h w.0 w.1))
 
 pub passing_rising : (test : ℕ → Bool) (n : ℕ) → IsStrictlyIncreasing (filter test (numbers_below n))
 passing_rising test n = IsStrictlyIncreasing-filter test (numbers_below n) (numbers_below-rising n)
