@@ -6,3 +6,4 @@ pub mod Counting
 pub mod LawsOfBlocks
 pub mod LawsOfPasts
 pub mod Laws
+mod LawsExamples
