@@ -1,18 +1,19 @@
 -- The laws of the counts, in each past: what the word stands for, and when a block is given back.
-use Rattle.std.proofs.Common.{◌≡◌, ◌↔◌, ℕ, zero, suc, ◌+◌, ◌<◌, ◌≤◌, Bool, true, false, not, ◌&&◌, ◌==◌, if◌then◌else◌, IsFalse, Some, List, [], ◌∷◌, length, refl, sym, ◌∙◌, ap, arith, true≢false}
+use Rattle.std.proofs.Common.{◌≡◌, ◌↔◌, ℕ, zero, suc, ◌+◌, ◌<◌, ◌≤◌, Bool, true, false, not, ◌&&◌, ◌==◌, if◌then◌else◌, IsFalse, Some, List, [], ◌∷◌, length, refl, sym, ◌∙◌, ap, ◌⊎◌, inl, inr, arith, true≢false}
 use Rattle.std.proofs.lemmas.List.{nil_from_length}
-use Rattle.std.proofs.lemmas.Bool.{or_left, or_right}
+use Rattle.std.proofs.lemmas.Bool.{or_left, or_right, cases_lt}
 use Rattle.arcstr_count.specs.declared.steps.Step.{Step}
 use Rattle.arcstr_count.specs.declared.steps.Step.TheVariants.{Make, Look, Clone, Begin, Sub, Back, Leak, IntoRaw, FromRaw}
 use Rattle.arcstr_count.specs.declared.steps.HandleState.TheVariants.{Dropping}
 use Rattle.arcstr_count.specs.Word.{looked_of, is_last}
-use Rattle.arcstr_count.specs.History.{makes, block_of, lives}
-use Rattle.arcstr_count.specs.Marks.{is_marked, living, is_only}
+use Rattle.arcstr_count.specs.History.{makes, births, block_of, lives}
+use Rattle.arcstr_count.specs.Marks.{is_marked, state_of, living, is_only}
 use Rattle.arcstr_count.specs.Answer.{is_accepted}
 use Rattle.arcstr_count.specs.Past.{with_step, past_from, IsPast, times_given}
 use Rattle.arcstr_count.specs.Left.{word_left, is_dropping, dropping, owing, Stands}
 use Rattle.arcstr_count.proofs.Pasts.{IsPast-past_from}
-use Rattle.arcstr_count.proofs.LawsOfHandles.{IsIn, Sub-finds, block_made}
+use Rattle.arcstr_count.proofs.LawsOfHandles.{IsIn, block_made}
+use Rattle.arcstr_count.proofs.Tables.{unmade_block}
 use Rattle.arcstr_count.proofs.Counting.{held, some_held, is_only-living}
 use Rattle.arcstr_count.proofs.LawsOfBlocks.{Balanced, balance}
 
@@ -44,42 +45,51 @@ module _ (limit : ℕ) (p : List Step) (b : ℕ) where
 pub word_stands : (limit : ℕ) (p : List Step) (b : ℕ) → IsPast limit p → b < makes p → Stands limit p b (word_left limit p b)
 word_stands limit p b past made = stands_by limit p b (is_marked limit p b) refl (balance limit p b past made)
 
--- the count never passes the limit by more than one
+-- an unmarked word counts the living handles
+pub exact_count : (limit : ℕ) (p : List Step) (b : ℕ) → IsPast limit p → b < makes p → is_marked limit p b ≡ false
+    → (word_left limit p b).count ≡ length (living limit p b)
+exact_count limit p b past made unmarked = (word_stands limit p b past made).exact unmarked
+
+-- no count passes the limit by more than one
 pub count_bounded : (limit : ℕ) (p : List Step) (b : ℕ) → IsPast limit p → b < makes p → (word_left limit p b).count ≤ limit + 1
 count_bounded limit p b past made = bounded_by limit p b (is_marked limit p b) (balance limit p b past made)
 
--- a subtraction finds at least its own handle in the count
-pub Sub_counted : (limit : ℕ) (p : List Step) (h : ℕ) → IsPast limit p → is_accepted limit p (Sub h) ≡ true
-    → 0 < (word_left limit p (block_of p h)).count
-Sub_counted limit p h past a = by_mark (is_marked limit p b) (balance limit p b past (block_made limit p h past found.born))
-  where
-    b : ℕ
-    b = block_of p h
+module _ (limit : ℕ) (p : List Step) (h : ℕ) (past : IsPast limit p) (born : h < births p) where
+  -- where a handle lives on an unmarked block, the count is not 0
+  pub living_counted : lives (state_of limit p h) ≡ true → is_marked limit p (block_of p h) ≡ false
+      → 0 < (word_left limit p (block_of p h)).count
+  living_counted alive unmarked =
+      let exact = exact_count limit p (block_of p h) past (block_made limit p h past born) unmarked in
+      omega (arith, some_held limit p h (state_of limit p h) lives (record { born = born; state = refl }) alive)
 
-    found : IsIn limit p h Dropping
-    found = Sub-finds limit p h a
+module _ (limit : ℕ) (p : List Step) (h : ℕ) (past : IsPast limit p) (born : h < births p)
+    (drops : state_of limit p h ≡ Dropping) where
+  -- nor is it where one is dropping, also on a marked block
+  pub dropping_counted : 0 < (word_left limit p (block_of p h)).count
+  dropping_counted = by_mark (is_marked limit p (block_of p h)) (balance limit p (block_of p h) past (block_made limit p h past born))
+    where
+      found : IsIn limit p h Dropping
+      found = record { born = born; state = drops }
 
-    by_mark : (m : Bool) → Balanced limit (word_left limit p b) m (λ test. held limit p b test) (times_given p b)
-        → 0 < (word_left limit p b).count
-    by_mark true x = omega (arith, some_held limit p h Dropping is_dropping found refl)
-    by_mark false x = omega (arith, some_held limit p h Dropping lives found refl)
+      by_mark : (m : Bool)
+          → Balanced limit (word_left limit p (block_of p h)) m (λ test. held limit p (block_of p h) test) (times_given p (block_of p h))
+          → 0 < (word_left limit p (block_of p h)).count
+      by_mark true x = omega (arith, some_held limit p h Dropping is_dropping found refl)
+      by_mark false x = omega (arith, some_held limit p h Dropping lives found refl)
 
--- the word tells the last subtraction
-pub Sub_last : (limit : ℕ) (p : List Step) (h : ℕ) → IsPast limit p → is_accepted limit p (Sub h) ≡ true
-    → is_last (word_left limit p (block_of p h))
-    ≡ (not (is_marked limit p (block_of p h)) && is_only h (living limit p (block_of p h)))
-Sub_last limit p h past a = by_mark (is_marked limit p b) (balance limit p b past (block_made limit p h past found.born))
-  where
-    b : ℕ
-    b = block_of p h
+  -- and the word tells whether its subtraction is the last one
+  pub last_owes : is_last (word_left limit p (block_of p h))
+      ≡ (not (is_marked limit p (block_of p h)) && is_only h (living limit p (block_of p h)))
+  last_owes = by_mark (is_marked limit p (block_of p h)) (balance limit p (block_of p h) past (block_made limit p h past born))
+    where
+      found : IsIn limit p h Dropping
+      found = record { born = born; state = drops }
 
-    found : IsIn limit p h Dropping
-    found = Sub-finds limit p h a
-
-    by_mark : (m : Bool) → Balanced limit (word_left limit p b) m (λ test. held limit p b test) (times_given p b)
-        → is_last (word_left limit p b) ≡ (not m && is_only h (living limit p b))
-    by_mark true x = rw x.flag refl
-    by_mark false x = rw (x.flag, x.count, is_only-living limit p h Dropping found refl) refl
+      by_mark : (m : Bool)
+          → Balanced limit (word_left limit p (block_of p h)) m (λ test. held limit p (block_of p h) test) (times_given p (block_of p h))
+          → is_last (word_left limit p (block_of p h)) ≡ (not m && is_only h (living limit p (block_of p h)))
+      by_mark true x = rw x.flag refl
+      by_mark false x = rw (x.flag, x.count, is_only-living limit p h Dropping found refl) refl
 
 -- ---- the mark
 
@@ -168,8 +178,13 @@ pub owes_alone : (limit : ℕ) (p : List Step) (b : ℕ) → IsPast limit p → 
     → IsFalse (is_marked limit p b) × (living limit p b ≡ [])
 owes_alone limit p b past made owes = (owes_or_given limit p b past made).1 (omega arith)
 
-pub given_once : (limit : ℕ) (p : List Step) (b : ℕ) → IsPast limit p → b < makes p → times_given p b ≤ 1
-given_once limit p b past made = let both = owes_or_given limit p b past made in omega arith
+-- also of a block that is not yet made
+pub given_once : (limit : ℕ) (p : List Step) (b : ℕ) → IsPast limit p → times_given p b ≤ 1
+given_once limit p b past = by_making (cases_lt b (makes p))
+  where
+    by_making : (b < makes p) ⊎ (makes p ≤ b) → times_given p b ≤ 1
+    by_making (inl made) = let both = owes_or_given limit p b past made in omega arith
+    by_making (inr unmade) = omega (arith, (unmade_block limit p b past unmade).1)
 
 pub given_alone : (limit : ℕ) (p : List Step) (b : ℕ) → IsPast limit p → b < makes p → times_given p b ≡ 1
     → living limit p b ≡ []
@@ -201,7 +216,7 @@ pub given_for_good : (limit : ℕ) (p later : List Step) (b : ℕ) → IsPast li
 given_for_good limit p later b past made given =
     let later_past = IsPast-past_from limit p later past in
     let later_made = made_stays_from limit p later b made in
-    let at_most = given_once limit (past_from limit p later) b later_past later_made in
+    let at_most = given_once limit (past_from limit p later) b later_past in
     let at_least = given_grows_from limit p later b in
     given_alone limit (past_from limit p later) b later_past later_made (omega arith)
 

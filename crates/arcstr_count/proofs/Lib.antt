@@ -18,3 +18,4 @@ mod SentencesState
 mod SentencesLiving
 mod SentencesCounts
 mod SentencesBirths
+mod LawsExamples
