@@ -7,3 +7,6 @@ pub mod Past
 pub mod Left
 pub mod Summary
 pub mod After
+pub mod Taken
+pub mod Tables
+pub mod Looked

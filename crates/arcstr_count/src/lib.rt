@@ -6,9 +6,13 @@
 #![tactic(auto)]
 
 pub use faults::{RunFault, StepFault};
+pub use runs::run;
 pub use steps::{HandleState, HandleSummary, Reply, Step};
 pub use words::{RC_MAX, Word};
+pub use worlds::World;
 
 mod faults;
+mod runs;
 mod steps;
 mod words;
+mod worlds;
