@@ -8,5 +8,5 @@ pub mod Left
 pub mod Summary
 pub mod After
 pub mod Taken
-pub mod Tables
+pub mod Kept
 pub mod Looked

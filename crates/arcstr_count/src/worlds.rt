@@ -1,4 +1,4 @@
-ghost use Rattle.std.specs.Prelude.{◌≡◌, ◌<◌, ◌≤◌, ◌↔◌, ◌+◌, ◌++◌, [], ◌∷◌, List, IfOk, IfErr, OnOk, OnErr, IsOk, Some, vec_len, vec_capacity};
+ghost use Rattle.std.specs.Prelude.{◌≡◌, ◌<◌, ◌≤◌, ◌↔◌, ◌+◌, ◌++◌, [], ◌∷◌, List, IfOk, IfErr, OnOk, OnErr, IsOk, IfSome, Some, slice_get, vec_len, vec_capacity};
 ghost use Rattle.arcstr_count.specs.declared.steps.Step.{Step};
 ghost use Rattle.arcstr_count.specs.Summary.{StandsFor};
 ghost use Rattle.arcstr_count.specs.After.{given_after};
@@ -32,7 +32,7 @@ struct BlockEntry {
 
 impl<A: Allocator> Model for World<A> {
     ghost use Rattle.arcstr_count.specs.Summary.{WorldView};
-    ghost use Rattle.arcstr_count.specs.Tables.{view_of, IsWorld};
+    ghost use Rattle.arcstr_count.specs.Kept.{view_of, IsWorld};
 
     ghost Value = { WorldView };
 
@@ -88,7 +88,7 @@ impl<A: Allocator + Copy> World<A> {
         ensures { (history : List Step) → StandsFor self.now history
             → result ≡ given_after self.now.summary.limit history block }
     {
-        match self.blocks.get(block as usize) {
+        match entry_at(&self.blocks, block) {
             Some(entry) if entry.given => 1,
             _ => 0,
         }
@@ -101,12 +101,20 @@ impl<A: Allocator + Copy> World<A> {
         let _limit = self.limit;
     }
 
+    /// What the world keeps of a handle, and nothing of one that was never born.
+    fn summary_of(&self, handle: u64) -> Option<HandleSummary>
+        ensures value { result ≡ slice_get self.now.summary.handles handle }
+        ensures found { IfSome result (λ found. IsAt self.now handle found.block found.state) }
+    {
+        entry_at(&self.handles, handle)
+    }
+
     /// Why a step that wants a free handle is refused, or the block of the free handle.
     fn free_handle(&self, handle: u64) -> Result<u64, StepFault>
         ensures refused { IfErr result (λ fault. unless_free (state_at self.now handle) ≡ Some fault) }
         ensures found { IfOk result (λ block. IsAt self.now handle block HandleState.Free) }
     {
-        match self.handles.get(handle as usize) {
+        match self.summary_of(handle) {
             None => Err(StepFault::NoHandle),
             Some(found) => match found.state {
                 HandleState::Free => Ok(found.block),
@@ -122,7 +130,7 @@ impl<A: Allocator + Copy> World<A> {
         ensures refused { IfErr result (λ fault. unless_dropping (state_at self.now handle) ≡ Some fault) }
         ensures found { IfOk result (λ block. IsAt self.now handle block HandleState.Dropping) }
     {
-        match self.handles.get(handle as usize) {
+        match self.summary_of(handle) {
             None => Err(StepFault::NoHandle),
             Some(found) => match found.state {
                 HandleState::Dropping => Ok(found.block),
@@ -137,7 +145,7 @@ impl<A: Allocator + Copy> World<A> {
         ensures refused { IfErr result (λ fault. unless_owing (state_at self.now handle) ≡ Some fault) }
         ensures found { IfOk result (λ block. IsAt self.now handle block HandleState.Owing) }
     {
-        match self.handles.get(handle as usize) {
+        match self.summary_of(handle) {
             None => Err(StepFault::NoHandle),
             Some(found) => match found.state {
                 HandleState::Owing => Ok(found.block),
@@ -152,7 +160,7 @@ impl<A: Allocator + Copy> World<A> {
         ensures refused { IfErr result (λ fault. unless_raw (state_at self.now handle) ≡ Some fault) }
         ensures found { IfOk result (λ block. IsAt self.now handle block HandleState.Raw) }
     {
-        match self.handles.get(handle as usize) {
+        match self.summary_of(handle) {
             None => Err(StepFault::NoHandle),
             Some(found) => match found.state {
                 HandleState::Raw => Ok(found.block),
@@ -340,6 +348,13 @@ impl<A: Allocator + Copy> World<A> {
         };
         Reply::Unraw
     }
+}
+
+/// The entry of a table at a number, and nothing past its end.
+fn entry_at<T: Copy>(table: &[T], number: u64) -> Option<T>
+    ensures { result ≡ slice_get table.now number }
+{
+    table.get(number as usize).copied()
 }
 
 /// Puts an entry at the end of a table that has room for it.
