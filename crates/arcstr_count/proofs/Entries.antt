@@ -13,6 +13,8 @@ use Rattle.arcstr_count.specs.Past.{IsPast, past_of, times_given}
 use Rattle.arcstr_count.specs.Left.{word_left}
 use Rattle.arcstr_count.specs.Summary.{BlockSummary, Summary, WorldView, StandsFor, block_summary, handles_of, blocks_of, words_left, summary_of}
 use Rattle.arcstr_count.specs.Kept.{summary_in, word_in, view_of}
+use Rattle.arcstr_count.proofs.Pasts.{IsPast-past_of}
+use Rattle.arcstr_count.proofs.LawsOfPasts.{word_stands, given_once}
 use Rattle.arcstr_count.proofs.Tables.{length-table, table-at, table-same, table-more, table-set, same_test, other_test, length-words_left, word_at, block_at, unmade_block}
 
 -- a list with the values of a function is the function's table
@@ -80,12 +82,7 @@ tables_from_view limit handles blocks history stands = record {
         ∙ block_at limit p k (summary_in d) below in
         entry_from_parts _ _ _ word (ap (λ (s : BlockSummary). s.given) kept)
 
--- the two facts on a past that a world's tables rest on
-pub record IsTold (limit : ℕ) (p : List Step) : Type 0 where
-  pub flag : (b : ℕ) → b < makes p → (word_left limit p b).flag ≡ is_marked limit p b
-  pub once : (b : ℕ) → times_given p b ≤ 1
-
-once_as_mark : (n : ℕ) → n ≤ 1 → (if nat_lt 0 n then 1 else 0) ≡ n
+pub once_as_mark : (n : ℕ) → n ≤ 1 → (if nat_lt 0 n then 1 else 0) ≡ n
 once_as_mark zero small = refl
 once_as_mark (suc zero) small = refl
 once_as_mark (suc (suc n)) small = absurd (omega arith)
@@ -94,14 +91,16 @@ once_as_mark (suc (suc n)) small = absurd (omega arith)
 pub words_of-entries : (limit : ℕ) (p : List Step) → map word_in (entries_of limit p) ≡ words_left limit p
 words_of-entries limit p = map-map word_in (λ b. entry_of limit p b) (numbers_below (makes p))
 
+pub entry_at : (limit : ℕ) (p : List Step) (b : ℕ) (d : BlockEntry) → b < makes p → get_or (entries_of limit p) b d ≡ entry_of limit p b
+entry_at limit p b d made = table-at (λ k. entry_of limit p k) (makes p) b d made
+
 pub length-entries_of : (limit : ℕ) (p : List Step) → length (entries_of limit p) ≡ makes p
 length-entries_of limit p = length-table (λ b. entry_of limit p b) (makes p)
 
 -- tables that are those of a history's past make a view that stands for the history
 pub view_from_tables : (limit : ℕ) (handles : List HandleSummary) (blocks : List BlockEntry) (history : List Step)
-    → IsTold limit (past_of limit history) → AreTablesOf limit (past_of limit history) handles blocks
-    → StandsFor (view_of limit handles blocks) history
-view_from_tables limit handles blocks history told tables = record {
+    → AreTablesOf limit (past_of limit history) handles blocks → StandsFor (view_of limit handles blocks) history
+view_from_tables limit handles blocks history tables = record {
   summary = ap₂ summary_with tables.handles_are (ap (λ bs. map summary_in bs) tables.blocks_are ∙ summaries);
   words = ap (λ bs. map word_in bs) tables.blocks_are ∙ words_of-entries limit p;
 }
@@ -109,12 +108,15 @@ view_from_tables limit handles blocks history told tables = record {
     p : List Step
     p = past_of limit history
 
+    past : IsPast limit p
+    past = IsPast-past_of limit history
+
     summary_with : List HandleSummary → List BlockSummary → Summary
     summary_with hs bs = record { limit = limit; handles = hs; blocks = bs }
 
     block_is : (b : ℕ) → b < makes p → summary_in (entry_of limit p b) ≡ block_summary limit p b
     block_is b made =
-        ap₂ (λ m n. block_with m n) (told.flag b made) (once_as_mark (times_given p b) (told.once b))
+        ap₂ (λ m n. block_with m n) (word_stands limit p b past made).flag (once_as_mark (times_given p b) (given_once limit p b past made))
       where
         block_with : Bool → ℕ → BlockSummary
         block_with m n = record { marked = m; given = n }

@@ -335,6 +335,61 @@ state-IntoRaw_other limit p h k other = rw (other_test h k other) refl
 pub state-FromRaw_other : (limit : ℕ) (p : List Step) (h k : ℕ) → (k ≡ h → ⊥) → state_of limit (FromRaw h ∷ p) k ≡ state_of limit p k
 state-FromRaw_other limit p h k other = rw (other_test h k other) refl
 
+-- ---- steps that change the state of one handle
+
+-- the step finds the handle in the state `old` and leaves it in the state `new`, and changes nothing else of handles
+pub record ChangesOne (limit : ℕ) (p : List Step) (s : Step) (h : ℕ) (old new : HandleState) : Type 0 where
+  pub found : IsIn limit p h old
+  pub left : state_of limit (s ∷ p) h ≡ new
+  pub others : (k : ℕ) → k ≢ h → state_of limit (s ∷ p) k ≡ state_of limit p k
+  pub blocks : (k : ℕ) → block_of (s ∷ p) k ≡ block_of p k
+
+pub Begin-changes : (limit : ℕ) (p : List Step) (h : ℕ) → IsPast limit p → is_accepted limit p (Begin h) ≡ true
+    → ChangesOne limit p (Begin h) h Free (if is_marked limit p (block_of p h) then Gone else Dropping)
+Begin-changes limit p h past a = record {
+  found = Begin-finds limit p h a;
+  left = state-Begin limit p h past a;
+  others = state-Begin_other limit p h;
+  blocks = λ k. refl;
+}
+
+pub Sub-changes : (limit : ℕ) (p : List Step) (h : ℕ) → IsPast limit p → is_accepted limit p (Sub h) ≡ true
+    → ChangesOne limit p (Sub h) h Dropping
+    (if not (is_marked limit p (block_of p h)) && is_only h (living limit p (block_of p h)) then Owing else Gone)
+Sub-changes limit p h past a = record {
+  found = Sub-finds limit p h a;
+  left = state-Sub limit p h past a;
+  others = state-Sub_other limit p h;
+  blocks = λ k. refl;
+}
+
+pub Back-changes : (limit : ℕ) (p : List Step) (h : ℕ) → is_accepted limit p (Back h) ≡ true
+    → ChangesOne limit p (Back h) h Owing Gone
+Back-changes limit p h a = record {
+  found = Back-finds limit p h a;
+  left = state-Back limit p h a;
+  others = state-Back_other limit p h;
+  blocks = λ k. refl;
+}
+
+pub IntoRaw-changes : (limit : ℕ) (p : List Step) (h : ℕ) → is_accepted limit p (IntoRaw h) ≡ true
+    → ChangesOne limit p (IntoRaw h) h Free Raw
+IntoRaw-changes limit p h a = record {
+  found = IntoRaw-finds limit p h a;
+  left = state-IntoRaw limit p h;
+  others = state-IntoRaw_other limit p h;
+  blocks = λ k. refl;
+}
+
+pub FromRaw-changes : (limit : ℕ) (p : List Step) (h : ℕ) → IsPast limit p → is_accepted limit p (FromRaw h) ≡ true
+    → ChangesOne limit p (FromRaw h) h Raw Free
+FromRaw-changes limit p h past a = record {
+  found = FromRaw-finds limit p h a;
+  left = state-FromRaw limit p h past a;
+  others = state-FromRaw_other limit p h;
+  blocks = λ k. refl;
+}
+
 -- ---- handles that are not yet born
 
 not_yet : (g h n : ℕ) (x b : Bool) → g < n → n ≤ h → b ≡ false → (if g == h then x else b) ≡ false

@@ -23,7 +23,7 @@ use Rattle.arcstr_count.specs.Looked.{IsAt}
 use Rattle.arcstr_count.proofs.Pasts.{IsPast-past_of}
 use Rattle.arcstr_count.proofs.Tables.{handle_is, length-handles_of, handles-Make, handles-Clone, handles-Begin, handles-Sub, handles-Back, handles-IntoRaw, handles-FromRaw}
 use Rattle.arcstr_count.proofs.Entries.{AreTablesOf, entry_of, entries_of, entry_with, with_word, tables_from_view, length-entries_of, entries-Make, entries-Clone, entries-Sub, entries-Leak, entries-Back, words_of-entries}
-use Rattle.arcstr_count.proofs.Owed.{told, exact_count, dropping_counted, last_owes}
+use Rattle.arcstr_count.proofs.LawsOfPasts.{word_stands, Sub_counted, Sub_last}
 use Rattle.arcstr_count.proofs.Taking.{FoundIn, found_in_past, handle_state-found, entry_read, Changes, takes_accepted}
 
 -- a list with one entry changed, where lists and entries are equal
@@ -97,7 +97,7 @@ module _ (limit : ℕ) (handles : List HandleSummary) (blocks : List BlockEntry)
     mark_is : (s : HandleState) (p : List Step) → IsPast limit p → AreTablesOf limit p handles blocks → FoundIn limit p h b s
         → is_marked limit p (block_of p h) ≡ e.word.flag
     mark_is s p past tables f = ap (λ k. is_marked limit p k) f.block
-        ∙ sym ((told limit p past).flag b f.made)
+        ∙ sym (word_stands limit p b past f.made).flag
         ∙ sym (ap (λ (x : BlockEntry). x.word.flag) (entry_is p tables f.made))
 
     -- ---- `Look`
@@ -141,7 +141,7 @@ module _ (limit : ℕ) (handles : List HandleSummary) (blocks : List BlockEntry)
             counted = sym (looked_some e.word n some).1
                 ∙ ap (λ (x : BlockEntry). x.word.count) (entry_is p tables f.made)
                 ∙ ap (λ k. (word_left limit p k).count) (sym f.block)
-                ∙ exact_count limit p (block_of p h) past (rw f.block f.made) unmarked
+                ∙ (word_stands limit p (block_of p h) past (rw f.block f.made)).exact unmarked
 
     -- ---- `Clone`
 
@@ -211,7 +211,8 @@ module _ (limit : ℕ) (handles : List HandleSummary) (blocks : List BlockEntry)
             let tables = tables_from_view limit handles blocks known.0 known.1 in
             let f = found Dropping (past_of limit known.0) at tables in
             rw (entry_is (past_of limit known.0) tables f.made, ← f.block)
-            (dropping_counted limit (past_of limit known.0) h past f.born f.state)
+            (Sub_counted limit (past_of limit known.0) h past
+            (ap is_none (ap unless_dropping (handle_state-found limit (past_of limit known.0) h b Dropping f))))
 
     pub takes_sub : (last : Bool) (w : FlagAndCount) → IsAt old h b Dropping → w ≡ dropped_of e.word → is_last e.word ≡ last
         → Takes old (Sub h) (if last then Owes else Left)
@@ -246,7 +247,7 @@ module _ (limit : ℕ) (handles : List HandleSummary) (blocks : List BlockEntry)
             unrefused = ap unless_dropping (handle_state-found limit p h b Dropping f)
 
             owes : (not (is_marked limit p (block_of p h)) && is_only h (living limit p (block_of p h))) ≡ last
-            owes = sym (last_owes limit p h past f.born f.state)
+            owes = sym (Sub_last limit p h past (ap is_none unrefused))
                 ∙ ap (λ k. is_last (word_left limit p k)) f.block
                 ∙ sym (ap (λ (x : BlockEntry). is_last x.word) (entry_is p tables f.made))
                 ∙ is

@@ -9,12 +9,12 @@ use Rattle.arcstr_count.specs.declared.steps.HandleState.TheVariants.{Free, Raw,
 use Rattle.arcstr_count.specs.declared.steps.HandleSummary.{HandleSummary}
 use Rattle.arcstr_count.specs.Word.{FlagAndCount, fresh_word, cloned_of, dropped_of, marked_of}
 use Rattle.arcstr_count.specs.History.{makes, births, block_of, numbers_below}
-use Rattle.arcstr_count.specs.Marks.{is_marked, state_of, living, is_only}
+use Rattle.arcstr_count.specs.Marks.{is_marked, living, is_only}
 use Rattle.arcstr_count.specs.Answer.{is_accepted}
 use Rattle.arcstr_count.specs.Past.{IsPast, times_given}
 use Rattle.arcstr_count.specs.Left.{word_left}
 use Rattle.arcstr_count.specs.Summary.{BlockSummary, handle_summary, block_summary, handles_of, blocks_of, words_left}
-use Rattle.arcstr_count.proofs.LawsOfHandles.{Clone-finds, Begin-finds, Sub-finds, Back-finds, Leak-finds, IntoRaw-finds, FromRaw-finds, state-Begin, state-Sub, state-Back, state-IntoRaw, state-FromRaw, state-Begin_other, state-Sub_other, state-Back_other, state-IntoRaw_other, state-FromRaw_other, state-born, block-Make, block-Make_other, block-Clone, block-Clone_other, block_made}
+use Rattle.arcstr_count.proofs.LawsOfHandles.{ChangesOne, Begin-changes, Sub-changes, Back-changes, IntoRaw-changes, FromRaw-changes, Clone-finds, Sub-finds, Back-finds, Leak-finds, state-born, block-Make, block-Make_other, block-Clone, block-Clone_other, block_made}
 
 -- ---- tables of a function of the numbers below n
 
@@ -87,16 +87,14 @@ pub handle_at : (limit : ℕ) (p : List Step) (h : ℕ) (d : HandleSummary) → 
     → get_or (handles_of limit p) h d ≡ handle_summary limit p h
 handle_at limit p h d born = table-at (λ k. handle_summary limit p k) (births p) h d born
 
--- a step that changes the state of one handle, and no block
-handles-set : (limit : ℕ) (p : List Step) (s : Step) (h : ℕ) (state : HandleState) → h < births p
-    → ((k : ℕ) → block_of (s ∷ p) k ≡ block_of p k)
-    → ((k : ℕ) → k ≢ h → state_of limit (s ∷ p) k ≡ state_of limit p k) → state_of limit (s ∷ p) h ≡ state
+-- a step that changes the state of one handle writes its entry
+handles-set : (limit : ℕ) (p : List Step) (s : Step) (h : ℕ) (old new : HandleState) → ChangesOne limit p s h old new
     → map (λ k. handle_summary limit (s ∷ p) k) (numbers_below (births p))
-    ≡ set (handles_of limit p) h (record { block = block_of p h; state = state })
-handles-set limit p s h state born block other here =
+    ≡ set (handles_of limit p) h (record { block = block_of p h; state = new })
+handles-set limit p s h old new c =
     table-set (λ k. handle_summary limit p k) (λ k. handle_summary limit (s ∷ p) k) (births p) h
-    (record { block = block_of p h; state = state }) born
-    (λ k apart. handle_is (block k) (other k apart)) (handle_is (block h) here)
+    (record { block = block_of p h; state = new }) c.found.born
+    (λ k apart. handle_is (c.blocks k) (c.others k apart)) (handle_is (c.blocks h) c.left)
 
 pub handles-Make : (limit : ℕ) (p : List Step) → IsPast limit p
     → handles_of limit (Make ∷ p) ≡ handles_of limit p ++ record { block = makes p; state = Free } ∷ []
@@ -121,8 +119,7 @@ handles-Leak limit p h = refl
 pub handles-Begin : (limit : ℕ) (p : List Step) (h : ℕ) → IsPast limit p → is_accepted limit p (Begin h) ≡ true
     → handles_of limit (Begin h ∷ p)
     ≡ set (handles_of limit p) h (record { block = block_of p h; state = if is_marked limit p (block_of p h) then Gone else Dropping })
-handles-Begin limit p h past a = handles-set limit p (Begin h) h _ (Begin-finds limit p h a).born
-    (λ k. refl) (state-Begin_other limit p h) (state-Begin limit p h past a)
+handles-Begin limit p h past a = handles-set limit p (Begin h) h _ _ (Begin-changes limit p h past a)
 
 pub handles-Sub : (limit : ℕ) (p : List Step) (h : ℕ) → IsPast limit p → is_accepted limit p (Sub h) ≡ true
     → handles_of limit (Sub h ∷ p)
@@ -131,23 +128,19 @@ pub handles-Sub : (limit : ℕ) (p : List Step) (h : ℕ) → IsPast limit p →
       state =
           if not (is_marked limit p (block_of p h)) && is_only h (living limit p (block_of p h)) then Owing else Gone;
     })
-handles-Sub limit p h past a = handles-set limit p (Sub h) h _ (Sub-finds limit p h a).born
-    (λ k. refl) (state-Sub_other limit p h) (state-Sub limit p h past a)
+handles-Sub limit p h past a = handles-set limit p (Sub h) h _ _ (Sub-changes limit p h past a)
 
 pub handles-Back : (limit : ℕ) (p : List Step) (h : ℕ) → is_accepted limit p (Back h) ≡ true
     → handles_of limit (Back h ∷ p) ≡ set (handles_of limit p) h (record { block = block_of p h; state = Gone })
-handles-Back limit p h a = handles-set limit p (Back h) h Gone (Back-finds limit p h a).born
-    (λ k. refl) (state-Back_other limit p h) (state-Back limit p h a)
+handles-Back limit p h a = handles-set limit p (Back h) h _ _ (Back-changes limit p h a)
 
 pub handles-IntoRaw : (limit : ℕ) (p : List Step) (h : ℕ) → is_accepted limit p (IntoRaw h) ≡ true
     → handles_of limit (IntoRaw h ∷ p) ≡ set (handles_of limit p) h (record { block = block_of p h; state = Raw })
-handles-IntoRaw limit p h a = handles-set limit p (IntoRaw h) h Raw (IntoRaw-finds limit p h a).born
-    (λ k. refl) (state-IntoRaw_other limit p h) (state-IntoRaw limit p h)
+handles-IntoRaw limit p h a = handles-set limit p (IntoRaw h) h _ _ (IntoRaw-changes limit p h a)
 
 pub handles-FromRaw : (limit : ℕ) (p : List Step) (h : ℕ) → IsPast limit p → is_accepted limit p (FromRaw h) ≡ true
     → handles_of limit (FromRaw h ∷ p) ≡ set (handles_of limit p) h (record { block = block_of p h; state = Free })
-handles-FromRaw limit p h past a = handles-set limit p (FromRaw h) h Free (FromRaw-finds limit p h a).born
-    (λ k. refl) (state-FromRaw_other limit p h) (state-FromRaw limit p h past a)
+handles-FromRaw limit p h past a = handles-set limit p (FromRaw h) h _ _ (FromRaw-changes limit p h past a)
 
 -- ---- blocks
 

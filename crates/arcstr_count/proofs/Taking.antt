@@ -25,9 +25,8 @@ use Rattle.arcstr_count.specs.Taken.{IsRefusal, IsAcceptedBy, Answers, Follows, 
 use Rattle.arcstr_count.specs.Looked.{state_at, IsAt}
 use Rattle.arcstr_count.proofs.Pasts.{past_of-step, IsPast-past_of, IsPast-with_step}
 use Rattle.arcstr_count.proofs.LawsOfHandles.{block_made}
-use Rattle.arcstr_count.proofs.Tables.{table-at, handle_at, length-handles_of, length-words_left}
-use Rattle.arcstr_count.proofs.Entries.{AreTablesOf, IsTold, entry_of, entries_of, tables_from_view, view_from_tables}
-use Rattle.arcstr_count.proofs.Owed.{told}
+use Rattle.arcstr_count.proofs.Tables.{handle_at, length-handles_of, length-words_left}
+use Rattle.arcstr_count.proofs.Entries.{AreTablesOf, entry_of, entries_of, entry_at, tables_from_view, view_from_tables}
 
 -- ---- what is found
 
@@ -120,7 +119,7 @@ state_at-past w p h handles =
 pub entry_read : (limit : ℕ) (p : List Step) (blocks : List BlockEntry) (b : ℕ) (e : BlockEntry)
     → blocks ≡ entries_of limit p → b < makes p → e ≡ get_or blocks b e → e ≡ entry_of limit p b
 entry_read limit p blocks b e are made read =
-    read ∙ ap (λ es. get_or es b e) are ∙ table-at (λ k. entry_of limit p k) (makes p) b e made
+    read ∙ ap (λ es. get_or es b e) are ∙ entry_at limit p b e made
 
 -- ---- a step that is refused
 
@@ -196,7 +195,6 @@ takes_accepted limit handles blocks old s reply new_handles new_blocks view_is u
 
     follows : Follows before s (view_of limit new_handles new_blocks)
     follows history stands = view_from_tables limit new_handles new_blocks (history ++ s ∷ [])
-        (told limit (past_of limit (history ++ s ∷ [])) (IsPast-past_of limit (history ++ s ∷ [])))
         (subst (λ p. AreTablesOf limit p new_handles new_blocks) (sym (longer_past history stands)) (changed history stands).tables)
 
 -- ---- what every world keeps

@@ -7,6 +7,7 @@ pub mod Past
 pub mod Left
 pub mod Summary
 pub mod After
+pub mod Laws
 pub mod Taken
 pub mod Kept
 pub mod Looked
