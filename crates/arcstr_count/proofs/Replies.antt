@@ -1,11 +1,13 @@
 -- The replies to a list of steps, one after the other, and that they are what the history answers.
-use Rattle.std.proofs.Common.{◌≡◌, ℕ, suc, ◌+◌, List, [], ◌∷◌, ◌++◌, length, Some, refl, sym, ◌∙◌, ap, arith}
+use Rattle.std.proofs.Common.{◌≡◌, ℕ, suc, ◌+◌, List, [], ◌∷◌, ◌++◌, length, Some, refl, sym, ◌∙◌, ap, ap₂}
 use Rattle.std.specs.List.{slice_get}
 use Rattle.arcstr_count.specs.declared.steps.Step.{Step}
 use Rattle.arcstr_count.specs.declared.steps.Reply.{Reply}
 use Rattle.arcstr_count.specs.Answer.{answer_of}
 use Rattle.arcstr_count.specs.Past.{with_step, past_from, past_of}
+use Rattle.arcstr_count.specs.Summary.{WorldView, StandsFor}
 use Rattle.arcstr_count.specs.After.{AnswersEach}
+use Rattle.arcstr_count.specs.Taken.{Answers, Follows}
 
 -- what the steps of a list answer, in order
 abbrev pub replies_from : ℕ → List Step → List Step → List Reply
@@ -35,4 +37,23 @@ pub replies_answer : (limit : ℕ) (steps : List Step) → AnswersEach limit ste
 replies_answer limit steps = record {
   count = length-replies_from limit [] steps;
   each = λ front later s is. ap (λ xs. slice_get (replies_of limit xs) (length front)) is ∙ reply_at limit [] front later s;
+}
+
+-- ---- a world on the way through a list of steps
+
+-- the world has taken these steps, with these replies
+pub record HasTaken (limit : ℕ) (done : List Step) (w : WorldView) (replies : List Reply) : Type 0 where
+  pub limited : w.summary.limit ≡ limit
+  pub stands : StandsFor w done
+  pub replied : replies ≡ replies_of limit done
+
+pub takes_more : (limit : ℕ) (done : List Step) (old new : WorldView) (replies : List Reply) (s : Step) (reply : Reply)
+    → HasTaken limit done old replies → Answers old s reply → Follows old s new → new.summary.limit ≡ old.summary.limit
+    → HasTaken limit (done ++ s ∷ []) new (replies ++ reply ∷ [])
+takes_more limit done old new replies s reply before answers follows same_limit = record {
+  limited = same_limit ∙ before.limited;
+  stands = follows done before.stands;
+  replied = ap₂ (λ rs r. rs ++ r ∷ []) before.replied
+      (answers done before.stands ∙ ap (λ n. answer_of n (past_of n done) s) before.limited)
+      ∙ sym (replies_from-step limit [] done s);
 }
