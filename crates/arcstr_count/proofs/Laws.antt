@@ -26,7 +26,7 @@ at_most_one_owes limit steps front later b _ made =
 pub given_at_most_once : (limit : ℕ) (steps : List Step) → GivenAtMostOnce limit steps
 given_at_most_once limit steps front more later b _ made =
     let past = IsPast-past_of limit front in (
-      given_once limit (past_of limit front) b past,
+      given_once limit (past_of limit front) b past made,
       λ given. (
         given_alone limit (past_of limit front) b past made given,
         rw (past_of-append limit front more) (given_for_good limit (past_of limit front) more b past made given),

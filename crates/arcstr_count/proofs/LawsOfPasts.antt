@@ -1,7 +1,7 @@
 -- The laws of the counts, in each past: what the word stands for, and when a block is given back.
-use Rattle.std.proofs.Common.{◌≡◌, ◌↔◌, ℕ, zero, suc, ◌+◌, ◌<◌, ◌≤◌, Bool, true, false, not, ◌&&◌, ◌==◌, if◌then◌else◌, IsFalse, Some, List, [], ◌∷◌, length, refl, sym, ◌∙◌, ap, ◌⊎◌, inl, inr, arith, true≢false}
+use Rattle.std.proofs.Common.{◌≡◌, ◌↔◌, ℕ, zero, suc, ◌+◌, ◌<◌, ◌≤◌, Bool, true, false, not, ◌&&◌, ◌==◌, if◌then◌else◌, IsFalse, Some, List, [], ◌∷◌, length, refl, sym, ◌∙◌, ap, arith, true≢false}
 use Rattle.std.proofs.lemmas.List.{nil_from_length}
-use Rattle.std.proofs.lemmas.Bool.{or_left, or_right, cases_lt}
+use Rattle.std.proofs.lemmas.Bool.{or_left, or_right}
 use Rattle.arcstr_count.specs.declared.steps.Step.{Step}
 use Rattle.arcstr_count.specs.declared.steps.Step.TheVariants.{Make, Look, Clone, Begin, Sub, Back, Leak, IntoRaw, FromRaw}
 use Rattle.arcstr_count.specs.declared.steps.HandleState.TheVariants.{Dropping}
@@ -12,8 +12,7 @@ use Rattle.arcstr_count.specs.Answer.{is_accepted}
 use Rattle.arcstr_count.specs.Past.{with_step, past_from, IsPast, times_given}
 use Rattle.arcstr_count.specs.Left.{word_left, is_dropping, dropping, owing, Stands}
 use Rattle.arcstr_count.proofs.Pasts.{IsPast-past_from}
-use Rattle.arcstr_count.proofs.LawsOfHandles.{IsIn, block_made}
-use Rattle.arcstr_count.proofs.Tables.{unmade_block}
+use Rattle.arcstr_count.proofs.LawsOfHandles.{IsIn, Sub-finds, block_made}
 use Rattle.arcstr_count.proofs.Counting.{held, some_held, is_only-living}
 use Rattle.arcstr_count.proofs.LawsOfBlocks.{Balanced, balance}
 
@@ -90,6 +89,16 @@ module _ (limit : ℕ) (p : List Step) (h : ℕ) (past : IsPast limit p) (born :
           → is_last (word_left limit p (block_of p h)) ≡ (not m && is_only h (living limit p (block_of p h)))
       by_mark true x = rw x.flag refl
       by_mark false x = rw (x.flag, x.count, is_only-living limit p h Dropping found refl) refl
+
+-- so it is where a subtraction is accepted
+pub Sub_counted : (limit : ℕ) (p : List Step) (h : ℕ) → IsPast limit p → is_accepted limit p (Sub h) ≡ true
+    → 0 < (word_left limit p (block_of p h)).count
+Sub_counted limit p h past a = let found = Sub-finds limit p h a in dropping_counted limit p h past found.born found.state
+
+pub Sub_last : (limit : ℕ) (p : List Step) (h : ℕ) → IsPast limit p → is_accepted limit p (Sub h) ≡ true
+    → is_last (word_left limit p (block_of p h))
+    ≡ (not (is_marked limit p (block_of p h)) && is_only h (living limit p (block_of p h)))
+Sub_last limit p h past a = let found = Sub-finds limit p h a in last_owes limit p h past found.born found.state
 
 -- ---- the mark
 
@@ -178,13 +187,8 @@ pub owes_alone : (limit : ℕ) (p : List Step) (b : ℕ) → IsPast limit p → 
     → IsFalse (is_marked limit p b) × (living limit p b ≡ [])
 owes_alone limit p b past made owes = (owes_or_given limit p b past made).1 (omega arith)
 
--- also of a block that is not yet made
-pub given_once : (limit : ℕ) (p : List Step) (b : ℕ) → IsPast limit p → times_given p b ≤ 1
-given_once limit p b past = by_making (cases_lt b (makes p))
-  where
-    by_making : (b < makes p) ⊎ (makes p ≤ b) → times_given p b ≤ 1
-    by_making (inl made) = let both = owes_or_given limit p b past made in omega arith
-    by_making (inr unmade) = omega (arith, (unmade_block limit p b past unmade).1)
+pub given_once : (limit : ℕ) (p : List Step) (b : ℕ) → IsPast limit p → b < makes p → times_given p b ≤ 1
+given_once limit p b past made = let both = owes_or_given limit p b past made in omega arith
 
 pub given_alone : (limit : ℕ) (p : List Step) (b : ℕ) → IsPast limit p → b < makes p → times_given p b ≡ 1
     → living limit p b ≡ []
@@ -216,7 +220,7 @@ pub given_for_good : (limit : ℕ) (p later : List Step) (b : ℕ) → IsPast li
 given_for_good limit p later b past made given =
     let later_past = IsPast-past_from limit p later past in
     let later_made = made_stays_from limit p later b made in
-    let at_most = given_once limit (past_from limit p later) b later_past in
+    let at_most = given_once limit (past_from limit p later) b later_past later_made in
     let at_least = given_grows_from limit p later b in
     given_alone limit (past_from limit p later) b later_past later_made (omega arith)
 

@@ -19,3 +19,8 @@ mod SentencesLiving
 mod SentencesCounts
 mod SentencesBirths
 mod LawsExamples
+pub mod Entries
+pub mod Taking
+pub mod StepsTaken
+pub mod GivenBack
+pub mod Replies

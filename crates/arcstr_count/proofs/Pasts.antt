@@ -20,9 +20,9 @@ past_of-step limit front s = past_of-append limit front (s ∷ [])
 pub IsPast-with_step : (limit : ℕ) (p : List Step) (s : Step) → IsPast limit p → IsPast limit (with_step limit p s)
 IsPast-with_step limit p s h = kept (is_accepted limit p s) refl
   where
-  kept : (b : Bool) → is_accepted limit p s ≡ b → IsPast limit (if b then s ∷ p else p)
-  kept true accepted = (accepted, h)
-  kept false refused = h
+    kept : (b : Bool) → is_accepted limit p s ≡ b → IsPast limit (if b then s ∷ p else p)
+    kept true accepted = (accepted, h)
+    kept false refused = h
 
 pub IsPast-past_from : (limit : ℕ) (p xs : List Step) → IsPast limit p → IsPast limit (past_from limit p xs)
 IsPast-past_from limit p [] h = h
