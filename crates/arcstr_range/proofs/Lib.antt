@@ -1,1 +1,3 @@
 pub mod Boundaries
+pub mod Trims
+pub mod WhiteSpace

@@ -3,3 +3,4 @@
 #![tactic(auto)]
 
 pub mod range;
+pub mod view;

@@ -1,0 +1,21 @@
+-- Substrings: a parent text and the ends of a range in it.
+use Rattle.std.specs.Prelude.{ℕ, ◌+◌, List}
+use Rattle.arcstr_range.specs.Text.{cut}
+use Rattle.arcstr_range.specs.Ends.{IsLawful}
+
+pub record Substring : Type 0 where
+  pub parent : List ℕ
+  pub start : ℕ
+  pub end : ℕ
+
+-- its ends are lawful in its parent
+abbrev pub IsSound : Substring → Type 0
+IsSound substring = IsLawful substring.parent substring.start substring.end
+
+-- the text of a substring
+abbrev pub text_of : Substring → List ℕ
+text_of substring = cut substring.parent substring.start substring.end
+
+-- the substring between two places of a substring's own text: of the same parent, with the sums of the places
+abbrev pub inner_of : Substring → ℕ → ℕ → Substring
+inner_of outer start end = record { parent = outer.parent; start = outer.start + start; end = outer.start + end }
