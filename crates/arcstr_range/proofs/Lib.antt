@@ -1,3 +1,4 @@
 pub mod Boundaries
+pub mod Faults
 pub mod Trims
 pub mod WhiteSpace

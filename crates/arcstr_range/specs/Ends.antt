@@ -37,7 +37,7 @@ pub record IsFirstFault (rule : RangeFault → Type 0) (fault : RangeFault) : Ty
   pub kept_before : (earlier : RangeFault) → number_of earlier < number_of fault → rule earlier
 
 -- the ends keep the rules of a length
-pub record FitsLength (len : ℕ) (start end : ℕ) : Type 0 where
+pub record FitsLength (len start end : ℕ) : Type 0 where
   pub in_order : length_rule len start end OutOfOrder
   pub within : length_rule len start end PastEnd
   pub in_reach : length_rule len start end TooFar

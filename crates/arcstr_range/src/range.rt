@@ -2,9 +2,10 @@
 //!
 //! Places and lengths are counted in bytes, and a place is a boundary where Rust's
 //! `str::is_char_boundary` says so.
-ghost use Rattle.std.specs.Prelude.{◌≡◌, ◌↔◌, IsOk, ◌+◌, ◌<◌, nat_le, ◌&&◌, if◌then◌else◌, IfOk, IfErr, MatchOption};
+ghost use Rattle.std.specs.Prelude.{◌≡◌, ◌≢◌, ◌↔◌, IsOk, IsErrOf, ◌+◌, ◌<◌, nat_le, ◌&&◌, if◌then◌else◌, IfOk, IfErr, MatchOption};
 ghost use Rattle.std.specs.Range.{range_inclusive_start, range_inclusive_end, range_inclusive_exhausted};
 ghost use Rattle.arcstr_range.specs.declared.range.StrRange.TheVariants.{Between, From as FromStart, To, Full, Inclusive, ToInclusive};
+ghost use Rattle.arcstr_range.specs.declared.range.fault.RangeFault.{RangeFault};
 ghost use Rattle.arcstr_range.specs.Ends.{ends_of, length_rule, FitsLength, IsFirstFault};
 
 mod fault;
@@ -44,6 +45,9 @@ impl StrRange {
         ensures value { IfOk result (λ ends. ends ≡ ends_of self len) }
         ensures fits { let ends = ends_of self len in IsOk result ↔ FitsLength len ends.0 ends.1 }
         ensures fault { let ends = ends_of self len in IfErr result (IsFirstFault (length_rule len ends.0 ends.1)) }
+        ensures only_fault { let ends = ends_of self len in
+            (fault : RangeFault) → IsFirstFault (length_rule len ends.0 ends.1) fault → IsErrOf result fault }
+        ensures no_characters { result ≢ Err RangeFault.OffBoundary }
     {
         let Some((start, end)) = self.usize_ends(len) else {
             return Err(RangeFault::PastEnd);

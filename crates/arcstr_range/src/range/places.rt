@@ -1,7 +1,8 @@
 //! Ranges and places on a text.
-ghost use Rattle.std.specs.Prelude.{◌≡◌, ◌↔◌, length, IsTrue, IsOk, IfOk, IfErr, IsSome, IfSome};
+ghost use Rattle.std.specs.Prelude.{◌≡◌, ◌↔◌, length, IsTrue, IsOk, IsErrOf, IfOk, IfErr, IsSome, IfSome};
 ghost use Rattle.std.specs.Str.{IsCharBoundary};
 ghost use Rattle.arcstr_range.specs.Text.{IsFrontLength, SpellsBetween, cut};
+ghost use Rattle.arcstr_range.specs.declared.range.fault.RangeFault.{RangeFault};
 ghost use Rattle.arcstr_range.specs.Ends.{ends_of, text_rule, IsFirstFault, IsLawful, IsSliceable};
 
 use crate::range::{RangeFault, StrRange};
@@ -24,6 +25,8 @@ pub fn checked_ends(text: &str, range: StrRange) -> Result<(usize, usize), Range
     ensures value { IfOk result (λ ends. ends ≡ ends_of range (length text.now)) }
     ensures lawful { let ends = ends_of range (length text.now) in IsOk result ↔ IsLawful text.now ends.0 ends.1 }
     ensures fault { let ends = ends_of range (length text.now) in IfErr result (IsFirstFault (text_rule text.now ends.0 ends.1)) }
+    ensures only_fault { let ends = ends_of range (length text.now) in
+        (fault : RangeFault) → IsFirstFault (text_rule text.now ends.0 ends.1) fault → IsErrOf result fault }
 {
     let (start, end) = range.ends(text.len())?;
     if !text.is_char_boundary(start) || !text.is_char_boundary(end) {
