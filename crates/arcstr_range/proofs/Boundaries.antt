@@ -2,7 +2,7 @@
 use Rattle.std.proofs.Common.{◌≡◌, ℕ, ◌+◌, ◌-◌, ◌≤◌, true, ◌&&◌, List, [], ◌∷◌, ◌++◌, length, take, drop, slice_range, refl, sym, ap, subst, ◌∙◌, arith, append_assoc}
 use Rattle.std.specs.Prelude.{encode_utf8_all}
 use Rattle.std.specs.Str.{chars, all_scalars, IsUtf8, IsCharBoundary}
-use Rattle.std.proofs.lemmas.List.{take-append-drop, length-take-le, take-take}
+use Rattle.std.proofs.lemmas.List.{take-append-drop, length-take, length-take-le, drop-drop, take-take}
 use Rattle.std.proofs.lemmas.Slice.{between_is}
 use Rattle.std.proofs.lemmas.Str.{IsUtf8-take, IsUtf8-drop, IsUtf8-between, chars-append, encodes-chars, scalars-chars, encodes-append, IsCharBoundary-at_seam}
 use Rattle.arcstr_range.specs.Text.{IsFrontLength, SpellsBetween, cut}
@@ -56,3 +56,15 @@ SpellsBetween-cut text start end utf8 in_order at_start at_end =
           ∙ ap length (encodes-chars (take end text) end_utf8) ∙ length-take-le end text at_end.0;
       spelled = sym (encodes-chars (cut text start end) (IsUtf8-between text start end utf8 in_order at_start at_end));
     }
+
+-- a cut of a cut is one cut of the whole, at the sums of the places
+pub cut-cut : (text : List ℕ) (start end from to : ℕ) → start ≤ end → to ≤ length (cut text start end)
+    → cut text (start + from) (start + to) ≡ cut (cut text start end) from to
+cut-cut text start end from to in_order within =
+    let short : to ≤ end - start = omega (arith, length-take (end - start) (drop start text)) in
+    let size : start + to - (start + from) ≡ to - from = omega arith in
+    ap (λ n. take n (drop (start + from) text)) size
+    ∙ ap (λ rest. take (to - from) rest) (sym (drop-drop from start text))
+    ∙ between_is (drop start text) from to
+    ∙ ap (λ front. drop from front) (sym (take-take to (end - start) (drop start text) short))
+    ∙ sym (between_is (cut text start end) from to)

@@ -8,6 +8,9 @@ pub record Substring : Type 0 where
   pub start : ℕ
   pub end : ℕ
 
+abbrev pub substring_at : List ℕ → ℕ → ℕ → Substring
+substring_at parent start end = record { parent = parent; start = start; end = end }
+
 -- its ends are lawful in its parent
 abbrev pub IsSound : Substring → Type 0
 IsSound substring = IsLawful substring.parent substring.start substring.end
@@ -16,6 +19,6 @@ IsSound substring = IsLawful substring.parent substring.start substring.end
 abbrev pub text_of : Substring → List ℕ
 text_of substring = cut substring.parent substring.start substring.end
 
--- the substring between two places of a substring's own text: of the same parent, with the sums of the places
+-- the substring between two places of a substring's own text: of the same parent, at the sums of the places
 abbrev pub inner_of : Substring → ℕ → ℕ → Substring
-inner_of outer start end = record { parent = outer.parent; start = outer.start + start; end = outer.start + end }
+inner_of outer start end = substring_at outer.parent (outer.start + start) (outer.start + end)

@@ -12,7 +12,7 @@ mod fault;
 mod places;
 
 pub use fault::RangeFault;
-pub use places::{checked_ends, is_boundary, slice};
+pub use places::{checked_ends, inner_ends, is_boundary, slice};
 use std::ops::{Range, RangeFrom, RangeFull, RangeInclusive, RangeTo, RangeToInclusive};
 
 /// The last place that a slice may end at: places are kept in 32 bits.

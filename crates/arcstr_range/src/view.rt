@@ -1,5 +1,6 @@
 //! Views of a text, which remember the place where it stands.
 ghost use Rattle.std.specs.Prelude.{◌≡◌, ◌↔◌, ◌+◌, ◌≤◌, length, IsTrue, IsSome, IfSome};
+ghost use Rattle.std.specs.Str.{trim, trim_end, trim_start};
 ghost use Rattle.arcstr_range.specs.Ends.{IsSliceable};
 ghost use Rattle.arcstr_range.specs.Trim.{Trims, TrimsEnd, TrimsStart};
 ghost use Rattle.arcstr_range.specs.View.{IsFoundAt, end_of, part_of, view_at};
@@ -12,7 +13,7 @@ use std::ops::Range;
 /// `is_found_in` tells whether a text has the view there.
 ///
 /// The place and the text's length have a sum of at most `usize::MAX`.
-#[derive(Drop)]
+#[derive(Debug, Drop)]
 pub struct StrView<'a> {
     text: &'a str,
     place: usize,
@@ -84,7 +85,8 @@ impl<'a> StrView<'a> {
 
     /// The view without the white space in front. Its place moves by the bytes of that.
     pub fn trim_start(&self) -> StrView<'a>
-        ensures { TrimsStart self.now result }
+        ensures longest { TrimsStart self.now result }
+        ensures text { result.text ≡ trim_start self.now.text }
     {
         let whole = self.text();
         let text = whole.trim_start();
@@ -96,7 +98,8 @@ impl<'a> StrView<'a> {
 
     /// The view without the white space behind. Its place stays.
     pub fn trim_end(&self) -> StrView<'a>
-        ensures { TrimsEnd self.now result }
+        ensures longest { TrimsEnd self.now result }
+        ensures text { result.text ≡ trim_end self.now.text }
     {
         StrView {
             text: self.text.trim_end(),
@@ -106,7 +109,8 @@ impl<'a> StrView<'a> {
 
     /// The view without the white space in front and behind.
     pub fn trim(&self) -> StrView<'a>
-        ensures { Trims self.now result }
+        ensures longest { Trims self.now result }
+        ensures text { result.text ≡ trim self.now.text }
     {
         self.trim_start().trim_end()
     }
