@@ -135,3 +135,6 @@ impl From<RangeToInclusive<usize>> for StrRange {
         StrRange::ToInclusive(range.end)
     }
 }
+
+#[cfg(test)]
+mod tests;

@@ -130,3 +130,6 @@ impl<'a> StrView<'a> {
         }
     }
 }
+
+#[cfg(test)]
+mod tests;
