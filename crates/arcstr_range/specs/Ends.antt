@@ -7,6 +7,7 @@ use Rattle.arcstr_range.specs.declared.range.fault.RangeFault.{RangeFault}
 use Rattle.arcstr_range.specs.declared.range.fault.RangeFault.TheVariants.{OutOfOrder, PastEnd, TooFar, OffBoundary}
 use Rattle.arcstr_range.specs.declared.range.TheConstants.{MAX_PLACE}
 use Rattle.arcstr_range.specs.RangeFault.{number_of}
+use Rattle.arcstr_range.specs.Text.{cut}
 
 -- the start and the end of a range in something of that length, as whole numbers without a bound
 abbrev pub ends_of : StrRange → ℕ → ℕ × ℕ
@@ -52,3 +53,21 @@ pub record IsSliceable (text : List ℕ) (start end : ℕ) : Type 0 where
   pub in_order : text_rule text start end OutOfOrder
   pub within : text_rule text start end PastEnd
   pub at_boundaries : text_rule text start end OffBoundary
+
+-- The same of a range in a text, whose ends are those for the text's length.
+
+abbrev pub ends_in : List ℕ → StrRange → ℕ × ℕ
+ends_in text range = ends_of range (length text)
+
+-- the bytes of the text between the ends of the range
+abbrev pub cut_by : List ℕ → StrRange → List ℕ
+cut_by text range = let ends = ends_in text range in cut text ends.0 ends.1
+
+abbrev pub IsLawfulRange : List ℕ → StrRange → Type 0
+IsLawfulRange text range = let ends = ends_in text range in IsLawful text ends.0 ends.1
+
+abbrev pub IsSliceRange : List ℕ → StrRange → Type 0
+IsSliceRange text range = let ends = ends_in text range in IsSliceable text ends.0 ends.1
+
+abbrev pub IsFirstRangeFault : List ℕ → StrRange → RangeFault → Type 0
+IsFirstRangeFault text range = let ends = ends_in text range in IsFirstFault (text_rule text ends.0 ends.1)

@@ -9,8 +9,8 @@ use crate::range::{StrRange, checked_ends, slice};
 use std::marker::Model;
 use std::ops::Range;
 
-/// A text and the place, in bytes, where it stands in a longer text. That longer text is not kept:
-/// `is_found_in` tells whether a text has the view there.
+/// A text and the place, in bytes, where it says that it stands in a longer text, its parent. The
+/// parent is not kept: `is_found_in` tells whether a text has the view there.
 ///
 /// The place and the text's length have a sum of at most `usize::MAX`.
 #[derive(Debug, Drop)]
@@ -48,12 +48,14 @@ impl<'a> StrView<'a> {
         Some(StrView { text, place })
     }
 
+    /// The view's text.
     pub fn text(&self) -> &'a str
         ensures { result.now ≡ self.now.text }
     {
         self.text
     }
 
+    /// The place, in bytes, where the view's text stands.
     pub fn place(&self) -> usize
         ensures value { result ≡ self.now.place }
         ensures fits { end_of self.now ≤ usize.MAX }
