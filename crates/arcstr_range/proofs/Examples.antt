@@ -1,12 +1,13 @@
 -- Worked examples of the definitions, by computation: what they say is what was meant.
-use Rattle.std.proofs.Common.{◌≡◌, ℕ, ◌+◌, ◌-◌, ◌^◌, ◌<◌, ◌≤◌, List, [], ◌∷◌, get_or, refl, ap, inl, inr, arith, rules, lit≤, lit<}
+use lib.Utf8.{encode}
+use Rattle.std.proofs.Common.{◌≡◌, ℕ, ◌-◌, ◌^◌, List, [], ◌∷◌, get_or, refl, ap, inl, inr, arith, rules}
 use Rattle.std.specs.Prelude.{codes}
-use Rattle.std.specs.Str.{chars}
+use Rattle.std.specs.Str.{chars, trim, trim_start, trim_end}
 use Rattle.arcstr_range.specs.declared.range.StrRange.TheVariants.{Between, From, To, Full, Inclusive, ToInclusive}
 use Rattle.arcstr_range.specs.declared.range.fault.RangeFault.TheVariants.{OutOfOrder, PastEnd, TooFar, OffBoundary}
-use Rattle.arcstr_range.specs.Ends.{ends_of, length_rule, text_rule, FitsLength, IsLawful, IsSliceable, IsFirstFault}
-use Rattle.arcstr_range.specs.Text.{cut}
-use Rattle.arcstr_range.specs.View.{view_at, part_of, IsFoundAt, StandsAt}
+use Rattle.arcstr_range.specs.Ends.{ends_of, length_rule, text_rule, FitsLength, IsLawful, IsFirstFault}
+use Rattle.arcstr_range.specs.Text.{IsFrontLength, SpellsBetween, cut}
+use Rattle.arcstr_range.specs.View.{view_at, part_of, IsFoundAt}
 
 -- the bytes of an `a` and an e with an acute accent
 abbrev a_acute : List ℕ
@@ -64,10 +65,20 @@ inside_empty = search rules
 past_end : IsFirstFault (text_rule a_acute 0 4) PastEnd
 past_end = search rules
 
--- slices and views
+-- boundaries and slices
+before_accent : IsFrontLength a_acute 1
+unfolding chars encode
+before_accent = record { front = 97 ∷ []; rest = 233 ∷ []; split = refl; measured = refl }
+
+accent_spelled : SpellsBetween a_acute 1 3 (195 ∷ 169 ∷ [])
+unfolding chars encode
+accent_spelled =
+    record { before = 97 ∷ []; between = 233 ∷ []; after = []; split = refl; measured_start = refl; measured_end = refl; spelled = refl }
+
 accent : cut a_acute 1 3 ≡ 195 ∷ 169 ∷ []
 accent = refl
 
+-- views
 part : part_of (view_at a_acute 5) 1 3 ≡ view_at (195 ∷ 169 ∷ []) 6
 part = refl
 
@@ -80,3 +91,12 @@ found_elsewhere (inr stands) = omega (arith, ap (λ (l : List ℕ). get_or l 0 0
 
 empty_anywhere : IsFoundAt (codes "abab") [] greatest
 empty_anywhere = inl refl
+
+-- white space, also of two bytes
+trimmed : trim (codes "  a ") ≡ codes "a"
+unfolding trim_start trim_end chars encode
+trimmed = refl
+
+trimmed_wide : trim_start (194 ∷ 160 ∷ 97 ∷ []) ≡ 97 ∷ []
+unfolding trim_start chars encode
+trimmed_wide = refl

@@ -1,6 +1,6 @@
 -- The first fault is one.
-use Rattle.std.proofs.Common.{◌≡◌, ℕ, ◌<◌, ◌⊎◌, inl, inr, refl, ap, arith}
-use Rattle.std.specs.Prelude.{Result, Err, IsErrOf}
+use Rattle.std.proofs.Common.{◌≡◌, ◌<◌, ◌⊎◌, inl, inr, refl, ap, arith}
+use Rattle.std.specs.Prelude.{Err, IsErrOf}
 use Rattle.arcstr_range.specs.declared.range.fault.RangeFault.{RangeFault}
 use Rattle.arcstr_range.specs.declared.range.fault.RangeFault.TheVariants.{OutOfOrder, PastEnd, TooFar, OffBoundary}
 use Rattle.arcstr_range.specs.Ends.{IsFirstFault}

@@ -1,5 +1,5 @@
 -- The ends of a range, the rules that they keep, and the first fault where they break one.
-use Rattle.std.specs.Prelude.{◌≡◌, ℕ, ◌+◌, ◌<◌, ◌≤◌, List, length, ⊤}
+use Rattle.std.specs.Prelude.{ℕ, ◌+◌, ◌<◌, ◌≤◌, List, length, ⊤}
 use Rattle.std.specs.Str.{IsCharBoundary}
 use Rattle.arcstr_range.specs.declared.range.StrRange.{StrRange}
 use Rattle.arcstr_range.specs.declared.range.StrRange.TheVariants.{Between, From, To, Full, Inclusive, ToInclusive}
@@ -18,43 +18,44 @@ ends_of Full len = (0, len)
 ends_of (Inclusive start last) len = (start, last + 1)
 ends_of (ToInclusive last) len = (0, last + 1)
 
--- what two ends keep in something of that length, or else have the fault; characters are left aside
+-- the rule of each fault, for a start and an end in something of that length: where it is broken, the fault is there.
+-- A length has no characters to cut
 abbrev pub length_rule : ℕ → ℕ → ℕ → RangeFault → Type 0
 length_rule len start end OutOfOrder = start ≤ end
 length_rule len start end PastEnd = end ≤ len
 length_rule len start end TooFar = end ≤ MAX_PLACE
 length_rule len start end OffBoundary = ⊤
 
--- what two ends keep in that text, or else have the fault
+-- the rule of each fault, for a start and an end in that text
 abbrev pub text_rule : List ℕ → ℕ → ℕ → RangeFault → Type 0
 text_rule text start end OutOfOrder = length_rule (length text) start end OutOfOrder
 text_rule text start end PastEnd = length_rule (length text) start end PastEnd
 text_rule text start end TooFar = length_rule (length text) start end TooFar
 text_rule text start end OffBoundary = IsCharBoundary text start × IsCharBoundary text end
 
--- the fault is the first whose rule is broken, in the order of the faults' numbers
+-- the first fault, in the order of their numbers: its rule is broken, and each rule before it is kept
 pub record IsFirstFault (rule : RangeFault → Type 0) (fault : RangeFault) : Type 0 where
   pub broken : ¬ (rule fault)
   pub kept_before : (earlier : RangeFault) → number_of earlier < number_of fault → rule earlier
 
--- the ends keep the rules of a length
+-- each rule of a length is kept
 pub record FitsLength (len start end : ℕ) : Type 0 where
   pub in_order : length_rule len start end OutOfOrder
   pub within : length_rule len start end PastEnd
   pub in_reach : length_rule len start end TooFar
 
--- the ends are lawful in that text: they keep each of its rules
+-- the ends are lawful in that text: each of its rules is kept
 pub record IsLawful (text : List ℕ) (start end : ℕ) : Type 0 where
   pub fits : FitsLength (length text) start end
   pub at_boundaries : text_rule text start end OffBoundary
 
--- the ends are those of a slice of Rust's `str`: they keep each rule but that of 32-bit places
+-- the ends are those of a slice of Rust's `str`: each rule is kept but that of `TooFar`, the limit of 32-bit places
 pub record IsSliceable (text : List ℕ) (start end : ℕ) : Type 0 where
   pub in_order : text_rule text start end OutOfOrder
   pub within : text_rule text start end PastEnd
   pub at_boundaries : text_rule text start end OffBoundary
 
--- The same of a range in a text, whose ends are those for the text's length.
+-- ---- a range in a text has the ends for the text's length
 
 abbrev pub ends_in : List ℕ → StrRange → ℕ × ℕ
 ends_in text range = ends_of range (length text)

@@ -44,7 +44,8 @@ impl StrRange {
     pub fn ends(self, len: usize) -> Result<(usize, usize), RangeFault>
         ensures value { IfOk result (λ ends. ends ≡ ends_of self len) }
         ensures fits { let ends = ends_of self len in IsOk result ↔ FitsLength len ends.0 ends.1 }
-        ensures fault { let ends = ends_of self len in IfErr result (IsFirstFault (length_rule len ends.0 ends.1)) }
+        ensures fault { let ends = ends_of self len in
+            IfErr result (IsFirstFault (length_rule len ends.0 ends.1)) }
         ensures only_fault { let ends = ends_of self len in
             (fault : RangeFault) → IsFirstFault (length_rule len ends.0 ends.1) fault → IsErrOf result fault }
         ensures no_characters { result ≢ Err RangeFault.OffBoundary }
@@ -66,7 +67,8 @@ impl StrRange {
 
     // The start and the end, untested. `None` where the end, one after an inclusive one, passes `usize`.
     pub(crate) fn usize_ends(self, len: usize) -> Option<(usize, usize)>
-        ensures { let ends = ends_of self len in MatchOption result (usize.MAX < ends.1) (λ found. found ≡ ends) }
+        ensures { let ends = ends_of self len in
+            MatchOption result (usize.MAX < ends.1) (λ found. found ≡ ends) }
     {
         match self {
             StrRange::Between(start, end) => Some((start, end)),
@@ -111,12 +113,14 @@ impl From<RangeFull> for StrRange {
     }
 }
 
-/// A range whose last value was taken by `next` ends before it, as std's `RangeBounds` has it.
+/// Once `next` has given the last value, the range ends before that value, as std's `RangeBounds` has
+/// it: a spent `a..=a` is `a..a`.
 impl From<RangeInclusive<usize>> for StrRange {
     ghost from_gives = { λ range given.
         let start = range_inclusive_start range in
         let last = range_inclusive_end range in
-        given ≡ (if range_inclusive_exhausted range && nat_le start last then Between start last else Inclusive start last) };
+        let is_spent = range_inclusive_exhausted range && nat_le start last in
+        given ≡ (if is_spent then Between start last else Inclusive start last) };
 
     fn from(range: RangeInclusive<usize>) -> StrRange {
         let is_empty = range.is_empty();

@@ -63,7 +63,8 @@ pub fn inner_ends(
     ensures only_fault { let own = text_of (substring_at parent.now outer.start outer.end) in
         (fault : RangeFault) → IsFirstRangeFault own range fault → IsErrOf result fault }
 {
-    let (start, end) = checked_ends(&parent[outer.start..outer.end], range)?;
+    let own = &parent[outer.start..outer.end];
+    let (start, end) = checked_ends(own, range)?;
     Ok((outer.start + start, outer.start + end))
 }
 
