@@ -1,7 +1,7 @@
 //! Ranges and places on a text.
 ghost use Rattle.std.specs.Prelude.{◌≡◌, ◌+◌, ◌↔◌, OnOk, length, IsTrue, IsOk, IsErrOf, IfOk, IfErr, IsSome, IfSome};
 ghost use Rattle.std.specs.Str.{IsCharBoundary};
-ghost use Rattle.arcstr_range.specs.Text.{IsFrontLength, SpellsBetween, cut};
+ghost use Rattle.arcstr_range.specs.Text.{IsFrontLength, SpellsBetween};
 ghost use Rattle.arcstr_range.specs.declared.range.fault.RangeFault.{RangeFault};
 ghost use Rattle.arcstr_range.specs.Ends.{ends_in, cut_by, IsLawfulRange, IsSliceRange, IsFirstRangeFault};
 ghost use Rattle.arcstr_range.specs.Substring.{substring_at, text_of, inner_of, IsSound};
@@ -49,12 +49,13 @@ pub fn inner_ends(
     ensures value { let own = text_of (substring_at parent.now outer.start outer.end) in
         let ends = ends_in own range in
         IfOk result (λ found. found ≡ (outer.start + ends.0, outer.start + ends.1)) }
-    ensures sound { let outer = substring_at parent.now outer.start outer.end in
-        let ends = ends_in (text_of outer) range in
-        OnOk result (IsSound (inner_of outer ends.0 ends.1)) }
-    ensures same_text { let outer = substring_at parent.now outer.start outer.end in
-        let ends = ends_in (text_of outer) range in
-        OnOk result (text_of (inner_of outer ends.0 ends.1) ≡ cut (text_of outer) ends.0 ends.1) }
+    ensures sound { let substring = substring_at parent.now outer.start outer.end in
+        let ends = ends_in (text_of substring) range in
+        OnOk result (IsSound (inner_of substring ends.0 ends.1)) }
+    ensures same_text { let substring = substring_at parent.now outer.start outer.end in
+        let own = text_of substring in
+        let ends = ends_in own range in
+        OnOk result (text_of (inner_of substring ends.0 ends.1) ≡ cut_by own range) }
 
     ensures lawful { let own = text_of (substring_at parent.now outer.start outer.end) in
         IsOk result ↔ IsLawfulRange own range }

@@ -104,9 +104,10 @@ fn between_a_place_and_a_last_one(rt: HostRuntime) {
 }
 
 #[test]
-fn between_greatest_places_inclusive(rt: HostRuntime) {
+fn between_greatest_places_inclusive_and_by_the_form_itself(rt: HostRuntime) {
     assert_eq!(rt; found("aé", MAX..=0), Err(RangeFault::OutOfOrder));
     assert_eq!(rt; found("aé", MAX..=MAX), Err(RangeFault::PastEnd));
+    assert_eq!(rt; found("aé", StrRange::From(1)), Ok((1, 3)));
 }
 
 #[test]
