@@ -4,7 +4,7 @@ ghost use Rattle.std.specs.Str.{IsCharBoundary};
 ghost use Rattle.arcstr_range.specs.Text.{IsFrontLength, SpellsBetween};
 ghost use Rattle.arcstr_range.specs.declared.range.fault.RangeFault.{RangeFault};
 ghost use Rattle.arcstr_range.specs.Ends.{ends_in, cut_by, IsLawfulRange, IsSliceRange, IsFirstRangeFault};
-ghost use Rattle.arcstr_range.specs.Substring.{substring_at, text_of, inner_of, IsSound};
+ghost use Rattle.arcstr_range.specs.Substring.{substring_at, text_of, inner_by, IsSound};
 
 use crate::range::{RangeFault, StrRange};
 use std::ops::Range;
@@ -46,16 +46,12 @@ pub fn inner_ends(
     range: StrRange,
 ) -> Result<(usize, usize), RangeFault>
     requires { IsSound (substring_at parent.now outer.start outer.end) }
-    ensures value { let own = text_of (substring_at parent.now outer.start outer.end) in
-        let ends = ends_in own range in
-        IfOk result (λ found. found ≡ (outer.start + ends.0, outer.start + ends.1)) }
-    ensures sound { let substring = substring_at parent.now outer.start outer.end in
-        let ends = ends_in (text_of substring) range in
-        OnOk result (IsSound (inner_of substring ends.0 ends.1)) }
+    ensures value { let inner = inner_by (substring_at parent.now outer.start outer.end) range in
+        IfOk result (λ ends. ends ≡ (inner.start, inner.end)) }
+    ensures sound { let inner = inner_by (substring_at parent.now outer.start outer.end) range in
+        OnOk result (IsSound inner) }
     ensures same_text { let substring = substring_at parent.now outer.start outer.end in
-        let own = text_of substring in
-        let ends = ends_in own range in
-        OnOk result (text_of (inner_of substring ends.0 ends.1) ≡ cut_by own range) }
+        OnOk result (text_of (inner_by substring range) ≡ cut_by (text_of substring) range) }
 
     ensures lawful { let own = text_of (substring_at parent.now outer.start outer.end) in
         IsOk result ↔ IsLawfulRange own range }
