@@ -1,0 +1,10 @@
+//! Scripts of steps on counted blocks, answered line by line.
+#![tactic(auto)]
+
+mod line;
+
+use std::io;
+
+fn main(rt: HostRuntime) -> io::Result<()> {
+    println!(rt; "")
+}
