@@ -1,1 +1,3 @@
 pub mod Line
+pub mod Reply
+pub mod Script
