@@ -1,3 +1,4 @@
 pub mod Line
 pub mod Reply
 pub mod Script
+pub mod Port

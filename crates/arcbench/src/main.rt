@@ -2,6 +2,7 @@
 #![tactic(auto)]
 
 mod line;
+mod port;
 
 use std::io;
 
