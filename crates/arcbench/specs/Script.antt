@@ -14,6 +14,11 @@ use Rattle.arcbench.specs.Reply.{reply_text}
 abbrev pub steps_of : List (List ℕ) → List Step
 steps_of lines = filter_map step_of lines
 
+-- the history with a line's step at its end, where the line has one
+abbrev pub history_with : List Step → Option Step → List Step
+history_with history None = history
+history_with history (Some step) = history ++ step ∷ []
+
 -- what a line is answered by its step: `bad` where it has none, else the text of the answer after a history
 abbrev pub answer_by : ℕ → List Step → Option Step → List ℕ
 answer_by limit history None = codes "bad"

@@ -3,6 +3,8 @@
 
 mod line;
 mod port;
+mod reply;
+mod script;
 
 use std::io;
 
