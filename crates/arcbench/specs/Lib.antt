@@ -2,3 +2,4 @@ pub mod Line
 pub mod Reply
 pub mod Script
 pub mod Port
+pub mod Copy

@@ -1,7 +1,7 @@
 use Rattle.std.proofs.Common.{List, ℕ, length, string_bytes}
 use Rattle.arcbench.specs.Line.{lines_of}
 use Rattle.arcbench.proofs.LinesDone.{LinesDone}
-use Rattle.arcbench.proofs.script.answer_lines.Given as goal
+use Rattle.arcbench.proofs.script.answers.answer_lines.Given as goal
 
 abbrev pub invariant-loop-rest : goal.invariant-loop-rest
 invariant-loop-rest g l =
