@@ -3,3 +3,4 @@ pub mod Reply
 pub mod Script
 pub mod Port
 pub mod Copy
+pub mod Program

@@ -1,11 +1,30 @@
-//! Scripts of steps on counted blocks, answered line by line.
+//! Scripts of steps on counted blocks, answered line by line: `arcbench script` answers its input.
 #![tactic(auto)]
 
 mod port;
+mod program;
 mod script;
 
+use port::Port;
+use std::env;
+use std::env::Env;
 use std::io;
+use std::process::ExitCode;
 
-fn main(rt: HostRuntime) -> io::Result<()> {
-    println!(rt; "")
+fn main(rt: HostRuntime) -> ExitCode {
+    let mut errors = rt.stderr();
+    let status = match words(&rt) {
+        Err(error) => program::serve_without_words(&mut errors, &error),
+        Ok(words) => {
+            let mut input = Port::new(rt.stdin());
+            let mut output = Port::new(rt.stdout());
+            program::serve(&rt, rt.alloc(), &words, &mut input, &mut output, &mut errors)
+        }
+    };
+    ExitCode::from(status)
+}
+
+/// The words after the program's name.
+fn words<R: Env + AllocGlobal>(rt: &R) -> io::Result<Vec<String>> {
+    Ok(env::args(rt)?.skip(1).collect(rt.alloc())?)
 }
