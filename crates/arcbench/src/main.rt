@@ -6,10 +6,9 @@ mod program;
 mod script;
 
 use port::Port;
-use std::env;
 use std::env::Env;
-use std::io;
 use std::process::ExitCode;
+use std::{env, io};
 
 fn main(rt: HostRuntime) -> ExitCode {
     let mut errors = rt.stderr();
@@ -18,7 +17,14 @@ fn main(rt: HostRuntime) -> ExitCode {
         Ok(words) => {
             let mut input = Port::new(rt.stdin());
             let mut output = Port::new(rt.stdout());
-            program::serve(&rt, rt.alloc(), &words, &mut input, &mut output, &mut errors)
+            program::serve(
+                &rt,
+                rt.alloc(),
+                &words,
+                &mut input,
+                &mut output,
+                &mut errors,
+            )
         }
     };
     ExitCode::from(status)
@@ -28,3 +34,6 @@ fn main(rt: HostRuntime) -> ExitCode {
 fn words<R: Env + AllocGlobal>(rt: &R) -> io::Result<Vec<String>> {
     Ok(env::args(rt)?.skip(1).collect(rt.alloc())?)
 }
+
+#[cfg(test)]
+mod tests;
