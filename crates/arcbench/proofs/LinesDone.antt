@@ -1,7 +1,6 @@
 -- What stands after the first lines are answered.
-use Rattle.std.proofs.Common.{◌≡◌, ℕ, List, [], ◌∷◌, ◌++◌, refl, sym, ap, ◌∙◌}
+use Rattle.std.proofs.Common.{◌≡◌, ℕ, List, [], ◌∷◌, ◌++◌, refl, sym, ◌∙◌}
 use Rattle.std.proofs.lemmas.List.{append_assoc, append-nil}
-use Rattle.arcstr_count.specs.declared.steps.Step.{Step}
 use Rattle.arcstr_count.specs.Summary.{WorldView, StandsFor}
 use Rattle.arcbench.specs.Line.{step_of}
 use Rattle.arcbench.specs.Script.{steps_of, history_with, answer_by, answers}

@@ -1,5 +1,5 @@
 -- What copying an answer does, and its faults.
-use Rattle.std.specs.Prelude.{◌≡◌, ℕ, List, Option, Result, Ok, codes}
+use Rattle.std.specs.Prelude.{◌≡◌, ℕ, List, Option, Ok, codes}
 use Rattle.std.specs.Io.KnownBytes.{Appends}
 use Rattle.arcbench.specs.declared.script.copies.CopyFault.{CopyFault}
 use Rattle.arcbench.specs.declared.script.copies.CopyFault.TheVariants.{LimitTooLarge, Memory, Io}

@@ -1,5 +1,5 @@
 -- What the words of the program mean, and the status of each fault.
-use Rattle.std.specs.Prelude.{◌≡◌, ℕ, ◌⊎◌, if◌then◌else◌, List, [], ◌∷◌, Option, None, Some, codes}
+use Rattle.std.specs.Prelude.{ℕ, if◌then◌else◌, List, [], ◌∷◌, Option, None, Some, codes}
 use Rattle.std.specs.Str.{bytes_eq}
 use Rattle.arcbench.specs.declared.program.Command.{Command}
 use Rattle.arcbench.specs.declared.program.Command.TheVariants.{Script}

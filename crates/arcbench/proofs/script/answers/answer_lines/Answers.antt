@@ -1,4 +1,4 @@
-use Rattle.std.proofs.Common.{List, ℕ, [], ◌∷◌, ◌++◌}
+use Rattle.std.proofs.Common.{[], ◌∷◌, ◌++◌}
 use Rattle.arcbench.specs.Script.{steps_of}
 use Rattle.arcbench.proofs.LinesDone.{one_more_done}
 use Rattle.arcbench.proofs.script.answers.answer_lines.Goals as goal

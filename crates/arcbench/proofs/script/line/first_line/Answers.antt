@@ -1,4 +1,3 @@
-use Rattle.std.proofs.Common.{length}
 use Rattle.arcbench.proofs.Lines.{lines_of-first}
 use Rattle.arcbench.proofs.script.line.first_line.Goals as goal
 
