@@ -1,0 +1,5 @@
+pub mod Lines
+pub mod Numbers
+pub mod Examples
+pub mod Joined
+pub mod LinesDone

@@ -1,0 +1,6 @@
+pub mod Line
+pub mod Reply
+pub mod Script
+pub mod Port
+pub mod Copy
+pub mod Program

@@ -1,0 +1,8 @@
+//! Scripts of steps on counted blocks, and their answers.
+pub use answers::answer;
+pub use copies::{CopyFault, copy};
+
+mod answers;
+mod copies;
+mod line;
+mod reply;
