@@ -50,7 +50,7 @@ module _ {M : Type 1} {𝓤 : Ura M} (𝓛 : Logic 𝓤) (P : Fml) (L b o : ℕ)
   In = Fits P L b o t
 
   module _ (q : Share) where
-    abbrev Tok : Fml
+    abbrev pub Tok : Fml
     Tok = flft (t.0 ∷ []) q
 
     -- ---- the mark
@@ -128,7 +128,7 @@ module _ {M : Type 1} {𝓤 : Ura M} (𝓛 : Logic 𝓤) (P : Fml) (L b o : ℕ)
   abbrev pub Left : ℕ → ℕ → Type 0
   Left = Leaves
 
-  abbrev One : Fml
+  abbrev pub One : Fml
   One = parts t.0 1
 
   one_alive : ⟦ One ⟧ ∗ A.dead (t.0 ∷ []) ⊢ never 𝓤

@@ -5,3 +5,5 @@ pub mod Words
 pub mod Ledger
 pub mod Steps
 pub mod Changes
+pub mod Rights
+pub mod Fields

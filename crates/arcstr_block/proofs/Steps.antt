@@ -16,7 +16,7 @@ use denote.RawPtr.{block_ptr}
 use denote.Steps.{nothing}
 use Rattle.core.specs.Sync.RawAtomic.{asks, always, word}
 use Rattle.arcstr_block.specs.Rights.{IsMarked, IsUnmarked, IsWord, Sees, IsClone, Gains, Leaves, fixed}
-use Rattle.arcstr_block.specs.Ledger.{fact, parts, some_share, Id, Phase, unmarked, marked, Fits, rest, counting, if_alive, Inv}
+use Rattle.arcstr_block.specs.Ledger.{fact, parts, some_share, Id, Phase, unmarked, marked, Fits, rest, counting, if_alive, Inv, knows}
 use Rattle.arcstr_block.proofs.Words.{or_unmarked, or_marked}
 use Rattle.arcstr_block.proofs.Parts.{share_in}
 use Rattle.arcstr_block.proofs.Ledger.{phase_in, not_alive, share_not_alive, takes, gives, gives_last, gives_marked, too_many, marks, marked_in, finds_mark}
@@ -129,17 +129,14 @@ module _ {M : Type 1} {𝓤 : Ura M} (𝓛 : Logic 𝓤) (P : Fml) (L b o : ℕ)
 
   -- ---- the load. `right` is what the caller knows
   module _ (q : Share) (right : ℕ) where
-    abbrev Tok : Fml
+    abbrev pub Tok : Fml
     Tok = flft (t.0 ∷ []) q
-
-    abbrev pub knows : Fml
-    knows = fall (right ≡ fixed) (λ _. fdead (t.1 ∷ []))
 
     abbrev pub Told : ℕ → ℕ → Type 0
     Told n r = IsWord L n × Sees right n r
 
-    abbrev With : Fml
-    With = fsep Tok knows
+    abbrev pub With : Fml
+    With = fsep Tok (knows t right)
 
     sees : (n : ℕ) → n < 2 ^ 64 → (s : Phase) → In n s → ⟦ word b o n ⟧ ∗ ⟦ Keeps s ⟧ ∗ ⟦ With ⟧ ⊢ Stepped (λ m. m) Told With Tok n
     sees n fits (unmarked k) h = let even : IsUnmarked n = omega (arith, h.0) in let h₁ = h.1 in let h₂ = h.2 in let h₀ = h.0 in

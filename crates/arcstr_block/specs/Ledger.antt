@@ -16,7 +16,7 @@ use denote.Sharing.{said, beside, some, one, held, always, nothing}
 use denote.Struct.Lending.{lent_at}
 use Rattle.core.specs.Ptr.{points_to}
 use Rattle.core.specs.Sync.RawAtomic.{word}
-use Rattle.arcstr_block.specs.Rights.{IsMarked}
+use Rattle.arcstr_block.specs.Rights.{IsMarked, fixed}
 use Rattle.arcstr_block.specs.contracts.block.Block.{the_row as block_row}
 
 abbrev pub fact : Type 0 → Fml
@@ -32,6 +32,10 @@ some_share a = fex Share (λ s. flft (a ∷ []) s)
 -- The lifetimes a and c.
 abbrev pub Id : Type 0
 Id = ℕ × ℕ
+
+-- whoever holds a fixed right knows that c has ended
+abbrev pub knows : Id → ℕ → Fml
+knows t right = fall (right ≡ fixed) (λ _. fdead (t.1 ∷ []))
 
 pub data Phase : Type 0 where
   unmarked : ℕ → Phase

@@ -29,6 +29,8 @@ impl<X, A: Allocator> Model for Pointer<X, A> {
 }
 
 impl<X, A: Allocator> Pointer<X, A> {
+    ghost use Rattle.arcstr_block.specs.Same.{IsSameBlock};
+
     /// The first pointer to a block, whose word says 1.
     pub(crate) fn make(memory: Box<Block<X>, A>) -> Pointer<X, A>
     where
@@ -60,17 +62,13 @@ impl<X, A: Allocator> Pointer<X, A> {
         requires { MaySee self.now.right }
         ensures word { IsWord self.now.limit result.0 }
         ensures right { Sees self.now.right result.0 result.1.right }
-        ensures home { result.1.home ≡ self.now.home }
-        ensures value { result.1.value ≡ self.now.value }
-        ensures limit { result.1.limit ≡ self.now.limit }
+        ensures same { IsSameBlock result.1 self.now }
     {
-        let found = unsafe { raw::load::<Brand>(&raw const (*self.at).word, SeqCst) };
+        let at = self.at;
+        let found = unsafe { raw::load::<Brand>(&raw const (*at).word, SeqCst) };
         (
             found,
-            Pointer {
-                at: self.at,
-                marker: PhantomData,
-            },
+            Pointer { at, marker: PhantomData },
         )
     }
 
@@ -80,17 +78,13 @@ impl<X, A: Allocator> Pointer<X, A> {
         requires clone { IsClone self.now.limit old new }
         ensures word { IsWord self.now.limit result.0 }
         ensures right { Gains old new result.0 result.1.right }
-        ensures home { result.1.home ≡ self.now.home }
-        ensures value { result.1.value ≡ self.now.value }
-        ensures limit { result.1.limit ≡ self.now.limit }
+        ensures same { IsSameBlock result.1 self.now }
     {
-        let found = unsafe { exchange::<Brand>(&raw const (*self.at).word, old, new) };
+        let at = self.at;
+        let found = unsafe { exchange::<Brand>(&raw const (*at).word, old, new) };
         (
             found,
-            Pointer {
-                at: self.at,
-                marker: PhantomData,
-            },
+            Pointer { at, marker: PhantomData },
         )
     }
 
@@ -98,24 +92,18 @@ impl<X, A: Allocator> Pointer<X, A> {
     pub(crate) fn mark(&self) -> Pointer<X, A>
         requires { MaySee self.now.right }
         ensures right { result.right ≡ fixed }
-        ensures home { result.home ≡ self.now.home }
-        ensures value { result.value ≡ self.now.value }
-        ensures limit { result.limit ≡ self.now.limit }
+        ensures same { IsSameBlock result self.now }
     {
-        unsafe { raw::fetch_or::<Brand>(&raw const (*self.at).word, 1, SeqCst) };
-        Pointer {
-            at: self.at,
-            marker: PhantomData,
-        }
+        let at = self.at;
+        unsafe { raw::fetch_or::<Brand>(&raw const (*at).word, 1, SeqCst) };
+        Pointer { at, marker: PhantomData }
     }
 
     /// One fetch-sub of a count.
     pub(crate) fn leave(self) -> (u64, Pointer<X, A>)
         requires { self.right ≡ counted }
         ensures right { Leaves result.0 result.1.right }
-        ensures home { result.1.home ≡ self.home }
-        ensures value { result.1.value ≡ self.value }
-        ensures limit { result.1.limit ≡ self.limit }
+        ensures same { IsSameBlock result.1 self }
     {
         let Pointer { at, marker } = self;
         let found = unsafe { raw::fetch_sub::<Brand>(&raw const (*at).word, 2, SeqCst) };
@@ -126,14 +114,10 @@ impl<X, A: Allocator> Pointer<X, A> {
     pub(crate) fn again(&self) -> Pointer<X, A>
         requires { self.now.right ≡ fixed }
         ensures right { result.right ≡ fixed }
-        ensures home { result.home ≡ self.now.home }
-        ensures value { result.value ≡ self.now.value }
-        ensures limit { result.limit ≡ self.now.limit }
+        ensures same { IsSameBlock result self.now }
     {
-        Pointer {
-            at: self.at,
-            marker: PhantomData,
-        }
+        let at = self.at;
+        Pointer { at, marker: PhantomData }
     }
 
     /// The memory, for whoever subtracted last.
