@@ -56,7 +56,7 @@ module _ {M : Type 1} {𝓤 : Ura M} (𝓛 : Logic 𝓤) (P : Fml) (L b o : ℕ)
     pub may_see : (right : ℕ) → MaySee right → (κ : Lft) → ⟦ Shown right κ ⟧ ⊢ ⟦ fshr_bor κ (λ q. flft a q) ⟧ ∗ ⟦ finv I ⟧ ∗ ⟦ s a ⟧ ∗ ⟦ knows t right ⟧
     may_see zero may κ = let low = may.0 in absurd (omega (arith, low))
     may_see (suc zero) may κ = qed 𝓛 (‵ (Shown 1 κ) ∷ []) ∵ fsplit3 ! $ nothing ! $ use1 𝓛 (‵ (knows t 1)) knows_nothing $ move ! (1 ∷ 2 ∷ 3 ∷ 0 ∷ []) $ done !
-    may_see (suc (suc zero)) may κ = qed 𝓛 (‵ (Shown 2 κ) ∷ []) ∵ fsplit ! $ use1 𝓛 (‵ (knows t 2)) knows_mark $ move ! (1 ∷ []) $ fsplit3 ! $ done !
+    may_see (suc (suc zero)) may κ = qed 𝓛 (‵ (Shown 2 κ) ∷ []) ∵ fsplit ! $ fsplit ! $ drop ! $ use1 𝓛 (‵ (knows t 2)) knows_mark $ move ! (1 ∷ []) $ fsplit3 ! $ done !
     may_see (suc (suc (suc k))) may κ = let high = may.1 in absurd (omega (arith, high))
 
     -- a share is had for good once it is borrowed for a lifetime that never ends

@@ -90,7 +90,7 @@ module _ (P : Fml) (L b o : ℕ) (t : Id) where
     abbrev pub shown : ℕ → Lft → Fml
     shown zero = nothing
     shown (suc zero) = seen
-    shown (suc (suc zero)) = beside (said (fdead (t.1 ∷ []))) seen
+    shown (suc (suc zero)) = beside (said for_good) seen
     shown (suc (suc (suc _))) = nothing
 
 module _ (holds : Ty → Ptr → Fml) (R : RattleType) (p : Ptr) (x : R.Denot) where
