@@ -7,3 +7,5 @@ pub mod Steps
 pub mod Changes
 pub mod Rights
 pub mod Fields
+pub mod Memory
+pub mod LooseValues

@@ -2,4 +2,5 @@
 #![tactic(auto)]
 
 mod block;
+mod loose;
 mod pointer;

@@ -1,11 +1,11 @@
 //! The pointer to a block. Every raw pointer and every atomic step of the crate is here.
 //! The word is `2 * count`, or `2 * count + 1` once the block is marked.
 ghost use Rattle.std.specs.Prelude.{◌≡◌, ℕ, ◌<◌};
-ghost use Rattle.std.specs.Box.{box_allocator};
 ghost use Rattle.arcstr_block.specs.Rights.{counted, fixed, owed, nothing, IsWord, Sees, IsClone, Gains, Leaves, MaySee};
 ghost use Rattle.arcstr_block.specs.Ledger.{pointer_owns, pointer_shares};
 
 use crate::block::Block;
+use crate::loose::Loose;
 use atomic_table::exchange;
 use std::alloc::Allocator;
 use std::marker::{Brand, Model, PhantomData};
@@ -31,22 +31,19 @@ impl<X, A: Allocator> Model for Pointer<X, A> {
 impl<X, A: Allocator> Pointer<X, A> {
     ghost use Rattle.arcstr_block.specs.Same.{IsSameBlock};
 
-    /// The first pointer to a block, whose word says 1.
-    pub(crate) fn make(memory: Box<Block<X>, A>) -> Pointer<X, A>
-    where
-        X: Drop,
+    /// The first pointer to a block, whose word counts it alone.
+    pub(crate) fn make(memory: Loose<Block<X>, A>) -> (Pointer<X, A>, A)
         ghost limit: { ℕ }
         requires word { memory.value.word ≡ 2 }
         requires limit { limit < 4611686018427387904 }
-        ensures home { result.home ≡ box_allocator memory }
-        ensures value { result.value ≡ memory.value.value }
-        ensures limit { result.limit ≡ limit }
-        ensures right { result.right ≡ counted }
+        ensures home { (result.0.home ≡ memory.alloc) × (result.1 ≡ memory.alloc) }
+        ensures value { result.0.value ≡ memory.value.value }
+        ensures limit { result.0.limit ≡ limit }
+        ensures right { result.0.right ≡ counted }
     {
-        Pointer {
-            at: Box::into_raw(memory),
-            marker: PhantomData,
-        }
+        let Loose { at, alloc } = memory;
+        let pointer = Pointer { at, marker: PhantomData };
+        (pointer, alloc)
     }
 
     /// What the block holds.
@@ -121,14 +118,14 @@ impl<X, A: Allocator> Pointer<X, A> {
     }
 
     /// The memory, for whoever subtracted last.
-    pub(crate) fn release(self, alloc: A) -> Box<Block<X>, A>
+    pub(crate) fn release(self, alloc: A) -> Loose<Block<X>, A>
         requires right { self.right ≡ owed }
         requires home { alloc ≡ self.home }
         ensures value { result.value.value ≡ self.value }
-        ensures home { box_allocator result ≡ alloc }
+        ensures home { result.alloc ≡ alloc }
     {
         let Pointer { at, marker: _ } = self;
-        unsafe { Box::from_raw(alloc, at.cast_mut()) }
+        Loose { at: at.cast_mut(), alloc }
     }
 
     /// Lets go of a pointer that owes nothing.
