@@ -8,4 +8,5 @@ pub mod Changes
 pub mod Rights
 pub mod Fields
 pub mod Memory
+pub mod Begins
 pub mod LooseValues
