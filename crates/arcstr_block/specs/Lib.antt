@@ -1,3 +1,4 @@
 pub mod Rights
 pub mod Ledger
 pub mod Same
+pub mod Fault

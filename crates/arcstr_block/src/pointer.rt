@@ -42,7 +42,10 @@ impl<X, A: Allocator> Pointer<X, A> {
         ensures right { result.0.right ≡ counted }
     {
         let Loose { at, alloc } = memory;
-        let pointer = Pointer { at, marker: PhantomData };
+        let pointer = Pointer {
+            at,
+            marker: PhantomData,
+        };
         (pointer, alloc)
     }
 
@@ -65,7 +68,10 @@ impl<X, A: Allocator> Pointer<X, A> {
         let found = unsafe { raw::load::<Brand>(&raw const (*at).word, SeqCst) };
         (
             found,
-            Pointer { at, marker: PhantomData },
+            Pointer {
+                at,
+                marker: PhantomData,
+            },
         )
     }
 
@@ -81,7 +87,10 @@ impl<X, A: Allocator> Pointer<X, A> {
         let found = unsafe { exchange::<Brand>(&raw const (*at).word, old, new) };
         (
             found,
-            Pointer { at, marker: PhantomData },
+            Pointer {
+                at,
+                marker: PhantomData,
+            },
         )
     }
 
@@ -93,7 +102,10 @@ impl<X, A: Allocator> Pointer<X, A> {
     {
         let at = self.at;
         unsafe { raw::fetch_or::<Brand>(&raw const (*at).word, 1, SeqCst) };
-        Pointer { at, marker: PhantomData }
+        Pointer {
+            at,
+            marker: PhantomData,
+        }
     }
 
     /// One fetch-sub of a count.
@@ -114,7 +126,10 @@ impl<X, A: Allocator> Pointer<X, A> {
         ensures same { IsSameBlock result self.now }
     {
         let at = self.at;
-        Pointer { at, marker: PhantomData }
+        Pointer {
+            at,
+            marker: PhantomData,
+        }
     }
 
     /// The memory, for whoever subtracted last.
@@ -125,7 +140,10 @@ impl<X, A: Allocator> Pointer<X, A> {
         ensures home { result.alloc ≡ alloc }
     {
         let Pointer { at, marker: _ } = self;
-        Loose { at: at.cast_mut(), alloc }
+        Loose {
+            at: at.cast_mut(),
+            alloc,
+        }
     }
 
     /// Lets go of a pointer that owes nothing.

@@ -1,0 +1,33 @@
+-- The past of a history, step by step.
+use Rattle.std.proofs.Common.{◌≡◌, ℕ, Bool, true, false, if◌then◌else◌, List, [], ◌∷◌, ◌++◌, refl, sym, ◌∙◌, ap}
+use Rattle.arcstr_count.specs.declared.steps.Step.{Step}
+use Rattle.arcstr_count.specs.Answer.{is_accepted}
+use Rattle.arcstr_count.specs.Past.{with_step, past_from, past_of, IsPast}
+
+-- the steps of two lists, one after the other
+pub past_from-append : (limit : ℕ) (p xs ys : List Step) → past_from limit p (xs ++ ys) ≡ past_from limit (past_from limit p xs) ys
+past_from-append limit p [] ys = refl
+past_from-append limit p (x ∷ xs) ys = past_from-append limit (with_step limit p x) xs ys
+
+pub past_of-append : (limit : ℕ) (front later : List Step) → past_of limit (front ++ later) ≡ past_from limit (past_of limit front) later
+past_of-append limit front later = past_from-append limit [] front later
+
+-- one more step at the end
+pub past_of-step : (limit : ℕ) (front : List Step) (s : Step) → past_of limit (front ++ s ∷ []) ≡ with_step limit (past_of limit front) s
+past_of-step limit front s = past_of-append limit front (s ∷ [])
+
+-- a past stays one with one more step
+pub IsPast-with_step : (limit : ℕ) (p : List Step) (s : Step) → IsPast limit p → IsPast limit (with_step limit p s)
+IsPast-with_step limit p s h = kept (is_accepted limit p s) refl
+  where
+  kept : (b : Bool) → is_accepted limit p s ≡ b → IsPast limit (if b then s ∷ p else p)
+  kept true accepted = (accepted, h)
+  kept false refused = h
+
+pub IsPast-past_from : (limit : ℕ) (p xs : List Step) → IsPast limit p → IsPast limit (past_from limit p xs)
+IsPast-past_from limit p [] h = h
+IsPast-past_from limit p (x ∷ xs) h = IsPast-past_from limit (with_step limit p x) xs (IsPast-with_step limit p x h)
+
+-- the past of each history is one
+pub IsPast-past_of : (limit : ℕ) (history : List Step) → IsPast limit (past_of limit history)
+IsPast-past_of limit history = IsPast-past_from limit [] history tt

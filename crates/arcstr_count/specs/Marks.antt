@@ -1,0 +1,61 @@
+-- Marked blocks, and the state of each handle.
+--
+-- The three of the circle use each other only through shorter pasts.
+use Rattle.std.specs.Prelude.{◌≡◌, ℕ, suc, ◌+◌, Bool, true, false, not, ◌&&◌, ◌||◌, ◌==◌, nat_lt, if◌then◌else◌, List, [], ◌∷◌, ◌++◌, length, filter}
+use Rattle.arcstr_count.specs.declared.steps.Step.{Step}
+use Rattle.arcstr_count.specs.declared.steps.Step.TheVariants.{Make, Look, Clone, Begin, Sub, Back, Leak, IntoRaw, FromRaw}
+use Rattle.arcstr_count.specs.declared.steps.HandleState.{HandleState}
+use Rattle.arcstr_count.specs.declared.steps.HandleState.TheVariants.{Free, Raw, Dropping, Owing, Gone}
+use Rattle.arcstr_count.specs.History.{births, block_of, is_raw, has_begun, has_subtracted, has_given, state_by, lives, numbers_below}
+
+-- the state of handle h, where `unmarked` and `last` say how its drop began and how it subtracted
+abbrev pub state_under : (unmarked last : ℕ → Bool) → List Step → ℕ → HandleState
+state_under unmarked last p h =
+    state_by (is_raw p h) (has_begun p h) (unmarked h) (has_subtracted p h) (last h) (has_given p h)
+
+-- the handles on block b that live, with the same two
+abbrev pub living_under : (unmarked last : ℕ → Bool) → List Step → ℕ → List ℕ
+living_under unmarked last p b =
+    filter (λ h. (block_of p h == b) && lives (state_under unmarked last p h)) (numbers_below (births p))
+
+-- h is the one member of the set
+abbrev pub is_only : ℕ → List ℕ → Bool
+is_only h [] = false
+is_only h (x ∷ []) = x == h
+is_only h (x ∷ y ∷ xs) = false
+
+abbrev mutual
+  -- the block is marked: a `Leak` on it, or a `Clone` on it while more than the limit of handles lived on it
+  pub is_marked : ℕ → List Step → ℕ → Bool
+  is_marked limit [] b = false
+  is_marked limit (Leak h ∷ p) b = (block_of p h == b) || is_marked limit p b
+  is_marked limit (Clone h ∷ p) b =
+      is_marked limit p b
+      || ((block_of p h == b)
+      && nat_lt limit (length (living_under (λ g. began_unmarked limit p g) (λ g. was_last limit p g) p b)))
+  is_marked limit (s ∷ p) b = is_marked limit p b
+
+  -- the handle's drop began where its block was unmarked
+  pub began_unmarked : ℕ → List Step → ℕ → Bool
+  began_unmarked limit [] h = false
+  began_unmarked limit (Begin g ∷ p) h =
+      if g == h then not (is_marked limit p (block_of p h)) else began_unmarked limit p h
+  began_unmarked limit (s ∷ p) h = began_unmarked limit p h
+
+  -- the handle subtracted where its block was unmarked and no other handle on it lived
+  pub was_last : ℕ → List Step → ℕ → Bool
+  was_last limit [] h = false
+  was_last limit (Sub g ∷ p) h =
+      if g == h
+      then not (is_marked limit p (block_of p h))
+      && is_only h (living_under (λ k. began_unmarked limit p k) (λ k. was_last limit p k) p (block_of p h))
+      else was_last limit p h
+  was_last limit (s ∷ p) h = was_last limit p h
+
+-- the state of a handle that was born
+abbrev pub state_of : ℕ → List Step → ℕ → HandleState
+state_of limit p h = state_under (λ g. began_unmarked limit p g) (λ g. was_last limit p g) p h
+
+-- the handles that live on the block
+abbrev pub living : ℕ → List Step → ℕ → List ℕ
+living limit p b = living_under (λ g. began_unmarked limit p g) (λ g. was_last limit p g) p b

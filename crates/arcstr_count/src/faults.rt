@@ -1,0 +1,103 @@
+ghost use Rattle.std.specs.Prelude.{◌≡◌, Some};
+ghost use Rattle.arcstr_count.specs.Faults.{step_fault_number, run_fault_number, step_fault_text, run_fault_text};
+
+use std::error::Error;
+use std::fmt;
+
+/// Why a step is refused, by the state of the handle that it names.
+#[derive(Clone, Copy, Debug, PartialEq, Eq)]
+pub enum StepFault {
+    /// No handle of this number is there: it was never born, or it has ended.
+    NoHandle,
+    /// The handle is dropping.
+    InDrop,
+    /// The handle is not dropping.
+    NotInDrop,
+    /// The handle does not owe its block.
+    NotOwing,
+    /// The handle is a raw value.
+    IsRaw,
+    /// The handle is no raw value.
+    NotRaw,
+}
+
+impl StepFault {
+    /// The number of the fault, from 1.
+    pub fn number(&self) -> u8
+        ensures { result ≡ step_fault_number self.now }
+    {
+        match self {
+            StepFault::NoHandle => 1,
+            StepFault::InDrop => 2,
+            StepFault::NotInDrop => 3,
+            StepFault::NotOwing => 4,
+            StepFault::IsRaw => 5,
+            StepFault::NotRaw => 6,
+        }
+    }
+
+    /// The name of the fault, as it is printed.
+    pub fn name(&self) -> &'static str
+        ensures { result.now ≡ step_fault_text self.now }
+    {
+        match self {
+            StepFault::NoHandle => "NoHandle",
+            StepFault::InDrop => "InDrop",
+            StepFault::NotInDrop => "NotInDrop",
+            StepFault::NotOwing => "NotOwing",
+            StepFault::IsRaw => "IsRaw",
+            StepFault::NotRaw => "NotRaw",
+        }
+    }
+}
+
+impl fmt::Display for StepFault {
+    ghost output = { λ fault. Some (step_fault_text fault) };
+
+    fn fmt<W: fmt::Write>(&self, f: &mut fmt::Formatter<W>) -> fmt::Result {
+        f.write_str(self.name())
+    }
+}
+
+impl Error for StepFault {}
+
+/// Why a world cannot be made, or a step not be taken.
+#[derive(Clone, Copy, Debug, PartialEq, Eq)]
+pub enum RunFault {
+    /// The limit is above `RC_MAX`.
+    LimitTooLarge,
+    /// There was no memory for a new handle or block.
+    Memory,
+}
+
+impl RunFault {
+    /// The number of the fault, from 1.
+    pub fn number(&self) -> u8
+        ensures { result ≡ run_fault_number self.now }
+    {
+        match self {
+            RunFault::LimitTooLarge => 1,
+            RunFault::Memory => 2,
+        }
+    }
+
+    /// The text of the fault, as it is printed.
+    pub fn text(&self) -> &'static str
+        ensures { result.now ≡ run_fault_text self.now }
+    {
+        match self {
+            RunFault::LimitTooLarge => "limit too large",
+            RunFault::Memory => "out of memory",
+        }
+    }
+}
+
+impl fmt::Display for RunFault {
+    ghost output = { λ fault. Some (run_fault_text fault) };
+
+    fn fmt<W: fmt::Write>(&self, f: &mut fmt::Formatter<W>) -> fmt::Result {
+        f.write_str(self.text())
+    }
+}
+
+impl Error for RunFault {}

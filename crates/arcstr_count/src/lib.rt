@@ -1,0 +1,14 @@
+//! Reference counts as histories: what steps on counted blocks mean, and the world that answers them.
+//!
+//! A handle is numbered by its birth, a block by its making. `specs/` says what a history of steps
+//! means, with handles and sets of them; `World` answers one step at a time by that meaning, and
+//! `run` a whole list.
+#![tactic(auto)]
+
+pub use faults::{RunFault, StepFault};
+pub use steps::{HandleState, HandleSummary, Reply, Step};
+pub use words::{RC_MAX, Word};
+
+mod faults;
+mod steps;
+mod words;

@@ -1,0 +1,81 @@
+use crate::faults::StepFault;
+
+/// One act of one holder. The number is that of the handle that acts.
+///
+/// Handles are numbered from 0 in order of birth over all blocks: `Make` and `Clone` give birth.
+#[derive(Clone, Copy, Debug, PartialEq, Eq)]
+pub enum Step {
+    /// A new block with one free handle.
+    Make,
+    /// Asks how many handles live on the handle's block.
+    Look(u64),
+    /// A second handle on the same block.
+    Clone(u64),
+    /// The handle's drop begins, with a look at the block.
+    Begin(u64),
+    /// A drop that found its block unmarked takes its handle out of the count.
+    Sub(u64),
+    /// The handle that took out the last share gives the block back.
+    Back(u64),
+    /// Marks the block static, for good.
+    Leak(u64),
+    /// The free handle becomes a raw value, which still lives.
+    IntoRaw(u64),
+    /// The raw value becomes a free handle again.
+    FromRaw(u64),
+}
+
+/// What an accepted step answers, or why a step is refused.
+#[derive(Clone, Copy, Debug, PartialEq, Eq)]
+pub enum Reply {
+    /// To `Make`: the handle that was born.
+    Made(u64),
+    /// To `Look` at an unmarked block: how many handles live on it.
+    Count(u64),
+    /// To `Look` at a marked block.
+    Static,
+    /// To `Clone`: the handle that was born.
+    Handle(u64),
+    /// To `Begin` on an unmarked block: the handle is dropping.
+    Looked,
+    /// To `Begin` on a marked block: the handle is gone.
+    Ended,
+    /// To `Sub`: other handles live, or the block is marked.
+    Left,
+    /// To `Sub` of the last living handle of an unmarked block.
+    Owes,
+    /// To `Back`: the block is given back.
+    Given,
+    /// To `Leak`.
+    Marked,
+    /// To `IntoRaw`.
+    Raw,
+    /// To `FromRaw`.
+    Unraw,
+    /// The step is not accepted, and changes nothing.
+    Refused(StepFault),
+}
+
+/// Where a handle that was born stands. It lives while it is free, raw or dropping.
+#[derive(Clone, Copy, Debug, PartialEq, Eq)]
+pub enum HandleState {
+    /// A handle in use.
+    Free,
+    /// A raw value that stands for the handle.
+    Raw,
+    /// Its drop began, found the block unmarked, and has not subtracted yet.
+    Dropping,
+    /// It took out the last share, and has to give the block back.
+    Owing,
+    /// It has ended.
+    Gone,
+}
+
+/// What a summary of a history keeps of a handle that was born.
+#[derive(Clone, Copy, Debug, PartialEq, Eq)]
+pub struct HandleSummary {
+    /// The number of the block that the handle stands on.
+    pub block: u64,
+    /// Where the handle stands.
+    pub state: HandleState,
+}
