@@ -8,12 +8,12 @@ use std::alloc::Allocator;
 use std::marker::Model;
 
 /// A block that is marked, for good: its text is read as long as its allocator lasts. Contracts see its text, as bytes.
-pub struct Fixed<A: Allocator> {
+pub struct Fixed<A: Allocator + Copy> {
     pub(crate) pointer: Pointer<String<A>, A>,
     pub(crate) alloc: A,
 }
 
-impl<A: Allocator> Model for Fixed<A> {
+impl<A: Allocator + Copy> Model for Fixed<A> {
     ghost Value = { List ℕ };
 
     ghost view = { λ f. string_bytes f.pointer.value };
@@ -47,10 +47,9 @@ impl<A: Allocator + Copy> Fixed<A> {
     }
 }
 
-impl<A: Allocator + Drop> Drop for Fixed<A> {
+impl<A: Allocator + Copy> Drop for Fixed<A> {
     fn drop(self) {
-        let Fixed { pointer, alloc } = self;
+        let Fixed { pointer, alloc: _ } = self;
         pointer.forget();
-        drop(alloc);
     }
 }
