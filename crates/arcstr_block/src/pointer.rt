@@ -153,3 +153,8 @@ impl<X, A: Allocator> Pointer<X, A> {
         let Pointer { at: _, marker: _ } = self;
     }
 }
+
+// The content is read, and the memory is taken out, in whichever thread the pointer is.
+unsafe impl<X: Send + Sync, A: Allocator + Send + Sync> Send for Pointer<X, A> {}
+
+unsafe impl<X: Send + Sync, A: Allocator + Send + Sync> Sync for Pointer<X, A> {}
