@@ -1,0 +1,92 @@
+-- How the parts of a token move while the word changes: taken, given back, and kept for good at the mark. Assumes `Logic`.
+use Rattle.std.proofs.Common.{◌≡◌, ℕ, ◌+◌, ◌-◌, ◌*◌, ◌/◌, ◌%◌, ◌^◌, ◌<◌, ◌≤◌, [], ◌∷◌, refl, sym, subst, arith}
+use seplogic.Ra.Ura.{Ura}
+use base.Fraction.{full_share}
+use base.Logic.{SProp, ent, sep, wand, guard, never, never_e, via}
+use base.Fml.{Fml, ftrue, fex, flft, fdead, flent, Share}
+use types.Logic.{Logic, sem}
+use types.Kit.{‵, raw, ◌⊛◌, ◌$◌, ◌∵◌, !, qed, by, move, keep, split, split3, group, fsplit, fsplit3, fjoin, fjoin3, fpick, fpack, use1, use2, rewrite, done}
+use denote.Steps.{nothing}
+use Rattle.arcstr_block.specs.Rights.{IsMarked}
+use Rattle.arcstr_block.specs.Ledger.{fact, parts, some_share, Id, Phase, unmarked, marked, Fits, rest, phase, Ledger}
+use Rattle.arcstr_block.proofs.Parts.{parts_cut, parts_glue, parts_whole, share_halves, part_share}
+
+module _ {M : Type 1} {𝓤 : Ura M} (𝓛 : Logic 𝓤) (P : Fml) (L b o : ℕ) (t : Id) where
+  open 𝓛 use {H, A}
+
+  abbrev Pr : Type 2
+  Pr = SProp 𝓤
+
+  abbrev ◌⊢◌ : Pr → Pr → Type 1
+  X ⊢ Y = ent 𝓤 X Y
+
+  abbrev ◌∗◌ : Pr → Pr → Pr
+  X ∗ Y = sep 𝓤 X Y
+
+  abbrev ⟦◌⟧ : Fml → Pr
+  ⟦ X ⟧ = sem 𝓛 X
+
+  infix 26 ◌⊢◌
+  infixr 35 ◌∗◌
+  abbrev Keeps : Phase → Fml
+  Keeps = rest P L b o t
+
+  abbrev In : ℕ → Phase → Type 0
+  In = Fits P L b o t
+
+  abbrev pub Ph : ℕ → Phase → Fml
+  Ph = phase P L b o t
+
+  abbrev pub Led : ℕ → Fml
+  Led = Ledger P L b o t
+
+  pub phase_in : (n : ℕ) (s : Phase) → In n s → ⟦ Keeps s ⟧ ⊢ ⟦ Led n ⟧
+  phase_in n s h = qed 𝓛 (‵ (Keeps s) ∷ []) ∵ nothing ! $ fpack ! (In n s) (λ _. ftrue) h $ fjoin ! $ fpack ! Phase (Ph n) s $ done !
+
+  pub not_alive : (s : Share) (d : ℕ) (Z : Pr) → A.lft (d ∷ []) s ∗ A.dead (d ∷ []) ⊢ Z
+  not_alive s d Z = via 𝓤 (never 𝓤) (𝓛.lfts.lft-dead (d ∷ []) s) (never_e 𝓤 Z)
+
+  pub share_not_alive : (d : ℕ) (Z : Pr) → ⟦ some_share d ⟧ ∗ A.dead (d ∷ []) ⊢ Z
+  share_not_alive d Z = qed 𝓛 (‵ (some_share d) ∷ ‵ (fdead (d ∷ [])) ∷ []) ∵ fpick ! (λ s. by ! (not_alive s d Z))
+
+  -- one more handle
+  pub takes : (k : ℕ) → k < 2 ^ 62 → ⟦ Keeps (unmarked k) ⟧ ⊢ ⟦ Keeps (unmarked (k + 1)) ⟧ ∗ ⟦ parts t.0 1 ⟧
+  takes k small = qed 𝓛 (‵ (Keeps (unmarked k)) ∷ []) ∵ fsplit3 ! $
+      use1 𝓛 (‵ (parts t.0 (2 ^ 63 - (k + 1))) ⊛ ‵ (parts t.0 1)) (parts_cut 𝓛 t.0 (2 ^ 63 - k) (2 ^ 63 - (k + 1)) 1 (omega arith) (omega arith) (omega arith) (omega arith)) $ split ! $
+      move ! (0 ∷ 2 ∷ 3 ∷ []) $ fjoin3 ! $ done !
+
+  -- one handle less, and not the last
+  pub gives : (k : ℕ) → 1 < k → k < 2 ^ 63 → ⟦ Keeps (unmarked k) ⟧ ∗ ⟦ parts t.0 1 ⟧ ⊢ ⟦ Keeps (unmarked (k - 1)) ⟧
+  gives k many small = qed 𝓛 (‵ (Keeps (unmarked k)) ∷ ‵ (parts t.0 1) ∷ []) ∵ fsplit3 ! $ move ! (0 ∷ 3 ∷ []) $
+      use2 𝓛 (‵ (parts t.0 (2 ^ 63 - (k - 1)))) (parts_glue 𝓛 t.0 (2 ^ 63 - k) 1 (2 ^ 63 - (k - 1)) (omega arith) (omega arith) (omega arith)) $ fjoin3 ! $ done !
+
+  -- the last one has the whole token, and with it what was lent
+  pub gives_last : ⟦ Keeps (unmarked 1) ⟧ ∗ ⟦ parts t.0 1 ⟧ ⊢ A.lft (t.0 ∷ []) full_share ∗ A.lent (t.0 ∷ []) P
+  gives_last = qed 𝓛 (‵ (Keeps (unmarked 1)) ∷ ‵ (parts t.0 1) ∷ []) ∵ fsplit3 ! $ move ! (0 ∷ 3 ∷ []) $
+      use2 𝓛 (‵ (flft (t.0 ∷ []) full_share)) (parts_whole 𝓛 t.0) $ keep ! (0 ∷ 2 ∷ []) $ done !
+
+  -- a drop that looked before the mark
+  pub gives_marked : (m : ℕ) → 0 < m → m < 2 ^ 63 → ⟦ Keeps (marked m) ⟧ ∗ ⟦ parts t.0 1 ⟧ ⊢ ⟦ Keeps (marked (m - 1)) ⟧
+  gives_marked m some small = qed 𝓛 (‵ (Keeps (marked m)) ∷ ‵ (parts t.0 1) ∷ []) ∵ fsplit3 ! $ move ! (0 ∷ 3 ∷ []) $
+      use2 𝓛 (‵ (parts t.0 (2 ^ 63 - ((m - 1) + 1)))) (parts_glue 𝓛 t.0 (2 ^ 63 - (m + 1)) 1 (2 ^ 63 - ((m - 1) + 1)) (omega arith) (omega arith) (omega arith)) $ fjoin3 ! $ done !
+
+  -- more parts than were out
+  pub too_many : ⟦ Keeps (marked 0) ⟧ ∗ ⟦ parts t.0 1 ⟧ ⊢ A.lft (t.0 ∷ []) full_share ∗ ⟦ some_share t.0 ⟧
+  too_many = qed 𝓛 (‵ (Keeps (marked 0)) ∷ ‵ (parts t.0 1) ∷ []) ∵ fsplit3 ! $ move ! (0 ∷ 3 ∷ []) $
+      use2 𝓛 (‵ (flft (t.0 ∷ []) full_share)) (parts_whole 𝓛 t.0) $ keep ! (0 ∷ 1 ∷ []) $ done !
+
+  -- the token of c ends with the mark, and one more part is kept, of which the marker has a share
+  pub marks : (k : ℕ) → k < 2 ^ 63 - 1 → ⟦ Keeps (unmarked k) ⟧ ⊢ A.lft (t.1 ∷ []) full_share ∗ ⟦ parts t.0 (2 ^ 63 - (k + 1)) ⟧ ∗ ⟦ some_share t.0 ⟧ ∗ ⟦ some_share t.0 ⟧
+  marks k small = qed 𝓛 (‵ (Keeps (unmarked k)) ∷ []) ∵ fsplit3 ! $
+      use1 𝓛 (‵ (parts t.0 (2 ^ 63 - (k + 1))) ⊛ ‵ (parts t.0 1)) (parts_cut 𝓛 t.0 (2 ^ 63 - k) (2 ^ 63 - (k + 1)) 1 (omega arith) (omega arith) (omega arith) (omega arith)) $ split ! $
+      move ! (1 ∷ []) $ use1 𝓛 (‵ (some_share t.0)) (part_share 𝓛 t.0 1) $ use1 𝓛 (‵ (some_share t.0) ⊛ ‵ (some_share t.0)) (share_halves 𝓛 t.0) $ split ! $
+      keep ! (3 ∷ 2 ∷ 0 ∷ 1 ∷ []) $ done !
+
+  pub marked_in : (m : ℕ) → ⟦ parts t.0 (2 ^ 63 - (m + 1)) ⟧ ∗ ⟦ some_share t.0 ⟧ ∗ A.dead (t.1 ∷ []) ⊢ ⟦ Keeps (marked m) ⟧
+  marked_in m = qed 𝓛 (‵ (parts t.0 (2 ^ 63 - (m + 1))) ∷ ‵ (some_share t.0) ∷ ‵ (fdead (t.1 ∷ [])) ∷ []) ∵ fjoin3 ! $ done !
+
+  -- whoever finds the mark has a share
+  pub finds_mark : (m : ℕ) → ⟦ Keeps (marked m) ⟧ ⊢ ⟦ Keeps (marked m) ⟧ ∗ ⟦ some_share t.0 ⟧ ∗ A.dead (t.1 ∷ [])
+  finds_mark m = qed 𝓛 (‵ (Keeps (marked m)) ∷ []) ∵ fsplit3 ! $ move ! (1 ∷ []) $ use1 𝓛 (‵ (some_share t.0) ⊛ ‵ (some_share t.0)) (share_halves 𝓛 t.0) $ split ! $
+      move ! (3 ∷ []) $ use1 𝓛 (‵ (fdead (t.1 ∷ [])) ⊛ ‵ (fdead (t.1 ∷ []))) (𝓛.lfts.dead_dup (t.1 ∷ [])) $ split ! $
+      move ! (4 ∷ 2 ∷ 0 ∷ []) $ fjoin3 ! $ move ! (0 ∷ 2 ∷ 1 ∷ []) $ done !

@@ -1,0 +1,12 @@
+pub mod Parts
+pub mod Atomic
+pub mod Lent
+pub mod Words
+pub mod Ledger
+pub mod Steps
+pub mod Changes
+pub mod Rights
+pub mod Fields
+pub mod Memory
+pub mod Begins
+pub mod LooseValues

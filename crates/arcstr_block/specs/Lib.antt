@@ -1,0 +1,4 @@
+pub mod Rights
+pub mod Ledger
+pub mod Same
+pub mod Fault

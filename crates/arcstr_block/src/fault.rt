@@ -1,0 +1,45 @@
+ghost use Rattle.std.specs.Prelude.{◌≡◌, Some};
+ghost use Rattle.arcstr_block.specs.Fault.{text_fault_number};
+
+use std::error::Error;
+use std::fmt;
+
+/// Why a text cannot be had.
+#[derive(Clone, Copy, Debug, PartialEq, Eq)]
+pub enum TextFault {
+    /// The text is too long: it has `2^63 - 25` bytes or more.
+    Length,
+    /// There was no memory for the text.
+    Memory,
+    /// The bytes are not UTF-8: their longest front that is has this many bytes.
+    Utf8(usize),
+    /// The text is too long for places of 32 bits.
+    TooFar,
+}
+
+impl TextFault {
+    /// The number of the fault, from 1.
+    pub fn number(&self) -> u8
+        ensures { result ≡ text_fault_number self.now }
+    {
+        match self {
+            TextFault::Length => 1,
+            TextFault::Memory => 2,
+            TextFault::Utf8(_) => 3,
+            TextFault::TooFar => 4,
+        }
+    }
+}
+
+impl fmt::Display for TextFault {
+    fn fmt<W: fmt::Write>(&self, f: &mut fmt::Formatter<W>) -> fmt::Result {
+        match self {
+            TextFault::Length => f.write_str("text is too long"),
+            TextFault::Memory => f.write_str("out of memory"),
+            TextFault::Utf8(place) => write!(f, "bytes are not UTF-8 from place {place}"),
+            TextFault::TooFar => f.write_str("text is too long for 32-bit places"),
+        }
+    }
+}
+
+impl Error for TextFault {}

@@ -1,0 +1,55 @@
+//! A block that is known to be marked.
+ghost use Rattle.std.specs.Prelude.{◌≡◌, List, ℕ, length};
+ghost use Rattle.std.specs.String.{string_bytes};
+ghost use Rattle.arcstr_block.specs.Rights.{fixed};
+
+use crate::pointer::Pointer;
+use std::alloc::Allocator;
+use std::marker::Model;
+
+/// A block that is marked, for good: its text is read as long as its allocator lasts. Contracts see its text, as bytes.
+pub struct Fixed<A: Allocator + Copy> {
+    pub(crate) pointer: Pointer<String<A>, A>,
+    pub(crate) alloc: A,
+}
+
+impl<A: Allocator + Copy> Model for Fixed<A> {
+    ghost Value = { List ℕ };
+
+    ghost view = { λ f. string_bytes f.pointer.value };
+
+    ghost invariant = { λ f. f.pointer.right ≡ fixed };
+}
+
+impl<A: Allocator + Copy> Fixed<A> {
+    /// The text.
+    pub fn as_str(&self) -> &str
+        ensures { result.now ≡ self.now }
+    {
+        self.pointer.value().as_str()
+    }
+
+    /// The length of the text, in bytes.
+    pub fn len(&self) -> usize
+        ensures { result ≡ length self.now }
+    {
+        self.as_str().len()
+    }
+
+    /// The same block once more. It takes no step.
+    pub fn again(&self) -> Fixed<A>
+        ensures { result ≡ self.now }
+    {
+        Fixed {
+            pointer: self.pointer.again(),
+            alloc: self.alloc,
+        }
+    }
+}
+
+impl<A: Allocator + Copy> Drop for Fixed<A> {
+    fn drop(self) {
+        let Fixed { pointer, alloc: _ } = self;
+        pointer.forget();
+    }
+}

@@ -1,0 +1,20 @@
+//! One counted block: an atomic word and a text, in the allocator that made it.
+//!
+//! A `Shared` is one handle on a block. Its clone is a compare-exchange, its drop a load and a fetch-sub, and a mark,
+//! a fetch-or, makes the block stay for good. Whoever subtracts last takes the memory out whole, as `Owed`.
+#![tactic(auto)]
+
+pub use fault::TextFault;
+pub use fixed::Fixed;
+pub use owed::{Down, Owed};
+pub use shared::Shared;
+
+mod block;
+mod fault;
+mod fixed;
+mod loose;
+mod owed;
+mod pointer;
+mod shared;
+#[cfg(test)]
+mod tests;

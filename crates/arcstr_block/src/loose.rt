@@ -1,0 +1,33 @@
+//! A box as its address and its allocator.
+ghost use Rattle.std.specs.Prelude.{◌≡◌};
+ghost use Rattle.std.specs.Box.{box_allocator};
+ghost use Rattle.std.specs.Box.Ownership.{box_owns};
+
+use std::alloc::Allocator;
+use std::marker::Model;
+
+pub(crate) struct Loose<T, A: Allocator> {
+    pub(crate) at: *mut T,
+    pub(crate) alloc: A,
+    pub(crate) ghost value: { T },
+}
+
+impl<T, A: Allocator> Model for Loose<T, A> {
+    ghost also_owns = { λ l. box_owns (A.dealloc_token l.alloc) T.row l.at l.value };
+}
+
+impl<T: Drop, A: Allocator> Loose<T, A> {
+    pub(crate) fn of(whole: Box<T, A>) -> Loose<T, A>
+        ensures { (result.value ≡ whole.value) × (result.alloc ≡ box_allocator whole) }
+    {
+        let (at, alloc) = Box::into_raw_with_allocator(whole);
+        Loose { at, alloc }
+    }
+
+    pub(crate) fn into_box(self) -> Box<T, A>
+        ensures { (result.value ≡ self.value) × (box_allocator result ≡ self.alloc) }
+    {
+        let Loose { at, alloc } = self;
+        unsafe { Box::from_raw(alloc, at) }
+    }
+}

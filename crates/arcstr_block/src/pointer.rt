@@ -1,0 +1,160 @@
+//! The pointer to a block. Every raw pointer and every atomic step of the crate is here.
+//! The word is `2 * count`, or `2 * count + 1` once the block is marked.
+ghost use Rattle.std.specs.Prelude.{◌≡◌, ℕ, ◌<◌};
+ghost use Rattle.arcstr_block.specs.Rights.{counted, fixed, owed, nothing, IsWord, Sees, IsClone, Gains, Leaves, MaySee};
+ghost use Rattle.arcstr_block.specs.Ledger.{pointer_owns, pointer_shares};
+
+use crate::block::Block;
+use crate::loose::Loose;
+use atomic_table::exchange;
+use std::alloc::Allocator;
+use std::marker::{Brand, Model, PhantomData};
+use std::sync::atomic::Ordering::SeqCst;
+use std::sync::atomic::raw;
+
+/// A pointer to a block, with a right: nothing, a counted handle, a fixed block, or the memory that a last subtraction owes.
+pub(crate) struct Pointer<X, A: Allocator> {
+    at: *const Block<X>,
+    marker: PhantomData<A>,
+    pub ghost home: { A } by { A.code },
+    pub ghost value: { X } by { X.code },
+    pub ghost limit: { ℕ },
+    pub ghost right: { ℕ },
+}
+
+impl<X, A: Allocator> Model for Pointer<X, A> {
+    ghost also_owns = { λ h. pointer_owns (A.dealloc_token h.home) X.row h.limit h.at h.value h.right };
+
+    ghost also_shares = { λ h _ κ. pointer_shares (A.dealloc_token h.home) X.row h.limit h.at h.value h.right κ };
+}
+
+impl<X, A: Allocator> Pointer<X, A> {
+    ghost use Rattle.arcstr_block.specs.Same.{IsSameBlock};
+
+    /// The first pointer to a block, whose word counts it alone.
+    pub(crate) fn make(memory: Loose<Block<X>, A>) -> (Pointer<X, A>, A)
+        ghost limit: { ℕ }
+        requires word { memory.value.word ≡ 2 }
+        requires limit { limit < 4611686018427387904 }
+        ensures home { (result.0.home ≡ memory.alloc) × (result.1 ≡ memory.alloc) }
+        ensures value { result.0.value ≡ memory.value.value }
+        ensures limit { result.0.limit ≡ limit }
+        ensures right { result.0.right ≡ counted }
+    {
+        let Loose { at, alloc } = memory;
+        let pointer = Pointer {
+            at,
+            marker: PhantomData,
+        };
+        (pointer, alloc)
+    }
+
+    /// What the block holds.
+    pub(crate) fn value(&self) -> &X
+        requires { MaySee self.now.right }
+        ensures { result.now ≡ self.now.value }
+    {
+        unsafe { &(*self.at).value }
+    }
+
+    /// One load.
+    pub(crate) fn see(&self) -> (u64, Pointer<X, A>)
+        requires { MaySee self.now.right }
+        ensures word { IsWord self.now.limit result.0 }
+        ensures right { Sees self.now.right result.0 result.1.right }
+        ensures same { IsSameBlock result.1 self.now }
+    {
+        let at = self.at;
+        let found = unsafe { raw::load::<Brand>(&raw const (*at).word, SeqCst) };
+        (
+            found,
+            Pointer {
+                at,
+                marker: PhantomData,
+            },
+        )
+    }
+
+    /// One compare-exchange, from `old` to its clone.
+    pub(crate) fn raise(&self, old: u64, new: u64) -> (u64, Pointer<X, A>)
+        requires right { MaySee self.now.right }
+        requires clone { IsClone self.now.limit old new }
+        ensures word { IsWord self.now.limit result.0 }
+        ensures right { Gains old new result.0 result.1.right }
+        ensures same { IsSameBlock result.1 self.now }
+    {
+        let at = self.at;
+        let found = unsafe { exchange::<Brand>(&raw const (*at).word, old, new) };
+        (
+            found,
+            Pointer {
+                at,
+                marker: PhantomData,
+            },
+        )
+    }
+
+    /// One fetch-or of the mark.
+    pub(crate) fn mark(&self) -> Pointer<X, A>
+        requires { MaySee self.now.right }
+        ensures right { result.right ≡ fixed }
+        ensures same { IsSameBlock result self.now }
+    {
+        let at = self.at;
+        unsafe { raw::fetch_or::<Brand>(&raw const (*at).word, 1, SeqCst) };
+        Pointer {
+            at,
+            marker: PhantomData,
+        }
+    }
+
+    /// One fetch-sub of a count.
+    pub(crate) fn leave(self) -> (u64, Pointer<X, A>)
+        requires { self.right ≡ counted }
+        ensures right { Leaves result.0 result.1.right }
+        ensures same { IsSameBlock result.1 self }
+    {
+        let Pointer { at, marker } = self;
+        let found = unsafe { raw::fetch_sub::<Brand>(&raw const (*at).word, 2, SeqCst) };
+        (found, Pointer { at, marker })
+    }
+
+    /// Another pointer to a fixed block. No step.
+    pub(crate) fn again(&self) -> Pointer<X, A>
+        requires { self.now.right ≡ fixed }
+        ensures right { result.right ≡ fixed }
+        ensures same { IsSameBlock result self.now }
+    {
+        let at = self.at;
+        Pointer {
+            at,
+            marker: PhantomData,
+        }
+    }
+
+    /// The memory, for whoever subtracted last.
+    pub(crate) fn release(self, alloc: A) -> Loose<Block<X>, A>
+        requires right { self.right ≡ owed }
+        requires home { alloc ≡ self.home }
+        ensures value { result.value.value ≡ self.value }
+        ensures home { result.alloc ≡ alloc }
+    {
+        let Pointer { at, marker: _ } = self;
+        Loose {
+            at: at.cast_mut(),
+            alloc,
+        }
+    }
+
+    /// Lets go of a pointer that owes nothing.
+    pub(crate) fn forget(self)
+        requires { self.right < owed }
+    {
+        let Pointer { at: _, marker: _ } = self;
+    }
+}
+
+// The content is read, and the memory is taken out, in whichever thread the pointer is.
+unsafe impl<X: Send + Sync, A: Allocator + Send + Sync> Send for Pointer<X, A> {}
+
+unsafe impl<X: Send + Sync, A: Allocator + Send + Sync> Sync for Pointer<X, A> {}

@@ -1,0 +1,192 @@
+//! One handle on a block.
+ghost use Rattle.std.specs.Prelude.{◌≡◌, List, ℕ, length, nat_lt, ◌<◌, ◌≤◌, ◌+◌, MatchResult, IfOk, IfErr, IfSome, if◌then◌else◌};
+ghost use Rattle.std.specs.String.{string_bytes};
+ghost use Rattle.arcstr_block.specs.Rights.{MaySee, IsUnmarked, IsWord, IsClone};
+
+use crate::block::Block;
+use crate::fault::TextFault;
+use crate::fixed::Fixed;
+use crate::loose::Loose;
+use crate::owed::{Down, Owed};
+use crate::pointer::Pointer;
+use arcstr_count::{RC_MAX, Word};
+use std::alloc::Allocator;
+use std::marker::Model;
+use std::sync::Wait;
+
+/// From this many bytes on a text is refused: `2^63 - 25`.
+const TOO_LONG: usize = 9_223_372_036_854_775_783;
+
+/// A pointer that may see its block, with the allocator of the block and the limit on its count.
+struct Counted<const LIMIT: u64, A: Allocator + Copy> {
+    pointer: Pointer<String<A>, A>,
+    alloc: A,
+    ghost may_see: { MaySee pointer.right },
+    ghost home: { alloc ≡ pointer.home },
+    ghost limit: { pointer.limit ≡ LIMIT },
+    ghost low: { LIMIT < 4611686018427387904 },
+}
+
+/// One handle on a block whose count has the limit `LIMIT`. Contracts see its text, as bytes.
+pub struct Shared<const LIMIT: u64, A: Allocator + Copy> {
+    handle: Counted<LIMIT, A>,
+}
+
+impl<const LIMIT: u64, A: Allocator + Copy> Model for Shared<LIMIT, A> {
+    ghost Value = { List ℕ };
+
+    ghost view = { λ s. string_bytes s.handle.pointer.value };
+}
+
+impl<const LIMIT: u64, A: Allocator + Copy> Shared<LIMIT, A> {
+    /// The first handle on a new block with this text. A text of `2^63 - 25` bytes or more is refused first,
+    /// then whatever there is no memory for: the text, or the word beside it. An empty text has a block too.
+    pub fn from_text(alloc: A, text: &str) -> Result<Shared<LIMIT, A>, TextFault>
+        requires limit { LIMIT ≤ RC_MAX }
+        ensures text { IfOk result (λ made. made ≡ text.now) }
+        ensures short { IfOk result (λ made. length text.now < TOO_LONG) }
+        ensures fault { IfErr result (λ fault. fault ≡ (if nat_lt (length text.now) TOO_LONG then TextFault.Memory else TextFault.Length)) }
+    {
+        if text.len() >= TOO_LONG {
+            return Err(TextFault::Length);
+        }
+        let Ok(copy) = String::from_str(alloc, text) else {
+            return Err(TextFault::Memory);
+        };
+        let Ok(memory) = Box::new(alloc, Block { word: Word::one().bits(), value: copy }) else {
+            return Err(TextFault::Memory);
+        };
+        let (pointer, alloc) = Pointer::make(Loose::of(memory));
+        Ok(Shared { handle: Counted { pointer, alloc } })
+    }
+
+    /// The text.
+    pub fn as_str(&self) -> &str
+        ensures { result.now ≡ self.now }
+    {
+        self.handle.pointer.value().as_str()
+    }
+
+    /// The length of the text, in bytes.
+    pub fn len(&self) -> usize
+        ensures { result ≡ length self.now }
+    {
+        self.as_str().len()
+    }
+
+    /// One load: the number of living handles, or `None` at a marked block.
+    pub fn look(&self) -> Option<u64>
+        ensures { IfSome result (λ count. (0 < count) × (count ≤ LIMIT + 1)) }
+    {
+        let (found, seen) = self.handle.pointer.see();
+        seen.forget();
+        Word::from_bits(found).looked()
+    }
+
+    /// One load: the block as a fixed one, where it is found marked.
+    pub fn fixed(&self) -> Option<Fixed<A>>
+        ensures { IfSome result (λ fixed. fixed ≡ self.now) }
+    {
+        let (found, seen) = self.handle.pointer.see();
+        if Word::from_bits(found).marked() {
+            Some(Fixed { pointer: seen, alloc: self.handle.alloc })
+        } else {
+            seen.forget();
+            None
+        }
+    }
+
+    /// One fetch-or: the block is marked, and stays for good.
+    pub fn mark(&self) -> Fixed<A>
+        ensures { result ≡ self.now }
+    {
+        Fixed {
+            pointer: self.handle.pointer.mark(),
+            alloc: self.handle.alloc,
+        }
+    }
+
+    /// Another handle. A load, and a compare-exchange that is tried again where the word changed between: an unmarked
+    /// count above the limit gets the mark, any other grows by one, and a marked word is left as it is.
+    pub fn up<R: Wait>(&self, rt: &R) -> Shared<LIMIT, A>
+        ensures { result ≡ self.now }
+    {
+        let (found, seen) = self.handle.pointer.see();
+        if Word::from_bits(found).marked() {
+            return Shared { handle: self.handle.beside(seen) };
+        }
+        seen.forget();
+        let mut old = found;
+        for _ in rt.forever() {
+            match self.handle.exchange(old) {
+                Ok(handle) => return Shared { handle },
+                Err(found) => old = found,
+            }
+        }
+        unreachable!()
+    }
+
+    /// The end of the handle. A look that finds the mark leaves the word as it is; else the count falls by one.
+    pub fn down(self) -> Down<A> {
+        let Shared { handle } = self;
+        let Counted { pointer, alloc } = handle;
+        let (found, seen) = pointer.see();
+        seen.forget();
+        if Word::from_bits(found).marked() {
+            pointer.forget();
+            return Down::Ended;
+        }
+        let (found, pointer) = pointer.leave();
+        if found == Word::one().bits() {
+            Down::Owes(Owed { pointer, alloc })
+        } else {
+            pointer.forget();
+            Down::Left
+        }
+    }
+}
+
+impl<const LIMIT: u64, A: Allocator + Copy> Counted<LIMIT, A> {
+    ghost use Rattle.arcstr_block.specs.Same.{IsSameBlock};
+
+    /// One try of a clone from the unmarked word `old`: another handle, or the unmarked word that was found.
+    fn exchange(&self, old: u64) -> Result<Counted<LIMIT, A>, u64>
+        requires unmarked { IsUnmarked old }
+        requires word { IsWord LIMIT old }
+        ensures { MatchResult result (λ clone. clone.pointer.value ≡ self.now.pointer.value) (λ found. IsUnmarked found × IsWord LIMIT found) }
+    {
+        let (found, gained) = self.pointer.raise(old, next(LIMIT, old));
+        if found == old || Word::from_bits(found).marked() {
+            Ok(self.beside(gained))
+        } else {
+            gained.forget();
+            Err(found)
+        }
+    }
+
+    /// A handle on this block by another pointer to it.
+    fn beside(&self, pointer: Pointer<String<A>, A>) -> Counted<LIMIT, A>
+        requires same { IsSameBlock pointer self.now.pointer }
+        requires may_see { MaySee pointer.right }
+        ensures { result.pointer ≡ pointer }
+    {
+        Counted { pointer, alloc: self.alloc }
+    }
+}
+
+/// The word after a clone of an unmarked one.
+fn next(limit: u64, old: u64) -> u64
+    requires unmarked { IsUnmarked old }
+    requires word { IsWord limit old }
+    requires low { limit ≤ RC_MAX }
+    ensures { IsClone limit old result }
+{
+    if old / 2 > limit { old + 1 } else { old + 2 }
+}
+
+impl<const LIMIT: u64, A: Allocator + Copy> Drop for Shared<LIMIT, A> {
+    /// The end of the handle, and the giving back of what it owes.
+    fn drop(self) {
+        self.down().settle();
+    }
+}

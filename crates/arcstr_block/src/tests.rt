@@ -1,0 +1,139 @@
+ghost use Rattle.std.specs.Prelude.{◌≤◌};
+ghost use Rattle.arcstr_count.specs.declared.words.TheConstants.{RC_MAX};
+
+use crate::{Down, Fixed, Shared, TextFault};
+use linked_list_allocator::LocalHeap;
+use std::alloc::Global;
+use std::process::Abort;
+use std::sync::Wait;
+use std::test::Fail;
+use std::thread;
+use std::thread::Threads;
+
+#[test]
+fn two_handles_are_counted(rt: HostRuntime) -> Result<(), Fail> {
+    let first = Shared::<5, Global>::from_text(rt.alloc(), "foobar")?;
+    assert_eq!(rt; first.as_str(), "foobar");
+    assert_eq!(rt; first.look(), Some(1));
+    let second = first.up(&rt);
+    assert_eq!(rt; (first.look(), second.look()), (Some(2), Some(2)));
+    assert_eq!(rt; second.len(), 6);
+    Ok(())
+}
+
+/// 1 where the mark was found, 2 where others are left, 3 where the memory was owed.
+fn ended(down: Down<Global>) -> u8 {
+    match down {
+        Down::Ended => 1,
+        Down::Left => 2,
+        Down::Owes(owed) => {
+            owed.give_back();
+            3
+        }
+    }
+}
+
+#[test]
+fn the_last_handle_owes(rt: HostRuntime) -> Result<(), Fail> {
+    let first = Shared::<5, Global>::from_text(rt.alloc(), "foobar")?;
+    let second = first.up(&rt);
+    assert_eq!(rt; ended(first.down()), 2);
+    assert_eq!(rt; ended(second.down()), 3);
+    Ok(())
+}
+
+#[test]
+fn a_marked_block_ends_no_handle(rt: HostRuntime) -> Result<(), Fail> {
+    let first = Shared::<5, Global>::from_text(rt.alloc(), "foobar")?;
+    let second = first.up(&rt);
+    assert_eq!(rt; first.fixed().is_none(), true);
+    let fixed = first.mark();
+    assert_eq!(rt; (first.look(), second.fixed().is_some()), (None, true));
+    assert_eq!(rt; (ended(first.down()), ended(second.down())), (1, 1));
+    assert_eq!(rt; fixed.again().as_str(), "foobar");
+    Ok(())
+}
+
+/// What is used of a heap after two clones and three drops of one text.
+fn used_after<const LIMIT: u64, R: Wait>(rt: &R, heap: &LocalHeap, marks: bool) -> Result<usize, TextFault>
+    requires { LIMIT ≤ RC_MAX }
+{
+    let first = Shared::<LIMIT, &LocalHeap>::from_text(heap, "foobar")?;
+    let second = first.up(rt);
+    let third = second.up(rt);
+    if marks {
+        drop(third.mark());
+    }
+    drop(first);
+    drop(third);
+    drop(second);
+    Ok(heap.used())
+}
+
+#[test]
+fn all_memory_is_given_back(rt: HostRuntime) -> Result<(), Fail> {
+    let heap = LocalHeap::new(rt.alloc(), 4096)?;
+    assert_eq!(rt; used_after::<5, _>(&rt, &heap, false)?, 0);
+    Ok(())
+}
+
+#[test]
+fn a_limit_marks_the_block(rt: HostRuntime) -> Result<(), Fail> {
+    let heap = LocalHeap::new(rt.alloc(), 4096)?;
+    assert_eq!(rt; used_after::<1, _>(&rt, &heap, false)? > 0, true);
+    Ok(())
+}
+
+#[test]
+fn a_mark_keeps_the_block(rt: HostRuntime) -> Result<(), Fail> {
+    let heap = LocalHeap::new(rt.alloc(), 4096)?;
+    assert_eq!(rt; used_after::<5, _>(&rt, &heap, true)? > 0, true);
+    Ok(())
+}
+
+/// Whether making answers Memory on a heap of this size, and leaves nothing used.
+fn is_refused(heap: &LocalHeap, text: &str) -> bool {
+    match Shared::<5, &LocalHeap>::from_text(heap, text) {
+        Ok(_) => false,
+        Err(fault) => fault == TextFault::Memory && heap.used() == 0,
+    }
+}
+
+#[test]
+fn each_request_may_be_refused(rt: HostRuntime) -> Result<(), Fail> {
+    // 80 bytes hold a text of 64, and no word beside it.
+    let heap = LocalHeap::new(rt.alloc(), 80)?;
+    let text = "0123456701234567012345670123456701234567012345670123456701234567";
+    assert_eq!(rt; is_refused(&heap, text), true);
+    let small = LocalHeap::new(rt.alloc(), 32)?;
+    assert_eq!(rt; is_refused(&small, text), true);
+    Ok(())
+}
+
+/// What two threads leave that take a clone each, before any drop.
+fn look_after_two<const LIMIT: u64, R: Threads + Wait + Sync>(rt: &R, alloc: Global) -> Result<(Option<u64>, bool), TextFault>
+    requires { LIMIT ≤ RC_MAX }
+{
+    let first = Shared::<LIMIT, Global>::from_text(alloc, "foobar")?;
+    let lent = &first;
+    let (second, third) = thread::join(rt, || lent.up(rt), || lent.up(rt));
+    let read = second.as_str() == "foobar" && third.as_str() == "foobar";
+    Ok((first.look(), read))
+}
+
+#[test]
+fn limits_are_crossed_by_threads(rt: HostRuntime) -> Result<(), Fail> {
+    assert_eq!(rt; look_after_two::<0, _>(&rt, rt.alloc())?, (None, true));
+    assert_eq!(rt; look_after_two::<1, _>(&rt, rt.alloc())?, (None, true));
+    assert_eq!(rt; look_after_two::<2, _>(&rt, rt.alloc())?, (Some(3), true));
+    Ok(())
+}
+
+#[test]
+fn faults_print_their_texts(rt: HostRuntime) -> Result<(), Fail> {
+    assert_eq!(rt; format!(in rt.alloc(); "{}", TextFault::Length)?.as_str(), "text is too long");
+    assert_eq!(rt; format!(in rt.alloc(); "{}", TextFault::Memory)?.as_str(), "out of memory");
+    assert_eq!(rt; format!(in rt.alloc(); "{}", TextFault::Utf8(2))?.as_str(), "bytes are not UTF-8 from place 2");
+    assert_eq!(rt; format!(in rt.alloc(); "{}", TextFault::TooFar)?.as_str(), "text is too long for 32-bit places");
+    Ok(())
+}
