@@ -39,3 +39,6 @@ pub fn run<A: Allocator + Copy>(
     }
     Ok(replies)
 }
+
+#[cfg(test)]
+mod tests;

@@ -364,3 +364,6 @@ fn put<T: Drop, A: Allocator>(table: &mut Vec<T, A>, entry: T)
 {
     let _ = table.push(entry);
 }
+
+#[cfg(test)]
+mod tests;
