@@ -1,17 +1,16 @@
 -- The entries of a world's table of blocks, against the past that it stands for.
-use Rattle.std.proofs.Common.{◌≡◌, ◌≢◌, ℕ, zero, suc, ◌+◌, ◌<◌, ◌≤◌, Bool, true, false, nat_lt, if◌then◌else◌, List, [], ◌∷◌, ◌++◌, map, length, get_or, set, refl, sym, ◌∙◌, ap, ap₂, ◌⊎◌, inl, inr, arith, lt-ltb}
+use Rattle.std.proofs.Common.{◌≡◌, ◌≢◌, ℕ, zero, suc, ◌<◌, ◌≤◌, Bool, true, false, nat_lt, if◌then◌else◌, List, [], ◌∷◌, ◌++◌, map, length, get_or, set, refl, sym, ◌∙◌, ap, ap₂, arith, lt-ltb}
 use Rattle.std.proofs.lemmas.List.{length-map, same_lists, get_or-map}
 use Rattle.std.proofs.lemmas.Simd.{map-map}
 use Rattle.arcstr_count.specs.declared.steps.Step.{Step}
-use Rattle.arcstr_count.specs.declared.steps.Step.TheVariants.{Make, Look, Clone, Begin, Sub, Back, Leak, IntoRaw, FromRaw}
+use Rattle.arcstr_count.specs.declared.steps.Step.TheVariants.{Make, Clone, Sub, Back, Leak}
 use Rattle.arcstr_count.specs.declared.steps.HandleSummary.{HandleSummary}
 use Rattle.arcstr_count.specs.declared.worlds.BlockEntry.{BlockEntry}
 use Rattle.arcstr_count.specs.Word.{FlagAndCount, fresh_word, cloned_of, dropped_of, marked_of}
-use Rattle.arcstr_count.specs.History.{makes, births, block_of, numbers_below}
-use Rattle.arcstr_count.specs.Marks.{is_marked}
+use Rattle.arcstr_count.specs.History.{makes, block_of, numbers_below}
 use Rattle.arcstr_count.specs.Past.{IsPast, past_of, times_given}
 use Rattle.arcstr_count.specs.Left.{word_left}
-use Rattle.arcstr_count.specs.Summary.{BlockSummary, Summary, WorldView, StandsFor, block_summary, handles_of, blocks_of, words_left, summary_of}
+use Rattle.arcstr_count.specs.Summary.{BlockSummary, Summary, StandsFor, block_summary, handles_of, blocks_of, words_left}
 use Rattle.arcstr_count.specs.Kept.{summary_in, word_in, view_of}
 use Rattle.arcstr_count.proofs.Pasts.{IsPast-past_of}
 use Rattle.arcstr_count.proofs.LawsOfPasts.{word_stands, given_once}

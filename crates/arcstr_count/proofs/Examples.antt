@@ -1,8 +1,7 @@
 -- Worked examples on histories, checked by computation.
-use Rattle.std.proofs.Common.{◌≡◌, ℕ, List, [], ◌∷◌, refl}
+use Rattle.std.proofs.Common.{◌≡◌, List, [], ◌∷◌, refl}
 use Rattle.arcstr_count.specs.declared.steps.Step.{Step}
 use Rattle.arcstr_count.specs.declared.steps.Step.TheVariants.{Make, Look, Clone, Begin, Sub, Back, Leak, IntoRaw, FromRaw}
-use Rattle.arcstr_count.specs.declared.steps.Reply.{Reply}
 use Rattle.arcstr_count.specs.declared.steps.Reply.TheVariants.{Made, Count, Static, Handle, Looked, Ended, Left, Owes, Given, Marked, Raw, Unraw, Refused}
 use Rattle.arcstr_count.specs.declared.faults.StepFault.TheVariants.{NoHandle, InDrop, NotInDrop, NotOwing, IsRaw, NotRaw}
 use Rattle.arcstr_count.specs.Past.{past_of, times_given}

@@ -7,14 +7,14 @@ use Rattle.arcstr_count.specs.declared.steps.HandleSummary.{HandleSummary}
 use Rattle.arcstr_count.specs.declared.worlds.BlockEntry.{BlockEntry}
 use Rattle.arcstr_count.specs.Word.{fresh_word}
 use Rattle.arcstr_count.specs.History.{makes}
-use Rattle.arcstr_count.specs.Past.{IsPast, past_of, times_given}
+use Rattle.arcstr_count.specs.Past.{past_of, times_given}
 use Rattle.arcstr_count.specs.Summary.{WorldView, StandsFor}
 use Rattle.arcstr_count.specs.After.{given_after}
 use Rattle.arcstr_count.specs.Kept.{view_of}
 use Rattle.arcstr_count.proofs.Pasts.{IsPast-past_of}
 use Rattle.arcstr_count.proofs.LawsOfPasts.{given_once}
 use Rattle.arcstr_count.proofs.Tables.{unmade_block}
-use Rattle.arcstr_count.proofs.Entries.{once_as_mark, entry_of, entries_of, length-entries_of, entry_at, tables_from_view}
+use Rattle.arcstr_count.proofs.Entries.{once_as_mark, entry_of, length-entries_of, entry_at, tables_from_view}
 
 -- a world's view determines how often each block was given back
 abbrev pub SaysGiven : WorldView → ℕ → ℕ → Type 0

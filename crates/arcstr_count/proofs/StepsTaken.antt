@@ -1,5 +1,5 @@
 -- Each accepted step: what the world's tables become when it is taken.
-use Rattle.std.proofs.Common.{◌≡◌, ℕ, ◌+◌, ◌<◌, ◌≤◌, Bool, true, false, not, ◌&&◌, ◌==◌, nat_lt, if◌then◌else◌, Option, None, Some, List, [], ◌∷◌, ◌++◌, length, get_or, set, map, is_none, refl, sym, ◌∙◌, ap, ap₂, subst, arith}
+use Rattle.std.proofs.Common.{◌≡◌, ℕ, ◌<◌, Bool, true, false, not, ◌&&◌, if◌then◌else◌, None, Some, List, [], ◌∷◌, ◌++◌, length, get_or, set, map, is_none, refl, sym, ◌∙◌, ap, subst}
 use Rattle.std.proofs.Math.Logic.{∥∥₁_elim}
 use Rattle.std.proofs.Props.{props}
 use Rattle.arcstr_count.specs.declared.steps.Step.{Step}
@@ -7,16 +7,15 @@ use Rattle.arcstr_count.specs.declared.steps.Step.TheVariants.{Make, Look, Clone
 use Rattle.arcstr_count.specs.declared.steps.HandleState.{HandleState}
 use Rattle.arcstr_count.specs.declared.steps.HandleState.TheVariants.{Free, Raw, Dropping, Owing, Gone}
 use Rattle.arcstr_count.specs.declared.steps.HandleSummary.{HandleSummary}
-use Rattle.arcstr_count.specs.declared.steps.Reply.{Reply}
-use Rattle.arcstr_count.specs.declared.steps.Reply.TheVariants.{Made, Count, Static, Handle, Looked, Ended, Left, Owes, Given, Marked, Raw as RawReply, Unraw, Refused}
+use Rattle.arcstr_count.specs.declared.steps.Reply.TheVariants.{Made, Count, Static, Handle, Looked, Ended, Left, Owes, Given, Marked, Raw as RawReply, Unraw}
 use Rattle.arcstr_count.specs.declared.worlds.BlockEntry.{BlockEntry}
 use Rattle.arcstr_count.specs.Word.{FlagAndCount, fresh_word, looked_of, cloned_of, dropped_of, marked_of, is_last}
-use Rattle.arcstr_count.specs.History.{makes, births, block_of}
-use Rattle.arcstr_count.specs.Marks.{is_marked, state_of, living, is_only}
-use Rattle.arcstr_count.specs.Answer.{unless_free, unless_dropping, unless_owing, unless_raw, refusal_of, is_accepted, accepted_answer}
+use Rattle.arcstr_count.specs.History.{makes, block_of}
+use Rattle.arcstr_count.specs.Marks.{is_marked, living, is_only}
+use Rattle.arcstr_count.specs.Answer.{unless_free, unless_dropping, unless_owing, unless_raw, refusal_of}
 use Rattle.arcstr_count.specs.Past.{IsPast, past_of}
 use Rattle.arcstr_count.specs.Left.{word_left}
-use Rattle.arcstr_count.specs.Summary.{Summary, WorldView, StandsFor, handles_of, words_left}
+use Rattle.arcstr_count.specs.Summary.{WorldView, StandsFor}
 use Rattle.arcstr_count.specs.Kept.{word_in, view_of, IsWorld}
 use Rattle.arcstr_count.specs.Taken.{IsRefusal, Takes}
 use Rattle.arcstr_count.specs.Looked.{IsAt}

@@ -1,29 +1,27 @@
 -- What it takes for a world to take a step: what is found in its tables, and what they become.
-use Rattle.std.proofs.Common.{◌≡◌, ℕ, ◌<◌, ◌≤◌, Bool, true, false, nat_lt, if◌then◌else◌, Option, None, Some, option_map, List, [], ◌∷◌, ◌++◌, map, length, get_or, refl, sym, ◌∙◌, ap, subst, ◌⊎◌, inl, inr, arith, is_none, IfSome, lt-ltb, ltb-true, ltb-false}
+use Rattle.std.proofs.Common.{◌≡◌, ℕ, ◌<◌, ◌≤◌, Bool, true, false, nat_lt, if◌then◌else◌, Option, None, Some, option_map, List, [], ◌∷◌, ◌++◌, length, get_or, refl, sym, ◌∙◌, ap, subst, arith, is_none, IfSome, lt-ltb, ltb-true, ltb-false}
 use Rattle.std.proofs.Math.Logic.{∥∥₁_map, ∥∥₁_elim}
 use Rattle.std.proofs.Props.{props}
-use Rattle.std.proofs.lemmas.List.{length-map}
 use Rattle.std.proofs.lemmas.Option.{slice_get_within, get_or_from_slice_get, slice_get-get_or, slice_get_past}
 use Rattle.std.specs.List.{slice_get}
 use Rattle.arcstr_count.specs.declared.steps.Step.{Step}
 use Rattle.arcstr_count.specs.declared.steps.Step.TheVariants.{Clone}
 use Rattle.arcstr_count.specs.declared.steps.HandleState.{HandleState}
-use Rattle.arcstr_count.specs.declared.steps.HandleState.TheVariants.{Free, Raw, Dropping, Owing, Gone}
+use Rattle.arcstr_count.specs.declared.steps.HandleState.TheVariants.{Free}
 use Rattle.arcstr_count.specs.declared.steps.HandleSummary.{HandleSummary}
 use Rattle.arcstr_count.specs.declared.steps.Reply.{Reply}
 use Rattle.arcstr_count.specs.declared.steps.Reply.TheVariants.{Refused}
 use Rattle.arcstr_count.specs.declared.faults.StepFault.{StepFault}
 use Rattle.arcstr_count.specs.declared.worlds.BlockEntry.{BlockEntry}
-use Rattle.arcstr_count.specs.History.{makes, births, block_of, numbers_below}
-use Rattle.arcstr_count.specs.Marks.{is_marked, state_of}
-use Rattle.arcstr_count.specs.Answer.{unless_free, handle_state, refusal_of, is_accepted, accepted_answer, answer_of, reply_by}
-use Rattle.arcstr_count.specs.Past.{IsPast, past_of, with_step, answer_after}
-use Rattle.arcstr_count.specs.Left.{word_left}
+use Rattle.arcstr_count.specs.History.{makes, births, block_of}
+use Rattle.arcstr_count.specs.Marks.{state_of}
+use Rattle.arcstr_count.specs.Answer.{unless_free, handle_state, refusal_of, accepted_answer, reply_by}
+use Rattle.arcstr_count.specs.Past.{IsPast, past_of}
 use Rattle.arcstr_count.specs.Summary.{Summary, WorldView, StandsFor, handle_summary, handles_of, summary_of, words_left}
-use Rattle.arcstr_count.specs.Kept.{word_in, view_of, IsWorld}
+use Rattle.arcstr_count.specs.Kept.{view_of, IsWorld}
 use Rattle.arcstr_count.specs.Taken.{IsRefusal, IsAcceptedBy, Answers, Follows, Takes, HasHistory}
 use Rattle.arcstr_count.specs.Looked.{state_at, IsAt}
-use Rattle.arcstr_count.proofs.Pasts.{past_of-step, IsPast-past_of, IsPast-with_step}
+use Rattle.arcstr_count.proofs.Pasts.{past_of-step, IsPast-past_of}
 use Rattle.arcstr_count.proofs.LawsOfHandles.{block_made}
 use Rattle.arcstr_count.proofs.Tables.{handle_at, length-handles_of, length-words_left}
 use Rattle.arcstr_count.proofs.Entries.{AreTablesOf, entry_of, entries_of, entry_at, tables_from_view, view_from_tables}

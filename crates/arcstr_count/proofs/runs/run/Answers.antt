@@ -1,7 +1,7 @@
-use Rattle.std.proofs.Common.{◌≡◌, ◌<◌, ◌+◌, ◌++◌, [], ◌∷◌, if◌then◌else◌, length, get_or, take, sym, ◌∙◌, ap, subst}
+use Rattle.std.proofs.Common.{◌≡◌, ◌++◌, [], ◌∷◌, if◌then◌else◌, get_or, take, ◌∙◌, ap}
 use Rattle.std.proofs.lemmas.List.{take_more, take_all}
 use Rattle.arcstr_count.specs.declared.steps.Step.TheVariants.{Make}
-use Rattle.arcstr_count.proofs.Replies.{HasTaken, takes_more, replies_answer}
+use Rattle.arcstr_count.proofs.Replies.{takes_more, replies_answer}
 use Rattle.arcstr_count.proofs.runs.run.Goals as goal
 
 pub loop-step-init : goal.loop-step-init

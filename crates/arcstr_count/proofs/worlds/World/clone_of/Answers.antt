@@ -1,4 +1,4 @@
-use Rattle.std.proofs.Common.{refl, true, false, ◌∙◌, ap, sym, length}
+use Rattle.std.proofs.Common.{refl, ◌∙◌, ap, length}
 use Rattle.arcstr_count.specs.declared.steps.Step.TheVariants.{Clone}
 use Rattle.arcstr_count.specs.Answer.{unless_free}
 use Rattle.arcstr_count.proofs.Taking.{takes_refused_by, world_kept, clone_accepted}

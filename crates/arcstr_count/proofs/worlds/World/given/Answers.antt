@@ -1,4 +1,4 @@
-use Rattle.std.proofs.Common.{true, false, if◌then◌else◌, sym, ◌∙◌, ap, subst}
+use Rattle.std.proofs.Common.{if◌then◌else◌, sym, ◌∙◌, ap, subst}
 use Rattle.std.specs.List.{slice_get}
 use Rattle.arcstr_count.proofs.GivenBack.{SaysGiven, given_of_made, given_of_unmade}
 use Rattle.arcstr_count.proofs.worlds.World.given.Goals as goal

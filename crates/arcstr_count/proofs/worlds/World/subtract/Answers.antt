@@ -1,4 +1,4 @@
-use Rattle.std.proofs.Common.{refl, true, false, ◌∙◌, ap, sym, length}
+use Rattle.std.proofs.Common.{refl, true, false, ◌∙◌, sym}
 use Rattle.arcstr_count.specs.declared.steps.Step.TheVariants.{Sub}
 use Rattle.arcstr_count.specs.Answer.{unless_dropping}
 use Rattle.arcstr_count.proofs.Taking.{takes_refused_by, world_kept}

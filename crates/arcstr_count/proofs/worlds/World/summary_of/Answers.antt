@@ -1,4 +1,4 @@
-use Rattle.std.proofs.Common.{◌∙◌, ap, sym}
+use Rattle.std.proofs.Common.{◌∙◌, ap}
 use Rattle.std.specs.List.{slice_get}
 use Rattle.arcstr_count.proofs.Taking.{placed}
 use Rattle.arcstr_count.proofs.worlds.World.summary_of.Goals as goal
