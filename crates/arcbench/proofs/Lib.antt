@@ -3,3 +3,4 @@ pub mod Numbers
 pub mod Examples
 pub mod Joined
 pub mod LinesDone
+pub mod LineTexts

@@ -10,13 +10,13 @@ use Rattle.std.proofs.lemmas.Bool.{lt-ltb, ltb-true, and_parts}
 use Rattle.arcbench.specs.Line.{is_decimal}
 
 -- ASCII digits are the digits that `parse` knows
-own : IsNumeralModel (λ ds. all_ascii_digits ds ≡ true) (digits_value 10)
+pub own : IsNumeralModel (λ ds. all_ascii_digits ds ≡ true) (digits_value 10)
 own = numerals_by_value _ tells_all_ascii_digits
 
-is_decimal-true : (text : List ℕ) → (all_ascii_digits text ≡ true) × (0 < length text) × (digits_value 10 text < 2 ^ 64) → is_decimal text ≡ true
+pub is_decimal-true : (text : List ℕ) → (all_ascii_digits text ≡ true) × (0 < length text) × (digits_value 10 text < 2 ^ 64) → is_decimal text ≡ true
 is_decimal-true text h = rw (h.0, lt-ltb _ _ h.1, lt-ltb _ _ h.2) refl
 
-from_is_decimal : (text : List ℕ) → is_decimal text ≡ true → (all_ascii_digits text ≡ true) × (0 < length text) × (digits_value 10 text < 2 ^ 64)
+pub from_is_decimal : (text : List ℕ) → is_decimal text ≡ true → (all_ascii_digits text ≡ true) × (0 < length text) × (digits_value 10 text < 2 ^ 64)
 from_is_decimal text h =
     let parts = and_parts _ _ h in
     let front = and_parts _ _ parts.0 in

@@ -1,4 +1,5 @@
 pub mod Line
+pub mod LineText
 pub mod Reply
 pub mod Script
 pub mod Port

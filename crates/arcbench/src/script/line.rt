@@ -1,8 +1,11 @@
 //! The lines of a script, and the step that a line stands for.
-ghost use Rattle.std.specs.Prelude.{◌≡◌, ◌≢◌, ◌==◌, ◌<◌, ◌≤◌, ◌∷◌, length, slice_index, if◌then◌else◌, position};
+ghost use Rattle.std.specs.Prelude.{◌≡◌, ◌≢◌, ℕ, ◌^◌, ◌==◌, ◌<◌, ◌≤◌, ◌∷◌, length, slice_index, if◌then◌else◌, position, Some, IfSome};
+ghost use Rattle.std.specs.Fmt.{decimal};
 ghost use Rattle.std.specs.List.{before_first, after_first};
 ghost use Rattle.std.specs.Str.{bytes_eq};
 ghost use Rattle.std.specs.Str.Parse.{digits_value};
+ghost use Rattle.arcstr_count.specs.declared.steps.Step.{Step};
+ghost use Rattle.arcbench.specs.LineText.{line_text, limit_text, HasHandle};
 ghost use Rattle.arcbench.specs.Line.{is_decimal, number_of, step_named, step_of, limit_of, lines_of, word_of, after_word};
 
 use arcstr::count::Step;
@@ -48,7 +51,9 @@ fn decimal_of(text: &[u8]) -> Option<u64>
 
 /// The value of a NUMBER: `0`, or digits that do not begin with `0`, below `2^64`.
 pub fn number_of(text: &[u8]) -> Option<u64>
-    ensures { result ≡ number_of text.now }
+    ensures value { result ≡ number_of text.now }
+    ensures written { IfSome result (λ n. text.now ≡ decimal n) }
+    ensures read { (n : ℕ) → n < 2 ^ 64 → text.now ≡ decimal n → result ≡ Some n }
 {
     match text {
         [b'+', ..] | [b'0', _, ..] => None,
@@ -90,7 +95,9 @@ fn step_named(word: &[u8], handle: u64) -> Option<Step>
 
 /// The step of a line: `make`, or a word, one space, and the number of a handle. Another line has none.
 pub fn step_of(line: &[u8]) -> Option<Step>
-    ensures { result ≡ step_of line.now }
+    ensures value { result ≡ step_of line.now }
+    ensures written { IfSome result (λ step. line.now ≡ line_text step) }
+    ensures read { (step : Step) → HasHandle step → line.now ≡ line_text step → result ≡ Some step }
 {
     if is_text(line, "make") {
         return Some(Step::Make);
@@ -101,7 +108,9 @@ pub fn step_of(line: &[u8]) -> Option<Step>
 
 /// The limit that a first line `limit NUMBER` sets. Another line sets none.
 pub fn limit_of(line: &[u8]) -> Option<u64>
-    ensures { result ≡ limit_of line.now }
+    ensures value { result ≡ limit_of line.now }
+    ensures written { IfSome result (λ n. line.now ≡ limit_text n) }
+    ensures read { (n : ℕ) → n < 2 ^ 64 → line.now ≡ limit_text n → result ≡ Some n }
 {
     let (word, number) = parts_at(line, b' ');
     if is_text(word, "limit") {
