@@ -175,6 +175,7 @@ impl<A: Allocator + Copy> World<A> {
         ensures takes { IfOk result (λ reply. Takes self.old Step.Make reply self.new) }
         ensures memory { IfErr result (λ fault. (fault ≡ RunFault.Memory) × (self.new ≡ self.old)) }
     {
+        // Both tables grow before either changes, so that a refusal leaves the world as it was.
         if self.handles.reserve(1).is_err() || self.blocks.reserve(1).is_err() {
             return Err(RunFault::Memory);
         }

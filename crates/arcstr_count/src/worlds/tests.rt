@@ -29,42 +29,6 @@ fn a_dropped_block_is_given_back_once(rt: HostRuntime) -> Result<(), Fail> {
 }
 
 #[test]
-fn a_marked_block_is_never_given_back(rt: HostRuntime) -> Result<(), Fail> {
-    let steps = [
-        Step::Make,
-        Step::Clone(0),
-        Step::Begin(0),
-        Step::Clone(1),
-        Step::Sub(0),
-        Step::Begin(1),
-        Step::Begin(2),
-    ];
-    let world = world_after(rt.alloc(), 1, &steps)?;
-    assert_eq!(rt; world.given(0), 0);
-    Ok(())
-}
-
-#[test]
-fn an_unmarked_block_goes_with_its_last_handle(rt: HostRuntime) -> Result<(), Fail> {
-    let steps = [
-        Step::Make,
-        Step::Clone(0),
-        Step::Begin(0),
-        Step::Sub(0),
-        Step::Clone(1),
-        Step::Look(1),
-        Step::Begin(1),
-        Step::Begin(2),
-        Step::Sub(2),
-        Step::Sub(1),
-        Step::Back(1),
-    ];
-    let world = world_after(rt.alloc(), 1, &steps)?;
-    assert_eq!(rt; world.given(0), 1);
-    Ok(())
-}
-
-#[test]
 fn the_limit_is_at_most_the_greatest(rt: HostRuntime) {
     assert!(rt; World::new(rt.alloc(), RC_MAX).is_ok());
     let refused = World::new(rt.alloc(), 4_611_686_018_427_387_904);
