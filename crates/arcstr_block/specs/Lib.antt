@@ -2,3 +2,4 @@ pub mod Rights
 pub mod Ledger
 pub mod Same
 pub mod Fault
+pub mod Making
