@@ -5,6 +5,7 @@ ghost use Rattle.std.specs.List.{repeat};
 ghost use Rattle.std.specs.String.{string_bytes};
 ghost use Rattle.arcstr_block.specs.Making.{IsTooLong, IsFaultOfMaking, IsFaultOfBytes, IsFaultOfFilling};
 
+use crate::block::empty_block;
 use crate::fault::{TOO_LONG, TextFault};
 use crate::shared::Shared;
 use arcstr_count::RC_MAX;
@@ -31,12 +32,13 @@ impl<const LIMIT: u64, A: Allocator + Copy> Shared<LIMIT, A> {
         if n >= TOO_LONG {
             return Err(TextFault::Length);
         }
+        let memory = empty_block(alloc)?;
         let Ok(zeros) = zeros(alloc, n) else {
             return Err(TextFault::Memory);
         };
         let bytes = filled(zeros, fill);
         match text_of(bytes) {
-            Ok(text) => Shared::placed(alloc, text),
+            Ok(text) => Ok(Shared::placed(memory, text)),
             Err(fault) => Err(fault),
         }
     }
@@ -53,6 +55,7 @@ impl<const LIMIT: u64, A: Allocator + Copy> Shared<LIMIT, A> {
             Some(length) if length < TOO_LONG => length,
             _ => return Err(TextFault::Length),
         };
+        let memory = empty_block(alloc)?;
         let Ok(mut copies) = String::with_capacity(alloc, length) else {
             return Err(TextFault::Memory);
         };
@@ -61,7 +64,7 @@ impl<const LIMIT: u64, A: Allocator + Copy> Shared<LIMIT, A> {
                 return Err(TextFault::Memory);
             };
         }
-        Shared::placed(alloc, copies)
+        Ok(Shared::placed(memory, copies))
     }
 }
 

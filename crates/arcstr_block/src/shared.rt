@@ -4,7 +4,7 @@ ghost use Rattle.std.specs.String.{string_bytes};
 ghost use Rattle.arcstr_block.specs.Making.{IsTooLong, IsFaultOfMaking};
 ghost use Rattle.arcstr_block.specs.Rights.{MaySee, IsUnmarked, IsWord, IsClone};
 
-use crate::block::Block;
+use crate::block::{Block, empty_block};
 use crate::fault::{TOO_LONG, TextFault};
 use crate::fixed::Fixed;
 use crate::loose::Loose;
@@ -48,31 +48,24 @@ impl<const LIMIT: u64, A: Allocator + Copy> Shared<LIMIT, A> {
         if text.len() >= TOO_LONG {
             return Err(TextFault::Length);
         }
+        let memory = empty_block(alloc)?;
         let Ok(copy) = String::from_str(alloc, text) else {
             return Err(TextFault::Memory);
         };
-        Shared::placed(alloc, copy)
+        Ok(Shared::placed(memory, copy))
     }
 
     /// The first handle on a new block that takes this text over.
-    pub(crate) fn placed(alloc: A, text: String<A>) -> Result<Shared<LIMIT, A>, TextFault>
+    pub(crate) fn placed(mut memory: Box<Block<String<A>>, A>, text: String<A>) -> Shared<LIMIT, A>
         requires limit { LIMIT ≤ RC_MAX }
-        ensures made { IfOk result (λ made. made ≡ string_bytes text) }
-        ensures refused { IfErr result (λ fault. fault ≡ TextFault.Memory) }
+        requires word { memory.value.word ≡ 2 }
+        ensures { result ≡ string_bytes text }
     {
-        let Ok(memory) = Box::new(
-            alloc,
-            Block {
-                word: Word::one().bits(),
-                value: text,
-            },
-        ) else {
-            return Err(TextFault::Memory);
-        };
+        memory.value = text;
         let (pointer, alloc) = Pointer::make(Loose::of(memory));
-        Ok(Shared {
+        Shared {
             handle: Counted { pointer, alloc },
-        })
+        }
     }
 
     /// The text.
@@ -104,7 +97,10 @@ impl<const LIMIT: u64, A: Allocator + Copy> Shared<LIMIT, A> {
     {
         let (found, seen) = self.handle.pointer.see();
         if Word::from_bits(found).marked() {
-            Some(Fixed { pointer: seen, alloc: self.handle.alloc })
+            Some(Fixed {
+                pointer: seen,
+                alloc: self.handle.alloc,
+            })
         } else {
             seen.forget();
             None
@@ -128,7 +124,9 @@ impl<const LIMIT: u64, A: Allocator + Copy> Shared<LIMIT, A> {
     {
         let (found, seen) = self.handle.pointer.see();
         if Word::from_bits(found).marked() {
-            return Shared { handle: self.handle.beside(seen) };
+            return Shared {
+                handle: self.handle.beside(seen),
+            };
         }
         seen.forget();
         let mut old = found;
@@ -185,7 +183,10 @@ impl<const LIMIT: u64, A: Allocator + Copy> Counted<LIMIT, A> {
         requires may_see { MaySee pointer.right }
         ensures { result.pointer ≡ pointer }
     {
-        Counted { pointer, alloc: self.alloc }
+        Counted {
+            pointer,
+            alloc: self.alloc,
+        }
     }
 }
 
