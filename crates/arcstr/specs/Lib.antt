@@ -1,0 +1,9 @@
+pub mod TextView
+pub mod Forms
+pub mod StaticForms
+pub mod Making
+pub mod Substr
+pub mod Slicing
+pub mod TextOrder
+pub mod JsonFault
+pub mod Json
