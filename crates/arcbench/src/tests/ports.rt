@@ -3,6 +3,7 @@ use super::fakes::{FakeReader, FakeWriter};
 use super::texts::{FIRST_ANSWER, FIRST_SCRIPT};
 use crate::port::Port;
 use crate::script::{CopyFault, copy};
+use std::io::ErrorKind;
 use std::test::Fail;
 
 #[test]
@@ -30,12 +31,14 @@ fn writes_what_its_writer_takes(rt: HostRuntime) -> Result<(), Fail> {
 fn remembers_a_fault_after_calls_that_work(rt: HostRuntime) -> Result<(), Fail> {
     let mut port = Port::new(FakeReader::new(b"abcd", 0));
     let mut buf = [0; 8];
-    assert!(rt; port.read(&mut buf).is_err());
+    let fault = port.read(&mut buf).map_err(|error| error.kind());
+    assert_eq!(rt; fault, Err(ErrorKind::Interrupted));
     assert_eq!(rt; port.read(&mut buf)?, 3);
     assert!(rt; port.failed());
 
     let mut port = Port::new(FakeWriter::new(Vec::new(rt.alloc()), 0));
-    assert!(rt; port.write_all(b"ab").is_err());
+    let fault = port.write_all(b"ab").map_err(|error| error.kind());
+    assert_eq!(rt; fault, Err(ErrorKind::StorageFull));
     port.write_all(b"ab")?;
     assert!(rt; port.failed());
     Ok(())
