@@ -5,3 +5,5 @@ pub mod Script
 pub mod Port
 pub mod Copy
 pub mod Program
+pub mod Pool
+pub mod Threads

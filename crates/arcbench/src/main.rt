@@ -1,9 +1,11 @@
 //! Scripts of steps on counted blocks, answered line by line: `arcbench script` answers its input.
 #![tactic(auto)]
 
+mod pool;
 mod port;
 mod program;
 mod script;
+mod threads;
 
 use port::Port;
 use std::env::Env;
