@@ -44,7 +44,8 @@ impl<R: Read> Port<R> {
     /// One read of the reader.
     pub fn read(&mut self, buf: &mut [u8]) -> io::Result<usize>
         ensures bound { ReadsAtMost result buf.new }
-        ensures bytes { ReadConsumes (R.remaining self.old.value) (R.remaining self.new.value) result buf.new }
+        ensures bytes { ReadConsumes (R.remaining self.old.value) (R.remaining self.new.value)
+            result buf.new }
         ensures failed { self.new.failed ≡ (self.old.failed || is_err result) }
     {
         let result = self.value.read(buf);
@@ -56,7 +57,8 @@ impl<R: Read> Port<R> {
 impl<W: Write> Port<W> {
     /// Writes all the bytes to the writer.
     pub fn write_all(&mut self, bytes: &[u8]) -> io::Result<()>
-        ensures bytes { OnOk result (Appends (W.contents self.old.value) (W.contents self.new.value) bytes.now) }
+        ensures bytes { OnOk result (Appends (W.contents self.old.value) (W.contents self.new.value)
+            bytes.now) }
         ensures failed { self.new.failed ≡ (self.old.failed || is_err result) }
     {
         let result = self.value.write_all(bytes);

@@ -17,7 +17,8 @@ use std::alloc::Allocator;
 /// refused. The time is linear in the length of the script.
 pub fn answer<A: Allocator + Copy>(alloc: A, script: &[u8]) -> Result<Vec<u8, A>, RunFault>
     ensures ok { IfOk result (λ out. answer_to script.now ≡ Ok out.items) }
-    ensures too_large { (result ≡ Err RunFault.LimitTooLarge) ↔ (answer_to script.now ≡ Err RunFault.LimitTooLarge) }
+    ensures too_large { (result ≡ Err RunFault.LimitTooLarge)
+        ↔ (answer_to script.now ≡ Err RunFault.LimitTooLarge) }
 {
     if script.is_empty() {
         return bad_limit(alloc);
@@ -47,7 +48,8 @@ fn answer_under<A: Allocator + Copy>(
     later: &[u8],
 ) -> Result<Vec<u8, A>, RunFault>
     ensures ok { IfOk result (λ out. answer_under (Some limit) (lines_of later.now) ≡ Ok out.items) }
-    ensures too_large { (result ≡ Err RunFault.LimitTooLarge) ↔ (answer_under (Some limit) (lines_of later.now) ≡ Err RunFault.LimitTooLarge) }
+    ensures too_large { (result ≡ Err RunFault.LimitTooLarge)
+        ↔ (answer_under (Some limit) (lines_of later.now) ≡ Err RunFault.LimitTooLarge) }
 {
     let mut world = World::new(alloc, limit)?;
     let mut out = String::new(alloc);
@@ -62,7 +64,8 @@ fn answer_lines<A: Allocator + Copy>(
     bytes: &[u8],
 ) -> Result<(), RunFault>
     requires { StandsFor world.old [] }
-    ensures text { OnOk result (string_bytes out.new ≡ string_bytes out.old ++ answers world.old.summary.limit (lines_of bytes.now)) }
+    ensures text { OnOk result (string_bytes out.new
+        ≡ string_bytes out.old ++ answers world.old.summary.limit (lines_of bytes.now)) }
     ensures memory { IfErr result (λ fault. fault ≡ RunFault.Memory) }
 {
     let mut rest = bytes;
@@ -81,7 +84,8 @@ fn answer_line<A: Allocator + Copy>(
     line: &[u8],
 ) -> Result<(), RunFault>
     ensures text { OnOk result ((history : List Step) → StandsFor world.old history
-        → string_bytes out.new ≡ string_bytes out.old ++ (answer_by world.old.summary.limit history (step_of line.now) ++ 10 ∷ [])) }
+        → string_bytes out.new ≡ string_bytes out.old
+        ++ (answer_by world.old.summary.limit history (step_of line.now) ++ 10 ∷ [])) }
     ensures stands { OnOk result ((history : List Step) → StandsFor world.old history
         → StandsFor world.new (history_with history (step_of line.now))) }
     ensures limit { world.new.summary.limit ≡ world.old.summary.limit }

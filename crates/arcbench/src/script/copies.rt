@@ -108,7 +108,8 @@ fn read_to_end<A: Allocator, R: Read>(
     input: &mut Port<R>,
 ) -> Result<Vec<u8, A>, CopyFault>
     requires { input.old.failed ≡ false }
-    ensures bytes { IfOk result (λ script. IfSome (R.remaining input.old.value) (λ bytes. script.items ≡ bytes)) }
+    ensures bytes { IfOk result (λ script. IfSome (R.remaining input.old.value)
+        (λ bytes. script.items ≡ bytes)) }
     ensures at_end { OnOk result (IsAtEnd (R.remaining input.new.value)) }
     ensures io { (result ≡ Err CopyFault.Io) ↔ IsTrue input.new.failed }
     ensures faults { result ≢ Err CopyFault.LimitTooLarge }
