@@ -7,6 +7,8 @@ pub mod Steps
 pub mod Changes
 pub mod Rights
 pub mod Fields
+pub mod Seats
+pub mod Book
 pub mod Memory
 pub mod Begins
 pub mod LooseValues

@@ -1,4 +1,5 @@
 pub mod Rights
 pub mod Ledger
 pub mod Same
+pub mod Book
 pub mod Fault

@@ -1,2 +1,20 @@
 mod Examples
 pub mod Pasts
+pub mod LawsOfHandles
+pub mod Tables
+pub mod OneBlock
+pub mod Counting
+pub mod LawsOfBlocks
+pub mod Seats
+pub mod LawsOfPasts
+pub mod Laws
+mod SentencesFronts
+mod SentencesMarked
+mod SentencesRaw
+mod SentencesTable
+mod SentencesFirst
+mod SentencesDone
+mod SentencesState
+mod SentencesLiving
+mod SentencesCounts
+mod SentencesBirths

@@ -8,3 +8,5 @@ pub mod Left
 pub mod Summary
 pub mod After
 pub mod OneBlock
+pub mod Laws
+pub mod Sentences

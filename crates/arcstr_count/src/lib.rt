@@ -6,9 +6,12 @@
 #![tactic(auto)]
 
 pub use faults::{RunFault, StepFault};
+pub use history_laws::every_interleaving;
 pub use steps::{HandleState, HandleSummary, Reply, Step};
 pub use words::{RC_MAX, Word};
 
 mod faults;
+mod history_laws;
+pub mod sentences;
 mod steps;
 mod words;

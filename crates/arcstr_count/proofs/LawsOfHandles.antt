@@ -1,0 +1,463 @@
+-- What an accepted step finds of its handle in a past, and what it leaves of it.
+use Rattle.std.proofs.Common.{◌≡◌, ◌≢◌, ℕ, suc, ◌<◌, ◌≤◌, Bool, true, false, not, ◌&&◌, ◌==◌, nat_lt, if◌then◌else◌, is_none, Option, None, Some, List, [], ◌∷◌, refl, sym, ◌∙◌, arith, ltb-true, eqb-true, eq-eqb, ne_eqb}
+use Rattle.std.proofs.lemmas.Bool.{true≢false, eqb-false}
+use Rattle.arcstr_count.specs.declared.steps.Step.{Step}
+use Rattle.arcstr_count.specs.declared.steps.Step.TheVariants.{Make, Look, Clone, Begin, Sub, Back, Leak, IntoRaw, FromRaw}
+use Rattle.arcstr_count.specs.declared.steps.HandleState.{HandleState}
+use Rattle.arcstr_count.specs.declared.steps.HandleState.TheVariants.{Free, Raw, Dropping, Owing, Gone}
+use Rattle.arcstr_count.specs.History.{makes, births, block_of, is_raw, has_begun, has_subtracted, has_given, state_by}
+use Rattle.arcstr_count.specs.Marks.{is_marked, state_of, living, is_only, was_last, began_unmarked}
+use Rattle.arcstr_count.specs.Answer.{handle_state, unless_free, unless_dropping, unless_owing, unless_raw, is_accepted}
+use Rattle.arcstr_count.specs.Past.{IsPast}
+
+-- ---- the state that an accepted step finds
+
+-- the handle was born, and is in this state
+pub record IsIn (limit : ℕ) (p : List Step) (h : ℕ) (s : HandleState) : Type 0 where
+  pub born : h < births p
+  pub state : state_of limit p h ≡ s
+
+found : (limit : ℕ) (p : List Step) (h : ℕ) (s : HandleState) → handle_state limit p h ≡ Some s → IsIn limit p h s
+found limit p h s e = by_test (nat_lt h (births p)) refl e
+  where
+    by_test : (t : Bool) → nat_lt h (births p) ≡ t → (if t then Some (state_of limit p h) else None) ≡ Some s → IsIn limit p h s
+    by_test true born same = record { born = ltb-true h (births p) born; state = cc }
+    by_test false unborn same = cc
+
+unless_free-none : (o : Option HandleState) → is_none (unless_free o) ≡ true → o ≡ Some Free
+unless_free-none None e = cc
+unless_free-none (Some Free) e = refl
+unless_free-none (Some Raw) e = cc
+unless_free-none (Some Dropping) e = cc
+unless_free-none (Some Owing) e = cc
+unless_free-none (Some Gone) e = cc
+
+unless_dropping-none : (o : Option HandleState) → is_none (unless_dropping o) ≡ true → o ≡ Some Dropping
+unless_dropping-none None e = cc
+unless_dropping-none (Some Free) e = cc
+unless_dropping-none (Some Raw) e = cc
+unless_dropping-none (Some Dropping) e = refl
+unless_dropping-none (Some Owing) e = cc
+unless_dropping-none (Some Gone) e = cc
+
+unless_owing-none : (o : Option HandleState) → is_none (unless_owing o) ≡ true → o ≡ Some Owing
+unless_owing-none None e = cc
+unless_owing-none (Some Free) e = cc
+unless_owing-none (Some Raw) e = cc
+unless_owing-none (Some Dropping) e = cc
+unless_owing-none (Some Owing) e = refl
+unless_owing-none (Some Gone) e = cc
+
+unless_raw-none : (o : Option HandleState) → is_none (unless_raw o) ≡ true → o ≡ Some Raw
+unless_raw-none None e = cc
+unless_raw-none (Some Free) e = cc
+unless_raw-none (Some Raw) e = refl
+unless_raw-none (Some Dropping) e = cc
+unless_raw-none (Some Owing) e = cc
+unless_raw-none (Some Gone) e = cc
+
+pub Look-finds : (limit : ℕ) (p : List Step) (h : ℕ) → is_accepted limit p (Look h) ≡ true → IsIn limit p h Free
+Look-finds limit p h a = found limit p h Free (unless_free-none (handle_state limit p h) a)
+
+pub Clone-finds : (limit : ℕ) (p : List Step) (h : ℕ) → is_accepted limit p (Clone h) ≡ true → IsIn limit p h Free
+Clone-finds limit p h a = found limit p h Free (unless_free-none (handle_state limit p h) a)
+
+pub Begin-finds : (limit : ℕ) (p : List Step) (h : ℕ) → is_accepted limit p (Begin h) ≡ true → IsIn limit p h Free
+Begin-finds limit p h a = found limit p h Free (unless_free-none (handle_state limit p h) a)
+
+pub Sub-finds : (limit : ℕ) (p : List Step) (h : ℕ) → is_accepted limit p (Sub h) ≡ true → IsIn limit p h Dropping
+Sub-finds limit p h a = found limit p h Dropping (unless_dropping-none (handle_state limit p h) a)
+
+pub Back-finds : (limit : ℕ) (p : List Step) (h : ℕ) → is_accepted limit p (Back h) ≡ true → IsIn limit p h Owing
+Back-finds limit p h a = found limit p h Owing (unless_owing-none (handle_state limit p h) a)
+
+pub Leak-finds : (limit : ℕ) (p : List Step) (h : ℕ) → is_accepted limit p (Leak h) ≡ true → IsIn limit p h Free
+Leak-finds limit p h a = found limit p h Free (unless_free-none (handle_state limit p h) a)
+
+pub IntoRaw-finds : (limit : ℕ) (p : List Step) (h : ℕ) → is_accepted limit p (IntoRaw h) ≡ true → IsIn limit p h Free
+IntoRaw-finds limit p h a = found limit p h Free (unless_free-none (handle_state limit p h) a)
+
+pub FromRaw-finds : (limit : ℕ) (p : List Step) (h : ℕ) → is_accepted limit p (FromRaw h) ≡ true → IsIn limit p h Raw
+FromRaw-finds limit p h a = found limit p h Raw (unless_raw-none (handle_state limit p h) a)
+
+-- ---- what a state says was done
+
+free_was : (raw begun unmarked subtracted last given : Bool) → state_by raw begun unmarked subtracted last given ≡ Free
+    → (raw ≡ false) × (begun ≡ false)
+free_was true b u s l g e = cc
+free_was false false u s l g e = (refl, refl)
+free_was false true true false l g e = cc
+free_was false true false s true false e = cc
+free_was false true false s true true e = cc
+free_was false true false s false g e = cc
+free_was false true true true true false e = cc
+free_was false true true true true true e = cc
+free_was false true true true false g e = cc
+
+dropping_was : (raw begun unmarked subtracted last given : Bool) → state_by raw begun unmarked subtracted last given ≡ Dropping
+    → (raw ≡ false) × (begun ≡ true) × (unmarked ≡ true) × (subtracted ≡ false)
+dropping_was true b u s l g e = cc
+dropping_was false false u s l g e = cc
+dropping_was false true true false l g e = (refl, refl, refl, refl)
+dropping_was false true false s true false e = cc
+dropping_was false true false s true true e = cc
+dropping_was false true false s false g e = cc
+dropping_was false true true true true false e = cc
+dropping_was false true true true true true e = cc
+dropping_was false true true true false g e = cc
+
+owing_was : (raw begun unmarked subtracted last given : Bool) → state_by raw begun unmarked subtracted last given ≡ Owing
+    → (raw ≡ false) × (begun ≡ true) × (unmarked && not subtracted ≡ false) × (last ≡ true) × (given ≡ false)
+owing_was true b u s l g e = cc
+owing_was false false u s l g e = cc
+owing_was false true true false l g e = cc
+owing_was false true false s true false e = (refl, refl, refl, refl, refl)
+owing_was false true false s true true e = cc
+owing_was false true false s false g e = cc
+owing_was false true true true true false e = (refl, refl, refl, refl, refl)
+owing_was false true true true true true e = cc
+owing_was false true true true false g e = cc
+
+raw_was : (raw begun unmarked subtracted last given : Bool) → state_by raw begun unmarked subtracted last given ≡ Raw
+    → raw ≡ true
+raw_was true b u s l g e = refl
+raw_was false false u s l g e = cc
+raw_was false true true false l g e = cc
+raw_was false true false s true false e = cc
+raw_was false true false s true true e = cc
+raw_was false true false s false g e = cc
+raw_was false true true true true false e = cc
+raw_was false true true true true true e = cc
+raw_was false true true true false g e = cc
+
+-- ---- what is done to a handle is done in order
+
+record InOrder (raw begun subtracted last given : Bool) : Type 0 where
+  free : begun ≡ true → raw ≡ false
+  begun_first : begun ≡ false → subtracted ≡ false
+  subtracted_first : subtracted ≡ false → given ≡ false
+  last_of_subtracted : subtracted ≡ false → last ≡ false
+
+after_Begin : (t raw begun subtracted last given : Bool) → (t ≡ true → raw ≡ false)
+    → InOrder raw begun subtracted last given → InOrder raw (if t then true else begun) subtracted last given
+after_Begin true raw begun subtracted last given found o = record {
+  free = found;
+  begun_first = λ e. cc;
+  subtracted_first = o.subtracted_first;
+  last_of_subtracted = o.last_of_subtracted;
+}
+after_Begin false raw begun subtracted last given found o = o
+
+after_Sub : (t owes raw begun subtracted last given : Bool) → (t ≡ true → begun ≡ true)
+    → InOrder raw begun subtracted last given
+    → InOrder raw begun (if t then true else subtracted) (if t then owes else last) given
+after_Sub true owes raw begun subtracted last given found o = record {
+  free = o.free;
+  begun_first = λ e. absurd (true≢false (sym (found refl) ∙ e));
+  subtracted_first = λ e. cc;
+  last_of_subtracted = λ e. cc;
+}
+after_Sub false owes raw begun subtracted last given found o = o
+
+after_Back : (t raw begun subtracted last given : Bool) → (t ≡ true → last ≡ true)
+    → InOrder raw begun subtracted last given → InOrder raw begun subtracted last (if t then true else given)
+after_Back true raw begun subtracted last given found o = record {
+  free = o.free;
+  begun_first = o.begun_first;
+  subtracted_first = λ e. absurd (true≢false (sym (found refl) ∙ o.last_of_subtracted e));
+  last_of_subtracted = o.last_of_subtracted;
+}
+after_Back false raw begun subtracted last given found o = o
+
+after_IntoRaw : (t raw begun subtracted last given : Bool) → (t ≡ true → begun ≡ false)
+    → InOrder raw begun subtracted last given → InOrder (if t then true else raw) begun subtracted last given
+after_IntoRaw true raw begun subtracted last given found o = record {
+  free = λ e. absurd (true≢false (sym e ∙ found refl));
+  begun_first = o.begun_first;
+  subtracted_first = o.subtracted_first;
+  last_of_subtracted = o.last_of_subtracted;
+}
+after_IntoRaw false raw begun subtracted last given found o = o
+
+after_FromRaw : (t raw begun subtracted last given : Bool)
+    → InOrder raw begun subtracted last given → InOrder (if t then false else raw) begun subtracted last given
+after_FromRaw true raw begun subtracted last given o = record {
+  free = λ e. refl;
+  begun_first = o.begun_first;
+  subtracted_first = o.subtracted_first;
+  last_of_subtracted = o.last_of_subtracted;
+}
+after_FromRaw false raw begun subtracted last given o = o
+
+-- what was done to a handle that was found in a state, at a number that the test takes for it
+module _ (limit : ℕ) (p : List Step) (g h : ℕ) (same : (g == h) ≡ true) where
+  at_same : {s : HandleState} → IsIn limit p g s → state_of limit p h ≡ s
+  at_same i = rw (← eqb-true g h same) i.state
+
+  free_at : IsIn limit p g Free → (is_raw p h ≡ false) × (has_begun p h ≡ false)
+  free_at i = free_was (is_raw p h) (has_begun p h) (began_unmarked limit p h) (has_subtracted p h)
+      (was_last limit p h) (has_given p h) (at_same i)
+
+  dropping_at : IsIn limit p g Dropping → has_begun p h ≡ true
+  dropping_at i = (dropping_was (is_raw p h) (has_begun p h) (began_unmarked limit p h) (has_subtracted p h)
+      (was_last limit p h) (has_given p h) (at_same i)).1
+
+  owing_at : IsIn limit p g Owing → was_last limit p h ≡ true
+  owing_at i = (owing_was (is_raw p h) (has_begun p h) (began_unmarked limit p h) (has_subtracted p h)
+      (was_last limit p h) (has_given p h) (at_same i)).3
+
+in_order : (limit : ℕ) (p : List Step) (h : ℕ) → IsPast limit p
+    → InOrder (is_raw p h) (has_begun p h) (has_subtracted p h) (was_last limit p h) (has_given p h)
+in_order limit [] h past = record {
+  free = λ e. refl;
+  begun_first = λ e. refl;
+  subtracted_first = λ e. refl;
+  last_of_subtracted = λ e. refl;
+}
+in_order limit (Make ∷ p) h past = in_order limit p h past.1
+in_order limit (Look g ∷ p) h past = in_order limit p h past.1
+in_order limit (Clone g ∷ p) h past = in_order limit p h past.1
+in_order limit (Leak g ∷ p) h past = in_order limit p h past.1
+in_order limit (Begin g ∷ p) h past =
+    after_Begin (g == h) (is_raw p h) (has_begun p h) (has_subtracted p h) (was_last limit p h) (has_given p h)
+    (λ e. (free_at limit p g h e (Begin-finds limit p g past.0)).0) (in_order limit p h past.1)
+in_order limit (Sub g ∷ p) h past =
+    after_Sub (g == h) _ (is_raw p h) (has_begun p h) (has_subtracted p h) (was_last limit p h) (has_given p h)
+    (λ e. dropping_at limit p g h e (Sub-finds limit p g past.0)) (in_order limit p h past.1)
+in_order limit (Back g ∷ p) h past =
+    after_Back (g == h) (is_raw p h) (has_begun p h) (has_subtracted p h) (was_last limit p h) (has_given p h)
+    (λ e. owing_at limit p g h e (Back-finds limit p g past.0)) (in_order limit p h past.1)
+in_order limit (IntoRaw g ∷ p) h past =
+    after_IntoRaw (g == h) (is_raw p h) (has_begun p h) (has_subtracted p h) (was_last limit p h) (has_given p h)
+    (λ e. (free_at limit p g h e (IntoRaw-finds limit p g past.0)).1) (in_order limit p h past.1)
+in_order limit (FromRaw g ∷ p) h past =
+    after_FromRaw (g == h) (is_raw p h) (has_begun p h) (has_subtracted p h) (was_last limit p h) (has_given p h)
+    (in_order limit p h past.1)
+
+-- ---- the state that an accepted step leaves
+
+Begin-leaves : (raw begun unmarked subtracted last given marked : Bool)
+    → InOrder raw begun subtracted last given → state_by raw begun unmarked subtracted last given ≡ Free
+    → state_by raw true (not marked) subtracted last given ≡ (if marked then Gone else Dropping)
+Begin-leaves raw begun unmarked subtracted last given marked o e =
+    let was = free_was raw begun unmarked subtracted last given e in
+    let s = o.begun_first was.1 in
+    let l = o.last_of_subtracted s in
+    rw (was.0, s, l) (both marked)
+  where
+    both : (marked : Bool) → state_by false true (not marked) false false given ≡ (if marked then Gone else Dropping)
+    both true = refl
+    both false = refl
+
+Sub-leaves : (raw begun unmarked subtracted last given owes : Bool)
+    → InOrder raw begun subtracted last given → state_by raw begun unmarked subtracted last given ≡ Dropping
+    → state_by raw begun unmarked true owes given ≡ (if owes then Owing else Gone)
+Sub-leaves raw begun unmarked subtracted last given owes o e =
+    let was = dropping_was raw begun unmarked subtracted last given e in
+    let g = o.subtracted_first was.3 in
+    rw (was.0, was.1, was.2, g) (both owes)
+  where
+    both : (owes : Bool) → state_by false true true true owes false ≡ (if owes then Owing else Gone)
+    both true = refl
+    both false = refl
+
+Back-leaves : (raw begun unmarked subtracted last given : Bool)
+    → state_by raw begun unmarked subtracted last given ≡ Owing
+    → state_by raw begun unmarked subtracted last true ≡ Gone
+Back-leaves raw begun unmarked subtracted last given e =
+    let was = owing_was raw begun unmarked subtracted last given e in
+    rw (was.0, was.1, was.2, was.3) refl
+
+FromRaw-leaves : (raw begun unmarked subtracted last given : Bool)
+    → InOrder raw begun subtracted last given → state_by raw begun unmarked subtracted last given ≡ Raw
+    → state_by false begun unmarked subtracted last given ≡ Free
+FromRaw-leaves raw begun unmarked subtracted last given o e = rw (not_begun begun refl) refl
+  where
+    not_begun : (b : Bool) → begun ≡ b → begun ≡ false
+    not_begun true e₁ = absurd (true≢false (sym (raw_was raw begun unmarked subtracted last given e) ∙ o.free e₁))
+    not_begun false e₁ = e₁
+
+same_test : (h : ℕ) → (h == h) ≡ true
+same_test h = eq-eqb h h refl
+
+pub state-Begin : (limit : ℕ) (p : List Step) (h : ℕ) → IsPast limit p → is_accepted limit p (Begin h) ≡ true
+    → state_of limit (Begin h ∷ p) h ≡ (if is_marked limit p (block_of p h) then Gone else Dropping)
+state-Begin limit p h past a =
+    let left = Begin-leaves (is_raw p h) (has_begun p h) (began_unmarked limit p h) (has_subtracted p h)
+    (was_last limit p h) (has_given p h) (is_marked limit p (block_of p h)) (in_order limit p h past)
+    (Begin-finds limit p h a).state in
+    rw (same_test h) left
+
+pub state-Sub : (limit : ℕ) (p : List Step) (h : ℕ) → IsPast limit p → is_accepted limit p (Sub h) ≡ true
+    → state_of limit (Sub h ∷ p) h
+    ≡ (if not (is_marked limit p (block_of p h)) && is_only h (living limit p (block_of p h)) then Owing else Gone)
+state-Sub limit p h past a =
+    let left = Sub-leaves (is_raw p h) (has_begun p h) (began_unmarked limit p h) (has_subtracted p h)
+    (was_last limit p h) (has_given p h)
+    (not (is_marked limit p (block_of p h)) && is_only h (living limit p (block_of p h)))
+    (in_order limit p h past) (Sub-finds limit p h a).state in
+    rw (same_test h) left
+
+pub state-Back : (limit : ℕ) (p : List Step) (h : ℕ) → is_accepted limit p (Back h) ≡ true
+    → state_of limit (Back h ∷ p) h ≡ Gone
+state-Back limit p h a =
+    let left = Back-leaves (is_raw p h) (has_begun p h) (began_unmarked limit p h) (has_subtracted p h)
+    (was_last limit p h) (has_given p h) (Back-finds limit p h a).state in
+    rw (same_test h) left
+
+pub state-IntoRaw : (limit : ℕ) (p : List Step) (h : ℕ) → state_of limit (IntoRaw h ∷ p) h ≡ Raw
+state-IntoRaw limit p h = rw (same_test h) refl
+
+pub state-FromRaw : (limit : ℕ) (p : List Step) (h : ℕ) → IsPast limit p → is_accepted limit p (FromRaw h) ≡ true
+    → state_of limit (FromRaw h ∷ p) h ≡ Free
+state-FromRaw limit p h past a =
+    let left = FromRaw-leaves (is_raw p h) (has_begun p h) (began_unmarked limit p h) (has_subtracted p h)
+    (was_last limit p h) (has_given p h) (in_order limit p h past) (FromRaw-finds limit p h a).state in
+    rw (same_test h) left
+
+-- ---- the states that a step leaves alone
+
+other_test : (h k : ℕ) → (k ≡ h → ⊥) → (h == k) ≡ false
+other_test h k other = ne_eqb h k (λ e. other (sym e))
+
+pub state-Begin_other : (limit : ℕ) (p : List Step) (h k : ℕ) → (k ≡ h → ⊥) → state_of limit (Begin h ∷ p) k ≡ state_of limit p k
+state-Begin_other limit p h k other = rw (other_test h k other) refl
+
+pub state-Sub_other : (limit : ℕ) (p : List Step) (h k : ℕ) → (k ≡ h → ⊥) → state_of limit (Sub h ∷ p) k ≡ state_of limit p k
+state-Sub_other limit p h k other = rw (other_test h k other) refl
+
+pub state-Back_other : (limit : ℕ) (p : List Step) (h k : ℕ) → (k ≡ h → ⊥) → state_of limit (Back h ∷ p) k ≡ state_of limit p k
+state-Back_other limit p h k other = rw (other_test h k other) refl
+
+pub state-IntoRaw_other : (limit : ℕ) (p : List Step) (h k : ℕ) → (k ≡ h → ⊥) → state_of limit (IntoRaw h ∷ p) k ≡ state_of limit p k
+state-IntoRaw_other limit p h k other = rw (other_test h k other) refl
+
+pub state-FromRaw_other : (limit : ℕ) (p : List Step) (h k : ℕ) → (k ≡ h → ⊥) → state_of limit (FromRaw h ∷ p) k ≡ state_of limit p k
+state-FromRaw_other limit p h k other = rw (other_test h k other) refl
+
+-- ---- steps that change the state of one handle
+
+-- the step finds the handle in the state `old` and leaves it in the state `new`, and changes nothing else of handles
+pub record ChangesOne (limit : ℕ) (p : List Step) (s : Step) (h : ℕ) (old new : HandleState) : Type 0 where
+  pub found : IsIn limit p h old
+  pub left : state_of limit (s ∷ p) h ≡ new
+  pub others : (k : ℕ) → k ≢ h → state_of limit (s ∷ p) k ≡ state_of limit p k
+  pub blocks : (k : ℕ) → block_of (s ∷ p) k ≡ block_of p k
+
+pub Begin-changes : (limit : ℕ) (p : List Step) (h : ℕ) → IsPast limit p → is_accepted limit p (Begin h) ≡ true
+    → ChangesOne limit p (Begin h) h Free (if is_marked limit p (block_of p h) then Gone else Dropping)
+Begin-changes limit p h past a = record {
+  found = Begin-finds limit p h a;
+  left = state-Begin limit p h past a;
+  others = state-Begin_other limit p h;
+  blocks = λ k. refl;
+}
+
+pub Sub-changes : (limit : ℕ) (p : List Step) (h : ℕ) → IsPast limit p → is_accepted limit p (Sub h) ≡ true
+    → ChangesOne limit p (Sub h) h Dropping
+    (if not (is_marked limit p (block_of p h)) && is_only h (living limit p (block_of p h)) then Owing else Gone)
+Sub-changes limit p h past a = record {
+  found = Sub-finds limit p h a;
+  left = state-Sub limit p h past a;
+  others = state-Sub_other limit p h;
+  blocks = λ k. refl;
+}
+
+pub Back-changes : (limit : ℕ) (p : List Step) (h : ℕ) → is_accepted limit p (Back h) ≡ true
+    → ChangesOne limit p (Back h) h Owing Gone
+Back-changes limit p h a = record {
+  found = Back-finds limit p h a;
+  left = state-Back limit p h a;
+  others = state-Back_other limit p h;
+  blocks = λ k. refl;
+}
+
+pub IntoRaw-changes : (limit : ℕ) (p : List Step) (h : ℕ) → is_accepted limit p (IntoRaw h) ≡ true
+    → ChangesOne limit p (IntoRaw h) h Free Raw
+IntoRaw-changes limit p h a = record {
+  found = IntoRaw-finds limit p h a;
+  left = state-IntoRaw limit p h;
+  others = state-IntoRaw_other limit p h;
+  blocks = λ k. refl;
+}
+
+pub FromRaw-changes : (limit : ℕ) (p : List Step) (h : ℕ) → IsPast limit p → is_accepted limit p (FromRaw h) ≡ true
+    → ChangesOne limit p (FromRaw h) h Raw Free
+FromRaw-changes limit p h past a = record {
+  found = FromRaw-finds limit p h a;
+  left = state-FromRaw limit p h past a;
+  others = state-FromRaw_other limit p h;
+  blocks = λ k. refl;
+}
+
+-- ---- handles that are not yet born
+
+not_yet : (g h n : ℕ) (x b : Bool) → g < n → n ≤ h → b ≡ false → (if g == h then x else b) ≡ false
+not_yet g h n x b born unborn e =
+    let apart : (g == h) ≡ false = ne_eqb g h (λ same. omega arith) in
+    rw apart e
+
+-- nothing was done to a handle that is not yet born
+unborn_flags : (limit : ℕ) (p : List Step) (h : ℕ) → IsPast limit p → births p ≤ h → (is_raw p h ≡ false) × (has_begun p h ≡ false)
+unborn_flags limit [] h past unborn = (refl, refl)
+unborn_flags limit (Make ∷ p) h past unborn = unborn_flags limit p h past.1 (omega arith)
+unborn_flags limit (Look g ∷ p) h past unborn = unborn_flags limit p h past.1 unborn
+unborn_flags limit (Clone g ∷ p) h past unborn = unborn_flags limit p h past.1 (omega arith)
+unborn_flags limit (Begin g ∷ p) h past unborn =
+    let before = unborn_flags limit p h past.1 unborn in
+    (before.0, not_yet g h (births p) true (has_begun p h) (Begin-finds limit p g past.0).born unborn before.1)
+unborn_flags limit (Sub g ∷ p) h past unborn = unborn_flags limit p h past.1 unborn
+unborn_flags limit (Back g ∷ p) h past unborn = unborn_flags limit p h past.1 unborn
+unborn_flags limit (Leak g ∷ p) h past unborn = unborn_flags limit p h past.1 unborn
+unborn_flags limit (IntoRaw g ∷ p) h past unborn =
+    let before = unborn_flags limit p h past.1 unborn in
+    (not_yet g h (births p) true (is_raw p h) (IntoRaw-finds limit p g past.0).born unborn before.0, before.1)
+unborn_flags limit (FromRaw g ∷ p) h past unborn =
+    let before = unborn_flags limit p h past.1 unborn in
+    (not_yet g h (births p) false (is_raw p h) (FromRaw-finds limit p g past.0).born unborn before.0, before.1)
+
+-- so it is born free
+pub state-born : (limit : ℕ) (p : List Step) → IsPast limit p → state_of limit p (births p) ≡ Free
+state-born limit p past =
+    let flags = unborn_flags limit p (births p) past (omega arith) in
+    rw (flags.0, flags.1) refl
+
+-- ---- the block of a handle
+
+pub block-Make : (p : List Step) → block_of (Make ∷ p) (births p) ≡ makes p
+block-Make p = rw (same_test (births p)) refl
+
+pub block-Make_other : (p : List Step) (k : ℕ) → k < births p → block_of (Make ∷ p) k ≡ block_of p k
+block-Make_other p k born =
+    let apart : (k == births p) ≡ false = ne_eqb k (births p) (λ same. omega arith) in
+    rw apart refl
+
+pub block-Clone : (p : List Step) (h : ℕ) → block_of (Clone h ∷ p) (births p) ≡ block_of p h
+block-Clone p h = rw (same_test (births p)) refl
+
+pub block-Clone_other : (p : List Step) (h k : ℕ) → k < births p → block_of (Clone h ∷ p) k ≡ block_of p k
+block-Clone_other p h k born =
+    let apart : (k == births p) ≡ false = ne_eqb k (births p) (λ same. omega arith) in
+    rw apart refl
+
+-- what holds of the newborn handle's block x and of the earlier one's, y, holds of both
+below_both : (t : Bool) (h n x y m : ℕ) → (h == n) ≡ t → h < suc n → x < m → (h < n → y < m) → (if t then x else y) < m
+below_both true h n x y m e born newborn earlier = newborn
+below_both false h n x y m e born newborn earlier =
+    let apart : h ≢ n = eqb-false h n e in
+    earlier (omega arith)
+
+-- each handle stands on a block that was made
+pub block_made : (limit : ℕ) (p : List Step) (h : ℕ) → IsPast limit p → h < births p → block_of p h < makes p
+block_made limit [] h past born = absurd (omega arith)
+block_made limit (Make ∷ p) h past born = below_both (h == births p) h (births p) (makes p) (block_of p h) (suc (makes p)) refl born
+    (omega arith) (λ earlier. let before = block_made limit p h past.1 earlier in omega arith)
+block_made limit (Look g ∷ p) h past born = block_made limit p h past.1 born
+block_made limit (Clone g ∷ p) h past born = below_both (h == births p) h (births p) (block_of p g) (block_of p h) (makes p) refl born
+    (block_made limit p g past.1 (Clone-finds limit p g past.0).born) (λ earlier. block_made limit p h past.1 earlier)
+block_made limit (Begin g ∷ p) h past born = block_made limit p h past.1 born
+block_made limit (Sub g ∷ p) h past born = block_made limit p h past.1 born
+block_made limit (Back g ∷ p) h past born = block_made limit p h past.1 born
+block_made limit (Leak g ∷ p) h past born = block_made limit p h past.1 born
+block_made limit (IntoRaw g ∷ p) h past born = block_made limit p h past.1 born
+block_made limit (FromRaw g ∷ p) h past born = block_made limit p h past.1 born

@@ -1,0 +1,212 @@
+-- The laws of the counts, in each past: what the word stands for, and when a block is given back.
+use Rattle.std.proofs.Common.{◌≡◌, ◌↔◌, ℕ, zero, suc, ◌+◌, ◌<◌, ◌≤◌, Bool, true, false, not, ◌&&◌, ◌==◌, if◌then◌else◌, IsFalse, Some, List, [], ◌∷◌, length, refl, sym, ◌∙◌, ap, arith, true≢false}
+use Rattle.std.proofs.lemmas.List.{nil_from_length}
+use Rattle.std.proofs.lemmas.Bool.{or_left, or_right}
+use Rattle.arcstr_count.specs.declared.steps.Step.{Step}
+use Rattle.arcstr_count.specs.declared.steps.Step.TheVariants.{Make, Look, Clone, Begin, Sub, Back, Leak, IntoRaw, FromRaw}
+use Rattle.arcstr_count.specs.declared.steps.HandleState.TheVariants.{Dropping}
+use Rattle.arcstr_count.specs.Word.{looked_of, is_last}
+use Rattle.arcstr_count.specs.History.{makes, block_of, lives}
+use Rattle.arcstr_count.specs.Marks.{is_marked, living, is_only}
+use Rattle.arcstr_count.specs.Answer.{is_accepted}
+use Rattle.arcstr_count.specs.Past.{with_step, past_from, IsPast, times_given}
+use Rattle.arcstr_count.specs.Left.{word_left, is_dropping, dropping, owing, Stands}
+use Rattle.arcstr_count.proofs.Pasts.{IsPast-past_from}
+use Rattle.arcstr_count.proofs.LawsOfHandles.{IsIn, Sub-finds, block_made}
+use Rattle.arcstr_count.proofs.Counting.{held, some_held, is_only-living}
+use Rattle.arcstr_count.proofs.LawsOfBlocks.{Balanced, balance}
+
+-- ---- the word
+
+-- an unmarked and a marked block, one by one
+module _ (limit : ℕ) (p : List Step) (b : ℕ) where
+  stands_by : (m : Bool) → is_marked limit p b ≡ m
+      → Balanced limit (word_left limit p b) m (λ test. held limit p b test) (times_given p b)
+      → Stands limit p b (word_left limit p b)
+  stands_by true marked x = record {
+    flag = x.flag ∙ sym marked;
+    exact = λ unmarked. absurd (true≢false (sym marked ∙ unmarked));
+    covered = λ _. x.covered;
+    bounded = λ _. x.bounded;
+  }
+  stands_by false unmarked x = record {
+    flag = x.flag ∙ sym unmarked;
+    exact = λ _. x.count;
+    covered = λ marked. absurd (true≢false (sym marked ∙ unmarked));
+    bounded = λ marked. absurd (true≢false (sym marked ∙ unmarked));
+  }
+
+  bounded_by : (m : Bool) → Balanced limit (word_left limit p b) m (λ test. held limit p b test) (times_given p b)
+      → (word_left limit p b).count ≤ limit + 1
+  bounded_by true x = x.bounded
+  bounded_by false x = omega arith
+
+pub word_stands : (limit : ℕ) (p : List Step) (b : ℕ) → IsPast limit p → b < makes p → Stands limit p b (word_left limit p b)
+word_stands limit p b past made = stands_by limit p b (is_marked limit p b) refl (balance limit p b past made)
+
+-- the count never passes the limit by more than one
+pub count_bounded : (limit : ℕ) (p : List Step) (b : ℕ) → IsPast limit p → b < makes p → (word_left limit p b).count ≤ limit + 1
+count_bounded limit p b past made = bounded_by limit p b (is_marked limit p b) (balance limit p b past made)
+
+-- a subtraction finds at least its own handle in the count
+pub Sub_counted : (limit : ℕ) (p : List Step) (h : ℕ) → IsPast limit p → is_accepted limit p (Sub h) ≡ true
+    → 0 < (word_left limit p (block_of p h)).count
+Sub_counted limit p h past a = by_mark (is_marked limit p b) (balance limit p b past (block_made limit p h past found.born))
+  where
+    b : ℕ
+    b = block_of p h
+
+    found : IsIn limit p h Dropping
+    found = Sub-finds limit p h a
+
+    by_mark : (m : Bool) → Balanced limit (word_left limit p b) m (λ test. held limit p b test) (times_given p b)
+        → 0 < (word_left limit p b).count
+    by_mark true x = omega (arith, some_held limit p h Dropping is_dropping found refl)
+    by_mark false x = omega (arith, some_held limit p h Dropping lives found refl)
+
+-- the word tells the last subtraction
+pub Sub_last : (limit : ℕ) (p : List Step) (h : ℕ) → IsPast limit p → is_accepted limit p (Sub h) ≡ true
+    → is_last (word_left limit p (block_of p h))
+    ≡ (not (is_marked limit p (block_of p h)) && is_only h (living limit p (block_of p h)))
+Sub_last limit p h past a = by_mark (is_marked limit p b) (balance limit p b past (block_made limit p h past found.born))
+  where
+    b : ℕ
+    b = block_of p h
+
+    found : IsIn limit p h Dropping
+    found = Sub-finds limit p h a
+
+    by_mark : (m : Bool) → Balanced limit (word_left limit p b) m (λ test. held limit p b test) (times_given p b)
+        → is_last (word_left limit p b) ≡ (not m && is_only h (living limit p b))
+    by_mark true x = rw x.flag refl
+    by_mark false x = rw (x.flag, x.count, is_only-living limit p h Dropping found refl) refl
+
+-- ---- the mark
+
+pub unmarked_bounded : (limit : ℕ) (p : List Step) (b : ℕ) → IsPast limit p → b < makes p → IsFalse (is_marked limit p b)
+    → length (living limit p b) ≤ limit + 1
+unmarked_bounded limit p b past made unmarked =
+    let stands = word_stands limit p b past made in
+    let exact = stands.exact unmarked in
+    omega (arith, count_bounded limit p b past made)
+
+-- an unmarked look finds how many handles live
+pub look_exact : (limit : ℕ) (p : List Step) (b : ℕ) → IsPast limit p → b < makes p → IsFalse (is_marked limit p b)
+    → looked_of (word_left limit p b) ≡ Some (length (living limit p b))
+look_exact limit p b past made unmarked =
+    let stands = word_stands limit p b past made in
+    rw (stands.flag, unmarked, stands.exact unmarked) refl
+
+pub mark_stays : (limit : ℕ) (p : List Step) (s : Step) (b : ℕ) → is_marked limit p b ≡ true → is_marked limit (s ∷ p) b ≡ true
+mark_stays limit p Make b marked = marked
+mark_stays limit p (Look h) b marked = marked
+mark_stays limit p (Clone h) b marked = or_left (is_marked limit p b) _ marked
+mark_stays limit p (Begin h) b marked = marked
+mark_stays limit p (Sub h) b marked = marked
+mark_stays limit p (Back h) b marked = marked
+mark_stays limit p (Leak h) b marked = or_right (block_of p h == b) (is_marked limit p b) marked
+mark_stays limit p (IntoRaw h) b marked = marked
+mark_stays limit p (FromRaw h) b marked = marked
+
+-- what each step keeps, all of them keep
+kept_from : (P : List Step → Type 0) → ((p : List Step) (s : Step) → P p → P (s ∷ p)) → (limit : ℕ) (p later : List Step) → P p → P (past_from limit p later)
+kept_from P step limit p [] now = now
+kept_from P step limit p (s ∷ later) now = kept_from P step limit (with_step limit p s) later (by_test (is_accepted limit p s))
+  where
+    by_test : (t : Bool) → P (if t then s ∷ p else p)
+    by_test true = step p s now
+    by_test false = now
+
+pub mark_stays_from : (limit : ℕ) (p later : List Step) (b : ℕ) → is_marked limit p b ≡ true → is_marked limit (past_from limit p later) b ≡ true
+mark_stays_from limit p later b = kept_from (λ q. is_marked limit q b ≡ true) (λ q s. mark_stays limit q s b) limit p later
+
+makes_grows : (p : List Step) (s : Step) → makes p ≤ makes (s ∷ p)
+makes_grows p Make = omega arith
+makes_grows p (Look h) = omega arith
+makes_grows p (Clone h) = omega arith
+makes_grows p (Begin h) = omega arith
+makes_grows p (Sub h) = omega arith
+makes_grows p (Back h) = omega arith
+makes_grows p (Leak h) = omega arith
+makes_grows p (IntoRaw h) = omega arith
+makes_grows p (FromRaw h) = omega arith
+
+-- a block that was made stays so
+pub made_stays_from : (limit : ℕ) (p later : List Step) (b : ℕ) → b < makes p → b < makes (past_from limit p later)
+made_stays_from limit p later b =
+    kept_from (λ q. b < makes q) (λ q s made. let grows = makes_grows q s in omega arith) limit p later
+
+-- ---- owing and giving back
+
+-- t is 0 while some of l are left, and 1 once none is
+ended_or_not : (l t : ℕ) → (0 < l → t ≡ 0) → (l ≡ 0 → t ≡ 1) → (t ≤ 1) × (0 < t → l ≡ 0)
+ended_or_not zero t some none = (omega (arith, none refl), λ h. refl)
+ended_or_not (suc l) t some none = let no = some (omega arith) in (omega arith, λ h. omega arith)
+
+module _ (limit : ℕ) (p : List Step) (b : ℕ) where
+  owes_by : (m : Bool) → Balanced limit (word_left limit p b) m (λ test. held limit p b test) (times_given p b)
+      → (length (owing limit p b) + times_given p b ≤ 1)
+      × (0 < length (owing limit p b) + times_given p b → IsFalse m × (living limit p b ≡ []))
+  owes_by true x = (omega arith, λ some. absurd (omega arith))
+  owes_by false x =
+      let one = ended_or_not (length (living limit p b)) (length (owing limit p b) + times_given p b) x.held x.ended in
+      (one.0, λ some. (refl, nil_from_length (living limit p b) (one.1 some)))
+
+  owes_or_given : IsPast limit p → b < makes p → (length (owing limit p b) + times_given p b ≤ 1)
+      × (0 < length (owing limit p b) + times_given p b → IsFalse (is_marked limit p b) × (living limit p b ≡ []))
+  owes_or_given past made = owes_by (is_marked limit p b) (balance limit p b past made)
+
+  ended_by : (m : Bool) → Balanced limit (word_left limit p b) m (λ test. held limit p b test) (times_given p b)
+      → length (living limit p b) ≡ 0 → length (owing limit p b) ≡ 0 → (times_given p b ≡ 1) ↔ IsFalse m
+  ended_by true x none settled = (λ given. absurd (omega arith), λ unmarked. absurd (true≢false unmarked))
+  ended_by false x none settled = (λ given. refl, λ unmarked. omega (arith, x.ended none))
+
+pub one_owes : (limit : ℕ) (p : List Step) (b : ℕ) → IsPast limit p → b < makes p → length (owing limit p b) ≤ 1
+one_owes limit p b past made = let both = owes_or_given limit p b past made in omega arith
+
+pub owes_alone : (limit : ℕ) (p : List Step) (b : ℕ) → IsPast limit p → b < makes p → 0 < length (owing limit p b)
+    → IsFalse (is_marked limit p b) × (living limit p b ≡ [])
+owes_alone limit p b past made owes = (owes_or_given limit p b past made).1 (omega arith)
+
+pub given_once : (limit : ℕ) (p : List Step) (b : ℕ) → IsPast limit p → b < makes p → times_given p b ≤ 1
+given_once limit p b past made = let both = owes_or_given limit p b past made in omega arith
+
+pub given_alone : (limit : ℕ) (p : List Step) (b : ℕ) → IsPast limit p → b < makes p → times_given p b ≡ 1
+    → living limit p b ≡ []
+given_alone limit p b past made given = ((owes_or_given limit p b past made).1 (omega arith)).1
+
+given_grows : (p : List Step) (s : Step) (b : ℕ) → times_given p b ≤ times_given (s ∷ p) b
+given_grows p Make b = omega arith
+given_grows p (Look h) b = omega arith
+given_grows p (Clone h) b = omega arith
+given_grows p (Begin h) b = omega arith
+given_grows p (Sub h) b = omega arith
+given_grows p (Back h) b = by_test (block_of p h == b)
+  where
+    by_test : (t : Bool) → times_given p b ≤ (if t then suc (times_given p b) else times_given p b)
+    by_test true = omega arith
+    by_test false = omega arith
+given_grows p (Leak h) b = omega arith
+given_grows p (IntoRaw h) b = omega arith
+given_grows p (FromRaw h) b = omega arith
+
+pub given_grows_from : (limit : ℕ) (p later : List Step) (b : ℕ) → times_given p b ≤ times_given (past_from limit p later) b
+given_grows_from limit p later b =
+    kept_from (λ q. times_given p b ≤ times_given q b) (λ q s before. let grows = given_grows q s b in omega arith)
+    limit p later (omega arith)
+
+-- once given back, no handle lives on it again
+pub given_for_good : (limit : ℕ) (p later : List Step) (b : ℕ) → IsPast limit p → b < makes p → times_given p b ≡ 1
+    → living limit (past_from limit p later) b ≡ []
+given_for_good limit p later b past made given =
+    let later_past = IsPast-past_from limit p later past in
+    let later_made = made_stays_from limit p later b made in
+    let at_most = given_once limit (past_from limit p later) b later_past later_made in
+    let at_least = given_grows_from limit p later b in
+    given_alone limit (past_from limit p later) b later_past later_made (omega arith)
+
+pub given_exactly : (limit : ℕ) (p : List Step) (b : ℕ) → IsPast limit p → b < makes p
+    → living limit p b ≡ [] → dropping limit p b ≡ [] → owing limit p b ≡ []
+    → (times_given p b ≡ 1) ↔ IsFalse (is_marked limit p b)
+given_exactly limit p b past made none _ settled =
+    ended_by limit p b (is_marked limit p b) (balance limit p b past made) (ap length none) (ap length settled)

@@ -1,0 +1,310 @@
+-- What each step makes of a history of one block, its word and the states of its handles.
+use Rattle.std.proofs.Common.{◌≡◌, ℕ, zero, suc, ◌+◌, ◌<◌, ◌≤◌, Bool, true, false, not, ◌&&◌, ◌==◌, nat_lt, if◌then◌else◌, is_none, IsTrue, IsFalse, Option, None, Some, List, [], ◌∷◌, ◌++◌, map, reverse, length, slice_get, get_or, set, refl, sym, ◌∙◌, ap, subst, arith}
+use Rattle.std.proofs.lemmas.Bool.{lt-ltb}
+use Rattle.std.proofs.lemmas.List.{map_push, get_or-map, map-set, length-map, reverse-append}
+use Rattle.std.proofs.lemmas.Option.{get_or_from_slice_get, slice_get_within}
+use Rattle.arcstr_count.specs.declared.steps.Step.{Step}
+use Rattle.arcstr_count.specs.declared.steps.Step.TheVariants.{Make, Look, Clone, Begin, Sub, Back, Leak, IntoRaw, FromRaw}
+use Rattle.arcstr_count.specs.declared.steps.HandleState.{HandleState}
+use Rattle.arcstr_count.specs.declared.steps.HandleState.TheVariants.{Free, Raw, Dropping, Owing, Gone}
+use Rattle.arcstr_count.specs.declared.steps.HandleSummary.{HandleSummary}
+use Rattle.arcstr_count.specs.declared.steps.Reply.{Reply}
+use Rattle.arcstr_count.specs.declared.steps.Reply.TheVariants.{Count, Static, Handle, Looked, Ended, Left, Owes, Given, Marked}
+use Rattle.arcstr_count.specs.Word.{FlagAndCount, fresh_word, looked_of, cloned_of, dropped_of, is_last, marked_of}
+use Rattle.arcstr_count.specs.History.{makes, births, block_of, numbers_below}
+use Rattle.arcstr_count.specs.Marks.{is_marked, state_of, living, is_only}
+use Rattle.arcstr_count.specs.Answer.{handle_state, is_accepted, reply_by, accepted_answer, unless_free, unless_dropping, unless_owing}
+use Rattle.arcstr_count.specs.Past.{past_of, IsPast, answer_after}
+use Rattle.arcstr_count.specs.Left.{word_left, Stands}
+use Rattle.arcstr_count.specs.Summary.{handles_of, handle_summary}
+use Rattle.arcstr_count.specs.OneBlock.{Keeps, IsOneBlock, EndsIn, states_after, look_reply}
+use Rattle.arcstr_count.proofs.Pasts.{past_of-step, IsPast-past_of}
+use Rattle.arcstr_count.proofs.LawsOfHandles.{IsIn, block_made}
+use Rattle.arcstr_count.proofs.LawsOfPasts.{word_stands, Sub_counted, Sub_last}
+use Rattle.arcstr_count.proofs.Tables.{length-numbers_below, length-handles_of, handle_at, handles-Clone, handles-Begin, handles-Sub, handles-Back}
+
+-- ---- the states of the handles, as a column of the table
+
+column : {X Y Z : Type 0} (f : X → Y) (g : Y → Z) (xs : List X) → map g (map f xs) ≡ map (λ x. g (f x)) xs
+column f g [] = refl
+column f g (x ∷ xs) = ap (λ later. g (f x) ∷ later) (column f g xs)
+
+abbrev states_in : ℕ → List Step → List HandleState
+states_in limit p = map (λ h. state_of limit p h) (numbers_below (births p))
+
+abbrev state_in : HandleSummary → HandleState
+state_in e = e.state
+
+states_in-table : (limit : ℕ) (p : List Step) → map state_in (handles_of limit p) ≡ states_in limit p
+states_in-table limit p = column (λ h. handle_summary limit p h) state_in (numbers_below (births p))
+
+states_in-set : (limit : ℕ) (p q : List Step) (h : ℕ) (e : HandleSummary) → handles_of limit q ≡ set (handles_of limit p) h e
+    → states_in limit q ≡ set (states_in limit p) h e.state
+states_in-set limit p q h e changed =
+    sym (states_in-table limit q) ∙ ap (map state_in) changed ∙ map-set state_in (handles_of limit p) h e
+    ∙ ap (λ states. set states h e.state) (states_in-table limit p)
+
+states_in-push : (limit : ℕ) (p q : List Step) (e : HandleSummary) → handles_of limit q ≡ handles_of limit p ++ e ∷ []
+    → states_in limit q ≡ states_in limit p ++ e.state ∷ []
+states_in-push limit p q e born =
+    sym (states_in-table limit q) ∙ ap (map state_in) born ∙ map_push state_in (handles_of limit p) e
+    ∙ ap (λ states. states ++ e.state ∷ []) (states_in-table limit p)
+
+-- ---- what a seat says
+
+length-states_in : (limit : ℕ) (p : List Step) → length (states_in limit p) ≡ births p
+length-states_in limit p =
+    length-map (numbers_below (births p)) (λ h. state_of limit p h) ∙ length-numbers_below (births p)
+
+get_or-column : (limit : ℕ) (p : List Step) (h : ℕ) → h < births p → get_or (states_in limit p) h Gone ≡ state_of limit p h
+get_or-column limit p h born =
+    let within : h < length (handles_of limit p) = rw (length-handles_of limit p) born in
+    ap (λ states. get_or states h Gone) (sym (states_in-table limit p))
+    ∙ get_or-map state_in (handles_of limit p) h (record { block = 0; state = Gone }) Gone within
+    ∙ ap state_in (handle_at limit p h (record { block = 0; state = Gone }) born)
+
+-- a handle with a seat was born, and is in the state that the seat holds
+seat_is : (limit : ℕ) (r : List Step) (w : FlagAndCount) (seats : List HandleState) (h : ℕ) (state : HandleState)
+    → Keeps limit r w seats → slice_get seats h ≡ Some state → IsIn limit (past_of limit r) h state
+seat_is limit r w seats h state keeps seat =
+    let seated : slice_get (states_in limit (past_of limit r)) h ≡ Some state = rw keeps.states at seat in
+    let born : h < births (past_of limit r) =
+        rw (length-states_in limit (past_of limit r)) at (slice_get_within (states_in limit (past_of limit r)) h state seated) in
+    record {
+      born = born;
+      state = sym (get_or-column limit (past_of limit r) h born)
+          ∙ get_or_from_slice_get (states_in limit (past_of limit r)) h state Gone seated;
+    }
+
+found_in : (limit : ℕ) (p : List Step) (h : ℕ) (state : HandleState) → IsIn limit p h state → handle_state limit p h ≡ Some state
+found_in limit p h state i =
+    ap (λ b. if b then Some (state_of limit p h) else None) (lt-ltb h (births p) i.born) ∙ ap Some i.state
+
+-- ---- one more step
+
+past-step : (limit : ℕ) (r : List Step) (s : Step) → is_accepted limit (past_of limit r) s ≡ true
+    → past_of limit (r ++ s ∷ []) ≡ s ∷ past_of limit r
+past-step limit r s accepted =
+    past_of-step limit r s ∙ ap (λ b. if b then s ∷ past_of limit r else past_of limit r) accepted
+
+kept : (limit : ℕ) (r : List Step) (w new : FlagAndCount) (seats seats' : List HandleState) (s : Step)
+    → Keeps limit r w seats → is_accepted limit (past_of limit r) s ≡ true
+    → makes (s ∷ past_of limit r) ≡ makes (past_of limit r)
+    → new ≡ word_left limit (s ∷ past_of limit r) 0
+    → seats' ≡ states_in limit (s ∷ past_of limit r)
+    → Keeps limit (r ++ s ∷ []) new seats'
+kept limit r w new seats seats' s keeps accepted same_makes left states =
+    let extended : past_of limit (r ++ s ∷ []) ≡ s ∷ past_of limit r = past-step limit r s accepted in
+    record {
+      one_block = record {
+        made = ap makes extended ∙ same_makes ∙ keeps.one_block.made;
+        accepted = extended ∙ ap (λ q. s ∷ q) keeps.one_block.accepted ∙ sym (reverse-append r (s ∷ []));
+      };
+      left = left ∙ ap (λ q. word_left limit q 0) (sym extended);
+      states = states ∙ ap (λ q. states_in limit q) (sym extended);
+    }
+
+-- the one block of the history is block 0
+on_block : (limit : ℕ) (r : List Step) (w : FlagAndCount) (seats : List HandleState) (h : ℕ) (state : HandleState)
+    → Keeps limit r w seats → IsIn limit (past_of limit r) h state → block_of (past_of limit r) h ≡ 0
+on_block limit r w seats h state keeps i =
+    let below = block_made limit (past_of limit r) h (IsPast-past_of limit r) i.born in
+    let one = keeps.one_block.made in omega arith
+
+-- ---- what the word says
+
+-- the one block was made
+pub made_one : (limit : ℕ) (r : List Step) (w : FlagAndCount) (seats : List HandleState) → Keeps limit r w seats
+    → 0 < makes (past_of limit r)
+made_one limit r w seats keeps = let one = keeps.one_block.made in omega arith
+
+-- the word stands for the block's living handles
+pub stands : (limit : ℕ) (r : List Step) (w : FlagAndCount) (seats : List HandleState) → Keeps limit r w seats
+    → Stands limit (past_of limit r) 0 w
+stands limit r w seats keeps =
+    subst (Stands limit (past_of limit r) 0) (sym keeps.left)
+    (word_stands limit (past_of limit r) 0 (IsPast-past_of limit r) (made_one limit r w seats keeps))
+
+-- a subtraction of a dropping handle is the last one exactly if the word says so, and finds a count to take from
+record Subtracts (limit : ℕ) (p : List Step) (h : ℕ) (w : FlagAndCount) : Type 0 where
+  pub counted : 0 < w.count
+  pub last : not (is_marked limit p (block_of p h)) && is_only h (living limit p (block_of p h)) ≡ is_last w
+
+subtracts : (limit : ℕ) (r : List Step) (w : FlagAndCount) (seats : List HandleState) (h : ℕ) → Keeps limit r w seats
+    → IsIn limit (past_of limit r) h Dropping → Subtracts limit (past_of limit r) h w
+subtracts limit r w seats h keeps i =
+    let accepted : is_accepted limit (past_of limit r) (Sub h) ≡ true =
+        ap (λ o. is_none (unless_dropping o)) (found_in limit (past_of limit r) h Dropping i) in
+    let same : word_left limit (past_of limit r) (block_of (past_of limit r) h) ≡ w =
+        ap (λ b. word_left limit (past_of limit r) b) (on_block limit r w seats h Dropping keeps i) ∙ sym keeps.left in
+    record {
+      counted = subst (λ (word : FlagAndCount). 0 < word.count) same
+          (Sub_counted limit (past_of limit r) h (IsPast-past_of limit r) accepted);
+      last = sym (Sub_last limit (past_of limit r) h (IsPast-past_of limit r) accepted) ∙ ap is_last same;
+    }
+
+-- ---- each step, accepted, with its answer and what it keeps
+
+-- a step that wants a free handle is accepted of one
+accepts_free : (limit : ℕ) (p : List Step) (h : ℕ) → IsIn limit p h Free → unless_free (handle_state limit p h) ≡ None
+accepts_free limit p h i = ap unless_free (found_in limit p h Free i)
+
+-- what an accepted step does to the history, the word and the seats
+pub record Prolongs (limit : ℕ) (r : List Step) (s : Step) (reply : Reply) (w : FlagAndCount) (seats : List HandleState) : Type 0 where
+  pub keeps : Keeps limit (r ++ s ∷ []) w seats
+  pub ends : EndsIn limit (r ++ s ∷ []) s reply
+
+pub keeps-make : (limit : ℕ) → Keeps limit (Make ∷ []) fresh_word (Free ∷ [])
+keeps-make limit = record {
+  one_block = record { made = refl; accepted = refl };
+  left = refl;
+  states = refl;
+}
+
+look_reply-is : (limit : ℕ) (p : List Step) (w : FlagAndCount) (b : ℕ) → b ≡ 0 → Stands limit p 0 w
+    → (if is_marked limit p b then Static else Count (length (living limit p b))) ≡ look_reply (looked_of w)
+look_reply-is limit p w b first on = rw first (by_flag w.flag refl)
+  where
+    by_flag : (flag : Bool) → w.flag ≡ flag
+        → (if is_marked limit p 0 then Static else Count (length (living limit p 0))) ≡ look_reply (looked_of w)
+    by_flag true e =
+        let marked : is_marked limit p 0 ≡ true = sym on.flag ∙ e in rw (marked, e) refl
+    by_flag false e =
+        let unmarked : is_marked limit p 0 ≡ false = sym on.flag ∙ e in rw (unmarked, e) (ap Count (sym (on.exact unmarked)))
+
+pub keeps-look : (limit : ℕ) (r : List Step) (w : FlagAndCount) (seats : List HandleState) (h : ℕ)
+    → Keeps limit r w seats → slice_get seats h ≡ Some Free → Prolongs limit r (Look h) (look_reply (looked_of w)) w seats
+keeps-look limit r w seats h keeps seat =
+    let i : IsIn limit (past_of limit r) h Free = seat_is limit r w seats h Free keeps seat in
+    let open_to : unless_free (handle_state limit (past_of limit r) h) ≡ None = accepts_free limit (past_of limit r) h i in
+    record {
+      keeps = kept limit r w w seats seats (Look h) keeps (ap is_none open_to) refl keeps.left keeps.states;
+      ends = record {
+        front = r;
+        ends = refl;
+        accepted = ap is_none open_to;
+        answered = ap (λ o. reply_by o (accepted_answer limit (past_of limit r) (Look h))) open_to
+            ∙ look_reply-is limit (past_of limit r) w _ (on_block limit r w seats h Free keeps i) (stands limit r w seats keeps);
+      };
+    }
+
+pub keeps-begin : (limit : ℕ) (r : List Step) (w : FlagAndCount) (seats : List HandleState) (h : ℕ)
+    → Keeps limit r w seats → slice_get seats h ≡ Some Free
+    → Prolongs limit r (Begin h) (if w.flag then Ended else Looked) w (set seats h (if w.flag then Gone else Dropping))
+keeps-begin limit r w seats h keeps seat =
+    let i : IsIn limit (past_of limit r) h Free = seat_is limit r w seats h Free keeps seat in
+    let open_to : unless_free (handle_state limit (past_of limit r) h) ≡ None = accepts_free limit (past_of limit r) h i in
+    let on : block_of (past_of limit r) h ≡ 0 = on_block limit r w seats h Free keeps i in
+    let mark : is_marked limit (past_of limit r) (block_of (past_of limit r) h) ≡ w.flag =
+        ap (λ b. is_marked limit (past_of limit r) b) on ∙ sym (stands limit r w seats keeps).flag in
+    let states : set seats h (if w.flag then Gone else Dropping) ≡ states_in limit (Begin h ∷ past_of limit r) =
+        ap (λ old. set old h (if w.flag then Gone else Dropping)) keeps.states
+        ∙ ap (λ b. set (states_in limit (past_of limit r)) h (if b then Gone else Dropping)) (sym mark)
+        ∙ sym (states_in-set limit (past_of limit r) (Begin h ∷ past_of limit r) h _
+        (handles-Begin limit (past_of limit r) h (IsPast-past_of limit r) (ap is_none open_to))) in
+    record {
+      keeps = kept limit r w w seats _ (Begin h) keeps (ap is_none open_to) refl keeps.left states;
+      ends = record {
+        front = r;
+        ends = refl;
+        accepted = ap is_none open_to;
+        answered = ap (λ o. reply_by o (accepted_answer limit (past_of limit r) (Begin h))) open_to
+            ∙ ap (λ b. if b then Ended else Looked) mark;
+      };
+    }
+
+pub keeps-clone : (limit : ℕ) (r : List Step) (w : FlagAndCount) (seats : List HandleState) (h : ℕ)
+    → Keeps limit r w seats → slice_get seats h ≡ Some Free
+    → Prolongs limit r (Clone h) (Handle (length seats)) (cloned_of limit w) (seats ++ Free ∷ [])
+keeps-clone limit r w seats h keeps seat =
+    let i : IsIn limit (past_of limit r) h Free = seat_is limit r w seats h Free keeps seat in
+    let open_to : unless_free (handle_state limit (past_of limit r) h) ≡ None = accepts_free limit (past_of limit r) h i in
+    let on : block_of (past_of limit r) h ≡ 0 = on_block limit r w seats h Free keeps i in
+    let states : seats ++ Free ∷ [] ≡ states_in limit (Clone h ∷ past_of limit r) =
+        ap (λ old. old ++ Free ∷ []) keeps.states
+        ∙ sym (states_in-push limit (past_of limit r) (Clone h ∷ past_of limit r) _
+        (handles-Clone limit (past_of limit r) h (IsPast-past_of limit r))) in
+    let left : cloned_of limit w ≡ word_left limit (Clone h ∷ past_of limit r) 0 =
+        ap (cloned_of limit) keeps.left
+        ∙ sym (ap (λ b. if b == 0 then cloned_of limit (word_left limit (past_of limit r) 0) else word_left limit (past_of limit r) 0) on) in
+    let born : births (past_of limit r) ≡ length seats =
+        sym (length-states_in limit (past_of limit r)) ∙ ap length (sym keeps.states) in
+    record {
+      keeps = kept limit r w (cloned_of limit w) seats _ (Clone h) keeps (ap is_none open_to) refl left states;
+      ends = record {
+        front = r;
+        ends = refl;
+        accepted = ap is_none open_to;
+        answered = ap (λ o. reply_by o (accepted_answer limit (past_of limit r) (Clone h))) open_to ∙ ap Handle born;
+      };
+    }
+
+pub keeps-leak : (limit : ℕ) (r : List Step) (w : FlagAndCount) (seats : List HandleState) (h : ℕ)
+    → Keeps limit r w seats → slice_get seats h ≡ Some Free
+    → Prolongs limit r (Leak h) Marked (marked_of w) seats
+keeps-leak limit r w seats h keeps seat =
+    let i : IsIn limit (past_of limit r) h Free = seat_is limit r w seats h Free keeps seat in
+    let open_to : unless_free (handle_state limit (past_of limit r) h) ≡ None = accepts_free limit (past_of limit r) h i in
+    let on : block_of (past_of limit r) h ≡ 0 = on_block limit r w seats h Free keeps i in
+    let left : marked_of w ≡ word_left limit (Leak h ∷ past_of limit r) 0 =
+        ap marked_of keeps.left
+        ∙ sym (ap (λ b. if b == 0 then marked_of (word_left limit (past_of limit r) 0) else word_left limit (past_of limit r) 0) on) in
+    record {
+      keeps = kept limit r w (marked_of w) seats seats (Leak h) keeps (ap is_none open_to) refl left keeps.states;
+      ends = record {
+        front = r;
+        ends = refl;
+        accepted = ap is_none open_to;
+        answered = ap (λ o. reply_by o (accepted_answer limit (past_of limit r) (Leak h))) open_to;
+      };
+    }
+
+pub keeps-sub : (limit : ℕ) (r : List Step) (w : FlagAndCount) (seats : List HandleState) (h : ℕ)
+    → Keeps limit r w seats → slice_get seats h ≡ Some Dropping
+    → (0 < w.count)
+    × Prolongs limit r (Sub h) (if is_last w then Owes else Left) (dropped_of w) (set seats h (if is_last w then Owing else Gone))
+keeps-sub limit r w seats h keeps seat =
+    let i : IsIn limit (past_of limit r) h Dropping = seat_is limit r w seats h Dropping keeps seat in
+    let open_to : unless_dropping (handle_state limit (past_of limit r) h) ≡ None =
+        ap unless_dropping (found_in limit (past_of limit r) h Dropping i) in
+    let on : block_of (past_of limit r) h ≡ 0 = on_block limit r w seats h Dropping keeps i in
+    let takes : Subtracts limit (past_of limit r) h w = subtracts limit r w seats h keeps i in
+    let left : dropped_of w ≡ word_left limit (Sub h ∷ past_of limit r) 0 =
+        ap dropped_of keeps.left
+        ∙ sym (ap (λ b. if b == 0 then dropped_of (word_left limit (past_of limit r) 0) else word_left limit (past_of limit r) 0) on) in
+    let states : set seats h (if is_last w then Owing else Gone) ≡ states_in limit (Sub h ∷ past_of limit r) =
+        ap (λ old. set old h (if is_last w then Owing else Gone)) keeps.states
+        ∙ ap (λ b. set (states_in limit (past_of limit r)) h (if b then Owing else Gone)) (sym takes.last)
+        ∙ sym (states_in-set limit (past_of limit r) (Sub h ∷ past_of limit r) h _
+        (handles-Sub limit (past_of limit r) h (IsPast-past_of limit r) (ap is_none open_to))) in
+    (takes.counted,
+    record {
+      keeps = kept limit r w (dropped_of w) seats _ (Sub h) keeps (ap is_none open_to) refl left states;
+      ends = record {
+        front = r;
+        ends = refl;
+        accepted = ap is_none open_to;
+        answered = ap (λ o. reply_by o (accepted_answer limit (past_of limit r) (Sub h))) open_to
+            ∙ ap (λ b. if b then Owes else Left) takes.last;
+      };
+    })
+
+pub keeps-back : (limit : ℕ) (r : List Step) (w : FlagAndCount) (seats : List HandleState) (h : ℕ)
+    → Keeps limit r w seats → slice_get seats h ≡ Some Owing → Prolongs limit r (Back h) Given w (set seats h Gone)
+keeps-back limit r w seats h keeps seat =
+    let i : IsIn limit (past_of limit r) h Owing = seat_is limit r w seats h Owing keeps seat in
+    let open_to : unless_owing (handle_state limit (past_of limit r) h) ≡ None =
+        ap unless_owing (found_in limit (past_of limit r) h Owing i) in
+    let states : set seats h Gone ≡ states_in limit (Back h ∷ past_of limit r) =
+        ap (λ old. set old h Gone) keeps.states
+        ∙ sym (states_in-set limit (past_of limit r) (Back h ∷ past_of limit r) h _
+        (handles-Back limit (past_of limit r) h (ap is_none open_to))) in
+    record {
+      keeps = kept limit r w w seats _ (Back h) keeps (ap is_none open_to) refl keeps.left states;
+      ends = record {
+        front = r;
+        ends = refl;
+        accepted = ap is_none open_to;
+        answered = ap (λ o. reply_by o (accepted_answer limit (past_of limit r) (Back h))) open_to;
+      };
+    }

@@ -1,0 +1,100 @@
+-- Fronts of a history, and the rests of its past.
+use Rattle.std.proofs.Common.{◌≡◌, ℕ, Bool, true, false, if◌then◌else◌, List, [], ◌∷◌, ◌++◌, ◌⊎◌, inl, inr, refl, ◌∙◌, ap, subst, append_assoc}
+use Rattle.std.proofs.lemmas.List.{append-nil}
+use Rattle.arcstr_count.specs.declared.steps.Step.{Step}
+use Rattle.arcstr_count.specs.Answer.{is_accepted}
+use Rattle.arcstr_count.specs.Past.{with_step, past_of}
+use Rattle.arcstr_count.specs.Sentences.{AcceptedWhere}
+use Rattle.arcstr_count.proofs.Pasts.{past_of-step}
+
+-- ---- histories with one more step
+
+further : (P : List Step → Type 0) → ((front : List Step) (s : Step) → P front → P (front ++ s ∷ [])) → (front later : List Step) → P front → P (front ++ later)
+further P step front [] h = rw append-nil h
+further P step front (s ∷ later) h =
+    subst P (append_assoc front (s ∷ []) later) (further P step (front ++ s ∷ []) later (step front s h))
+
+-- what holds of no step, and with each further one, holds of each history
+pub by_steps : (P : List Step → Type 0) → P [] → ((front : List Step) (s : Step) → P front → P (front ++ s ∷ [])) → (history : List Step) → P history
+by_steps P nil step history = further P step [] history nil
+
+pub none_in_nil : (front : List Step) (s : Step) (later : List Step) → [] ≡ front ++ s ∷ later → ⊥
+none_in_nil [] s later e = cc
+none_in_nil (x ∷ front) s later e = cc
+
+-- a step of a history with one more is the last one, or stands in the history
+pub last_or_before : (history : List Step) (x : Step) (front : List Step) (s : Step) (later : List Step) → history ++ x ∷ [] ≡ front ++ s ∷ later
+    → ((x ≡ s) × (history ≡ front) × (later ≡ [])) ⊎ ((rest : List Step) × (history ≡ front ++ s ∷ rest) × (later ≡ rest ++ x ∷ []))
+last_or_before [] x [] s later e = inl (cc, refl, cc)
+last_or_before [] x (y ∷ front) s later e = absurd (none_in_nil front s later (cc))
+last_or_before (y ∷ history) x [] s later e = inr (history, cc, cc)
+last_or_before (y ∷ history) x (z ∷ front) s later e =
+    elim (last_or_before history x front s later (cc)) [ inl w ↦ inl (w.0, cc, w.2) | inr w ↦ inr (w.0, cc, w.2) ]
+
+-- ---- rests of a past
+
+-- the step stands in the past, over a rest of which Q holds
+abbrev pub InPast : List Step → Step → (List Step → Type 0) → Type 0
+InPast [] s Q = ⊥
+InPast (x ∷ p) s Q = ((x ≡ s) × Q p) ⊎ InPast p s Q
+
+InPast-with_step : (limit : ℕ) (p : List Step) (x s : Step) (Q : List Step → Type 0) → InPast p s Q → InPast (with_step limit p x) s Q
+InPast-with_step limit p x s Q h = kept (is_accepted limit p x)
+  where
+    kept : (b : Bool) → InPast (if b then x ∷ p else p) s Q
+    kept true = inr h
+    kept false = h
+
+-- the past of a history that goes on with an accepted step, and with a refused one
+pub past_of-accepted : (limit : ℕ) (front : List Step) (s : Step) → is_accepted limit (past_of limit front) s ≡ true → past_of limit (front ++ s ∷ []) ≡ s ∷ past_of limit front
+past_of-accepted limit front s e = past_of-step limit front s ∙ ap (λ b. if b then s ∷ past_of limit front else past_of limit front) e
+
+pub past_of-refused : (limit : ℕ) (front : List Step) (s : Step) → is_accepted limit (past_of limit front) s ≡ false → past_of limit (front ++ s ∷ []) ≡ past_of limit front
+past_of-refused limit front s e = past_of-step limit front s ∙ ap (λ b. if b then s ∷ past_of limit front else past_of limit front) e
+
+-- ---- between the two
+
+-- an accepted step of a history stands in its past
+pub in_past : (limit : ℕ) (s : Step) (Q : List Step → Type 0) (history : List Step) → AcceptedWhere limit history s (λ front. Q (past_of limit front)) → InPast (past_of limit history) s Q
+in_past limit s Q = by_steps (λ history. AcceptedWhere limit history s (λ front. Q (past_of limit front)) → InPast (past_of limit history) s Q)
+    (λ w. absurd (none_in_nil w.front s w.later w.stands))
+    step
+  where
+    step : (front : List Step) (x : Step) → (AcceptedWhere limit front s (λ q. Q (past_of limit q)) → InPast (past_of limit front) s Q)
+        → AcceptedWhere limit (front ++ x ∷ []) s (λ q. Q (past_of limit q)) → InPast (past_of limit (front ++ x ∷ [])) s Q
+    step front x before w = elim (last_or_before front x w.front s w.later w.stands) [
+      | inl e ↦ (let accepted : is_accepted limit (past_of limit front) x ≡ true = rw (e.0, e.1) w.accepted in
+          rw (past_of-accepted limit front x accepted) (inl (e.0, rw (e.1) w.there)))
+      | inr e ↦ rw (past_of-step limit front x) (InPast-with_step limit (past_of limit front) x s Q
+          (before (record { front = w.front; later = e.0; stands = e.1; accepted = w.accepted; there = w.there })))
+    ]
+
+-- an accepted step of a history stands in the history with one more step
+pub AcceptedWhere-more : (limit : ℕ) (history : List Step) (s x : Step) (P : List Step → Type 0) → AcceptedWhere limit history s P → AcceptedWhere limit (history ++ x ∷ []) s P
+AcceptedWhere-more limit history s x P w = record {
+  front = w.front;
+  later = w.later ++ x ∷ [];
+  stands = ap (λ t. t ++ x ∷ []) w.stands ∙ append_assoc w.front (s ∷ w.later) (x ∷ []);
+  accepted = w.accepted;
+  there = w.there;
+}
+
+-- a step of the past of a history is an accepted one of the history
+pub in_history : (limit : ℕ) (s : Step) (Q : List Step → Type 0) (history : List Step) → InPast (past_of limit history) s Q → AcceptedWhere limit history s (λ front. Q (past_of limit front))
+in_history limit s Q = by_steps (λ history. InPast (past_of limit history) s Q → AcceptedWhere limit history s (λ front. Q (past_of limit front)))
+    (λ h. absurd h)
+    step
+  where
+    step : (front : List Step) (x : Step) → (InPast (past_of limit front) s Q → AcceptedWhere limit front s (λ q. Q (past_of limit q)))
+        → InPast (past_of limit (front ++ x ∷ [])) s Q → AcceptedWhere limit (front ++ x ∷ []) s (λ q. Q (past_of limit q))
+    step front x before h = go (is_accepted limit (past_of limit front) x) refl
+      where
+        more : AcceptedWhere limit front s (λ q. Q (past_of limit q)) → AcceptedWhere limit (front ++ x ∷ []) s (λ q. Q (past_of limit q))
+        more w = AcceptedWhere-more limit front s x (λ q. Q (past_of limit q)) w
+
+        go : (b : Bool) → is_accepted limit (past_of limit front) x ≡ b → AcceptedWhere limit (front ++ x ∷ []) s (λ q. Q (past_of limit q))
+        go true e = elim (rw (past_of-accepted limit front x e) at h) [
+          | inl w ↦ record { front = front; later = []; stands = ap (λ t. front ++ t ∷ []) w.0; accepted = rw (w.0) at e; there = w.1 }
+          | inr r ↦ more (before r)
+        ]
+        go false e = more (before (rw (past_of-refused limit front x e) at h))

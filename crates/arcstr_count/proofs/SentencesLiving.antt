@@ -1,0 +1,180 @@
+-- The handles that live on a block, and those whose drops are under way, as sentences on single handles.
+use Rattle.std.proofs.Common.{◌≡◌, ◌≢◌, ◌↔◌, ℕ, zero, suc, ◌+◌, ◌<◌, Bool, true, false, ◌&&◌, ◌==◌, if◌then◌else◌, Some, List, [], ◌∷◌, length, filter, slice_index, Contains, ◌⊎◌, inl, inr, refl, sym, ◌∙◌, subst, arith}
+use Rattle.std.specs.List.Sorted.{IsStrictlyIncreasing}
+use Rattle.std.proofs.lemmas.Bool.{and_parts, and_from, eqb-true, eq-eqb, cases_order}
+use Rattle.std.proofs.lemmas.List.{length_push, get_or_append_left, get_or_push}
+use Rattle.std.proofs.lemmas.List.Elements.{Contains-append_left, Contains-append_right, Contains-push, Contains-push_cases, Contains-append_cases, filter-append}
+use Rattle.std.proofs.lemmas.List.Kept.{IsStrictlyIncreasing-filter}
+use Rattle.arcstr_count.specs.declared.steps.Step.{Step}
+use Rattle.arcstr_count.specs.declared.steps.HandleState.{HandleState}
+use Rattle.arcstr_count.specs.declared.steps.HandleState.TheVariants.{Free, Raw, Dropping, Owing, Gone}
+use Rattle.arcstr_count.specs.History.{births, block_of, lives, numbers_below}
+use Rattle.arcstr_count.specs.Marks.{state_of, living}
+use Rattle.arcstr_count.specs.Answer.{handle_state}
+use Rattle.arcstr_count.specs.Past.{past_of}
+use Rattle.arcstr_count.specs.Left.{is_dropping, is_owing}
+use Rattle.arcstr_count.specs.After.{living_after, dropping_after, owing_after}
+use Rattle.arcstr_count.specs.Sentences.{block_after, state_after, LivingSentence, UnderWaySentence}
+use Rattle.arcstr_count.proofs.SentencesTable.{handle_state_sentence}
+use Rattle.arcstr_count.proofs.Tables.{length-numbers_below}
+use Rattle.arcstr_count.proofs.Counting.{contains_passing}
+
+-- ---- the numbers below another
+
+numbers_below-at : (n k : ℕ) → k < n → slice_index (numbers_below n) k ≡ k
+numbers_below-at zero k lt = absurd (omega arith)
+numbers_below-at (suc n) k lt = elim (cases_order k n) [
+  | inl same ↦ get_or_push (numbers_below n) n 0 k (length-numbers_below n ∙ sym same) ∙ sym same
+  | inr other ↦ elim other [
+    | inl below ↦ (let within : k < length (numbers_below n) = omega (arith, length-numbers_below n) in
+        get_or_append_left (numbers_below n) (n ∷ []) 0 k within ∙ numbers_below-at n k below)
+    | inr above ↦ absurd (omega arith)
+  ]
+]
+
+numbers_below-rising : (n : ℕ) → IsStrictlyIncreasing (numbers_below n)
+numbers_below-rising n k lt =
+    let first : slice_index (numbers_below n) k ≡ k = numbers_below-at n k (omega (arith, length-numbers_below n)) in
+    let next : slice_index (numbers_below n) (k + 1) ≡ k + 1 = numbers_below-at n (k + 1) (omega (arith, length-numbers_below n)) in
+    omega arith
+
+-- ---- those of them that pass a test
+
+filter_one : (test : ℕ → Bool) (n h : ℕ) → Contains (filter test (n ∷ [])) h → (n ≡ h) × (test n ≡ true)
+filter_one test n h c = go (test n) refl c
+  where
+    go : (b : Bool) → test n ≡ b → Contains (if b then n ∷ [] else []) h → (n ≡ h) × (test n ≡ true)
+    go true e w = elim (Contains-push_cases [] n h w) [ inl none ↦ absurd (omega (arith, none.1)) | inr same ↦ (same, e) ]
+    go false e w = absurd (omega (arith, w.1))
+
+one_passes : (test : ℕ → Bool) (n h : ℕ) → n ≡ h → test h ≡ true → Contains (filter test (n ∷ [])) h
+one_passes test n h same e = subst (λ k. Contains (filter test (k ∷ [])) h) (sym same)
+    (subst (λ b. Contains (if b then h ∷ [] else []) h) (sym e) (Contains-push [] h))
+
+passing_below : (test : ℕ → Bool) (n h : ℕ) → Contains (filter test (numbers_below n)) h → (h < n) × (test h ≡ true)
+passing_below test zero h c = absurd (omega (arith, c.1))
+passing_below test (suc n) h c = elim (Contains-append_cases (filter test (numbers_below n)) (filter test (n ∷ [])) h (rw (filter-append test (numbers_below n) (n ∷ [])) at c)) [
+  | inl w ↦ (let before = passing_below test n h w in (omega (arith, before.0), before.1))
+  | inr w ↦ (let last = filter_one test n h w in (omega (arith, last.0), subst (λ k. test k ≡ true) last.0 last.1))
+]
+
+pub passing_sentence : (test : ℕ → Bool) (n h : ℕ) → Contains (filter test (numbers_below n)) h ↔ ((h < n) × (test h ≡ true))
+passing_sentence test n h = (passing_below test n h, (λ w. contains_passing test n h w.0 w.1))
+
+pub passing_rising : (test : ℕ → Bool) (n : ℕ) → IsStrictlyIncreasing (filter test (numbers_below n))
+passing_rising test n = IsStrictlyIncreasing-filter test (numbers_below n) (numbers_below-rising n)
+
+-- ---- living
+
+lives_cases : (s : HandleState) → lives s ≡ true → (s ≡ Free) ⊎ ((s ≡ Raw) ⊎ (s ≡ Dropping))
+lives_cases Free e = inl refl
+lives_cases Raw e = inr (inl refl)
+lives_cases Dropping e = inr (inr refl)
+lives_cases Owing e = absurd (cc)
+lives_cases Gone e = absurd (cc)
+
+module _ (limit : ℕ) (p : List Step) (h : ℕ) where
+  born_in : (s : HandleState) → handle_state limit p h ≡ Some s → (h < births p) × (state_of limit p h ≡ s)
+  born_in s = (handle_state_sentence limit p h s).0
+
+  in_state : (s : HandleState) → h < births p → state_of limit p h ≡ s → handle_state limit p h ≡ Some s
+  in_state s lt e = (handle_state_sentence limit p h s).1 (lt, e)
+
+  -- a handle that was born and whose state passes a test
+  passes_at : (test : HandleState → Bool) (s : HandleState) → test s ≡ true → handle_state limit p h ≡ Some s
+      → (h < births p) × (test (state_of limit p h) ≡ true)
+  passes_at test s e w = let at = born_in s w in (at.0, rw (at.1) e)
+
+  members : (test : HandleState → Bool) (b : ℕ) → Contains (filter (λ k. (block_of p k == b) && test (state_of limit p k)) (numbers_below (births p))) h
+      ↔ ((h < births p) × (block_of p h ≡ b) × (test (state_of limit p h) ≡ true))
+  members test b = (
+    (λ c. let w = (passing_sentence (λ k. (block_of p k == b) && test (state_of limit p k)) (births p) h).0 c in
+        let parts = and_parts (block_of p h == b) (test (state_of limit p h)) w.1 in
+        (w.0, eqb-true (block_of p h) b parts.0, parts.1)),
+    (λ w. (passing_sentence (λ k. (block_of p k == b) && test (state_of limit p k)) (births p) h).1
+        (w.0, and_from (block_of p h == b) (test (state_of limit p h)) (eq-eqb (block_of p h) b w.1) w.2)),
+  )
+
+  to_living : (b : ℕ) → Contains (living limit p b) h → (block_of p h ≡ b)
+      × ((handle_state limit p h ≡ Some Free) ⊎ ((handle_state limit p h ≡ Some Raw) ⊎ (handle_state limit p h ≡ Some Dropping)))
+  to_living b c = let w = (members lives b).0 c in (
+    w.1,
+    elim (lives_cases (state_of limit p h) w.2) [
+      | inl e ↦ inl (in_state Free w.0 e)
+      | inr other ↦ elim other [ inl e ↦ inr (inl (in_state Raw w.0 e)) | inr e ↦ inr (inr (in_state Dropping w.0 e)) ]
+    ],
+  )
+
+  alive : (handle_state limit p h ≡ Some Free) ⊎ ((handle_state limit p h ≡ Some Raw) ⊎ (handle_state limit p h ≡ Some Dropping))
+      → (h < births p) × (lives (state_of limit p h) ≡ true)
+  alive (inl e) = passes_at lives Free refl e
+  alive (inr (inl e)) = passes_at lives Raw refl e
+  alive (inr (inr e)) = passes_at lives Dropping refl e
+
+  from_living : (b : ℕ) → (block_of p h ≡ b)
+      × ((handle_state limit p h ≡ Some Free) ⊎ ((handle_state limit p h ≡ Some Raw) ⊎ (handle_state limit p h ≡ Some Dropping)))
+      → Contains (living limit p b) h
+  from_living b w = let a = alive w.1 in (members lives b).1 (a.0, w.0, a.1)
+
+pub living_sentence : (limit : ℕ) (history : List Step) (b h : ℕ) → Contains (living_after limit history b) h ↔ LivingSentence limit history b h
+living_sentence limit history b h = (to_living limit (past_of limit history) h b, from_living limit (past_of limit history) h b)
+
+pub living_rising : (limit : ℕ) (history : List Step) (b : ℕ) → IsStrictlyIncreasing (living_after limit history b)
+living_rising limit history b = passing_rising
+    (λ h. (block_of (past_of limit history) h == b) && lives (state_of limit (past_of limit history) h)) (births (past_of limit history))
+
+-- ---- a drop under way
+
+is_dropping-true : (s : HandleState) → is_dropping s ≡ true → s ≡ Dropping
+is_dropping-true Free e = cc
+is_dropping-true Raw e = cc
+is_dropping-true Dropping e = refl
+is_dropping-true Owing e = cc
+is_dropping-true Gone e = cc
+
+is_owing-true : (s : HandleState) → is_owing s ≡ true → s ≡ Owing
+is_owing-true Free e = cc
+is_owing-true Raw e = cc
+is_owing-true Dropping e = cc
+is_owing-true Owing e = refl
+is_owing-true Gone e = cc
+
+pub dropping_sentence : (limit : ℕ) (history : List Step) (b h : ℕ) → Contains (dropping_after limit history b) h
+    ↔ ((block_after limit history h ≡ b) × (state_after limit history h ≡ Some Dropping))
+dropping_sentence limit history b h = (
+  (λ c. let w = (members limit (past_of limit history) h is_dropping b).0 c in
+      (w.1, in_state limit (past_of limit history) h Dropping w.0 (is_dropping-true (state_of limit (past_of limit history) h) w.2))),
+  (λ w. let a = passes_at limit (past_of limit history) h is_dropping Dropping refl w.1 in
+      (members limit (past_of limit history) h is_dropping b).1 (a.0, w.0, a.1)),
+)
+
+pub owing_sentence : (limit : ℕ) (history : List Step) (b h : ℕ) → Contains (owing_after limit history b) h
+    ↔ ((block_after limit history h ≡ b) × (state_after limit history h ≡ Some Owing))
+owing_sentence limit history b h = (
+  (λ c. let w = (members limit (past_of limit history) h is_owing b).0 c in
+      (w.1, in_state limit (past_of limit history) h Owing w.0 (is_owing-true (state_of limit (past_of limit history) h) w.2))),
+  (λ w. let a = passes_at limit (past_of limit history) h is_owing Owing refl w.1 in
+      (members limit (past_of limit history) h is_owing b).1 (a.0, w.0, a.1)),
+)
+
+not_empty : (xs : List ℕ) (h : ℕ) → Contains xs h → xs ≢ []
+not_empty xs h c e = let none : Contains [] h = subst (λ ys. Contains ys h) e c in absurd (omega (arith, none.1))
+
+some_member : (xs : List ℕ) → xs ≢ [] → (h : ℕ) × Contains xs h
+some_member [] n = absurd (n refl)
+some_member (x ∷ xs) n = (x, Contains-append_left (x ∷ []) xs x (Contains-push [] x))
+
+pub under_way_sentence : (limit : ℕ) (history : List Step) (b : ℕ)
+    → ((dropping_after limit history b ≢ []) ⊎ (owing_after limit history b ≢ [])) ↔ UnderWaySentence limit history b
+under_way_sentence limit history b = (
+  elim [
+    | inl some ↦ (let m = some_member (dropping_after limit history b) some in
+        let w = (dropping_sentence limit history b m.0).0 m.1 in (m.0, w.0, inl w.1))
+    | inr some ↦ (let m = some_member (owing_after limit history b) some in
+        let w = (owing_sentence limit history b m.0).0 m.1 in (m.0, w.0, inr w.1))
+  ],
+  (λ w. elim w.2 [
+    | inl e ↦ inl (not_empty (dropping_after limit history b) w.0 ((dropping_sentence limit history b w.0).1 (w.1, e)))
+    | inr e ↦ inr (not_empty (owing_after limit history b) w.0 ((owing_sentence limit history b w.0).1 (w.1, e)))
+  ]),
+)

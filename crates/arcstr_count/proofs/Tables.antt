@@ -1,0 +1,334 @@
+-- How the tables of a past, of its handles, blocks and words, follow from those of the steps before.
+use Rattle.std.proofs.Common.{◌≡◌, ◌≢◌, ℕ, zero, suc, ◌+◌, ◌<◌, ◌≤◌, Bool, true, false, not, ◌&&◌, ◌||◌, ◌==◌, nat_lt, if◌then◌else◌, List, [], ◌∷◌, ◌++◌, map, length, get_or, set, refl, sym, ◌∙◌, ap, ◌⊎◌, inl, inr, arith, ne_eqb, eq-eqb}
+use Rattle.std.proofs.lemmas.List.{map_push, length-map, length_push, set_at, set-append_left, get_or_push, get_or_append_left}
+use Rattle.std.proofs.lemmas.Bool.{cases_eq}
+use Rattle.arcstr_count.specs.declared.steps.Step.{Step}
+use Rattle.arcstr_count.specs.declared.steps.Step.TheVariants.{Make, Look, Clone, Begin, Sub, Back, Leak, IntoRaw, FromRaw}
+use Rattle.arcstr_count.specs.declared.steps.HandleState.{HandleState}
+use Rattle.arcstr_count.specs.declared.steps.HandleState.TheVariants.{Free, Raw, Dropping, Owing, Gone}
+use Rattle.arcstr_count.specs.declared.steps.HandleSummary.{HandleSummary}
+use Rattle.arcstr_count.specs.Word.{FlagAndCount, fresh_word, cloned_of, dropped_of, marked_of}
+use Rattle.arcstr_count.specs.History.{makes, births, block_of, numbers_below}
+use Rattle.arcstr_count.specs.Marks.{is_marked, living, is_only}
+use Rattle.arcstr_count.specs.Answer.{is_accepted}
+use Rattle.arcstr_count.specs.Past.{IsPast, times_given}
+use Rattle.arcstr_count.specs.Left.{word_left}
+use Rattle.arcstr_count.specs.Summary.{BlockSummary, handle_summary, block_summary, handles_of, blocks_of, words_left}
+use Rattle.arcstr_count.proofs.LawsOfHandles.{ChangesOne, Begin-changes, Sub-changes, Back-changes, IntoRaw-changes, FromRaw-changes, Clone-finds, Sub-finds, Back-finds, Leak-finds, state-born, block-Make, block-Make_other, block-Clone, block-Clone_other, block_made}
+
+-- ---- tables of a function of the numbers below n
+
+pub length-numbers_below : (n : ℕ) → length (numbers_below n) ≡ n
+length-numbers_below zero = refl
+length-numbers_below (suc n) = let before = length-numbers_below n in omega (arith, length_push (numbers_below n) n)
+
+length-table : {X : Type 0} (f : ℕ → X) (n : ℕ) → length (map f (numbers_below n)) ≡ n
+length-table f n = length-map (numbers_below n) f ∙ length-numbers_below n
+
+table-push : {X : Type 0} (f : ℕ → X) (n : ℕ) → map f (numbers_below (suc n)) ≡ map f (numbers_below n) ++ f n ∷ []
+table-push f n = map_push f (numbers_below n) n
+
+-- the entry at a number
+table-at : {X : Type 0} (f : ℕ → X) (n i : ℕ) (d : X) → i < n → get_or (map f (numbers_below n)) i d ≡ f i
+table-at f zero i d below = absurd (omega arith)
+table-at f (suc n) i d below = by_place (cases_eq i n) (λ inner. table-at f n i d inner)
+  where
+    by_place : (i ≡ n) ⊎ (i ≢ n) → (i < n → get_or (map f (numbers_below n)) i d ≡ f i)
+        → get_or (map f (numbers_below (suc n))) i d ≡ f i
+    by_place (inl last) earlier =
+        rw (table-push f n, get_or_push (map f (numbers_below n)) (f n) d i (length-table f n ∙ sym last), last) refl
+    by_place (inr inner) earlier =
+        let lower : i < n = omega arith in
+        let within : i < length (map f (numbers_below n)) = rw (length-table f n) lower in
+        rw (table-push f n, get_or_append_left (map f (numbers_below n)) (f n ∷ []) d i within) (earlier lower)
+
+-- two functions that agree have one table
+table-same : {X : Type 0} (f g : ℕ → X) (n : ℕ) → ((k : ℕ) → k < n → g k ≡ f k) → map g (numbers_below n) ≡ map f (numbers_below n)
+table-same f g zero agree = refl
+table-same f g (suc n) agree =
+    let before = table-same f g n (λ k below. agree k (omega arith)) in
+    let here = agree n (omega arith) in
+    rw (table-push g n, table-push f n, before, here) refl
+
+-- one more number
+table-more : {X : Type 0} (f g : ℕ → X) (n : ℕ) (x : X) → ((k : ℕ) → k < n → g k ≡ f k) → g n ≡ x
+    → map g (numbers_below (suc n)) ≡ map f (numbers_below n) ++ x ∷ []
+table-more f g n x agree here = rw (table-push g n, table-same f g n agree, here) refl
+
+-- two functions that agree at all numbers but one
+table-set : {X : Type 0} (f g : ℕ → X) (n i : ℕ) (x : X) → i < n → ((k : ℕ) → k ≢ i → g k ≡ f k) → g i ≡ x
+    → map g (numbers_below n) ≡ set (map f (numbers_below n)) i x
+table-set f g zero i x below agree here = absurd (omega arith)
+table-set f g (suc n) i x below agree here =
+    by_place (cases_eq i n) (λ inner. table-set f g n i x inner agree here)
+  where
+    by_place : (i ≡ n) ⊎ (i ≢ n) → (i < n → map g (numbers_below n) ≡ set (map f (numbers_below n)) i x)
+        → map g (numbers_below (suc n)) ≡ set (map f (numbers_below (suc n))) i x
+    by_place (inl last) earlier =
+        let front = table-same f g n (λ k lower. agree k (λ same. omega arith)) in
+        let value : g n ≡ x = ap g (sym last) ∙ here in
+        rw (table-push f n, set_at (map f (numbers_below n)) (f n) [] x i (length-table f n ∙ sym last), table-push g n, front, value) refl
+    by_place (inr inner) earlier =
+        let lower : i < n = omega arith in
+        let within : i < length (map f (numbers_below n)) = rw (length-table f n) lower in
+        let value : g n ≡ f n = agree n (λ same. inner (sym same)) in
+        rw (table-push f n, set-append_left (map f (numbers_below n)) (f n ∷ []) i x within, table-push g n, earlier lower, value) refl
+
+-- ---- handles
+
+handle_is : {b c : ℕ} {s t : HandleState} → b ≡ c → s ≡ t
+    → ◌≡◌ {A = HandleSummary} (record { block = b; state = s }) (record { block = c; state = t })
+handle_is block state = λ i. record { block = block i; state = state i }
+
+pub length-handles_of : (limit : ℕ) (p : List Step) → length (handles_of limit p) ≡ births p
+length-handles_of limit p = length-table (λ h. handle_summary limit p h) (births p)
+
+pub handle_at : (limit : ℕ) (p : List Step) (h : ℕ) (d : HandleSummary) → h < births p
+    → get_or (handles_of limit p) h d ≡ handle_summary limit p h
+handle_at limit p h d born = table-at (λ k. handle_summary limit p k) (births p) h d born
+
+-- a step that changes the state of one handle writes its entry
+handles-set : (limit : ℕ) (p : List Step) (s : Step) (h : ℕ) (old new : HandleState) → ChangesOne limit p s h old new
+    → map (λ k. handle_summary limit (s ∷ p) k) (numbers_below (births p))
+    ≡ set (handles_of limit p) h (record { block = block_of p h; state = new })
+handles-set limit p s h old new c =
+    table-set (λ k. handle_summary limit p k) (λ k. handle_summary limit (s ∷ p) k) (births p) h
+    (record { block = block_of p h; state = new }) c.found.born
+    (λ k apart. handle_is (c.blocks k) (c.others k apart)) (handle_is (c.blocks h) c.left)
+
+pub handles-Make : (limit : ℕ) (p : List Step) → IsPast limit p
+    → handles_of limit (Make ∷ p) ≡ handles_of limit p ++ record { block = makes p; state = Free } ∷ []
+handles-Make limit p past =
+    table-more (λ k. handle_summary limit p k) (λ k. handle_summary limit (Make ∷ p) k) (births p)
+    (record { block = makes p; state = Free })
+    (λ k born. handle_is (block-Make_other p k born) refl) (handle_is (block-Make p) (state-born limit p past))
+
+pub handles-Clone : (limit : ℕ) (p : List Step) (h : ℕ) → IsPast limit p
+    → handles_of limit (Clone h ∷ p) ≡ handles_of limit p ++ record { block = block_of p h; state = Free } ∷ []
+handles-Clone limit p h past =
+    table-more (λ k. handle_summary limit p k) (λ k. handle_summary limit (Clone h ∷ p) k) (births p)
+    (record { block = block_of p h; state = Free })
+    (λ k born. handle_is (block-Clone_other p h k born) refl) (handle_is (block-Clone p h) (state-born limit p past))
+
+pub handles-Look : (limit : ℕ) (p : List Step) (h : ℕ) → handles_of limit (Look h ∷ p) ≡ handles_of limit p
+handles-Look limit p h = refl
+
+pub handles-Leak : (limit : ℕ) (p : List Step) (h : ℕ) → handles_of limit (Leak h ∷ p) ≡ handles_of limit p
+handles-Leak limit p h = refl
+
+pub handles-Begin : (limit : ℕ) (p : List Step) (h : ℕ) → IsPast limit p → is_accepted limit p (Begin h) ≡ true
+    → handles_of limit (Begin h ∷ p)
+    ≡ set (handles_of limit p) h (record { block = block_of p h; state = if is_marked limit p (block_of p h) then Gone else Dropping })
+handles-Begin limit p h past a = handles-set limit p (Begin h) h _ _ (Begin-changes limit p h past a)
+
+pub handles-Sub : (limit : ℕ) (p : List Step) (h : ℕ) → IsPast limit p → is_accepted limit p (Sub h) ≡ true
+    → handles_of limit (Sub h ∷ p)
+    ≡ set (handles_of limit p) h (record {
+      block = block_of p h;
+      state =
+          if not (is_marked limit p (block_of p h)) && is_only h (living limit p (block_of p h)) then Owing else Gone;
+    })
+handles-Sub limit p h past a = handles-set limit p (Sub h) h _ _ (Sub-changes limit p h past a)
+
+pub handles-Back : (limit : ℕ) (p : List Step) (h : ℕ) → is_accepted limit p (Back h) ≡ true
+    → handles_of limit (Back h ∷ p) ≡ set (handles_of limit p) h (record { block = block_of p h; state = Gone })
+handles-Back limit p h a = handles-set limit p (Back h) h _ _ (Back-changes limit p h a)
+
+pub handles-IntoRaw : (limit : ℕ) (p : List Step) (h : ℕ) → is_accepted limit p (IntoRaw h) ≡ true
+    → handles_of limit (IntoRaw h ∷ p) ≡ set (handles_of limit p) h (record { block = block_of p h; state = Raw })
+handles-IntoRaw limit p h a = handles-set limit p (IntoRaw h) h _ _ (IntoRaw-changes limit p h a)
+
+pub handles-FromRaw : (limit : ℕ) (p : List Step) (h : ℕ) → IsPast limit p → is_accepted limit p (FromRaw h) ≡ true
+    → handles_of limit (FromRaw h ∷ p) ≡ set (handles_of limit p) h (record { block = block_of p h; state = Free })
+handles-FromRaw limit p h past a = handles-set limit p (FromRaw h) h _ _ (FromRaw-changes limit p h past a)
+
+-- ---- blocks
+
+block_is : {m n : Bool} {g k : ℕ} → m ≡ n → g ≡ k
+    → ◌≡◌ {A = BlockSummary} (record { marked = m; given = g }) (record { marked = n; given = k })
+block_is marked given = λ i. record { marked = marked i; given = given i }
+
+pub length-blocks_of : (limit : ℕ) (p : List Step) → length (blocks_of limit p) ≡ makes p
+length-blocks_of limit p = length-table (λ b. block_summary limit p b) (makes p)
+
+pub block_at : (limit : ℕ) (p : List Step) (b : ℕ) (d : BlockSummary) → b < makes p
+    → get_or (blocks_of limit p) b d ≡ block_summary limit p b
+block_at limit p b d made = table-at (λ c. block_summary limit p c) (makes p) b d made
+
+-- a handle stands on no block that is not yet made
+other_block : (limit : ℕ) (p : List Step) (h b : ℕ) → IsPast limit p → h < births p → makes p ≤ b → (block_of p h == b) ≡ false
+other_block limit p h b past born unmade =
+    let made = block_made limit p h past born in
+    ne_eqb (block_of p h) b (λ same. omega arith)
+
+-- no step of a past acts on a block that is not yet made
+pub unmade_block : (limit : ℕ) (p : List Step) (b : ℕ) → IsPast limit p → makes p ≤ b
+    → (is_marked limit p b ≡ false) × (times_given p b ≡ 0)
+unmade_block limit [] b past unmade = (refl, refl)
+unmade_block limit (Make ∷ p) b past unmade = unmade_block limit p b past.1 (omega arith)
+unmade_block limit (Look h ∷ p) b past unmade = unmade_block limit p b past.1 unmade
+unmade_block limit (Clone h ∷ p) b past unmade =
+    let before = unmade_block limit p b past.1 unmade in
+    let elsewhere = other_block limit p h b past.1 (Clone-finds limit p h past.0).born unmade in
+    (rw (before.0, elsewhere) refl, before.1)
+unmade_block limit (Begin h ∷ p) b past unmade = unmade_block limit p b past.1 unmade
+unmade_block limit (Sub h ∷ p) b past unmade = unmade_block limit p b past.1 unmade
+unmade_block limit (Back h ∷ p) b past unmade =
+    let before = unmade_block limit p b past.1 unmade in
+    let elsewhere = other_block limit p h b past.1 (Back-finds limit p h past.0).born unmade in
+    (before.0, rw (elsewhere) before.1)
+unmade_block limit (Leak h ∷ p) b past unmade =
+    let before = unmade_block limit p b past.1 unmade in
+    let elsewhere = other_block limit p h b past.1 (Leak-finds limit p h past.0).born unmade in
+    (rw (before.0, elsewhere) refl, before.1)
+unmade_block limit (IntoRaw h ∷ p) b past unmade = unmade_block limit p b past.1 unmade
+unmade_block limit (FromRaw h ∷ p) b past unmade = unmade_block limit p b past.1 unmade
+
+or_false : (m : Bool) → (m || false) ≡ m
+or_false true = refl
+or_false false = refl
+
+other_test : (b c : ℕ) → c ≢ b → (b == c) ≡ false
+other_test b c apart = ne_eqb b c (λ same. apart (sym same))
+
+same_test : (b : ℕ) → (b == b) ≡ true
+same_test b = eq-eqb b b refl
+
+pub blocks-Make : (limit : ℕ) (p : List Step) → IsPast limit p
+    → blocks_of limit (Make ∷ p) ≡ blocks_of limit p ++ record { marked = false; given = 0 } ∷ []
+blocks-Make limit p past =
+    let unmade = unmade_block limit p (makes p) past (omega arith) in
+    table-more (λ b. block_summary limit p b) (λ b. block_summary limit (Make ∷ p) b) (makes p)
+    (record { marked = false; given = 0 }) (λ b made. refl) (block_is unmade.0 unmade.1)
+
+pub blocks-Look : (limit : ℕ) (p : List Step) (h : ℕ) → blocks_of limit (Look h ∷ p) ≡ blocks_of limit p
+blocks-Look limit p h = refl
+
+-- the mark that a clone leaves on its block
+pub marked-Clone : (limit : ℕ) (p : List Step) (h : ℕ)
+    → is_marked limit (Clone h ∷ p) (block_of p h)
+    ≡ (is_marked limit p (block_of p h) || nat_lt limit (length (living limit p (block_of p h))))
+marked-Clone limit p h = rw (same_test (block_of p h)) refl
+
+pub marked-Clone_other : (limit : ℕ) (p : List Step) (h b : ℕ) → b ≢ block_of p h
+    → is_marked limit (Clone h ∷ p) b ≡ is_marked limit p b
+marked-Clone_other limit p h b apart = rw (other_test (block_of p h) b apart) (or_false (is_marked limit p b))
+
+pub blocks-Clone : (limit : ℕ) (p : List Step) (h : ℕ) → IsPast limit p → is_accepted limit p (Clone h) ≡ true
+    → blocks_of limit (Clone h ∷ p) ≡ set (blocks_of limit p) (block_of p h) (record {
+      marked = is_marked limit p (block_of p h) || nat_lt limit (length (living limit p (block_of p h)));
+      given = times_given p (block_of p h);
+    })
+blocks-Clone limit p h past a =
+    table-set (λ b. block_summary limit p b) (λ b. block_summary limit (Clone h ∷ p) b) (makes p) (block_of p h)
+    (record {
+      marked = is_marked limit p (block_of p h) || nat_lt limit (length (living limit p (block_of p h)));
+      given = times_given p (block_of p h);
+    })
+    (block_made limit p h past (Clone-finds limit p h a).born)
+    (λ b apart. block_is (marked-Clone_other limit p h b apart) refl) (block_is (marked-Clone limit p h) refl)
+
+pub blocks-Begin : (limit : ℕ) (p : List Step) (h : ℕ) → blocks_of limit (Begin h ∷ p) ≡ blocks_of limit p
+blocks-Begin limit p h = refl
+
+pub blocks-Sub : (limit : ℕ) (p : List Step) (h : ℕ) → blocks_of limit (Sub h ∷ p) ≡ blocks_of limit p
+blocks-Sub limit p h = refl
+
+pub given-Back : (p : List Step) (h : ℕ) → times_given (Back h ∷ p) (block_of p h) ≡ times_given p (block_of p h) + 1
+given-Back p h = rw (same_test (block_of p h)) (omega arith)
+
+pub given-Back_other : (p : List Step) (h b : ℕ) → b ≢ block_of p h → times_given (Back h ∷ p) b ≡ times_given p b
+given-Back_other p h b apart = rw (other_test (block_of p h) b apart) refl
+
+pub blocks-Back : (limit : ℕ) (p : List Step) (h : ℕ) → IsPast limit p → is_accepted limit p (Back h) ≡ true
+    → blocks_of limit (Back h ∷ p) ≡ set (blocks_of limit p) (block_of p h) (record {
+      marked = is_marked limit p (block_of p h);
+      given = times_given p (block_of p h) + 1;
+    })
+blocks-Back limit p h past a =
+    table-set (λ b. block_summary limit p b) (λ b. block_summary limit (Back h ∷ p) b) (makes p) (block_of p h)
+    (record { marked = is_marked limit p (block_of p h); given = times_given p (block_of p h) + 1 })
+    (block_made limit p h past (Back-finds limit p h a).born)
+    (λ b apart. block_is refl (given-Back_other p h b apart)) (block_is refl (given-Back p h))
+
+pub marked-Leak : (limit : ℕ) (p : List Step) (h : ℕ) → is_marked limit (Leak h ∷ p) (block_of p h) ≡ true
+marked-Leak limit p h = rw (same_test (block_of p h)) refl
+
+pub marked-Leak_other : (limit : ℕ) (p : List Step) (h b : ℕ) → b ≢ block_of p h
+    → is_marked limit (Leak h ∷ p) b ≡ is_marked limit p b
+marked-Leak_other limit p h b apart = rw (other_test (block_of p h) b apart) refl
+
+pub blocks-Leak : (limit : ℕ) (p : List Step) (h : ℕ) → IsPast limit p → is_accepted limit p (Leak h) ≡ true
+    → blocks_of limit (Leak h ∷ p) ≡ set (blocks_of limit p) (block_of p h) (record {
+      marked = true;
+      given = times_given p (block_of p h);
+    })
+blocks-Leak limit p h past a =
+    table-set (λ b. block_summary limit p b) (λ b. block_summary limit (Leak h ∷ p) b) (makes p) (block_of p h)
+    (record { marked = true; given = times_given p (block_of p h) })
+    (block_made limit p h past (Leak-finds limit p h a).born)
+    (λ b apart. block_is (marked-Leak_other limit p h b apart) refl) (block_is (marked-Leak limit p h) refl)
+
+pub blocks-IntoRaw : (limit : ℕ) (p : List Step) (h : ℕ) → blocks_of limit (IntoRaw h ∷ p) ≡ blocks_of limit p
+blocks-IntoRaw limit p h = refl
+
+pub blocks-FromRaw : (limit : ℕ) (p : List Step) (h : ℕ) → blocks_of limit (FromRaw h ∷ p) ≡ blocks_of limit p
+blocks-FromRaw limit p h = refl
+
+-- ---- words
+
+pub length-words_left : (limit : ℕ) (p : List Step) → length (words_left limit p) ≡ makes p
+length-words_left limit p = length-table (λ b. word_left limit p b) (makes p)
+
+pub word_at : (limit : ℕ) (p : List Step) (b : ℕ) (d : FlagAndCount) → b < makes p
+    → get_or (words_left limit p) b d ≡ word_left limit p b
+word_at limit p b d made = table-at (λ c. word_left limit p c) (makes p) b d made
+
+pub words-Make : (limit : ℕ) (p : List Step) → words_left limit (Make ∷ p) ≡ words_left limit p ++ fresh_word ∷ []
+words-Make limit p =
+    table-more (λ b. word_left limit p b) (λ b. word_left limit (Make ∷ p) b) (makes p) fresh_word older newest
+  where
+    older : (b : ℕ) → b < makes p → word_left limit (Make ∷ p) b ≡ word_left limit p b
+    older b made = rw (other_test b (makes p) (λ same. omega arith)) refl
+
+    newest : word_left limit (Make ∷ p) (makes p) ≡ fresh_word
+    newest = rw (same_test (makes p)) refl
+
+pub words-Look : (limit : ℕ) (p : List Step) (h : ℕ) → words_left limit (Look h ∷ p) ≡ words_left limit p
+words-Look limit p h = refl
+
+pub words-Clone : (limit : ℕ) (p : List Step) (h : ℕ) → IsPast limit p → is_accepted limit p (Clone h) ≡ true
+    → words_left limit (Clone h ∷ p)
+    ≡ set (words_left limit p) (block_of p h) (cloned_of limit (word_left limit p (block_of p h)))
+words-Clone limit p h past a =
+    table-set (λ b. word_left limit p b) (λ b. word_left limit (Clone h ∷ p) b) (makes p) (block_of p h)
+    (cloned_of limit (word_left limit p (block_of p h))) (block_made limit p h past (Clone-finds limit p h a).born)
+    (λ b apart. rw (other_test (block_of p h) b apart) refl) (rw (same_test (block_of p h)) refl)
+
+pub words-Begin : (limit : ℕ) (p : List Step) (h : ℕ) → words_left limit (Begin h ∷ p) ≡ words_left limit p
+words-Begin limit p h = refl
+
+pub words-Sub : (limit : ℕ) (p : List Step) (h : ℕ) → IsPast limit p → is_accepted limit p (Sub h) ≡ true
+    → words_left limit (Sub h ∷ p)
+    ≡ set (words_left limit p) (block_of p h) (dropped_of (word_left limit p (block_of p h)))
+words-Sub limit p h past a =
+    table-set (λ b. word_left limit p b) (λ b. word_left limit (Sub h ∷ p) b) (makes p) (block_of p h)
+    (dropped_of (word_left limit p (block_of p h))) (block_made limit p h past (Sub-finds limit p h a).born)
+    (λ b apart. rw (other_test (block_of p h) b apart) refl) (rw (same_test (block_of p h)) refl)
+
+pub words-Back : (limit : ℕ) (p : List Step) (h : ℕ) → words_left limit (Back h ∷ p) ≡ words_left limit p
+words-Back limit p h = refl
+
+pub words-Leak : (limit : ℕ) (p : List Step) (h : ℕ) → IsPast limit p → is_accepted limit p (Leak h) ≡ true
+    → words_left limit (Leak h ∷ p)
+    ≡ set (words_left limit p) (block_of p h) (marked_of (word_left limit p (block_of p h)))
+words-Leak limit p h past a =
+    table-set (λ b. word_left limit p b) (λ b. word_left limit (Leak h ∷ p) b) (makes p) (block_of p h)
+    (marked_of (word_left limit p (block_of p h))) (block_made limit p h past (Leak-finds limit p h a).born)
+    (λ b apart. rw (other_test (block_of p h) b apart) refl) (rw (same_test (block_of p h)) refl)
+
+pub words-IntoRaw : (limit : ℕ) (p : List Step) (h : ℕ) → words_left limit (IntoRaw h ∷ p) ≡ words_left limit p
+words-IntoRaw limit p h = refl
+
+pub words-FromRaw : (limit : ℕ) (p : List Step) (h : ℕ) → words_left limit (FromRaw h ∷ p) ≡ words_left limit p
+words-FromRaw limit p h = refl

@@ -1,0 +1,194 @@
+-- What the definitions on histories mean, each once more as a sentence over the fronts of a history.
+--
+-- A history is the list of its steps in their natural order, and a front of it is a beginning of it.
+-- The laws in `src/sentences.rt` prove each sentence equal to its definition.
+use Rattle.std.specs.Prelude.{◌≡◌, ℕ, ◌<◌, Bool, true, false, ◌&&◌, ◌==◌, ◌⊎◌, IsTrue, IsFalse, Option, None, Some, List, [], ◌∷◌, ◌++◌, length, filter, take, slice_get}
+use Rattle.arcstr_count.specs.declared.steps.Step.{Step}
+use Rattle.arcstr_count.specs.declared.steps.Step.TheVariants.{Make, Look, Clone, Begin, Sub, Back, Leak, IntoRaw, FromRaw}
+use Rattle.arcstr_count.specs.declared.steps.HandleState.{HandleState}
+use Rattle.arcstr_count.specs.declared.steps.HandleState.TheVariants.{Free, Raw, Dropping, Owing, Gone}
+use Rattle.arcstr_count.specs.History.{makes, births, block_of, numbers_below}
+use Rattle.arcstr_count.specs.Answer.{handle_state, is_accepted}
+use Rattle.arcstr_count.specs.Past.{past_of}
+use Rattle.arcstr_count.specs.After.{marked_after, living_after}
+
+-- ---- what is defined, after a history in its natural order
+
+-- the step is accepted after the history
+abbrev pub accepted_after : ℕ → List Step → Step → Bool
+accepted_after limit history s = is_accepted limit (past_of limit history) s
+
+-- how many blocks were made, and how many handles were born
+abbrev pub makes_after : ℕ → List Step → ℕ
+makes_after limit history = makes (past_of limit history)
+
+abbrev pub births_after : ℕ → List Step → ℕ
+births_after limit history = births (past_of limit history)
+
+-- the block of a handle
+abbrev pub block_after : ℕ → List Step → ℕ → ℕ
+block_after limit history h = block_of (past_of limit history) h
+
+-- the state of a handle, and nothing of one that was never born
+abbrev pub state_after : ℕ → List Step → ℕ → Option HandleState
+state_after limit history h = handle_state limit (past_of limit history) h
+
+-- ---- steps in a history
+
+-- Somewhere in the history the step is accepted, after a front of which P holds.
+pub record AcceptedWhere (limit : ℕ) (history : List Step) (s : Step) (P : List Step → Type 0) : Type 0 where
+  pub front : List Step
+  pub later : List Step
+  pub stands : history ≡ front ++ s ∷ later
+  pub accepted : IsTrue (accepted_after limit front s)
+  pub there : P front
+
+-- The history has an accepted step s.
+abbrev pub HasAccepted : ℕ → List Step → Step → Type 0
+HasAccepted limit history s = AcceptedWhere limit history s (λ front. Unit {0})
+
+-- the step at a place of a history is accepted after the front before it, and passes the test there
+abbrev pub passes_after : ℕ → List Step → (List Step → Step → Bool) → Option Step → Bool
+passes_after limit front test None = false
+passes_after limit front test (Some s) = accepted_after limit front s && test front s
+
+-- The number of the history's accepted steps that pass the test: of the places i where a step stands that
+-- is accepted after the first i steps, and passes the test after them.
+abbrev pub accepted_count : ℕ → List Step → (List Step → Step → Bool) → ℕ
+accepted_count limit history test =
+    length (filter (λ i. passes_after limit (take i history) test (slice_get history i)) (numbers_below (length history)))
+
+-- ---- accepted
+
+-- A step is accepted after a history if the state of its handle there has 'ok' in the table of refusals:
+-- a free handle for `Look`, `Clone`, `Begin`, `Leak` and `IntoRaw`, a dropping one for `Sub`, an owing one
+-- for `Back` and a raw one for `FromRaw`. `Make` always is.
+abbrev pub AcceptedSentence : ℕ → List Step → Step → Type 0
+AcceptedSentence limit history Make = Unit {0}
+AcceptedSentence limit history (Look h) = state_after limit history h ≡ Some Free
+AcceptedSentence limit history (Clone h) = state_after limit history h ≡ Some Free
+AcceptedSentence limit history (Begin h) = state_after limit history h ≡ Some Free
+AcceptedSentence limit history (Sub h) = state_after limit history h ≡ Some Dropping
+AcceptedSentence limit history (Back h) = state_after limit history h ≡ Some Owing
+AcceptedSentence limit history (Leak h) = state_after limit history h ≡ Some Free
+AcceptedSentence limit history (IntoRaw h) = state_after limit history h ≡ Some Free
+AcceptedSentence limit history (FromRaw h) = state_after limit history h ≡ Some Raw
+
+-- ---- births
+
+-- `Make` makes a block
+abbrev pub is_make : Step → Bool
+is_make Make = true
+is_make s = false
+
+-- `Make` and `Clone` give birth to a handle
+abbrev pub is_birth : Step → Bool
+is_birth Make = true
+is_birth (Clone h) = true
+is_birth s = false
+
+-- Handle h is born on block b: at an accepted `Make` with h births before it, where b is the number of
+-- `Make`s before it; or at an accepted `Clone` with h births before it, of a handle on b.
+abbrev pub BornSentence : ℕ → List Step → ℕ → ℕ → Type 0
+BornSentence limit history h b =
+    AcceptedWhere limit history Make (λ front. (births_after limit front ≡ h) × (makes_after limit front ≡ b))
+    ⊎ ((g : ℕ) × AcceptedWhere limit history (Clone g) (λ front. (births_after limit front ≡ h) × (block_after limit front g ≡ b)))
+
+-- ---- marked
+
+-- The history has an accepted `Leak` of a handle on block b.
+abbrev pub Leaked : ℕ → List Step → ℕ → Type 0
+Leaked limit history b = (h : ℕ) × AcceptedWhere limit history (Leak h) (λ front. block_after limit front h ≡ b)
+
+-- Handle h stands on block b, which is unmarked, and more than the limit of handles live on b.
+abbrev pub IsFull : ℕ → List Step → ℕ → ℕ → Type 0
+IsFull limit front h b =
+    (block_after limit front h ≡ b) × IsFalse (marked_after limit front b) × (limit < length (living_after limit front b))
+
+-- The history has an accepted `Clone` of a handle on block b, after a front with b unmarked and more than the
+-- limit of handles living on b.
+abbrev pub ClonedPastLimit : ℕ → List Step → ℕ → Type 0
+ClonedPastLimit limit history b = (h : ℕ) × AcceptedWhere limit history (Clone h) (λ front. IsFull limit front h b)
+
+-- Block b is marked after a history that has an accepted `Leak` on it, or an accepted `Clone` on it after a
+-- front with b unmarked and more than the limit of handles living on b.
+abbrev pub MarkedSentence : ℕ → List Step → ℕ → Type 0
+MarkedSentence limit history b = Leaked limit history b ⊎ ClonedPastLimit limit history b
+
+-- ---- the state of a handle
+
+-- The last accepted one of `IntoRaw h` and `FromRaw h` in the history is `IntoRaw h`: it is accepted after a
+-- front, and neither of the two is accepted later.
+pub record LastIsIntoRaw (limit : ℕ) (history : List Step) (h : ℕ) : Type 0 where
+  pub front : List Step
+  pub later : List Step
+  pub stands : history ≡ front ++ IntoRaw h ∷ later
+  pub accepted : IsTrue (accepted_after limit front (IntoRaw h))
+  pub last : (more rest : List Step) (s : Step) → later ≡ more ++ s ∷ rest → (s ≡ IntoRaw h) ⊎ (s ≡ FromRaw h)
+      → IsFalse (accepted_after limit (front ++ IntoRaw h ∷ more) s)
+
+-- The history has an accepted `Begin h` after a front with the block of h unmarked.
+abbrev pub BeganUnmarked : ℕ → List Step → ℕ → Type 0
+BeganUnmarked limit history h =
+    AcceptedWhere limit history (Begin h) (λ front. IsFalse (marked_after limit front (block_after limit front h)))
+
+-- The block of h is unmarked, and h is the only handle that lives on it.
+abbrev pub LivesAlone : ℕ → List Step → ℕ → Type 0
+LivesAlone limit front h =
+    IsFalse (marked_after limit front (block_after limit front h))
+    × (living_after limit front (block_after limit front h) ≡ h ∷ [])
+
+-- Handle h owes its block after a history that has an accepted `Sub h` after a front with the block unmarked
+-- and h the only handle living on it, and no accepted `Back h`.
+abbrev pub OwesSentence : ℕ → List Step → ℕ → Type 0
+OwesSentence limit history h =
+    AcceptedWhere limit history (Sub h) (λ front. LivesAlone limit front h)
+    × (¬ HasAccepted limit history (Back h))
+
+-- Raw, if the first fact holds; else free, if the second does; else dropping, if the third does; else owing,
+-- if the fourth does; else gone.
+abbrev pub FirstThatHolds : (raw free dropping owing : Type 0) → HandleState → Type 0
+FirstThatHolds raw free dropping owing Raw = raw
+FirstThatHolds raw free dropping owing Free = (¬ raw) × free
+FirstThatHolds raw free dropping owing Dropping = (¬ raw) × (¬ free) × dropping
+FirstThatHolds raw free dropping owing Owing = (¬ raw) × (¬ free) × (¬ dropping) × owing
+FirstThatHolds raw free dropping owing Gone = (¬ raw) × (¬ free) × (¬ dropping) × (¬ owing)
+
+-- After a history a handle that was born is raw, if the last accepted one of `IntoRaw h` and `FromRaw h` is
+-- `IntoRaw h`; else free, if the history has no accepted `Begin h`; else dropping, if that `Begin h` came
+-- where its block was unmarked and the history has no accepted `Sub h`; else owing, if it owes; else gone.
+abbrev pub StateSentence : ℕ → List Step → ℕ → HandleState → Type 0
+StateSentence limit history h state = FirstThatHolds
+    (LastIsIntoRaw limit history h)
+    (¬ HasAccepted limit history (Begin h))
+    (BeganUnmarked limit history h × (¬ HasAccepted limit history (Sub h)))
+    (OwesSentence limit history h)
+    state
+
+-- ---- living
+
+-- Handle h is a living handle on block b: it stands on b, and is free, raw or dropping.
+abbrev pub LivingSentence : ℕ → List Step → ℕ → ℕ → Type 0
+LivingSentence limit history b h =
+    (block_after limit history h ≡ b)
+    × ((state_after limit history h ≡ Some Free)
+    ⊎ ((state_after limit history h ≡ Some Raw) ⊎ (state_after limit history h ≡ Some Dropping)))
+
+-- ---- a drop under way
+
+-- A drop is under way on block b: some handle on b is dropping or owing.
+abbrev pub UnderWaySentence : ℕ → List Step → ℕ → Type 0
+UnderWaySentence limit history b =
+    (h : ℕ) × (block_after limit history h ≡ b)
+    × ((state_after limit history h ≡ Some Dropping) ⊎ (state_after limit history h ≡ Some Owing))
+
+-- ---- times given
+
+-- `Back` of a handle whose block is b
+abbrev pub is_back_on : (block : ℕ → ℕ) → ℕ → Step → Bool
+is_back_on block b (Back h) = block h == b
+is_back_on block b s = false
+
+-- How often a block was given back: the number of accepted `Back` steps on it.
+abbrev pub given_count : ℕ → List Step → ℕ → ℕ
+given_count limit history b = accepted_count limit history (λ front s. is_back_on (λ h. block_after limit front h) b s)

@@ -1,0 +1,14 @@
+ghost use Rattle.arcstr_count.specs.Laws.{WordsStand, LooksAreExact, MarksStay, AtMostOneOwes, GivenAtMostOnce, GivenExactlyIfUnmarked};
+
+use crate::steps::Step;
+
+/// The laws of every interleaving: for any limit, any list of steps, any front of the list and any
+/// block made in that front. It does nothing: its clauses are what it is for.
+pub fn every_interleaving(limit: u64, steps: &[Step])
+    ensures words_stand { WordsStand limit steps.now }
+    ensures looks_exact { LooksAreExact limit steps.now }
+    ensures marks_stay { MarksStay limit steps.now }
+    ensures one_owes { AtMostOneOwes limit steps.now }
+    ensures given_once { GivenAtMostOnce limit steps.now }
+    ensures given_exactly { GivenExactlyIfUnmarked limit steps.now }
+{}

@@ -1,0 +1,77 @@
+//! What the definitions on histories mean, each as a sentence over the fronts of a history.
+//!
+//! A history is the list of its steps in their natural order, and a front of it is a beginning of it.
+//! Each function here does nothing: its contract is the law that a definition and its sentence are equal.
+
+ghost use Rattle.std.specs.Prelude.{◌≡◌, ◌≢◌, ◌↔◌, ◌<◌, ◌⊎◌, IsTrue, Some, Contains, []};
+ghost use Rattle.std.specs.List.Sorted.{IsStrictlyIncreasing};
+ghost use Rattle.arcstr_count.specs.declared.steps.HandleState.TheVariants.{Dropping, Owing};
+ghost use Rattle.arcstr_count.specs.After.{marked_after, living_after, dropping_after, owing_after, given_after};
+ghost use Rattle.arcstr_count.specs.Sentences.{accepted_after, makes_after, births_after, block_after, state_after, accepted_count, is_make, is_birth, given_count, AcceptedSentence, BornSentence, MarkedSentence, StateSentence, OwesSentence, LivingSentence, UnderWaySentence};
+
+use crate::steps::{HandleState, Step};
+
+/// Which steps are accepted: a step whose handle's state has 'ok' in the table of refusals, and `Make`
+/// always. `Look`, `Clone`, `Begin`, `Leak` and `IntoRaw` want a free handle, `Sub` a dropping one,
+/// `Back` an owing one and `FromRaw` a raw one.
+pub fn accepted_is(limit: u64, history: &[Step], step: Step)
+    ensures { IsTrue (accepted_after limit history.now step) ↔ AcceptedSentence limit history.now step }
+{}
+
+/// How many handles were born and how many blocks were made: as many as the history has accepted
+/// steps `Make` and `Clone`, and accepted steps `Make`.
+pub fn births_are(limit: u64, history: &[Step])
+    ensures handles { births_after limit history.now ≡ accepted_count limit history.now (λ front s. is_birth s) }
+    ensures blocks { makes_after limit history.now ≡ accepted_count limit history.now (λ front s. is_make s) }
+{}
+
+/// Where a handle is born, and on which block: handle h at the accepted `Make` or `Clone` with h births
+/// before it. A `Make`'s handle stands on a new block, numbered by the `Make`s before it; a `Clone`'s on
+/// the block of the handle that it names.
+pub fn born_is(limit: u64, history: &[Step], handle: u64, block: u64)
+    ensures { ((handle < births_after limit history.now) × (block_after limit history.now handle ≡ block))
+        ↔ BornSentence limit history.now handle block }
+{}
+
+/// When a block is marked: exactly after a history that has an accepted `Leak` on it, or an accepted
+/// `Clone` on it after a front with the block unmarked and more than `limit` handles living on it.
+pub fn marked_is(limit: u64, history: &[Step], block: u64)
+    ensures { IsTrue (marked_after limit history.now block) ↔ MarkedSentence limit history.now block }
+{}
+
+/// The state of a handle that was born: raw, if the last accepted one of its `IntoRaw` and `FromRaw` is
+/// `IntoRaw`; else free, if it has no accepted `Begin`; else dropping, if that `Begin` came where its
+/// block was unmarked and it has no accepted `Sub`; else owing, if it owes; else gone.
+pub fn state_is(limit: u64, history: &[Step], handle: u64, state: HandleState)
+    ensures { (state_after limit history.now handle ≡ Some state)
+        ↔ ((handle < births_after limit history.now) × StateSentence limit history.now handle state) }
+{}
+
+/// Which handles owe their block: those with an accepted `Sub` after a front with the block unmarked and
+/// no other handle living on it, and with no accepted `Back`.
+pub fn owes_is(limit: u64, history: &[Step], handle: u64)
+    ensures { (state_after limit history.now handle ≡ Some Owing) ↔ OwesSentence limit history.now handle }
+{}
+
+/// Which handles live on a block: those that stand on it and are free, raw or dropping. Each of them is
+/// listed once, in rising order, so that the list is as long as they are many.
+pub fn living_is(limit: u64, history: &[Step], block: u64, handle: u64)
+    ensures members { Contains (living_after limit history.now block) handle ↔ LivingSentence limit history.now block handle }
+    ensures once { IsStrictlyIncreasing (living_after limit history.now block) }
+{}
+
+/// When a drop is under way on a block: when some handle on it is dropping or owing. The two lists have
+/// exactly these handles.
+pub fn under_way_is(limit: u64, history: &[Step], block: u64, handle: u64)
+    ensures dropping { Contains (dropping_after limit history.now block) handle
+        ↔ ((block_after limit history.now handle ≡ block) × (state_after limit history.now handle ≡ Some Dropping)) }
+    ensures owing { Contains (owing_after limit history.now block) handle
+        ↔ ((block_after limit history.now handle ≡ block) × (state_after limit history.now handle ≡ Some Owing)) }
+    ensures some { ((dropping_after limit history.now block ≢ []) ⊎ (owing_after limit history.now block ≢ []))
+        ↔ UnderWaySentence limit history.now block }
+{}
+
+/// How often a block was given back: as often as the history has an accepted `Back` of a handle on it.
+pub fn given_is(limit: u64, history: &[Step], block: u64)
+    ensures { given_after limit history.now block ≡ given_count limit history.now block }
+{}
