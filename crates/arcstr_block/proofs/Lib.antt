@@ -6,9 +6,10 @@ pub mod Ledger
 pub mod Steps
 pub mod Changes
 pub mod Rights
+pub mod Turns
+pub mod Begins
 pub mod Fields
 pub mod Seats
 pub mod Book
 pub mod Memory
-pub mod Begins
 pub mod LooseValues

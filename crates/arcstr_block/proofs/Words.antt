@@ -32,9 +32,9 @@ odd_or_even n = dite (ℕ_discrete (n % 2) 1) (λ e. inl e) (λ ne. inr (omega a
 
 pub word_marked : (n : ℕ) → word_of (bit_or n 1) ≡ marked_of (word_of n)
 word_marked n = elim (odd_or_even n) [
-    inl odd ↦ ap word_of (or_marked n odd) ∙ marked_word n odd
+  | inl odd ↦ ap word_of (or_marked n odd) ∙ marked_word n odd
   | inr even ↦ ap word_of (or_unmarked n even) ∙ marked_word (n + 1) (omega arith) ∙ ap (λ k. record { flag = true; count = k }) (let same : (n + 1) / 2 ≡ n / 2 = omega arith in same)
-  ]
+]
 
 pub word_kept : (L n : ℕ) → IsMarked n → word_of n ≡ cloned_of L (word_of n)
 word_kept L n odd = marked_word n odd ∙ sym (ap (cloned_of L) (marked_word n odd))
@@ -58,6 +58,6 @@ last_two n e = ap (λ m. is_last (word_of m)) e
 
 pub not_last : (n : ℕ) → n ≢ 2 → is_last (word_of n) ≡ false
 not_last n ne = elim (odd_or_even n) [
-    inl odd ↦ ap is_last (marked_word n odd)
+  | inl odd ↦ ap is_last (marked_word n odd)
   | inr even ↦ ap is_last (unmarked_word n even) ∙ ne_eqb (n / 2) 1 (λ e. ne (omega (arith, e, even)))
-  ]
+]

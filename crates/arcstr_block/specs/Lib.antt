@@ -3,3 +3,5 @@ pub mod Ledger
 pub mod Same
 pub mod Book
 pub mod Fault
+pub mod Handle
+pub mod Ending

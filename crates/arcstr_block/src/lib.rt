@@ -7,6 +7,7 @@
 pub use fault::TextFault;
 pub use fixed::Fixed;
 pub use owed::{Down, Owed};
+pub use seen::Seen;
 pub use shared::Shared;
 
 mod block;
@@ -15,6 +16,8 @@ mod fixed;
 mod loose;
 mod owed;
 mod pointer;
+mod seen;
 mod shared;
 #[cfg(test)]
 mod tests;
+mod word;

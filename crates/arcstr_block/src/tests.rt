@@ -55,7 +55,11 @@ fn a_marked_block_ends_no_handle(rt: HostRuntime) -> Result<(), Fail> {
 }
 
 /// What is used of a heap after two clones and three drops of one text.
-fn used_after<const LIMIT: u64, R: Wait>(rt: &R, heap: &LocalHeap, marks: bool) -> Result<usize, TextFault>
+fn used_after<const LIMIT: u64, R: Wait>(
+    rt: &R,
+    heap: &LocalHeap,
+    marks: bool,
+) -> Result<usize, TextFault>
     requires { LIMIT ≤ RC_MAX }
 {
     let first = Shared::<LIMIT, &LocalHeap>::from_text(heap, "foobar")?;
@@ -111,7 +115,10 @@ fn each_request_may_be_refused(rt: HostRuntime) -> Result<(), Fail> {
 }
 
 /// What two threads leave that take a clone each, before any drop.
-fn look_after_two<const LIMIT: u64, R: Threads + Wait + Sync>(rt: &R, alloc: Global) -> Result<(Option<u64>, bool), TextFault>
+fn look_after_two<const LIMIT: u64, R: Threads + Wait + Sync>(
+    rt: &R,
+    alloc: Global,
+) -> Result<(Option<u64>, bool), TextFault>
     requires { LIMIT ≤ RC_MAX }
 {
     let first = Shared::<LIMIT, Global>::from_text(alloc, "foobar")?;
@@ -131,9 +138,21 @@ fn limits_are_crossed_by_threads(rt: HostRuntime) -> Result<(), Fail> {
 
 #[test]
 fn faults_print_their_texts(rt: HostRuntime) -> Result<(), Fail> {
-    assert_eq!(rt; format!(in rt.alloc(); "{}", TextFault::Length)?.as_str(), "text is too long");
-    assert_eq!(rt; format!(in rt.alloc(); "{}", TextFault::Memory)?.as_str(), "out of memory");
-    assert_eq!(rt; format!(in rt.alloc(); "{}", TextFault::Utf8(2))?.as_str(), "bytes are not UTF-8 from place 2");
-    assert_eq!(rt; format!(in rt.alloc(); "{}", TextFault::TooFar)?.as_str(), "text is too long for 32-bit places");
+    assert_eq!(rt;
+        format!(in rt.alloc(); "{}", TextFault::Length)?.as_str(),
+        "text is too long"
+    );
+    assert_eq!(rt;
+        format!(in rt.alloc(); "{}", TextFault::Memory)?.as_str(),
+        "out of memory"
+    );
+    assert_eq!(rt;
+        format!(in rt.alloc(); "{}", TextFault::Utf8(2))?.as_str(),
+        "bytes are not UTF-8 from place 2"
+    );
+    assert_eq!(rt;
+        format!(in rt.alloc(); "{}", TextFault::TooFar)?.as_str(),
+        "text is too long for 32-bit places"
+    );
     Ok(())
 }

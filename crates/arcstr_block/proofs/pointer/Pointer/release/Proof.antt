@@ -35,9 +35,17 @@ use Rattle.std_alloc.specs.Box.Ownership.{box_owns}
 use Rattle.std_alloc.proofs.ResultValues.{and_tt}
 use Rattle.atomic_table.proofs.Walks.{proved_at, leaves}
 use Rattle.arcstr_block.specs.Rights.{counted, owed}
-use Rattle.arcstr_block.specs.Ledger.{Id, Inv, block_owns, block_shares, value_at, rejoins, held_with, pointer_owns}
+use Rattle.arcstr_block.specs.Ledger.{Id, Inv, block_owns, block_shares, value_at, rejoins, stated, known, knows, held_with, right_to, shown, of_block, of_block_shown, pointer_owns, pointer_shares}
+use Rattle.arcstr_block.proofs.Rights as rights
 use Rattle.arcstr_block.specs.contracts.block.Block.{the_row as block_row}
 use Rattle.arcstr_block.specs.contracts.pointer.Pointer as C
+use types.Owned.{basic}
+use base.Logic.{via}
+use Rattle.arcstr_count.specs.declared.steps.Step.TheVariants.{Back}
+use Rattle.arcstr_count.specs.declared.steps.HandleState.TheVariants.{Gone}
+use Rattle.arcstr_count.specs.declared.steps.Reply.TheVariants.{Given}
+use Rattle.arcstr_block.specs.Book.{Book, seat, Ends}
+use Rattle.arcstr_block.proofs.Book.{book_back}
 use Rattle.arcstr_block.proofs.Fields.{pointer_val, typed, Words, told, made}
 use Rattle.arcstr_block.proofs.LooseValues.{both, Loose, loose_good, loose_in, loose_out}
 use Rattle.arcstr_block.proofs.Memory.{cuts, joins}
@@ -58,17 +66,19 @@ release_spec 𝓤 𝓛 𝓜 𝓡 wired X Y L K g d dd met md =
     let Post : Val → SProp 𝓤 = (walk_of 𝓛 En hs c).post z in let Run : List Val → SProp 𝓤 = λ ws. WpFn 𝓤 H 𝓣.C 𝓣.Λ fn ws Post in
     qed 𝓛 ((raw (alive 𝓛 En.signature κs qs) ⊛ ‵ (fsep (Row.own_val h z.0.4.0) (fsep (Z.own_val a z.0.4.1.0) ftrue))) ∷ raw (fact 𝓤 _) ∷ raw (fact 𝓤 _) ∷ raw (fact 𝓤 (h.right ≡ owed)) ∷ raw (fact 𝓤 (a ≡ h.home)) ∷ []) ∵
     keep ! (3 ∷ 4 ∷ 0 ∷ []) $ heard ! (h.right ≡ owed) (λ mine. heard ! (a ≡ h.home) (λ home. split ! $ move ! (1 ∷ []) $ fsplit3 ! $ fsplit ! $ drop ! $ fsplit ! $ fpick ! (λ inb. drop ! $ let at : p ≡ block_ptr b o = at_block p inb in fpick ! (λ t.
-    rewrite ! 0 (λ (k : ℕ). ‵ (held_with P lim b (o + 0) t s k)) mine refl $ fsplit ! $ drop ! $ fsplit ! $ move ! (1 ∷ []) $ fsplit3 ! $
-    -- [the value; the way back; the right to free; the word; the handle; nothing; the tokens]
+    fsplit ! $ drop ! $ rewrite ! 0 (λ (k : ℕ). ‵ (held_with P lim b (o + 0) t s h.seat k)) mine refl $ fsplit ! $ drop ! $ fsplit3 ! $ fsplit ! $ move ! (2 ∷ 0 ∷ []) $ fsplit3 ! $
+    -- [the value; the way back; the right to free; the word; the book; the seat; the handle; nothing; the tokens]
     let q : Ptr = block_ptr b o in let val : BR.Denot = record { word = 0; value = x } in
     rewrite ! 0 (λ (r : Ptr). ‵ (lies_at R full_share (value_at holds R r x) x)) at refl $ rewrite ! 1 (λ (r : Ptr). ‵ (rejoins holds R r x)) at refl $ rewrite ! 2 (λ (r : Ptr). ‵ (holds (bare (lone BR.mir)) r)) at refl $
-    move ! (3 ∷ 0 ∷ 1 ∷ []) $ use3 𝓛 (‵ (points_to BR q val)) (joins 𝓛 X L holds x b o 0) $ fjoin ! $ rewrite ! 0 (λ (m : Y.Denot). ‵ (box_owns (g.dealloc_token m) BR q val)) (sym home) refl $ move ! (1 ∷ []) $
+    move ! (3 ∷ 0 ∷ 1 ∷ []) $ use3 𝓛 (‵ (points_to BR q val)) (joins 𝓛 X L holds x b o 0) $ fjoin ! $ rewrite ! 0 (λ (m : Y.Denot). ‵ (box_owns (g.dealloc_token m) BR q val)) (sym home) refl $ move ! (3 ∷ []) $
     handle_tells al ! a z.0.4.1.0 (λ hv eh fits. let us : List Val = pointer_val q ∷ hv ∷ [] in
     let ep : z.0.4.0 ≡ pointer_val q ∷ [] = told R Z g p z.0.4.0 are.0.0 ∙ ap (λ (r : Ptr). pointer_val r ∷ []) at in
     suffices ! (Run us) (subst (λ (ws : List Val). ent 𝓤 (Run us) (Run ws)) (sym (λ i. ep i ++ (eh i ++ []))) (id⊢ 𝓤 (Run us))) $
     enter ! 𝓣.C 𝓣.Λ fn us Post $ alloc_all ! (λ l. pass_all ! refl (typed q, (fits, tt)) $
     sets ! (of_opd ! (get_in ! (fld ! refl (stop !)) (sub ! 0 refl (whole !)))) refl (tt, tt) $ sets ! (of_opd ! (get ! refl)) refl fits $
     sets ! (agg ! (and_then ! (get ! refl) (and_then ! (get ! refl) (no_more !)))) refl (loose_good BR Z LZ g b o hv fits) $
+    -- [the handle; the block; the book; the seat; nothing; the tokens]
+    move ! (2 ∷ 3 ∷ []) $ use2 𝓛 (later (‵ (Book lim t.2 t.3 0) ⊛ ‵ (seat t.3 h.seat Gone) ⊛ ‵ (Ends lim t.2 t.3 (Back h.seat) Given))) (via 𝓤 _ (book_back 𝓛 lim t.2 t.3 0 h.seat) (basic 𝓛 _)) $ await ! tt $ split3 ! $ drop ! $ drop ! $ drop ! $
     move ! (1 ∷ 0 ∷ []) $ loose_in BR Z LZ g ! b o hv a val $
     use0 𝓛 (raw (fact 𝓤 (a ≡ a))) (fact_i 𝓤 (a ≡ a) (emp 𝓤) refl) $ use0 𝓛 (raw (fact 𝓤 (x ≡ x))) (fact_i 𝓤 (x ≡ x) (emp 𝓤) refl) $ join ! $ nothing ! $ nothing ! $ fjoin ! $ nothing ! $ fjoin ! $
     returns ! (look_at ! 0 refl) $ free_all ! refl $ keep ! (4 ∷ 0 ∷ 2 ∷ 1 ∷ []) $ by ! (leaves 𝓛 En hs c z (both (vptr b o) hv) (record { at = q; alloc = a; value = val }) (tt, (tt, tt)) (tt, (tt, tt))))))))))
