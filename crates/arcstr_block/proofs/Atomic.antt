@@ -1,5 +1,5 @@
 -- One step on a word that lies in an invariant. It may end a lifetime. Assumes `Logic`.
-use Rattle.std.proofs.Common.{ℕ, ◌^◌, ◌<◌, [], ◌∷◌, Option, Some, None}
+use Rattle.std.proofs.Common.{ℕ, [], ◌∷◌, Option, Some, None}
 use mathlib.Core.List.{List, Mem, not-mem-nil}
 use seplogic.Ra.Ura.{Ura}
 use base.Fraction.{full_share}

@@ -1,19 +1,19 @@
 -- A block begins: its word is 2, its content is lent, and its first handle has one part. Assumes `Logic`.
-use Rattle.std.proofs.Common.{◌≡◌, ℕ, ◌+◌, ◌-◌, ◌*◌, ◌^◌, ◌<◌, ◌≤◌, Bool, true, [], ◌∷◌, refl, arith, lit<}
+use Rattle.std.proofs.Common.{◌≡◌, ℕ, ◌-◌, ◌^◌, ◌<◌, Bool, true, [], ◌∷◌, refl, arith, lit<}
 use seplogic.Ra.Ura.{Ura}
 use base.Fraction.{full_share}
 use base.FractionLaws.{Counts-all}
 use base.Logic.{SProp, ent, sep, wand, emp, via, all_i}
-use base.Fml.{Lft, GName, Share, Incl, Incl-trans, Fml, fsep, fex, flft, flent, finv}
+use base.Fml.{Lft, GName, Share, Incl, Incl-trans, Fml, fsep, fex, flft, finv}
 use contract.BorrowLft.{meet_⊑_left, meet_⊑_right}
 use types.Logic.{Logic, sem}
-use types.Kit.{‵, raw, ◌⊛◌, some, later, ◌$◌, ◌∵◌, !, qed, by, move, keep, drop, group, pick, use0, use1, use2, split, split3, join, fsplit, fjoin, fjoin3, fpick, fpack, await, updating, now, done}
+use types.Kit.{‵, ◌⊛◌, some, later, ◌$◌, ◌∵◌, !, qed, move, group, pick, use0, use1, use2, split, split3, join, fsplit, fjoin, fjoin3, fpick, fpack, await, updating, now, done}
 use types.Tokens.{lft_new, bor_new}
 use denote.Struct.Lending.{Lends}
 use Rattle.core.specs.Sync.RawAtomic.{word}
 use Rattle.arcstr_block.specs.Rights.{uncounted}
 use Rattle.arcstr_block.specs.Book.{Book, reached, seat}
-use Rattle.arcstr_block.specs.Ledger.{Id, parts, unmarked, rest, Ledger, counting, if_alive, Inv, knows, free, held_with}
+use Rattle.arcstr_block.specs.Ledger.{Id, parts, unmarked, Ledger, counting, if_alive, Inv, knows, free, held_with}
 use Rattle.arcstr_count.specs.declared.steps.Step.TheVariants.{Make}
 use Rattle.arcstr_count.specs.declared.steps.HandleState.TheVariants.{Free}
 use Rattle.arcstr_block.proofs.Book.{book_new}

@@ -5,12 +5,12 @@ use seplogic.Ra.Ura.{Ura}
 use base.Fraction.{full_share}
 use base.Share.{three_quarters}
 use base.Growing.{latest}
-use base.Logic.{SProp, ent, sep, ex, upd, upd_i, emp, via, id⊢}
-use base.Fml.{GName, Share, Fml, ftrue, fsep, fex}
+use base.Logic.{SProp, ent, sep, ex, upd, upd_i, emp}
+use base.Fml.{GName, Share, Fml, ftrue, fex}
 use types.Logic.{Logic, sem}
 use types.Growing.{latest_new, latest_grows, latest_shows, at_least_dup}
 use types.Keyed.{entries_new}
-use types.Kit.{‵, raw, ◌⊛◌, some, given, ◌$◌, ◌∵◌, !, qed, by, move, keep, drop, split, split3, join, fsplit, fsplit3, fjoin, fjoin3, fpick, fpack, pick, learn, show, suffices, settle, use0, use1, use2, done}
+use types.Kit.{‵, raw, ◌⊛◌, some, given, ◌$◌, ◌∵◌, !, qed, move, keep, drop, split, fsplit3, fjoin, fjoin3, fpick, fpack, pick, learn, show, suffices, settle, use0, use1, use2, done}
 use denote.Steps.{nothing}
 use Rattle.atomic_table.specs.Seated.{halved, unused, roster}
 use Rattle.arcstr_count.specs.declared.steps.Step.{Step}
@@ -19,10 +19,9 @@ use Rattle.arcstr_count.specs.declared.steps.HandleState.{HandleState}
 use Rattle.arcstr_count.specs.declared.steps.HandleState.TheVariants.{Free, Dropping, Owing, Gone}
 use Rattle.arcstr_count.specs.declared.steps.Reply.{Reply}
 use Rattle.arcstr_count.specs.declared.steps.Reply.TheVariants.{Ended, Looked, Owes, Left, Handle, Marked, Given}
-use Rattle.arcstr_count.specs.Word.{FlagAndCount, looked_of, marked_of, cloned_of, dropped_of, is_last, fresh_word}
+use Rattle.arcstr_count.specs.Word.{FlagAndCount, looked_of, cloned_of, is_last}
 use Rattle.arcstr_count.specs.OneBlock.{Keeps, EndsIn, look_reply}
 use Rattle.arcstr_count.proofs.OneBlock.{Prolongs, keeps-make, keeps-look, keeps-begin, keeps-clone, keeps-leak, keeps-sub, keeps-back}
-use Rattle.arcstr_block.specs.Rights.{IsMarked, IsClone}
 use Rattle.arcstr_block.specs.Book.{word_of, steps, state_code, reached, seat, seat_share, book, Book, Ends, ends_in}
 use Rattle.arcstr_block.proofs.Words.{word_marked, word_dropped}
 use Rattle.arcstr_block.proofs.Seats.{agrees, moves, adds}

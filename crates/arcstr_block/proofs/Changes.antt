@@ -1,12 +1,12 @@
 -- The steps that change a block's word: the mark, a clone and a subtraction. Assumes `Logic`.
-use Rattle.std.proofs.Common.{◌≢◌, ◌≡◌, ℕ, ◌+◌, ◌-◌, ◌*◌, ◌/◌, ◌%◌, ◌^◌, ◌<◌, ◌≤◌, eqb, Bool, true, false, [], ◌∷◌, sym, refl, ap, ◌∙◌, subst, arith, eq-eqb, ne_eqb}
+use Rattle.std.proofs.Common.{◌≢◌, ◌≡◌, ℕ, ◌+◌, ◌-◌, ◌/◌, ◌%◌, ◌^◌, ◌<◌, eqb, Bool, false, [], ◌∷◌, sym, refl, ap, subst, arith, eq-eqb, ne_eqb}
 use Rattle.std.specs.Prelude.{bit_or}
 use mathlib.Core.Logic.{dite}
 use native.Mathlib.Decide.{ℕ_discrete, dec_le}
 use seplogic.Ra.Ura.{Ura}
 use base.Fraction.{full_share}
-use base.Logic.{SProp, ent, sep, wand, upd, upd_i, never, via}
-use base.Fml.{Share, Fml, ftrue, fsep, flft, fdead, flent, finv}
+use base.Logic.{SProp, ent, sep, wand, upd, upd_i, never}
+use base.Fml.{Share, Fml, ftrue, flft, fdead, flent}
 use prog.Atomic.{either}
 use types.Logic.{Logic, sem}
 use types.Kit.{‵, raw, ◌⊛◌, ◌$◌, ◌∵◌, !, qed, by, move, keep, drop, split, split3, fsplit, fjoin, fjoin3, fpick, frame, assume, suffices, use1, use2, rewrite, done}
@@ -18,7 +18,7 @@ use Rattle.arcstr_block.specs.Ledger.{parts, some_share, Id, Phase, unmarked, ma
 use Rattle.arcstr_block.specs.Book.{Book}
 use Rattle.arcstr_block.proofs.Words.{or_unmarked, or_marked}
 use Rattle.arcstr_block.proofs.Ledger.{share_not_alive, takes, gives, gives_last, gives_marked, too_many, finds_mark}
-use Rattle.arcstr_block.proofs.Steps.{Gain, none, part, share, last, rank, gained, told, after, all_after, Stepped, Shut, keeps, ending, gains, marking, stepped, token_alive}
+use Rattle.arcstr_block.proofs.Steps.{none, part, share, last, after, all_after, Stepped, Shut, keeps, ending, gains, marking, stepped, token_alive}
 
 module _ {M : Type 1} {𝓤 : Ura M} (𝓛 : Logic 𝓤) (P : Fml) (L b o : ℕ) (t : Id) where
   open 𝓛 use {H, A}

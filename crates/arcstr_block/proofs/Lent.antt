@@ -1,14 +1,11 @@
 -- What a `&` to a pointer holds: a share of its token, the invariant and what is shared. Assumes `Logic`.
-use Rattle.std.proofs.Common.{ℕ, zero, suc, ◌+◌, List, [], ◌∷◌, ◌++◌}
+use Rattle.std.proofs.Common.{ℕ, zero, suc, List, [], ◌∷◌}
 use seplogic.Ra.Ura.{Ura}
 use base.FractionLaws.{Counts}
-use base.Share
-use base.Logic.{SProp, ent, sep, wand, upd_i, id⊢, apply∗, snd∗}
-use base.Fml.{Lft, Share, Incl, Fml, ftrue, fsep, fseps, fwand, fupd, fdead, fbor, flft, finv, fshr_bor}
+use base.Logic.{SProp, ent, sep, wand, upd_i, id⊢, snd∗}
+use base.Fml.{Lft, Share, Fml, ftrue, fsep, fseps, fwand, fupd, fdead, fbor, flft, finv, fshr_bor}
 use base.Before.{before}
-use contract.BorrowLft.{⊑_static}
-use ghost.Rules.{Toks, span}
-use types.Logic.{Logic, sem, lfts}
+use types.Logic.{Logic, sem}
 use types.Kit.{‵, raw, ◌⊛◌, later, ◌$◌, ◌∵◌, !, qed, by, move, keep, drop, use1, use2, use3, split, split3, fsplit, fsplit3, fjoin, fjoin3, fpick, assume, suffices, await, updating, now, done}
 use types.Tokens.{bor_open, obor_close, obor_alter, bor_fracture}
 use denote.Sharing.{ShrLaws, one, beside, always, held, said}
@@ -16,20 +13,18 @@ use denote.SharingLaws.{beside_shr_laws, one_shr_laws, always_shr_laws, held_shr
 use denote.Struct.Lending.{Lends, Lends-nothing}
 use denote.Steps.{nothing}
 use Rattle.core.proofs.cell.Borrows.{by_one}
-use base.Fraction.{full_share}
 use base.Share.{three_quarters}
-use Rattle.std.proofs.Common.{◌≡◌, arith}
+use Rattle.std.proofs.Common.{◌≡◌}
 use mathlib.Core.Logic.{dite}
 use native.Mathlib.Decide.{ℕ_discrete}
 use base.Logic.{emp, all_i, all_e}
-use base.Fml.{GName, fall}
+use base.Fml.{GName}
 use types.Kit.{fpack}
-use Rattle.logbook.proofs.Fields.{lends_twice}
 use Rattle.arcstr_count.specs.declared.steps.Step.{Step}
 use Rattle.arcstr_count.specs.declared.steps.HandleState.TheVariants.{Free}
 use Rattle.arcstr_block.specs.Rights.{counted, uncounted}
 use Rattle.arcstr_block.specs.Book.{reached, seat, seat_share}
-use Rattle.arcstr_block.specs.Ledger.{fact, Id, Inv, knows, known, for_good, with_share, free, right_to, held_with, seen, free_shown, shown}
+use Rattle.arcstr_block.specs.Ledger.{Id, Inv, knows, known, for_good, with_share, free, held_with, seen, free_shown, shown}
 use Rattle.arcstr_block.proofs.Book.{reached_twice}
 
 good_twice : {M : Type 1} {𝓤 : Ura M} (𝓛 : Logic 𝓤) (P : Fml) (L b o : ℕ) (t : Id) → ent 𝓤 (sem 𝓛 (for_good P L b o t)) (sep 𝓤 (sem 𝓛 (for_good P L b o t)) (sem 𝓛 (for_good P L b o t)))

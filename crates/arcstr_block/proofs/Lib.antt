@@ -13,3 +13,4 @@ pub mod Seats
 pub mod Book
 pub mod Memory
 pub mod LooseValues
+pub mod Crosses

@@ -1,12 +1,12 @@
 -- A right as it is shown through a `&`, and the right that a step's gain becomes. Assumes `Logic`.
-use Rattle.std.proofs.Common.{◌≡◌, ◌≢◌, ℕ, zero, suc, ◌+◌, ◌%◌, ◌<◌, if◌then◌else◌, inl, inr, [], ◌∷◌, refl, ap, arith}
+use Rattle.std.proofs.Common.{◌≡◌, ◌≢◌, ℕ, zero, suc, if◌then◌else◌, inl, inr, [], ◌∷◌, refl, ap, arith}
 use Rattle.std.specs.Prelude.{◌⊎◌}
 use mathlib.Core.Logic.{dite}
 use native.Mathlib.Decide.{ℕ_discrete}
 use seplogic.Ra.Ura.{Ura}
 use base.FractionLaws.{Counts}
 use base.Logic.{SProp, ent, sep, wand, emp, all_i, all_e, id⊢}
-use base.Fml.{Lft, Share, Fml, ftrue, fsep, fex, fall, fdead, flft, fbor, flent, finv, fshr_bor}
+use base.Fml.{Lft, Share, Fml, ftrue, fex, fall, flft, finv, fshr_bor}
 use contract.BorrowLft.{⊑_static}
 use types.Logic.{Logic, sem}
 use types.Kit.{‵, raw, ◌⊛◌, later, ◌$◌, ◌∵◌, !, qed, by, move, keep, drop, use0, use1, use2, split, fsplit, fsplit3, fjoin, fjoin3, fpick, fpack, await, rewrite, updating, now, done}
@@ -15,8 +15,8 @@ use denote.Steps.{nothing}
 use Rattle.arcstr_count.specs.declared.steps.HandleState.{HandleState}
 use Rattle.arcstr_count.specs.declared.steps.HandleState.TheVariants.{Free, Dropping, Owing, Gone}
 use Rattle.arcstr_count.specs.Word.{FlagAndCount}
-use Rattle.arcstr_block.specs.Rights.{MaySee, IsFree, IsMarked, IsUnmarked, IsWord, counted, uncounted, Looks, Finds, Gains, Begins, Leaves}
-use Rattle.arcstr_block.specs.Book.{seat, seat_share, word_of}
+use Rattle.arcstr_block.specs.Rights.{MaySee, IsFree, IsMarked, IsUnmarked, counted, uncounted, Looks, Finds, Gains, Begins, Leaves}
+use Rattle.arcstr_block.specs.Book.{seat, seat_share}
 use Rattle.arcstr_block.specs.Ledger.{Id, parts, some_share, Inv, stated, for_good, right_to, shown, knows}
 use Rattle.arcstr_block.proofs.Parts.{parts_in}
 use Rattle.arcstr_block.proofs.Words.{odd_or_even, unmarked_word, last_two}

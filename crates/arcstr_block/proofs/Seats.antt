@@ -1,5 +1,5 @@
 -- The seats of a block's handles: read by any share, moved by what a handle has, and a new one at the end. Assumes `Logic`.
-use Rattle.std.proofs.Common.{◌≡◌, ℕ, zero, suc, ◌+◌, ◌<◌, List, [], ◌∷◌, ◌++◌, length, set, sym, refl, ap, ◌∙◌, subst, arith, Option, Some, None}
+use Rattle.std.proofs.Common.{◌≡◌, ℕ, zero, suc, ◌+◌, ◌<◌, List, [], ◌∷◌, ◌++◌, length, set, sym, refl, ap, subst, arith, Some}
 use Rattle.std.specs.Prelude.{slice_get}
 use mathlib.Core.Path.{Path}
 use mathlib.Mathlib.Data.Part.{◌∈◌}
@@ -11,16 +11,16 @@ use base.Fraction.{full_share}
 use base.Share.{quarter, three_quarters}
 use base.FractionLaws.{not-OpDef-full_share}
 use base.Share
-use base.Stored.{Gv, Coded}
+use base.Stored.{Gv}
 use base.SetCodes.{coded, SetCoded-set}
 use base.Algebras.{pcs, shares}
 use base.Logic.{SProp, ent, sep, ex, all, all_e, guard, guard_i, guard_e, upd, upd_i, upd_mono, emp, via, ex_e}
 use base.Fml.{Share, Fml}
 use ghost.Rules.{Halves}
 use types.Logic.{Logic, sem}
-use types.Keyed.{entry, entries_new, entries_take, entries_beside, entry_cut, entry_glue, entry_set}
-use types.Kit.{‵, raw, ◌⊛◌, some, given, ◌$◌, ◌∵◌, !, qed, by, move, keep, drop, split, join, fpick, fpack, pick, learn, check, frame, each, suffices, settle, show, done, use1, use2, rewrite}
-use Rattle.atomic_table.specs.Seated.{itself, halved, seen, unused, roster}
+use types.Keyed.{entry, entries_take, entries_beside, entry_cut, entry_glue, entry_set}
+use types.Kit.{‵, raw, ◌⊛◌, given, ◌$◌, ◌∵◌, !, qed, by, move, split, join, fpick, fpack, learn, check, suffices, settle, done, use1, use2, rewrite}
+use Rattle.atomic_table.specs.Seated.{itself, halved, unused, roster}
 use Rattle.arcstr_count.specs.declared.steps.HandleState.{HandleState}
 use Rattle.arcstr_count.specs.contracts.steps.HandleState.{the_row as state_row}
 use Rattle.arcstr_block.specs.Book.{state_code, seat, seat_share}

@@ -1,27 +1,23 @@
 -- One step on a block's word, and what it gains. Assumes `Logic`.
-use Rattle.std.proofs.Common.{◌≢◌, ◌≡◌, ℕ, ◌+◌, ◌-◌, ◌*◌, ◌/◌, ◌%◌, ◌^◌, ◌<◌, ◌≤◌, eqb, Bool, true, false, [], ◌∷◌, sym, refl, ap, ◌∙◌, subst, arith, eq-eqb, ne_eqb, w64, Option, Some, None}
-use Rattle.std.specs.Prelude.{bit_or}
+use Rattle.std.proofs.Common.{◌≡◌, ℕ, ◌+◌, ◌-◌, ◌^◌, ◌<◌, Bool, true, false, [], ◌∷◌, refl, arith, w64, Some, None}
 use mathlib.Core.Logic.{dite}
-use native.Mathlib.Decide.{ℕ_discrete, dec_le}
+use native.Mathlib.Decide.{ℕ_discrete}
 use seplogic.Ra.Ura.{Ura}
 use mir.Syntax.{ty_int}
 use mir.Val.{vint, has_ty, WT}
 use base.Fraction.{full_share}
-use base.Logic.{SProp, ent, sep, wand, ex, all, all_e, upd, upd_i, never, never_e, via, ex_i, id⊢}
-use base.Fml.{Lft, Share, Fml, ftrue, fsep, fex, fall, flft, fdead, flent, finv}
-use prog.Atomic.{either}
+use base.Logic.{SProp, ent, sep, wand, ex, all_e, upd, upd_i, never, never_e, via, ex_i}
+use base.Fml.{Share, Fml, ftrue, fsep, fex, flft, fdead, flent}
 use types.Logic.{Logic, sem}
-use types.Kit.{‵, raw, ◌⊛◌, given, later, ◌$◌, ◌∵◌, !, qed, by, move, keep, drop, split, split3, group, fsplit, fsplit3, fjoin, fjoin3, fpick, fpack, learn, show, frame, assume, suffices, settle, use1, use2, use3, rewrite, done}
+use types.Kit.{‵, raw, ◌⊛◌, given, ◌$◌, ◌∵◌, !, qed, by, move, keep, drop, split, split3, fsplit, fsplit3, fjoin, fpick, fpack, learn, show, frame, assume, suffices, settle, use1, use2, use3, done}
 use denote.RawPtr.{block_ptr}
 use denote.Steps.{nothing}
 use Rattle.core.specs.Sync.RawAtomic.{asks, always, word}
 use Rattle.arcstr_block.specs.Rights.{IsMarked, IsUnmarked, IsWord, uncounted}
 use Rattle.arcstr_block.specs.Book.{Book}
 use Rattle.arcstr_block.specs.Ledger.{fact, parts, some_share, Id, Phase, unmarked, marked, Fits, rest, counting, if_alive, Inv, knows, stated}
-use Rattle.arcstr_block.proofs.Words.{or_unmarked, or_marked}
-use Rattle.arcstr_block.proofs.Parts.{share_in}
-use Rattle.arcstr_block.proofs.Ledger.{phase_in, not_alive, share_not_alive, takes, gives, gives_last, gives_marked, too_many, marks, marked_in, finds_mark}
-use Rattle.arcstr_block.proofs.Atomic.{Closed, Out, Again, Lies, asked, frames}
+use Rattle.arcstr_block.proofs.Ledger.{phase_in, not_alive, marks, marked_in, finds_mark}
+use Rattle.arcstr_block.proofs.Atomic.{Closed, Out, Lies, asked, frames}
 
 -- nothing, a part, a share for good, or the word and what the block owns
 pub data Gain : Type 0 where

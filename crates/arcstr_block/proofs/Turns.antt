@@ -1,17 +1,17 @@
 -- What a clone's steps do to the history, by the word that they find. Assumes `Logic`.
-use Rattle.std.proofs.Common.{◌≡◌, ◌≢◌, ℕ, ◌^◌, ◌<◌, eqb, Bool, inl, inr, [], ◌∷◌, refl, sym, ap, subst, arith, eq-eqb, ne_eqb}
+use Rattle.std.proofs.Common.{◌≡◌, ◌≢◌, ℕ, eqb, inl, inr, [], ◌∷◌, refl, sym, ap, subst, arith, eq-eqb, ne_eqb}
 use Rattle.std.specs.Prelude.{◌⊎◌}
 use mathlib.Core.Logic.{dite}
 use native.Mathlib.Decide.{ℕ_discrete}
 use seplogic.Ra.Ura.{Ura}
 use base.Logic.{SProp, ent, sep, upd, upd_i, emp, all_i, id⊢}
-use base.Fml.{GName, Share, Fml, ftrue, fall}
+use base.Fml.{GName, Share, Fml, fall}
 use prog.Atomic.{either}
 use types.Logic.{Logic, sem}
-use types.Kit.{‵, raw, ◌⊛◌, ◌$◌, ◌∵◌, !, qed, by, move, drop, split3, use1, use2, suffices, settle, done}
+use types.Kit.{‵, raw, ◌⊛◌, ◌$◌, ◌∵◌, !, qed, move, split3, use1, use2, suffices, settle, done}
 use denote.Steps.{nothing}
 use Rattle.arcstr_count.specs.declared.steps.HandleState.TheVariants.{Free}
-use Rattle.arcstr_block.specs.Rights.{IsMarked, IsUnmarked, IsClone}
+use Rattle.arcstr_block.specs.Rights.{IsMarked, IsClone}
 use Rattle.arcstr_block.specs.Book.{Book, seat_share}
 use Rattle.arcstr_block.proofs.Words.{odd_or_even, word_kept, word_cloned}
 use Rattle.arcstr_block.proofs.Book.{Born, book_clone}

@@ -1,5 +1,5 @@
 -- The words that a step leaves, as numbers.
-use Rattle.std.proofs.Common.{◌≢◌, ◌==◌, eq-eqb, ne_eqb, Bool, true, false, if◌then◌else◌, inl, inr, ◌≡◌, ℕ, ◌+◌, ◌-◌, ◌*◌, ◌/◌, ◌%◌, ◌^◌, ◌<◌, ◌≤◌, refl, sym, ap, ◌∙◌, subst, arith, lit<}
+use Rattle.std.proofs.Common.{◌≢◌, ◌==◌, eq-eqb, ne_eqb, true, false, if◌then◌else◌, inl, inr, ◌≡◌, ℕ, ◌+◌, ◌-◌, ◌*◌, ◌/◌, ◌%◌, ◌^◌, ◌<◌, refl, sym, ap, ◌∙◌, arith, lit<}
 use Rattle.std.specs.Prelude.{bit_or}
 use Rattle.std.specs.Int.Bits.{or_zero_r}
 use Rattle.std.proofs.lemmas.Nat.{or_block}
@@ -7,7 +7,7 @@ use Rattle.std.proofs.lemmas.Bool.{lt-ltb, le-ltb}
 use Rattle.std.specs.Prelude.{◌⊎◌}
 use mathlib.Core.Logic.{dite}
 use native.Mathlib.Decide.{ℕ_discrete, dec_le}
-use Rattle.arcstr_count.specs.Word.{FlagAndCount, marked_of, cloned_of, dropped_of, is_last}
+use Rattle.arcstr_count.specs.Word.{marked_of, cloned_of, dropped_of, is_last}
 use Rattle.arcstr_block.specs.Rights.{IsMarked, IsUnmarked, IsClone}
 use Rattle.arcstr_block.specs.Book.{word_of}
 

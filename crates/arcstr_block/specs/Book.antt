@@ -1,5 +1,5 @@
 -- The history of a block, kept beside its word: the steps up to now, which only grow, and a seat for each handle that was ever born.
-use Rattle.std.specs.Prelude.{◌≡◌, ℕ, ◌/◌, ◌%◌, ◌==◌, List, [], ◌∷◌}
+use Rattle.std.specs.Prelude.{ℕ, ◌/◌, ◌%◌, ◌==◌, List}
 use base.Fraction.{full_share}
 use base.Share.{three_quarters}
 use base.Growing.{Order, prefixes, latest, at_least}

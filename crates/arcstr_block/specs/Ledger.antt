@@ -6,7 +6,7 @@
 use Rattle.std.specs.Prelude.{◌≡◌, ℕ, zero, suc, ◌+◌, ◌-◌, ◌*◌, ◌/◌, ◌^◌, ◌<◌, ◌≤◌, Bool, true, false, List, [], ◌∷◌}
 use base.Fraction.{full_share}
 use base.FractionLaws.{Counts}
-use base.Fml.{Lft, GName, Share, Fml, ftrue, ffalse, fsep, fex, fall, fwand, flft, fdead, flent, fshr_bor, finv}
+use base.Fml.{Lft, GName, Share, Fml, ftrue, fsep, fex, fall, fwand, flft, fdead, flent, fshr_bor, finv}
 use mir.Syntax.{Ty}
 use mir.Raw.{raw}
 use prog.Memory.{up, align}

@@ -1,5 +1,5 @@
 -- Two pointers to one block, and what a step of one says of the other.
-use Rattle.std.specs.Prelude.{◌≡◌, ℕ, List}
+use Rattle.std.specs.Prelude.{◌≡◌, ℕ}
 use Rattle.arcstr_count.specs.declared.steps.Step.{Step}
 use Rattle.arcstr_count.specs.declared.steps.Step.TheVariants.{Look, Begin, Sub}
 use Rattle.arcstr_count.specs.declared.steps.Reply.{Reply}

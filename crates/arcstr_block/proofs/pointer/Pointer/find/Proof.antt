@@ -1,12 +1,11 @@
 -- `find` is one load. Whoever finds the mark has a clone.
-use Rattle.std.proofs.Common.{◌≡◌, ℕ, ◌+◌, ◌^◌, ◌<◌, List, [], ◌∷◌, ◌++◌, sym, refl, ap, ◌∙◌, lit<, w64}
+use Rattle.std.proofs.Common.{◌≡◌, ℕ, ◌+◌, ◌^◌, List, [], ◌∷◌, ◌++◌, sym, refl, ap, ◌∙◌, lit<, w64}
 use mir.Syntax.{dcons, dnil, a_type, named}
-use mir.Val.{Val, vint, vptr, vstruct, vcons, vnil, of_list}
+use mir.Val.{Val, vint, vptr, vstruct, of_list}
 use mir.MapTy.{inst_fn}
-use base.Logic.{SProp, emp, via, guard_i}
+use base.Logic.{SProp, emp, via}
 use base.Fml.{Lft, Share, Fml, ftrue, fsep, fex, feq, flft, fhide, finv, fshr_bor}
-use types.Logic.{sem}
-use types.Kit.{‵, raw, ◌⊛◌, some, given, later, mean, at_ret, ◌$◌, ◌∵◌, !, qed, by, move, keep, drop, split, split3, join, fsplit, fsplit3, fjoin, fjoin3, fpick, fpack, pick, learn, use0, use1, use2, use3, await, rewrite, feq_i, flt_i}
+use types.Kit.{‵, raw, ◌⊛◌, later, mean, at_ret, ◌$◌, ◌∵◌, !, qed, by, move, keep, drop, split, split3, join, fsplit, fsplit3, fjoin, fjoin3, fpick, fpack, use0, use1, use2, use3, await, rewrite, feq_i, flt_i}
 use types.Run.{stop, fld, load, addr, lit, of_opd, no_more, and_then, first, blocks, exec, Calls-last, returns, enter}
 use types.ByLocal.{alloc_all, pass_all, free_all, look_at, get, through, sets, lands_last, is, env}
 use types.Part.{agg, sub, whole, look_in}
@@ -17,7 +16,7 @@ use contract.Monad.{fact, fact_i}
 use denote.Exit.{yes}
 use denote.RattleType.{RattleType, Valss, owns}
 use denote.Signature.{types_at, plain}
-use denote.RawPtr.{Ptr, InBlock, block_ptr, ptr_val, block_of, count_of, at_block}
+use denote.RawPtr.{Ptr, InBlock, block_ptr, block_of, count_of, at_block}
 use denote.Steps.{nothing, peeks, heard, looks, shuts}
 use denote.Opens.{unhide}
 use denote.Laws.{Is, shows}
@@ -26,25 +25,20 @@ use denote.Param.{param, bounded}
 use denote.Param.Laws.{param_laws}
 use denote.Builtin.{RefOf, u64}
 use denote.Ref.{shr_vals, shr_Tells}
-use denote.SharingLaws.{contraction}
 use denote.Struct.Lending.{lent_out, lent_at_shr_laws}
 use denote.Triple.Walked.{Stays, stay_dropped, walk_of, Goes-dropped}
 use Rattle.core.proofs.atomic.Steps.{tail}
 use Rattle.core.specs.contracts.marker.PhantomData as Marker
 use Rattle.atomic_table.proofs.Walks.{proved, leaves}
 use Rattle.atomic_table.proofs.Calls.{fm, seq_cst, found, finds, loads}
-use Rattle.arcstr_block.specs.Rights.{IsFree, MaySee, IsWord, IsMarked, Finds}
-use Rattle.arcstr_block.specs.Ledger.{Id, Inv, block_owns, block_shares, value_at, known, knows, held_with, right_to, shown, of_block, of_block_shown, pointer_owns, pointer_shares}
+use Rattle.arcstr_block.specs.Rights.{IsFree, IsWord, IsMarked, Finds}
+use Rattle.arcstr_block.specs.Ledger.{Id, Inv, block_owns, block_shares, value_at, knows, right_to, of_block, pointer_shares}
 use Rattle.arcstr_block.specs.contracts.pointer.Pointer as C
 use Rattle.arcstr_block.proofs.Fields.{pointer_val, typed, found_val, found_typed, Words, told, made, opened}
 use base.Share
-use Rattle.arcstr_count.specs.declared.steps.Step.{Step}
 use Rattle.arcstr_count.specs.declared.steps.HandleState.TheVariants.{Free}
-use Rattle.arcstr_count.specs.OneBlock.{EndsIn, look_reply}
-use Rattle.arcstr_block.specs.Book.{reached, seat_share, seat, Ends, word_of}
+use Rattle.arcstr_block.specs.Book.{seat_share}
 use Rattle.arcstr_block.proofs.Seats.{seat_halves}
-use Rattle.arcstr_count.specs.declared.steps.Step.TheVariants.{Look}
-use Rattle.arcstr_count.specs.Word.{looked_of}
 use Rattle.arcstr_block.proofs.Turns.{finds as turn_finds}
 use Rattle.arcstr_block.proofs.Rights as rights
 use Rattle.arcstr_block.proofs.Steps as steps

@@ -1,55 +1,42 @@
 -- `leave` is one fetch-sub. The last one has the word and what the block owns.
-use Rattle.std.proofs.Common.{◌≡◌, ℕ, ◌+◌, ◌^◌, ◌<◌, List, [], ◌∷◌, ◌++◌, sym, refl, ap, ◌∙◌, subst, if◌then◌else◌, lit<, w64}
-use mir.Syntax.{dcons, dnil, a_type, named}
-use mir.Val.{Val, vint, vptr, vstruct, vcons, vnil, of_list}
+use Rattle.std.proofs.Common.{◌≡◌, ℕ, ◌+◌, ◌^◌, List, [], ◌∷◌, ◌++◌, sym, refl, ap, subst, if◌then◌else◌, lit<, w64}
+use mir.Syntax.{dcons, dnil, a_type}
+use mir.Val.{Val, vint, vptr, vstruct, of_list}
 use mir.MapTy.{inst_fn}
-use base.Logic.{SProp, emp, via, guard_i}
-use base.Fml.{Lft, Share, Fml, ftrue, fsep, fex, feq, flft, fhide, finv, fshr_bor}
-use types.Logic.{sem}
-use types.Kit.{‵, raw, ◌⊛◌, some, given, later, mean, at_ret, ◌$◌, ◌∵◌, !, qed, by, move, keep, drop, split, split3, join, fsplit, fsplit3, fjoin, fjoin3, fpick, fpack, pick, learn, use0, use1, use2, use3, await, rewrite, feq_i, flt_i}
+use base.Logic.{SProp, emp, via}
+use base.Fml.{Lft, Fml, ftrue, fsep, feq, finv}
+use types.Kit.{‵, raw, ◌⊛◌, later, mean, at_ret, ◌$◌, ◌∵◌, !, qed, by, move, keep, drop, split, join, fsplit, fsplit3, fjoin, fjoin3, fpick, fpack, use0, use1, use3, await, rewrite, feq_i, flt_i}
 use types.Run.{stop, fld, addr, lit, of_opd, no_more, and_then, first, blocks, exec, Calls-last, returns, enter}
 use types.ByLocal.{alloc_all, pass_all, free_all, look_at, get, get_in, through, sets, lands_last, is, env}
-use types.Part.{agg, sub, whole, look_in}
-use types.Tokens.{shr_bor-open, obor_close}
-use types.Within.{tokens_halve}
+use types.Part.{agg, sub, whole}
 use contract.Running.{tables}
 use contract.Monad.{fact, fact_i}
 use denote.Exit.{no}
 use denote.RattleType.{RattleType, Valss, owns}
 use denote.Signature.{types_at, plain}
 use denote.RawPtr.{Ptr, InBlock, block_ptr, ptr_val, block_of, count_of, at_block}
-use denote.Steps.{nothing, peeks, heard, looks, shuts}
-use denote.Opens.{unhide}
-use denote.Laws.{Is, shows}
-use denote.Memory.{cell_at, hidden_shr}
+use denote.Steps.{nothing, heard}
 use denote.Param.{param, bounded}
 use denote.Param.Laws.{param_laws}
-use denote.Builtin.{RefOf, u64}
-use denote.Ref.{shr_vals, shr_Tells}
-use denote.SharingLaws.{contraction}
-use denote.Struct.Lending.{lent_out, lent_at_shr_laws}
+use denote.Builtin.{u64}
+use denote.Struct.Lending.{lent_at_shr_laws}
 use denote.Triple.Entry.{alive}
 use denote.Triple.Walked.{Stays, stay_dropped, walk_of, Goes-dropped}
 use Rattle.core.proofs.atomic.Steps.{tail}
-use Rattle.core.specs.contracts.marker.PhantomData as Marker
 use Rattle.atomic_table.proofs.Walks.{proved, leaves}
 use Rattle.atomic_table.proofs.Calls.{fm, seq_cst, found, finds, subs}
 use Rattle.arcstr_block.specs.Rights.{dropping, Leaves}
 use Rattle.std.specs.Prelude.{◌≢◌}
-use Rattle.arcstr_block.specs.Ledger.{Id, Inv, block_owns, block_shares, value_at, known, knows, held_with, right_to, shown, of_block, of_block_shown, pointer_owns, pointer_shares, free}
+use Rattle.arcstr_block.specs.Ledger.{Id, Inv, block_owns, block_shares, value_at, held_with, right_to, of_block}
 use Rattle.arcstr_block.specs.contracts.pointer.Pointer as C
-use Rattle.arcstr_block.proofs.Fields.{pointer_val, typed, found_val, found_typed, Words, told, made, opened}
-use Rattle.arcstr_count.specs.declared.steps.Step.{Step}
-use Rattle.arcstr_count.specs.declared.steps.HandleState.{HandleState}
+use Rattle.arcstr_block.proofs.Fields.{pointer_val, typed, found_val, found_typed, Words, told, made}
 use Rattle.arcstr_count.specs.declared.steps.HandleState.TheVariants.{Dropping}
 use Rattle.arcstr_count.specs.declared.steps.Step.TheVariants.{Sub}
-use Rattle.arcstr_count.specs.declared.steps.Reply.{Reply}
-use Rattle.arcstr_count.specs.declared.steps.Reply.TheVariants.{Ended, Looked, Owes, Left}
-use Rattle.arcstr_count.specs.Word.{FlagAndCount}
+use Rattle.arcstr_count.specs.declared.steps.Reply.TheVariants.{Owes, Left}
 use Rattle.arcstr_count.specs.OneBlock.{EndsIn}
-use Rattle.arcstr_block.specs.Book.{reached, seat, Ends, word_of}
-use Rattle.arcstr_block.proofs.Book.{book_begin, begun, begin_reply, book_sub, left_in, sub_reply}
-use Rattle.arcstr_block.proofs.Words.{marked_word, unmarked_word, last_two, not_last}
+use Rattle.arcstr_block.specs.Book.{seat, Ends}
+use Rattle.arcstr_block.proofs.Book.{book_sub, left_in, sub_reply}
+use Rattle.arcstr_block.proofs.Words.{last_two, not_last}
 use Rattle.arcstr_block.proofs.Rights as rights
 use Rattle.arcstr_block.proofs.Steps as steps
 use Rattle.arcstr_block.proofs.Changes as changes

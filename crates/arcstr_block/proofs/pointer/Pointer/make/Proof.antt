@@ -1,17 +1,15 @@
 -- `make` puts the word under the ledger's invariant, and lends what the block holds.
-use Rattle.std.proofs.Common.{◌≡◌, ℕ, ◌+◌, ◌^◌, ◌<◌, List, [], ◌∷◌, ◌++◌, sym, refl, ap, ◌∙◌, subst, lit<, w64, arith}
+use Rattle.std.proofs.Common.{◌≡◌, ℕ, ◌+◌, ◌<◌, List, [], ◌∷◌, ◌++◌, sym, refl, subst}
 use mir.Syntax.{dcons, dnil, a_type}
 use mir.Val.{Val, vptr, vstruct, vcons, vnil, of_list}
 use mir.MapTy.{inst_fn}
-use mir.Raw.{raw as bare}
 use base.Fraction.{full_share}
 use base.Logic.{SProp, ent, emp, id⊢}
-use base.Fml.{Share, Fml, ftrue, fsep, fex, feq, flft, Incl-refl}
+use base.Fml.{Fml, ftrue, fsep, fex, feq, flft, Incl-refl}
 use prog.Wp.{WpFn}
-use types.Logic.{sem}
-use types.Kit.{Item, ‵, raw, ◌⊛◌, later, ◌$◌, ◌∵◌, !, qed, by, move, keep, drop, split, split3, join, fsplit, fsplit3, fjoin, fjoin3, fpick, fpack, group, use0, use1, use2, use3, await, rewrite, feq_i, suffices}
+use types.Kit.{Item, ‵, raw, ◌⊛◌, later, ◌$◌, ◌∵◌, !, qed, by, move, keep, split, split3, join, fsplit, fjoin, fjoin3, fpick, fpack, group, use0, use1, use2, await, rewrite, feq_i, suffices}
 use types.Run.{stop, fld, of_opd, no_more, and_then, returns, enter}
-use types.ByLocal.{alloc_all, pass_all, free_all, look_at, get, get_in, sets, is}
+use types.ByLocal.{alloc_all, pass_all, free_all, look_at, get, get_in, sets}
 use types.Part.{agg, sub, whole}
 use contract.Running.{tables}
 use contract.Monad.{fact, fact_i}
@@ -19,31 +17,26 @@ use contract.BorrowLft.{◌⊑◌}
 use denote.Exit.{no}
 use denote.RattleType.{RattleType, Valss, owns}
 use denote.Signature.{types_at, plain}
-use denote.RawPtr.{Ptr, InBlock, block_ptr, ptr_val, block_of, count_of, at_block, lies_at}
+use denote.RawPtr.{Ptr, InBlock, block_ptr, lies_at}
 use denote.Steps.{nothing, heard}
-use denote.Memory.{lone}
 use denote.Param.{param, bounded, layout}
 use denote.Param.Laws.{param_laws}
 use denote.Shares.{Shares-less}
-use denote.Struct.Lending.{lent_at, lent_at_shr_laws, Lends-first, Lends-lies}
-use denote.Triple.Entry.{alive}
-use denote.Triple.Walked.{Stays, stay_dropped, walk_of, Goes-dropped}
-use Rattle.core.specs.Ptr.{points_to}
+use denote.Struct.Lending.{lent_at_shr_laws, Lends-first, Lends-lies}
+use denote.Triple.Walked.{Stays, stay_dropped, walk_of}
 use Rattle.core.specs.Sync.RawAtomic.{word}
-use Rattle.core.proofs.alloc.Calls.{Al, handle_tells, Goes-blank}
-use Rattle.std_alloc.specs.Box.Ownership.{box_owns}
+use Rattle.core.proofs.alloc.Calls.{Goes-blank}
 use Rattle.std_alloc.proofs.ResultValues.{and_tt}
 use Rattle.atomic_table.proofs.Walks.{proved_at, leaves}
-use Rattle.arcstr_block.specs.Rights.{counted, owed}
-use Rattle.arcstr_block.specs.Ledger.{Id, Inv, block_owns, block_shares, value_at, rejoins, stated, known, knows, held_with, right_to, shown, of_block, of_block_shown, pointer_owns, pointer_shares}
-use Rattle.arcstr_block.proofs.Rights as rights
+use Rattle.arcstr_block.specs.Rights.{counted}
+use Rattle.arcstr_block.specs.Ledger.{Id, block_owns, block_shares, value_at, rejoins, held_with, of_block}
 use Rattle.arcstr_block.specs.contracts.block.Block.{the_row as block_row}
 use Rattle.arcstr_block.specs.contracts.pointer.Pointer as C
 use Rattle.arcstr_count.specs.declared.steps.Step.TheVariants.{Make}
 use Rattle.arcstr_block.specs.Book.{reached}
-use Rattle.arcstr_block.proofs.Fields.{pointer_val, typed, Words, told, made}
-use Rattle.arcstr_block.proofs.LooseValues.{both, Loose, loose_good, loose_in, loose_out}
-use Rattle.arcstr_block.proofs.Memory.{cuts, joins}
+use Rattle.arcstr_block.proofs.Fields.{pointer_val, typed, Words, made}
+use Rattle.arcstr_block.proofs.LooseValues.{both, Loose, loose_good, loose_out}
+use Rattle.arcstr_block.proofs.Memory.{cuts}
 use Rattle.arcstr_block.proofs.Begins.{begins}
 use Rattle.arcstr_block.specs.contracts.pointer.Pointer.make.{ended, clauses}
 use Rattle.arcstr_block.specs.contracts.pointer.Pointer.make.Key.{name as #self}

@@ -1,46 +1,37 @@
 -- `seen` hands out what the pointer knows of the history, which is for good.
-use Rattle.std.proofs.Common.{◌≡◌, ℕ, ◌+◌, ◌^◌, ◌<◌, List, [], ◌∷◌, ◌++◌, sym, refl, ap, ◌∙◌, lit<, w64}
+use Rattle.std.proofs.Common.{◌≡◌, ℕ, ◌+◌, [], ◌∷◌, refl}
 use mir.Syntax.{dcons, dnil, a_type, named}
-use mir.Val.{Val, vint, vptr, vstruct, vcons, vnil, of_list}
+use mir.Val.{Val, vptr}
 use mir.MapTy.{inst_fn}
-use base.Logic.{SProp, emp, via, guard_i}
-use base.Fml.{Lft, Share, Fml, ftrue, fsep, fex, feq, flft, fhide, finv, fshr_bor}
-use types.Logic.{sem}
-use types.Kit.{‵, raw, ◌⊛◌, some, given, later, mean, at_ret, ◌$◌, ◌∵◌, !, qed, by, move, keep, drop, split, split3, join, fsplit, fsplit3, fjoin, fjoin3, fpick, fpack, pick, learn, use0, use1, use2, use3, await, rewrite, feq_i, flt_i}
-use types.Run.{stop, fld, load, addr, lit, of_opd, no_more, and_then, first, blocks, exec, Calls-last, returns, enter}
-use types.ByLocal.{alloc_all, pass_all, free_all, look_at, get, through, sets, lands_last, is, env}
-use types.Part.{agg, sub, whole, look_in}
-use types.Tokens.{shr_bor-open, obor_close}
-use types.Within.{tokens_halve}
+use base.Logic.{SProp, emp}
+use base.Fml.{Lft, Share, Fml, ftrue, fsep, flft, fhide}
+use types.Kit.{‵, raw, ◌⊛◌, ◌$◌, ◌∵◌, !, qed, by, move, keep, drop, split, join, fsplit, fjoin, fpick, use0, use1, rewrite}
+use types.Run.{no_more, and_then, returns, enter}
+use types.ByLocal.{alloc_all, pass_all, free_all, look_at, get, sets}
+use types.Part.{agg}
 use contract.Running.{tables}
 use contract.Monad.{fact, fact_i}
 use denote.Exit.{yes}
-use denote.RattleType.{RattleType, Valss, owns}
+use denote.RattleType.{RattleType, owns}
 use denote.Signature.{types_at, plain}
-use denote.RawPtr.{Ptr, InBlock, block_ptr, ptr_val, block_of, count_of, at_block}
-use denote.Steps.{nothing, peeks, heard, looks, shuts}
+use denote.RawPtr.{Ptr, block_of, count_of}
+use denote.Steps.{nothing}
 use denote.Opens.{unhide}
-use denote.Laws.{Is, shows}
-use denote.Memory.{cell_at, hidden_shr}
+use denote.Memory.{hidden_shr}
 use denote.Param.{param, bounded}
 use denote.Param.Laws.{param_laws}
 use denote.Builtin.{RefOf, unit}
 use denote.Ref.{shr_vals, shr_Tells}
-use denote.SharingLaws.{contraction}
 use denote.Struct.Lending.{lent_out, lent_at_shr_laws}
 use denote.Triple.Walked.{Stays, stay_dropped, walk_of, Goes-dropped}
-use Rattle.core.proofs.atomic.Steps.{tail}
 use Rattle.core.specs.contracts.marker.PhantomData as Marker
 use Rattle.atomic_table.proofs.Walks.{proved, leaves}
-use Rattle.atomic_table.proofs.Calls.{fm, seq_cst, found, finds, ors}
-use Rattle.arcstr_block.specs.Rights.{MaySee, fixed}
-use Rattle.arcstr_block.specs.Ledger.{Id, Inv, block_owns, block_shares, value_at, rejoins, stated, known, knows, held_with, right_to, shown, of_block, of_block_shown, pointer_owns, pointer_shares}
-use Rattle.arcstr_block.proofs.Rights as rights
+use Rattle.arcstr_block.specs.Ledger.{block_owns, block_shares, value_at, pointer_shares}
 use Rattle.arcstr_block.specs.contracts.pointer.Pointer as C
 use Rattle.arcstr_block.specs.contracts.seen.Seen as Seen
 use Rattle.arcstr_block.specs.Book.{reached}
 use Rattle.logbook.proofs.Fields.{token, Token, token_made}
-use Rattle.arcstr_block.proofs.Fields.{pointer_val, typed, found_val, found_typed, Words, told, made, opened}
+use Rattle.arcstr_block.proofs.Fields.{Words}
 use Rattle.arcstr_block.specs.contracts.pointer.Pointer.seen.{ended, clauses}
 use Rattle.arcstr_block.specs.contracts.pointer.Pointer.seen.Key.{name as #self}
 use Rattle.arcstr_block.proofs.pointer.Pointer.seen.Statement.{statement}

@@ -1,23 +1,20 @@
 -- `value` shows what the block holds, for as long as the pointer is borrowed.
-use Rattle.std.proofs.Common.{◌≡◌, ℕ, ◌+◌, ◌^◌, ◌<◌, List, [], ◌∷◌, ◌++◌, sym, refl, ap, ◌∙◌, lit<, w64}
+use Rattle.std.proofs.Common.{◌≡◌, ℕ, ◌+◌, List, [], ◌∷◌, sym, refl, ap, ◌∙◌}
 use mir.Syntax.{dcons, dnil, a_type, named}
-use mir.Val.{Val, vint, vptr, vstruct, vcons, vnil, of_list}
+use mir.Val.{Val, vptr}
 use mir.MapTy.{inst_fn}
-use base.Logic.{SProp, emp, via, guard_i}
-use base.Fml.{Lft, Share, Fml, ftrue, fsep, fex, feq, flft, fhide, finv, fshr_bor}
-use types.Logic.{sem}
-use types.Kit.{‵, raw, ◌⊛◌, some, given, later, mean, at_ret, ◌$◌, ◌∵◌, !, qed, by, move, keep, drop, split, split3, join, fsplit, fsplit3, fjoin, fjoin3, fpick, fpack, pick, learn, use0, use1, use2, use3, await, rewrite, feq_i, flt_i}
-use types.Run.{stop, fld, hop, load, addr, lit, of_opd, no_more, and_then, first, blocks, exec, Calls-last, returns, enter}
-use types.ByLocal.{alloc_all, pass_all, free_all, look_at, get, through, sets, sets_last, lands_last, is, env}
-use types.Part.{agg, sub, whole, look_in}
-use types.Tokens.{shr_bor-open, obor_close}
-use types.Within.{tokens_halve}
+use base.Logic.{SProp, emp}
+use base.Fml.{Lft, Share, Fml, ftrue, fsep, flft, fhide, finv, fshr_bor}
+use types.Kit.{‵, raw, ◌⊛◌, at_ret, ◌$◌, ◌∵◌, !, qed, by, move, keep, drop, split, split3, join, fsplit, fjoin, fpick, use0, use1, use2, rewrite, feq_i}
+use types.Run.{stop, fld, hop, addr, of_opd, first, blocks, exec, returns, enter}
+use types.ByLocal.{alloc_all, pass_all, free_all, look_at, get, through, sets, sets_last, env}
+use types.Part.{sub, whole, look_in}
 use contract.Running.{tables}
 use contract.Monad.{fact, fact_i}
 use denote.Exit.{yes}
-use denote.RattleType.{RattleType, Valss, owns}
+use denote.RattleType.{RattleType, owns}
 use denote.Signature.{types_at, plain}
-use denote.RawPtr.{◌+ₚ◌, Ptr, InBlock, block_ptr, ptr_val, block_of, count_of, at_block}
+use denote.RawPtr.{◌+ₚ◌, Ptr, block_ptr, block_of, count_of, at_block}
 use denote.Steps.{nothing, peeks, heard, looks, shuts}
 use denote.Opens.{unhide, hide}
 use denote.Moves.{moves_from}
@@ -27,20 +24,18 @@ use denote.Laws.{Is, shows}
 use denote.Memory.{cell_at, hidden_shr, lone}
 use denote.Param.{param, bounded}
 use denote.Param.Laws.{param_laws}
-use denote.Builtin.{RefOf, u64}
+use denote.Builtin.{RefOf}
 use denote.Ref.{shr_vals, shr_Tells}
-use denote.SharingLaws.{contraction}
 use denote.Struct.Lending.{lent_at, lent_out, lent_at_shr_laws}
 use denote.Triple.Walked.{Stays, stay_dropped, walk_of, Goes-dropped}
 use Rattle.core.proofs.atomic.Steps.{tail}
 use Rattle.core.specs.contracts.marker.PhantomData as Marker
 use Rattle.atomic_table.proofs.Walks.{proved, leaves}
-use Rattle.atomic_table.proofs.Calls.{fm, seq_cst, found, finds, loads}
 use Rattle.arcstr_block.specs.Rights.{MaySee}
-use Rattle.arcstr_block.specs.Ledger.{Id, Inv, block_owns, block_shares, value_at, rejoins, stated, known, knows, held_with, right_to, shown, of_block, of_block_shown, pointer_owns, pointer_shares}
+use Rattle.arcstr_block.specs.Ledger.{Inv, block_owns, block_shares, value_at, pointer_shares}
 use Rattle.arcstr_block.proofs.Rights as rights
 use Rattle.arcstr_block.specs.contracts.pointer.Pointer as C
-use Rattle.arcstr_block.proofs.Fields.{pointer_val, typed, found_val, found_typed, Words, told, made, opened}
+use Rattle.arcstr_block.proofs.Fields.{pointer_val, Words, told, opened}
 use Rattle.arcstr_block.specs.contracts.pointer.Pointer.value.{ended, clauses}
 use Rattle.arcstr_block.specs.contracts.pointer.Pointer.value.Key.{name as #self}
 use Rattle.arcstr_block.proofs.pointer.Pointer.value.Statement.{statement}

@@ -1,12 +1,10 @@
 -- A `&` to a `Seen` holds what it has: the fact is had twice. Assumes `Logic`.
 use base.Before.{before}
-use base.Logic.{sep, snd∗}
+use base.Logic.{snd∗}
 use types.Logic.{sem}
 use denote.Param.Shared.{copy_shared}
 use denote.Struct.Laws.{field_copy}
 use denote.Struct.Lending.{of_Lends}
-use denote.Struct.Tuple.{Tuple}
-use mathlib.Core.List.{[]}
 use Rattle.core.specs.contracts.marker.PhantomData as Marker
 use Rattle.logbook.proofs.Fields.{lends_twice}
 use denote.Builtin.{unit}
