@@ -1,10 +1,10 @@
 -- One step on a word that lies in an invariant. It may end a lifetime. Assumes `Logic`.
-use Rattle.std.proofs.Common.{ℕ, ◌^◌, ◌<◌, [], ◌∷◌, Option, Some, None}
+use Rattle.std.proofs.Common.{ℕ, [], ◌∷◌, Option, Some, None}
 use mathlib.Core.List.{List, Mem, not-mem-nil}
 use seplogic.Ra.Ura.{Ura}
 use base.Fraction.{full_share}
 use base.Logic.{SProp, ent, sep, wand, ex, guard, upd, upd_i, ex_i, apply∗}
-use base.Fml.{Fml, fnamed, finv, flft, fdead}
+use base.Fml.{Fml, fsep, fnamed, finv, flft, fdead}
 use types.Logic.{Logic, sem}
 use types.Kit.{‵, raw, ◌⊛◌, some, ◌$◌, ◌∵◌, !, qed, by, move, split, pick, show, check, frame, each, assume, suffices, settle, use1, use2, done}
 use denote.RawPtr.{block_ptr}
@@ -76,3 +76,26 @@ module _ {M : Type 1} {𝓤 : Ura M} (𝓛 : Logic 𝓤) (I : Fml) (b o : ℕ) (
       let S : Option ℕ → Pr = λ e. along 𝓛 (way e) (if_none 𝓛 (T j n)) (L j n) in
       suffices ! _ (ex_i 𝓤 (λ (s : Shift). along 𝓛 s (if_none 𝓛 (T j n)) (L j n)) (picks (Option ℕ) way)) $
       settle 𝓛 (ex 𝓤 S) (some (λ (e : Option ℕ). raw (Out n e))) $ suffices ! _ (upd_i 𝓤 (ex 𝓤 S)) $ pick ! (λ e. show ! S e $ by ! (ways j n e)))))
+
+-- what goes beside a step goes beside what follows it
+module _ {M : Type 1} {𝓤 : Ura M} (𝓛 : Logic 𝓤) (I : Fml) (b o : ℕ) (f : ℕ → ℕ) (after beside : ℕ → Fml) (n : ℕ) where
+  abbrev pub both_after : ℕ → Fml
+  both_after m = fsep (beside m) (after m)
+
+  abbrev Old : SProp 𝓤
+  Old = Closed 𝓛 I b o f after n
+
+  abbrev New : SProp 𝓤
+  New = Closed 𝓛 I b o f both_after n
+
+  joined : ent 𝓤 (sep 𝓤 (sem 𝓛 (beside n)) Old) New
+  joined = qed 𝓛 (‵ (beside n) ∷ (‵ I ⊛ ‵ (after n)) ∷ []) ∵ move ! (1 ∷ []) $ split ! $ move ! (0 ∷ 2 ∷ 1 ∷ []) $ done !
+
+  framed : (e : Option ℕ) → ent 𝓤 (sep 𝓤 (sem 𝓛 (beside n)) (Out 𝓛 I b o f after n e)) (Out 𝓛 I b o f both_after n e)
+  framed None = joined
+  framed (Some d) = let Dead : SProp 𝓤 = 𝓛.A.dead (d ∷ []) in let Then : SProp 𝓤 = wand 𝓤 Dead (upd 𝓤 Old) in
+      qed 𝓛 (‵ (beside n) ∷ (‵ (flft (d ∷ []) full_share) ⊛ raw Then) ∷ []) ∵ move ! (1 ∷ []) $ split ! $ frame ! $ assume ! (‵ (fdead (d ∷ []))) $
+      use2 𝓛 (raw (upd 𝓤 Old)) (apply∗ 𝓤 Dead (upd 𝓤 Old)) $ settle 𝓛 New (raw Old) $ suffices ! _ (upd_i 𝓤 New) $ move ! (1 ∷ 0 ∷ []) $ by ! joined
+
+  pub frames : ent 𝓤 (sep 𝓤 (sem 𝓛 (beside n)) (ex 𝓤 (Out 𝓛 I b o f after n))) (ex 𝓤 (Out 𝓛 I b o f both_after n))
+  frames = qed 𝓛 (‵ (beside n) ∷ some (λ (e : Option ℕ). raw (Out 𝓛 I b o f after n e)) ∷ []) ∵ move ! (1 ∷ []) $ pick ! (λ e. show ! (Out 𝓛 I b o f both_after n) e $ move ! (1 ∷ 0 ∷ []) $ by ! (framed e))

@@ -9,7 +9,7 @@ use denote.RattleType.{RattleType}
 use denote.Laws.{Is}
 use denote.Opens.{Opens}
 use denote.Copied.{Struct-Copied}
-use denote.RawPtr.{Ptr, InBlock, block_ptr, null_ptr, ptr_val}
+use denote.RawPtr.{Ptr, block_ptr, null_ptr, ptr_val}
 use denote.Shadow.{makes_shadow}
 use denote.Struct.Laws.{RawPtr-copy, field_copy}
 use denote.Struct.Struct.{Struct}

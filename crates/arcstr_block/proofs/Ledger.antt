@@ -1,14 +1,13 @@
 -- How the parts of a token move while the word changes: taken, given back, and kept for good at the mark. Assumes `Logic`.
-use Rattle.std.proofs.Common.{◌≡◌, ℕ, ◌+◌, ◌-◌, ◌*◌, ◌/◌, ◌%◌, ◌^◌, ◌<◌, ◌≤◌, [], ◌∷◌, refl, sym, subst, arith}
+use Rattle.std.proofs.Common.{ℕ, ◌+◌, ◌-◌, ◌^◌, ◌<◌, [], ◌∷◌, arith}
 use seplogic.Ra.Ura.{Ura}
 use base.Fraction.{full_share}
-use base.Logic.{SProp, ent, sep, wand, guard, never, never_e, via}
-use base.Fml.{Fml, ftrue, fex, flft, fdead, flent, Share}
+use base.Logic.{SProp, ent, sep, never, never_e, via}
+use base.Fml.{Fml, ftrue, flft, fdead, Share}
 use types.Logic.{Logic, sem}
-use types.Kit.{‵, raw, ◌⊛◌, ◌$◌, ◌∵◌, !, qed, by, move, keep, split, split3, group, fsplit, fsplit3, fjoin, fjoin3, fpick, fpack, use1, use2, rewrite, done}
+use types.Kit.{‵, ◌⊛◌, ◌$◌, ◌∵◌, !, qed, by, move, keep, split, fsplit3, fjoin, fjoin3, fpick, fpack, use1, use2, done}
 use denote.Steps.{nothing}
-use Rattle.arcstr_block.specs.Rights.{IsMarked}
-use Rattle.arcstr_block.specs.Ledger.{fact, parts, some_share, Id, Phase, unmarked, marked, Fits, rest, phase, Ledger}
+use Rattle.arcstr_block.specs.Ledger.{parts, some_share, Id, Phase, unmarked, marked, Fits, rest, phase, Ledger}
 use Rattle.arcstr_block.proofs.Parts.{parts_cut, parts_glue, parts_whole, share_halves, part_share}
 
 module _ {M : Type 1} {𝓤 : Ura M} (𝓛 : Logic 𝓤) (P : Fml) (L b o : ℕ) (t : Id) where

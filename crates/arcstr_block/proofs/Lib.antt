@@ -6,7 +6,11 @@ pub mod Ledger
 pub mod Steps
 pub mod Changes
 pub mod Rights
-pub mod Fields
-pub mod Memory
+pub mod Turns
 pub mod Begins
+pub mod Fields
+pub mod Seats
+pub mod Book
+pub mod Memory
 pub mod LooseValues
+pub mod Crosses

@@ -1,14 +1,13 @@
 -- The memory of a block, cut into its word and the rest, and joined again. Assumes `Logic`.
-use Rattle.std.proofs.Common.{ℕ, zero, ◌+◌, List, [], ◌∷◌, refl}
+use Rattle.std.proofs.Common.{ℕ, zero, ◌+◌, List, [], ◌∷◌}
 use seplogic.Ra.Ura.{Ura}
 use base.Fraction.{full_share}
 use base.Logic.{SProp, ent, sep, wand, all, all_e, via, apply∗}
 use base.Fml.{Fml, ftrue, fsep, fwand}
-use prog.Memory.{up, align}
 use types.Logic.{Logic, sem}
-use types.Kit.{‵, raw, ◌⊛◌, ◌$◌, ◌∵◌, !, qed, by, move, keep, drop, use1, use2, split, split3, fsplit, fjoin, fjoin3, each, assume, done}
+use types.Kit.{‵, raw, ◌⊛◌, ◌$◌, ◌∵◌, !, qed, by, move, keep, use1, use2, split, split3, fsplit, fjoin, fjoin3, each, assume, done}
 use denote.RattleType.{RattleType, Denots}
-use denote.Memory.{part_of, part_at, lone}
+use denote.Memory.{part_of, part_at}
 use denote.RawPtr.{block_ptr, lies_at}
 use denote.Steps.{nothing}
 use denote.Param.{param, layout}

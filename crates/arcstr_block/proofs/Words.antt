@@ -1,9 +1,15 @@
 -- The words that a step leaves, as numbers.
-use Rattle.std.proofs.Common.{◌≡◌, ℕ, ◌+◌, ◌-◌, ◌*◌, ◌/◌, ◌%◌, ◌^◌, ◌<◌, ◌≤◌, refl, sym, ap, ◌∙◌, subst, arith, lit<}
+use Rattle.std.proofs.Common.{◌≢◌, ◌==◌, eq-eqb, ne_eqb, true, false, if◌then◌else◌, inl, inr, ◌≡◌, ℕ, ◌+◌, ◌-◌, ◌*◌, ◌/◌, ◌%◌, ◌^◌, ◌<◌, refl, sym, ap, ◌∙◌, arith, lit<}
 use Rattle.std.specs.Prelude.{bit_or}
 use Rattle.std.specs.Int.Bits.{or_zero_r}
 use Rattle.std.proofs.lemmas.Nat.{or_block}
-use Rattle.arcstr_block.specs.Rights.{IsMarked, IsUnmarked}
+use Rattle.std.proofs.lemmas.Bool.{lt-ltb, le-ltb}
+use Rattle.std.specs.Prelude.{◌⊎◌}
+use mathlib.Core.Logic.{dite}
+use native.Mathlib.Decide.{ℕ_discrete, dec_le}
+use Rattle.arcstr_count.specs.Word.{marked_of, cloned_of, dropped_of, is_last}
+use Rattle.arcstr_block.specs.Rights.{IsMarked, IsUnmarked, IsClone}
+use Rattle.arcstr_block.specs.Book.{word_of}
 
 or_one : (k r : ℕ) → r < 2 → bit_or r 1 ≡ 1 → bit_or (k * 2 + r) 1 ≡ k * 2 + 1
 or_one k r small one = or_block 1 k 0 r 1 small (lit< tt) ∙ ap (λ x. x * 2 + bit_or r 1) (or_zero_r k) ∙ ap (λ x. k * 2 + x) one
@@ -13,3 +19,45 @@ or_unmarked n even = let is : n ≡ (n / 2) * 2 + 0 = omega arith in ap (λ x. b
 
 pub or_marked : (n : ℕ) → IsMarked n → bit_or n 1 ≡ n
 or_marked n odd = let is : n ≡ (n / 2) * 2 + 1 = omega arith in ap (λ x. bit_or x 1) is ∙ or_one (n / 2) 1 (lit< tt) refl ∙ sym is
+
+-- ---- the words that these numbers stand for
+pub marked_word : (n : ℕ) → IsMarked n → word_of n ≡ record { flag = true; count = n / 2 }
+marked_word n odd = ap (λ f. record { flag = f; count = n / 2 }) (eq-eqb (n % 2) 1 odd)
+
+pub unmarked_word : (n : ℕ) → IsUnmarked n → word_of n ≡ record { flag = false; count = n / 2 }
+unmarked_word n even = ap (λ f. record { flag = f; count = n / 2 }) (ne_eqb (n % 2) 1 (λ e. absurd (omega arith)))
+
+pub odd_or_even : (n : ℕ) → IsMarked n ⊎ IsUnmarked n
+odd_or_even n = dite (ℕ_discrete (n % 2) 1) (λ e. inl e) (λ ne. inr (omega arith))
+
+pub word_marked : (n : ℕ) → word_of (bit_or n 1) ≡ marked_of (word_of n)
+word_marked n = elim (odd_or_even n) [
+  | inl odd ↦ ap word_of (or_marked n odd) ∙ marked_word n odd
+  | inr even ↦ ap word_of (or_unmarked n even) ∙ marked_word (n + 1) (omega arith) ∙ ap (λ k. record { flag = true; count = k }) (let same : (n + 1) / 2 ≡ n / 2 = omega arith in same)
+]
+
+pub word_kept : (L n : ℕ) → IsMarked n → word_of n ≡ cloned_of L (word_of n)
+word_kept L n odd = marked_word n odd ∙ sym (ap (cloned_of L) (marked_word n odd))
+
+cloned_even : (L old new : ℕ) → IsClone L old new → word_of new ≡ cloned_of L (record { flag = false; count = old / 2 })
+cloned_even L old new asked = let even = asked.0 in dite (dec_le (old / 2) L)
+    (λ room. let is : new ≡ old + 2 = asked.2 room in let un : IsUnmarked new = omega (arith, is, even) in let k : new / 2 ≡ old / 2 + 1 = omega (arith, is) in
+    unmarked_word new un ∙ ap (λ c. record { flag = false; count = c }) k ∙ ap (λ b. if b then record { flag = true; count = old / 2 } else record { flag = false; count = old / 2 + 1 }) (sym (le-ltb L (old / 2) room)))
+    (λ above. let full : L < old / 2 = omega (arith, above) in let is : new ≡ old + 1 = asked.1 full in let od : IsMarked new = omega (arith, is, even) in let k : new / 2 ≡ old / 2 = omega (arith, is, even) in
+    marked_word new od ∙ ap (λ c. record { flag = true; count = c }) k ∙ ap (λ b. if b then record { flag = true; count = old / 2 } else record { flag = false; count = old / 2 + 1 }) (sym (lt-ltb L (old / 2) full)))
+
+pub word_cloned : (L old new : ℕ) → IsClone L old new → word_of new ≡ cloned_of L (word_of old)
+word_cloned L old new asked = cloned_even L old new asked ∙ sym (ap (cloned_of L) (unmarked_word old asked.0))
+
+pub word_dropped : (n : ℕ) → n < 2 ^ 64 → 0 < n / 2 → word_of ((n + (2 ^ 64 - 2)) % 2 ^ 64) ≡ dropped_of (word_of n)
+word_dropped n fits some = let is : (n + (2 ^ 64 - 2)) % 2 ^ 64 ≡ n - 2 = omega (arith, fits, some) in
+    ap word_of is ∙ ap (λ b. record { flag = b; count = (n - 2) / 2 }) (ap (λ m. m == 1) (let same : (n - 2) % 2 ≡ n % 2 = omega (arith, some) in same)) ∙ ap (λ k. record { flag = n % 2 == 1; count = k }) (let less : (n - 2) / 2 ≡ n / 2 - 1 = omega arith in less)
+
+pub last_two : (n : ℕ) → n ≡ 2 → is_last (word_of n) ≡ true
+last_two n e = ap (λ m. is_last (word_of m)) e
+
+pub not_last : (n : ℕ) → n ≢ 2 → is_last (word_of n) ≡ false
+not_last n ne = elim (odd_or_even n) [
+  | inl odd ↦ ap is_last (marked_word n odd)
+  | inr even ↦ ap is_last (unmarked_word n even) ∙ ne_eqb (n / 2) 1 (λ e. ne (omega (arith, e, even)))
+]

@@ -1,11 +1,12 @@
 -- Who owns what of a block. Its word lies in an invariant, with the parts of a token that no handle has.
 --     a      the lifetime for which the content is shared. Each counted handle has one part in 2 ^ 63 of its token.
 --     c      the lifetime that ends with the mark: its token is beside an unmarked word, and that it has ended is a fact for good.
+--     γ, δ   the names of the block's history and of the seats of its handles, which lie beside the word.
 -- An unmarked word 2k has k parts out. A marked one has m parts out, of drops that looked before the mark, and keeps one part for good, of which each who finds the mark has a share.
-use Rattle.std.specs.Prelude.{◌≡◌, ℕ, zero, suc, ◌+◌, ◌-◌, ◌*◌, ◌/◌, ◌^◌, ◌<◌, ◌≤◌, Bool, true, false, [], ◌∷◌}
+use Rattle.std.specs.Prelude.{◌≡◌, ℕ, zero, suc, ◌+◌, ◌-◌, ◌*◌, ◌/◌, ◌^◌, ◌<◌, ◌≤◌, Bool, true, false, List, [], ◌∷◌}
 use base.Fraction.{full_share}
 use base.FractionLaws.{Counts}
-use base.Fml.{Lft, Share, Fml, ftrue, ffalse, fsep, fex, fall, fwand, flft, fdead, flent, fshr_bor, finv}
+use base.Fml.{Lft, GName, Share, Fml, ftrue, fsep, fex, fall, fwand, flft, fdead, flent, fshr_bor, finv}
 use mir.Syntax.{Ty}
 use mir.Raw.{raw}
 use prog.Memory.{up, align}
@@ -16,7 +17,10 @@ use denote.Sharing.{said, beside, some, one, held, always, nothing}
 use denote.Struct.Lending.{lent_at}
 use Rattle.core.specs.Ptr.{points_to}
 use Rattle.core.specs.Sync.RawAtomic.{word}
-use Rattle.arcstr_block.specs.Rights.{IsMarked, fixed}
+use Rattle.arcstr_count.specs.declared.steps.Step.{Step}
+use Rattle.arcstr_count.specs.declared.steps.HandleState.TheVariants.{Free, Dropping, Owing}
+use Rattle.arcstr_block.specs.Rights.{IsMarked, counted, uncounted}
+use Rattle.arcstr_block.specs.Book.{Book, reached, seat, seat_share}
 use Rattle.arcstr_block.specs.contracts.block.Block.{the_row as block_row}
 
 abbrev pub fact : Type 0 → Fml
@@ -29,13 +33,17 @@ parts a k = fex Share (λ e. fex (Counts 63 e k) (λ _. flft (a ∷ []) e))
 abbrev pub some_share : ℕ → Fml
 some_share a = fex Share (λ s. flft (a ∷ []) s)
 
--- The lifetimes a and c.
+-- a, c, γ and δ
 abbrev pub Id : Type 0
-Id = ℕ × ℕ
+Id = ℕ × ℕ × GName × GName
 
--- whoever holds a fixed right knows that c has ended
+-- an uncounted handle knows that c has ended
 abbrev pub knows : Id → ℕ → Fml
-knows t right = fall (right ≡ fixed) (λ _. fdead (t.1 ∷ []))
+knows t right = fall (right ≡ uncounted) (λ _. fdead (t.1 ∷ []))
+
+-- the block's name, and a beginning of its history
+abbrev pub known : Id → GName → List Step → Fml
+known t block history = fsep (fact (t.2 ≡ block)) (reached t.2 history)
 
 pub data Phase : Type 0 where
   unmarked : ℕ → Phase
@@ -58,8 +66,12 @@ module _ (P : Fml) (L b o : ℕ) (t : Id) where
   abbrev pub Ledger : ℕ → Fml
   Ledger n = fex Phase (phase n)
 
+  -- the word and its history
+  abbrev pub stated : ℕ → Fml
+  stated n = fsep (word b o n) (Book L t.2 t.3 n)
+
   abbrev pub counting : ℕ → Fml
-  counting n = fsep (word b o n) (Ledger n)
+  counting n = fsep (stated n) (Ledger n)
 
   abbrev pub if_alive : Bool → Fml
   if_alive true = fex ℕ counting
@@ -73,25 +85,39 @@ module _ (P : Fml) (L b o : ℕ) (t : Id) where
   abbrev pub for_good : Fml
   for_good = fsep (fshr_bor [] (λ q. flft (t.0 ∷ []) q)) (fdead (t.1 ∷ []))
 
-  module _ (s : Lft → Fml) where
+  -- s is what is shared, and h the number of the handle
+  module _ (s : Lft → Fml) (h : ℕ) where
+    abbrev pub with_share : ℕ → Share → Fml
+    with_share right e = fsep (fact (right ≡ counted → Counts 63 e 1)) (fsep (flft (t.0 ∷ []) e) (fsep (knows t right) (fsep (s (t.0 ∷ [])) (seat t.3 h Free))))
+
+    -- a free handle: a share of a's token, which is one part where the handle is counted
+    abbrev pub free : ℕ → Fml
+    free right = fex Share (with_share right)
+
     abbrev pub right_to : ℕ → Fml
     right_to zero = s (t.0 ∷ [])
-    right_to (suc zero) = fsep (parts t.0 1) (s (t.0 ∷ []))
-    right_to (suc (suc zero)) = fsep for_good (s (t.0 ∷ []))
-    right_to (suc (suc (suc _))) = fsep (word b o 0) P
+    right_to (suc zero) = free 1
+    right_to (suc (suc zero)) = free 2
+    right_to (suc (suc (suc zero))) = fsep for_good (s (t.0 ∷ []))
+    right_to (suc (suc (suc (suc zero)))) = fsep (parts t.0 1) (fsep (s (t.0 ∷ [])) (seat t.3 h Dropping))
+    right_to (suc (suc (suc (suc (suc _))))) = fsep (stated 0) (fsep P (seat t.3 h Owing))
 
     abbrev pub held_with : ℕ → Fml
     held_with right = fsep (finv Inv) (right_to right)
 
     -- what a `&` to a pointer holds of a right
     abbrev pub seen : Lft → Fml
-    seen = beside (one (λ q. flft (t.0 ∷ []) q)) (beside (always Inv) (held (t.0 ∷ []) s))
+    seen = beside (always Inv) (held (t.0 ∷ []) s)
+
+    abbrev pub free_shown : ℕ → Lft → Fml
+    free_shown right = beside (one (λ q. flft (t.0 ∷ []) q)) (beside (one (λ q. seat_share t.3 h q Free)) (beside (said (knows t right)) seen))
 
     abbrev pub shown : ℕ → Lft → Fml
     shown zero = nothing
-    shown (suc zero) = seen
-    shown (suc (suc zero)) = beside (said for_good) seen
-    shown (suc (suc (suc _))) = nothing
+    shown (suc zero) = free_shown 1
+    shown (suc (suc zero)) = free_shown 2
+    shown (suc (suc (suc zero))) = beside (said for_good) seen
+    shown (suc (suc (suc (suc _)))) = nothing
 
 module _ (holds : Ty → Ptr → Fml) (R : RattleType) (p : Ptr) (x : R.Denot) where
   abbrev pub value_at : Ptr
@@ -111,8 +137,16 @@ module _ (holds : Ty → Ptr → Fml) (R : RattleType) (p : Ptr) (x : R.Denot) w
 abbrev pub in_block : Ptr → Fml
 in_block p = fact (InBlock p)
 
-abbrev pub pointer_owns : (Ty → Ptr → Fml) → (R : RattleType) → ℕ → Ptr → R.Denot → ℕ → Fml
-pointer_owns holds R L p x right = fsep (in_block p) (fex Id (λ t. held_with (block_owns holds R p x) L (block_of p) (count_of p + 0) t (block_shares holds R p x) right))
+-- what a pointer says of itself: its allocator's right to free, its limit, its address, its content, its right, its handle's number, its block's name and a beginning of its history
+module _ (holds : Ty → Ptr → Fml) (R : RattleType) (L : ℕ) (p : Ptr) (x : R.Denot) (right h : ℕ) (block : GName) (history : List Step) where
+  abbrev pub of_block : Id → Fml
+  of_block t = fsep (known t block history) (held_with (block_owns holds R p x) L (block_of p) (count_of p + 0) t (block_shares holds R p x) h right)
 
-abbrev pub pointer_shares : (Ty → Ptr → Fml) → (R : RattleType) → ℕ → Ptr → R.Denot → ℕ → Lft → Fml
-pointer_shares holds R L p x right = beside (said (in_block p)) (some Id (λ t. shown (block_owns holds R p x) L (block_of p) (count_of p + 0) t (block_shares holds R p x) right))
+  abbrev pub pointer_owns : Fml
+  pointer_owns = fsep (in_block p) (fex Id of_block)
+
+  abbrev pub of_block_shown : Id → Lft → Fml
+  of_block_shown t = beside (said (known t block history)) (shown (block_owns holds R p x) L (block_of p) (count_of p + 0) t (block_shares holds R p x) h right)
+
+  abbrev pub pointer_shares : Lft → Fml
+  pointer_shares = beside (said (in_block p)) (some Id of_block_shown)

@@ -1,25 +1,41 @@
 -- The right that a pointer to a block has, and what each step on the word gains.
-use Rattle.std.specs.Prelude.{◌≡◌, ◌≢◌, ℕ, zero, suc, ◌+◌, ◌*◌, ◌/◌, ◌%◌, ◌<◌, ◌≤◌}
+use Rattle.std.specs.Prelude.{◌≡◌, ◌≢◌, ℕ, ◌+◌, ◌/◌, ◌%◌, ◌<◌, ◌≤◌}
 
 -- no right but to know the block
 abbrev pub nothing : ℕ
 nothing = 0
 
--- one of the handles that the word counts, or counted once
+-- a free handle that the word counts, or counted once
 abbrev pub counted : ℕ
 counted = 1
 
+-- a free handle that was cloned from a marked block
+abbrev pub uncounted : ℕ
+uncounted = 2
+
 -- the block is marked, for good
 abbrev pub fixed : ℕ
-fixed = 2
+fixed = 3
+
+-- a handle whose drop looked at an unmarked block, and has not subtracted
+abbrev pub dropping : ℕ
+dropping = 4
 
 -- the last one counted has left, and its memory is owed
 abbrev pub owed : ℕ
-owed = 3
+owed = 5
 
--- the rights by which the block may be read and stepped on
+-- the rights of a free handle, which may step on the block
+abbrev pub IsFree : ℕ → Type 0
+IsFree right = (0 < right) × (right < 3)
+
+-- the rights by which the block may be read
 abbrev pub MaySee : ℕ → Type 0
-MaySee right = (0 < right) × (right < 3)
+MaySee right = (0 < right) × (right < 4)
+
+-- the rights that stand for nothing in the block's history, and may be let go
+abbrev pub IsIdle : ℕ → Type 0
+IsIdle right = (right ≢ counted) × (right ≢ uncounted) × (right ≢ dropping) × (right ≢ owed)
 
 abbrev pub IsMarked : ℕ → Type 0
 IsMarked word = word % 2 ≡ 1
@@ -31,9 +47,13 @@ IsUnmarked word = word % 2 ≡ 0
 abbrev pub IsWord : ℕ → ℕ → Type 0
 IsWord limit word = IsUnmarked word → (0 < word / 2) × (word / 2 ≤ limit + 1)
 
--- a load by the right `mine` that found the word: a fixed block is found marked, and whoever finds the mark gains that the block is fixed
-abbrev pub Sees : ℕ → ℕ → ℕ → Type 0
-Sees mine word gained = (mine ≡ fixed → IsMarked word) × (IsMarked word → gained ≡ fixed) × (IsUnmarked word → gained ≡ nothing)
+-- a look that found the word: whoever finds the mark has the block as a fixed one
+abbrev pub Looks : ℕ → ℕ → Type 0
+Looks word gained = (IsMarked word → gained ≡ fixed) × (IsUnmarked word → gained ≡ nothing)
+
+-- the load of a clone that found the word: where it is marked the clone is had
+abbrev pub Finds : ℕ → ℕ → Type 0
+Finds word gained = (IsMarked word → gained ≡ uncounted) × (IsUnmarked word → gained ≡ nothing)
 
 -- a clone of the unmarked word old: the mark above the limit, else one more
 abbrev pub IsClone : ℕ → ℕ → ℕ → Type 0
@@ -41,8 +61,12 @@ IsClone limit old new = IsUnmarked old × (limit < old / 2 → new ≡ old + 1) 
 
 -- a compare-exchange of old to its clone new, which found the word
 abbrev pub Gains : ℕ → ℕ → ℕ → ℕ → Type 0
-Gains old new word gained = (IsMarked word → gained ≡ fixed) × (IsUnmarked word → word ≢ old → gained ≡ nothing)
-    × (word ≡ old → IsUnmarked new → gained ≡ counted) × (word ≡ old → IsMarked new → gained ≡ fixed)
+Gains old new word gained = (IsMarked word → gained ≡ uncounted) × (IsUnmarked word → word ≢ old → gained ≡ nothing)
+    × (word ≡ old → IsUnmarked new → gained ≡ counted) × (word ≡ old → IsMarked new → gained ≡ uncounted)
+
+-- the look of a drop that found the word: it goes on where the word is unmarked
+abbrev pub Begins : ℕ → ℕ → Type 0
+Begins word gained = (IsMarked word → gained ≡ nothing) × (IsUnmarked word → gained ≡ dropping)
 
 -- a subtraction owes the memory exactly where it found 2
 abbrev pub Leaves : ℕ → ℕ → Type 0

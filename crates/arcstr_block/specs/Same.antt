@@ -1,7 +1,32 @@
--- Two pointers to one block.
-use Rattle.std.specs.Prelude.{◌≡◌}
+-- Two pointers to one block, and what a step of one says of the other.
+use Rattle.std.specs.Prelude.{◌≡◌, ℕ}
+use Rattle.arcstr_count.specs.declared.steps.Step.{Step}
+use Rattle.arcstr_count.specs.declared.steps.Step.TheVariants.{Look, Begin, Sub}
+use Rattle.arcstr_count.specs.declared.steps.Reply.{Reply}
+use Rattle.arcstr_count.specs.declared.steps.Reply.TheVariants.{Ended, Looked as LookedReply, Owes, Left}
+use Rattle.arcstr_count.specs.Word.{looked_of}
+use Rattle.arcstr_count.specs.OneBlock.{EndsIn, look_reply}
+use Rattle.arcstr_block.specs.Rights.{IsMarked, IsUnmarked}
+use Rattle.arcstr_block.specs.Book.{word_of}
 use Rattle.arcstr_block.specs.declared.pointer.Pointer.{Pointer}
 
--- They have one allocator, one content and one limit.
-abbrev pub IsSameBlock : {X A : Type 0} → Pointer X A → Pointer X A → Type 0
-IsSameBlock q p = (q.home ≡ p.home) × (q.value ≡ p.value) × (q.limit ≡ p.limit)
+module _ {X A : Type 0} where
+  -- They have one allocator, one content, one limit, and one history.
+  abbrev pub IsSameBlock : Pointer X A → Pointer X A → Type 0
+  IsSameBlock q p = (q.home ≡ p.home) × (q.value ≡ p.value) × (q.limit ≡ p.limit) × (q.block ≡ p.block)
+
+  -- what q has seen ends in this step of p's handle, and the core answered so
+  abbrev pub SawStep : Pointer X A → Pointer X A → Step → Reply → Type 0
+  SawStep p q s reply = EndsIn p.limit q.history s reply
+
+  -- a look of p that found the word
+  abbrev pub Looked : Pointer X A → ℕ → Pointer X A → Type 0
+  Looked p word q = SawStep p q (Look p.seat) (look_reply (looked_of (word_of word)))
+
+  -- the look of p's drop
+  abbrev pub BegunAs : Pointer X A → ℕ → Pointer X A → Type 0
+  BegunAs p word q = (q.seat ≡ p.seat) × (IsMarked word → SawStep p q (Begin p.seat) Ended) × (IsUnmarked word → SawStep p q (Begin p.seat) LookedReply)
+
+  -- the subtraction of p's drop
+  abbrev pub SubtractedAs : Pointer X A → ℕ → Pointer X A → Type 0
+  SubtractedAs p word q = (word ≡ 2 → SawStep p q (Sub p.seat) Owes) × ((word ≡ 2 → ⊥) → SawStep p q (Sub p.seat) Left)

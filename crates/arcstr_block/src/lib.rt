@@ -7,6 +7,7 @@
 pub use fault::{TOO_LONG, TextFault};
 pub use fixed::Fixed;
 pub use owed::{Down, Owed};
+pub use seen::Seen;
 pub use shared::Shared;
 
 mod block;
@@ -16,6 +17,8 @@ mod loose;
 mod making;
 mod owed;
 mod pointer;
+mod seen;
 mod shared;
 #[cfg(test)]
 mod tests;
+mod word;

@@ -23,9 +23,9 @@ impl<const LIMIT: u64, A: Allocator + Copy> Shared<LIMIT, A> {
     ) -> Result<Shared<LIMIT, A>, TextFault>
         requires limit { LIMIT ≤ RC_MAX }
         requires callable { F.IsAlwaysCallable fill }
-        ensures made { IfOk result (λ made. FnOnceReturnsAtMut F.FnOnce fill (replicate n 0) tt made) }
-        ensures as_long { IfOk result (λ made. length made ≡ n) }
-        ensures text { IfOk result (λ made. IsUtf8 made) }
+        ensures made { IfOk result (λ made. FnOnceReturnsAtMut F.FnOnce fill (replicate n 0) tt made.text) }
+        ensures as_long { IfOk result (λ made. length made.text ≡ n) }
+        ensures text { IfOk result (λ made. IsUtf8 made.text) }
         ensures too_long { IsErrOf result TextFault.Length ↔ IsTooLong n }
         ensures refused { IfErr result (IsFaultOfFilling (λ bytes. FnOnceReturnsAtMut F.FnOnce fill (replicate n 0) tt bytes) n) }
     {
@@ -47,7 +47,7 @@ impl<const LIMIT: u64, A: Allocator + Copy> Shared<LIMIT, A> {
     /// past `usize`, is refused first, then whatever there is no memory for.
     pub fn repeat(alloc: A, text: &str, n: usize) -> Result<Shared<LIMIT, A>, TextFault>
         requires { LIMIT ≤ RC_MAX }
-        ensures made { IfOk result (λ made. made ≡ repeat n text.now) }
+        ensures made { IfOk result (λ made. made.text ≡ repeat n text.now) }
         ensures too_long { IsErrOf result TextFault.Length ↔ IsTooLong (n * length text.now) }
         ensures refused { IfErr result (IsFaultOfMaking (n * length text.now)) }
     {

@@ -1,18 +1,23 @@
 //! The pointer to a block. Every raw pointer and every atomic step of the crate is here.
 //! The word is `2 * count`, or `2 * count + 1` once the block is marked.
-ghost use Rattle.std.specs.Prelude.{◌≡◌, ℕ, ◌<◌};
-ghost use Rattle.arcstr_block.specs.Rights.{counted, fixed, owed, nothing, IsWord, Sees, IsClone, Gains, Leaves, MaySee};
+ghost use Rattle.std.specs.Prelude.{◌≡◌, ℕ, List, ◌<◌};
+ghost use Rattle.std.specs.Coded.{coded_list};
+ghost use Rattle.arcstr_count.specs.declared.steps.Step.{Step};
+ghost use Rattle.arcstr_count.specs.contracts.steps.Step.{the_row as step_row};
+ghost use Rattle.arcstr_block.specs.Rights.{nothing, counted, fixed, dropping, owed, IsFree, MaySee, IsIdle, IsWord, Looks, Finds, IsClone, Gains, Begins, Leaves};
 ghost use Rattle.arcstr_block.specs.Ledger.{pointer_owns, pointer_shares};
 
 use crate::block::Block;
 use crate::loose::Loose;
+use crate::seen::Seen;
 use atomic_table::exchange;
 use std::alloc::Allocator;
 use std::marker::{Brand, Model, PhantomData};
 use std::sync::atomic::Ordering::SeqCst;
 use std::sync::atomic::raw;
 
-/// A pointer to a block, with a right: nothing, a counted handle, a fixed block, or the memory that a last subtraction owes.
+/// A pointer to a block, with a right, which `specs/Rights.antt` lists, and with a beginning of the block's history.
+/// `seat` is the number of its handle in that history, and `block` the name of the history.
 pub(crate) struct Pointer<X, A: Allocator> {
     at: *const Block<X>,
     marker: PhantomData<A>,
@@ -20,16 +25,19 @@ pub(crate) struct Pointer<X, A: Allocator> {
     pub ghost value: { X } by { X.code },
     pub ghost limit: { ℕ },
     pub ghost right: { ℕ },
+    pub ghost seat: { ℕ },
+    pub ghost block: { ℕ },
+    pub ghost history: { List Step } by { coded_list step_row.coded },
 }
 
 impl<X, A: Allocator> Model for Pointer<X, A> {
-    ghost also_owns = { λ h. pointer_owns (A.dealloc_token h.home) X.row h.limit h.at h.value h.right };
+    ghost also_owns = { λ h. pointer_owns (A.dealloc_token h.home) X.row h.limit h.at h.value h.right h.seat h.block h.history };
 
-    ghost also_shares = { λ h _ κ. pointer_shares (A.dealloc_token h.home) X.row h.limit h.at h.value h.right κ };
+    ghost also_shares = { λ h _ κ. pointer_shares (A.dealloc_token h.home) X.row h.limit h.at h.value h.right h.seat h.block h.history κ };
 }
 
 impl<X, A: Allocator> Pointer<X, A> {
-    ghost use Rattle.arcstr_block.specs.Same.{IsSameBlock};
+    ghost use Rattle.arcstr_block.specs.Same.{IsSameBlock, Looked, BegunAs, SubtractedAs};
 
     /// The first pointer to a block, whose word counts it alone.
     pub(crate) fn make(memory: Loose<Block<X>, A>) -> (Pointer<X, A>, A)
@@ -57,11 +65,12 @@ impl<X, A: Allocator> Pointer<X, A> {
         unsafe { &(*self.at).value }
     }
 
-    /// One load.
-    pub(crate) fn see(&self) -> (u64, Pointer<X, A>)
-        requires { MaySee self.now.right }
+    /// The look of a free handle: one load.
+    pub(crate) fn look(&self) -> (u64, Pointer<X, A>)
+        requires { IsFree self.now.right }
         ensures word { IsWord self.now.limit result.0 }
-        ensures right { Sees self.now.right result.0 result.1.right }
+        ensures right { Looks result.0 result.1.right }
+        ensures history { Looked self.now result.0 result.1 }
         ensures same { IsSameBlock result.1 self.now }
     {
         let at = self.at;
@@ -75,9 +84,27 @@ impl<X, A: Allocator> Pointer<X, A> {
         )
     }
 
-    /// One compare-exchange, from `old` to its clone.
+    /// The load of a clone: where it finds the mark, the clone is had.
+    pub(crate) fn find(&self) -> (u64, Pointer<X, A>)
+        requires { IsFree self.now.right }
+        ensures word { IsWord self.now.limit result.0 }
+        ensures right { Finds result.0 result.1.right }
+        ensures same { IsSameBlock result.1 self.now }
+    {
+        let at = self.at;
+        let found = unsafe { raw::load::<Brand>(&raw const (*at).word, SeqCst) };
+        (
+            found,
+            Pointer {
+                at,
+                marker: PhantomData,
+            },
+        )
+    }
+
+    /// One compare-exchange, from `old` to its clone `new`: where it finds `old` or the mark, the clone is had.
     pub(crate) fn raise(&self, old: u64, new: u64) -> (u64, Pointer<X, A>)
-        requires right { MaySee self.now.right }
+        requires right { IsFree self.now.right }
         requires clone { IsClone self.now.limit old new }
         ensures word { IsWord self.now.limit result.0 }
         ensures right { Gains old new result.0 result.1.right }
@@ -96,7 +123,7 @@ impl<X, A: Allocator> Pointer<X, A> {
 
     /// One fetch-or of the mark.
     pub(crate) fn mark(&self) -> Pointer<X, A>
-        requires { MaySee self.now.right }
+        requires { IsFree self.now.right }
         ensures right { result.right ≡ fixed }
         ensures same { IsSameBlock result self.now }
     {
@@ -108,10 +135,23 @@ impl<X, A: Allocator> Pointer<X, A> {
         }
     }
 
+    /// The look of a drop: one load.
+    pub(crate) fn begin(self) -> (u64, Pointer<X, A>)
+        requires { IsFree self.right }
+        ensures right { Begins result.0 result.1.right }
+        ensures history { BegunAs self result.0 result.1 }
+        ensures same { IsSameBlock result.1 self }
+    {
+        let Pointer { at, marker } = self;
+        let found = unsafe { raw::load::<Brand>(&raw const (*at).word, SeqCst) };
+        (found, Pointer { at, marker })
+    }
+
     /// One fetch-sub of a count.
     pub(crate) fn leave(self) -> (u64, Pointer<X, A>)
-        requires { self.right ≡ counted }
+        requires { self.right ≡ dropping }
         ensures right { Leaves result.0 result.1.right }
+        ensures history { SubtractedAs self result.0 result.1 }
         ensures same { IsSameBlock result.1 self }
     {
         let Pointer { at, marker } = self;
@@ -132,7 +172,7 @@ impl<X, A: Allocator> Pointer<X, A> {
         }
     }
 
-    /// The memory, for whoever subtracted last.
+    /// The memory, for whoever subtracted last: it is given back.
     pub(crate) fn release(self, alloc: A) -> Loose<Block<X>, A>
         requires right { self.right ≡ owed }
         requires home { alloc ≡ self.home }
@@ -146,9 +186,19 @@ impl<X, A: Allocator> Pointer<X, A> {
         }
     }
 
-    /// Lets go of a pointer that owes nothing.
+    /// What the pointer has seen of the block's history.
+    pub(crate) fn seen(&self) -> Seen
+        ensures history { result.history ≡ self.now.history }
+        ensures block { result.block ≡ self.now.block }
+    {
+        Seen {
+            marker: PhantomData,
+        }
+    }
+
+    /// Lets go of a pointer that stands for nothing in the block's history.
     pub(crate) fn forget(self)
-        requires { self.right < owed }
+        requires { IsIdle self.right }
     {
         let Pointer { at: _, marker: _ } = self;
     }

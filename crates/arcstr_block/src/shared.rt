@@ -1,8 +1,9 @@
 //! One handle on a block.
-ghost use Rattle.std.specs.Prelude.{◌≡◌, ◌↔◌, List, ℕ, length, IsErrOf, ◌<◌, ◌≤◌, ◌+◌, MatchResult, IfOk, IfErr, IfSome};
+ghost use Rattle.std.specs.Prelude.{◌≡◌, ◌↔◌, List, ℕ, length, IsErrOf, ◌<◌, ◌≤◌, ◌+◌, MatchResult, MatchOption, IfOk, IfErr, IfSome};
 ghost use Rattle.std.specs.String.{string_bytes};
 ghost use Rattle.arcstr_block.specs.Making.{IsTooLong, IsFaultOfMaking};
-ghost use Rattle.arcstr_block.specs.Rights.{MaySee, IsUnmarked, IsWord, IsClone};
+ghost use Rattle.arcstr_block.specs.Rights.{IsFree, IsUnmarked, IsWord, IsClone};
+ghost use Rattle.arcstr_block.specs.Handle.{Handle, SawCount, SawMark};
 
 use crate::block::{Block, empty_block};
 use crate::fault::{TOO_LONG, TextFault};
@@ -10,6 +11,8 @@ use crate::fixed::Fixed;
 use crate::loose::Loose;
 use crate::owed::{Down, Owed};
 use crate::pointer::Pointer;
+use crate::seen::Seen;
+use crate::word::{looked, marked, next};
 use arcstr_count::{RC_MAX, Word};
 use std::alloc::Allocator;
 use std::marker::Model;
@@ -19,29 +22,31 @@ use std::sync::Wait;
 struct Counted<const LIMIT: u64, A: Allocator + Copy> {
     pointer: Pointer<String<A>, A>,
     alloc: A,
-    ghost may_see: { MaySee pointer.right },
+    ghost free: { IsFree pointer.right },
     ghost home: { alloc ≡ pointer.home },
     ghost limit: { pointer.limit ≡ LIMIT },
     ghost low: { LIMIT < 4611686018427387904 },
 }
 
-/// One handle on a block whose count has the limit `LIMIT`. Contracts see its text, as bytes.
+/// One handle on a block whose count has the limit `LIMIT`. Contracts see the bytes of its text, and its block's name.
 pub struct Shared<const LIMIT: u64, A: Allocator + Copy> {
     handle: Counted<LIMIT, A>,
 }
 
 impl<const LIMIT: u64, A: Allocator + Copy> Model for Shared<LIMIT, A> {
-    ghost Value = { List ℕ };
+    ghost Value = { Handle };
 
-    ghost view = { λ s. string_bytes s.handle.pointer.value };
+    ghost view = { λ s. record { text = string_bytes s.handle.pointer.value; block = s.handle.pointer.block } };
 }
 
 impl<const LIMIT: u64, A: Allocator + Copy> Shared<LIMIT, A> {
+    ghost use Rattle.arcstr_block.specs.Ending.{EndsAs};
+
     /// The first handle on a new block with this text. A text that is too long is refused first, then
-    /// whatever there is no memory for: the text, or the word beside it. An empty text has a block too.
+    /// whatever there is no memory for: the word, or the text beside it. An empty text has a block too.
     pub fn from_text(alloc: A, text: &str) -> Result<Shared<LIMIT, A>, TextFault>
         requires limit { LIMIT ≤ RC_MAX }
-        ensures made { IfOk result (λ made. made ≡ text.now) }
+        ensures made { IfOk result (λ made. made.text ≡ text.now) }
         ensures too_long { IsErrOf result TextFault.Length ↔ IsTooLong (length text.now) }
         ensures refused { IfErr result (IsFaultOfMaking (length text.now)) }
     {
@@ -59,7 +64,7 @@ impl<const LIMIT: u64, A: Allocator + Copy> Shared<LIMIT, A> {
     pub(crate) fn placed(mut memory: Box<Block<String<A>>, A>, text: String<A>) -> Shared<LIMIT, A>
         requires limit { LIMIT ≤ RC_MAX }
         requires word { memory.value.word ≡ 2 }
-        ensures { result ≡ string_bytes text }
+        ensures { result.text ≡ string_bytes text }
     {
         memory.value = text;
         let (pointer, alloc) = Pointer::make(Loose::of(memory));
@@ -70,46 +75,52 @@ impl<const LIMIT: u64, A: Allocator + Copy> Shared<LIMIT, A> {
 
     /// The text.
     pub fn as_str(&self) -> &str
-        ensures { result.now ≡ self.now }
+        ensures { result.now ≡ self.now.text }
     {
         self.handle.pointer.value().as_str()
     }
 
     /// The length of the text, in bytes.
     pub fn len(&self) -> usize
-        ensures { result ≡ length self.now }
+        ensures { result ≡ length self.now.text }
     {
         self.as_str().len()
     }
 
-    /// One load: the number of living handles, or `None` at a marked block.
-    pub fn look(&self) -> Option<u64>
-        ensures { IfSome result (λ count. (0 < count) × (count ≤ LIMIT + 1)) }
+    /// One load: the number of living handles, or `None` at a marked block. What was seen of the history ends in it.
+    pub fn look(&self) -> (Option<u64>, Seen)
+        ensures count { IfSome result.0 (λ count. (0 < count) × (count ≤ LIMIT + 1)) }
+        ensures seen { MatchOption result.0 (SawMark LIMIT result.1.history) (λ count. SawCount LIMIT result.1.history count) }
+        ensures block { result.1.block ≡ self.now.block }
     {
-        let (found, seen) = self.handle.pointer.see();
-        seen.forget();
-        Word::from_bits(found).looked()
+        let (found, gained) = self.handle.pointer.look();
+        let seen = gained.seen();
+        gained.forget();
+        (looked(found), seen)
     }
 
-    /// One load: the block as a fixed one, where it is found marked.
-    pub fn fixed(&self) -> Option<Fixed<A>>
-        ensures { IfSome result (λ fixed. fixed ≡ self.now) }
+    /// One load: the block as a fixed one, where it is found marked. What was seen of the history ends in it.
+    pub fn fixed(&self) -> (Option<Fixed<A>>, Seen)
+        ensures text { IfSome result.0 (λ fixed. fixed ≡ self.now.text) }
+        ensures seen { MatchOption result.0 ((n : ℕ) × SawCount LIMIT result.1.history n) (λ _. SawMark LIMIT result.1.history) }
+        ensures block { result.1.block ≡ self.now.block }
     {
-        let (found, seen) = self.handle.pointer.see();
-        if Word::from_bits(found).marked() {
-            Some(Fixed {
-                pointer: seen,
+        let (found, gained) = self.handle.pointer.look();
+        let seen = gained.seen();
+        if marked(found) {
+            let fixed = Fixed {
+                pointer: gained,
                 alloc: self.handle.alloc,
-            })
-        } else {
-            seen.forget();
-            None
+            };
+            return (Some(fixed), seen);
         }
+        gained.forget();
+        (None, seen)
     }
 
     /// One fetch-or: the block is marked, and stays for good.
     pub fn mark(&self) -> Fixed<A>
-        ensures { result ≡ self.now }
+        ensures { result ≡ self.now.text }
     {
         Fixed {
             pointer: self.handle.pointer.mark(),
@@ -122,13 +133,13 @@ impl<const LIMIT: u64, A: Allocator + Copy> Shared<LIMIT, A> {
     pub fn up<R: Wait>(&self, rt: &R) -> Shared<LIMIT, A>
         ensures { result ≡ self.now }
     {
-        let (found, seen) = self.handle.pointer.see();
-        if Word::from_bits(found).marked() {
+        let (found, gained) = self.handle.pointer.find();
+        if marked(found) {
             return Shared {
-                handle: self.handle.beside(seen),
+                handle: self.handle.beside(gained),
             };
         }
-        seen.forget();
+        gained.forget();
         let mut old = found;
         for _ in rt.forever() {
             match self.handle.exchange(old) {
@@ -140,22 +151,25 @@ impl<const LIMIT: u64, A: Allocator + Copy> Shared<LIMIT, A> {
     }
 
     /// The end of the handle. A look that finds the mark leaves the word as it is; else the count falls by one.
-    pub fn down(self) -> Down<A> {
+    pub fn down(self) -> (Down<A>, Seen)
+        ensures seen { EndsAs LIMIT result.1.history result.0 }
+        ensures block { result.1.block ≡ self.block }
+    {
         let Shared { handle } = self;
         let Counted { pointer, alloc } = handle;
-        let (found, seen) = pointer.see();
-        seen.forget();
-        if Word::from_bits(found).marked() {
+        let (found, pointer) = pointer.begin();
+        if marked(found) {
+            let seen = pointer.seen();
             pointer.forget();
-            return Down::Ended;
+            return (Down::Ended, seen);
         }
         let (found, pointer) = pointer.leave();
-        if found == Word::one().bits() {
-            Down::Owes(Owed { pointer, alloc })
-        } else {
-            pointer.forget();
-            Down::Left
+        let seen = pointer.seen();
+        if found == 2 {
+            return (Down::Owes(Owed { pointer, alloc }), seen);
         }
+        pointer.forget();
+        (Down::Left, seen)
     }
 }
 
@@ -166,10 +180,10 @@ impl<const LIMIT: u64, A: Allocator + Copy> Counted<LIMIT, A> {
     fn exchange(&self, old: u64) -> Result<Counted<LIMIT, A>, u64>
         requires unmarked { IsUnmarked old }
         requires word { IsWord LIMIT old }
-        ensures { MatchResult result (λ clone. clone.pointer.value ≡ self.now.pointer.value) (λ found. IsUnmarked found × IsWord LIMIT found) }
+        ensures { MatchResult result (λ clone. (clone.pointer.value ≡ self.now.pointer.value) × (clone.pointer.block ≡ self.now.pointer.block)) (λ found. IsUnmarked found × IsWord LIMIT found) }
     {
         let (found, gained) = self.pointer.raise(old, next(LIMIT, old));
-        if found == old || Word::from_bits(found).marked() {
+        if found == old || marked(found) {
             Ok(self.beside(gained))
         } else {
             gained.forget();
@@ -180,7 +194,7 @@ impl<const LIMIT: u64, A: Allocator + Copy> Counted<LIMIT, A> {
     /// A handle on this block by another pointer to it.
     fn beside(&self, pointer: Pointer<String<A>, A>) -> Counted<LIMIT, A>
         requires same { IsSameBlock pointer self.now.pointer }
-        requires may_see { MaySee pointer.right }
+        requires free { IsFree pointer.right }
         ensures { result.pointer ≡ pointer }
     {
         Counted {
@@ -190,19 +204,10 @@ impl<const LIMIT: u64, A: Allocator + Copy> Counted<LIMIT, A> {
     }
 }
 
-/// The word after a clone of an unmarked one.
-fn next(limit: u64, old: u64) -> u64
-    requires unmarked { IsUnmarked old }
-    requires word { IsWord limit old }
-    requires low { limit ≤ RC_MAX }
-    ensures { IsClone limit old result }
-{
-    if old / 2 > limit { old + 1 } else { old + 2 }
-}
-
 impl<const LIMIT: u64, A: Allocator + Copy> Drop for Shared<LIMIT, A> {
     /// The end of the handle, and the giving back of what it owes.
     fn drop(self) {
-        self.down().settle();
+        let (down, _) = self.down();
+        down.settle();
     }
 }

@@ -14,9 +14,9 @@ use std::thread::Threads;
 fn two_handles_are_counted(rt: HostRuntime) -> Result<(), Fail> {
     let first = Shared::<5, Global>::from_text(rt.alloc(), "foobar")?;
     assert_eq!(rt; first.as_str(), "foobar");
-    assert_eq!(rt; first.look(), Some(1));
+    assert_eq!(rt; first.look().0, Some(1));
     let second = first.up(&rt);
-    assert_eq!(rt; (first.look(), second.look()), (Some(2), Some(2)));
+    assert_eq!(rt; (first.look().0, second.look().0), (Some(2), Some(2)));
     assert_eq!(rt; second.len(), 6);
     Ok(())
 }
@@ -37,8 +37,8 @@ fn ended(down: Down<Global>) -> u8 {
 fn the_last_handle_owes(rt: HostRuntime) -> Result<(), Fail> {
     let first = Shared::<5, Global>::from_text(rt.alloc(), "foobar")?;
     let second = first.up(&rt);
-    assert_eq!(rt; ended(first.down()), 2);
-    assert_eq!(rt; ended(second.down()), 3);
+    assert_eq!(rt; ended(first.down().0), 2);
+    assert_eq!(rt; ended(second.down().0), 3);
     Ok(())
 }
 
@@ -46,10 +46,10 @@ fn the_last_handle_owes(rt: HostRuntime) -> Result<(), Fail> {
 fn a_marked_block_ends_no_handle(rt: HostRuntime) -> Result<(), Fail> {
     let first = Shared::<5, Global>::from_text(rt.alloc(), "foobar")?;
     let second = first.up(&rt);
-    assert_eq!(rt; first.fixed().is_none(), true);
+    assert_eq!(rt; first.fixed().0.is_none(), true);
     let fixed = first.mark();
-    assert_eq!(rt; (first.look(), second.fixed().is_some()), (None, true));
-    assert_eq!(rt; (ended(first.down()), ended(second.down())), (1, 1));
+    assert_eq!(rt; (first.look().0, second.fixed().0.is_some()), (None, true));
+    assert_eq!(rt; (ended(first.down().0), ended(second.down().0)), (1, 1));
     assert_eq!(rt; fixed.again().as_str(), "foobar");
     Ok(())
 }
@@ -125,7 +125,7 @@ fn look_after_two<const LIMIT: u64, R: Threads + Wait + Sync>(
     let lent = &first;
     let (second, third) = thread::join(rt, || lent.up(rt), || lent.up(rt));
     let read = second.as_str() == "foobar" && third.as_str() == "foobar";
-    Ok((first.look(), read))
+    Ok((first.look().0, read))
 }
 
 #[test]

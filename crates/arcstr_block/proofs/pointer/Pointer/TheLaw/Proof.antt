@@ -13,19 +13,23 @@ use denote.Struct.Laws.{RawPtr-copy, field_copy}
 use denote.Struct.Lending.{of_Lends, Lends-both, Lends-said, lent_at_shr_laws}
 use Rattle.core.specs.declared.alloc.Allocator.{Ghosts}
 use Rattle.core.specs.contracts.marker.PhantomData as Marker
-use Rattle.arcstr_block.specs.Ledger.{Id, block_owns, block_shares, held_with, shown, in_block, value_at}
+use Rattle.arcstr_block.specs.Ledger.{Id, block_owns, block_shares, known, held_with, shown, in_block, value_at, of_block, of_block_shown}
 use Rattle.arcstr_block.specs.contracts.pointer.Pointer as C
-use Rattle.arcstr_block.proofs.Lent.{shown_laws, Lends-held}
+use Rattle.arcstr_block.proofs.Lent.{known_twice, known_laws, shown_laws, Lends-held}
+use Rattle.logbook.proofs.Fields.{lends_twice}
 use Rattle.arcstr_block.proofs.pointer.Pointer.TheLaw.Statement.{statement}
 
 pub shares : (T B : RattleType) (g : Ghosts B.Denot) (L : Laws T) (K : Laws B) → statement T B g L K
 shares T B g L K = of_Lends (C.struct T B g) (C.the_codes T.Denot B.Denot T.coded B.coded (Marker.the_row B).coded) (C.the_heap T B g) (C.the_lent T B g)
-    (λ d p. let P = block_owns (g.dealloc_token d.home) T d.at d.value in let s = block_shares (g.dealloc_token d.home) T d.at d.value in
-    beside_shr_laws (said (in_block d.at)) (some Id (λ t. shown P d.limit (block_of d.at) (count_of d.at + 0) t s d.right)) (said_shr_laws (in_block d.at) (λ _. tt))
-    (some_shr_laws Id (λ t. shown P d.limit (block_of d.at) (count_of d.at + 0) t s d.right) (λ t. shown_laws P d.limit (block_of d.at) (count_of d.at + 0) s (lent_at_shr_laws T L.shr_laws (value_at (g.dealloc_token d.home) T d.at d.value) d.value) t d.right)))
+    (λ d p. let holds = g.dealloc_token d.home in let P = block_owns holds T d.at d.value in let s = block_shares holds T d.at d.value in let b = block_of d.at in let o = count_of d.at + 0 in
+    let lent = of_block_shown holds T d.limit d.at d.value d.right d.seat d.block d.history in
+    beside_shr_laws (said (in_block d.at)) (some Id lent) (said_shr_laws (in_block d.at) (λ _. tt))
+    (some_shr_laws Id lent (λ t. beside_shr_laws (said (known t d.block d.history)) (shown P d.limit b o t s d.seat d.right) (known_laws t d.block d.history)
+    (shown_laws P d.limit b o s (lent_at_shr_laws T L.shr_laws (value_at holds T d.at d.value) d.value) d.seat t d.right))))
     (copy_shared RawPtr-field RawPtr-copy, (copy_shared (Marker.the_field B) (field_copy (Marker.the_type B) tt), tt))
-    (λ M 𝓤 𝓛 d p. let P = block_owns (g.dealloc_token d.home) T d.at d.value in let s = block_shares (g.dealloc_token d.home) T d.at d.value in let l = (C.the_row T B g).lives in
-    let b = block_of d.at in let o = count_of d.at + 0 in
-    Lends-both 𝓛 (in_block d.at) (fex Id (λ t. held_with P d.limit b o t s d.right)) (said (in_block d.at)) (some Id (λ t. shown P d.limit b o t s d.right)) l (Lends-said 𝓛 (in_block d.at) (λ _. tt) l)
-    (Lends-some 𝓛 Id (λ t. held_with P d.limit b o t s d.right) (λ t. shown P d.limit b o t s d.right) l (λ t.
-    Lends-held P d.limit b o s (lent_at_shr_laws T L.shr_laws (value_at (g.dealloc_token d.home) T d.at d.value) d.value) 𝓛 t d.right l)))
+    (λ M 𝓤 𝓛 d p. let holds = g.dealloc_token d.home in let P = block_owns holds T d.at d.value in let s = block_shares holds T d.at d.value in let l = (C.the_row T B g).lives in
+    let b = block_of d.at in let o = count_of d.at + 0 in let owns = of_block holds T d.limit d.at d.value d.right d.seat d.block d.history in let lent = of_block_shown holds T d.limit d.at d.value d.right d.seat d.block d.history in
+    Lends-both 𝓛 (in_block d.at) (fex Id owns) (said (in_block d.at)) (some Id lent) l (Lends-said 𝓛 (in_block d.at) (λ _. tt) l)
+    (Lends-some 𝓛 Id owns lent l (λ t. Lends-both 𝓛 (known t d.block d.history) (held_with P d.limit b o t s d.seat d.right) (said (known t d.block d.history)) (shown P d.limit b o t s d.seat d.right) l
+    (lends_twice 𝓛 (known t d.block d.history) (known_twice 𝓛 t d.block d.history) l)
+    (Lends-held P d.limit b o s (lent_at_shr_laws T L.shr_laws (value_at holds T d.at d.value) d.value) d.seat 𝓛 t d.right l))))

@@ -1,17 +1,15 @@
 -- `make` puts the word under the ledger's invariant, and lends what the block holds.
-use Rattle.std.proofs.Common.{◌≡◌, ℕ, ◌+◌, ◌^◌, ◌<◌, List, [], ◌∷◌, ◌++◌, sym, refl, ap, ◌∙◌, subst, lit<, w64, arith}
+use Rattle.std.proofs.Common.{◌≡◌, ℕ, ◌+◌, ◌<◌, List, [], ◌∷◌, ◌++◌, sym, refl, subst}
 use mir.Syntax.{dcons, dnil, a_type}
 use mir.Val.{Val, vptr, vstruct, vcons, vnil, of_list}
 use mir.MapTy.{inst_fn}
-use mir.Raw.{raw as bare}
 use base.Fraction.{full_share}
 use base.Logic.{SProp, ent, emp, id⊢}
-use base.Fml.{Share, Fml, ftrue, fsep, fex, feq, flft, Incl-refl}
+use base.Fml.{Fml, ftrue, fsep, fex, feq, flft, Incl-refl}
 use prog.Wp.{WpFn}
-use types.Logic.{sem}
-use types.Kit.{Item, ‵, raw, ◌⊛◌, later, ◌$◌, ◌∵◌, !, qed, by, move, keep, drop, split, split3, join, fsplit, fsplit3, fjoin, fjoin3, fpick, fpack, group, use0, use1, use2, use3, await, rewrite, feq_i, suffices}
+use types.Kit.{Item, ‵, raw, ◌⊛◌, later, ◌$◌, ◌∵◌, !, qed, by, move, keep, split, split3, join, fsplit, fjoin, fjoin3, fpick, fpack, group, use0, use1, use2, await, rewrite, feq_i, suffices}
 use types.Run.{stop, fld, of_opd, no_more, and_then, returns, enter}
-use types.ByLocal.{alloc_all, pass_all, free_all, look_at, get, get_in, sets, is}
+use types.ByLocal.{alloc_all, pass_all, free_all, look_at, get, get_in, sets}
 use types.Part.{agg, sub, whole}
 use contract.Running.{tables}
 use contract.Monad.{fact, fact_i}
@@ -19,28 +17,26 @@ use contract.BorrowLft.{◌⊑◌}
 use denote.Exit.{no}
 use denote.RattleType.{RattleType, Valss, owns}
 use denote.Signature.{types_at, plain}
-use denote.RawPtr.{Ptr, InBlock, block_ptr, ptr_val, block_of, count_of, at_block, lies_at}
+use denote.RawPtr.{Ptr, InBlock, block_ptr, lies_at}
 use denote.Steps.{nothing, heard}
-use denote.Memory.{lone}
 use denote.Param.{param, bounded, layout}
 use denote.Param.Laws.{param_laws}
 use denote.Shares.{Shares-less}
-use denote.Struct.Lending.{lent_at, Lends-first, Lends-lies}
-use denote.Triple.Entry.{alive}
-use denote.Triple.Walked.{Stays, stay_dropped, walk_of, Goes-dropped}
-use Rattle.core.specs.Ptr.{points_to}
+use denote.Struct.Lending.{lent_at_shr_laws, Lends-first, Lends-lies}
+use denote.Triple.Walked.{Stays, stay_dropped, walk_of}
 use Rattle.core.specs.Sync.RawAtomic.{word}
-use Rattle.core.proofs.alloc.Calls.{Al, handle_tells, Goes-blank}
-use Rattle.std_alloc.specs.Box.Ownership.{box_owns}
+use Rattle.core.proofs.alloc.Calls.{Goes-blank}
 use Rattle.std_alloc.proofs.ResultValues.{and_tt}
 use Rattle.atomic_table.proofs.Walks.{proved_at, leaves}
-use Rattle.arcstr_block.specs.Rights.{counted, owed}
-use Rattle.arcstr_block.specs.Ledger.{Id, Inv, block_owns, block_shares, value_at, rejoins, held_with, pointer_owns}
+use Rattle.arcstr_block.specs.Rights.{counted}
+use Rattle.arcstr_block.specs.Ledger.{Id, block_owns, block_shares, value_at, rejoins, held_with, of_block}
 use Rattle.arcstr_block.specs.contracts.block.Block.{the_row as block_row}
 use Rattle.arcstr_block.specs.contracts.pointer.Pointer as C
-use Rattle.arcstr_block.proofs.Fields.{pointer_val, typed, Words, told, made}
-use Rattle.arcstr_block.proofs.LooseValues.{both, Loose, loose_good, loose_in, loose_out}
-use Rattle.arcstr_block.proofs.Memory.{cuts, joins}
+use Rattle.arcstr_count.specs.declared.steps.Step.TheVariants.{Make}
+use Rattle.arcstr_block.specs.Book.{reached}
+use Rattle.arcstr_block.proofs.Fields.{pointer_val, typed, Words, made}
+use Rattle.arcstr_block.proofs.LooseValues.{both, Loose, loose_good, loose_out}
+use Rattle.arcstr_block.proofs.Memory.{cuts}
 use Rattle.arcstr_block.proofs.Begins.{begins}
 use Rattle.arcstr_block.specs.contracts.pointer.Pointer.make.{ended, clauses}
 use Rattle.arcstr_block.specs.contracts.pointer.Pointer.make.Key.{name as #self}
@@ -63,8 +59,10 @@ make_spec 𝓤 𝓛 𝓜 𝓡 wired X Y L K g d dd met md =
     rewrite ! 0 (λ (n : ℕ). ‵ (word b (o + 0) n)) two refl $ move ! (1 ∷ 2 ∷ 3 ∷ []) $ fjoin3 ! $ move ! (1 ∷ 0 ∷ []) $ fjoin ! $ move ! (3 ∷ []) $ split3 ! $ move ! (3 ∷ 0 ∷ []) $
     suffices ! (Run (w ∷ [])) (subst (λ (us : List Val). ent 𝓤 (Run (w ∷ [])) (Run us)) (sym (λ i. ws i ++ [])) (id⊢ 𝓤 (Run (w ∷ [])))) $
     enter ! 𝓣.C 𝓣.Λ fn (w ∷ []) Post $ alloc_all ! (λ l. pass_all ! refl (loose_good BR Z LZ g b o h fits, tt) $
-    use2 𝓛 (later (‵ (fex Id (λ t. held_with P lim b (o + 0) t s 1)) ⊛ t₁))
-    (begins 𝓛 P lim b (o + 0) s small κs.0 (Lends-first 𝓛 (lies_at R full_share (value_at holds R p x) x) _ s κs.0 (Lends-lies 𝓛 R κs.0 (value_at holds R p x) x (Shares-less 𝓛 R R.lives κs.0 leX ((param_laws 0 X L).shares 𝓛) x))) κs.0 qs.0 (Incl-refl κs.0)) $ await ! tt $ split ! $
+    let sl = lent_at_shr_laws R (param_laws 0 X L).shr_laws (value_at holds R p x) x in
+    use2 𝓛 (later (‵ (fex Id (λ t. fsep (reached t.2 (Make ∷ [])) (held_with P lim b (o + 0) t s 0 1))) ⊛ t₁))
+    (begins 𝓛 P lim b (o + 0) s sl small κs.0 (Lends-first 𝓛 (lies_at R full_share (value_at holds R p x) x) _ s κs.0 (Lends-lies 𝓛 R κs.0 (value_at holds R p x) x (Shares-less 𝓛 R R.lives κs.0 leX ((param_laws 0 X L).shares 𝓛) x))) κs.0 qs.0 (Incl-refl κs.0)) $ await ! tt $ split ! $
+    fpick ! (λ t. fsplit ! $ nothing ! $ fpack ! (t.2 ≡ t.2) (λ _. ftrue) refl $ fjoin ! $ fjoin ! $ fpack ! Id (of_block holds R lim p x 1 0 t.2 (Make ∷ [])) t $
     -- [the owner; the tokens; the handle]
     nothing ! $ fpack ! (InBlock p) (λ _. ftrue) tt $ fjoin ! $ use0 𝓛 (‵ ((Words R Z g).own_val (p, (tt, tt)) (pointer_val p ∷ []))) (made R Z g 𝓛 p) $ fjoin ! $
     sets ! (of_opd ! (get_in ! (fld ! refl (stop !)) (sub ! 0 refl (whole !)))) refl (tt, tt) $ sets ! (of_opd ! (get_in ! (fld ! refl (stop !)) (sub ! 1 refl (whole !)))) refl fits $
@@ -72,8 +70,8 @@ make_spec 𝓤 𝓛 𝓜 𝓡 wired X Y L K g d dd met md =
     sets ! (agg ! (and_then ! (get ! refl) (and_then ! (get ! refl) (no_more !)))) refl (and_tt (mir.Val.has_ty (layout Z) h) fits.0, ((tt, (tt, tt)), (fits.1, tt))) $
     -- [the pointer; the tokens, in three; the handle]
     move ! (1 ∷ 2 ∷ 3 ∷ []) $ group ! 3 $ move ! (1 ∷ 2 ∷ []) $ nothing ! $ move ! (1 ∷ 2 ∷ 0 ∷ []) $ fjoin3 ! $
-    let h' : Row.Denot = record { at = p; marker = record {}; home = a; value = x; limit = lim; right = 1 } in let r : Val = both (pointer_val p) h in feq_i ! (List Val) (r ∷ []) (r ∷ []) refl $ fjoin ! $
+    let h' : Row.Denot = record { at = p; marker = record {}; home = a; value = x; limit = lim; right = 1; seat = 0; block = t.2; history = Make ∷ [] } in let r : Val = both (pointer_val p) h in feq_i ! (List Val) (r ∷ []) (r ∷ []) refl $ fjoin ! $
     fpack ! (Valss (Row ∷ Z ∷ [])) (λ uss. fsep (feq (List Val) (r ∷ []) (vstruct (of_list (uss.0 ++ (uss.1.0 ++ []))) ∷ [])) (owns (Row ∷ Z ∷ []) (h', (a, tt)) uss)) (pointer_val p ∷ [], (h ∷ [], tt)) $
     let Home : Type 0 = (a ≡ a) × (a ≡ a) in use0 𝓛 (raw (fact 𝓤 (1 ≡ counted))) (fact_i 𝓤 (1 ≡ counted) (emp 𝓤) refl) $ use0 𝓛 (raw (fact 𝓤 (lim ≡ lim))) (fact_i 𝓤 (lim ≡ lim) (emp 𝓤) refl) $ join ! $
     use0 𝓛 (raw (fact 𝓤 (x ≡ x))) (fact_i 𝓤 (x ≡ x) (emp 𝓤) refl) $ join ! $ use0 𝓛 (raw (fact 𝓤 Home)) (fact_i 𝓤 Home (emp 𝓤) (refl, refl)) $ join ! $ nothing ! $ nothing ! $ fjoin ! $
-    returns ! (look_at ! 0 refl) $ free_all ! refl $ keep ! (3 ∷ 0 ∷ 2 ∷ 1 ∷ []) $ by ! (leaves 𝓛 En hs c z r (h', a) ((tt, (tt, tt)), tt) (tt, tt)))))))))
+    returns ! (look_at ! 0 refl) $ free_all ! refl $ keep ! (3 ∷ 0 ∷ 2 ∷ 1 ∷ []) $ by ! (leaves 𝓛 En hs c z r (h', a) ((tt, (tt, tt)), tt) (tt, tt))))))))))

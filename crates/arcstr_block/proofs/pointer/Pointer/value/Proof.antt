@@ -1,23 +1,20 @@
 -- `value` shows what the block holds, for as long as the pointer is borrowed.
-use Rattle.std.proofs.Common.{◌≡◌, ℕ, ◌+◌, ◌^◌, ◌<◌, List, [], ◌∷◌, ◌++◌, sym, refl, ap, ◌∙◌, lit<, w64}
+use Rattle.std.proofs.Common.{◌≡◌, ℕ, ◌+◌, List, [], ◌∷◌, sym, refl, ap, ◌∙◌}
 use mir.Syntax.{dcons, dnil, a_type, named}
-use mir.Val.{Val, vint, vptr, vstruct, vcons, vnil, of_list}
+use mir.Val.{Val, vptr}
 use mir.MapTy.{inst_fn}
-use base.Logic.{SProp, emp, via, guard_i}
-use base.Fml.{Lft, Share, Fml, ftrue, fsep, fex, feq, flft, fhide, finv, fshr_bor}
-use types.Logic.{sem}
-use types.Kit.{‵, raw, ◌⊛◌, some, given, later, mean, at_ret, ◌$◌, ◌∵◌, !, qed, by, move, keep, drop, split, split3, join, fsplit, fsplit3, fjoin, fjoin3, fpick, fpack, pick, learn, use0, use1, use2, use3, await, rewrite, feq_i, flt_i}
-use types.Run.{stop, fld, hop, load, addr, lit, of_opd, no_more, and_then, first, blocks, exec, Calls-last, returns, enter}
-use types.ByLocal.{alloc_all, pass_all, free_all, look_at, get, through, sets, sets_last, lands_last, is, env}
-use types.Part.{agg, sub, whole, look_in}
-use types.Tokens.{shr_bor-open, obor_close}
-use types.Within.{tokens_halve}
+use base.Logic.{SProp, emp}
+use base.Fml.{Lft, Share, Fml, ftrue, fsep, flft, fhide, finv, fshr_bor}
+use types.Kit.{‵, raw, ◌⊛◌, at_ret, ◌$◌, ◌∵◌, !, qed, by, move, keep, drop, split, split3, join, fsplit, fjoin, fpick, use0, use1, use2, rewrite, feq_i}
+use types.Run.{stop, fld, hop, addr, of_opd, first, blocks, exec, returns, enter}
+use types.ByLocal.{alloc_all, pass_all, free_all, look_at, get, through, sets, sets_last, env}
+use types.Part.{sub, whole, look_in}
 use contract.Running.{tables}
 use contract.Monad.{fact, fact_i}
 use denote.Exit.{yes}
-use denote.RattleType.{RattleType, Valss, owns}
+use denote.RattleType.{RattleType, owns}
 use denote.Signature.{types_at, plain}
-use denote.RawPtr.{◌+ₚ◌, Ptr, InBlock, block_ptr, ptr_val, block_of, count_of, at_block}
+use denote.RawPtr.{◌+ₚ◌, Ptr, block_ptr, block_of, count_of, at_block}
 use denote.Steps.{nothing, peeks, heard, looks, shuts}
 use denote.Opens.{unhide, hide}
 use denote.Moves.{moves_from}
@@ -27,21 +24,18 @@ use denote.Laws.{Is, shows}
 use denote.Memory.{cell_at, hidden_shr, lone}
 use denote.Param.{param, bounded}
 use denote.Param.Laws.{param_laws}
-use denote.Builtin.{RefOf, u64}
+use denote.Builtin.{RefOf}
 use denote.Ref.{shr_vals, shr_Tells}
-use denote.SharingLaws.{contraction}
 use denote.Struct.Lending.{lent_at, lent_out, lent_at_shr_laws}
 use denote.Triple.Walked.{Stays, stay_dropped, walk_of, Goes-dropped}
 use Rattle.core.proofs.atomic.Steps.{tail}
 use Rattle.core.specs.contracts.marker.PhantomData as Marker
 use Rattle.atomic_table.proofs.Walks.{proved, leaves}
-use Rattle.atomic_table.proofs.Calls.{fm, seq_cst, found, finds, loads}
-use Rattle.arcstr_block.specs.Rights.{MaySee, IsWord, Sees}
-use Rattle.arcstr_block.specs.Ledger.{Id, Inv, block_owns, block_shares, value_at, held_with, right_to, shown, knows, in_block, pointer_owns, pointer_shares}
+use Rattle.arcstr_block.specs.Rights.{MaySee}
+use Rattle.arcstr_block.specs.Ledger.{Inv, block_owns, block_shares, value_at, pointer_shares}
+use Rattle.arcstr_block.proofs.Rights as rights
 use Rattle.arcstr_block.specs.contracts.pointer.Pointer as C
-use Rattle.arcstr_block.proofs.Fields.{pointer_val, typed, found_val, found_typed, Words, told, made, opened}
-use Rattle.arcstr_block.proofs.Rights.{may_see, settles}
-use Rattle.arcstr_block.proofs.Steps as steps
+use Rattle.arcstr_block.proofs.Fields.{pointer_val, Words, told, opened}
 use Rattle.arcstr_block.specs.contracts.pointer.Pointer.value.{ended, clauses}
 use Rattle.arcstr_block.specs.contracts.pointer.Pointer.value.Key.{name as #self}
 use Rattle.arcstr_block.proofs.pointer.Pointer.value.Statement.{statement}
@@ -62,19 +56,19 @@ value_spec 𝓤 𝓛 𝓜 𝓡 wired X Y L K g d dd met md =
     qed 𝓛 (((‵ (flft κ q) ⊛ ‵ others) ⊛ ‵ (owns (types_at En.signature.params κs) a y.0.4)) ∷ raw (fact 𝓤 _) ∷ raw (fact 𝓤 _) ∷ raw (fact 𝓤 (MaySee right)) ∷ []) ∵
     keep ! (3 ∷ 0 ∷ []) $ heard ! (MaySee right) (λ may. split ! $ split ! $ move ! (2 ∷ []) $ fsplit ! $ fsplit ! $ keep ! (1 ∷ 3 ∷ 4 ∷ []) $
     enter ! 𝓣.C 𝓣.Λ fn (vptr b o ∷ []) Post $ alloc_all ! (λ l. pass_all ! refl ((tt, tt), tt) $ let Ev = env fn.locals l in
-    use1 𝓛 (‵ (hidden_shr D κ (p, (tt, tt)) b o) ⊛ ‵ (fhide (pointer_shares holds R lim p h.value right κ)))
+    use1 𝓛 (‵ (hidden_shr D κ (p, (tt, tt)) b o) ⊛ ‵ (fhide (pointer_shares holds R lim p h.value right h.seat h.block h.history κ)))
     (lent_out 𝓛 (C.struct R B g) (C.the_codes X.Denot Y.Denot R.coded B.coded (Marker.the_row B).coded) (C.the_heap R B g) (C.the_lent R B g) κ h b o) $
     split ! $ move ! (1 ∷ []) $ unhide ! $ fsplit ! $ fpick ! (λ inb. drop ! $ let at : p ≡ block_ptr pb (count_of p) = at_block p inb in fpick ! (λ t. let I : Fml = Inv P lim pb po t in let af : Lft = t.0 ∷ [] in
-    use1 𝓛 (‵ (fshr_bor κ (λ r. flft af r)) ⊛ ‵ (finv I) ⊛ ‵ (s af) ⊛ ‵ (knows t right)) (may_see 𝓛 P lim pb po t s right may κ) $ split3 ! $ move ! (2 ∷ []) $ split ! $
-    -- [what is shared; what is known; the share; the invariant; the fields; κ; the others]
-    move ! (2 ∷ 0 ∷ []) $ use2 𝓛 (‵ (s κ)) (moves_from 𝓛 s sl κ af af (meet_⊑_left af κ)) $ rewrite ! 0 (λ (r : Ptr). ‵ (lent_at R (r +ₚ up (align (lone R.mir)) 8) h.value κ)) at refl $ fsplit ! $ drop ! $ hide ! $
-    -- [what is shown; what is known; the invariant; the fields; κ; the others]
-    move ! (3 ∷ 4 ∷ []) $ looks ! tt D (opened R B g 𝓛) (p, (tt, tt)) b o (λ e vs. move ! (1 ∷ []) $ peeks ! D (Is D) (shows 𝓛 D) (p, (tt, tt)) vs (λ so.
+    fsplit ! $ drop ! $ use1 𝓛 (‵ (fshr_bor κ (λ r. flft af r)) ⊛ ‵ (finv I) ⊛ ‵ (s af)) (rights.may_see 𝓛 P lim pb po t s sl h.seat right may κ) $ split3 ! $
+    -- [the share; the invariant; what is shared; the fields; κ; the others]
+    move ! (0 ∷ 2 ∷ []) $ use2 𝓛 (‵ (s κ)) (moves_from 𝓛 s sl κ af af (meet_⊑_left af κ)) $ rewrite ! 0 (λ (r : Ptr). ‵ (lent_at R (r +ₚ up (align (lone R.mir)) 8) h.value κ)) at refl $ fsplit ! $ drop ! $ hide ! $
+    -- [what is shown; the invariant; the fields; κ; the others]
+    move ! (2 ∷ 3 ∷ []) $ looks ! tt D (opened R B g 𝓛) (p, (tt, tt)) b o (λ e vs. move ! (1 ∷ []) $ peeks ! D (Is D) (shows 𝓛 D) (p, (tt, tt)) vs (λ so.
     let ev : vs ≡ pointer_val (block_ptr pb (count_of p)) ∷ [] = told R B g p vs so ∙ ap (λ (r : Ptr). pointer_val r ∷ []) at in let there : ℕ = count_of p + up (align (lone R.mir)) 8 in
     rewrite ! 1 (λ (ws : List Val). ‵ (cell_at e D.mir ws b o)) ev refl $ first ! $ blocks ! $
     sets_last ! (addr ! (through ! refl (fld ! refl (hop ! (look_in ! 1 (sub ! 0 refl (whole !))) (fld ! refl (stop !)))))) refl (tt, tt) $ exec ! 𝓣.C 𝓣.Λ Ev (tail fn.body) (at_ret Ev Post) $
     sets ! (of_opd ! (get ! refl)) refl (tt, tt) $ rewrite ! 1 (λ (ws : List Val). ‵ (cell_at e D.mir ws b o)) (sym ev) refl $ move ! (1 ∷ 0 ∷ 2 ∷ []) $ shuts ! tt D e (p, (tt, tt)) vs b o $
-    -- [κ; the fields; what is shown; what is known; the invariant; the others]
-    move ! (0 ∷ 5 ∷ []) $ join ! $ move ! (2 ∷ []) $ feq_i ! (List Val) (vptr pb there ∷ []) (vptr pb there ∷ []) refl $ fjoin ! $
+    -- [κ; the fields; what is shown; the invariant; the others]
+    move ! (0 ∷ 4 ∷ []) $ join ! $ move ! (2 ∷ []) $ feq_i ! (List Val) (vptr pb there ∷ []) (vptr pb there ∷ []) refl $ fjoin ! $
     use0 𝓛 (raw (fact 𝓤 (h.value ≡ h.value))) (fact_i 𝓤 (h.value ≡ h.value) (emp 𝓤) refl) $ nothing ! $ nothing ! $ fjoin ! $
     returns ! (look_at ! 0 refl) $ free_all ! refl $ keep ! (3 ∷ 0 ∷ 2 ∷ 1 ∷ []) $ by ! (leaves 𝓛 En hs c y (vptr pb there) (record { ref_ptr = (pb, there); now = h.value }) (tt, tt) (tt, tt)))))))))

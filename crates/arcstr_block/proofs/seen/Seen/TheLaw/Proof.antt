@@ -1,0 +1,20 @@
+-- A `&` to a `Seen` holds what it has: the fact is had twice. Assumes `Logic`.
+use base.Before.{before}
+use base.Logic.{snd∗}
+use types.Logic.{sem}
+use denote.Param.Shared.{copy_shared}
+use denote.Struct.Laws.{field_copy}
+use denote.Struct.Lending.{of_Lends}
+use Rattle.core.specs.contracts.marker.PhantomData as Marker
+use Rattle.logbook.proofs.Fields.{lends_twice}
+use denote.Builtin.{unit}
+use Rattle.arcstr_block.specs.Book.{reached}
+use Rattle.arcstr_block.specs.contracts.seen.Seen as C
+use Rattle.arcstr_block.proofs.Book.{reached_twice}
+use Rattle.arcstr_block.proofs.seen.Seen.TheLaw.Statement.{statement}
+
+pub shares : statement
+shares = of_Lends C.struct (C.the_codes (Marker.the_row unit).coded) C.the_heap C.the_lent
+    (λ d p. record { contraction = λ M 𝓤 𝓛 κ. reached_twice 𝓛 0 d.block 0 d.history; mono = λ M 𝓤 𝓛 κ' κ. snd∗ 𝓤 (sem 𝓛 (before κ' κ)) (sem 𝓛 (reached d.block d.history)) })
+    (copy_shared (Marker.the_field unit) (field_copy (Marker.the_type unit) tt), tt)
+    (λ M 𝓤 𝓛 d p. lends_twice 𝓛 (reached d.block d.history) (reached_twice 𝓛 0 d.block 0 d.history) C.the_row.lives)

@@ -1,0 +1,51 @@
+-- The history of a block, kept beside its word: the steps up to now, which only grow, and a seat for each handle that was ever born.
+use Rattle.std.specs.Prelude.{ℕ, ◌/◌, ◌%◌, ◌==◌, List}
+use base.Fraction.{full_share}
+use base.Share.{three_quarters}
+use base.Growing.{Order, prefixes, latest, at_least}
+use base.Stored.{Gv}
+use base.Fml.{GName, Share, Fml, ftrue, fsep, fex}
+use Rattle.atomic_table.specs.Seated.{seen as share_of_seat, roster}
+use Rattle.arcstr_count.specs.declared.steps.Step.{Step}
+use Rattle.arcstr_count.specs.declared.steps.HandleState.{HandleState}
+use Rattle.arcstr_count.specs.contracts.steps.Step.{the_row as step_row}
+use Rattle.arcstr_count.specs.contracts.steps.HandleState.{the_row as state_row}
+use Rattle.arcstr_count.specs.declared.steps.Reply.{Reply}
+use Rattle.arcstr_count.specs.Word.{FlagAndCount}
+use Rattle.arcstr_count.specs.OneBlock.{Keeps, EndsIn}
+
+-- the word that a number stands for
+abbrev pub word_of : ℕ → FlagAndCount
+word_of n = record { flag = n % 2 == 1; count = n / 2 }
+
+abbrev pub steps : Order (List Step)
+steps = prefixes step_row.coded
+
+abbrev pub state_code : HandleState → Gv
+state_code = state_row.coded.code
+
+-- the history has reached this beginning: a fact for good
+abbrev pub reached : GName → List Step → Fml
+reached γ history = at_least steps γ history
+
+-- a share of the seat of handle h, which is in this state;  and what a handle has of its seat
+abbrev pub seat_share : GName → ℕ → Share → HandleState → Fml
+seat_share δ h q state = share_of_seat state_code δ h q state
+
+abbrev pub seat : GName → ℕ → HandleState → Fml
+seat δ h state = seat_share δ h three_quarters state
+
+-- The word n is the word that the history leaves on its one block, and each seat holds the state of its handle.
+module _ (L : ℕ) (γ δ : GName) where
+  abbrev pub book : ℕ → List Step × List HandleState → Fml
+  book n x = fsep (fex (Keeps L x.0 (word_of n) x.1) (λ _. ftrue)) (fsep (latest steps full_share γ x.0) (roster state_code δ 0 x.1))
+
+  abbrev pub Book : ℕ → Fml
+  Book n = fex (List Step × List HandleState) (book n)
+
+  -- the history has reached one that ends in this step, and the core answered so
+  abbrev pub ends_in : Step → Reply → List Step → Fml
+  ends_in s reply r = fsep (fex (EndsIn L r s reply) (λ _. ftrue)) (reached γ r)
+
+  abbrev pub Ends : Step → Reply → Fml
+  Ends s reply = fex (List Step) (ends_in s reply)

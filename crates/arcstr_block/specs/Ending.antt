@@ -1,0 +1,14 @@
+-- How a handle ended, as the core answers it.
+use Rattle.std.specs.Prelude.{ℕ, List}
+use Rattle.arcstr_count.specs.declared.steps.Step.{Step}
+use Rattle.arcstr_count.specs.declared.steps.Step.TheVariants.{Begin, Sub}
+use Rattle.arcstr_count.specs.declared.steps.Reply.TheVariants.{Ended as EndedReply, Left as LeftReply, Owes as OwesReply}
+use Rattle.arcstr_count.specs.OneBlock.{EndsIn}
+use Rattle.arcstr_block.specs.declared.owed.Down.{Down}
+use Rattle.arcstr_block.specs.declared.owed.Down.TheVariants.{Ended, Left, Owes}
+
+-- the history ends in the look of the handle's drop, or in its subtraction, which the core answers by the same word
+abbrev pub EndsAs : {A : Type 0} → ℕ → List Step → Down A → Type 0
+EndsAs limit history Ended = (h : ℕ) × EndsIn limit history (Begin h) EndedReply
+EndsAs limit history Left = (h : ℕ) × EndsIn limit history (Sub h) LeftReply
+EndsAs limit history (Owes owed) = (h : ℕ) × EndsIn limit history (Sub h) OwesReply

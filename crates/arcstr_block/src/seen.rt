@@ -1,0 +1,28 @@
+//! What was seen of a block's history.
+ghost use Rattle.std.specs.Prelude.{◌≡◌, ℕ, List};
+ghost use Rattle.std.specs.Coded.{coded_list};
+ghost use Rattle.arcstr_count.specs.declared.steps.Step.{Step};
+ghost use Rattle.arcstr_count.specs.contracts.steps.Step.{the_row as step_row};
+ghost use Rattle.arcstr_block.specs.Book.{reached};
+
+use std::marker::{Model, PhantomData};
+
+/// A beginning of the history of a block, for good. It takes no memory.
+///
+/// `history` lists the steps in their order, and `block` names the block's history.
+#[derive(Drop)]
+pub struct Seen {
+    pub(crate) marker: PhantomData<()>,
+    pub ghost block: { ℕ },
+    pub ghost history: { List Step } by { coded_list step_row.coded },
+}
+
+impl Model for Seen {
+    ghost also_owns = { λ s. reached s.block s.history };
+
+    ghost also_shares = { λ s _ κ. reached s.block s.history };
+}
+
+unsafe impl Send for Seen {}
+
+unsafe impl Sync for Seen {}
