@@ -1,3 +1,4 @@
 pub mod Copies
 pub mod Places
 pub mod SubstrExamples
+pub mod TextOrders

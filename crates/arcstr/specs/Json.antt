@@ -3,7 +3,7 @@ use Rattle.std.specs.Prelude.{◌≡◌, ◌≢◌, ◌↔◌, ◌⊎◌, ℕ, L
 use Rattle.serde_json.specs.Find.{as_str}
 use Rattle.serde_json.specs.View.{view}
 use Rattle.serde_json.specs.declared.value.Value.{Value}
-use Rattle.arcstr_block.specs.Making.{IsTooLong}
+use Rattle.arcstr.specs.Making.{IsTooLong}
 use Rattle.arcstr.specs.declared.json.JsonFault.{JsonFault}
 use Rattle.arcstr.specs.declared.json.JsonFault.TheVariants.{NotText, Length, Memory, TooFar}
 use Rattle.arcstr.specs.Substr.{SubstrView, IsTooFar, empty_slice, whole_of}

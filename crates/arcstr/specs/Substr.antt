@@ -2,7 +2,7 @@
 use Rattle.std.specs.Prelude.{◌≡◌, ℕ, ◌+◌, ◌<◌, ◌⊎◌, List, [], length}
 use Rattle.arcstr_block.specs.declared.fault.TextFault.{TextFault}
 use Rattle.arcstr_block.specs.declared.fault.TextFault.TheVariants.{TooFar}
-use Rattle.arcstr_block.specs.Making.{IsFaultOfMaking}
+use Rattle.arcstr.specs.Making.{IsFaultOfMaking}
 use Rattle.arcstr_range.specs.declared.range.TheConstants.{MAX_PLACE}
 use Rattle.arcstr_range.specs.Substring.{Substring, substring_at, IsSound}
 use Rattle.arcstr_range.specs.Substring.{text_of as text_of_substring}

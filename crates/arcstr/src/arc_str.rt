@@ -10,6 +10,7 @@ use std::marker::Model;
 use std::sync::Wait;
 
 mod cow;
+mod json;
 mod making;
 mod order;
 mod printing;
@@ -126,7 +127,7 @@ impl ArcStr {
         ensures never_static { IsStatic this.now.kind → IsNone result }
     {
         match &this.form {
-            Form::Block(shared) => shared.look().map(|count| count as usize),
+            Form::Block(shared) => shared.look().0.map(|count| count as usize),
             Form::Literal(_) | Form::Fixed(_) => None,
         }
     }
@@ -137,7 +138,7 @@ impl ArcStr {
         ensures { IsStatic this.now.kind → IsTrue result }
     {
         match &this.form {
-            Form::Block(shared) => shared.fixed().is_some(),
+            Form::Block(shared) => shared.fixed().0.is_some(),
             Form::Literal(_) | Form::Fixed(_) => true,
         }
     }
@@ -161,7 +162,7 @@ impl ArcStr {
     {
         match &this.form {
             Form::Literal(text) => Some(StaticStr::from_literal(text)),
-            Form::Block(shared) => shared.fixed().map(StaticStr::from_fixed),
+            Form::Block(shared) => shared.fixed().0.map(StaticStr::from_fixed),
             Form::Fixed(fixed) => Some(StaticStr::from_fixed(fixed.again())),
         }
     }
@@ -182,7 +183,7 @@ impl ArcStr {
     }
 
     fn from_shared(shared: Shared<RC_MAX, Global>) -> ArcStr
-        ensures { result ≡ block_of shared }
+        ensures { result ≡ block_of shared.text }
     {
         ArcStr {
             form: Form::Block(shared),

@@ -4,7 +4,6 @@ ghost use Rattle.std.specs.Prelude.{◌≡◌, Some};
 use std::error::Error;
 use std::fmt;
 
-mod texts;
 #[cfg(test)]
 mod tests;
 
@@ -54,4 +53,3 @@ impl fmt::Display for JsonFault {
 }
 
 impl Error for JsonFault {}
-

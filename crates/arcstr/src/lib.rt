@@ -13,6 +13,8 @@ pub use substr::Substr;
 mod arc_str;
 mod json;
 mod mac;
+#[cfg(test)]
+mod refusal_tests;
 mod static_str;
 mod substr;
 mod text_order;

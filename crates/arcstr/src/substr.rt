@@ -1,13 +1,13 @@
 //! `Substr`: a slice of a shared text, which keeps its parent.
-ghost use Rattle.std.specs.Prelude.{◌≡◌, ◌≢◌, ◌↔◌, ◌≤◌, ◌<◌, [], length, Ok, IsTrue, IsErr, IsErrOf, IfOk, IfErr};
-ghost use Rattle.arcstr_block.specs.Making.{IsTooLong};
+ghost use Rattle.std.specs.Prelude.{◌≡◌, ◌↔◌, ◌≤◌, ◌<◌, [], length, Ok, IsTrue, IsErr, IsErrOf, IfOk, IfErr};
+ghost use Rattle.arcstr.specs.Making.{IsTooLong};
 ghost use Rattle.arcstr_range.specs.Ends.{IsLawful};
 ghost use Rattle.arcstr_range.specs.Text.{SpellsBetween};
 ghost use Rattle.arcstr.specs.TextView.{literal_of, made_of};
 ghost use Rattle.arcstr.specs.Substr.{IsFaultOfMakingSlice, IsSoundSlice, IsTooFar, empty_slice, slice_of, text_of, whole_of};
 
 use crate::arc_str::ArcStr;
-use arcstr_block::{TOO_LONG, TextFault};
+use arcstr_block::TextFault;
 use arcstr_range::range::MAX_PLACE;
 use std::alloc::Global;
 use std::marker::Model;
@@ -15,6 +15,7 @@ use std::ops::Range;
 use std::sync::Wait;
 
 mod cow;
+mod json;
 mod order;
 mod printing;
 mod slices;
@@ -22,6 +23,9 @@ mod slices;
 pub(crate) mod tests;
 #[cfg(test)]
 mod thread_tests;
+
+/// From this many bytes on, `2^63 - 25`, a text is too long for an `ArcStr`.
+const TOO_LONG: usize = 9_223_372_036_854_775_783;
 
 /// A slice of a shared text. It keeps its parent, and so the parent's text, as long as it lives. A
 /// contract sees the parent, and the two places in bytes of the parent's text between which the slice
@@ -58,7 +62,8 @@ impl Substr {
         ensures made { IfOk result (λ slice. slice ≡ whole_of (made_of text.now)) }
         ensures empty { text.now ≡ [] → result ≡ Ok empty_slice }
         ensures too_long { IsErrOf result TextFault.Length ↔ IsTooLong (length text.now) }
-        ensures too_far { IsErrOf result TextFault.TooFar ↔ (IsTooFar (length text.now) × ¬ (IsTooLong (length text.now))) }
+        ensures too_far { IsErrOf result TextFault.TooFar
+            ↔ (IsTooFar (length text.now) × ¬ (IsTooLong (length text.now))) }
         ensures refused { IfErr result (IsFaultOfMakingSlice (length text.now)) }
     {
         if text.len() > MAX_PLACE && text.len() < TOO_LONG {

@@ -6,6 +6,7 @@ ghost use Rattle.std.specs.Cmp.Lexicographic.{nat_list_cmp_total, nat_list_eq_eq
 ghost use Rattle.std.specs.Cmp.Rules.{hashing};
 ghost use Rattle.std.specs.Hash as fed;
 ghost use Rattle.std.specs.Ordering.{nat_cmp};
+ghost use Rattle.arcstr.specs.TextOrder.{IsTextOrder};
 
 use crate::arc_str::ArcStr;
 use crate::text_order::compare;
@@ -29,8 +30,11 @@ impl PartialEq for ArcStr {
 
     ghost laws = { on_per (λ shared. shared.text) (partial_equiv_from_equiv nat_list_eq_equiv) };
 
-    fn eq(&self, other: &ArcStr) -> bool {
-        self.as_str() == other.as_str()
+    fn eq(&self, other: &ArcStr) -> bool
+        ensures value { result ≡ bytes_eq self.now.text other.now.text }
+        ensures same { IsTrue result ↔ (self.now.text ≡ other.now.text) }
+    {
+        self.eq_str(other.as_str())
     }
 }
 
@@ -57,7 +61,10 @@ impl Ord for ArcStr {
 
     ghost matches_eq = { λ one other. texts_ties one.text other.text };
 
-    fn cmp(&self, other: &ArcStr) -> Ordering {
+    fn cmp(&self, other: &ArcStr) -> Ordering
+        ensures value { result ≡ slice_cmp nat_cmp self.now.text other.now.text }
+        ensures order { IsTextOrder self.now.text other.now.text result }
+    {
         compare(self.as_str(), other.as_str())
     }
 }

@@ -7,6 +7,7 @@ ghost use Rattle.std.specs.Cmp.Rules.{hashing};
 ghost use Rattle.std.specs.Hash as fed;
 ghost use Rattle.std.specs.Ordering.{nat_cmp};
 ghost use Rattle.arcstr.specs.Substr.{text_of};
+ghost use Rattle.arcstr.specs.TextOrder.{IsTextOrder};
 
 use crate::substr::Substr;
 use crate::text_order::compare;
@@ -30,8 +31,11 @@ impl PartialEq for Substr {
 
     ghost laws = { on_per text_of (partial_equiv_from_equiv nat_list_eq_equiv) };
 
-    fn eq(&self, other: &Substr) -> bool {
-        self.as_str() == other.as_str()
+    fn eq(&self, other: &Substr) -> bool
+        ensures value { result ≡ bytes_eq (text_of self.now) (text_of other.now) }
+        ensures same { IsTrue result ↔ (text_of self.now ≡ text_of other.now) }
+    {
+        self.eq_str(other.as_str())
     }
 }
 
@@ -58,7 +62,10 @@ impl Ord for Substr {
 
     ghost matches_eq = { λ one other. texts_ties (text_of one) (text_of other) };
 
-    fn cmp(&self, other: &Substr) -> Ordering {
+    fn cmp(&self, other: &Substr) -> Ordering
+        ensures value { result ≡ slice_cmp nat_cmp (text_of self.now) (text_of other.now) }
+        ensures order { IsTextOrder (text_of self.now) (text_of other.now) result }
+    {
         compare(self.as_str(), other.as_str())
     }
 }
