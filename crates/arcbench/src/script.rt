@@ -1,6 +1,7 @@
 //! Scripts of steps on counted blocks, and their answers.
 pub use answers::answer;
 pub use copies::{CopyFault, copy};
+pub use line::number_of;
 
 mod answers;
 mod copies;

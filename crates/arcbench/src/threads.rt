@@ -1,7 +1,8 @@
 //! What the program prints of callers in threads.
-ghost use Rattle.std.specs.Prelude.{◌≡◌, ◌≤◌, ◌++◌, ◌∷◌, [], IfOk, OnOk, string_bytes, codes};
+ghost use Rattle.std.specs.Prelude.{◌≡◌, ◌<◌, ◌≤◌, ℕ, length, slice_index_or, ◌++◌, ◌∷◌, [], IfOk, OnOk, string_bytes, codes};
 ghost use Rattle.std.specs.Fmt.{decimal};
-ghost use Rattle.arcbench.specs.Threads.{shared_text, worker_line, threads_answer};
+ghost use Rattle.arcstr.specs.TextView.{TextView};
+ghost use Rattle.arcbench.specs.Threads.{shared_text, worker_line, worker_lines, threads_answer};
 
 use crate::pool::{Gate, PoolFault, callers};
 use arcstr::ArcStr;
@@ -31,11 +32,20 @@ pub fn answer<R: Threads + Wait + Sync>(
     };
     let handles = callers(rt, alloc, &text, workers, &OpenGate)?;
     let mut out = String::new(alloc);
-    for (worker, handle) in handles.iter().enumerate() {
-        push_line(&mut out, worker, handle)?;
-    }
+    push_lines(&mut out, &handles)?;
     push_end(&mut out, workers)?;
     Ok(out.into_bytes())
+}
+
+/// Appends the line of each worker, in the order of their handles.
+fn push_lines(out: &mut String, handles: &[ArcStr]) -> Result<(), AllocError>
+    requires { (worker : ℕ) (d : TextView) → worker < length handles.now → (slice_index_or handles.now worker d).text ≡ shared_text }
+    ensures { OnOk result (string_bytes out.new ≡ string_bytes out.old ++ worker_lines (length handles.now)) }
+{
+    for (worker, handle) in handles.iter().enumerate() {
+        push_line(out, worker, handle)?;
+    }
+    Ok(())
 }
 
 fn push_line(out: &mut String, worker: usize, handle: &ArcStr) -> Result<(), AllocError>
