@@ -2,3 +2,4 @@ pub mod Copies
 pub mod Places
 pub mod SubstrExamples
 pub mod TextOrders
+pub mod OrderExamples

@@ -6,7 +6,7 @@ use Rattle.std.specs.Cmp.{nat_cmp_total}
 use Rattle.std.specs.Cmp.Lexicographic.{slice_cmp}
 use Rattle.std.specs.Ordering.{nat_cmp, ordering_then, ordering_reverse, MatchOrdering}
 use Rattle.std.proofs.lemmas.Cmp.{nat_list_cmp_total, ranked, tied_itself}
-use Rattle.arcstr.specs.TextOrder.{ComesBefore, HasLowerByteAfter, IsProperFront, IsTextOrder}
+use Rattle.arcstr.specs.TextOrder.{ComesBefore, IsTextOrder}
 
 -- one more byte at the front of both texts
 ComesBefore-cons : (x y : ℕ) (xs ys : List ℕ) → x ≡ y → ComesBefore xs ys → ComesBefore (x ∷ xs) (y ∷ ys)

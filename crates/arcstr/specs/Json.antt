@@ -1,11 +1,11 @@
 -- What reading a text from a JSON value answers.
-use Rattle.std.specs.Prelude.{◌≡◌, ◌≢◌, ◌↔◌, ◌⊎◌, ℕ, List, [], length, Option, Some, None, Result, Ok, IsErrOf, IsSomeAnd, IfOk, IfErr}
+use Rattle.std.specs.Prelude.{◌≡◌, ◌≢◌, ◌↔◌, ℕ, List, [], length, Option, Some, None, Result, Ok, IsErrOf, IsSomeAnd, IfOk, IfErr}
 use Rattle.serde_json.specs.Find.{as_str}
 use Rattle.serde_json.specs.View.{view}
 use Rattle.serde_json.specs.declared.value.Value.{Value}
 use Rattle.arcstr.specs.Making.{IsTooLong}
 use Rattle.arcstr.specs.declared.json.JsonFault.{JsonFault}
-use Rattle.arcstr.specs.declared.json.JsonFault.TheVariants.{NotText, Length, Memory, TooFar}
+use Rattle.arcstr.specs.declared.json.JsonFault.TheVariants.{NotText, Length, TooFar}
 use Rattle.arcstr.specs.Substr.{SubstrView, IsTooFar, empty_slice, whole_of}
 use Rattle.arcstr.specs.TextView.{TextView, literal_of, made_of}
 

@@ -11,7 +11,7 @@ worker_lines-more n = ap worker_lines (add-one n) ∙ concat-map-push worker_lin
 pub loop-worker-preserved : goal.loop-worker-preserved
 loop-worker-preserved c =
     let read = ap (λ view. view.text) c.index-handles-worker.is
-        ∙ c.requires c.loop-worker.worker c.index-handles-worker.result c.loop-worker-test.true in
+    ∙ c.requires c.loop-worker.worker c.index-handles-worker.result c.loop-worker-test.true in
     c.in_ok-push_line.ensures read
     ∙ ap (λ front. front ++ worker_line c.loop-worker.worker) c.loop-worker.invariant
     ∙ append_assoc (string_bytes c.args.out.now) (worker_lines c.loop-worker.worker) (worker_line c.loop-worker.worker)
