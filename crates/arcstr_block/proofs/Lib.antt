@@ -14,3 +14,4 @@ pub mod Book
 pub mod Memory
 pub mod LooseValues
 pub mod Crosses
+pub mod Looks

@@ -7,8 +7,8 @@ use Rattle.arcstr_count.specs.OneBlock.{EndsIn}
 use Rattle.arcstr_block.specs.declared.owed.Down.{Down}
 use Rattle.arcstr_block.specs.declared.owed.Down.TheVariants.{Ended, Left, Owes}
 
--- the history ends in the look of the handle's drop, or in its subtraction, which the core answers by the same word
-abbrev pub EndsAs : {A : Type 0} → ℕ → List Step → Down A → Type 0
-EndsAs limit history Ended = (h : ℕ) × EndsIn limit history (Begin h) EndedReply
-EndsAs limit history Left = (h : ℕ) × EndsIn limit history (Sub h) LeftReply
-EndsAs limit history (Owes owed) = (h : ℕ) × EndsIn limit history (Sub h) OwesReply
+-- the history ends in the look of the drop of the handle h, or in its subtraction, which the core answers by the same word
+abbrev pub EndsAs : {A : Type 0} → ℕ → List Step → ℕ → Down A → Type 0
+EndsAs limit history h Ended = EndsIn limit history (Begin h) EndedReply
+EndsAs limit history h Left = EndsIn limit history (Sub h) LeftReply
+EndsAs limit history h (Owes owed) = EndsIn limit history (Sub h) OwesReply

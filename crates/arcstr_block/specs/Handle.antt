@@ -5,15 +5,16 @@ use Rattle.arcstr_count.specs.declared.steps.Step.TheVariants.{Look}
 use Rattle.arcstr_count.specs.declared.steps.Reply.TheVariants.{Count, Static}
 use Rattle.arcstr_count.specs.OneBlock.{EndsIn}
 
--- the bytes of the text, and the name of the block's history
+-- the bytes of the text, the name of the block's history, and the number of the handle in it
 pub record Handle : Type 0 where
   pub text : List ℕ
   pub block : ℕ
+  pub seat : ℕ
 
--- the history ends in a look that the core answers by this number of handles
-abbrev pub SawCount : ℕ → List Step → ℕ → Type 0
-SawCount limit history n = (h : ℕ) × EndsIn limit history (Look h) (Count n)
+-- the history ends in a look of the handle h that the core answers by this number of handles
+abbrev pub SawCount : ℕ → List Step → ℕ → ℕ → Type 0
+SawCount limit history h n = EndsIn limit history (Look h) (Count n)
 
--- the history ends in a look at a marked block
-abbrev pub SawMark : ℕ → List Step → Type 0
-SawMark limit history = (h : ℕ) × EndsIn limit history (Look h) Static
+-- the history ends in a look of the handle h at a marked block
+abbrev pub SawMark : ℕ → List Step → ℕ → Type 0
+SawMark limit history h = EndsIn limit history (Look h) Static

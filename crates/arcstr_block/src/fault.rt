@@ -1,5 +1,5 @@
 ghost use Rattle.std.specs.Prelude.{◌≡◌, Some};
-ghost use Rattle.arcstr_block.specs.Fault.{text_fault_number};
+ghost use Rattle.arcstr_block.specs.Fault.{text_fault_number, text_fault_text};
 
 use std::error::Error;
 use std::fmt;
@@ -35,6 +35,8 @@ impl TextFault {
 }
 
 impl fmt::Display for TextFault {
+    ghost output = { λ fault. Some (text_fault_text fault) };
+
     fn fmt<W: fmt::Write>(&self, f: &mut fmt::Formatter<W>) -> fmt::Result {
         match self {
             TextFault::Length => f.write_str("text is too long"),

@@ -28,7 +28,8 @@ struct Counted<const LIMIT: u64, A: Allocator + Copy> {
     ghost low: { LIMIT < 4611686018427387904 },
 }
 
-/// One handle on a block whose count has the limit `LIMIT`. Contracts see the bytes of its text, and its block's name.
+/// One handle on a block whose count has the limit `LIMIT`. Contracts see the bytes of its text,
+/// its block's name, and its own number in the block's history.
 pub struct Shared<const LIMIT: u64, A: Allocator + Copy> {
     handle: Counted<LIMIT, A>,
 }
@@ -36,7 +37,7 @@ pub struct Shared<const LIMIT: u64, A: Allocator + Copy> {
 impl<const LIMIT: u64, A: Allocator + Copy> Model for Shared<LIMIT, A> {
     ghost Value = { Handle };
 
-    ghost view = { λ s. record { text = string_bytes s.handle.pointer.value; block = s.handle.pointer.block } };
+    ghost view = { λ s. record { text = string_bytes s.handle.pointer.value; block = s.handle.pointer.block; seat = s.handle.pointer.seat } };
 }
 
 impl<const LIMIT: u64, A: Allocator + Copy> Shared<LIMIT, A> {
@@ -87,10 +88,10 @@ impl<const LIMIT: u64, A: Allocator + Copy> Shared<LIMIT, A> {
         self.as_str().len()
     }
 
-    /// One load: the number of living handles, or `None` at a marked block. What was seen of the history ends in it.
+    /// One load: the number of living handles, or `None` at a marked block. What was seen of the history ends in this look.
     pub fn look(&self) -> (Option<u64>, Seen)
         ensures count { IfSome result.0 (λ count. (0 < count) × (count ≤ LIMIT + 1)) }
-        ensures seen { MatchOption result.0 (SawMark LIMIT result.1.history) (λ count. SawCount LIMIT result.1.history count) }
+        ensures seen { MatchOption result.0 (SawMark LIMIT result.1.history self.now.seat) (λ count. SawCount LIMIT result.1.history self.now.seat count) }
         ensures block { result.1.block ≡ self.now.block }
     {
         let (found, gained) = self.handle.pointer.look();
@@ -99,10 +100,10 @@ impl<const LIMIT: u64, A: Allocator + Copy> Shared<LIMIT, A> {
         (looked(found), seen)
     }
 
-    /// One load: the block as a fixed one, where it is found marked. What was seen of the history ends in it.
+    /// One load: the block as a fixed one, where it is found marked. What was seen of the history ends in this look.
     pub fn fixed(&self) -> (Option<Fixed<A>>, Seen)
         ensures text { IfSome result.0 (λ fixed. fixed ≡ self.now.text) }
-        ensures seen { MatchOption result.0 ((n : ℕ) × SawCount LIMIT result.1.history n) (λ _. SawMark LIMIT result.1.history) }
+        ensures seen { MatchOption result.0 ((n : ℕ) × SawCount LIMIT result.1.history self.now.seat n) (λ _. SawMark LIMIT result.1.history self.now.seat) }
         ensures block { result.1.block ≡ self.now.block }
     {
         let (found, gained) = self.handle.pointer.look();
@@ -131,7 +132,8 @@ impl<const LIMIT: u64, A: Allocator + Copy> Shared<LIMIT, A> {
     /// Another handle. A load, and a compare-exchange that is tried again where the word changed between: an unmarked
     /// count above the limit gets the mark, any other grows by one, and a marked word is left as it is.
     pub fn up<R: Wait>(&self, rt: &R) -> Shared<LIMIT, A>
-        ensures { result ≡ self.now }
+        ensures text { result.text ≡ self.now.text }
+        ensures block { result.block ≡ self.now.block }
     {
         let (found, gained) = self.handle.pointer.find();
         if marked(found) {
@@ -152,7 +154,7 @@ impl<const LIMIT: u64, A: Allocator + Copy> Shared<LIMIT, A> {
 
     /// The end of the handle. A look that finds the mark leaves the word as it is; else the count falls by one.
     pub fn down(self) -> (Down<A>, Seen)
-        ensures seen { EndsAs LIMIT result.1.history result.0 }
+        ensures seen { EndsAs LIMIT result.1.history self.seat result.0 }
         ensures block { result.1.block ≡ self.block }
     {
         let Shared { handle } = self;

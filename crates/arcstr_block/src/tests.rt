@@ -156,3 +156,52 @@ fn faults_print_their_texts(rt: HostRuntime) -> Result<(), Fail> {
     );
     Ok(())
 }
+
+/// Marks the block, and ends the handle.
+fn marks(handle: Shared<5, Global>) -> Fixed<Global> {
+    handle.mark()
+}
+
+/// Whether the text is read after two threads had a handle each: one marked the block, and both ended theirs.
+fn reads_after_threads<R: Threads + Wait + Sync>(rt: &R, alloc: Global) -> Result<bool, TextFault> {
+    let first = Shared::<5, Global>::from_text(alloc, "foobar")?;
+    let second = first.up(rt);
+    let (fixed, _) = thread::join(rt, move || marks(first), move || drop(second));
+    Ok(fixed.as_str() == "foobar")
+}
+
+#[test]
+fn a_fixed_block_outlives_two_threads(rt: HostRuntime) -> Result<(), Fail> {
+    for _ in 0..1000 {
+        assert_eq!(rt; reads_after_threads(&rt, rt.alloc())?, true);
+    }
+    Ok(())
+}
+
+/// Clones and drops, 100,000 times.
+fn clones<R: Wait>(rt: &R, handle: &Shared<1000, Global>) {
+    for _ in 0..100000 {
+        drop(handle.up(rt));
+    }
+}
+
+/// What four threads leave that clone and drop.
+fn look_after_four<R: Threads + Wait + Sync>(
+    rt: &R,
+    alloc: Global,
+) -> Result<Option<u64>, TextFault> {
+    let first = Shared::<1000, Global>::from_text(alloc, "foobar")?;
+    let lent = &first;
+    thread::join(
+        rt,
+        || thread::join(rt, || clones(rt, lent), || clones(rt, lent)),
+        || thread::join(rt, || clones(rt, lent), || clones(rt, lent)),
+    );
+    Ok(first.look().0)
+}
+
+#[test]
+fn four_threads_leave_one(rt: HostRuntime) -> Result<(), Fail> {
+    assert_eq!(rt; look_after_four(&rt, rt.alloc())?, Some(1));
+    Ok(())
+}
