@@ -11,6 +11,9 @@ use crate::shared::Shared;
 use arcstr_count::RC_MAX;
 use std::alloc::{AllocError, Allocator};
 
+#[cfg(test)]
+mod tests;
+
 impl<const LIMIT: u64, A: Allocator + Copy> Shared<LIMIT, A> {
     /// The first handle on a new block with the text that the closure leaves in `n` zero bytes.
     ///
