@@ -5,3 +5,4 @@ mod memory;
 mod ports;
 mod statuses;
 mod texts;
+mod threads;

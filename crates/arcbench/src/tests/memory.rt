@@ -48,7 +48,7 @@ fn prints_that_it_is_out_of_memory(rt: HostRuntime) -> Result<(), Fail> {
         let mut writer = FakeWriter::new(Vec::new(rt.alloc()), u64::MAX);
         let mut input = Port::new(FakeReader::new(FIRST_SCRIPT.as_bytes(), u64::MAX));
         let mut output = Port::new(&mut writer);
-        let status = serve(&(), &heap, &words, &mut input, &mut output, &mut errors);
+        let status = serve(&rt, &heap, &words, &mut input, &mut output, &mut errors);
         let (answer, line) = if status == 3 {
             ("", NO_MEMORY)
         } else {

@@ -3,42 +3,45 @@ use super::fakes::{FakeReader, FakeWriter};
 use super::texts::{FIRST_ANSWER, FIRST_SCRIPT, IO, NO_MEMORY, TOO_LARGE, USAGE};
 use crate::port::Port;
 use crate::program::{serve, serve_without_words};
-use std::alloc::{AllocError, Global};
+use std::alloc::AllocError;
 use std::io;
 use std::io::ErrorKind;
 use std::process::Abort;
+use std::sync::Wait;
 use std::test::Fail;
+use std::thread::Threads;
 
 const NEVER: u64 = u64::MAX;
 
 /// What the program did.
 #[derive(Drop)]
-struct Outcome {
-    status: u8,
-    output: Vec<u8>,
-    errors: Vec<u8>,
+pub struct Outcome {
+    pub status: u8,
+    pub output: Vec<u8>,
+    pub errors: Vec<u8>,
 }
 
 /// Which read, which write of the output and which write of the errors fails.
 #[derive(Clone, Copy)]
-struct FailsAt {
-    read: u64,
-    write: u64,
-    error: u64,
+pub struct FailsAt {
+    pub read: u64,
+    pub write: u64,
+    pub error: u64,
 }
 
-const NO_FAULT: FailsAt = FailsAt {
+pub const NO_FAULT: FailsAt = FailsAt {
     read: NEVER,
     write: NEVER,
     error: NEVER,
 };
 
-fn run_program(
-    alloc: Global,
+pub fn run_program<R: Threads + Wait + Sync + AllocGlobal>(
+    rt: &R,
     words: &[&str],
     script: &str,
     at: FailsAt,
 ) -> Result<Outcome, AllocError> {
+    let alloc = rt.alloc();
     let mut owned = Vec::new(alloc);
     for word in words {
         owned.push(String::from_str(alloc, word)?)?;
@@ -47,7 +50,7 @@ fn run_program(
     let mut writer = FakeWriter::new(Vec::new(alloc), at.write);
     let mut input = Port::new(FakeReader::new(script.as_bytes(), at.read));
     let mut output = Port::new(&mut writer);
-    let status = serve(&(), alloc, &owned, &mut input, &mut output, &mut errors);
+    let status = serve(rt, alloc, &owned, &mut input, &mut output, &mut errors);
     Ok(Outcome {
         status,
         output: writer.taken,
@@ -55,7 +58,7 @@ fn run_program(
     })
 }
 
-fn expect<R: Abort>(rt: &R, found: &Outcome, status: u8, output: &str, errors: &str) {
+pub fn expect<R: Abort>(rt: &R, found: &Outcome, status: u8, output: &str, errors: &str) {
     assert_eq!(rt; found.status, status);
     assert_eq!(rt; found.output.as_slice(), output.as_bytes());
     assert_eq!(rt; found.errors.as_slice(), errors.as_bytes());
@@ -63,7 +66,7 @@ fn expect<R: Abort>(rt: &R, found: &Outcome, status: u8, output: &str, errors: &
 
 #[test]
 fn answers_a_script(rt: HostRuntime) -> Result<(), Fail> {
-    let found = run_program(rt.alloc(), &["script"], FIRST_SCRIPT, NO_FAULT)?;
+    let found = run_program(&rt, &["script"], FIRST_SCRIPT, NO_FAULT)?;
     expect(&rt, &found, 0, FIRST_ANSWER, "");
     Ok(())
 }
@@ -75,12 +78,12 @@ fn prints_its_usage(rt: HostRuntime) -> Result<(), Fail> {
         &["scripts"],
         &["Script"],
         &["script", ""],
-        &["threads", "2"],
+        &["threads"],
         &["tokens", "2"],
         &["script", "script"],
     ];
     for words in lists {
-        let found = run_program(rt.alloc(), words, FIRST_SCRIPT, NO_FAULT)?;
+        let found = run_program(&rt, words, FIRST_SCRIPT, NO_FAULT)?;
         expect(&rt, &found, 1, "", USAGE);
     }
     Ok(())
@@ -89,7 +92,7 @@ fn prints_its_usage(rt: HostRuntime) -> Result<(), Fail> {
 #[test]
 fn refuses_a_limit(rt: HostRuntime) -> Result<(), Fail> {
     let script = "limit 4611686018427387904\nmake\n";
-    let found = run_program(rt.alloc(), &["script"], script, NO_FAULT)?;
+    let found = run_program(&rt, &["script"], script, NO_FAULT)?;
     expect(&rt, &found, 2, "", TOO_LARGE);
     Ok(())
 }
@@ -99,7 +102,7 @@ fn refuses_a_limit(rt: HostRuntime) -> Result<(), Fail> {
 fn fails_at_each_read(rt: HostRuntime) -> Result<(), Fail> {
     for read in 0..18 {
         let at = FailsAt { read, ..NO_FAULT };
-        let found = run_program(rt.alloc(), &["script"], FIRST_SCRIPT, at)?;
+        let found = run_program(&rt, &["script"], FIRST_SCRIPT, at)?;
         expect(&rt, &found, 4, "", IO);
     }
     Ok(())
@@ -110,7 +113,7 @@ fn fails_at_each_read(rt: HostRuntime) -> Result<(), Fail> {
 fn fails_at_each_write(rt: HostRuntime) -> Result<(), Fail> {
     for write in 0..22 {
         let at = FailsAt { write, ..NO_FAULT };
-        let found = run_program(rt.alloc(), &["script"], FIRST_SCRIPT, at)?;
+        let found = run_program(&rt, &["script"], FIRST_SCRIPT, at)?;
         let front = FIRST_ANSWER.get(..2 * write as usize).ok_or("short")?;
         expect(&rt, &found, 4, front, IO);
     }
@@ -126,7 +129,7 @@ fn fails_at_each_pair(rt: HostRuntime) -> Result<(), Fail> {
                 write,
                 error: NEVER,
             };
-            let found = run_program(rt.alloc(), &["script"], FIRST_SCRIPT, at)?;
+            let found = run_program(&rt, &["script"], FIRST_SCRIPT, at)?;
             let faulty = read < 18 || write < 22;
             assert_eq!(rt; found.status, if faulty { 4 } else { 0 }, "{read} {write}");
             let taken = if read < 18 { 0 } else { write.min(22) as usize };
@@ -141,7 +144,7 @@ fn fails_at_each_pair(rt: HostRuntime) -> Result<(), Fail> {
 fn keeps_its_status_where_no_error_can_be_printed(rt: HostRuntime) -> Result<(), Fail> {
     for error in 0..4 {
         let at = FailsAt { error, ..NO_FAULT };
-        let found = run_program(rt.alloc(), &[], FIRST_SCRIPT, at)?;
+        let found = run_program(&rt, &[], FIRST_SCRIPT, at)?;
         assert_eq!(rt; found.status, 1);
         assert_eq!(rt; found.output.len(), 0);
     }
