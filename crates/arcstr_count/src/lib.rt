@@ -8,6 +8,7 @@
 pub use faults::{RunFault, StepFault};
 pub use history_laws::every_interleaving;
 pub use runs::run;
+pub use seat_laws::seats_are_counted;
 pub use steps::{HandleState, HandleSummary, Reply, Step};
 pub use words::{RC_MAX, Word};
 pub use worlds::World;
@@ -15,6 +16,7 @@ pub use worlds::World;
 mod faults;
 mod history_laws;
 mod runs;
+mod seat_laws;
 pub mod sentences;
 mod steps;
 mod words;

@@ -1,0 +1,25 @@
+//! The seats of one block: the states of the handles that were born on it, in the order of their births.
+ghost use Rattle.std.specs.Prelude.{◌≡◌, ◌+◌, ◌<◌, ◌≤◌, IsTrue, IsFalse, length, filter};
+ghost use Rattle.arcstr_count.specs.History.{lives};
+ghost use Rattle.arcstr_count.specs.Left.{is_dropping, is_owing};
+ghost use Rattle.arcstr_count.specs.OneBlock.{Keeps};
+
+use crate::steps::{HandleState, Step};
+use crate::words::Word;
+
+/// The law of a running block, whose word and seats are those of a history of one block: the handles
+/// are as many as the history's. It does nothing: its clauses are what it is for.
+///
+/// An unmarked word counts the seats of living handles; a marked one counts at least those of handles
+/// that are dropping; no count is above the limit and one; at most one seat owes, and where one does,
+/// the word is unmarked with count 0 and no handle lives.
+pub fn seats_are_counted(limit: u64, history: &[Step], word: Word, seats: &[HandleState])
+    ensures counted { Keeps limit history.now word seats.now → IsFalse word.flag
+        → word.count ≡ length (filter lives seats.now) }
+    ensures covered { Keeps limit history.now word seats.now → IsTrue word.flag
+        → length (filter is_dropping seats.now) ≤ word.count }
+    ensures bounded { Keeps limit history.now word seats.now → word.count ≤ limit + 1 }
+    ensures one_owes { Keeps limit history.now word seats.now → length (filter is_owing seats.now) ≤ 1 }
+    ensures owed { Keeps limit history.now word seats.now → 0 < length (filter is_owing seats.now)
+        → IsFalse word.flag × (word.count ≡ 0) × (length (filter lives seats.now) ≡ 0) }
+{}
