@@ -3,5 +3,6 @@ pub mod Ledger
 pub mod Same
 pub mod Book
 pub mod Fault
+pub mod Making
 pub mod Handle
 pub mod Ending

@@ -4,6 +4,9 @@ ghost use Rattle.arcstr_block.specs.Fault.{text_fault_number, text_fault_text};
 use std::error::Error;
 use std::fmt;
 
+/// The least number of bytes that is too long for a block: `2^63 - 25`.
+pub const TOO_LONG: usize = 9_223_372_036_854_775_783;
+
 /// Why a text cannot be had.
 #[derive(Clone, Copy, Debug, PartialEq, Eq)]
 pub enum TextFault {

@@ -4,7 +4,7 @@
 //! a fetch-or, makes the block stay for good. Whoever subtracts last takes the memory out whole, as `Owed`.
 #![tactic(auto)]
 
-pub use fault::TextFault;
+pub use fault::{TOO_LONG, TextFault};
 pub use fixed::Fixed;
 pub use owed::{Down, Owed};
 pub use seen::Seen;
@@ -14,6 +14,7 @@ mod block;
 mod fault;
 mod fixed;
 mod loose;
+mod making;
 mod owed;
 mod pointer;
 mod seen;

@@ -1,11 +1,12 @@
 //! One handle on a block.
-ghost use Rattle.std.specs.Prelude.{◌≡◌, List, ℕ, length, nat_lt, ◌<◌, ◌≤◌, ◌+◌, MatchResult, MatchOption, IfOk, IfErr, IfSome, if◌then◌else◌};
+ghost use Rattle.std.specs.Prelude.{◌≡◌, ◌↔◌, List, ℕ, length, IsErrOf, ◌<◌, ◌≤◌, ◌+◌, MatchResult, MatchOption, IfOk, IfErr, IfSome};
 ghost use Rattle.std.specs.String.{string_bytes};
+ghost use Rattle.arcstr_block.specs.Making.{IsTooLong, IsFaultOfMaking};
 ghost use Rattle.arcstr_block.specs.Rights.{IsFree, IsUnmarked, IsWord, IsClone};
 ghost use Rattle.arcstr_block.specs.Handle.{Handle, SawCount, SawMark};
 
-use crate::block::Block;
-use crate::fault::TextFault;
+use crate::block::{Block, empty_block};
+use crate::fault::{TOO_LONG, TextFault};
 use crate::fixed::Fixed;
 use crate::loose::Loose;
 use crate::owed::{Down, Owed};
@@ -16,9 +17,6 @@ use arcstr_count::{RC_MAX, Word};
 use std::alloc::Allocator;
 use std::marker::Model;
 use std::sync::Wait;
-
-/// From this many bytes on a text is refused: `2^63 - 25`.
-const TOO_LONG: usize = 9_223_372_036_854_775_783;
 
 /// A pointer that may see its block, with the allocator of the block and the limit on its count.
 struct Counted<const LIMIT: u64, A: Allocator + Copy> {
@@ -45,33 +43,35 @@ impl<const LIMIT: u64, A: Allocator + Copy> Model for Shared<LIMIT, A> {
 impl<const LIMIT: u64, A: Allocator + Copy> Shared<LIMIT, A> {
     ghost use Rattle.arcstr_block.specs.Ending.{EndsAs};
 
-    /// The first handle on a new block with this text. A text of `2^63 - 25` bytes or more is refused first,
-    /// then whatever there is no memory for: the text, or the word beside it. An empty text has a block too.
+    /// The first handle on a new block with this text. A text that is too long is refused first, then
+    /// whatever there is no memory for: the word, or the text beside it. An empty text has a block too.
     pub fn from_text(alloc: A, text: &str) -> Result<Shared<LIMIT, A>, TextFault>
         requires limit { LIMIT ≤ RC_MAX }
-        ensures text { IfOk result (λ made. made.text ≡ text.now) }
-        ensures short { IfOk result (λ made. length text.now < TOO_LONG) }
-        ensures fault { IfErr result (λ fault. fault ≡ (if nat_lt (length text.now) TOO_LONG then TextFault.Memory else TextFault.Length)) }
+        ensures made { IfOk result (λ made. made.text ≡ text.now) }
+        ensures too_long { IsErrOf result TextFault.Length ↔ IsTooLong (length text.now) }
+        ensures refused { IfErr result (IsFaultOfMaking (length text.now)) }
     {
         if text.len() >= TOO_LONG {
             return Err(TextFault::Length);
         }
+        let memory = empty_block(alloc)?;
         let Ok(copy) = String::from_str(alloc, text) else {
             return Err(TextFault::Memory);
         };
-        let Ok(memory) = Box::new(
-            alloc,
-            Block {
-                word: Word::one().bits(),
-                value: copy,
-            },
-        ) else {
-            return Err(TextFault::Memory);
-        };
+        Ok(Shared::placed(memory, copy))
+    }
+
+    /// The first handle on a new block that takes this text over.
+    pub(crate) fn placed(mut memory: Box<Block<String<A>>, A>, text: String<A>) -> Shared<LIMIT, A>
+        requires limit { LIMIT ≤ RC_MAX }
+        requires word { memory.value.word ≡ 2 }
+        ensures { result.text ≡ string_bytes text }
+    {
+        memory.value = text;
         let (pointer, alloc) = Pointer::make(Loose::of(memory));
-        Ok(Shared {
+        Shared {
             handle: Counted { pointer, alloc },
-        })
+        }
     }
 
     /// The text.

@@ -6,12 +6,12 @@ use Rattle.std.proofs.lemmas.Bool.{cases_eq}
 use Rattle.arcstr_count.specs.declared.steps.Step.{Step}
 use Rattle.arcstr_count.specs.declared.steps.Step.TheVariants.{Make, Clone}
 use Rattle.arcstr_count.specs.declared.steps.HandleState.{HandleState}
-use Rattle.arcstr_count.specs.declared.steps.HandleState.TheVariants.{Free, Raw, Dropping, Owing, Gone}
+use Rattle.arcstr_count.specs.declared.steps.HandleState.TheVariants.{Free}
 use Rattle.arcstr_count.specs.History.{makes, births, block_of, lives, numbers_below}
 use Rattle.arcstr_count.specs.Marks.{state_of, living, is_only}
 use Rattle.arcstr_count.specs.Past.{IsPast}
 use Rattle.arcstr_count.specs.Left.{is_dropping, is_owing, dropping, owing}
-use Rattle.arcstr_count.proofs.LawsOfHandles.{IsIn, ChangesOne, state-born, block-Make, block-Make_other, block-Clone, block-Clone_other, block_made}
+use Rattle.arcstr_count.proofs.LawsOfHandles.{same_test, other_test, IsIn, ChangesOne, state-born, block-Make, block-Make_other, block-Clone, block-Clone_other, block_made}
 
 -- ---- how many numbers below n pass a test
 
@@ -128,13 +128,12 @@ module _ (limit : ℕ) (p : List Step) (s : Step) (h : ℕ) (old new : HandleSta
       → count (λ k. is_held limit (s ∷ p) (block_of p h) test k) (births p) + one (test old)
       ≡ held limit p (block_of p h) test + one (test new)
   changed_here test =
-      let here : (block_of p h == block_of p h) ≡ true = eq-eqb (block_of p h) (block_of p h) refl in
-      rw here at (changed_count (block_of p h) test)
+      rw (same_test (block_of p h)) at (changed_count (block_of p h) test)
 
   pub changed_elsewhere : (b : ℕ) (test : HandleState → Bool) → b ≢ block_of p h
       → count (λ k. is_held limit (s ∷ p) b test k) (births p) ≡ held limit p b test
   changed_elsewhere b test apart =
-      let elsewhere : (block_of p h == b) ≡ false = ne_eqb (block_of p h) b (λ same. apart (sym same)) in
+      let elsewhere = other_test (block_of p h) b apart in
       let all : count (λ k. is_held limit (s ∷ p) b test k) (births p) + 0 ≡ held limit p b test + 0 = rw elsewhere at (changed_count b test) in
       omega arith
 
@@ -146,11 +145,11 @@ newborn_count f g n new agree here = count-push g n ∙ ap₂ (λ x y. x + one y
 
 -- on the newborn handle's block, and on another one
 born_here : (before after c : ℕ) (test : Bool) → after ≡ before + one ((c == c) && test) → after ≡ before + one test
-born_here before after c test step = rw (eq-eqb c c refl) at step
+born_here before after c test step = rw (same_test c) at step
 
 born_elsewhere : (before after c b : ℕ) (test : Bool) → b ≢ c → after ≡ before + one ((c == b) && test) → after ≡ before
 born_elsewhere before after c b test apart step =
-    let elsewhere : (c == b) ≡ false = ne_eqb c b (λ same. apart (sym same)) in
+    let elsewhere = other_test c b apart in
     let same : after ≡ before + 0 = rw elsewhere at step in
     omega arith
 
@@ -207,12 +206,7 @@ Make_here limit p test past =
     omega arith
 
 dropping_lives : (x : Bool) (s : HandleState) → (x && is_dropping s) ≡ true → (x && lives s) ≡ true
-dropping_lives false s e = e
-dropping_lives true Free e = refl
-dropping_lives true Raw e = refl
-dropping_lives true Dropping e = refl
-dropping_lives true Owing e = e
-dropping_lives true Gone e = e
+dropping_lives x s e = grind arith
 
 pub dropping-le-living : (limit : ℕ) (p : List Step) (b : ℕ) → held limit p b is_dropping ≤ held limit p b lives
 dropping-le-living limit p b =
@@ -226,7 +220,7 @@ contains_held limit p h s test found passes =
     contains_passing (λ k. is_held limit p (block_of p h) test k) (births p) h found.born here
   where
     here : is_held limit p (block_of p h) test h ≡ true
-    here = held_by (block_of p h) test refl found.state ∙ rw (eq-eqb (block_of p h) (block_of p h) refl, passes) refl
+    here = held_by (block_of p h) test refl found.state ∙ rw (same_test (block_of p h), passes) refl
 
 pub some_held : (limit : ℕ) (p : List Step) (h : ℕ) (s : HandleState) (test : HandleState → Bool) → IsIn limit p h s → test s ≡ true
     → 0 < held limit p (block_of p h) test

@@ -1,5 +1,5 @@
 -- What each past leaves of a block that was made: its word and its mark, against the counts of its handles.
-use Rattle.std.proofs.Common.{◌≡◌, ◌≢◌, ℕ, ◌+◌, ◌<◌, ◌≤◌, Bool, true, false, not, ◌&&◌, ◌||◌, ◌==◌, nat_lt, if◌then◌else◌, List, [], ◌∷◌, refl, sym, subst, subst₂, ◌⊎◌, inl, inr, arith, ne_eqb, eq-eqb, eqb-true, ltb-true, ltb-false}
+use Rattle.std.proofs.Common.{◌≡◌, ◌≢◌, ℕ, ◌+◌, ◌<◌, ◌≤◌, Bool, true, false, not, ◌&&◌, ◌||◌, ◌==◌, nat_lt, if◌then◌else◌, List, [], ◌∷◌, refl, sym, subst, subst₂, ◌⊎◌, inl, inr, arith, ne_eqb, eqb-true, ltb-true, ltb-false}
 use Rattle.std.proofs.lemmas.Bool.{cases_eq, eqb-false}
 use Rattle.arcstr_count.specs.declared.steps.Step.{Step}
 use Rattle.arcstr_count.specs.declared.steps.Step.TheVariants.{Make, Look, Clone, Begin, Sub, Back, Leak, IntoRaw, FromRaw}
@@ -12,7 +12,7 @@ use Rattle.arcstr_count.specs.Answer.{is_accepted}
 use Rattle.arcstr_count.specs.Past.{IsPast, times_given}
 use Rattle.arcstr_count.specs.Left.{word_left, is_dropping, is_owing}
 use Rattle.arcstr_count.proofs.Counting.{one, held, Make_here, Make_elsewhere, Clone_here, Clone_elsewhere, changed_here, changed_elsewhere, dropping-le-living, some_held, is_only-living}
-use Rattle.arcstr_count.proofs.LawsOfHandles.{Clone-finds, Sub-finds, Leak-finds, Begin-changes, Sub-changes, Back-changes, IntoRaw-changes, FromRaw-changes}
+use Rattle.arcstr_count.proofs.LawsOfHandles.{same_test, other_test, Clone-finds, Sub-finds, Leak-finds, Begin-changes, Sub-changes, Back-changes, IntoRaw-changes, FromRaw-changes}
 use Rattle.arcstr_count.proofs.Tables.{unmade_block, marked-Clone_other, given-Back, given-Back_other, marked-Leak_other}
 
 -- ---- the word, the mark and the counts of one block
@@ -44,207 +44,75 @@ Balanced limit w true n given = Marked limit w n given
 
 -- ---- what each step on the block does to them
 
--- each count changes by one handle, from one state to another
-abbrev Moves : Counts → Counts → (old new : HandleState) → Type 0
-Moves n after old new = (test : HandleState → Bool) → after test + one (test old) ≡ n test + one (test new)
+-- the counts change by one handle, from one state to another
+record Moves (n after : Counts) (old new : HandleState) : Type 0 where
+  living : after lives + one (lives old) ≡ n lives + one (lives new)
+  dropping : after is_dropping + one (is_dropping old) ≡ n is_dropping + one (is_dropping new)
+  owing : after is_owing + one (is_owing old) ≡ n is_owing + one (is_owing new)
 
--- each count changes by one handle that is born free
-abbrev Bears : Counts → Counts → Type 0
-Bears n after = (test : HandleState → Bool) → after test ≡ n test + one (test Free)
+moves : (n after : Counts) (old new : HandleState)
+    → ((test : HandleState → Bool) → after test + one (test old) ≡ n test + one (test new)) → Moves n after old new
+moves n after old new step = record { living = step lives; dropping = step is_dropping; owing = step is_owing }
+
+-- the counts change by one handle that is born free
+record Bears (n after : Counts) : Type 0 where
+  living : after lives ≡ n lives + 1
+  dropping : after is_dropping ≡ n is_dropping
+  owing : after is_owing ≡ n is_owing
+
+bears : (n after : Counts) → ((test : HandleState → Bool) → after test ≡ n test + one (test Free)) → Bears n after
+bears n after step = record {
+  living = step lives;
+  dropping = omega (arith, step is_dropping);
+  owing = omega (arith, step is_owing);
+}
 
 module _ (limit : ℕ) (w : FlagAndCount) (n after : Counts) (g : ℕ) where
   after_Clone : (m : Bool) → Bears n after → 0 < n lives → n is_dropping ≤ n lives
       → Balanced limit w m n g → Balanced limit (cloned_of limit w) (m || nat_lt limit (n lives)) after g
-  after_Clone true step some fewer b =
-      let l = step lives in
-      let d = step is_dropping in
-      let o = step is_owing in
-      rw b.flag (record {
-        flag = refl;
-        covered = omega arith;
-        bounded = omega arith;
-        held = omega arith;
-      })
+  after_Clone true step some fewer b = rw b.flag (grind arith)
   after_Clone false step some fewer b = by_limit (nat_lt limit (n lives)) refl
     where
       by_limit : (t : Bool) → nat_lt limit (n lives) ≡ t → Balanced limit (cloned_of limit w) t after g
       by_limit true over =
           let over_limit = ltb-true limit (n lives) over in
-          let d = step is_dropping in
-          let o = step is_owing in
-          rw (b.flag, b.count, over) (record {
-            flag = refl;
-            covered = omega arith;
-            bounded = omega arith;
-            held = omega arith;
-          })
+          rw (b.flag, b.count, over) (grind arith)
       by_limit false within =
           let within_limit = ltb-false limit (n lives) within in
-          let l = step lives in
-          let o = step is_owing in
-          rw (b.flag, b.count, within) (record {
-            flag = refl;
-            count = omega arith;
-            few = omega arith;
-            held = λ h. omega arith;
-            ended = λ h. omega arith;
-          })
+          rw (b.flag, b.count, within) (grind arith)
 
   after_Begin : (m : Bool) → Moves n after Free (if m then Gone else Dropping) → Balanced limit w m n g → Balanced limit w m after g
-  after_Begin true step b =
-      let l = step lives in
-      let d = step is_dropping in
-      let o = step is_owing in
-      record {
-        flag = b.flag;
-        covered = omega arith;
-        bounded = omega arith;
-        held = omega arith;
-      }
-  after_Begin false step b =
-      let l = step lives in
-      let d = step is_dropping in
-      let o = step is_owing in
-      record {
-        flag = b.flag;
-        count = omega arith;
-        few = omega arith;
-        held = λ h. omega arith;
-        ended = λ h. omega arith;
-      }
+  after_Begin true step b = grind arith
+  after_Begin false step b = grind arith
 
   after_Sub : (m only : Bool) → only ≡ (n lives == 1) → Moves n after Dropping (if not m && only then Owing else Gone)
       → Balanced limit w m n g → Balanced limit (dropped_of w) m after g
-  after_Sub true only e step b =
-      let l = step lives in
-      let d = step is_dropping in
-      let o = step is_owing in
-      record {
-        flag = b.flag;
-        covered = omega arith;
-        bounded = omega arith;
-        held = omega arith;
-      }
-  after_Sub false true e step b =
-      let last = eqb-true (n lives) 1 (sym e) in
-      let l = step lives in
-      let d = step is_dropping in
-      let o = step is_owing in
-      record {
-        flag = b.flag;
-        count = omega arith;
-        few = omega arith;
-        held = λ h. omega arith;
-        ended = λ h. omega arith;
-      }
-  after_Sub false false e step b =
-      let more : n lives ≢ 1 = eqb-false (n lives) 1 (sym e) in
-      let l = step lives in
-      let d = step is_dropping in
-      let o = step is_owing in
-      record {
-        flag = b.flag;
-        count = omega arith;
-        few = omega arith;
-        held = λ h. omega arith;
-        ended = λ h. omega arith;
-      }
+  after_Sub true only e step b = grind arith
+  after_Sub false true e step b = let last = eqb-true (n lives) 1 (sym e) in grind arith
+  after_Sub false false e step b = let more : n lives ≢ 1 = eqb-false (n lives) 1 (sym e) in grind arith
 
   after_Back : (m : Bool) (g' : ℕ) → g' ≡ g + 1 → Moves n after Owing Gone → Balanced limit w m n g → Balanced limit w m after g'
-  after_Back true g' e step b =
-      let l = step lives in
-      let d = step is_dropping in
-      let o = step is_owing in
-      record {
-        flag = b.flag;
-        covered = omega arith;
-        bounded = omega arith;
-        held = omega arith;
-      }
-  after_Back false g' e step b =
-      let l = step lives in
-      let d = step is_dropping in
-      let o = step is_owing in
-      record {
-        flag = b.flag;
-        count = omega arith;
-        few = omega arith;
-        held = λ h. omega arith;
-        ended = λ h. omega arith;
-      }
+  after_Back true g' e step b = grind arith
+  after_Back false g' e step b = grind arith
 
   -- between a free handle and a raw one
   after_IntoRaw : (m : Bool) → Moves n after Free Raw → Balanced limit w m n g → Balanced limit w m after g
-  after_IntoRaw true step b =
-      let l = step lives in
-      let d = step is_dropping in
-      let o = step is_owing in
-      record {
-        flag = b.flag;
-        covered = omega arith;
-        bounded = omega arith;
-        held = omega arith;
-      }
-  after_IntoRaw false step b =
-      let l = step lives in
-      let d = step is_dropping in
-      let o = step is_owing in
-      record {
-        flag = b.flag;
-        count = omega arith;
-        few = omega arith;
-        held = λ h. omega arith;
-        ended = λ h. omega arith;
-      }
+  after_IntoRaw true step b = grind arith
+  after_IntoRaw false step b = grind arith
 
   after_FromRaw : (m : Bool) → Moves n after Raw Free → Balanced limit w m n g → Balanced limit w m after g
-  after_FromRaw true step b =
-      let l = step lives in
-      let d = step is_dropping in
-      let o = step is_owing in
-      record {
-        flag = b.flag;
-        covered = omega arith;
-        bounded = omega arith;
-        held = omega arith;
-      }
-  after_FromRaw false step b =
-      let l = step lives in
-      let d = step is_dropping in
-      let o = step is_owing in
-      record {
-        flag = b.flag;
-        count = omega arith;
-        few = omega arith;
-        held = λ h. omega arith;
-        ended = λ h. omega arith;
-      }
+  after_FromRaw true step b = grind arith
+  after_FromRaw false step b = grind arith
 
 after_Leak : (limit : ℕ) (w : FlagAndCount) (n : Counts) (g : ℕ) (m : Bool) → 0 < n lives → n is_dropping ≤ n lives
     → Balanced limit w m n g → Balanced limit (marked_of w) true n g
-after_Leak limit w n g true some fewer b = record {
-  flag = refl;
-  covered = omega arith;
-  bounded = omega arith;
-  held = omega arith;
-}
-after_Leak limit w n g false some fewer b = record {
-  flag = refl;
-  covered = omega arith;
-  bounded = omega arith;
-  held = omega arith;
-}
+after_Leak limit w n g true some fewer b = grind arith
+after_Leak limit w n g false some fewer b = grind arith
 
 -- ---- so in each past
 
 abbrev pub Balance : ℕ → List Step → ℕ → Type 0
 Balance limit p b = Balanced limit (word_left limit p b) (is_marked limit p b) (λ test. held limit p b test) (times_given p b)
-
-same_test : (b : ℕ) → (b == b) ≡ true
-same_test b = eq-eqb b b refl
-
-other_test : (b c : ℕ) → c ≢ b → (b == c) ≡ false
-other_test b c apart = ne_eqb b c (λ same. apart (sym same))
 
 -- a step on the block c leaves the others alone
 on_block : (P Q : ℕ → Type 0) (b c : ℕ) → (P c → Q c) → (b ≢ c → P b → Q b) → P b → Q b
@@ -288,7 +156,7 @@ module _ (limit : ℕ) (p : List Step) (past : IsPast limit p) where
       here before = rw (same_test (block_of p h)) (after_Clone limit (word_left limit p (block_of p h))
           (λ test. held limit p (block_of p h) test) (λ test. held limit (Clone h ∷ p) (block_of p h) test)
           (times_given p (block_of p h)) (is_marked limit p (block_of p h))
-          (λ test. Clone_here limit p h test past)
+          (bears _ _ (λ test. Clone_here limit p h test past))
           (some_held limit p h Free lives (Clone-finds limit p h a) refl) (dropping-le-living limit p (block_of p h)) before)
 
       elsewhere : b ≢ block_of p h → Balance limit p b → Balance limit (Clone h ∷ p) b
@@ -302,7 +170,7 @@ module _ (limit : ℕ) (p : List Step) (past : IsPast limit p) where
       here = after_Begin limit (word_left limit p (block_of p h))
           (λ test. held limit p (block_of p h) test) (λ test. held limit (Begin h ∷ p) (block_of p h) test)
           (times_given p (block_of p h)) (is_marked limit p (block_of p h))
-          (changed_here limit p (Begin h) h _ _ (Begin-changes limit p h past a))
+          (moves _ _ _ _ (changed_here limit p (Begin h) h _ _ (Begin-changes limit p h past a)))
 
       elsewhere : b ≢ block_of p h → Balance limit p b → Balance limit (Begin h ∷ p) b
       elsewhere apart = unchanged (Begin h ∷ p) b refl refl
@@ -316,7 +184,7 @@ module _ (limit : ℕ) (p : List Step) (past : IsPast limit p) where
           (λ test. held limit p (block_of p h) test) (λ test. held limit (Sub h ∷ p) (block_of p h) test)
           (times_given p (block_of p h)) (is_marked limit p (block_of p h)) (is_only h (living limit p (block_of p h)))
           (is_only-living limit p h Dropping (Sub-finds limit p h a) refl)
-          (changed_here limit p (Sub h) h _ _ (Sub-changes limit p h past a)) before)
+          (moves _ _ _ _ (changed_here limit p (Sub h) h _ _ (Sub-changes limit p h past a))) before)
 
       elsewhere : b ≢ block_of p h → Balance limit p b → Balance limit (Sub h ∷ p) b
       elsewhere apart = unchanged (Sub h ∷ p) b (rw (other_test (block_of p h) b apart) refl) refl
@@ -329,7 +197,7 @@ module _ (limit : ℕ) (p : List Step) (past : IsPast limit p) where
       here = after_Back limit (word_left limit p (block_of p h))
           (λ test. held limit p (block_of p h) test) (λ test. held limit (Back h ∷ p) (block_of p h) test)
           (times_given p (block_of p h)) (is_marked limit p (block_of p h)) _ (given-Back p h)
-          (changed_here limit p (Back h) h Owing Gone (Back-changes limit p h a))
+          (moves _ _ _ _ (changed_here limit p (Back h) h Owing Gone (Back-changes limit p h a)))
 
       elsewhere : b ≢ block_of p h → Balance limit p b → Balance limit (Back h ∷ p) b
       elsewhere apart = unchanged (Back h ∷ p) b refl refl
@@ -343,7 +211,7 @@ module _ (limit : ℕ) (p : List Step) (past : IsPast limit p) where
       here = after_IntoRaw limit (word_left limit p (block_of p h))
           (λ test. held limit p (block_of p h) test) (λ test. held limit (IntoRaw h ∷ p) (block_of p h) test)
           (times_given p (block_of p h)) (is_marked limit p (block_of p h))
-          (changed_here limit p (IntoRaw h) h Free Raw (IntoRaw-changes limit p h a))
+          (moves _ _ _ _ (changed_here limit p (IntoRaw h) h Free Raw (IntoRaw-changes limit p h a)))
 
       elsewhere : b ≢ block_of p h → Balance limit p b → Balance limit (IntoRaw h ∷ p) b
       elsewhere apart = unchanged (IntoRaw h ∷ p) b refl refl
@@ -356,7 +224,7 @@ module _ (limit : ℕ) (p : List Step) (past : IsPast limit p) where
       here = after_FromRaw limit (word_left limit p (block_of p h))
           (λ test. held limit p (block_of p h) test) (λ test. held limit (FromRaw h ∷ p) (block_of p h) test)
           (times_given p (block_of p h)) (is_marked limit p (block_of p h))
-          (changed_here limit p (FromRaw h) h Raw Free (FromRaw-changes limit p h past a))
+          (moves _ _ _ _ (changed_here limit p (FromRaw h) h Raw Free (FromRaw-changes limit p h past a)))
 
       elsewhere : b ≢ block_of p h → Balance limit p b → Balance limit (FromRaw h ∷ p) b
       elsewhere apart = unchanged (FromRaw h ∷ p) b refl refl

@@ -1,6 +1,6 @@
 -- What an accepted step finds of its handle in a past, and what it leaves of it.
-use Rattle.std.proofs.Common.{◌≡◌, ◌≢◌, ℕ, suc, ◌<◌, ◌≤◌, Bool, true, false, not, ◌&&◌, ◌==◌, nat_lt, if◌then◌else◌, is_none, Option, None, Some, List, [], ◌∷◌, refl, sym, ◌∙◌, arith, ltb-true, eqb-true, eq-eqb, ne_eqb}
-use Rattle.std.proofs.lemmas.Bool.{true≢false, eqb-false}
+use Rattle.std.proofs.Common.{◌≡◌, ◌≢◌, ℕ, suc, ◌<◌, ◌≤◌, Bool, true, false, not, ◌&&◌, ◌==◌, nat_lt, if◌then◌else◌, is_none, Option, None, Some, List, [], ◌∷◌, refl, sym, arith, ltb-true, eqb-true, eq-eqb, ne_eqb}
+use Rattle.std.proofs.lemmas.Bool.{eqb-false}
 use Rattle.arcstr_count.specs.declared.steps.Step.{Step}
 use Rattle.arcstr_count.specs.declared.steps.Step.TheVariants.{Make, Look, Clone, Begin, Sub, Back, Leak, IntoRaw, FromRaw}
 use Rattle.arcstr_count.specs.declared.steps.HandleState.{HandleState}
@@ -9,6 +9,14 @@ use Rattle.arcstr_count.specs.History.{makes, births, block_of, is_raw, has_begu
 use Rattle.arcstr_count.specs.Marks.{is_marked, state_of, living, is_only, was_last, began_unmarked}
 use Rattle.arcstr_count.specs.Answer.{handle_state, unless_free, unless_dropping, unless_owing, unless_raw, is_accepted}
 use Rattle.arcstr_count.specs.Past.{IsPast}
+
+-- ---- tests on numbers
+
+pub same_test : (n : ℕ) → (n == n) ≡ true
+same_test n = eq-eqb n n refl
+
+pub other_test : (n m : ℕ) → m ≢ n → (n == m) ≡ false
+other_test n m apart = ne_eqb n m (λ same. apart (sym same))
 
 -- ---- the state that an accepted step finds
 
@@ -25,36 +33,16 @@ found limit p h s e = by_test (nat_lt h (births p)) refl e
     by_test false unborn same = cc
 
 unless_free-none : (o : Option HandleState) → is_none (unless_free o) ≡ true → o ≡ Some Free
-unless_free-none None e = cc
-unless_free-none (Some Free) e = refl
-unless_free-none (Some Raw) e = cc
-unless_free-none (Some Dropping) e = cc
-unless_free-none (Some Owing) e = cc
-unless_free-none (Some Gone) e = cc
+unless_free-none o e = grind arith
 
 unless_dropping-none : (o : Option HandleState) → is_none (unless_dropping o) ≡ true → o ≡ Some Dropping
-unless_dropping-none None e = cc
-unless_dropping-none (Some Free) e = cc
-unless_dropping-none (Some Raw) e = cc
-unless_dropping-none (Some Dropping) e = refl
-unless_dropping-none (Some Owing) e = cc
-unless_dropping-none (Some Gone) e = cc
+unless_dropping-none o e = grind arith
 
 unless_owing-none : (o : Option HandleState) → is_none (unless_owing o) ≡ true → o ≡ Some Owing
-unless_owing-none None e = cc
-unless_owing-none (Some Free) e = cc
-unless_owing-none (Some Raw) e = cc
-unless_owing-none (Some Dropping) e = cc
-unless_owing-none (Some Owing) e = refl
-unless_owing-none (Some Gone) e = cc
+unless_owing-none o e = grind arith
 
 unless_raw-none : (o : Option HandleState) → is_none (unless_raw o) ≡ true → o ≡ Some Raw
-unless_raw-none None e = cc
-unless_raw-none (Some Free) e = cc
-unless_raw-none (Some Raw) e = refl
-unless_raw-none (Some Dropping) e = cc
-unless_raw-none (Some Owing) e = cc
-unless_raw-none (Some Gone) e = cc
+unless_raw-none o e = grind arith
 
 pub Look-finds : (limit : ℕ) (p : List Step) (h : ℕ) → is_accepted limit p (Look h) ≡ true → IsIn limit p h Free
 Look-finds limit p h a = found limit p h Free (unless_free-none (handle_state limit p h) a)
@@ -84,51 +72,19 @@ FromRaw-finds limit p h a = found limit p h Raw (unless_raw-none (handle_state l
 
 free_was : (raw begun unmarked subtracted last given : Bool) → state_by raw begun unmarked subtracted last given ≡ Free
     → (raw ≡ false) × (begun ≡ false)
-free_was true b u s l g e = cc
-free_was false false u s l g e = (refl, refl)
-free_was false true true false l g e = cc
-free_was false true false s true false e = cc
-free_was false true false s true true e = cc
-free_was false true false s false g e = cc
-free_was false true true true true false e = cc
-free_was false true true true true true e = cc
-free_was false true true true false g e = cc
+free_was raw begun unmarked subtracted last given e = grind arith
 
 dropping_was : (raw begun unmarked subtracted last given : Bool) → state_by raw begun unmarked subtracted last given ≡ Dropping
     → (raw ≡ false) × (begun ≡ true) × (unmarked ≡ true) × (subtracted ≡ false)
-dropping_was true b u s l g e = cc
-dropping_was false false u s l g e = cc
-dropping_was false true true false l g e = (refl, refl, refl, refl)
-dropping_was false true false s true false e = cc
-dropping_was false true false s true true e = cc
-dropping_was false true false s false g e = cc
-dropping_was false true true true true false e = cc
-dropping_was false true true true true true e = cc
-dropping_was false true true true false g e = cc
+dropping_was raw begun unmarked subtracted last given e = grind arith
 
 owing_was : (raw begun unmarked subtracted last given : Bool) → state_by raw begun unmarked subtracted last given ≡ Owing
     → (raw ≡ false) × (begun ≡ true) × (unmarked && not subtracted ≡ false) × (last ≡ true) × (given ≡ false)
-owing_was true b u s l g e = cc
-owing_was false false u s l g e = cc
-owing_was false true true false l g e = cc
-owing_was false true false s true false e = (refl, refl, refl, refl, refl)
-owing_was false true false s true true e = cc
-owing_was false true false s false g e = cc
-owing_was false true true true true false e = (refl, refl, refl, refl, refl)
-owing_was false true true true true true e = cc
-owing_was false true true true false g e = cc
+owing_was raw begun unmarked subtracted last given e = grind arith
 
 raw_was : (raw begun unmarked subtracted last given : Bool) → state_by raw begun unmarked subtracted last given ≡ Raw
     → raw ≡ true
-raw_was true b u s l g e = refl
-raw_was false false u s l g e = cc
-raw_was false true true false l g e = cc
-raw_was false true false s true false e = cc
-raw_was false true false s true true e = cc
-raw_was false true false s false g e = cc
-raw_was false true true true true false e = cc
-raw_was false true true true true true e = cc
-raw_was false true true true false g e = cc
+raw_was raw begun unmarked subtracted last given e = grind arith
 
 -- ---- what is done to a handle is done in order
 
@@ -140,54 +96,24 @@ record InOrder (raw begun subtracted last given : Bool) : Type 0 where
 
 after_Begin : (t raw begun subtracted last given : Bool) → (t ≡ true → raw ≡ false)
     → InOrder raw begun subtracted last given → InOrder raw (if t then true else begun) subtracted last given
-after_Begin true raw begun subtracted last given found o = record {
-  free = found;
-  begun_first = λ e. cc;
-  subtracted_first = o.subtracted_first;
-  last_of_subtracted = o.last_of_subtracted;
-}
-after_Begin false raw begun subtracted last given found o = o
+after_Begin t raw begun subtracted last given found o = grind arith
 
 after_Sub : (t owes raw begun subtracted last given : Bool) → (t ≡ true → begun ≡ true)
     → InOrder raw begun subtracted last given
     → InOrder raw begun (if t then true else subtracted) (if t then owes else last) given
-after_Sub true owes raw begun subtracted last given found o = record {
-  free = o.free;
-  begun_first = λ e. absurd (true≢false (sym (found refl) ∙ e));
-  subtracted_first = λ e. cc;
-  last_of_subtracted = λ e. cc;
-}
-after_Sub false owes raw begun subtracted last given found o = o
+after_Sub t owes raw begun subtracted last given found o = grind arith
 
 after_Back : (t raw begun subtracted last given : Bool) → (t ≡ true → last ≡ true)
     → InOrder raw begun subtracted last given → InOrder raw begun subtracted last (if t then true else given)
-after_Back true raw begun subtracted last given found o = record {
-  free = o.free;
-  begun_first = o.begun_first;
-  subtracted_first = λ e. absurd (true≢false (sym (found refl) ∙ o.last_of_subtracted e));
-  last_of_subtracted = o.last_of_subtracted;
-}
-after_Back false raw begun subtracted last given found o = o
+after_Back t raw begun subtracted last given found o = grind arith
 
 after_IntoRaw : (t raw begun subtracted last given : Bool) → (t ≡ true → begun ≡ false)
     → InOrder raw begun subtracted last given → InOrder (if t then true else raw) begun subtracted last given
-after_IntoRaw true raw begun subtracted last given found o = record {
-  free = λ e. absurd (true≢false (sym e ∙ found refl));
-  begun_first = o.begun_first;
-  subtracted_first = o.subtracted_first;
-  last_of_subtracted = o.last_of_subtracted;
-}
-after_IntoRaw false raw begun subtracted last given found o = o
+after_IntoRaw t raw begun subtracted last given found o = grind arith
 
 after_FromRaw : (t raw begun subtracted last given : Bool)
     → InOrder raw begun subtracted last given → InOrder (if t then false else raw) begun subtracted last given
-after_FromRaw true raw begun subtracted last given o = record {
-  free = λ e. refl;
-  begun_first = o.begun_first;
-  subtracted_first = o.subtracted_first;
-  last_of_subtracted = o.last_of_subtracted;
-}
-after_FromRaw false raw begun subtracted last given o = o
+after_FromRaw t raw begun subtracted last given o = grind arith
 
 -- what was done to a handle that was found in a state, at a number that the test takes for it
 module _ (limit : ℕ) (p : List Step) (g h : ℕ) (same : (g == h) ≡ true) where
@@ -239,46 +165,22 @@ in_order limit (FromRaw g ∷ p) h past =
 Begin-leaves : (raw begun unmarked subtracted last given marked : Bool)
     → InOrder raw begun subtracted last given → state_by raw begun unmarked subtracted last given ≡ Free
     → state_by raw true (not marked) subtracted last given ≡ (if marked then Gone else Dropping)
-Begin-leaves raw begun unmarked subtracted last given marked o e =
-    let was = free_was raw begun unmarked subtracted last given e in
-    let s = o.begun_first was.1 in
-    let l = o.last_of_subtracted s in
-    rw (was.0, s, l) (both marked)
-  where
-    both : (marked : Bool) → state_by false true (not marked) false false given ≡ (if marked then Gone else Dropping)
-    both true = refl
-    both false = refl
+Begin-leaves raw begun unmarked subtracted last given marked o e = grind arith
 
 Sub-leaves : (raw begun unmarked subtracted last given owes : Bool)
     → InOrder raw begun subtracted last given → state_by raw begun unmarked subtracted last given ≡ Dropping
     → state_by raw begun unmarked true owes given ≡ (if owes then Owing else Gone)
-Sub-leaves raw begun unmarked subtracted last given owes o e =
-    let was = dropping_was raw begun unmarked subtracted last given e in
-    let g = o.subtracted_first was.3 in
-    rw (was.0, was.1, was.2, g) (both owes)
-  where
-    both : (owes : Bool) → state_by false true true true owes false ≡ (if owes then Owing else Gone)
-    both true = refl
-    both false = refl
+Sub-leaves raw begun unmarked subtracted last given owes o e = grind arith
 
 Back-leaves : (raw begun unmarked subtracted last given : Bool)
     → state_by raw begun unmarked subtracted last given ≡ Owing
     → state_by raw begun unmarked subtracted last true ≡ Gone
-Back-leaves raw begun unmarked subtracted last given e =
-    let was = owing_was raw begun unmarked subtracted last given e in
-    rw (was.0, was.1, was.2, was.3) refl
+Back-leaves raw begun unmarked subtracted last given e = grind arith
 
 FromRaw-leaves : (raw begun unmarked subtracted last given : Bool)
     → InOrder raw begun subtracted last given → state_by raw begun unmarked subtracted last given ≡ Raw
     → state_by false begun unmarked subtracted last given ≡ Free
-FromRaw-leaves raw begun unmarked subtracted last given o e = rw (not_begun begun refl) refl
-  where
-    not_begun : (b : Bool) → begun ≡ b → begun ≡ false
-    not_begun true e₁ = absurd (true≢false (sym (raw_was raw begun unmarked subtracted last given e) ∙ o.free e₁))
-    not_begun false e₁ = e₁
-
-same_test : (h : ℕ) → (h == h) ≡ true
-same_test h = eq-eqb h h refl
+FromRaw-leaves raw begun unmarked subtracted last given o e = grind arith
 
 pub state-Begin : (limit : ℕ) (p : List Step) (h : ℕ) → IsPast limit p → is_accepted limit p (Begin h) ≡ true
     → state_of limit (Begin h ∷ p) h ≡ (if is_marked limit p (block_of p h) then Gone else Dropping)
@@ -317,22 +219,19 @@ state-FromRaw limit p h past a =
 
 -- ---- the states that a step leaves alone
 
-other_test : (h k : ℕ) → (k ≡ h → ⊥) → (h == k) ≡ false
-other_test h k other = ne_eqb h k (λ e. other (sym e))
-
-pub state-Begin_other : (limit : ℕ) (p : List Step) (h k : ℕ) → (k ≡ h → ⊥) → state_of limit (Begin h ∷ p) k ≡ state_of limit p k
+pub state-Begin_other : (limit : ℕ) (p : List Step) (h k : ℕ) → k ≢ h → state_of limit (Begin h ∷ p) k ≡ state_of limit p k
 state-Begin_other limit p h k other = rw (other_test h k other) refl
 
-pub state-Sub_other : (limit : ℕ) (p : List Step) (h k : ℕ) → (k ≡ h → ⊥) → state_of limit (Sub h ∷ p) k ≡ state_of limit p k
+pub state-Sub_other : (limit : ℕ) (p : List Step) (h k : ℕ) → k ≢ h → state_of limit (Sub h ∷ p) k ≡ state_of limit p k
 state-Sub_other limit p h k other = rw (other_test h k other) refl
 
-pub state-Back_other : (limit : ℕ) (p : List Step) (h k : ℕ) → (k ≡ h → ⊥) → state_of limit (Back h ∷ p) k ≡ state_of limit p k
+pub state-Back_other : (limit : ℕ) (p : List Step) (h k : ℕ) → k ≢ h → state_of limit (Back h ∷ p) k ≡ state_of limit p k
 state-Back_other limit p h k other = rw (other_test h k other) refl
 
-pub state-IntoRaw_other : (limit : ℕ) (p : List Step) (h k : ℕ) → (k ≡ h → ⊥) → state_of limit (IntoRaw h ∷ p) k ≡ state_of limit p k
+pub state-IntoRaw_other : (limit : ℕ) (p : List Step) (h k : ℕ) → k ≢ h → state_of limit (IntoRaw h ∷ p) k ≡ state_of limit p k
 state-IntoRaw_other limit p h k other = rw (other_test h k other) refl
 
-pub state-FromRaw_other : (limit : ℕ) (p : List Step) (h k : ℕ) → (k ≡ h → ⊥) → state_of limit (FromRaw h ∷ p) k ≡ state_of limit p k
+pub state-FromRaw_other : (limit : ℕ) (p : List Step) (h k : ℕ) → k ≢ h → state_of limit (FromRaw h ∷ p) k ≡ state_of limit p k
 state-FromRaw_other limit p h k other = rw (other_test h k other) refl
 
 -- ---- steps that change the state of one handle

@@ -6,8 +6,8 @@ use Rattle.arcstr_count.specs.declared.steps.Step.{Step}
 use Rattle.arcstr_count.specs.declared.steps.Step.TheVariants.{Make, Look, Clone, Begin, Sub, Back, Leak, IntoRaw, FromRaw}
 use Rattle.arcstr_count.specs.declared.steps.HandleState.TheVariants.{Dropping}
 use Rattle.arcstr_count.specs.Word.{looked_of, is_last}
-use Rattle.arcstr_count.specs.History.{makes, block_of, lives}
-use Rattle.arcstr_count.specs.Marks.{is_marked, living, is_only}
+use Rattle.arcstr_count.specs.History.{makes, births, block_of, lives}
+use Rattle.arcstr_count.specs.Marks.{is_marked, state_of, living, is_only}
 use Rattle.arcstr_count.specs.Answer.{is_accepted}
 use Rattle.arcstr_count.specs.Past.{with_step, past_from, IsPast, times_given}
 use Rattle.arcstr_count.specs.Left.{word_left, is_dropping, dropping, owing, Stands}
@@ -44,42 +44,61 @@ module _ (limit : ℕ) (p : List Step) (b : ℕ) where
 pub word_stands : (limit : ℕ) (p : List Step) (b : ℕ) → IsPast limit p → b < makes p → Stands limit p b (word_left limit p b)
 word_stands limit p b past made = stands_by limit p b (is_marked limit p b) refl (balance limit p b past made)
 
--- the count never passes the limit by more than one
+-- an unmarked word counts the living handles
+pub exact_count : (limit : ℕ) (p : List Step) (b : ℕ) → IsPast limit p → b < makes p → is_marked limit p b ≡ false
+    → (word_left limit p b).count ≡ length (living limit p b)
+exact_count limit p b past made unmarked = (word_stands limit p b past made).exact unmarked
+
+-- no count passes the limit by more than one
 pub count_bounded : (limit : ℕ) (p : List Step) (b : ℕ) → IsPast limit p → b < makes p → (word_left limit p b).count ≤ limit + 1
 count_bounded limit p b past made = bounded_by limit p b (is_marked limit p b) (balance limit p b past made)
 
--- a subtraction finds at least its own handle in the count
+module _ (limit : ℕ) (p : List Step) (h : ℕ) (past : IsPast limit p) (born : h < births p) where
+  -- where a handle lives on an unmarked block, the count is not 0
+  pub living_counted : lives (state_of limit p h) ≡ true → is_marked limit p (block_of p h) ≡ false
+      → 0 < (word_left limit p (block_of p h)).count
+  living_counted alive unmarked =
+      let exact = exact_count limit p (block_of p h) past (block_made limit p h past born) unmarked in
+      omega (arith, some_held limit p h (state_of limit p h) lives (record { born = born; state = refl }) alive)
+
+module _ (limit : ℕ) (p : List Step) (h : ℕ) (past : IsPast limit p) (born : h < births p)
+    (drops : state_of limit p h ≡ Dropping) where
+  -- nor is it where one is dropping, also on a marked block
+  pub dropping_counted : 0 < (word_left limit p (block_of p h)).count
+  dropping_counted = by_mark (is_marked limit p (block_of p h)) (balance limit p (block_of p h) past (block_made limit p h past born))
+    where
+      found : IsIn limit p h Dropping
+      found = record { born = born; state = drops }
+
+      by_mark : (m : Bool)
+          → Balanced limit (word_left limit p (block_of p h)) m (λ test. held limit p (block_of p h) test) (times_given p (block_of p h))
+          → 0 < (word_left limit p (block_of p h)).count
+      by_mark true x = omega (arith, some_held limit p h Dropping is_dropping found refl)
+      by_mark false x = omega (arith, some_held limit p h Dropping lives found refl)
+
+  -- and the word tells whether its subtraction is the last one
+  pub last_owes : is_last (word_left limit p (block_of p h))
+      ≡ (not (is_marked limit p (block_of p h)) && is_only h (living limit p (block_of p h)))
+  last_owes = by_mark (is_marked limit p (block_of p h)) (balance limit p (block_of p h) past (block_made limit p h past born))
+    where
+      found : IsIn limit p h Dropping
+      found = record { born = born; state = drops }
+
+      by_mark : (m : Bool)
+          → Balanced limit (word_left limit p (block_of p h)) m (λ test. held limit p (block_of p h) test) (times_given p (block_of p h))
+          → is_last (word_left limit p (block_of p h)) ≡ (not m && is_only h (living limit p (block_of p h)))
+      by_mark true x = rw x.flag refl
+      by_mark false x = rw (x.flag, x.count, is_only-living limit p h Dropping found refl) refl
+
+-- so it is where a subtraction is accepted
 pub Sub_counted : (limit : ℕ) (p : List Step) (h : ℕ) → IsPast limit p → is_accepted limit p (Sub h) ≡ true
     → 0 < (word_left limit p (block_of p h)).count
-Sub_counted limit p h past a = by_mark (is_marked limit p b) (balance limit p b past (block_made limit p h past found.born))
-  where
-    b : ℕ
-    b = block_of p h
+Sub_counted limit p h past a = let found = Sub-finds limit p h a in dropping_counted limit p h past found.born found.state
 
-    found : IsIn limit p h Dropping
-    found = Sub-finds limit p h a
-
-    by_mark : (m : Bool) → Balanced limit (word_left limit p b) m (λ test. held limit p b test) (times_given p b)
-        → 0 < (word_left limit p b).count
-    by_mark true x = omega (arith, some_held limit p h Dropping is_dropping found refl)
-    by_mark false x = omega (arith, some_held limit p h Dropping lives found refl)
-
--- the word tells the last subtraction
 pub Sub_last : (limit : ℕ) (p : List Step) (h : ℕ) → IsPast limit p → is_accepted limit p (Sub h) ≡ true
     → is_last (word_left limit p (block_of p h))
     ≡ (not (is_marked limit p (block_of p h)) && is_only h (living limit p (block_of p h)))
-Sub_last limit p h past a = by_mark (is_marked limit p b) (balance limit p b past (block_made limit p h past found.born))
-  where
-    b : ℕ
-    b = block_of p h
-
-    found : IsIn limit p h Dropping
-    found = Sub-finds limit p h a
-
-    by_mark : (m : Bool) → Balanced limit (word_left limit p b) m (λ test. held limit p b test) (times_given p b)
-        → is_last (word_left limit p b) ≡ (not m && is_only h (living limit p b))
-    by_mark true x = rw x.flag refl
-    by_mark false x = rw (x.flag, x.count, is_only-living limit p h Dropping found refl) refl
+Sub_last limit p h past a = let found = Sub-finds limit p h a in last_owes limit p h past found.born found.state
 
 -- ---- the mark
 

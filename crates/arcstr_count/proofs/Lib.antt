@@ -18,3 +18,9 @@ mod SentencesState
 mod SentencesLiving
 mod SentencesCounts
 mod SentencesBirths
+mod LawsExamples
+pub mod Entries
+pub mod Taking
+pub mod StepsTaken
+pub mod GivenBack
+pub mod Replies

@@ -1,12 +1,12 @@
 -- What each step makes of a history of one block, its word and the states of its handles.
-use Rattle.std.proofs.Common.{◌≡◌, ℕ, zero, suc, ◌+◌, ◌<◌, ◌≤◌, Bool, true, false, not, ◌&&◌, ◌==◌, nat_lt, if◌then◌else◌, is_none, IsTrue, IsFalse, Option, None, Some, List, [], ◌∷◌, ◌++◌, map, reverse, length, slice_get, get_or, set, refl, sym, ◌∙◌, ap, subst, arith}
+use Rattle.std.proofs.Common.{◌≡◌, ℕ, ◌<◌, Bool, true, false, not, ◌&&◌, ◌==◌, if◌then◌else◌, is_none, None, Some, List, [], ◌∷◌, ◌++◌, map, length, slice_get, get_or, set, refl, sym, ◌∙◌, ap, subst, arith}
 use Rattle.std.proofs.lemmas.Bool.{lt-ltb}
 use Rattle.std.proofs.lemmas.List.{map_push, get_or-map, map-set, length-map, reverse-append}
 use Rattle.std.proofs.lemmas.Option.{get_or_from_slice_get, slice_get_within}
 use Rattle.arcstr_count.specs.declared.steps.Step.{Step}
-use Rattle.arcstr_count.specs.declared.steps.Step.TheVariants.{Make, Look, Clone, Begin, Sub, Back, Leak, IntoRaw, FromRaw}
+use Rattle.arcstr_count.specs.declared.steps.Step.TheVariants.{Make, Look, Clone, Begin, Sub, Back, Leak}
 use Rattle.arcstr_count.specs.declared.steps.HandleState.{HandleState}
-use Rattle.arcstr_count.specs.declared.steps.HandleState.TheVariants.{Free, Raw, Dropping, Owing, Gone}
+use Rattle.arcstr_count.specs.declared.steps.HandleState.TheVariants.{Free, Dropping, Owing, Gone}
 use Rattle.arcstr_count.specs.declared.steps.HandleSummary.{HandleSummary}
 use Rattle.arcstr_count.specs.declared.steps.Reply.{Reply}
 use Rattle.arcstr_count.specs.declared.steps.Reply.TheVariants.{Count, Static, Handle, Looked, Ended, Left, Owes, Given, Marked}
@@ -14,10 +14,10 @@ use Rattle.arcstr_count.specs.Word.{FlagAndCount, fresh_word, looked_of, cloned_
 use Rattle.arcstr_count.specs.History.{makes, births, block_of, numbers_below}
 use Rattle.arcstr_count.specs.Marks.{is_marked, state_of, living, is_only}
 use Rattle.arcstr_count.specs.Answer.{handle_state, is_accepted, reply_by, accepted_answer, unless_free, unless_dropping, unless_owing}
-use Rattle.arcstr_count.specs.Past.{past_of, IsPast, answer_after}
+use Rattle.arcstr_count.specs.Past.{past_of}
 use Rattle.arcstr_count.specs.Left.{word_left, Stands}
 use Rattle.arcstr_count.specs.Summary.{handles_of, handle_summary}
-use Rattle.arcstr_count.specs.OneBlock.{Keeps, IsOneBlock, EndsIn, states_after, look_reply}
+use Rattle.arcstr_count.specs.OneBlock.{Keeps, EndsIn, look_reply}
 use Rattle.arcstr_count.proofs.Pasts.{past_of-step, IsPast-past_of}
 use Rattle.arcstr_count.proofs.LawsOfHandles.{IsIn, block_made}
 use Rattle.arcstr_count.proofs.LawsOfPasts.{word_stands, Sub_counted, Sub_last}
@@ -69,7 +69,7 @@ seat_is : (limit : ℕ) (r : List Step) (w : FlagAndCount) (seats : List HandleS
 seat_is limit r w seats h state keeps seat =
     let seated : slice_get (states_in limit (past_of limit r)) h ≡ Some state = rw keeps.states at seat in
     let born : h < births (past_of limit r) =
-        rw (length-states_in limit (past_of limit r)) at (slice_get_within (states_in limit (past_of limit r)) h state seated) in
+    rw (length-states_in limit (past_of limit r)) at (slice_get_within (states_in limit (past_of limit r)) h state seated) in
     record {
       born = born;
       state = sym (get_or-column limit (past_of limit r) h born)
@@ -134,9 +134,9 @@ subtracts : (limit : ℕ) (r : List Step) (w : FlagAndCount) (seats : List Handl
     → IsIn limit (past_of limit r) h Dropping → Subtracts limit (past_of limit r) h w
 subtracts limit r w seats h keeps i =
     let accepted : is_accepted limit (past_of limit r) (Sub h) ≡ true =
-        ap (λ o. is_none (unless_dropping o)) (found_in limit (past_of limit r) h Dropping i) in
+    ap (λ o. is_none (unless_dropping o)) (found_in limit (past_of limit r) h Dropping i) in
     let same : word_left limit (past_of limit r) (block_of (past_of limit r) h) ≡ w =
-        ap (λ b. word_left limit (past_of limit r) b) (on_block limit r w seats h Dropping keeps i) ∙ sym keeps.left in
+    ap (λ b. word_left limit (past_of limit r) b) (on_block limit r w seats h Dropping keeps i) ∙ sym keeps.left in
     record {
       counted = subst (λ (word : FlagAndCount). 0 < word.count) same
           (Sub_counted limit (past_of limit r) h (IsPast-past_of limit r) accepted);
@@ -196,12 +196,12 @@ keeps-begin limit r w seats h keeps seat =
     let open_to : unless_free (handle_state limit (past_of limit r) h) ≡ None = accepts_free limit (past_of limit r) h i in
     let on : block_of (past_of limit r) h ≡ 0 = on_block limit r w seats h Free keeps i in
     let mark : is_marked limit (past_of limit r) (block_of (past_of limit r) h) ≡ w.flag =
-        ap (λ b. is_marked limit (past_of limit r) b) on ∙ sym (stands limit r w seats keeps).flag in
+    ap (λ b. is_marked limit (past_of limit r) b) on ∙ sym (stands limit r w seats keeps).flag in
     let states : set seats h (if w.flag then Gone else Dropping) ≡ states_in limit (Begin h ∷ past_of limit r) =
-        ap (λ old. set old h (if w.flag then Gone else Dropping)) keeps.states
-        ∙ ap (λ b. set (states_in limit (past_of limit r)) h (if b then Gone else Dropping)) (sym mark)
-        ∙ sym (states_in-set limit (past_of limit r) (Begin h ∷ past_of limit r) h _
-        (handles-Begin limit (past_of limit r) h (IsPast-past_of limit r) (ap is_none open_to))) in
+    ap (λ old. set old h (if w.flag then Gone else Dropping)) keeps.states
+    ∙ ap (λ b. set (states_in limit (past_of limit r)) h (if b then Gone else Dropping)) (sym mark)
+    ∙ sym (states_in-set limit (past_of limit r) (Begin h ∷ past_of limit r) h _
+    (handles-Begin limit (past_of limit r) h (IsPast-past_of limit r) (ap is_none open_to))) in
     record {
       keeps = kept limit r w w seats _ (Begin h) keeps (ap is_none open_to) refl keeps.left states;
       ends = record {
@@ -221,14 +221,14 @@ keeps-clone limit r w seats h keeps seat =
     let open_to : unless_free (handle_state limit (past_of limit r) h) ≡ None = accepts_free limit (past_of limit r) h i in
     let on : block_of (past_of limit r) h ≡ 0 = on_block limit r w seats h Free keeps i in
     let states : seats ++ Free ∷ [] ≡ states_in limit (Clone h ∷ past_of limit r) =
-        ap (λ old. old ++ Free ∷ []) keeps.states
-        ∙ sym (states_in-push limit (past_of limit r) (Clone h ∷ past_of limit r) _
-        (handles-Clone limit (past_of limit r) h (IsPast-past_of limit r))) in
+    ap (λ old. old ++ Free ∷ []) keeps.states
+    ∙ sym (states_in-push limit (past_of limit r) (Clone h ∷ past_of limit r) _
+    (handles-Clone limit (past_of limit r) h (IsPast-past_of limit r))) in
     let left : cloned_of limit w ≡ word_left limit (Clone h ∷ past_of limit r) 0 =
-        ap (cloned_of limit) keeps.left
-        ∙ sym (ap (λ b. if b == 0 then cloned_of limit (word_left limit (past_of limit r) 0) else word_left limit (past_of limit r) 0) on) in
+    ap (cloned_of limit) keeps.left
+    ∙ sym (ap (λ b. if b == 0 then cloned_of limit (word_left limit (past_of limit r) 0) else word_left limit (past_of limit r) 0) on) in
     let born : births (past_of limit r) ≡ length seats =
-        sym (length-states_in limit (past_of limit r)) ∙ ap length (sym keeps.states) in
+    sym (length-states_in limit (past_of limit r)) ∙ ap length (sym keeps.states) in
     record {
       keeps = kept limit r w (cloned_of limit w) seats _ (Clone h) keeps (ap is_none open_to) refl left states;
       ends = record {
@@ -247,8 +247,8 @@ keeps-leak limit r w seats h keeps seat =
     let open_to : unless_free (handle_state limit (past_of limit r) h) ≡ None = accepts_free limit (past_of limit r) h i in
     let on : block_of (past_of limit r) h ≡ 0 = on_block limit r w seats h Free keeps i in
     let left : marked_of w ≡ word_left limit (Leak h ∷ past_of limit r) 0 =
-        ap marked_of keeps.left
-        ∙ sym (ap (λ b. if b == 0 then marked_of (word_left limit (past_of limit r) 0) else word_left limit (past_of limit r) 0) on) in
+    ap marked_of keeps.left
+    ∙ sym (ap (λ b. if b == 0 then marked_of (word_left limit (past_of limit r) 0) else word_left limit (past_of limit r) 0) on) in
     record {
       keeps = kept limit r w (marked_of w) seats seats (Leak h) keeps (ap is_none open_to) refl left keeps.states;
       ends = record {
@@ -266,39 +266,40 @@ pub keeps-sub : (limit : ℕ) (r : List Step) (w : FlagAndCount) (seats : List H
 keeps-sub limit r w seats h keeps seat =
     let i : IsIn limit (past_of limit r) h Dropping = seat_is limit r w seats h Dropping keeps seat in
     let open_to : unless_dropping (handle_state limit (past_of limit r) h) ≡ None =
-        ap unless_dropping (found_in limit (past_of limit r) h Dropping i) in
+    ap unless_dropping (found_in limit (past_of limit r) h Dropping i) in
     let on : block_of (past_of limit r) h ≡ 0 = on_block limit r w seats h Dropping keeps i in
     let takes : Subtracts limit (past_of limit r) h w = subtracts limit r w seats h keeps i in
     let left : dropped_of w ≡ word_left limit (Sub h ∷ past_of limit r) 0 =
-        ap dropped_of keeps.left
-        ∙ sym (ap (λ b. if b == 0 then dropped_of (word_left limit (past_of limit r) 0) else word_left limit (past_of limit r) 0) on) in
+    ap dropped_of keeps.left
+    ∙ sym (ap (λ b. if b == 0 then dropped_of (word_left limit (past_of limit r) 0) else word_left limit (past_of limit r) 0) on) in
     let states : set seats h (if is_last w then Owing else Gone) ≡ states_in limit (Sub h ∷ past_of limit r) =
-        ap (λ old. set old h (if is_last w then Owing else Gone)) keeps.states
-        ∙ ap (λ b. set (states_in limit (past_of limit r)) h (if b then Owing else Gone)) (sym takes.last)
-        ∙ sym (states_in-set limit (past_of limit r) (Sub h ∷ past_of limit r) h _
-        (handles-Sub limit (past_of limit r) h (IsPast-past_of limit r) (ap is_none open_to))) in
-    (takes.counted,
-    record {
-      keeps = kept limit r w (dropped_of w) seats _ (Sub h) keeps (ap is_none open_to) refl left states;
-      ends = record {
-        front = r;
-        ends = refl;
-        accepted = ap is_none open_to;
-        answered = ap (λ o. reply_by o (accepted_answer limit (past_of limit r) (Sub h))) open_to
-            ∙ ap (λ b. if b then Owes else Left) takes.last;
-      };
-    })
+    ap (λ old. set old h (if is_last w then Owing else Gone)) keeps.states
+    ∙ ap (λ b. set (states_in limit (past_of limit r)) h (if b then Owing else Gone)) (sym takes.last)
+    ∙ sym (states_in-set limit (past_of limit r) (Sub h ∷ past_of limit r) h _
+    (handles-Sub limit (past_of limit r) h (IsPast-past_of limit r) (ap is_none open_to))) in (
+      takes.counted,
+      record {
+        keeps = kept limit r w (dropped_of w) seats _ (Sub h) keeps (ap is_none open_to) refl left states;
+        ends = record {
+          front = r;
+          ends = refl;
+          accepted = ap is_none open_to;
+          answered = ap (λ o. reply_by o (accepted_answer limit (past_of limit r) (Sub h))) open_to
+              ∙ ap (λ b. if b then Owes else Left) takes.last;
+        };
+      },
+    )
 
 pub keeps-back : (limit : ℕ) (r : List Step) (w : FlagAndCount) (seats : List HandleState) (h : ℕ)
     → Keeps limit r w seats → slice_get seats h ≡ Some Owing → Prolongs limit r (Back h) Given w (set seats h Gone)
 keeps-back limit r w seats h keeps seat =
     let i : IsIn limit (past_of limit r) h Owing = seat_is limit r w seats h Owing keeps seat in
     let open_to : unless_owing (handle_state limit (past_of limit r) h) ≡ None =
-        ap unless_owing (found_in limit (past_of limit r) h Owing i) in
+    ap unless_owing (found_in limit (past_of limit r) h Owing i) in
     let states : set seats h Gone ≡ states_in limit (Back h ∷ past_of limit r) =
-        ap (λ old. set old h Gone) keeps.states
-        ∙ sym (states_in-set limit (past_of limit r) (Back h ∷ past_of limit r) h _
-        (handles-Back limit (past_of limit r) h (ap is_none open_to))) in
+    ap (λ old. set old h Gone) keeps.states
+    ∙ sym (states_in-set limit (past_of limit r) (Back h ∷ past_of limit r) h _
+    (handles-Back limit (past_of limit r) h (ap is_none open_to))) in
     record {
       keeps = kept limit r w w seats _ (Back h) keeps (ap is_none open_to) refl keeps.left states;
       ends = record {

@@ -1,5 +1,5 @@
 -- The past of a history, step by step.
-use Rattle.std.proofs.Common.{◌≡◌, ℕ, Bool, true, false, if◌then◌else◌, List, [], ◌∷◌, ◌++◌, refl, sym, ◌∙◌, ap}
+use Rattle.std.proofs.Common.{◌≡◌, ℕ, Bool, true, false, if◌then◌else◌, List, [], ◌∷◌, ◌++◌, refl}
 use Rattle.arcstr_count.specs.declared.steps.Step.{Step}
 use Rattle.arcstr_count.specs.Answer.{is_accepted}
 use Rattle.arcstr_count.specs.Past.{with_step, past_from, past_of, IsPast}
@@ -20,9 +20,9 @@ past_of-step limit front s = past_of-append limit front (s ∷ [])
 pub IsPast-with_step : (limit : ℕ) (p : List Step) (s : Step) → IsPast limit p → IsPast limit (with_step limit p s)
 IsPast-with_step limit p s h = kept (is_accepted limit p s) refl
   where
-  kept : (b : Bool) → is_accepted limit p s ≡ b → IsPast limit (if b then s ∷ p else p)
-  kept true accepted = (accepted, h)
-  kept false refused = h
+    kept : (b : Bool) → is_accepted limit p s ≡ b → IsPast limit (if b then s ∷ p else p)
+    kept true accepted = (accepted, h)
+    kept false refused = h
 
 pub IsPast-past_from : (limit : ℕ) (p xs : List Step) → IsPast limit p → IsPast limit (past_from limit p xs)
 IsPast-past_from limit p [] h = h

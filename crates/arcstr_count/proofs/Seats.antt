@@ -10,7 +10,7 @@ use Rattle.arcstr_count.specs.Left.{is_dropping, is_owing}
 use Rattle.arcstr_count.specs.OneBlock.{Keeps}
 use Rattle.arcstr_count.proofs.Pasts.{IsPast-past_of}
 use Rattle.arcstr_count.proofs.LawsOfHandles.{block_made}
-use Rattle.arcstr_count.proofs.Counting.{count, held, is_held, count-same}
+use Rattle.arcstr_count.proofs.Counting.{held, is_held, count-same}
 use Rattle.arcstr_count.proofs.LawsOfPasts.{count_bounded, one_owes, owes_alone}
 use Rattle.arcstr_count.proofs.OneBlock.{stands, made_one}
 
@@ -84,5 +84,5 @@ seats-owed limit r w seats keeps some =
     let on = stands limit r w seats keeps in
     let unmarked : IsFalse w.flag = on.flag ∙ alone.0 in
     let none : length (filter lives seats) ≡ 0 =
-        seats-held limit r w seats lives keeps ∙ ap length alone.1 in
+    seats-held limit r w seats lives keeps ∙ ap length alone.1 in
     (unmarked, seats-counted limit r w seats keeps unmarked ∙ none, none)

@@ -1,5 +1,5 @@
 -- How the tables of a past, of its handles, blocks and words, follow from those of the steps before.
-use Rattle.std.proofs.Common.{◌≡◌, ◌≢◌, ℕ, zero, suc, ◌+◌, ◌<◌, ◌≤◌, Bool, true, false, not, ◌&&◌, ◌||◌, ◌==◌, nat_lt, if◌then◌else◌, List, [], ◌∷◌, ◌++◌, map, length, get_or, set, refl, sym, ◌∙◌, ap, ◌⊎◌, inl, inr, arith, ne_eqb, eq-eqb}
+use Rattle.std.proofs.Common.{◌≡◌, ◌≢◌, ℕ, zero, suc, ◌+◌, ◌<◌, ◌≤◌, Bool, true, false, not, ◌&&◌, ◌||◌, ◌==◌, nat_lt, if◌then◌else◌, List, [], ◌∷◌, ◌++◌, map, length, get_or, set, refl, sym, ◌∙◌, ap, ◌⊎◌, inl, inr, arith, ne_eqb}
 use Rattle.std.proofs.lemmas.List.{map_push, length-map, length_push, set_at, set-append_left, get_or_push, get_or_append_left}
 use Rattle.std.proofs.lemmas.Bool.{cases_eq}
 use Rattle.arcstr_count.specs.declared.steps.Step.{Step}
@@ -14,6 +14,7 @@ use Rattle.arcstr_count.specs.Answer.{is_accepted}
 use Rattle.arcstr_count.specs.Past.{IsPast, times_given}
 use Rattle.arcstr_count.specs.Left.{word_left}
 use Rattle.arcstr_count.specs.Summary.{BlockSummary, handle_summary, block_summary, handles_of, blocks_of, words_left}
+pub use Rattle.arcstr_count.proofs.LawsOfHandles.{same_test, other_test}
 use Rattle.arcstr_count.proofs.LawsOfHandles.{ChangesOne, Begin-changes, Sub-changes, Back-changes, IntoRaw-changes, FromRaw-changes, Clone-finds, Sub-finds, Back-finds, Leak-finds, state-born, block-Make, block-Make_other, block-Clone, block-Clone_other, block_made}
 
 -- ---- tables of a function of the numbers below n
@@ -22,14 +23,14 @@ pub length-numbers_below : (n : ℕ) → length (numbers_below n) ≡ n
 length-numbers_below zero = refl
 length-numbers_below (suc n) = let before = length-numbers_below n in omega (arith, length_push (numbers_below n) n)
 
-length-table : {X : Type 0} (f : ℕ → X) (n : ℕ) → length (map f (numbers_below n)) ≡ n
+pub length-table : {X : Type 0} (f : ℕ → X) (n : ℕ) → length (map f (numbers_below n)) ≡ n
 length-table f n = length-map (numbers_below n) f ∙ length-numbers_below n
 
 table-push : {X : Type 0} (f : ℕ → X) (n : ℕ) → map f (numbers_below (suc n)) ≡ map f (numbers_below n) ++ f n ∷ []
 table-push f n = map_push f (numbers_below n) n
 
 -- the entry at a number
-table-at : {X : Type 0} (f : ℕ → X) (n i : ℕ) (d : X) → i < n → get_or (map f (numbers_below n)) i d ≡ f i
+pub table-at : {X : Type 0} (f : ℕ → X) (n i : ℕ) (d : X) → i < n → get_or (map f (numbers_below n)) i d ≡ f i
 table-at f zero i d below = absurd (omega arith)
 table-at f (suc n) i d below = by_place (cases_eq i n) (λ inner. table-at f n i d inner)
   where
@@ -43,7 +44,7 @@ table-at f (suc n) i d below = by_place (cases_eq i n) (λ inner. table-at f n i
         rw (table-push f n, get_or_append_left (map f (numbers_below n)) (f n ∷ []) d i within) (earlier lower)
 
 -- two functions that agree have one table
-table-same : {X : Type 0} (f g : ℕ → X) (n : ℕ) → ((k : ℕ) → k < n → g k ≡ f k) → map g (numbers_below n) ≡ map f (numbers_below n)
+pub table-same : {X : Type 0} (f g : ℕ → X) (n : ℕ) → ((k : ℕ) → k < n → g k ≡ f k) → map g (numbers_below n) ≡ map f (numbers_below n)
 table-same f g zero agree = refl
 table-same f g (suc n) agree =
     let before = table-same f g n (λ k below. agree k (omega arith)) in
@@ -51,12 +52,12 @@ table-same f g (suc n) agree =
     rw (table-push g n, table-push f n, before, here) refl
 
 -- one more number
-table-more : {X : Type 0} (f g : ℕ → X) (n : ℕ) (x : X) → ((k : ℕ) → k < n → g k ≡ f k) → g n ≡ x
+pub table-more : {X : Type 0} (f g : ℕ → X) (n : ℕ) (x : X) → ((k : ℕ) → k < n → g k ≡ f k) → g n ≡ x
     → map g (numbers_below (suc n)) ≡ map f (numbers_below n) ++ x ∷ []
 table-more f g n x agree here = rw (table-push g n, table-same f g n agree, here) refl
 
 -- two functions that agree at all numbers but one
-table-set : {X : Type 0} (f g : ℕ → X) (n i : ℕ) (x : X) → i < n → ((k : ℕ) → k ≢ i → g k ≡ f k) → g i ≡ x
+pub table-set : {X : Type 0} (f g : ℕ → X) (n i : ℕ) (x : X) → i < n → ((k : ℕ) → k ≢ i → g k ≡ f k) → g i ≡ x
     → map g (numbers_below n) ≡ set (map f (numbers_below n)) i x
 table-set f g zero i x below agree here = absurd (omega arith)
 table-set f g (suc n) i x below agree here =
@@ -76,7 +77,7 @@ table-set f g (suc n) i x below agree here =
 
 -- ---- handles
 
-handle_is : {b c : ℕ} {s t : HandleState} → b ≡ c → s ≡ t
+pub handle_is : {b c : ℕ} {s t : HandleState} → b ≡ c → s ≡ t
     → ◌≡◌ {A = HandleSummary} (record { block = b; state = s }) (record { block = c; state = t })
 handle_is block state = λ i. record { block = block i; state = state i }
 
@@ -187,12 +188,6 @@ unmade_block limit (FromRaw h ∷ p) b past unmade = unmade_block limit p b past
 or_false : (m : Bool) → (m || false) ≡ m
 or_false true = refl
 or_false false = refl
-
-other_test : (b c : ℕ) → c ≢ b → (b == c) ≡ false
-other_test b c apart = ne_eqb b c (λ same. apart (sym same))
-
-same_test : (b : ℕ) → (b == b) ≡ true
-same_test b = eq-eqb b b refl
 
 pub blocks-Make : (limit : ℕ) (p : List Step) → IsPast limit p
     → blocks_of limit (Make ∷ p) ≡ blocks_of limit p ++ record { marked = false; given = 0 } ∷ []

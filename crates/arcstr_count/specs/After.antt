@@ -1,10 +1,9 @@
 -- What a history in its natural order means for blocks and handles: the words of the public contracts.
-use Rattle.std.specs.Prelude.{◌≡◌, ℕ, ◌+◌, ◌<◌, Bool, List, ◌++◌, ◌∷◌, slice_get, Some, length}
+use Rattle.std.specs.Prelude.{◌≡◌, ℕ, ◌<◌, Bool, List, ◌++◌, ◌∷◌, slice_get, Some, length}
 use Rattle.arcstr_count.specs.declared.steps.Step.{Step}
-use Rattle.arcstr_count.specs.declared.steps.HandleState.{HandleState}
 use Rattle.arcstr_count.specs.declared.steps.Reply.{Reply}
 use Rattle.arcstr_count.specs.Word.{FlagAndCount}
-use Rattle.arcstr_count.specs.History.{makes, births, block_of}
+use Rattle.arcstr_count.specs.History.{makes}
 use Rattle.arcstr_count.specs.Marks.{is_marked, living}
 use Rattle.arcstr_count.specs.Past.{past_of, answer_after, times_given}
 use Rattle.arcstr_count.specs.Left.{word_left, dropping, owing, Stands}

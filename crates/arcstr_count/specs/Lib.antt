@@ -10,3 +10,6 @@ pub mod After
 pub mod OneBlock
 pub mod Laws
 pub mod Sentences
+pub mod Taken
+pub mod Kept
+pub mod Looked

@@ -1,11 +1,10 @@
 -- Marked blocks, and the state of each handle.
 --
 -- The three of the circle use each other only through shorter pasts.
-use Rattle.std.specs.Prelude.{◌≡◌, ℕ, suc, ◌+◌, Bool, true, false, not, ◌&&◌, ◌||◌, ◌==◌, nat_lt, if◌then◌else◌, List, [], ◌∷◌, ◌++◌, length, filter}
+use Rattle.std.specs.Prelude.{ℕ, Bool, false, not, ◌&&◌, ◌||◌, ◌==◌, nat_lt, if◌then◌else◌, List, [], ◌∷◌, length, filter}
 use Rattle.arcstr_count.specs.declared.steps.Step.{Step}
-use Rattle.arcstr_count.specs.declared.steps.Step.TheVariants.{Make, Look, Clone, Begin, Sub, Back, Leak, IntoRaw, FromRaw}
+use Rattle.arcstr_count.specs.declared.steps.Step.TheVariants.{Clone, Begin, Sub, Leak}
 use Rattle.arcstr_count.specs.declared.steps.HandleState.{HandleState}
-use Rattle.arcstr_count.specs.declared.steps.HandleState.TheVariants.{Free, Raw, Dropping, Owing, Gone}
 use Rattle.arcstr_count.specs.History.{births, block_of, is_raw, has_begun, has_subtracted, has_given, state_by, lives, numbers_below}
 
 -- the state of handle h, where `unmarked` and `last` say how its drop began and how it subtracted

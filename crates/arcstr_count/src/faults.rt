@@ -101,3 +101,6 @@ impl fmt::Display for RunFault {
 }
 
 impl Error for RunFault {}
+
+#[cfg(test)]
+mod tests;

@@ -7,11 +7,15 @@
 
 pub use faults::{RunFault, StepFault};
 pub use history_laws::every_interleaving;
+pub use runs::run;
 pub use steps::{HandleState, HandleSummary, Reply, Step};
 pub use words::{RC_MAX, Word};
+pub use worlds::World;
 
 mod faults;
 mod history_laws;
+mod runs;
 pub mod sentences;
 mod steps;
 mod words;
+mod worlds;

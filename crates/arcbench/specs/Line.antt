@@ -1,0 +1,66 @@
+-- The lines of a script: how its bytes are cut, what a NUMBER is, and which step a line stands for.
+use Rattle.std.specs.Prelude.{ℕ, ◌^◌, Bool, not, ◌&&◌, ◌==◌, nat_lt, if◌then◌else◌, List, [], ◌∷◌, length, slice_index, Option, None, Some, option_and_then, codes}
+use Rattle.std.specs.List.{slice_split, before_first, after_first}
+use Rattle.std.specs.Str.{bytes_eq, all_ascii_digits}
+use Rattle.std.specs.Str.Parse.{digits_value}
+use Rattle.arcstr_count.specs.declared.steps.Step.{Step}
+use Rattle.arcstr_count.specs.declared.steps.Step.TheVariants.{Make, Look, Clone, Begin, Sub, Back, Leak, IntoRaw, FromRaw}
+
+-- ---- lines
+
+-- a last part is no line where it is empty
+abbrev pub without_empty_last : List (List ℕ) → List (List ℕ)
+without_empty_last [] = []
+without_empty_last ([] ∷ []) = []
+without_empty_last (part ∷ parts) = part ∷ without_empty_last parts
+
+-- the bytes cut at each byte 10
+abbrev pub lines_of : List ℕ → List (List ℕ)
+lines_of bytes = without_empty_last (slice_split (λ b. b == 10) bytes)
+
+-- ---- words and numbers
+
+-- what stands before the first space of a line
+abbrev pub word_of : List ℕ → List ℕ
+word_of line = before_first (λ b. b == 32) line
+
+-- what stands after the first space of a line
+abbrev pub after_word : List ℕ → List ℕ
+after_word line = after_first (λ b. b == 32) line
+
+-- one decimal digit or more, whose value is below 2 ^ 64
+abbrev pub is_decimal : List ℕ → Bool
+is_decimal text = all_ascii_digits text && nat_lt 0 (length text) && nat_lt (digits_value 10 text) (2 ^ 64)
+
+-- a 0 in front of other bytes
+abbrev pub has_idle_zero : List ℕ → Bool
+has_idle_zero text = (slice_index text 0 == 48) && nat_lt 1 (length text)
+
+-- the value of a NUMBER, which has no idle zero, and nothing of another text
+abbrev pub number_of : List ℕ → Option ℕ
+number_of text = if is_decimal text && not (has_idle_zero text) then Some (digits_value 10 text) else None
+
+-- ---- steps
+
+-- the step that a word means of a handle
+abbrev pub step_named : List ℕ → ℕ → Option Step
+step_named word h =
+    if bytes_eq word (codes "look") then Some (Look h)
+    else (if bytes_eq word (codes "clone") then Some (Clone h)
+    else (if bytes_eq word (codes "begin") then Some (Begin h)
+    else (if bytes_eq word (codes "sub") then Some (Sub h)
+    else (if bytes_eq word (codes "back") then Some (Back h)
+    else (if bytes_eq word (codes "leak") then Some (Leak h)
+    else (if bytes_eq word (codes "raw") then Some (IntoRaw h)
+    else (if bytes_eq word (codes "unraw") then Some (FromRaw h)
+    else None)))))))
+
+-- the line's step: `make`, or a word, one space, and the number of a handle; another line has none
+abbrev pub step_of : List ℕ → Option Step
+step_of line =
+    if bytes_eq line (codes "make") then Some Make
+    else option_and_then (λ h. step_named (word_of line) h) (number_of (after_word line))
+
+-- the limit that a first line `limit NUMBER` sets; another line sets none
+abbrev pub limit_of : List ℕ → Option ℕ
+limit_of line = if bytes_eq (word_of line) (codes "limit") then number_of (after_word line) else None

@@ -1,0 +1,7 @@
+-- What a port is seen as.
+use Rattle.std.specs.Prelude.{Bool}
+
+-- the reader or the writer, and whether it failed
+pub record PortView (T : Type 0) : Type 0 where
+  pub value : T
+  pub failed : Bool

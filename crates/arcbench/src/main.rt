@@ -1,0 +1,41 @@
+//! Scripts of steps on counted blocks, answered line by line: `arcbench script` answers its input.
+#![tactic(auto)]
+
+mod pool;
+mod port;
+mod program;
+mod script;
+mod threads;
+
+use port::Port;
+use std::env::Env;
+use std::process::ExitCode;
+use std::{env, io};
+
+fn main(rt: HostRuntime) -> ExitCode {
+    let mut errors = rt.stderr();
+    let status = match words(&rt) {
+        Err(error) => program::serve_without_words(&mut errors, &error),
+        Ok(words) => {
+            let mut input = Port::new(rt.stdin());
+            let mut output = Port::new(rt.stdout());
+            program::serve(
+                &rt,
+                rt.alloc(),
+                &words,
+                &mut input,
+                &mut output,
+                &mut errors,
+            )
+        }
+    };
+    ExitCode::from(status)
+}
+
+/// The words after the program's name.
+fn words<R: Env + AllocGlobal>(rt: &R) -> io::Result<Vec<String>> {
+    Ok(env::args(rt)?.skip(1).collect(rt.alloc())?)
+}
+
+#[cfg(test)]
+mod tests;

@@ -1,0 +1,8 @@
+mod answers;
+mod fakes;
+mod lists;
+mod memory;
+mod ports;
+mod statuses;
+mod texts;
+mod threads;

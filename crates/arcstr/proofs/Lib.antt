@@ -1,0 +1,5 @@
+pub mod Copies
+pub mod Places
+pub mod SubstrExamples
+pub mod TextOrders
+pub mod OrderExamples

@@ -1,0 +1,70 @@
+-- Worked examples of the definitions of slices, by computation: what they say is what was meant.
+use Rattle.std.proofs.Common.{◌≡◌, [], refl, Ok, Err, ◌↔◌, IsErrOf, rules, arith, lit<}
+use Rattle.std.specs.Prelude.{codes}
+use Rattle.arcstr_range.specs.declared.range.StrRange.TheVariants.{Between, From}
+use Rattle.arcstr_range.specs.declared.range.fault.RangeFault.{RangeFault}
+use Rattle.arcstr_range.specs.declared.range.fault.RangeFault.TheVariants.{OutOfOrder, PastEnd, TooFar, OffBoundary}
+use Rattle.arcstr_range.specs.Ends.{ends_in, IsFirstRangeFault}
+use Rattle.arcstr_range.specs.View.{view_at}
+use Rattle.arcstr.specs.TextView.{TextView, literal_of}
+use Rattle.arcstr.specs.Substr.{SubstrView, empty_slice, slice_of, slice_within, text_of, whole_of}
+use Rattle.arcstr.specs.Slicing.{AnswersRange, IsSliceOfView}
+
+abbrev foobarbaz : TextView
+foobarbaz = literal_of (codes "foobarbaz")
+
+-- its slice from 3 to 6
+abbrev bar : SubstrView
+bar = slice_of foobarbaz 3 6
+
+own_text : text_of bar ≡ codes "bar"
+own_text = refl
+
+-- the places of a slice of a slice are sums
+within : slice_within bar 1 3 ≡ slice_of foobarbaz 4 6
+within = refl
+
+within_text : text_of (slice_within bar 1 3) ≡ codes "ar"
+within_text = refl
+
+-- an empty slice of a slice keeps the parent
+within_empty : slice_within bar 2 2 ≡ slice_of foobarbaz 5 5
+within_empty = refl
+
+whole : whole_of foobarbaz ≡ slice_of foobarbaz 0 9
+whole = refl
+
+-- the slice of nothing is the whole of the empty literal
+nothing : whole_of (literal_of []) ≡ empty_slice
+nothing = refl
+
+-- the end of `3..` is the length of the slice's own text
+ends_from : ends_in (text_of (slice_of foobarbaz 3 9)) (From 3) ≡ (3, 6)
+ends_from = refl
+
+-- an answer for a range of the slice's own text
+answered : AnswersRange (text_of bar) (slice_within bar) (Between 1 3) (Ok (slice_of foobarbaz 4 6))
+answered = search rules
+
+past_own_end_alone : (fault : RangeFault) → IsErrOf {T = SubstrView} (Err PastEnd) fault ↔ IsFirstRangeFault (text_of bar) (Between 0 5) fault
+past_own_end_alone OutOfOrder = (λ other. cc, λ first. absurd (first.broken (omega arith)))
+past_own_end_alone PastEnd = (λ _. search rules, λ _. refl)
+past_own_end_alone TooFar = (λ other. cc, λ first. absurd (omega (arith, first.kept_before PastEnd (lit< tt))))
+past_own_end_alone OffBoundary = (λ other. cc, λ first. absurd (omega (arith, first.kept_before PastEnd (lit< tt))))
+
+-- 5 is past the end of the slice's own text, though not of the parent
+past_own_end : AnswersRange (text_of bar) (slice_within bar) (Between 0 5) (Err PastEnd)
+past_own_end = record {
+  value = search rules;
+  same_text = search rules;
+  lawful = (search rules, λ lawful. absurd (omega (arith, lawful.fits.within)));
+  refused = past_own_end_alone;
+}
+
+-- what a view of `bar` at 0 shows, in the slice
+shown : IsSliceOfView (slice_within bar) (view_at (codes "bar") 0) (slice_of foobarbaz 3 6)
+shown = search rules
+
+-- an empty view shows the slice of nothing, wherever it says that it stands
+shown_empty : IsSliceOfView (slice_within bar) (view_at [] 99) empty_slice
+shown_empty = search rules

@@ -1,0 +1,15 @@
+pub mod TextView
+pub mod Forms
+pub mod StaticForms
+pub mod Making
+pub mod Substr
+pub mod Slicing
+pub mod TextOrder
+pub mod JsonFault
+pub mod Json
+pub use Rattle.arcstr_range.specs.Ends
+pub use Rattle.arcstr_range.specs.RangeFault
+pub use Rattle.arcstr_range.specs.Substring
+pub use Rattle.arcstr_range.specs.Text
+pub use Rattle.arcstr_range.specs.Trim
+pub use Rattle.arcstr_range.specs.View

@@ -1,0 +1,52 @@
+-- What a shared slice is seen as: its parent, and the places in the parent's text between which it lies.
+use Rattle.std.specs.Prelude.{◌≡◌, ℕ, ◌+◌, ◌<◌, ◌⊎◌, List, [], length}
+use Rattle.arcstr_block.specs.declared.fault.TextFault.{TextFault}
+use Rattle.arcstr_block.specs.declared.fault.TextFault.TheVariants.{TooFar}
+use Rattle.arcstr.specs.Making.{IsFaultOfMaking}
+use Rattle.arcstr_range.specs.declared.range.TheConstants.{MAX_PLACE}
+use Rattle.arcstr_range.specs.Substring.{Substring, substring_at, IsSound}
+use Rattle.arcstr_range.specs.Substring.{text_of as text_of_substring}
+use Rattle.arcstr.specs.TextView.{TextView, literal_of}
+
+-- a shared slice, as contracts see it; the places are counted in bytes of the parent's text
+pub record SubstrView : Type 0 where
+  pub parent : TextView
+  pub start : ℕ
+  pub end : ℕ
+
+-- the slice of a parent between two places
+abbrev pub slice_of : TextView → ℕ → ℕ → SubstrView
+slice_of parent start end = record { parent = parent; start = start; end = end }
+
+-- the slice of a parent that is all of its text
+abbrev pub whole_of : TextView → SubstrView
+whole_of parent = slice_of parent 0 (length parent.text)
+
+-- the slice of nothing: of the empty literal, from 0 to 0
+abbrev pub empty_slice : SubstrView
+empty_slice = slice_of (literal_of []) 0 0
+
+-- the slice as a substring of its parent's text
+abbrev pub substring_of : SubstrView → Substring
+substring_of slice = substring_at slice.parent.text slice.start slice.end
+
+-- the slice's own text
+abbrev pub text_of : SubstrView → List ℕ
+text_of slice = text_of_substring (substring_of slice)
+
+-- its places are lawful in its parent's text
+abbrev pub IsSoundSlice : SubstrView → Type 0
+IsSoundSlice slice = IsSound (substring_of slice)
+
+-- the slice between two places of a slice's own text: of the same parent, at the sums of the places
+abbrev pub slice_within : SubstrView → ℕ → ℕ → SubstrView
+slice_within outer start end = slice_of outer.parent (outer.start + start) (outer.start + end)
+
+-- the text has more bytes than a slice has places
+abbrev pub IsTooFar : ℕ → Type 0
+IsTooFar n = MAX_PLACE < n
+
+-- the fault of a slice of n bytes that is to be made: its length where it is too long for a block, its last place where
+-- that is too far for a slice, and else want of memory
+abbrev pub IsFaultOfMakingSlice : ℕ → TextFault → Type 0
+IsFaultOfMakingSlice n fault = IsFaultOfMaking n fault ⊎ ((fault ≡ TooFar) × IsTooFar n)

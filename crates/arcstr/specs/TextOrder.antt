@@ -1,0 +1,29 @@
+-- Order of texts: a text comes before another that it is a proper front of, or that has the higher byte where the two
+-- first differ.
+use Rattle.std.specs.Prelude.{◌≡◌, ◌↔◌, ◌⊎◌, ℕ, ◌<◌, List, ◌∷◌, ◌++◌}
+use Rattle.std.specs.declared.cmp.Ordering.{Ordering}
+use Rattle.std.specs.declared.cmp.Ordering.TheVariants.{Less, Equal, Greater}
+
+-- the first text is a front of the second, which goes on
+abbrev pub IsProperFront : List ℕ → List ℕ → Type 0
+IsProperFront one other = (next : ℕ) × (rest : List ℕ) × (other ≡ one ++ (next ∷ rest))
+
+-- after a front that both have, the first text has the lower byte
+pub record HasLowerByteAfter (front one other : List ℕ) : Type 0 where
+  pub low : ℕ
+  pub high : ℕ
+  pub lows : List ℕ
+  pub highs : List ℕ
+  pub below : low < high
+  pub one_is : one ≡ front ++ (low ∷ lows)
+  pub other_is : other ≡ front ++ (high ∷ highs)
+
+-- the first text comes before the second
+abbrev pub ComesBefore : List ℕ → List ℕ → Type 0
+ComesBefore one other = IsProperFront one other ⊎ ((front : List ℕ) × HasLowerByteAfter front one other)
+
+-- the answer of a comparison of two texts
+pub record IsTextOrder (one other : List ℕ) (answer : Ordering) : Type 0 where
+  pub less : answer ≡ Less ↔ ComesBefore one other
+  pub equal : answer ≡ Equal ↔ (one ≡ other)
+  pub greater : answer ≡ Greater ↔ ComesBefore other one

@@ -1,0 +1,47 @@
+-- What a shared text is seen as: its bytes, and where they lie.
+use Rattle.std.specs.Prelude.{◌≢◌, ◌==◌, if◌then◌else◌, ℕ, List, length}
+
+-- where the bytes of a text lie: in the program; in a counted block; in a block that is marked for good
+pub data Kind : Type 0 where
+  literal : Kind
+  block : Kind
+  fixed_block : Kind
+
+-- a shared text, as contracts see it
+pub record TextView : Type 0 where
+  pub text : List ℕ
+  pub kind : Kind
+
+-- the literal of these bytes
+abbrev pub literal_of : List ℕ → TextView
+literal_of bytes = record { text = bytes; kind = literal }
+
+-- the text of these bytes in a counted block
+abbrev pub block_of : List ℕ → TextView
+block_of bytes = record { text = bytes; kind = block }
+
+-- the text of these bytes in a block that is marked for good
+abbrev pub fixed_of : List ℕ → TextView
+fixed_of bytes = record { text = bytes; kind = fixed_block }
+
+-- what making answers for these bytes: the empty literal, or a block
+abbrev pub made_of : List ℕ → TextView
+made_of bytes = record { text = bytes; kind = if length bytes == 0 then literal else block }
+
+-- no call on a text of this kind takes a step on a word
+abbrev pub IsStatic : Kind → Type 0
+IsStatic kind = kind ≢ block
+
+-- where the bytes lie once the text was leaked
+abbrev pub leaked_kind : Kind → Kind
+leaked_kind literal = literal
+leaked_kind block = fixed_block
+leaked_kind fixed_block = fixed_block
+
+-- the same text, leaked
+abbrev pub leaked : TextView → TextView
+leaked view = record { text = view.text; kind = leaked_kind view.kind }
+
+-- the bytes of a text
+abbrev pub text_bytes : TextView → List ℕ
+text_bytes view = view.text

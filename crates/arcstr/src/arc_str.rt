@@ -1,0 +1,211 @@
+//! `ArcStr`: a text that threads share.
+ghost use Rattle.std.specs.Prelude.{◌≡◌, ◌+◌, ◌≤◌, ◌↔◌, [], length, IsTrue, IsSome, IsNone, IfSome};
+ghost use Rattle.arcstr.specs.TextView.{IsStatic, literal_of, fixed_of, block_of, leaked};
+
+use crate::static_str::StaticStr;
+use arcstr_block::{Fixed, Shared};
+use arcstr_count::RC_MAX;
+use std::alloc::Global;
+use std::marker::Model;
+use std::sync::Wait;
+
+mod cow;
+mod json;
+mod making;
+mod order;
+mod printing;
+mod slices;
+#[cfg(test)]
+mod tests;
+#[cfg(test)]
+mod thread_tests;
+
+/// A text that threads share. A contract sees its text and its kind: a literal, a handle on a
+/// counted block, or a block that is marked for good.
+#[derive(Drop)]
+pub struct ArcStr {
+    form: Form,
+}
+
+/// Where the bytes of a text lie.
+#[derive(Drop)]
+enum Form {
+    Literal(&'static str),
+    Block(Shared<RC_MAX, Global>),
+    Fixed(Fixed<Global>),
+}
+
+impl Model for ArcStr {
+    ghost use Rattle.arcstr.specs.TextView.{TextView};
+
+    ghost Value = { TextView };
+
+    ghost use Rattle.arcstr.specs.Forms.{text_view};
+
+    ghost view = { λ shared. text_view shared.form };
+}
+
+/// A living handle on a text, outside the type that drops it. It ends only in `ArcStr::from_raw`.
+pub struct RawArcStr {
+    text: ArcStr,
+}
+
+impl Model for RawArcStr {
+    ghost use Rattle.arcstr.specs.TextView.{TextView};
+
+    ghost Value = { TextView };
+
+    ghost view = { λ raw. raw.text };
+}
+
+impl ArcStr {
+    /// The empty literal. Takes no memory.
+    pub fn new() -> ArcStr
+        ensures { result ≡ literal_of [] }
+    {
+        ArcStr::from_static("")
+    }
+
+    /// A literal of this text. Takes no memory.
+    pub fn from_static(text: &'static str) -> ArcStr
+        ensures { result ≡ literal_of text.now }
+    {
+        ArcStr {
+            form: Form::Literal(text),
+        }
+    }
+
+    /// Another handle on the same text. A block's word is changed by one exchange, tried again where
+    /// the word changed between; of a literal or a fixed block no step is taken.
+    pub fn clone(&self, rt: &impl Wait) -> ArcStr
+        ensures { result ≡ self.now }
+    {
+        let form = match &self.form {
+            Form::Literal(text) => Form::Literal(text),
+            Form::Block(shared) => Form::Block(shared.up(rt)),
+            Form::Fixed(fixed) => Form::Fixed(fixed.again()),
+        };
+        ArcStr { form }
+    }
+
+    /// The text.
+    pub fn as_str(&self) -> &str
+        ensures { result.now ≡ self.now.text }
+    {
+        match &self.form {
+            Form::Literal(text) => text,
+            Form::Block(shared) => shared.as_str(),
+            Form::Fixed(fixed) => fixed.as_str(),
+        }
+    }
+
+    /// The number of bytes of the text.
+    pub fn len(&self) -> usize
+        ensures { result ≡ length self.now.text }
+    {
+        self.as_str().len()
+    }
+
+    /// Whether the text has no bytes.
+    pub fn is_empty(&self) -> bool
+        ensures { IsTrue result ↔ (self.now.text ≡ []) }
+    {
+        self.as_str().is_empty()
+    }
+
+    /// The bytes of the text.
+    pub fn as_bytes(&self) -> &[u8]
+        ensures { result.now ≡ self.now.text }
+    {
+        self.as_str().as_bytes()
+    }
+
+    /// The number of handles on the text's block at the moment of one load of its word, where the
+    /// block was not marked. None for a literal and for a fixed block.
+    pub fn strong_count(this: &ArcStr) -> Option<usize>
+        ensures counted { IfSome result (λ count. (1 ≤ count) × (count ≤ RC_MAX + 1)) }
+        ensures never_static { IsStatic this.now.kind → IsNone result }
+    {
+        match &this.form {
+            Form::Block(shared) => shared.look().0.map(|count| count as usize),
+            Form::Literal(_) | Form::Fixed(_) => None,
+        }
+    }
+
+    /// Whether the text lies where it is never given back: always for a literal and a fixed block;
+    /// for another block exactly where one load of its word found the mark.
+    pub fn is_static(this: &ArcStr) -> bool
+        ensures { IsStatic this.now.kind → IsTrue result }
+    {
+        match &this.form {
+            Form::Block(shared) => shared.fixed().0.is_some(),
+            Form::Literal(_) | Form::Fixed(_) => true,
+        }
+    }
+
+    /// The same text for good. A block is marked by one step on its word.
+    pub fn leak(&self) -> StaticStr
+        ensures { result ≡ leaked self.now }
+    {
+        match &self.form {
+            Form::Literal(text) => StaticStr::from_literal(text),
+            Form::Block(shared) => StaticStr::from_fixed(shared.mark()),
+            Form::Fixed(fixed) => StaticStr::from_fixed(fixed.again()),
+        }
+    }
+
+    /// The same text for good, where it lies so already: always for a literal and a fixed block; for
+    /// another block exactly where one load of its word found the mark.
+    pub fn as_static(this: &ArcStr) -> Option<StaticStr>
+        ensures same { IfSome result (λ kept. kept ≡ leaked this.now) }
+        ensures always_static { IsStatic this.now.kind → IsSome result }
+    {
+        match &this.form {
+            Form::Literal(text) => Some(StaticStr::from_literal(text)),
+            Form::Block(shared) => shared.fixed().0.map(StaticStr::from_fixed),
+            Form::Fixed(fixed) => Some(StaticStr::from_fixed(fixed.again())),
+        }
+    }
+
+    /// The handle as a raw value, which lives on. No step is taken.
+    pub fn into_raw(this: ArcStr) -> RawArcStr
+        ensures { result ≡ this }
+    {
+        RawArcStr { text: this }
+    }
+
+    /// The handle that the raw value was made from. No step is taken.
+    pub fn from_raw(raw: RawArcStr) -> ArcStr
+        ensures { result ≡ raw }
+    {
+        let RawArcStr { text } = raw;
+        text
+    }
+
+    fn from_shared(shared: Shared<RC_MAX, Global>) -> ArcStr
+        ensures { result ≡ block_of shared.text }
+    {
+        ArcStr {
+            form: Form::Block(shared),
+        }
+    }
+
+    pub(crate) fn from_fixed(fixed: Fixed<Global>) -> ArcStr
+        ensures { result ≡ fixed_of fixed }
+    {
+        ArcStr {
+            form: Form::Fixed(fixed),
+        }
+    }
+}
+
+impl Default for ArcStr {
+    ghost use Rattle.std.specs.Prelude.{[]};
+    ghost use Rattle.arcstr.specs.TextView.{literal_of};
+
+    ghost is_default = { λ text. text ≡ literal_of [] };
+
+    fn default() -> ArcStr {
+        ArcStr::new()
+    }
+}

@@ -1,0 +1,39 @@
+//! Run with each allocation refused in turn: each call answers the whole text, or that there was no memory.
+use crate::{ArcStr, TextFault, format_arcstr};
+use std::process::Abort;
+
+fn is_whole_or_refused(rt: &impl Abort, made: Result<ArcStr, TextFault>, text: &str) {
+    match made {
+        Ok(made) => assert_eq!(rt; made.as_str(), text),
+        Err(fault) => assert_eq!(rt; fault, TextFault::Memory),
+    }
+}
+
+#[test]
+fn a_refused_copy_answers_memory(rt: HostRuntime) {
+    is_whole_or_refused(&rt, ArcStr::from_str(rt.alloc(), "foobar"), "foobar");
+    is_whole_or_refused(&rt, ArcStr::try_alloc(rt.alloc(), "foobar"), "foobar");
+    is_whole_or_refused(&rt, ArcStr::from_utf8(rt.alloc(), b"foobar"), "foobar");
+}
+
+#[test]
+fn a_refused_repetition_answers_memory(rt: HostRuntime) {
+    is_whole_or_refused(&rt, ArcStr::try_repeat(rt.alloc(), "ab", 3), "ababab");
+    is_whole_or_refused(&rt, ArcStr::repeat(rt.alloc(), "ab", 3), "ababab");
+    is_whole_or_refused(&rt, format_arcstr!(rt.alloc(); "cool {}", 123), "cool 123");
+}
+
+#[test]
+fn an_empty_text_is_never_refused(rt: HostRuntime) {
+    assert!(rt; ArcStr::from_str(rt.alloc(), "").is_ok());
+    assert!(rt; ArcStr::init_with(rt.alloc(), 0, |_| {}).is_ok());
+    assert!(rt; ArcStr::try_repeat(rt.alloc(), "ab", 0).is_ok());
+}
+
+#[test]
+fn a_closure_is_run_only_where_the_memory_is_there(rt: HostRuntime) {
+    let mut ran = false;
+    let made = ArcStr::init_with(rt.alloc(), 3, |_| ran = true);
+    assert_eq!(rt; made.is_ok(), ran);
+    is_whole_or_refused(&rt, made, "\0\0\0");
+}

@@ -1,0 +1,38 @@
+//! What `ArcStr` prints as: its text, as Rust prints a `str`.
+ghost use Rattle.std.specs.Prelude.{◌≡◌, Some, IfOk, string_bytes};
+ghost use Rattle.std.specs.Fmt.{debug_str, styled_text};
+
+use crate::arc_str::ArcStr;
+use std::alloc::{AllocError, Global};
+use std::fmt;
+
+#[cfg(test)]
+mod tests;
+
+impl ArcStr {
+    /// A copy of the text, with one request for memory where it is not empty.
+    pub fn to_string(&self, alloc: Global) -> Result<String, AllocError>
+        ensures { IfOk result (λ copy. string_bytes copy ≡ self.now.text) }
+    {
+        String::from_str(alloc, self.as_str())
+    }
+}
+
+impl fmt::Display for ArcStr {
+    ghost output = { λ shared. Some shared.text };
+
+    ghost styled_output = { λ shared spec. Some (styled_text spec shared.text) };
+
+    fn fmt<W: fmt::Write>(&self, f: &mut fmt::Formatter<W>) -> fmt::Result {
+        f.pad(self.as_str())
+    }
+}
+
+impl fmt::Debug for ArcStr {
+    ghost debug_output = { λ shared. debug_str shared.text };
+
+    fn fmt<W: fmt::Write>(&self, f: &mut fmt::Formatter<W>) -> fmt::Result {
+        let text = self.as_str();
+        fmt::Debug::fmt(&text, f)
+    }
+}

@@ -1,0 +1,55 @@
+//! Texts as JSON values, and why a value is not read as a text.
+ghost use Rattle.std.specs.Prelude.{◌≡◌, Some};
+
+use std::error::Error;
+use std::fmt;
+
+#[cfg(test)]
+mod tests;
+
+/// Why a JSON value is not read as a text. The tests come in the order `NotText`, `Length`, `TooFar`,
+/// `Memory`.
+#[derive(Clone, Copy, Debug, PartialEq, Eq, Hash)]
+pub enum JsonFault {
+    /// The value is not a string.
+    NotText,
+    /// The text is too long for a block.
+    Length,
+    /// There was no memory.
+    Memory,
+    /// The text is too long for the places of a slice.
+    TooFar,
+}
+
+impl JsonFault {
+    ghost use Rattle.arcstr.specs.JsonFault.{number_of};
+
+    /// The number of the fault.
+    pub fn number(&self) -> u8
+        ensures { result ≡ number_of self.now }
+    {
+        match self {
+            JsonFault::NotText => 1,
+            JsonFault::Length => 2,
+            JsonFault::Memory => 3,
+            JsonFault::TooFar => 4,
+        }
+    }
+}
+
+impl fmt::Display for JsonFault {
+    ghost use Rattle.arcstr.specs.JsonFault.{text_of};
+
+    ghost output = { λ fault. Some (text_of fault) };
+
+    fn fmt<W: fmt::Write>(&self, f: &mut fmt::Formatter<W>) -> fmt::Result {
+        f.write_str(match self {
+            JsonFault::NotText => "value is not a text",
+            JsonFault::Length => "text is too long",
+            JsonFault::Memory => "out of memory",
+            JsonFault::TooFar => "text is too long for 32-bit places",
+        })
+    }
+}
+
+impl Error for JsonFault {}

@@ -1,0 +1,20 @@
+//! Texts that threads share: literals, counted blocks, and blocks that are marked for good.
+#![tactic(auto)]
+
+pub use arc_str::{ArcStr, RawArcStr};
+pub use arcstr_block as block;
+pub use arcstr_block::TextFault;
+pub use arcstr_count as count;
+pub use arcstr_range::{range, view};
+pub use json::JsonFault;
+pub use static_str::StaticStr;
+pub use substr::Substr;
+
+mod arc_str;
+mod json;
+mod mac;
+#[cfg(test)]
+mod refusal_tests;
+mod static_str;
+mod substr;
+mod text_order;

@@ -1,0 +1,33 @@
+//! The macros of the crate.
+
+#[cfg(test)]
+mod tests;
+
+/// A literal `ArcStr` of a constant text. Takes no memory.
+#[macro_export]
+macro_rules! literal {
+    ($text:expr $(,)?) => {
+        $crate::ArcStr::from_static($text)
+    };
+}
+
+/// What `format!` prints, as an `ArcStr`: `format_arcstr!(alloc; "cool {}", 123)`.
+/// Refused: want of memory while the text is built; then as `ArcStr::from_str`.
+#[macro_export]
+macro_rules! format_arcstr {
+    ($alloc:expr; $($arguments:tt)+) => {{
+        let alloc = $alloc;
+        match format!(in alloc; $($arguments)+) {
+            Ok(text) => $crate::ArcStr::from_str(alloc, text.as_str()),
+            Err(_) => Err($crate::TextFault::Memory),
+        }
+    }};
+}
+
+/// A literal `Substr` of a constant text of at most `MAX_PLACE` bytes. Takes no memory.
+#[macro_export]
+macro_rules! literal_substr {
+    ($text:expr $(,)?) => {
+        $crate::Substr::from_static($text)
+    };
+}

@@ -1,0 +1,52 @@
+//! What the macro of printed values makes, stated and run.
+ghost use Rattle.std.specs.Prelude.{◌≡◌, ◌++◌, IfOk, codes, encode_utf8, if◌then◌else◌};
+ghost use Rattle.std.specs.Fmt.{decimal};
+ghost use Rattle.arcstr.specs.TextView.{made_of};
+
+use crate::{ArcStr, TextFault, format_arcstr};
+use std::alloc::Global;
+use std::test::Fail;
+
+fn printed_number(alloc: Global, number: u64) -> Result<ArcStr, TextFault>
+    ensures { IfOk result (λ made. made ≡ made_of (codes "cool " ++ decimal number)) }
+{
+    format_arcstr!(alloc; "cool {}", number)
+}
+
+fn printed_truth(alloc: Global, truth: bool) -> Result<ArcStr, TextFault>
+    ensures { IfOk result (λ made. made ≡ made_of (if truth then codes "true" else codes "false")) }
+{
+    format_arcstr!(alloc; "{truth}")
+}
+
+fn printed_character(alloc: Global, character: char) -> Result<ArcStr, TextFault>
+    ensures { IfOk result (λ made. made ≡ made_of (encode_utf8 character)) }
+{
+    format_arcstr!(alloc; "{character}")
+}
+
+fn printed_text(alloc: Global, text: &str) -> Result<ArcStr, TextFault>
+    ensures { IfOk result (λ made. made ≡ made_of (text.now ++ codes "!")) }
+{
+    format_arcstr!(alloc; "{text}!")
+}
+
+#[test]
+fn values_are_printed(rt: HostRuntime) -> Result<(), Fail> {
+    assert_eq!(rt; printed_number(rt.alloc(), 123)?.as_str(), "cool 123");
+    assert_eq!(rt; printed_truth(rt.alloc(), true)?.as_str(), "true");
+    assert_eq!(rt; printed_character(rt.alloc(), 'é')?.as_str(), "é");
+    assert_eq!(rt; printed_text(rt.alloc(), "foo")?.as_str(), "foo!");
+    Ok(())
+}
+
+#[test]
+fn printing_makes_a_block_or_the_empty_literal(rt: HostRuntime) -> Result<(), Fail> {
+    let text = format_arcstr!(rt.alloc(); "cool {}", 123)?;
+    assert_eq!(rt; text.as_str(), "cool 123");
+    assert!(rt; ArcStr::as_static(&text).is_none());
+    let nothing = format_arcstr!(rt.alloc(); "")?;
+    assert!(rt; nothing.is_empty());
+    assert!(rt; ArcStr::as_static(&nothing).is_some());
+    Ok(())
+}

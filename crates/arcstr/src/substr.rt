@@ -1,0 +1,184 @@
+//! `Substr`: a slice of a shared text, which keeps its parent.
+ghost use Rattle.std.specs.Prelude.{◌≡◌, ◌↔◌, ◌≤◌, ◌<◌, [], length, Ok, IsTrue, IsErr, IsErrOf, IfOk, IfErr};
+ghost use Rattle.arcstr.specs.Making.{IsTooLong};
+ghost use Rattle.arcstr_range.specs.Ends.{IsLawful};
+ghost use Rattle.arcstr_range.specs.Text.{SpellsBetween};
+ghost use Rattle.arcstr.specs.TextView.{literal_of, made_of};
+ghost use Rattle.arcstr.specs.Substr.{IsFaultOfMakingSlice, IsSoundSlice, IsTooFar, empty_slice, slice_of, text_of, whole_of};
+
+use crate::arc_str::ArcStr;
+use arcstr_block::TextFault;
+use arcstr_range::range::MAX_PLACE;
+use std::alloc::Global;
+use std::marker::Model;
+use std::ops::Range;
+use std::sync::Wait;
+
+mod cow;
+mod json;
+mod order;
+mod printing;
+mod slices;
+#[cfg(test)]
+pub(crate) mod tests;
+#[cfg(test)]
+mod thread_tests;
+
+/// From this many bytes on, `2^63 - 25`, a text is too long for an `ArcStr`.
+const TOO_LONG: usize = 9_223_372_036_854_775_783;
+
+/// A slice of a shared text. It keeps its parent, and so the parent's text, as long as it lives. A
+/// contract sees the parent, and the two places in bytes of the parent's text between which the slice
+/// lies. These are in order, at most the parent's length and `MAX_PLACE`, and at boundaries.
+#[derive(Drop)]
+pub struct Substr {
+    parent: ArcStr,
+    start: u32,
+    end: u32,
+}
+
+impl Model for Substr {
+    ghost use Rattle.arcstr.specs.Substr.{SubstrView, IsSoundSlice, slice_of};
+
+    ghost Value = { SubstrView };
+
+    ghost view = { λ fields. slice_of fields.parent fields.start fields.end };
+
+    ghost invariant = { λ fields. IsSoundSlice (slice_of fields.parent fields.start fields.end) };
+}
+
+impl Substr {
+    /// The slice of nothing: of the empty literal, from 0 to 0. Takes no memory.
+    pub fn new() -> Substr
+        ensures { result ≡ empty_slice }
+    {
+        Substr::from_static("")
+    }
+
+    /// A copy of this text in a block, with one request for memory, as a slice of itself; of the
+    /// empty literal where it is empty. Refused, in this order: a text that is too long for a block
+    /// (`Length`), one that has more than `MAX_PLACE` bytes (`TooFar`), and want of memory (`Memory`).
+    pub fn from_str(alloc: Global, text: &str) -> Result<Substr, TextFault>
+        ensures made { IfOk result (λ slice. slice ≡ whole_of (made_of text.now)) }
+        ensures empty { text.now ≡ [] → result ≡ Ok empty_slice }
+        ensures too_long { IsErrOf result TextFault.Length ↔ IsTooLong (length text.now) }
+        ensures too_far { IsErrOf result TextFault.TooFar
+            ↔ (IsTooFar (length text.now) × ¬ (IsTooLong (length text.now))) }
+        ensures refused { IfErr result (IsFaultOfMakingSlice (length text.now)) }
+    {
+        if text.len() > MAX_PLACE && text.len() < TOO_LONG {
+            return Err(TextFault::TooFar);
+        }
+        let parent = ArcStr::from_str(alloc, text)?;
+        Ok(Substr::whole(parent))
+    }
+
+    /// A literal of this text, as a slice of itself. Takes no memory.
+    pub fn from_static(text: &'static str) -> Substr
+        requires { length text.now ≤ MAX_PLACE }
+        ensures { result ≡ whole_of (literal_of text.now) }
+    {
+        Substr::whole(ArcStr::from_static(text))
+    }
+
+    /// The slice of a shared text that is all of it. A text of more than `MAX_PLACE` bytes comes back.
+    /// Takes no memory, and no step is taken.
+    pub fn full(parent: ArcStr) -> Result<Substr, ArcStr>
+        ensures whole { IfOk result (λ slice. slice ≡ whole_of parent) }
+        ensures refused { IsErr result ↔ (MAX_PLACE < length parent.text) }
+        ensures back { IfErr result (λ text. text ≡ parent) }
+    {
+        if parent.len() > MAX_PLACE {
+            return Err(parent);
+        }
+        Ok(Substr::whole(parent))
+    }
+
+    fn whole(parent: ArcStr) -> Substr
+        requires { length parent.text ≤ MAX_PLACE }
+        ensures { result ≡ whole_of parent }
+    {
+        let end = parent.as_str().len();
+        Substr::from_parts_unchecked(parent, 0..end)
+    }
+
+    /// The slice of a shared text between two places, which are lawful in it. Takes no memory, and no
+    /// step is taken.
+    pub fn from_parts_unchecked(parent: ArcStr, range: Range<usize>) -> Substr
+        requires { IsLawful parent.text range.start range.end }
+        ensures { result ≡ slice_of parent range.start range.end }
+    {
+        Substr {
+            parent,
+            start: range.start as u32,
+            end: range.end as u32,
+        }
+    }
+
+    /// The text that the slice keeps.
+    pub fn parent(&self) -> &ArcStr
+        ensures { result.now ≡ self.now.parent }
+    {
+        &self.parent
+    }
+
+    /// The places of the slice in its parent's text, which are lawful in it.
+    pub fn range(&self) -> Range<usize>
+        ensures start { result.start ≡ self.now.start }
+        ensures end { result.end ≡ self.now.end }
+        ensures lawful { IsSoundSlice self.now }
+    {
+        self.start as usize..self.end as usize
+    }
+
+    /// Another slice at the same places of the same parent, whose handle is cloned.
+    pub fn clone(&self, rt: &impl Wait) -> Substr
+        ensures { result ≡ self.now }
+    {
+        Substr {
+            parent: self.parent.clone(rt),
+            start: self.start,
+            end: self.end,
+        }
+    }
+
+    /// The slice's own text: the parent's characters between the two places.
+    pub fn as_str(&self) -> &str
+        ensures text { result.now ≡ text_of self.now }
+        ensures characters { SpellsBetween self.now.parent.text self.now.start self.now.end result.now }
+    {
+        let range = self.range();
+        &self.parent.as_str()[range.start..range.end]
+    }
+
+    /// The number of bytes of the slice's own text.
+    pub fn len(&self) -> usize
+        ensures { result ≡ length (text_of self.now) }
+    {
+        (self.end - self.start) as usize
+    }
+
+    /// Whether the slice's own text has no bytes.
+    pub fn is_empty(&self) -> bool
+        ensures { IsTrue result ↔ (text_of self.now ≡ []) }
+    {
+        self.start == self.end
+    }
+
+    /// The bytes of the slice's own text.
+    pub fn as_bytes(&self) -> &[u8]
+        ensures { result.now ≡ text_of self.now }
+    {
+        self.as_str().as_bytes()
+    }
+}
+
+impl Default for Substr {
+    ghost use Rattle.arcstr.specs.Substr.{empty_slice};
+
+    ghost is_default = { λ slice. slice ≡ empty_slice };
+
+    fn default() -> Substr {
+        Substr::new()
+    }
+}

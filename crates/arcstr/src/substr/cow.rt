@@ -1,0 +1,49 @@
+//! `Substr` as a text that is borrowed or owned.
+ghost use Rattle.std.specs.Prelude.{◌≡◌, ◌↔◌, IsOk, IsSome, IfErr, IfOk, IfSome};
+ghost use Rattle.std.specs.Cow.{IsBorrowedStr, cow_str_bytes};
+ghost use Rattle.arcstr.specs.Substr.{text_of};
+ghost use Rattle.arcstr.specs.TextView.{literal};
+
+use crate::substr::Substr;
+use std::alloc::Global;
+use std::borrow::CowStr;
+
+#[cfg(test)]
+mod tests;
+
+impl Substr {
+    /// The slice's own text, borrowed.
+    pub fn to_cow(&self) -> CowStr<'_>
+        ensures text { cow_str_bytes result ≡ text_of self.now }
+        ensures borrowed { IsBorrowedStr result }
+    {
+        CowStr::Borrowed(self.as_str())
+    }
+
+    /// The slice's own text without its parent: of a literal's slice it is borrowed, of any other it is
+    /// copied, with one request for memory. For want of memory the slice itself comes back.
+    pub fn into_cow(self, alloc: Global) -> Result<CowStr<'static>, Substr>
+        ensures text { IfOk result (λ cow. cow_str_bytes cow ≡ text_of self) }
+        ensures borrowed { IfOk result (λ cow. IsBorrowedStr cow ↔ (self.parent.kind ≡ literal)) }
+        ensures of_literal { self.parent.kind ≡ literal → IsOk result }
+        ensures back { IfErr result (λ slice. slice ≡ self) }
+    {
+        if let Some(text) = self.literal_text() {
+            return Ok(CowStr::Borrowed(text));
+        }
+        match self.to_string(alloc) {
+            Ok(copy) => Ok(CowStr::Owned(copy)),
+            Err(_) => Err(self),
+        }
+    }
+
+    /// The slice's own text as the program has it, exactly where its parent is a literal.
+    fn literal_text(&self) -> Option<&'static str>
+        ensures exactly { IsSome result ↔ (self.now.parent.kind ≡ literal) }
+        ensures same { IfSome result (λ text. text.now ≡ text_of self.now) }
+    {
+        let places = self.range();
+        let whole = self.parent().literal_text()?;
+        Some(&whole[places.start..places.end])
+    }
+}

@@ -1,0 +1,39 @@
+//! What `Substr` prints as: its own text, as Rust prints a `str`.
+ghost use Rattle.std.specs.Prelude.{◌≡◌, Some, IfOk, string_bytes};
+ghost use Rattle.std.specs.Fmt.{debug_str, styled_text};
+ghost use Rattle.arcstr.specs.Substr.{text_of};
+
+use crate::substr::Substr;
+use std::alloc::{AllocError, Global};
+use std::fmt;
+
+#[cfg(test)]
+mod tests;
+
+impl Substr {
+    /// A copy of the slice's own text, with one request for memory where it is not empty.
+    pub fn to_string(&self, alloc: Global) -> Result<String, AllocError>
+        ensures { IfOk result (λ copy. string_bytes copy ≡ text_of self.now) }
+    {
+        String::from_str(alloc, self.as_str())
+    }
+}
+
+impl fmt::Display for Substr {
+    ghost output = { λ slice. Some (text_of slice) };
+
+    ghost styled_output = { λ slice spec. Some (styled_text spec (text_of slice)) };
+
+    fn fmt<W: fmt::Write>(&self, f: &mut fmt::Formatter<W>) -> fmt::Result {
+        f.pad(self.as_str())
+    }
+}
+
+impl fmt::Debug for Substr {
+    ghost debug_output = { λ slice. debug_str (text_of slice) };
+
+    fn fmt<W: fmt::Write>(&self, f: &mut fmt::Formatter<W>) -> fmt::Result {
+        let text = self.as_str();
+        fmt::Debug::fmt(&text, f)
+    }
+}

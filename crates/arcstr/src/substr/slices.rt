@@ -1,0 +1,110 @@
+//! The slices of a `Substr`, at places of its own text. Each keeps the parent of the slice that it is of.
+ghost use Rattle.std.specs.Prelude.{◌↔◌, ℕ, IsSome, IfSome};
+ghost use Rattle.std.specs.Fn.{FnOnceReturnsAt, FnOnceTakesAt};
+ghost use Rattle.std.specs.Option.{option_copied};
+ghost use Rattle.std.specs.declared.ops.Range.{Range};
+ghost use Rattle.arcstr_range.specs.declared.range.StrRange.{StrRange};
+ghost use Rattle.arcstr_range.specs.View.{IsFoundAt};
+ghost use Rattle.arcstr.specs.Slicing.{AnswersFoundRange, AnswersGet, AnswersRange, IsSliceOfView};
+ghost use Rattle.arcstr.specs.Substr.{slice_within, text_of};
+
+use crate::substr::Substr;
+use arcstr_range::range::{RangeFault, StrRange, inner_ends, slice};
+use arcstr_range::view::StrView;
+use std::ops::Range;
+use std::sync::Wait;
+
+impl Substr {
+    /// The part of the slice's own text in the range, as Rust's `str::get`: `None` where the ends are out
+    /// of order, past that text or inside a character.
+    pub fn get<R: Into<StrRange>>(&self, range: R) -> Option<&str>
+        ensures { (given : StrRange) × R.converts range given
+            × AnswersGet (text_of self.now) given (option_copied result) }
+    {
+        slice(self.as_str(), range.into())
+    }
+
+    /// The slice of the same parent in the range, which is measured in the slice's own text, also where it
+    /// is empty. Takes no memory; the parent's handle is cloned.
+    ///
+    /// Refuses the first that fails: the start is at most the end (`OutOfOrder`), the end at most the
+    /// length of the slice's own text (`PastEnd`), and both are boundaries of it (`OffBoundary`).
+    pub fn substr<R: Into<StrRange>>(&self, rt: &impl Wait, range: R) -> Result<Substr, RangeFault>
+        ensures { (given : StrRange) × R.converts range given
+            × AnswersRange (text_of self.now) (slice_within self.now) given result }
+    {
+        self.slice_in(rt, range.into())
+    }
+
+    fn slice_in(&self, rt: &impl Wait, range: StrRange) -> Result<Substr, RangeFault>
+        ensures { AnswersRange (text_of self.now) (slice_within self.now) range result }
+    {
+        let (start, end) = inner_ends(self.parent().as_str(), self.range(), range)?;
+        Ok(Substr::from_parts_unchecked(self.parent().clone(rt), start..end))
+    }
+
+    /// The slice of the same parent that a view of the slice's own text shows. `None` exactly where that
+    /// text doesn't have the view's text at the view's place. An empty view is found everywhere, and
+    /// gives `Substr::new()`.
+    pub fn try_substr_from(&self, rt: &impl Wait, view: StrView<'_>) -> Option<Substr>
+        ensures found { IsSome result ↔ IsFoundAt (text_of self.now) view.entry.text view.entry.place }
+        ensures value { IfSome result (IsSliceOfView (slice_within self.now) view.entry) }
+    {
+        if !view.is_found_in(self.as_str()) {
+            return None;
+        }
+        Some(self.substr_from(rt, view))
+    }
+
+    /// The slice of the same parent that a view of the slice's own text shows, where `try_substr_from` has
+    /// one.
+    pub fn substr_from(&self, rt: &impl Wait, view: StrView<'_>) -> Substr
+        requires { IsFoundAt (text_of self.now) view.text view.place }
+        ensures { IsSliceOfView (slice_within self.now) view.entry result }
+    {
+        if view.text().is_empty() {
+            return Substr::new();
+        }
+        let start = self.range().start;
+        let found = view.range();
+        Substr::from_parts_unchecked(
+            self.parent().clone(rt),
+            start + found.start..start + found.end,
+        )
+    }
+
+    /// The slice of the same parent between the places that the closure finds in the slice's own text. The
+    /// closure is called once, first. Equal places give `Substr::new()` wherever they lie, and others
+    /// what `substr` answers.
+    pub fn substr_using<F: FnOnce(&str) -> Range<usize>>(
+        &self,
+        rt: &impl Wait,
+        find: F,
+    ) -> Result<Substr, RangeFault>
+        requires { FnOnceTakesAt F.FnOnce find (text_of self.now) }
+        ensures { (found : Range ℕ) × FnOnceReturnsAt F.FnOnce find (text_of self.now) found
+            × AnswersFoundRange (text_of self.now) (slice_within self.now) found result }
+    {
+        let found = find(self.as_str());
+        if found.start == found.end {
+            return Ok(Substr::new());
+        }
+        self.substr(rt, found)
+    }
+
+    /// The same as `substr_using`.
+    pub fn try_substr_using<F: FnOnce(&str) -> Range<usize>>(
+        &self,
+        rt: &impl Wait,
+        find: F,
+    ) -> Result<Substr, RangeFault>
+        requires { FnOnceTakesAt F.FnOnce find (text_of self.now) }
+        ensures { (found : Range ℕ) × FnOnceReturnsAt F.FnOnce find (text_of self.now) found
+            × AnswersFoundRange (text_of self.now) (slice_within self.now) found result }
+    {
+        self.substr_using(rt, find)
+    }
+}
+
+#[cfg(test)]
+mod tests;

@@ -1,0 +1,5 @@
+use Rattle.arcstr_block.proofs.shared.Shared.placed.Given as goal
+
+-- the limit of the block is that of the handle
+abbrev pub ghost-make : goal.ghost-make
+ghost-make g a = g.row.LIMIT

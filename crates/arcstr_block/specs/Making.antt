@@ -1,0 +1,21 @@
+-- When a text is refused.
+use Rattle.std.specs.Prelude.{◌≡◌, ◌≤◌, ◌⊎◌, ℕ, List, length, IsUtf8}
+use Rattle.std.specs.Str.Lossy.{utf8_valid_len}
+use Rattle.arcstr_block.specs.declared.fault.TextFault.{TextFault}
+use Rattle.arcstr_block.specs.declared.fault.TextFault.TheVariants.{Length, Memory, Utf8}
+
+-- a text of n bytes is too long for a block: it has 2^63 - 25 bytes or more
+abbrev pub IsTooLong : ℕ → Type 0
+IsTooLong n = 9223372036854775783 ≤ n
+
+-- a text of n bytes is refused for its length where it is too long, and else for want of memory alone
+abbrev pub IsFaultOfMaking : ℕ → TextFault → Type 0
+IsFaultOfMaking n fault = ((fault ≡ Length) × IsTooLong n) ⊎ (fault ≡ Memory)
+
+-- the place up to which these bytes are a text, where they are none
+abbrev pub IsFaultOfBytes : List ℕ → TextFault → Type 0
+IsFaultOfBytes bytes fault = (¬ IsUtf8 bytes) × (fault ≡ Utf8 (utf8_valid_len bytes))
+
+-- n bytes are refused before they are filled, or for what the closure left in them
+abbrev pub IsFaultOfFilling : (List ℕ → Type 0) → ℕ → TextFault → Type 0
+IsFaultOfFilling Leaves n fault = IsFaultOfMaking n fault ⊎ ((bytes : List ℕ) × Leaves bytes × (length bytes ≡ n) × IsFaultOfBytes bytes fault)

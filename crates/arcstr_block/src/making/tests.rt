@@ -1,0 +1,38 @@
+use crate::{Shared, TextFault};
+use std::test::Fail;
+
+#[test]
+fn a_block_is_filled_by_a_closure(rt: HostRuntime) -> Result<(), Fail> {
+    let made = Shared::<5, _>::init(rt.alloc(), 1, |bytes| {
+        for byte in bytes.iter_mut() {
+            *byte = b'a';
+        }
+    })?;
+    assert_eq!(rt; made.as_str(), "a");
+    let empty = Shared::<5, _>::init(rt.alloc(), 0, |_| {})?;
+    assert_eq!(rt; empty.look().0, Some(1));
+    Ok(())
+}
+
+#[test]
+fn a_block_is_filled_with_copies(rt: HostRuntime) -> Result<(), Fail> {
+    assert_eq!(rt;
+        Shared::<5, _>::repeat(rt.alloc(), "ab", 2)?.as_str(),
+        "abab"
+    );
+    assert_eq!(rt;
+        Shared::<5, _>::repeat(rt.alloc(), "", 2)?.look().0,
+        Some(1)
+    );
+    Ok(())
+}
+
+#[test]
+fn bytes_that_are_no_text_are_refused(rt: HostRuntime) {
+    let made = Shared::<5, _>::init(rt.alloc(), 3, |bytes| {
+        if let Some(byte) = bytes.get_mut(2) {
+            *byte = 255;
+        }
+    });
+    assert!(rt; matches!(made, Err(TextFault::Utf8(2))));
+}

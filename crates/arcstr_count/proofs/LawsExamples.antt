@@ -1,0 +1,48 @@
+-- Worked examples on words and on the handles of a block, checked by computation.
+use Rattle.std.proofs.Common.{◌≡◌, ℕ, true, false, List, [], ◌∷◌, refl}
+use Rattle.arcstr_count.specs.declared.steps.Step.{Step}
+use Rattle.arcstr_count.specs.declared.steps.Step.TheVariants.{Make, Clone, Begin, Sub, Back, Leak, IntoRaw}
+use Rattle.arcstr_count.specs.Word.{FlagAndCount}
+use Rattle.arcstr_count.specs.After.{living_after, dropping_after, owing_after, given_after, word_after}
+
+-- what a history leaves of block 0: its word, and the handles on it that live, are dropping and owe it
+abbrev Leaves : ℕ → List Step → FlagAndCount → (living dropping owing : List ℕ) → (given : ℕ) → Type 0
+Leaves limit history w living dropping owing given =
+    (word_after limit history 0 ≡ w)
+    × (living_after limit history 0 ≡ living)
+    × (dropping_after limit history 0 ≡ dropping)
+    × (owing_after limit history 0 ≡ owing)
+    × (given_after limit history 0 ≡ given)
+
+-- a mark between another drop's look and its subtraction, which takes from the marked word
+crossing_mark-before : Leaves 5 (Make ∷ Clone 0 ∷ Begin 0 ∷ Leak 1 ∷ []) (record { flag = true; count = 2 }) (0 ∷ 1 ∷ []) (0 ∷ []) [] 0
+crossing_mark-before = (refl, refl, refl, refl, refl)
+
+crossing_mark-after : Leaves 5 (Make ∷ Clone 0 ∷ Begin 0 ∷ Leak 1 ∷ Sub 0 ∷ []) (record { flag = true; count = 1 }) (1 ∷ []) [] [] 0
+crossing_mark-after = (refl, refl, refl, refl, refl)
+
+-- a drop on a marked block ends at once, and the count of the word is then the number of nothing
+crossing_mark-ended : Leaves 5 (Make ∷ Clone 0 ∷ Begin 0 ∷ Leak 1 ∷ Sub 0 ∷ Begin 1 ∷ []) (record { flag = true; count = 1 }) [] [] [] 0
+crossing_mark-ended = (refl, refl, refl, refl, refl)
+
+-- clones past the limit mark, and count no further
+past_the_limit : Leaves 1 (Make ∷ Clone 0 ∷ Clone 0 ∷ Clone 0 ∷ []) (record { flag = true; count = 2 }) (0 ∷ 1 ∷ 2 ∷ 3 ∷ []) [] [] 0
+past_the_limit = (refl, refl, refl, refl, refl)
+
+-- two drops that cross: the one that subtracts last owes, and then gives back
+crossing_drops-both : Leaves 5 (Make ∷ Clone 0 ∷ Begin 0 ∷ Begin 1 ∷ []) (record { flag = false; count = 2 }) (0 ∷ 1 ∷ []) (0 ∷ 1 ∷ []) [] 0
+crossing_drops-both = (refl, refl, refl, refl, refl)
+
+crossing_drops-owed : Leaves 5 (Make ∷ Clone 0 ∷ Begin 0 ∷ Begin 1 ∷ Sub 1 ∷ Sub 0 ∷ []) (record { flag = false; count = 0 }) [] [] (0 ∷ []) 0
+crossing_drops-owed = (refl, refl, refl, refl, refl)
+
+crossing_drops-given : Leaves 5 (Make ∷ Clone 0 ∷ Begin 0 ∷ Begin 1 ∷ Sub 1 ∷ Sub 0 ∷ Back 0 ∷ []) (record { flag = false; count = 0 }) [] [] [] 1
+crossing_drops-given = (refl, refl, refl, refl, refl)
+
+-- a raw value lives and counts
+raw_value : Leaves 5 (Make ∷ Clone 0 ∷ IntoRaw 1 ∷ Begin 0 ∷ Sub 0 ∷ []) (record { flag = false; count = 1 }) (1 ∷ []) [] [] 0
+raw_value = (refl, refl, refl, refl, refl)
+
+-- limit 0: the one clone marks, and the block is never given back
+limit_zero : Leaves 0 (Make ∷ Clone 0 ∷ Begin 0 ∷ Begin 1 ∷ []) (record { flag = true; count = 1 }) [] [] [] 0
+limit_zero = (refl, refl, refl, refl, refl)

@@ -1,0 +1,347 @@
+-- Each accepted step: what the world's tables become when it is taken.
+use Rattle.std.proofs.Common.{◌≡◌, ℕ, ◌<◌, Bool, true, false, not, ◌&&◌, if◌then◌else◌, None, Some, List, [], ◌∷◌, ◌++◌, length, get_or, set, map, is_none, refl, sym, ◌∙◌, ap, subst}
+use Rattle.std.proofs.Math.Logic.{∥∥₁_elim}
+use Rattle.std.proofs.Props.{props}
+use Rattle.arcstr_count.specs.declared.steps.Step.{Step}
+use Rattle.arcstr_count.specs.declared.steps.Step.TheVariants.{Make, Look, Clone, Begin, Sub, Back, Leak, IntoRaw, FromRaw}
+use Rattle.arcstr_count.specs.declared.steps.HandleState.{HandleState}
+use Rattle.arcstr_count.specs.declared.steps.HandleState.TheVariants.{Free, Raw, Dropping, Owing, Gone}
+use Rattle.arcstr_count.specs.declared.steps.HandleSummary.{HandleSummary}
+use Rattle.arcstr_count.specs.declared.steps.Reply.TheVariants.{Made, Count, Static, Handle, Looked, Ended, Left, Owes, Given, Marked, Raw as RawReply, Unraw}
+use Rattle.arcstr_count.specs.declared.worlds.BlockEntry.{BlockEntry}
+use Rattle.arcstr_count.specs.Word.{FlagAndCount, fresh_word, looked_of, cloned_of, dropped_of, marked_of, is_last}
+use Rattle.arcstr_count.specs.History.{makes, block_of}
+use Rattle.arcstr_count.specs.Marks.{is_marked, living, is_only}
+use Rattle.arcstr_count.specs.Answer.{unless_free, unless_dropping, unless_owing, unless_raw, refusal_of}
+use Rattle.arcstr_count.specs.Past.{IsPast, past_of}
+use Rattle.arcstr_count.specs.Left.{word_left}
+use Rattle.arcstr_count.specs.Summary.{WorldView, StandsFor}
+use Rattle.arcstr_count.specs.Kept.{word_in, view_of, IsWorld}
+use Rattle.arcstr_count.specs.Taken.{IsRefusal, Takes}
+use Rattle.arcstr_count.specs.Looked.{IsAt}
+use Rattle.arcstr_count.proofs.Pasts.{IsPast-past_of}
+use Rattle.arcstr_count.proofs.Tables.{handle_is, length-handles_of, handles-Make, handles-Clone, handles-Begin, handles-Sub, handles-Back, handles-IntoRaw, handles-FromRaw}
+use Rattle.arcstr_count.proofs.Entries.{AreTablesOf, entry_of, entries_of, entry_with, with_word, tables_from_view, length-entries_of, entries-Make, entries-Clone, entries-Sub, entries-Leak, entries-Back, words_of-entries}
+use Rattle.arcstr_count.proofs.LawsOfPasts.{word_stands, Sub_counted, Sub_last}
+use Rattle.arcstr_count.proofs.Taking.{FoundIn, found_in_past, handle_state-found, entry_read, Changes, takes_accepted}
+
+-- a list with one entry changed, where lists and entries are equal
+set_with : {X : Type 0} {xs ys : List X} {i j : ℕ} {x y : X} → xs ≡ ys → i ≡ j → x ≡ y → set xs i x ≡ set ys j y
+set_with lists places entries = λ t. set (lists t) (places t) (entries t)
+
+pub push_with : {X : Type 0} {xs ys : List X} {x y : X} → xs ≡ ys → x ≡ y → xs ++ x ∷ [] ≡ ys ++ y ∷ []
+push_with lists entries = λ t. lists t ++ entries t ∷ []
+
+-- what a look finds says whether the word has the flag, and what it counts
+looked_none : (w : FlagAndCount) → looked_of w ≡ None → w.flag ≡ true
+looked_none w nothing = by_flag w.flag refl
+  where
+    by_flag : (m : Bool) → w.flag ≡ m → w.flag ≡ true
+    by_flag true is = is
+    by_flag false is = let some = sym nothing ∙ ap (λ m. if m then None else Some w.count) is in cc
+
+looked_some : (w : FlagAndCount) (n : ℕ) → looked_of w ≡ Some n → (w.flag ≡ false) × (w.count ≡ n)
+looked_some w n some = by_flag w.flag refl
+  where
+    by_flag : (m : Bool) → w.flag ≡ m → (w.flag ≡ false) × (w.count ≡ n)
+    by_flag true is = let nothing = sym some ∙ ap (λ m. if m then None else Some w.count) is in cc
+    by_flag false is = let same = sym (ap (λ m. if m then None else Some w.count) is) ∙ some in (is, cc)
+
+-- ---- `Make`
+
+pub takes_make : (limit : ℕ) (handles : List HandleSummary) (blocks : List BlockEntry) (old : WorldView)
+    (born made : ℕ) (w : FlagAndCount) (new_handles : List HandleSummary) (new_blocks : List BlockEntry)
+    → view_of limit handles blocks ≡ old → born ≡ length handles → made ≡ length blocks → w ≡ fresh_word
+    → new_handles ≡ handles ++ record { block = made; state = Free } ∷ []
+    → new_blocks ≡ blocks ++ record { word = w; given = false } ∷ []
+    → Takes old Make (Made born) (view_of limit new_handles new_blocks)
+takes_make limit handles blocks old born made w new_handles new_blocks view_is births_is makes_is word more_handles more_blocks =
+    takes_accepted limit handles blocks old Make (Made born) new_handles new_blocks view_is (λ refusal. refusal) change
+  where
+    change : (p : List Step) → IsPast limit p → AreTablesOf limit p handles blocks
+        → Changes limit p Make (Made born) new_handles new_blocks
+    change p past tables = record {
+      unrefused = refl;
+      answer = ap Made (births_is ∙ ap length tables.handles_are ∙ length-handles_of limit p);
+      tables = record {
+        handles_are = more_handles
+            ∙ push_with tables.handles_are (handle_is (makes_is ∙ ap length tables.blocks_are ∙ length-entries_of limit p) refl)
+            ∙ sym (handles-Make limit p past);
+        blocks_are = more_blocks ∙ push_with tables.blocks_are (ap (λ v. entry_with v false) word) ∙ sym (entries-Make limit p past);
+      };
+    }
+
+-- ---- the steps of a handle h, on block b with entry e
+
+module _ (limit : ℕ) (handles : List HandleSummary) (blocks : List BlockEntry) (old : WorldView) (h b : ℕ)
+    (view_is : view_of limit handles blocks ≡ old) where
+  -- what the tables have of the handle is what the past has
+  found : (s : HandleState) (p : List Step) → IsAt old h b s → AreTablesOf limit p handles blocks → FoundIn limit p h b s
+  found s p at tables = found_in_past (view_of limit handles blocks) p h b s tables.handles_are
+      (ap (λ es. map word_in es) tables.blocks_are ∙ words_of-entries limit p)
+      (subst (λ w. IsAt w h b s) (sym view_is) at)
+
+  -- a table of blocks with the entry of the handle's block changed
+  entry_changed : (F : BlockEntry → BlockEntry) (p : List Step) (e : BlockEntry) → AreTablesOf limit p handles blocks
+      → block_of p h ≡ b → e ≡ entry_of limit p b
+      → set blocks b (F e) ≡ set (entries_of limit p) (block_of p h) (F (entry_of limit p (block_of p h)))
+  entry_changed F p e tables block is =
+      set_with tables.blocks_are (sym block) (ap F (is ∙ ap (λ k. entry_of limit p k) (sym block)))
+
+  module _ (e : BlockEntry) (read : e ≡ get_or blocks b e) where
+    entry_is : (p : List Step) → AreTablesOf limit p handles blocks → b < makes p → e ≡ entry_of limit p b
+    entry_is p tables made = entry_read limit p blocks b e tables.blocks_are made read
+
+    -- the flag of the entry is the mark of the handle's block
+    mark_is : (s : HandleState) (p : List Step) → IsPast limit p → AreTablesOf limit p handles blocks → FoundIn limit p h b s
+        → is_marked limit p (block_of p h) ≡ e.word.flag
+    mark_is s p past tables f = ap (λ k. is_marked limit p k) f.block
+        ∙ sym (word_stands limit p b past f.made).flag
+        ∙ sym (ap (λ (x : BlockEntry). x.word.flag) (entry_is p tables f.made))
+
+    -- ---- `Look`
+
+    pub takes_look_static : IsAt old h b Free → looked_of e.word ≡ None → Takes old (Look h) Static old
+    takes_look_static at nothing = subst (λ w. Takes old (Look h) Static w) view_is
+        (takes_accepted limit handles blocks old (Look h) Static handles blocks view_is (λ refusal. refusal) change)
+      where
+        change : (p : List Step) → IsPast limit p → AreTablesOf limit p handles blocks
+            → Changes limit p (Look h) Static handles blocks
+        change p past tables = record {
+          unrefused = ap unless_free (handle_state-found limit p h b Free f);
+          answer = sym (ap (λ m. if m then Static else Count (length (living limit p (block_of p h))))
+              (mark_is Free p past tables f ∙ looked_none e.word nothing));
+          tables = record { handles_are = tables.handles_are; blocks_are = tables.blocks_are };
+        }
+          where
+            f : FoundIn limit p h b Free
+            f = found Free p at tables
+
+    pub takes_look_count : (n : ℕ) → IsAt old h b Free → looked_of e.word ≡ Some n → Takes old (Look h) (Count n) old
+    takes_look_count n at some = subst (λ w. Takes old (Look h) (Count n) w) view_is
+        (takes_accepted limit handles blocks old (Look h) (Count n) handles blocks view_is (λ refusal. refusal) change)
+      where
+        change : (p : List Step) → IsPast limit p → AreTablesOf limit p handles blocks
+            → Changes limit p (Look h) (Count n) handles blocks
+        change p past tables = record {
+          unrefused = ap unless_free (handle_state-found limit p h b Free f);
+          answer = ap Count counted
+              ∙ sym (ap (λ m. if m then Static else Count (length (living limit p (block_of p h)))) unmarked);
+          tables = record { handles_are = tables.handles_are; blocks_are = tables.blocks_are };
+        }
+          where
+            f : FoundIn limit p h b Free
+            f = found Free p at tables
+
+            unmarked : is_marked limit p (block_of p h) ≡ false
+            unmarked = mark_is Free p past tables f ∙ (looked_some e.word n some).0
+
+            counted : n ≡ length (living limit p (block_of p h))
+            counted = sym (looked_some e.word n some).1
+                ∙ ap (λ (x : BlockEntry). x.word.count) (entry_is p tables f.made)
+                ∙ ap (λ k. (word_left limit p k).count) (sym f.block)
+                ∙ (word_stands limit p (block_of p h) past (rw f.block f.made)).exact unmarked
+
+    -- ---- `Clone`
+
+    pub takes_clone : (born : ℕ) (new_handles : List HandleSummary) (w : FlagAndCount) → IsAt old h b Free
+        → born ≡ length handles → new_handles ≡ handles ++ record { block = b; state = Free } ∷ [] → w ≡ cloned_of limit e.word
+        → Takes old (Clone h) (Handle born) (view_of limit new_handles (set blocks b (record { word = w; given = e.given })))
+    takes_clone born new_handles w at births_is more_handles word =
+        takes_accepted limit handles blocks old (Clone h) (Handle born) new_handles _ view_is (λ refusal. refusal) change
+      where
+        change : (p : List Step) → IsPast limit p → AreTablesOf limit p handles blocks
+            → Changes limit p (Clone h) (Handle born) new_handles (set blocks b (record { word = w; given = e.given }))
+        change p past tables = record {
+          unrefused = ap unless_free (handle_state-found limit p h b Free f);
+          answer = ap Handle (births_is ∙ ap length tables.handles_are ∙ length-handles_of limit p);
+          tables = record {
+            handles_are = more_handles ∙ push_with tables.handles_are (handle_is (sym f.block) refl) ∙ sym (handles-Clone limit p h past);
+            blocks_are = ap (λ v. set blocks b (with_word e v)) word
+                ∙ entry_changed (λ x. with_word x (cloned_of limit x.word)) p e tables f.block (entry_is p tables f.made)
+                ∙ sym (entries-Clone limit p h (rw f.block f.made));
+          };
+        }
+          where
+            f : FoundIn limit p h b Free
+            f = found Free p at tables
+
+    -- ---- `Begin`
+
+    pub takes_begin : (m : Bool) → IsAt old h b Free → e.word.flag ≡ m
+        → Takes old (Begin h) (if m then Ended else Looked)
+        (view_of limit (set handles h (record { block = b; state = if m then Gone else Dropping })) blocks)
+    takes_begin m at flag = takes_accepted limit handles blocks old (Begin h) _ _ blocks view_is (unrefused_by m) change
+      where
+        unrefused_by : (m : Bool) → IsRefusal (if m then Ended else Looked) → ⊥
+        unrefused_by true refusal = refusal
+        unrefused_by false refusal = refusal
+
+        change : (p : List Step) → IsPast limit p → AreTablesOf limit p handles blocks
+            → Changes limit p (Begin h) (if m then Ended else Looked) (set handles h (record { block = b; state = if m then Gone else Dropping })) blocks
+        change p past tables = record {
+          unrefused = unrefused;
+          answer = sym (ap (λ t. if t then Ended else Looked) mark);
+          tables = record {
+            handles_are = set_with tables.handles_are refl (handle_is (sym f.block) (sym (ap (λ t. if t then Gone else Dropping) mark)))
+                ∙ sym (handles-Begin limit p h past (ap is_none unrefused));
+            blocks_are = tables.blocks_are;
+          };
+        }
+          where
+            f : FoundIn limit p h b Free
+            f = found Free p at tables
+
+            unrefused : refusal_of limit p (Begin h) ≡ None
+            unrefused = ap unless_free (handle_state-found limit p h b Free f)
+
+            mark : is_marked limit p (block_of p h) ≡ m
+            mark = mark_is Free p past tables f ∙ flag
+
+    -- ---- `Sub`
+
+    -- the word of a dropping handle's block counts that handle
+    pub dropping_is_counted : IsWorld limit handles blocks → IsAt old h b Dropping → 0 < e.word.count
+    dropping_is_counted world at = ∥∥₁_elim world.has_history (hlevel props) counted
+      where
+        counted : (history : List Step) × StandsFor (view_of limit handles blocks) history → 0 < e.word.count
+        counted known =
+            let past = IsPast-past_of limit known.0 in
+            let tables = tables_from_view limit handles blocks known.0 known.1 in
+            let f = found Dropping (past_of limit known.0) at tables in
+            rw (entry_is (past_of limit known.0) tables f.made, ← f.block)
+            (Sub_counted limit (past_of limit known.0) h past
+            (ap is_none (ap unless_dropping (handle_state-found limit (past_of limit known.0) h b Dropping f))))
+
+    pub takes_sub : (last : Bool) (w : FlagAndCount) → IsAt old h b Dropping → w ≡ dropped_of e.word → is_last e.word ≡ last
+        → Takes old (Sub h) (if last then Owes else Left)
+        (view_of limit (set handles h (record { block = b; state = if last then Owing else Gone }))
+        (set blocks b (record { word = w; given = e.given })))
+    takes_sub last w at word is = takes_accepted limit handles blocks old (Sub h) _ _ _ view_is (unrefused_by last) change
+      where
+        unrefused_by : (t : Bool) → IsRefusal (if t then Owes else Left) → ⊥
+        unrefused_by true refusal = refusal
+        unrefused_by false refusal = refusal
+
+        change : (p : List Step) → IsPast limit p → AreTablesOf limit p handles blocks
+            → Changes limit p (Sub h) (if last then Owes else Left)
+            (set handles h (record { block = b; state = if last then Owing else Gone }))
+            (set blocks b (record { word = w; given = e.given }))
+        change p past tables = record {
+          unrefused = unrefused;
+          answer = sym (ap (λ t. if t then Owes else Left) owes);
+          tables = record {
+            handles_are = set_with tables.handles_are refl (handle_is (sym f.block) (sym (ap (λ t. if t then Owing else Gone) owes)))
+                ∙ sym (handles-Sub limit p h past (ap is_none unrefused));
+            blocks_are = ap (λ v. set blocks b (with_word e v)) word
+                ∙ entry_changed (λ x. with_word x (dropped_of x.word)) p e tables f.block (entry_is p tables f.made)
+                ∙ sym (entries-Sub limit p h (rw f.block f.made));
+          };
+        }
+          where
+            f : FoundIn limit p h b Dropping
+            f = found Dropping p at tables
+
+            unrefused : refusal_of limit p (Sub h) ≡ None
+            unrefused = ap unless_dropping (handle_state-found limit p h b Dropping f)
+
+            owes : (not (is_marked limit p (block_of p h)) && is_only h (living limit p (block_of p h))) ≡ last
+            owes = sym (Sub_last limit p h past (ap is_none unrefused))
+                ∙ ap (λ k. is_last (word_left limit p k)) f.block
+                ∙ sym (ap (λ (x : BlockEntry). is_last x.word) (entry_is p tables f.made))
+                ∙ is
+
+    -- ---- `Back`
+
+    pub takes_back : IsAt old h b Owing
+        → Takes old (Back h) Given
+        (view_of limit (set handles h (record { block = b; state = Gone })) (set blocks b (record { word = e.word; given = true })))
+    takes_back at = takes_accepted limit handles blocks old (Back h) Given _ _ view_is (λ refusal. refusal) change
+      where
+        change : (p : List Step) → IsPast limit p → AreTablesOf limit p handles blocks
+            → Changes limit p (Back h) Given (set handles h (record { block = b; state = Gone }))
+            (set blocks b (record { word = e.word; given = true }))
+        change p past tables = record {
+          unrefused = unrefused;
+          answer = refl;
+          tables = record {
+            handles_are = set_with tables.handles_are refl (handle_is (sym f.block) refl)
+                ∙ sym (handles-Back limit p h (ap is_none unrefused));
+            blocks_are = entry_changed (λ x. record { word = x.word; given = true }) p e tables f.block (entry_is p tables f.made)
+                ∙ sym (entries-Back limit p h (rw f.block f.made));
+          };
+        }
+          where
+            f : FoundIn limit p h b Owing
+            f = found Owing p at tables
+
+            unrefused : refusal_of limit p (Back h) ≡ None
+            unrefused = ap unless_owing (handle_state-found limit p h b Owing f)
+
+    -- ---- `Leak`
+
+    pub takes_leak : (w : FlagAndCount) → IsAt old h b Free → w ≡ marked_of e.word
+        → Takes old (Leak h) Marked (view_of limit handles (set blocks b (record { word = w; given = e.given })))
+    takes_leak w at word = takes_accepted limit handles blocks old (Leak h) Marked handles _ view_is (λ refusal. refusal) change
+      where
+        change : (p : List Step) → IsPast limit p → AreTablesOf limit p handles blocks
+            → Changes limit p (Leak h) Marked handles (set blocks b (record { word = w; given = e.given }))
+        change p past tables = record {
+          unrefused = ap unless_free (handle_state-found limit p h b Free f);
+          answer = refl;
+          tables = record {
+            handles_are = tables.handles_are;
+            blocks_are = ap (λ v. set blocks b (with_word e v)) word
+                ∙ entry_changed (λ x. with_word x (marked_of x.word)) p e tables f.block (entry_is p tables f.made)
+                ∙ sym (entries-Leak limit p h (rw f.block f.made));
+          };
+        }
+          where
+            f : FoundIn limit p h b Free
+            f = found Free p at tables
+
+  -- ---- `IntoRaw` and `FromRaw`
+
+  pub takes_into_raw : IsAt old h b Free
+      → Takes old (IntoRaw h) RawReply (view_of limit (set handles h (record { block = b; state = Raw })) blocks)
+  takes_into_raw at = takes_accepted limit handles blocks old (IntoRaw h) RawReply _ blocks view_is (λ refusal. refusal) change
+    where
+      change : (p : List Step) → IsPast limit p → AreTablesOf limit p handles blocks
+          → Changes limit p (IntoRaw h) RawReply (set handles h (record { block = b; state = Raw })) blocks
+      change p past tables = record {
+        unrefused = unrefused;
+        answer = refl;
+        tables = record {
+          handles_are = set_with tables.handles_are refl (handle_is (sym f.block) refl)
+              ∙ sym (handles-IntoRaw limit p h (ap is_none unrefused));
+          blocks_are = tables.blocks_are;
+        };
+      }
+        where
+          f : FoundIn limit p h b Free
+          f = found Free p at tables
+
+          unrefused : refusal_of limit p (IntoRaw h) ≡ None
+          unrefused = ap unless_free (handle_state-found limit p h b Free f)
+
+  pub takes_from_raw : IsAt old h b Raw
+      → Takes old (FromRaw h) Unraw (view_of limit (set handles h (record { block = b; state = Free })) blocks)
+  takes_from_raw at = takes_accepted limit handles blocks old (FromRaw h) Unraw _ blocks view_is (λ refusal. refusal) change
+    where
+      change : (p : List Step) → IsPast limit p → AreTablesOf limit p handles blocks
+          → Changes limit p (FromRaw h) Unraw (set handles h (record { block = b; state = Free })) blocks
+      change p past tables = record {
+        unrefused = unrefused;
+        answer = refl;
+        tables = record {
+          handles_are = set_with tables.handles_are refl (handle_is (sym f.block) refl)
+              ∙ sym (handles-FromRaw limit p h past (ap is_none unrefused));
+          blocks_are = tables.blocks_are;
+        };
+      }
+        where
+          f : FoundIn limit p h b Raw
+          f = found Raw p at tables
+
+          unrefused : refusal_of limit p (FromRaw h) ≡ None
+          unrefused = ap unless_raw (handle_state-found limit p h b Raw f)

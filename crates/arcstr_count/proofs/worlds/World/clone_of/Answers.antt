@@ -1,0 +1,28 @@
+use Rattle.std.proofs.Common.{refl, ◌∙◌, ap, length}
+use Rattle.arcstr_count.specs.declared.steps.Step.TheVariants.{Clone}
+use Rattle.arcstr_count.specs.Answer.{unless_free}
+use Rattle.arcstr_count.proofs.Taking.{takes_refused_by, world_kept, clone_accepted}
+use Rattle.arcstr_count.proofs.StepsTaken.{push_with, takes_clone}
+use Rattle.arcstr_count.proofs.worlds.World.clone_of.Goals as goal
+
+pub returns-in-Err-clause-takes : goal.returns-in-Err-clause-takes
+returns-in-Err-clause-takes g c =
+    takes_refused_by unless_free c.args.self.now (Clone c.args.handle) c.args.handle c.in-Err.fault (λ p. refl) c.in-Err.ensures.refused
+
+pub invariant_of-self : goal.invariant_of-self
+invariant_of-self g c = rw c.reserve.ensures.items c.self.invariant
+
+pub returns-then-is_err-clause-accepted : goal.returns-then-is_err-clause-accepted
+returns-then-is_err-clause-accepted g c = clone_accepted c.args.self.now c.args.handle c.in-Ok.block c.in-Ok.ensures.found
+
+pub returns-clause-takes : goal.returns-clause-takes
+returns-clause-takes g c =
+    takes_clone c.self.inside.limit c.self.inside.handles.items c.self.inside.blocks.items c.args.self.now
+    c.args.handle c.in-Ok.block c.self.view_is c.index-entry.result.now c.index-entry.ensures
+    _ _ _ c.in-Ok.ensures.found
+    (c.len-born.ensures ∙ c.reserve.new.self.ok.0 ∙ ap length c.reserve.ensures.items)
+    (c.put.ensures ∙ push_with c.reserve.ensures.items refl)
+    c.cloned.ensures
+
+pub invariant_of-self-2 : goal.invariant_of-self-2
+invariant_of-self-2 g c = world_kept _ _ _ _ _ _ _ _ c.self.invariant c.self.view_is (returns-clause-takes g c)

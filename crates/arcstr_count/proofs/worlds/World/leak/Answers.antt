@@ -1,0 +1,19 @@
+use Rattle.std.proofs.Common.{refl}
+use Rattle.arcstr_count.specs.declared.steps.Step.TheVariants.{Leak}
+use Rattle.arcstr_count.specs.Answer.{unless_free}
+use Rattle.arcstr_count.proofs.Taking.{takes_refused_by, world_kept}
+use Rattle.arcstr_count.proofs.StepsTaken.{takes_leak}
+use Rattle.arcstr_count.proofs.worlds.World.leak.Goals as goal
+
+pub returns-in-Err : goal.returns-in-Err
+returns-in-Err g c =
+    takes_refused_by unless_free c.args.self.now (Leak c.args.handle) c.args.handle c.in-Err.fault (λ p. refl) c.in-Err.ensures.refused
+
+pub returns : goal.returns
+returns g c =
+    takes_leak c.self.inside.limit c.self.inside.handles.items c.self.inside.blocks.items c.args.self.now
+    c.args.handle c.in-Ok.block c.self.view_is c.index-entry.result.now c.index-entry.ensures
+    _ c.in-Ok.ensures.found c.with_mark.ensures
+
+pub invariant_of-self : goal.invariant_of-self
+invariant_of-self g c = world_kept _ _ _ _ _ _ _ _ c.self.invariant c.self.view_is (returns g c)

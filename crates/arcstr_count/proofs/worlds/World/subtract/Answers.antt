@@ -1,0 +1,34 @@
+use Rattle.std.proofs.Common.{refl, true, false, ◌∙◌, sym}
+use Rattle.arcstr_count.specs.declared.steps.Step.TheVariants.{Sub}
+use Rattle.arcstr_count.specs.Answer.{unless_dropping}
+use Rattle.arcstr_count.proofs.Taking.{takes_refused_by, world_kept}
+use Rattle.arcstr_count.proofs.StepsTaken.{takes_sub, dropping_is_counted}
+use Rattle.arcstr_count.proofs.worlds.World.subtract.Goals as goal
+
+pub returns-in-Err : goal.returns-in-Err
+returns-in-Err g c =
+    takes_refused_by unless_dropping c.args.self.now (Sub c.args.handle) c.args.handle c.in-Err.fault (λ p. refl) c.in-Err.ensures.refused
+
+pub dropped-word-requires : goal.dropped-word-requires
+dropped-word-requires g c =
+    dropping_is_counted c.self.inside.limit c.self.inside.handles.items c.self.inside.blocks.items c.args.self.now
+    c.args.handle c.in-Ok.block c.self.view_is c.index-entry.result.now c.index-entry.ensures
+    c.self.invariant c.in-Ok.ensures.found
+
+pub returns-then-last : goal.returns-then-last
+returns-then-last g c =
+    takes_sub c.self.inside.limit c.self.inside.handles.items c.self.inside.blocks.items c.args.self.now
+    c.args.handle c.in-Ok.block c.self.view_is c.index-entry.result.now c.index-entry.ensures
+    true _ c.in-Ok.ensures.found c.dropped-word.ensures.word (sym c.dropped-word.ensures.last ∙ c.if-last.true)
+
+pub returns-else-last : goal.returns-else-last
+returns-else-last g c =
+    takes_sub c.self.inside.limit c.self.inside.handles.items c.self.inside.blocks.items c.args.self.now
+    c.args.handle c.in-Ok.block c.self.view_is c.index-entry.result.now c.index-entry.ensures
+    false _ c.in-Ok.ensures.found c.dropped-word.ensures.word (sym c.dropped-word.ensures.last ∙ c.if-last.false)
+
+pub invariant_of-self : goal.invariant_of-self
+invariant_of-self g c = world_kept _ _ _ _ _ _ _ _ c.self.invariant c.self.view_is (returns-then-last g c)
+
+pub invariant_of-self-else-last : goal.invariant_of-self-else-last
+invariant_of-self-else-last g c = world_kept _ _ _ _ _ _ _ _ c.self.invariant c.self.view_is (returns-else-last g c)

@@ -1,0 +1,44 @@
+ghost use Rattle.std.specs.Prelude.{◌≡◌, ◌<◌, ◌↔◌, IfOk};
+ghost use Rattle.arcstr_count.specs.After.{AnswersEach};
+ghost use Rattle.arcstr_count.specs.Laws.{WordsStand, LooksAreExact, MarksStay, AtMostOneOwes, GivenAtMostOnce, GivenExactlyIfUnmarked};
+
+use crate::faults::RunFault;
+use crate::history_laws::every_interleaving;
+use crate::steps::{Reply, Step};
+use crate::words::RC_MAX;
+use crate::worlds::World;
+use std::alloc::Allocator;
+
+/// The reply to each step of a list, from the empty history on.
+pub fn run<A: Allocator + Copy>(
+    alloc: A,
+    limit: u64,
+    steps: &[Step],
+) -> Result<Vec<Reply, A>, RunFault>
+    ensures too_large { (result ≡ Err RunFault.LimitTooLarge) ↔ (RC_MAX < limit) }
+
+    // Each reply is the answer of the steps before its own.
+    ensures replies { IfOk result (λ replies. AnswersEach limit steps.now replies.items) }
+
+    // What holds after every front of the steps, of every block made in it.
+    ensures words_stand { WordsStand limit steps.now }
+    ensures looks_exact { LooksAreExact limit steps.now }
+    ensures marks_stay { MarksStay limit steps.now }
+    ensures one_owes { AtMostOneOwes limit steps.now }
+    ensures given_once { GivenAtMostOnce limit steps.now }
+    ensures given_exactly { GivenExactlyIfUnmarked limit steps.now }
+{
+    every_interleaving(limit, steps);
+    let mut world = World::new(alloc, limit)?;
+    let mut replies = Vec::new(alloc);
+    for step in steps {
+        let reply = world.step(*step)?;
+        if replies.push(reply).is_err() {
+            return Err(RunFault::Memory);
+        }
+    }
+    Ok(replies)
+}
+
+#[cfg(test)]
+mod tests;

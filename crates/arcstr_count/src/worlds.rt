@@ -1,0 +1,370 @@
+ghost use Rattle.std.specs.Prelude.{◌≡◌, ◌<◌, ◌≤◌, ◌↔◌, ◌+◌, ◌++◌, [], ◌∷◌, List, IfOk, IfErr, OnOk, OnErr, IsOk, IfSome, Some, slice_get, vec_len, vec_capacity};
+ghost use Rattle.arcstr_count.specs.declared.steps.Step.{Step};
+ghost use Rattle.arcstr_count.specs.Summary.{StandsFor};
+ghost use Rattle.arcstr_count.specs.After.{given_after};
+ghost use Rattle.arcstr_count.specs.Answer.{unless_free, unless_dropping, unless_owing, unless_raw};
+ghost use Rattle.arcstr_count.specs.Taken.{GivesBirth, IsRefusal, IsAcceptedBy, Answers, Follows, Takes, HasHistory};
+ghost use Rattle.arcstr_count.specs.Looked.{state_at, IsAt};
+
+use crate::faults::{RunFault, StepFault};
+use crate::steps::{HandleState, HandleSummary, Reply, Step};
+use crate::words::{RC_MAX, Word};
+use std::alloc::Allocator;
+use std::marker::Model;
+
+/// Counted blocks and their handles, which answer one step at a time.
+///
+/// It keeps a table of states by the number of the handle, a table of words by the number of the
+/// block, and the limit on the count of a block: a step costs a fixed time, but for growth.
+#[derive(Drop)]
+pub struct World<A: Allocator> {
+    limit: u64,
+    handles: Vec<HandleSummary, A>,
+    blocks: Vec<BlockEntry, A>,
+}
+
+/// The word of a block, and whether the block was given back.
+#[derive(Clone, Copy)]
+struct BlockEntry {
+    word: Word,
+    given: bool,
+}
+
+impl<A: Allocator> Model for World<A> {
+    ghost use Rattle.arcstr_count.specs.Summary.{WorldView};
+    ghost use Rattle.arcstr_count.specs.Kept.{view_of, IsWorld};
+
+    ghost Value = { WorldView };
+
+    ghost view = { λ w. view_of w.limit w.handles.items w.blocks.items };
+
+    ghost invariant = { λ w. IsWorld w.limit w.handles.items w.blocks.items };
+}
+
+impl<A: Allocator + Copy> World<A> {
+    /// A world of the empty history. It asks for no memory: its one refusal is a limit above `RC_MAX`.
+    pub fn new(alloc: A, limit: u64) -> Result<World<A>, RunFault>
+        ensures too_large { (result ≡ Err RunFault.LimitTooLarge) ↔ (RC_MAX < limit) }
+        ensures made { limit ≤ RC_MAX → IsOk result }
+        ensures fresh { IfOk result (λ world. (world.summary.limit ≡ limit) × StandsFor world []) }
+    {
+        if limit > RC_MAX {
+            return Err(RunFault::LimitTooLarge);
+        }
+        Ok(World {
+            limit,
+            handles: Vec::new(alloc),
+            blocks: Vec::new(alloc),
+        })
+    }
+
+    /// Answers a step, and takes it where it is accepted. Only an accepted `Make` or `Clone` asks for
+    /// memory; where there is none, the world is as it was.
+    pub fn step(&mut self, step: Step) -> Result<Reply, RunFault>
+        ensures answers { IfOk result (Answers self.old step) }
+        ensures stands { OnOk result (Follows self.old step self.new) }
+        ensures refused { IfOk result (λ reply. IsRefusal reply → self.new ≡ self.old) }
+
+        ensures memory { IfErr result (λ fault. (fault ≡ RunFault.Memory) × (self.new ≡ self.old)) }
+        ensures memory_only_to_births { OnErr result (GivesBirth step × IsAcceptedBy self.old step) }
+
+        ensures limit { self.new.summary.limit ≡ self.old.summary.limit }
+    {
+        match step {
+            Step::Make => self.make(),
+            Step::Look(handle) => Ok(self.look(handle)),
+            Step::Clone(handle) => self.clone_of(handle),
+            Step::Begin(handle) => Ok(self.begin(handle)),
+            Step::Sub(handle) => Ok(self.subtract(handle)),
+            Step::Back(handle) => Ok(self.give_back(handle)),
+            Step::Leak(handle) => Ok(self.leak(handle)),
+            Step::IntoRaw(handle) => Ok(self.make_raw(handle)),
+            Step::FromRaw(handle) => Ok(self.make_free(handle)),
+        }
+    }
+
+    /// How often the block was given back: 0 or 1 times, and 0 for a block that was never made.
+    pub fn given(&self, block: u64) -> u64
+        ensures { (history : List Step) → StandsFor self.now history
+            → result ≡ given_after self.now.summary.limit history block }
+    {
+        match entry_at(&self.blocks, block) {
+            Some(entry) if entry.given => 1,
+            _ => 0,
+        }
+    }
+
+    /// The law that each world stands for at least one history.
+    pub fn stands_for_a_history(&self)
+        ensures { HasHistory self.now }
+    {
+        let _limit = self.limit;
+    }
+
+    /// What the world keeps of a handle, and nothing of one that was never born.
+    fn summary_of(&self, handle: u64) -> Option<HandleSummary>
+        ensures value { result ≡ slice_get self.now.summary.handles handle }
+        ensures found { IfSome result (λ found. IsAt self.now handle found.block found.state) }
+    {
+        entry_at(&self.handles, handle)
+    }
+
+    /// Why a step that wants a free handle is refused, or the block of the free handle.
+    fn free_handle(&self, handle: u64) -> Result<u64, StepFault>
+        ensures refused { IfErr result (λ fault. unless_free (state_at self.now handle) ≡ Some fault) }
+        ensures found { IfOk result (λ block. IsAt self.now handle block HandleState.Free) }
+    {
+        match self.summary_of(handle) {
+            None => Err(StepFault::NoHandle),
+            Some(found) => match found.state {
+                HandleState::Free => Ok(found.block),
+                HandleState::Raw => Err(StepFault::IsRaw),
+                HandleState::Dropping => Err(StepFault::InDrop),
+                HandleState::Owing | HandleState::Gone => Err(StepFault::NoHandle),
+            },
+        }
+    }
+
+    /// Why `Sub` is refused, or the block of the dropping handle.
+    fn dropping_handle(&self, handle: u64) -> Result<u64, StepFault>
+        ensures refused { IfErr result (λ fault. unless_dropping (state_at self.now handle) ≡ Some fault) }
+        ensures found { IfOk result (λ block. IsAt self.now handle block HandleState.Dropping) }
+    {
+        match self.summary_of(handle) {
+            None => Err(StepFault::NoHandle),
+            Some(found) => match found.state {
+                HandleState::Dropping => Ok(found.block),
+                HandleState::Free | HandleState::Raw => Err(StepFault::NotInDrop),
+                HandleState::Owing | HandleState::Gone => Err(StepFault::NoHandle),
+            },
+        }
+    }
+
+    /// Why `Back` is refused, or the block of the owing handle.
+    fn owing_handle(&self, handle: u64) -> Result<u64, StepFault>
+        ensures refused { IfErr result (λ fault. unless_owing (state_at self.now handle) ≡ Some fault) }
+        ensures found { IfOk result (λ block. IsAt self.now handle block HandleState.Owing) }
+    {
+        match self.summary_of(handle) {
+            None => Err(StepFault::NoHandle),
+            Some(found) => match found.state {
+                HandleState::Owing => Ok(found.block),
+                HandleState::Free | HandleState::Raw | HandleState::Dropping | HandleState::Gone =>
+                    Err(StepFault::NotOwing),
+            },
+        }
+    }
+
+    /// Why `FromRaw` is refused, or the block of the raw handle.
+    fn raw_handle(&self, handle: u64) -> Result<u64, StepFault>
+        ensures refused { IfErr result (λ fault. unless_raw (state_at self.now handle) ≡ Some fault) }
+        ensures found { IfOk result (λ block. IsAt self.now handle block HandleState.Raw) }
+    {
+        match self.summary_of(handle) {
+            None => Err(StepFault::NoHandle),
+            Some(found) => match found.state {
+                HandleState::Raw => Ok(found.block),
+                HandleState::Free => Err(StepFault::NotRaw),
+                HandleState::Dropping => Err(StepFault::InDrop),
+                HandleState::Owing | HandleState::Gone => Err(StepFault::NoHandle),
+            },
+        }
+    }
+
+    fn make(&mut self) -> Result<Reply, RunFault>
+        ensures takes { IfOk result (λ reply. Takes self.old Step.Make reply self.new) }
+        ensures memory { IfErr result (λ fault. (fault ≡ RunFault.Memory) × (self.new ≡ self.old)) }
+    {
+        // Both tables grow before either changes, so that a refusal leaves the world as it was.
+        if self.handles.reserve(1).is_err() || self.blocks.reserve(1).is_err() {
+            return Err(RunFault::Memory);
+        }
+        let handle = self.handles.len() as u64;
+        let block = self.blocks.len() as u64;
+        put(
+            &mut self.handles,
+            HandleSummary {
+                block,
+                state: HandleState::Free,
+            },
+        );
+        put(
+            &mut self.blocks,
+            BlockEntry {
+                word: Word::one(),
+                given: false,
+            },
+        );
+        Ok(Reply::Made(handle))
+    }
+
+    fn look(&self, handle: u64) -> Reply
+        ensures { Takes self.now (Step.Look handle) result self.now }
+    {
+        match self.free_handle(handle) {
+            Err(fault) => Reply::Refused(fault),
+            Ok(block) => match self.blocks[block as usize].word.looked() {
+                None => Reply::Static,
+                Some(count) => Reply::Count(count),
+            },
+        }
+    }
+
+    fn clone_of(&mut self, handle: u64) -> Result<Reply, RunFault>
+        ensures takes { IfOk result (λ reply. Takes self.old (Step.Clone handle) reply self.new) }
+        ensures memory { IfErr result (λ fault. (fault ≡ RunFault.Memory) × (self.new ≡ self.old)) }
+        ensures accepted { OnErr result (IsAcceptedBy self.old (Step.Clone handle)) }
+    {
+        let block = match self.free_handle(handle) {
+            Ok(block) => block,
+            Err(fault) => return Ok(Reply::Refused(fault)),
+        };
+        if self.handles.reserve(1).is_err() {
+            return Err(RunFault::Memory);
+        }
+        let entry = self.blocks[block as usize];
+        self.blocks[block as usize] = BlockEntry {
+            word: entry.word.cloned(self.limit),
+            given: entry.given,
+        };
+        let born = self.handles.len() as u64;
+        put(
+            &mut self.handles,
+            HandleSummary {
+                block,
+                state: HandleState::Free,
+            },
+        );
+        Ok(Reply::Handle(born))
+    }
+
+    fn begin(&mut self, handle: u64) -> Reply
+        ensures { Takes self.old (Step.Begin handle) result self.new }
+    {
+        let block = match self.free_handle(handle) {
+            Ok(block) => block,
+            Err(fault) => return Reply::Refused(fault),
+        };
+        if self.blocks[block as usize].word.marked() {
+            self.handles[handle as usize] = HandleSummary {
+                block,
+                state: HandleState::Gone,
+            };
+            Reply::Ended
+        } else {
+            self.handles[handle as usize] = HandleSummary {
+                block,
+                state: HandleState::Dropping,
+            };
+            Reply::Looked
+        }
+    }
+
+    fn subtract(&mut self, handle: u64) -> Reply
+        ensures { Takes self.old (Step.Sub handle) result self.new }
+    {
+        let block = match self.dropping_handle(handle) {
+            Ok(block) => block,
+            Err(fault) => return Reply::Refused(fault),
+        };
+        let entry = self.blocks[block as usize];
+        let (word, last) = entry.word.dropped();
+        self.blocks[block as usize] = BlockEntry {
+            word,
+            given: entry.given,
+        };
+        if last {
+            self.handles[handle as usize] = HandleSummary {
+                block,
+                state: HandleState::Owing,
+            };
+            Reply::Owes
+        } else {
+            self.handles[handle as usize] = HandleSummary {
+                block,
+                state: HandleState::Gone,
+            };
+            Reply::Left
+        }
+    }
+
+    fn give_back(&mut self, handle: u64) -> Reply
+        ensures { Takes self.old (Step.Back handle) result self.new }
+    {
+        let block = match self.owing_handle(handle) {
+            Ok(block) => block,
+            Err(fault) => return Reply::Refused(fault),
+        };
+        let entry = self.blocks[block as usize];
+        self.blocks[block as usize] = BlockEntry {
+            word: entry.word,
+            given: true,
+        };
+        self.handles[handle as usize] = HandleSummary {
+            block,
+            state: HandleState::Gone,
+        };
+        Reply::Given
+    }
+
+    fn leak(&mut self, handle: u64) -> Reply
+        ensures { Takes self.old (Step.Leak handle) result self.new }
+    {
+        let block = match self.free_handle(handle) {
+            Ok(block) => block,
+            Err(fault) => return Reply::Refused(fault),
+        };
+        let entry = self.blocks[block as usize];
+        self.blocks[block as usize] = BlockEntry {
+            word: entry.word.with_mark(),
+            given: entry.given,
+        };
+        Reply::Marked
+    }
+
+    fn make_raw(&mut self, handle: u64) -> Reply
+        ensures { Takes self.old (Step.IntoRaw handle) result self.new }
+    {
+        let block = match self.free_handle(handle) {
+            Ok(block) => block,
+            Err(fault) => return Reply::Refused(fault),
+        };
+        self.handles[handle as usize] = HandleSummary {
+            block,
+            state: HandleState::Raw,
+        };
+        Reply::Raw
+    }
+
+    fn make_free(&mut self, handle: u64) -> Reply
+        ensures { Takes self.old (Step.FromRaw handle) result self.new }
+    {
+        let block = match self.raw_handle(handle) {
+            Ok(block) => block,
+            Err(fault) => return Reply::Refused(fault),
+        };
+        self.handles[handle as usize] = HandleSummary {
+            block,
+            state: HandleState::Free,
+        };
+        Reply::Unraw
+    }
+}
+
+/// The entry of a table at a number, and nothing past its end.
+fn entry_at<T: Copy>(table: &[T], number: u64) -> Option<T>
+    ensures { result ≡ slice_get table.now number }
+{
+    table.get(number as usize).copied()
+}
+
+/// Puts an entry at the end of a table that has room for it.
+fn put<T: Drop, A: Allocator>(table: &mut Vec<T, A>, entry: T)
+    requires { vec_len table.old < vec_capacity table.old }
+    ensures { table.new.items ≡ table.old.items ++ entry ∷ [] }
+{
+    let _ = table.push(entry);
+}
+
+#[cfg(test)]
+mod tests;

@@ -1,0 +1,70 @@
+-- Boundaries of a text, and its slices, in terms of its characters.
+use Rattle.std.proofs.Common.{◌≡◌, ℕ, ◌+◌, ◌-◌, ◌≤◌, true, List, [], ◌∷◌, ◌++◌, length, take, drop, refl, sym, ap, subst, ◌∙◌, arith}
+use Rattle.std.specs.Prelude.{encode_utf8_all}
+use Rattle.std.specs.Str.{chars, all_scalars, IsUtf8, IsCharBoundary}
+use Rattle.std.proofs.lemmas.List.{take-append-drop, length-take, length-take-le, drop-drop, take-take}
+use Rattle.std.proofs.lemmas.Slice.{between_is}
+use Rattle.std.proofs.lemmas.Str.{IsUtf8-take, IsUtf8-between, chars-append, encodes-chars, scalars-chars, encodes-append, IsCharBoundary-at_seam}
+use Rattle.arcstr_range.specs.Text.{IsFrontLength, SpellsBetween, cut}
+
+-- the characters after a front are characters
+scalars-rest : (front rest : List ℕ) → all_scalars (front ++ rest) ≡ true → all_scalars rest ≡ true
+scalars-rest [] rest h = h
+scalars-rest (c ∷ front) rest h = scalars-rest front rest (grind arith)
+
+-- a boundary is the byte length of the characters before it
+pub IsFrontLength-from_boundary : (text : List ℕ) (place : ℕ) → IsUtf8 text → IsCharBoundary text place → IsFrontLength text place
+IsFrontLength-from_boundary text place utf8 boundary =
+    let front_utf8 = IsUtf8-take text place utf8 boundary in
+    record {
+      front = chars (take place text);
+      rest = chars (drop place text);
+      split = ap chars (sym (take-append-drop place text)) ∙ chars-append (take place text) (drop place text) front_utf8;
+      measured = ap length (encodes-chars (take place text) front_utf8) ∙ length-take-le place text boundary.0;
+    }
+
+pub IsCharBoundary-from_front : (text : List ℕ) (place : ℕ) → IsUtf8 text → IsFrontLength text place → IsCharBoundary text place
+IsCharBoundary-from_front text place utf8 at =
+    let whole : text ≡ encode_utf8_all at.front ++ encode_utf8_all at.rest = sym (encodes-chars text utf8) ∙ ap encode_utf8_all at.split ∙ encodes-append at.front at.rest in
+    let rest_utf8 : IsUtf8 (encode_utf8_all at.rest) = (at.rest, (scalars-rest at.front at.rest (ap all_scalars (sym at.split) ∙ scalars-chars text utf8), refl)) in
+    subst (λ (n : ℕ). IsCharBoundary text n) at.measured (IsCharBoundary-at_seam text _ _ whole rest_utf8)
+
+-- a front of a text is a shorter front and the part between
+take-cut : (text : List ℕ) (start end : ℕ) → start ≤ end → take end text ≡ take start text ++ cut text start end
+take-cut text start end in_order =
+    sym (take-append-drop start (take end text))
+    ∙ ap (λ front. front ++ drop start (take end text)) (take-take start end text in_order)
+    ∙ ap (λ part. take start text ++ part) (sym (between_is text start end))
+
+-- the part between two boundaries spells the characters between them
+pub SpellsBetween-cut : (text : List ℕ) (start end : ℕ) → IsUtf8 text → start ≤ end → IsCharBoundary text start → IsCharBoundary text end → SpellsBetween text start end (cut text start end)
+SpellsBetween-cut text start end utf8 in_order at_start at_end =
+    let start_utf8 = IsUtf8-take text start utf8 at_start in
+    let end_utf8 = IsUtf8-take text end utf8 at_end in
+    let until_end : chars (take end text) ≡ chars (take start text) ++ chars (cut text start end) =
+    ap chars (take-cut text start end in_order) ∙ chars-append (take start text) (cut text start end) start_utf8 in
+    record {
+      before = chars (take start text);
+      between = chars (cut text start end);
+      after = chars (drop end text);
+      split =
+          ap chars (sym (take-append-drop end text)) ∙ chars-append (take end text) (drop end text) end_utf8
+          ∙ ap (λ front. front ++ chars (drop end text)) until_end;
+      measured_start = ap length (encodes-chars (take start text) start_utf8) ∙ length-take-le start text at_start.0;
+      measured_end =
+          ap (λ front. length (encode_utf8_all front)) (sym until_end)
+          ∙ ap length (encodes-chars (take end text) end_utf8) ∙ length-take-le end text at_end.0;
+      spelled = sym (encodes-chars (cut text start end) (IsUtf8-between text start end utf8 in_order at_start at_end));
+    }
+
+-- a cut of a cut is one cut of the whole, at the sums of the places
+pub cut-cut : (text : List ℕ) (start end from to : ℕ) → start ≤ end → to ≤ length (cut text start end)
+    → cut text (start + from) (start + to) ≡ cut (cut text start end) from to
+cut-cut text start end from to in_order within =
+    let short : to ≤ end - start = omega (arith, length-take (end - start) (drop start text)) in
+    let size : start + to - (start + from) ≡ to - from = omega arith in
+    ap (λ n. take n (drop (start + from) text)) size
+    ∙ ap (λ rest. take (to - from) rest) (sym (drop-drop from start text))
+    ∙ between_is (drop start text) from to
+    ∙ ap (λ front. drop from front) (sym (take-take to (end - start) (drop start text) short))
+    ∙ sym (between_is (cut text start end) from to)

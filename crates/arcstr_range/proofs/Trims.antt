@@ -1,0 +1,37 @@
+-- The trims of a view, from the trims of its text.
+use Rattle.std.proofs.Common.{◌≡◌, ◌+◌, ◌-◌, ◌++◌, length, sym, ap, ◌∙◌, arith, length-append}
+use Rattle.std.specs.Prelude.{encode_utf8_all}
+use Rattle.std.specs.Str.{IsUtf8, chars, skip_leading_whitespace, drop_trailing_whitespace, trim_start, trim_end}
+use Rattle.std.proofs.lemmas.Str.{encodes-chars, encodes-append}
+use Rattle.arcstr_range.proofs.WhiteSpace.{IsLongestWhiteFront-skip, IsLongestWhiteBack-drop}
+use Rattle.arcstr_range.specs.Trim.{TrimsStart, TrimsEnd}
+use Rattle.arcstr_range.specs.View.{View}
+
+-- the place moves by what the text loses
+pub TrimsStart-trim_start : (old new : View) → IsUtf8 old.text → new.text ≡ trim_start old.text
+    → new.place ≡ old.place + (length old.text - length new.text) → TrimsStart old new
+unfolding trim_start
+TrimsStart-trim_start old new utf8 text place =
+    let skipped = IsLongestWhiteFront-skip (chars old.text) in
+    let rest = skip_leading_whitespace (chars old.text) in
+    let whole : old.text ≡ encode_utf8_all skipped.0 ++ encode_utf8_all rest =
+    sym (encodes-chars old.text utf8) ∙ ap encode_utf8_all skipped.1.split ∙ encodes-append skipped.0 rest in
+    record {
+      front = skipped.0;
+      rest = rest;
+      removed = skipped.1;
+      text = text;
+      place = omega (arith, place, ap length whole, ap length text, length-append (encode_utf8_all skipped.0) (encode_utf8_all rest));
+    }
+
+pub TrimsEnd-trim_end : (old new : View) → new.text ≡ trim_end old.text → new.place ≡ old.place → TrimsEnd old new
+unfolding trim_end
+TrimsEnd-trim_end old new text place =
+    let dropped = IsLongestWhiteBack-drop (chars old.text) in
+    record {
+      rest = drop_trailing_whitespace (chars old.text);
+      back = dropped.0;
+      removed = dropped.1;
+      text = text;
+      place = place;
+    }

@@ -1,0 +1,113 @@
+-- What std's words on white space leave out is the longest front, or the longest end, that is white space alone.
+use Rattle.std.proofs.Common.{◌≡◌, ℕ, zero, suc, ◌+◌, ◌<◌, ◌≤◌, ◌⊎◌, inl, inr, Bool, true, false, cond, ◌&&◌, nat_eq, List, [], ◌∷◌, ◌++◌, length, refl, ap, arith, length-append}
+use Rattle.std.specs.Char.{is_whitespace}
+use Rattle.std.specs.List.{AllPass}
+use Rattle.std.specs.Str.{skip_leading_whitespace, drop_trailing_whitespace}
+use Rattle.std.proofs.lemmas.Bool.{and_parts}
+use Rattle.std.proofs.lemmas.Bool.Decides.{nat_tests}
+use Rattle.arcstr_range.specs.Trim.{IsLongestWhiteFront, IsLongestWhiteBack}
+
+abbrev AreWhite : List ℕ → Type 0
+AreWhite = AllPass is_whitespace
+
+AreWhite-nil : AreWhite []
+AreWhite-nil k d below = absurd (omega arith)
+
+AreWhite-cons : (c : ℕ) (cs : List ℕ) → is_whitespace c ≡ true → AreWhite cs → AreWhite (c ∷ cs)
+AreWhite-cons c cs white rest zero d below = white
+AreWhite-cons c cs white rest (suc k) d below = rest k d (omega arith)
+
+AreWhite-rest : (c : ℕ) (cs : List ℕ) → AreWhite (c ∷ cs) → AreWhite cs
+AreWhite-rest c cs white k d below = white (suc k) d (omega arith)
+
+AreWhite-first : (c : ℕ) (cs : List ℕ) → AreWhite (c ∷ cs) → is_whitespace c ≡ true
+AreWhite-first c cs white = white 0 0 (omega arith)
+
+-- the front of one more character
+longest_front : (c : ℕ) (cs front rest : List ℕ) → IsLongestWhiteFront cs front rest
+    → (other others_rest : List ℕ) → c ∷ cs ≡ other ++ others_rest → AreWhite other → length other ≤ length front + 1
+longest_front c cs front rest h [] others_rest e white = omega arith
+longest_front c cs front rest h (o ∷ other) others_rest e white =
+    let short = h.longest other others_rest (cc) (AreWhite-rest o other white) in
+    omega (arith, short)
+
+no_front : (c : ℕ) (cs : List ℕ) → is_whitespace c ≡ false
+    → (other others_rest : List ℕ) → c ∷ cs ≡ other ++ others_rest → AreWhite other → length other ≤ 0
+no_front c cs black [] others_rest e white = omega arith
+no_front c cs black (o ∷ other) others_rest e white =
+    let same : c ≡ o = cc in
+    let first = AreWhite-first o other white in
+    absurd (cc)
+
+front_of_more : (b : Bool) (c : ℕ) (cs rest : List ℕ) → is_whitespace c ≡ b
+    → (front : List ℕ) × IsLongestWhiteFront cs front rest
+    → (front : List ℕ) × IsLongestWhiteFront (c ∷ cs) front (cond b rest (c ∷ cs))
+front_of_more true c cs rest white (front, h) = (
+  c ∷ front,
+  record {
+    split = ap (λ l. c ∷ l) h.split;
+    white = AreWhite-cons c front white h.white;
+    longest = λ other others_rest e w. let short = longest_front c cs front rest h other others_rest e w in omega (arith, short);
+  },
+)
+front_of_more false c cs rest black (front, h) =
+    ([], record { split = refl; white = AreWhite-nil; longest = no_front c cs black })
+
+-- what `skip_leading_whitespace` skips
+pub IsLongestWhiteFront-skip : (cs : List ℕ) → (front : List ℕ) × IsLongestWhiteFront cs front (skip_leading_whitespace cs)
+IsLongestWhiteFront-skip [] =
+    ([], record { split = refl; white = AreWhite-nil; longest = λ other others_rest e w. omega (arith, ap length e, length-append other others_rest) })
+IsLongestWhiteFront-skip (c ∷ cs) = front_of_more (is_whitespace c) c cs (skip_leading_whitespace cs) refl (IsLongestWhiteFront-skip cs)
+
+-- an end of a list is no longer than the list
+end_is_short : (cs others_rest other : List ℕ) → cs ≡ others_rest ++ other → length other ≤ length cs
+end_is_short cs others_rest other e = omega (arith, ap length e, length-append others_rest other)
+
+-- the end of one more character, where white space alone follows it
+all_back : (c : ℕ) (cs rest back : List ℕ) → is_whitespace c ≡ true → length rest ≡ 0 → IsLongestWhiteBack cs rest back → IsLongestWhiteBack (c ∷ cs) [] (c ∷ back)
+all_back c cs [] back white empty h =
+    record {
+      split = ap (λ l. c ∷ l) h.split;
+      white = AreWhite-cons c back white h.white;
+      longest = λ others_rest other e w. let short = end_is_short (c ∷ cs) others_rest other e in omega (arith, short, ap length h.split);
+    }
+all_back c cs (x ∷ rest) back white empty h = absurd (omega arith)
+
+-- and where it does not end the text with white space
+same_back : (c : ℕ) (cs rest back : List ℕ) → (is_whitespace c ≡ false) ⊎ (0 < length rest) → IsLongestWhiteBack cs rest back
+    → (others_rest other : List ℕ) → c ∷ cs ≡ others_rest ++ other → AreWhite other → length other ≤ length back
+same_back c cs rest back kept h [] [] e w = omega arith
+same_back c cs rest back (inl black) h [] (o ∷ other) e w =
+    let same : c ≡ o = cc in
+    let first = AreWhite-first o other w in
+    absurd (cc)
+same_back c cs rest back (inr more) h [] (o ∷ other) e w =
+    let same : cs ≡ other = cc in
+    let short = h.longest [] other same (AreWhite-rest o other w) in
+    absurd (omega (arith, more, short, ap length same, ap length h.split, length-append rest back))
+same_back c cs rest back kept h (x ∷ others_rest) other e w = h.longest others_rest other (cc) w
+
+kept_by : (white : Bool) (n : ℕ) → (white && nat_eq n 0) ≡ false → (white ≡ false) ⊎ (0 < n)
+kept_by false n kept = inl refl
+kept_by true n kept = inr (grind (arith, nat_tests))
+
+back_of_more : (b : Bool) (c : ℕ) (cs rest : List ℕ) → (is_whitespace c && nat_eq (length rest) 0) ≡ b
+    → (back : List ℕ) × IsLongestWhiteBack cs rest back
+    → (back : List ℕ) × IsLongestWhiteBack (c ∷ cs) (cond b [] (c ∷ rest)) back
+back_of_more true c cs rest all_white (back, h) =
+    let parts = and_parts (is_whitespace c) (nat_eq (length rest) 0) all_white in
+    (c ∷ back, all_back c cs rest back parts.0 (grind (arith, nat_tests, parts.1)) h)
+back_of_more false c cs rest kept (back, h) = (
+  back,
+  record {
+    split = ap (λ l. c ∷ l) h.split;
+    white = h.white;
+    longest = same_back c cs rest back (kept_by (is_whitespace c) (length rest) kept) h;
+  },
+)
+
+-- what `drop_trailing_whitespace` drops
+pub IsLongestWhiteBack-drop : (cs : List ℕ) → (back : List ℕ) × IsLongestWhiteBack cs (drop_trailing_whitespace cs) back
+IsLongestWhiteBack-drop [] =
+    ([], record { split = refl; white = AreWhite-nil; longest = λ others_rest other e w. end_is_short [] others_rest other e })
+IsLongestWhiteBack-drop (c ∷ cs) = back_of_more _ c cs (drop_trailing_whitespace cs) refl (IsLongestWhiteBack-drop cs)

@@ -1,0 +1,74 @@
+-- The ends of a range, the rules that they keep, and the first fault where they break one.
+use Rattle.std.specs.Prelude.{ℕ, ◌+◌, ◌<◌, ◌≤◌, List, length, ⊤}
+use Rattle.std.specs.Str.{IsCharBoundary}
+use Rattle.arcstr_range.specs.declared.range.StrRange.{StrRange}
+use Rattle.arcstr_range.specs.declared.range.StrRange.TheVariants.{Between, From, To, Full, Inclusive, ToInclusive}
+use Rattle.arcstr_range.specs.declared.range.fault.RangeFault.{RangeFault}
+use Rattle.arcstr_range.specs.declared.range.fault.RangeFault.TheVariants.{OutOfOrder, PastEnd, TooFar, OffBoundary}
+use Rattle.arcstr_range.specs.declared.range.TheConstants.{MAX_PLACE}
+use Rattle.arcstr_range.specs.RangeFault.{number_of}
+use Rattle.arcstr_range.specs.Text.{cut}
+
+-- the start and the end of a range in something of that length, as whole numbers without a bound
+abbrev pub ends_of : StrRange → ℕ → ℕ × ℕ
+ends_of (Between start end) len = (start, end)
+ends_of (From start) len = (start, len)
+ends_of (To end) len = (0, end)
+ends_of Full len = (0, len)
+ends_of (Inclusive start last) len = (start, last + 1)
+ends_of (ToInclusive last) len = (0, last + 1)
+
+-- the rule of each fault, for a start and an end in something of that length: where it is broken, the fault is there.
+-- A length has no characters to cut
+abbrev pub length_rule : ℕ → ℕ → ℕ → RangeFault → Type 0
+length_rule len start end OutOfOrder = start ≤ end
+length_rule len start end PastEnd = end ≤ len
+length_rule len start end TooFar = end ≤ MAX_PLACE
+length_rule len start end OffBoundary = ⊤
+
+-- the rule of each fault, for a start and an end in that text
+abbrev pub text_rule : List ℕ → ℕ → ℕ → RangeFault → Type 0
+text_rule text start end OutOfOrder = length_rule (length text) start end OutOfOrder
+text_rule text start end PastEnd = length_rule (length text) start end PastEnd
+text_rule text start end TooFar = length_rule (length text) start end TooFar
+text_rule text start end OffBoundary = IsCharBoundary text start × IsCharBoundary text end
+
+-- the first fault, in the order of their numbers: its rule is broken, and each rule before it is kept
+pub record IsFirstFault (rule : RangeFault → Type 0) (fault : RangeFault) : Type 0 where
+  pub broken : ¬ (rule fault)
+  pub kept_before : (earlier : RangeFault) → number_of earlier < number_of fault → rule earlier
+
+-- each rule of a length is kept
+pub record FitsLength (len start end : ℕ) : Type 0 where
+  pub in_order : length_rule len start end OutOfOrder
+  pub within : length_rule len start end PastEnd
+  pub in_reach : length_rule len start end TooFar
+
+-- the ends are lawful in that text: each of its rules is kept
+pub record IsLawful (text : List ℕ) (start end : ℕ) : Type 0 where
+  pub fits : FitsLength (length text) start end
+  pub at_boundaries : text_rule text start end OffBoundary
+
+-- the ends are those of a slice of Rust's `str`: each rule is kept but that of `TooFar`, the limit of 32-bit places
+pub record IsSliceable (text : List ℕ) (start end : ℕ) : Type 0 where
+  pub in_order : text_rule text start end OutOfOrder
+  pub within : text_rule text start end PastEnd
+  pub at_boundaries : text_rule text start end OffBoundary
+
+-- ---- a range in a text has the ends for the text's length
+
+abbrev pub ends_in : List ℕ → StrRange → ℕ × ℕ
+ends_in text range = ends_of range (length text)
+
+-- the bytes of the text between the ends of the range
+abbrev pub cut_by : List ℕ → StrRange → List ℕ
+cut_by text range = let ends = ends_in text range in cut text ends.0 ends.1
+
+abbrev pub IsLawfulRange : List ℕ → StrRange → Type 0
+IsLawfulRange text range = let ends = ends_in text range in IsLawful text ends.0 ends.1
+
+abbrev pub IsSliceRange : List ℕ → StrRange → Type 0
+IsSliceRange text range = let ends = ends_in text range in IsSliceable text ends.0 ends.1
+
+abbrev pub IsFirstRangeFault : List ℕ → StrRange → RangeFault → Type 0
+IsFirstRangeFault text range = let ends = ends_in text range in IsFirstFault (text_rule text ends.0 ends.1)

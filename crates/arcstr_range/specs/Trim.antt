@@ -1,0 +1,40 @@
+-- White space at the start and at the end of a view. White space is Rust's `char::is_whitespace`.
+use Rattle.std.specs.Prelude.{◌≡◌, ℕ, ◌+◌, ◌≤◌, List, ◌++◌, length, encode_utf8_all}
+use Rattle.std.specs.Char.{is_whitespace}
+use Rattle.std.specs.List.{AllPass}
+use Rattle.std.specs.Str.{chars}
+use Rattle.arcstr_range.specs.View.{View}
+
+-- the front is the longest front of the characters that is white space alone, and the rest follows it
+pub record IsLongestWhiteFront (characters front rest : List ℕ) : Type 0 where
+  pub split : characters ≡ front ++ rest
+  pub white : AllPass is_whitespace front
+  pub longest : (other others_rest : List ℕ) → characters ≡ other ++ others_rest → AllPass is_whitespace other → length other ≤ length front
+
+-- the back is the longest end of the characters that is white space alone, and the rest stands before it
+pub record IsLongestWhiteBack (characters rest back : List ℕ) : Type 0 where
+  pub split : characters ≡ rest ++ back
+  pub white : AllPass is_whitespace back
+  pub longest : (others_rest other : List ℕ) → characters ≡ others_rest ++ other → AllPass is_whitespace other → length other ≤ length back
+
+-- the new view is the old one without the longest front of white space, and its place moves by the bytes of that
+pub record TrimsStart (old new : View) : Type 0 where
+  pub front : List ℕ
+  pub rest : List ℕ
+  pub removed : IsLongestWhiteFront (chars old.text) front rest
+  pub text : new.text ≡ encode_utf8_all rest
+  pub place : new.place ≡ old.place + length (encode_utf8_all front)
+
+-- the new view is the old one without the longest end of white space, at the old place
+pub record TrimsEnd (old new : View) : Type 0 where
+  pub rest : List ℕ
+  pub back : List ℕ
+  pub removed : IsLongestWhiteBack (chars old.text) rest back
+  pub text : new.text ≡ encode_utf8_all rest
+  pub place : new.place ≡ old.place
+
+-- first the start, and then the end
+pub record Trims (old new : View) : Type 0 where
+  pub middle : View
+  pub start : TrimsStart old middle
+  pub end : TrimsEnd middle new

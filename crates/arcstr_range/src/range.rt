@@ -1,0 +1,144 @@
+//! Ranges of places in a text, and the tests that they pass.
+//!
+//! Places and lengths are counted in bytes, and a place is a boundary where Rust's
+//! `str::is_char_boundary` says so.
+ghost use Rattle.std.specs.Prelude.{◌≡◌, ◌≢◌, ◌↔◌, IsOk, IsErrOf, ◌+◌, ◌<◌, nat_le, ◌&&◌, if◌then◌else◌, IfOk, IfErr, MatchOption};
+ghost use Rattle.std.specs.Range.{range_inclusive_start, range_inclusive_end, range_inclusive_exhausted};
+ghost use Rattle.arcstr_range.specs.declared.range.StrRange.TheVariants.{Between, From as FromStart, To, Full, Inclusive, ToInclusive};
+ghost use Rattle.arcstr_range.specs.declared.range.fault.RangeFault.{RangeFault};
+ghost use Rattle.arcstr_range.specs.Ends.{ends_of, length_rule, FitsLength, IsFirstFault};
+
+mod fault;
+mod places;
+
+pub use fault::RangeFault;
+pub use places::{checked_ends, inner_ends, is_boundary, slice};
+use std::ops::{Range, RangeFrom, RangeFull, RangeInclusive, RangeTo, RangeToInclusive};
+
+/// The last place that a slice may end at: places are kept in 32 bits.
+pub const MAX_PLACE: usize = 4294967295;
+
+/// A range of places in a text, in one of the forms of Rust's ranges over `usize`.
+#[derive(Clone, Copy, Debug, PartialEq, Eq, Hash)]
+pub enum StrRange {
+    /// `start..end`
+    Between(usize, usize),
+    /// `start..`
+    From(usize),
+    /// `..end`
+    To(usize),
+    /// `..`
+    Full,
+    /// `start..=last`
+    Inclusive(usize, usize),
+    /// `..=last`
+    ToInclusive(usize),
+}
+
+impl StrRange {
+    /// The start and the end in something of `len` bytes.
+    ///
+    /// Refuses the first that fails: the start is at most the end (`OutOfOrder`), the end at most
+    /// `len` (`PastEnd`), and the end at most `MAX_PLACE` (`TooFar`). An inclusive end of `usize::MAX`
+    /// counts as one place more, and so is past the end.
+    pub fn ends(self, len: usize) -> Result<(usize, usize), RangeFault>
+        ensures value { IfOk result (λ ends. ends ≡ ends_of self len) }
+        ensures fits { let ends = ends_of self len in IsOk result ↔ FitsLength len ends.0 ends.1 }
+        ensures fault { let ends = ends_of self len in
+            IfErr result (IsFirstFault (length_rule len ends.0 ends.1)) }
+        ensures only_fault { let ends = ends_of self len in
+            (fault : RangeFault) → IsFirstFault (length_rule len ends.0 ends.1) fault → IsErrOf result fault }
+        ensures no_characters { result ≢ Err RangeFault.OffBoundary }
+    {
+        let Some((start, end)) = self.usize_ends(len) else {
+            return Err(RangeFault::PastEnd);
+        };
+        if start > end {
+            return Err(RangeFault::OutOfOrder);
+        }
+        if end > len {
+            return Err(RangeFault::PastEnd);
+        }
+        if end > MAX_PLACE {
+            return Err(RangeFault::TooFar);
+        }
+        Ok((start, end))
+    }
+
+    // The start and the end, untested. `None` where the end, one after an inclusive one, passes `usize`.
+    pub(crate) fn usize_ends(self, len: usize) -> Option<(usize, usize)>
+        ensures { let ends = ends_of self len in
+            MatchOption result (usize.MAX < ends.1) (λ found. found ≡ ends) }
+    {
+        match self {
+            StrRange::Between(start, end) => Some((start, end)),
+            StrRange::From(start) => Some((start, len)),
+            StrRange::To(end) => Some((0, end)),
+            StrRange::Full => Some((0, len)),
+            StrRange::Inclusive(start, last) => Some((start, last.checked_add(1)?)),
+            StrRange::ToInclusive(last) => Some((0, last.checked_add(1)?)),
+        }
+    }
+}
+
+impl From<Range<usize>> for StrRange {
+    ghost from_gives = { λ range given. given ≡ Between range.start range.end };
+
+    fn from(range: Range<usize>) -> StrRange {
+        StrRange::Between(range.start, range.end)
+    }
+}
+
+impl From<RangeFrom<usize>> for StrRange {
+    ghost from_gives = { λ range given. given ≡ FromStart range.start };
+
+    fn from(range: RangeFrom<usize>) -> StrRange {
+        StrRange::From(range.start)
+    }
+}
+
+impl From<RangeTo<usize>> for StrRange {
+    ghost from_gives = { λ range given. given ≡ To range.end };
+
+    fn from(range: RangeTo<usize>) -> StrRange {
+        StrRange::To(range.end)
+    }
+}
+
+impl From<RangeFull> for StrRange {
+    ghost from_gives = { λ _ given. given ≡ Full };
+
+    fn from(_range: RangeFull) -> StrRange {
+        StrRange::Full
+    }
+}
+
+/// Once `next` has given the last value, the range ends before that value, as std's `RangeBounds` has
+/// it: a spent `a..=a` is `a..a`.
+impl From<RangeInclusive<usize>> for StrRange {
+    ghost from_gives = { λ range given.
+        let start = range_inclusive_start range in
+        let last = range_inclusive_end range in
+        let is_spent = range_inclusive_exhausted range && nat_le start last in
+        given ≡ (if is_spent then Between start last else Inclusive start last) };
+
+    fn from(range: RangeInclusive<usize>) -> StrRange {
+        let is_empty = range.is_empty();
+        let (start, last) = range.into_inner();
+        if is_empty && start <= last {
+            return StrRange::Between(start, last);
+        }
+        StrRange::Inclusive(start, last)
+    }
+}
+
+impl From<RangeToInclusive<usize>> for StrRange {
+    ghost from_gives = { λ range given. given ≡ ToInclusive range.end };
+
+    fn from(range: RangeToInclusive<usize>) -> StrRange {
+        StrRange::ToInclusive(range.end)
+    }
+}
+
+#[cfg(test)]
+mod tests;

@@ -1,0 +1,51 @@
+//! Why a range is refused.
+ghost use Rattle.std.specs.Prelude.{◌≡◌, Some};
+
+use std::error::Error;
+use std::fmt;
+
+/// Why a range is refused. The tests come in the order of the variants.
+#[derive(Clone, Copy, Debug, PartialEq, Eq, Hash)]
+pub enum RangeFault {
+    /// The start is after the end.
+    OutOfOrder,
+    /// The end is after the end of the text.
+    PastEnd,
+    /// The end is after the last place that a slice may end at.
+    TooFar,
+    /// The start or the end is inside a character.
+    OffBoundary,
+}
+
+impl RangeFault {
+    ghost use Rattle.arcstr_range.specs.RangeFault.{number_of};
+
+    /// The number of the fault, from 1 on in the order of the tests.
+    pub fn number(&self) -> u8
+        ensures { result ≡ number_of self.now }
+    {
+        match self {
+            RangeFault::OutOfOrder => 1,
+            RangeFault::PastEnd => 2,
+            RangeFault::TooFar => 3,
+            RangeFault::OffBoundary => 4,
+        }
+    }
+}
+
+impl fmt::Display for RangeFault {
+    ghost use Rattle.arcstr_range.specs.RangeFault.{text_of};
+
+    ghost output = { λ fault. Some (text_of fault) };
+
+    fn fmt<W: fmt::Write>(&self, f: &mut fmt::Formatter<W>) -> fmt::Result {
+        f.write_str(match self {
+            RangeFault::OutOfOrder => "range start is after its end",
+            RangeFault::PastEnd => "range ends past the text",
+            RangeFault::TooFar => "range ends past 4294967295",
+            RangeFault::OffBoundary => "range cuts a character",
+        })
+    }
+}
+
+impl Error for RangeFault {}

@@ -1,0 +1,81 @@
+//! Ranges and places on a text.
+ghost use Rattle.std.specs.Prelude.{◌≡◌, ◌+◌, ◌↔◌, OnOk, length, IsTrue, IsOk, IsErrOf, IfOk, IfErr, IsSome, IfSome};
+ghost use Rattle.std.specs.Str.{IsCharBoundary};
+ghost use Rattle.arcstr_range.specs.Text.{IsFrontLength, SpellsBetween};
+ghost use Rattle.arcstr_range.specs.declared.range.fault.RangeFault.{RangeFault};
+ghost use Rattle.arcstr_range.specs.Ends.{ends_in, cut_by, IsLawfulRange, IsSliceRange, IsFirstRangeFault};
+ghost use Rattle.arcstr_range.specs.Substring.{substring_at, text_of, inner_by, IsSound};
+
+use crate::range::{RangeFault, StrRange};
+use std::ops::Range;
+
+/// Whether the text may be cut at the place: exactly if the place is the byte length of a front of
+/// the text's characters.
+pub fn is_boundary(text: &str, place: usize) -> bool
+    ensures boundary { IsTrue result ↔ IsCharBoundary text.now place }
+    ensures front { IsTrue result ↔ IsFrontLength text.now place }
+{
+    text.is_char_boundary(place)
+}
+
+/// The start and the end of the range in the text.
+///
+/// Refuses the first that fails: the start is at most the end (`OutOfOrder`), the end at most the
+/// text's length (`PastEnd`) and at most `MAX_PLACE` (`TooFar`), and both are boundaries
+/// (`OffBoundary`).
+pub fn checked_ends(text: &str, range: StrRange) -> Result<(usize, usize), RangeFault>
+    ensures value { IfOk result (λ ends. ends ≡ ends_in text.now range) }
+    ensures lawful { IsOk result ↔ IsLawfulRange text.now range }
+    ensures fault { IfErr result (IsFirstRangeFault text.now range) }
+    ensures only_fault { (fault : RangeFault) → IsFirstRangeFault text.now range fault → IsErrOf result fault }
+{
+    let (start, end) = range.ends(text.len())?;
+    if !text.is_char_boundary(start) || !text.is_char_boundary(end) {
+        return Err(RangeFault::OffBoundary);
+    }
+    Ok((start, end))
+}
+
+/// The start and the end, in the parent, of a range in a substring of it, the parent's `outer`.
+///
+/// The range is measured in the substring's own text, and refused as `checked_ends` of that text
+/// refuses it. The ends that are found are lawful in the parent, and cut the same text from it.
+pub fn inner_ends(
+    parent: &str,
+    outer: Range<usize>,
+    range: StrRange,
+) -> Result<(usize, usize), RangeFault>
+    requires { IsSound (substring_at parent.now outer.start outer.end) }
+    ensures value { let inner = inner_by (substring_at parent.now outer.start outer.end) range in
+        IfOk result (λ ends. ends ≡ (inner.start, inner.end)) }
+    ensures sound { let inner = inner_by (substring_at parent.now outer.start outer.end) range in
+        OnOk result (IsSound inner) }
+    ensures same_text { let substring = substring_at parent.now outer.start outer.end in
+        OnOk result (text_of (inner_by substring range) ≡ cut_by (text_of substring) range) }
+
+    ensures lawful { let own = text_of (substring_at parent.now outer.start outer.end) in
+        IsOk result ↔ IsLawfulRange own range }
+    ensures fault { let own = text_of (substring_at parent.now outer.start outer.end) in
+        IfErr result (IsFirstRangeFault own range) }
+    ensures only_fault { let own = text_of (substring_at parent.now outer.start outer.end) in
+        (fault : RangeFault) → IsFirstRangeFault own range fault → IsErrOf result fault }
+{
+    let own = &parent[outer.start..outer.end];
+    let (start, end) = checked_ends(own, range)?;
+    Ok((outer.start + start, outer.start + end))
+}
+
+/// The slice of the text between the ends of the range, as Rust's `str::get`: `None` exactly where
+/// the ends are out of order, past the text or inside a character. `MAX_PLACE` is no limit here.
+pub fn slice(text: &str, range: StrRange) -> Option<&str>
+    ensures some { IsSome result ↔ IsSliceRange text.now range }
+    ensures value { IfSome result (λ part. part.now ≡ cut_by text.now range) }
+    ensures characters { let ends = ends_in text.now range in
+        IfSome result (λ part. SpellsBetween text.now ends.0 ends.1 part.now) }
+{
+    let (start, end) = range.usize_ends(text.len())?;
+    if start > end || !text.is_char_boundary(start) || !text.is_char_boundary(end) {
+        return None;
+    }
+    Some(&text[start..end])
+}

@@ -1,0 +1,194 @@
+use super::*;
+use std::test::Fail;
+
+const LIMIT: usize = 4294967295;
+
+const MAX: usize = usize::MAX;
+
+// Through the bound, as the text types take a range.
+fn found<R: Into<StrRange> + Drop>(text: &str, range: R) -> Result<(usize, usize), RangeFault> {
+    checked_ends(text, range.into())
+}
+
+#[test]
+fn ends_of_a_full_range_stop_at_the_limit(rt: HostRuntime) {
+    assert_eq!(rt; StrRange::Full.ends(LIMIT), Ok((0, LIMIT)));
+    assert_eq!(rt; StrRange::Full.ends(LIMIT + 1), Err(RangeFault::TooFar));
+}
+
+#[test]
+fn ends_past_the_length_come_before_the_limit(rt: HostRuntime) {
+    assert_eq!(rt; StrRange::To(LIMIT + 1).ends(10), Err(RangeFault::PastEnd));
+    assert_eq!(rt; StrRange::To(10).ends(10), Ok((0, 10)));
+}
+
+#[test]
+fn inclusive_ends_do_not_wrap(rt: HostRuntime) {
+    assert_eq!(rt;
+        StrRange::ToInclusive(MAX).ends(10),
+        Err(RangeFault::PastEnd)
+    );
+    assert_eq!(rt;
+        StrRange::ToInclusive(MAX).ends(MAX),
+        Err(RangeFault::PastEnd)
+    );
+    assert_eq!(rt;
+        StrRange::Inclusive(MAX, MAX).ends(MAX),
+        Err(RangeFault::PastEnd)
+    );
+}
+
+#[test]
+fn inclusive_ends_at_the_limit(rt: HostRuntime) {
+    assert_eq!(rt;
+        StrRange::ToInclusive(LIMIT - 1).ends(LIMIT + 1),
+        Ok((0, LIMIT))
+    );
+    assert_eq!(rt;
+        StrRange::ToInclusive(LIMIT).ends(LIMIT + 1),
+        Err(RangeFault::TooFar)
+    );
+}
+
+#[test]
+fn starts_past_the_limit(rt: HostRuntime) {
+    assert_eq!(rt;
+        StrRange::From(LIMIT + 1).ends(LIMIT + 1),
+        Err(RangeFault::TooFar)
+    );
+    assert_eq!(rt;
+        StrRange::Between(LIMIT + 2, LIMIT + 1).ends(LIMIT + 1),
+        Err(RangeFault::OutOfOrder)
+    );
+    assert_eq!(rt; StrRange::To(MAX).ends(MAX), Err(RangeFault::TooFar));
+}
+
+#[test]
+fn from_a_place(rt: HostRuntime) {
+    assert_eq!(rt; found("aé", 3..), Ok((3, 3)));
+    assert_eq!(rt; found("aé", 2..), Err(RangeFault::OffBoundary));
+    assert_eq!(rt; found("aé", 4..), Err(RangeFault::OutOfOrder));
+    assert_eq!(rt; found("aé", MAX..), Err(RangeFault::OutOfOrder));
+}
+
+#[test]
+fn up_to_a_place(rt: HostRuntime) {
+    assert_eq!(rt; found("aé", ..0), Ok((0, 0)));
+    assert_eq!(rt; found("aé", ..2), Err(RangeFault::OffBoundary));
+    assert_eq!(rt; found("aé", ..4), Err(RangeFault::PastEnd));
+    assert_eq!(rt; found("aé", ..MAX), Err(RangeFault::PastEnd));
+}
+
+#[test]
+fn between_places(rt: HostRuntime) {
+    assert_eq!(rt; found("aé", 1..3), Ok((1, 3)));
+    assert_eq!(rt; found("aé", 2..1), Err(RangeFault::OutOfOrder));
+    assert_eq!(rt; found("aé", 9..8), Err(RangeFault::OutOfOrder));
+    assert_eq!(rt; found("aé", 0..4), Err(RangeFault::PastEnd));
+    assert_eq!(rt; found("aé", 0..2), Err(RangeFault::OffBoundary));
+}
+
+#[test]
+fn between_equal_and_greatest_places(rt: HostRuntime) {
+    assert_eq!(rt; found("aé", 2..2), Err(RangeFault::OffBoundary));
+    assert_eq!(rt; found("aé", MAX..0), Err(RangeFault::OutOfOrder));
+    assert_eq!(rt; found("aé", MAX..MAX), Err(RangeFault::PastEnd));
+}
+
+#[test]
+fn between_a_place_and_a_last_one(rt: HostRuntime) {
+    assert_eq!(rt; found("aé", 0..=0), Ok((0, 1)));
+    assert_eq!(rt; found("aé", 1..=1), Err(RangeFault::OffBoundary));
+    assert_eq!(rt; found("aé", 3..=2), Ok((3, 3)));
+    assert_eq!(rt; found("aé", 4..=2), Err(RangeFault::OutOfOrder));
+}
+
+#[test]
+fn between_greatest_places_inclusive_and_by_the_form_itself(rt: HostRuntime) {
+    assert_eq!(rt; found("aé", MAX..=0), Err(RangeFault::OutOfOrder));
+    assert_eq!(rt; found("aé", MAX..=MAX), Err(RangeFault::PastEnd));
+    assert_eq!(rt; found("aé", StrRange::From(1)), Ok((1, 3)));
+}
+
+#[test]
+fn up_to_a_last_place(rt: HostRuntime) {
+    assert_eq!(rt; found("aé", ..=0), Ok((0, 1)));
+    assert_eq!(rt; found("aé", ..=2), Ok((0, 3)));
+    assert_eq!(rt; found("aé", ..=3), Err(RangeFault::PastEnd));
+    assert_eq!(rt; found("aé", ..), Ok((0, 3)));
+}
+
+#[test]
+fn a_spent_inclusive_range_is_empty(rt: HostRuntime) {
+    let mut range = 1..=1;
+    assert_eq!(rt; range.next(), Some(1));
+    assert_eq!(rt; StrRange::from(range), StrRange::Between(1, 1));
+    assert_eq!(rt; StrRange::from(1..=1), StrRange::Inclusive(1, 1));
+}
+
+#[test]
+fn slices_are_those_of_str(rt: HostRuntime) {
+    assert_eq!(rt; slice("aé", StrRange::Between(1, 3)), Some("é"));
+    assert_eq!(rt; slice("aé", StrRange::Between(0, 2)), None);
+    assert_eq!(rt; slice("aé", StrRange::Between(2, 2)), None);
+    assert_eq!(rt; slice("aé", StrRange::ToInclusive(MAX)), None);
+}
+
+#[test]
+fn boundaries_are_between_characters(rt: HostRuntime) {
+    assert!(rt; is_boundary("aé", 0));
+    assert!(rt; is_boundary("aé", 1));
+    assert!(rt; !is_boundary("aé", 2));
+    assert!(rt; is_boundary("aé", 3));
+    assert!(rt; !is_boundary("aé", 4));
+}
+
+#[test]
+fn inner_ends_are_measured_in_the_substring(rt: HostRuntime) {
+    assert_eq!(rt;
+        inner_ends("foobarbaz", 3..6, StrRange::Between(1, 3)),
+        Ok((4, 6))
+    );
+    assert_eq!(rt;
+        inner_ends("foobarbaz", 3..6, StrRange::Between(2, 2)),
+        Ok((5, 5))
+    );
+    assert_eq!(rt;
+        inner_ends("foobarbaz", 3..6, StrRange::Between(0, 5)),
+        Err(RangeFault::PastEnd)
+    );
+    assert_eq!(rt;
+        inner_ends("foobarbaz", 3..9, StrRange::Between(1, 5)),
+        Ok((4, 8))
+    );
+}
+
+#[test]
+fn faults_have_their_numbers(rt: HostRuntime) {
+    assert_eq!(rt; RangeFault::OutOfOrder.number(), 1);
+    assert_eq!(rt; RangeFault::PastEnd.number(), 2);
+    assert_eq!(rt; RangeFault::TooFar.number(), 3);
+    assert_eq!(rt; RangeFault::OffBoundary.number(), 4);
+}
+
+#[test]
+fn faults_write_their_texts(rt: HostRuntime) -> Result<(), Fail> {
+    let alloc = rt.alloc();
+    assert_eq!(rt;
+        RangeFault::OutOfOrder.to_string(alloc)?.as_str(),
+        "range start is after its end"
+    );
+    assert_eq!(rt;
+        RangeFault::PastEnd.to_string(alloc)?.as_str(),
+        "range ends past the text"
+    );
+    assert_eq!(rt;
+        RangeFault::TooFar.to_string(alloc)?.as_str(),
+        "range ends past 4294967295"
+    );
+    assert_eq!(rt;
+        RangeFault::OffBoundary.to_string(alloc)?.as_str(),
+        "range cuts a character"
+    );
+    Ok(())
+}

@@ -1,0 +1,137 @@
+//! Views of a text, which remember the place where it stands.
+ghost use Rattle.std.specs.Prelude.{◌≡◌, ◌↔◌, ◌+◌, ◌≤◌, length, IsTrue, IsSome, IfSome};
+ghost use Rattle.std.specs.Str.{trim, trim_end, trim_start};
+ghost use Rattle.arcstr_range.specs.Ends.{IsSliceable};
+ghost use Rattle.arcstr_range.specs.Trim.{Trims, TrimsEnd, TrimsStart};
+ghost use Rattle.arcstr_range.specs.View.{IsFoundAt, end_of, part_of, view_at};
+
+use crate::range::{StrRange, checked_ends, slice};
+use std::marker::Model;
+use std::ops::Range;
+
+/// A text and the place, in bytes, where it says that it stands in a longer text, its parent. The
+/// parent is not kept: `is_found_in` tells whether a text has the view there.
+///
+/// The place and the text's length have a sum of at most `usize::MAX`.
+#[derive(Debug, Drop)]
+pub struct StrView<'a> {
+    text: &'a str,
+    place: usize,
+}
+
+impl<'a> Model for StrView<'a> {
+    ghost use Rattle.std.specs.Prelude.{◌^◌, ◌<◌};
+    ghost use Rattle.arcstr_range.specs.View.{View, view_at, end_of};
+
+    ghost Value = { View };
+
+    ghost view = { λ fields. view_at fields.text.now fields.place };
+
+    ghost invariant = { λ fields. end_of (view_at fields.text.now fields.place) < 2 ^ 64 };
+}
+
+impl<'a> StrView<'a> {
+    /// The view of a whole text, at place 0.
+    pub fn whole(text: &'a str) -> StrView<'a>
+        ensures { result ≡ view_at text.now 0 }
+    {
+        StrView { text, place: 0 }
+    }
+
+    /// The view of a text that stands at a place. `None` exactly where the place and the text's length
+    /// have a sum above `usize::MAX`.
+    pub fn at(text: &'a str, place: usize) -> Option<StrView<'a>>
+        ensures some { IsSome result ↔ (place + length text.now ≤ usize.MAX) }
+        ensures value { IfSome result (λ view. view ≡ view_at text.now place) }
+    {
+        place.checked_add(text.len())?;
+        Some(StrView { text, place })
+    }
+
+    /// The view's text.
+    pub fn text(&self) -> &'a str
+        ensures { result.now ≡ self.now.text }
+    {
+        self.text
+    }
+
+    /// The place, in bytes, where the view's text stands.
+    pub fn place(&self) -> usize
+        ensures value { result ≡ self.now.place }
+        ensures fits { end_of self.now ≤ usize.MAX }
+    {
+        self.place
+    }
+
+    /// The range of places that the view takes: from its place on, as long as its text.
+    pub fn range(&self) -> Range<usize>
+        ensures start { result.start ≡ self.now.place }
+        ensures end { result.end ≡ end_of self.now }
+    {
+        self.place..self.place + self.text.len()
+    }
+
+    /// The part of the view between two places of its own text. `None` exactly where these are out of
+    /// order, past the text or inside a character.
+    pub fn cut(&self, range: Range<usize>) -> Option<StrView<'a>>
+        ensures some { IsSome result ↔ IsSliceable self.now.text range.start range.end }
+        ensures value { IfSome result (λ part. part ≡ part_of self.now range.start range.end) }
+    {
+        let start = range.start;
+        let text = slice(self.text, range.into())?;
+        Some(StrView {
+            text,
+            place: self.place + start,
+        })
+    }
+
+    /// The view without the white space in front. Its place moves by the bytes of that.
+    pub fn trim_start(&self) -> StrView<'a>
+        ensures longest { TrimsStart self.now result }
+        ensures text { result.text ≡ trim_start self.now.text }
+    {
+        let whole = self.text();
+        let text = whole.trim_start();
+        StrView {
+            text,
+            place: self.place + (whole.len() - text.len()),
+        }
+    }
+
+    /// The view without the white space behind. Its place stays.
+    pub fn trim_end(&self) -> StrView<'a>
+        ensures longest { TrimsEnd self.now result }
+        ensures text { result.text ≡ trim_end self.now.text }
+    {
+        StrView {
+            text: self.text.trim_end(),
+            place: self.place,
+        }
+    }
+
+    /// The view without the white space in front and behind.
+    pub fn trim(&self) -> StrView<'a>
+        ensures longest { Trims self.now result }
+        ensures text { result.text ≡ trim self.now.text }
+    {
+        self.trim_start().trim_end()
+    }
+
+    /// Whether the parent has the view's text at the view's place, in a lawful range. An empty view is
+    /// found in every text.
+    pub fn is_found_in(&self, parent: &str) -> bool
+        ensures { IsTrue result ↔ IsFoundAt parent.now self.now.text self.now.place }
+    {
+        if self.text.is_empty() {
+            return true;
+        }
+        let range = self.range();
+        match checked_ends(parent, range.into()) {
+            Ok((start, end)) => &parent[start..end] == self.text,
+            Err(_) => false,
+        }
+    }
+}
+
+#[cfg(test)]
+mod tests;
