@@ -18,7 +18,6 @@ use Rattle.std.proofs.Common.{◌≡◌}
 use mathlib.Core.Logic.{dite}
 use native.Mathlib.Decide.{ℕ_discrete}
 use base.Logic.{emp, all_i, all_e}
-use base.Fml.{GName}
 use types.Kit.{fpack}
 use Rattle.arcstr_count.specs.declared.steps.Step.{Step}
 use Rattle.arcstr_count.specs.declared.steps.HandleState.TheVariants.{Free}
