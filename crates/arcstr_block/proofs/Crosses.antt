@@ -22,7 +22,7 @@ use Rattle.arcstr_count.specs.declared.steps.Step.{Step}
 use Rattle.arcstr_count.specs.declared.steps.HandleState.{HandleState}
 use Rattle.arcstr_count.specs.declared.steps.HandleState.TheVariants.{Free, Dropping, Owing}
 use Rattle.arcstr_block.specs.Book.{steps, state_code, reached, seat_share, Book}
-use Rattle.arcstr_block.specs.Ledger.{Id, Phase, unmarked, marked, rest, stated, if_alive, known, right_to, shown, block_owns, block_shares, value_at}
+use Rattle.arcstr_block.specs.Ledger.{Id, Names, Phase, unmarked, marked, rest, stated, if_alive, known, right_to, shown, block_owns, block_shares, value_at}
 use Rattle.arcstr_block.specs.contracts.block.Block.{the_row as block_row}
 use Rattle.arcstr_block.specs.contracts.pointer.Pointer as C
 
@@ -72,7 +72,7 @@ module _ (P : Fml) (L b o : ℕ) (t : Id) (k : Keyless P) where
     shown_common (suc (suc (suc zero))) κ = (((λ q. tt), tt), (alive_keyless, common _))
     shown_common (suc (suc (suc (suc m)))) κ = tt
 
-known_keyless : (t : Id) (block : GName) (history : List Step) → Keyless (known t block history)
+known_keyless : (t : Id) (block : Names) (history : List Step) → Keyless (known t block history)
 known_keyless t block history = ((λ _. tt), reached_keyless t.2 history)
 
 module _ (T B : RattleType) (g : Ghosts B.Denot) (s : IsSend T) (y : IsSync T) (f : Frees g g.dealloc_token) where

@@ -1,7 +1,7 @@
 -- The data fields of a `Pointer`: an address and a marker. Assumes `Logic`.
 use Rattle.std.proofs.Common.{◌≡◌, ℕ, T, List, [], ◌∷◌, ◌++◌, refl, ap, ◌∙◌, lit<, ◌^◌, ◌<◌}
 use seplogic.Ra.Ura.{Ura}
-use mir.Syntax.{ty_ptr, ty_int, ty_struct, tcons, tnil, w64}
+use mir.Syntax.{Ty, ty_ptr, ty_int, ty_struct, tcons, tnil, w64}
 use mir.Val.{Val, vint, vstruct, vcons, vnil, of_list, has_ty, WT}
 use base.Logic.{ent, emp}
 use types.Logic.{Logic, sem}
@@ -31,6 +31,18 @@ found_val n p = vstruct (vcons (vint w64 n) (vcons (pointer_val p) vnil))
 pub found_typed : (n : ℕ) → n < 2 ^ 64 → (p : Ptr) → T (has_ty (ty_struct [] (tcons (ty_int w64) (tcons (ty_struct [] (tcons ty_ptr (tcons (ty_struct [] tnil) tnil))) tnil))) (found_val n p)) × WT (found_val n p)
 found_typed n fits (block_ptr b o) = (tt, (record { fits = fits }, ((tt, (tt, tt)), tt)))
 found_typed n fits null_ptr = (tt, (record { fits = fits }, ((record { fits = lit< tt }, (tt, tt)), tt)))
+
+abbrev pub two_val : Ptr → Ptr → Val
+two_val p q = vstruct (vcons (pointer_val p) (vcons (pointer_val q) vnil))
+
+abbrev pointer_ty : Ty
+pointer_ty = ty_struct [] (tcons ty_ptr (tcons (ty_struct [] tnil) tnil))
+
+pub two_typed : (p q : Ptr) → T (has_ty (ty_struct [] (tcons pointer_ty (tcons pointer_ty tnil))) (two_val p q)) × WT (two_val p q)
+two_typed (block_ptr b o) (block_ptr c u) = (tt, ((tt, (tt, tt)), ((tt, (tt, tt)), tt)))
+two_typed (block_ptr b o) null_ptr = (tt, ((tt, (tt, tt)), ((record { fits = lit< tt }, (tt, tt)), tt)))
+two_typed null_ptr (block_ptr c u) = (tt, ((record { fits = lit< tt }, (tt, tt)), ((tt, (tt, tt)), tt)))
+two_typed null_ptr null_ptr = (tt, ((record { fits = lit< tt }, (tt, tt)), ((record { fits = lit< tt }, (tt, tt)), tt)))
 
 module _ (R B : RattleType) (g : Ghosts B.Denot) where
   abbrev pub Words : RattleType

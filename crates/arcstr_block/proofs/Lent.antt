@@ -18,13 +18,12 @@ use Rattle.std.proofs.Common.{◌≡◌}
 use mathlib.Core.Logic.{dite}
 use native.Mathlib.Decide.{ℕ_discrete}
 use base.Logic.{emp, all_i, all_e}
-use base.Fml.{GName}
 use types.Kit.{fpack}
 use Rattle.arcstr_count.specs.declared.steps.Step.{Step}
 use Rattle.arcstr_count.specs.declared.steps.HandleState.TheVariants.{Free}
 use Rattle.arcstr_block.specs.Rights.{counted, uncounted}
 use Rattle.arcstr_block.specs.Book.{reached, seat, seat_share}
-use Rattle.arcstr_block.specs.Ledger.{Id, Inv, knows, known, for_good, with_share, free, held_with, seen, free_shown, shown}
+use Rattle.arcstr_block.specs.Ledger.{Id, Names, Inv, knows, names, known, for_good, with_share, free, held_with, seen, free_shown, shown}
 use Rattle.arcstr_block.proofs.Book.{reached_twice}
 
 good_twice : {M : Type 1} {𝓤 : Ura M} (𝓛 : Logic 𝓤) (P : Fml) (L b o : ℕ) (t : Id) → ent 𝓤 (sem 𝓛 (for_good P L b o t)) (sep 𝓤 (sem 𝓛 (for_good P L b o t)) (sem 𝓛 (for_good P L b o t)))
@@ -44,11 +43,11 @@ knows_twice {𝓤 = 𝓤} 𝓛 t right = let D = 𝓛.A.dead (t.1 ∷ []) in let
 knows_laws : (t : Id) (right : ℕ) → ShrLaws (said (knows t right))
 knows_laws t right = record { contraction = λ M 𝓤 𝓛 κ. knows_twice 𝓛 t right; mono = λ M 𝓤 𝓛 κ' κ. snd∗ 𝓤 (sem 𝓛 (before κ' κ)) (sem 𝓛 (knows t right)) }
 
-pub known_twice : {M : Type 1} {𝓤 : Ura M} (𝓛 : Logic 𝓤) (t : Id) (block : GName) (r : List Step) → ent 𝓤 (sem 𝓛 (known t block r)) (sep 𝓤 (sem 𝓛 (known t block r)) (sem 𝓛 (known t block r)))
+pub known_twice : {M : Type 1} {𝓤 : Ura M} (𝓛 : Logic 𝓤) (t : Id) (block : Names) (r : List Step) → ent 𝓤 (sem 𝓛 (known t block r)) (sep 𝓤 (sem 𝓛 (known t block r)) (sem 𝓛 (known t block r)))
 known_twice 𝓛 t block r = qed 𝓛 (‵ (known t block r) ∷ []) ∵ fsplit ! $ fpick ! (λ e. drop ! $ use1 𝓛 (‵ (reached t.2 r) ⊛ ‵ (reached t.2 r)) (reached_twice 𝓛 0 t.2 t.3 r) $ split ! $
-    nothing ! $ fpack ! (t.2 ≡ block) (λ _. ftrue) e $ fjoin ! $ move ! (1 ∷ []) $ nothing ! $ fpack ! (t.2 ≡ block) (λ _. ftrue) e $ fjoin ! $ done !)
+    nothing ! $ fpack ! (names t ≡ block) (λ _. ftrue) e $ fjoin ! $ move ! (1 ∷ []) $ nothing ! $ fpack ! (names t ≡ block) (λ _. ftrue) e $ fjoin ! $ done !)
 
-pub known_laws : (t : Id) (block : GName) (r : List Step) → ShrLaws (said (known t block r))
+pub known_laws : (t : Id) (block : Names) (r : List Step) → ShrLaws (said (known t block r))
 known_laws t block r = record { contraction = λ M 𝓤 𝓛 κ. known_twice 𝓛 t block r; mono = λ M 𝓤 𝓛 κ' κ. snd∗ 𝓤 (sem 𝓛 (before κ' κ)) (sem 𝓛 (known t block r)) }
 
 module _ (P : Fml) (L b o : ℕ) (s : Lft → Fml) (laws : ShrLaws s) (h : ℕ) where

@@ -1,4 +1,5 @@
 pub mod Parts
+pub mod Apart
 pub mod Atomic
 pub mod Lent
 pub mod Words

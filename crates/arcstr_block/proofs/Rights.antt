@@ -87,6 +87,10 @@ module _ {M : Type 1} {𝓤 : Ura M} (𝓛 : Logic 𝓤) (P : Fml) (L b o : ℕ)
     is_free h (suc (suc zero)) may = id⊢ 𝓤 _
     is_free h (suc (suc (suc k))) may = let high = may.1 in absurd (omega (arith, high))
 
+    -- a free handle has its seat
+    pub has_seat : (h right : ℕ) → IsFree right → ⟦ Right h right ⟧ ⊢ ⟦ seat t.3 h Free ⟧
+    has_seat h right may = qed 𝓛 (‵ (Right h right) ∷ []) ∵ use1 𝓛 (‵ (Rattle.arcstr_block.specs.Ledger.free P L b o t s h right)) (is_free h right may) $ fpick ! (λ e. fsplit3 ! $ move ! (2 ∷ []) $ fsplit3 ! $ keep ! (2 ∷ []) $ done !)
+
     knows_nothing : ⟦ ftrue ⟧ ⊢ ⟦ knows t 1 ⟧
     knows_nothing = all_i 𝓤 {P = emp 𝓤} (λ (_ : 1 ≡ uncounted). A.dead (t.1 ∷ [])) (λ e. absurd (omega (arith, e)))
 

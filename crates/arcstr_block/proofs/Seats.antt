@@ -8,7 +8,7 @@ use seplogic.Ra.Ura.{Ura}
 use seplogic.Ra.Constructions.Prod
 use seplogic.Ra.Instances.Ag
 use base.Fraction.{full_share}
-use base.Share.{quarter, three_quarters}
+use base.Share.{quarter, three_quarters, three_quarters_once}
 use base.FractionLaws.{not-OpDef-full_share}
 use base.Share
 use base.Stored.{Gv}
@@ -71,6 +71,11 @@ module _ {M : Type 1} {𝓤 : Ura M} (𝓛 : Logic 𝓤) (δ : ℕ) where
   both_say h q r w v = let a : Share × Gv = (q, c w) in let b : Share × Gv = (r, c v) in let F : Share × Gv → Pr = λ x. guard 𝓤 (x ∈ halved.op a b) ⟦ entry halved δ h x ⟧ in let Z : Pr = ⟦ seat_share δ h q w ⟧ ∗ ⟦ seat_share δ h r v ⟧ in
       via 𝓤 (ex 𝓤 F) (entry_glue halved 𝓛 δ h a b) (ex_e 𝓤 F (λ x. guard_e 𝓤 (x ∈ halved.op a b) ⟦ entry halved δ h x ⟧ (λ m.
       via 𝓤 Z (entry_cut halved 𝓛 δ h a b x m) (guard_i 𝓤 (w ≡ v) Z (state_row.coded.inj w v m.0.1)))))
+
+  -- a seat has one owner
+  pub one_owner : (h : ℕ) (v w : V) (Z : Pr) → ⟦ seat δ h v ⟧ ∗ ⟦ seat δ h w ⟧ ⊢ Z
+  one_owner h v w Z = let a : Share × Gv = (three_quarters, c v) in let b : Share × Gv = (three_quarters, c w) in let F : Share × Gv → Pr = λ x. guard 𝓤 (x ∈ halved.op a b) ⟦ entry halved δ h x ⟧ in
+      via 𝓤 (ex 𝓤 F) (entry_glue halved 𝓛 δ h a b) (ex_e 𝓤 F (λ x. guard_e 𝓤 (x ∈ halved.op a b) ⟦ entry halved δ h x ⟧ (λ m. absurd (three_quarters_once m.0.0))))
 
   -- beyond the last seat there is none
   no_seat : (h k : ℕ) (q : Share) (v d : V) (Z : Pr) → ◌<◌ h (suc k) → ⟦ seat_share δ k q v ⟧ ∗ ⟦ unused c δ h d ⟧ ⊢ Z

@@ -5,10 +5,10 @@ use Rattle.arcstr_count.specs.declared.steps.Step.TheVariants.{Look}
 use Rattle.arcstr_count.specs.declared.steps.Reply.TheVariants.{Count, Static}
 use Rattle.arcstr_count.specs.OneBlock.{EndsIn}
 
--- the bytes of the text, the name of the block's history, and the number of the handle in it
+-- the bytes of the text, the name of the block (of its history, and of the seats of its handles), and the number of the handle in it
 pub record Handle : Type 0 where
   pub text : List ℕ
-  pub block : ℕ
+  pub block : ℕ × ℕ
   pub seat : ℕ
 
 -- the history ends in a look of the handle h that the core answers by this number of handles

@@ -41,9 +41,16 @@ Id = ℕ × ℕ × GName × GName
 abbrev pub knows : Id → ℕ → Fml
 knows t right = fall (right ≡ uncounted) (λ _. fdead (t.1 ∷ []))
 
--- the block's name, and a beginning of its history
-abbrev pub known : Id → GName → List Step → Fml
-known t block history = fsep (fact (t.2 ≡ block)) (reached t.2 history)
+-- the block's names: of its history, and of its seats
+abbrev pub Names : Type 0
+Names = GName × GName
+
+abbrev pub names : Id → Names
+names t = (t.2, t.3)
+
+-- the block's names, and a beginning of its history
+abbrev pub known : Id → Names → List Step → Fml
+known t block history = fsep (fact (names t ≡ block)) (reached t.2 history)
 
 pub data Phase : Type 0 where
   unmarked : ℕ → Phase
@@ -137,8 +144,8 @@ module _ (holds : Ty → Ptr → Fml) (R : RattleType) (p : Ptr) (x : R.Denot) w
 abbrev pub in_block : Ptr → Fml
 in_block p = fact (InBlock p)
 
--- what a pointer says of itself: its allocator's right to free, its limit, its address, its content, its right, its handle's number, its block's name and a beginning of its history
-module _ (holds : Ty → Ptr → Fml) (R : RattleType) (L : ℕ) (p : Ptr) (x : R.Denot) (right h : ℕ) (block : GName) (history : List Step) where
+-- what a pointer says of itself: its allocator's right to free, its limit, its address, its content, its right, its handle's number, its block's names and a beginning of its history
+module _ (holds : Ty → Ptr → Fml) (R : RattleType) (L : ℕ) (p : Ptr) (x : R.Denot) (right h : ℕ) (block : Names) (history : List Step) where
   abbrev pub of_block : Id → Fml
   of_block t = fsep (known t block history) (held_with (block_owns holds R p x) L (block_of p) (count_of p + 0) t (block_shares holds R p x) h right)
 

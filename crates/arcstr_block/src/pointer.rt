@@ -1,6 +1,6 @@
 //! The pointer to a block. Every raw pointer and every atomic step of the crate is here.
 //! The word is `2 * count`, or `2 * count + 1` once the block is marked.
-ghost use Rattle.std.specs.Prelude.{◌≡◌, ℕ, List, ◌<◌};
+ghost use Rattle.std.specs.Prelude.{◌≡◌, ◌≢◌, ℕ, List, ◌<◌};
 ghost use Rattle.std.specs.Coded.{coded_list};
 ghost use Rattle.arcstr_count.specs.declared.steps.Step.{Step};
 ghost use Rattle.arcstr_count.specs.contracts.steps.Step.{the_row as step_row};
@@ -17,7 +17,7 @@ use std::sync::atomic::Ordering::SeqCst;
 use std::sync::atomic::raw;
 
 /// A pointer to a block, with a right, which `specs/Rights.antt` lists, and with a beginning of the block's history.
-/// `seat` is the number of its handle in that history, and `block` the name of the history.
+/// `seat` is the number of its handle in that history, and `block` the names of the history and of its seats.
 pub(crate) struct Pointer<X, A: Allocator> {
     at: *const Block<X>,
     marker: PhantomData<A>,
@@ -26,7 +26,7 @@ pub(crate) struct Pointer<X, A: Allocator> {
     pub ghost limit: { ℕ },
     pub ghost right: { ℕ },
     pub ghost seat: { ℕ },
-    pub ghost block: { ℕ },
+    pub ghost block: { ℕ × ℕ },
     pub ghost history: { List Step } by { coded_list step_row.coded },
 }
 
@@ -194,6 +194,17 @@ impl<X, A: Allocator> Pointer<X, A> {
         Seen {
             marker: PhantomData,
         }
+    }
+
+    /// Two free handles on one block have two seats. No step.
+    pub(crate) fn apart(self, other: Pointer<X, A>) -> (Pointer<X, A>, Pointer<X, A>)
+        requires first { IsFree self.right }
+        requires second { IsFree other.right }
+        ensures first { result.0 ≡ self }
+        ensures second { result.1 ≡ other }
+        ensures apart { self.block ≡ other.block → self.seat ≢ other.seat }
+    {
+        (self, other)
     }
 
     /// Lets go of a pointer that stands for nothing in the block's history.

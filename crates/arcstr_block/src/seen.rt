@@ -9,18 +9,18 @@ use std::marker::{Model, PhantomData};
 
 /// A beginning of the history of a block, for good. It takes no memory.
 ///
-/// `history` lists the steps in their order, and `block` names the block's history.
+/// `history` lists the steps in their order, and `block` names the block: its history, and the seats of its handles.
 #[derive(Drop)]
 pub struct Seen {
     pub(crate) marker: PhantomData<()>,
-    pub ghost block: { ℕ },
+    pub ghost block: { ℕ × ℕ },
     pub ghost history: { List Step } by { coded_list step_row.coded },
 }
 
 impl Model for Seen {
-    ghost also_owns = { λ s. reached s.block s.history };
+    ghost also_owns = { λ s. reached s.block.0 s.history };
 
-    ghost also_shares = { λ s _ κ. reached s.block s.history };
+    ghost also_shares = { λ s _ κ. reached s.block.0 s.history };
 }
 
 unsafe impl Send for Seen {}

@@ -1,5 +1,5 @@
 //! One handle on a block.
-ghost use Rattle.std.specs.Prelude.{◌≡◌, ◌↔◌, List, ℕ, length, IsErrOf, ◌<◌, ◌≤◌, ◌+◌, MatchResult, MatchOption, IfOk, IfErr, IfSome};
+ghost use Rattle.std.specs.Prelude.{◌≡◌, ◌≢◌, ◌↔◌, List, ℕ, length, IsErrOf, ◌<◌, ◌≤◌, ◌+◌, MatchResult, MatchOption, IfOk, IfErr, IfSome};
 ghost use Rattle.std.specs.String.{string_bytes};
 ghost use Rattle.arcstr_block.specs.Making.{IsTooLong, IsFaultOfMaking};
 ghost use Rattle.arcstr_block.specs.Rights.{IsFree, IsUnmarked, IsWord, IsClone};
@@ -150,6 +150,34 @@ impl<const LIMIT: u64, A: Allocator + Copy> Shared<LIMIT, A> {
             }
         }
         unreachable!()
+    }
+
+    /// The law that two handles on one block have two seats in its history. No step.
+    pub fn apart(self, other: Shared<LIMIT, A>) -> (Shared<LIMIT, A>, Shared<LIMIT, A>)
+        ensures first { result.0 ≡ self }
+        ensures second { result.1 ≡ other }
+        ensures apart { self.block ≡ other.block → self.seat ≢ other.seat }
+    {
+        let Shared { handle } = self;
+        let Counted {
+            pointer: first,
+            alloc: home,
+        } = handle;
+        let Shared { handle } = other;
+        let Counted {
+            pointer: second,
+            alloc,
+        } = handle;
+        let (first, second) = first.apart(second);
+        let first = Counted {
+            pointer: first,
+            alloc: home,
+        };
+        let second = Counted {
+            pointer: second,
+            alloc,
+        };
+        (Shared { handle: first }, Shared { handle: second })
     }
 
     /// The end of the handle. A look that finds the mark leaves the word as it is; else the count falls by one.

@@ -1,4 +1,4 @@
-ghost use Rattle.std.specs.Prelude.{◌≤◌};
+ghost use Rattle.std.specs.Prelude.{◌≡◌, ◌≢◌, ◌≤◌};
 ghost use Rattle.arcstr_count.specs.declared.words.TheConstants.{RC_MAX};
 
 use crate::{Down, Fixed, Shared, TextFault};
@@ -18,6 +18,28 @@ fn two_handles_are_counted(rt: HostRuntime) -> Result<(), Fail> {
     let second = first.up(&rt);
     assert_eq!(rt; (first.look().0, second.look().0), (Some(2), Some(2)));
     assert_eq!(rt; second.len(), 6);
+    Ok(())
+}
+
+/// A handle and its clone, which have two seats in the history of one block.
+fn cloned<R: Wait>(rt: &R, first: Shared<5, Global>) -> (Shared<5, Global>, Shared<5, Global>)
+    ensures kept { result.0 ≡ first }
+    ensures text { result.1.text ≡ first.text }
+    ensures block { result.1.block ≡ result.0.block }
+    ensures apart { result.0.seat ≢ result.1.seat }
+{
+    let second = first.up(rt);
+    first.apart(second)
+}
+
+#[test]
+fn apart_hands_both_back_in_order(rt: HostRuntime) -> Result<(), Fail> {
+    let first = Shared::<5, Global>::from_text(rt.alloc(), "foobar")?;
+    let other = Shared::<5, Global>::from_text(rt.alloc(), "foo")?;
+    let (first, second) = cloned(&rt, first);
+    let (second, other) = second.apart(other);
+    assert_eq!(rt; (second.as_str(), other.as_str()), ("foobar", "foo"));
+    assert_eq!(rt; (first.look().0, other.look().0), (Some(2), Some(1)));
     Ok(())
 }
 

@@ -26,7 +26,7 @@ use Rattle.core.proofs.atomic.Steps.{tail}
 use Rattle.atomic_table.proofs.Walks.{proved, leaves}
 use Rattle.atomic_table.proofs.Calls.{fm, seq_cst, found, finds, loads}
 use Rattle.arcstr_block.specs.Rights.{IsFree, IsMarked, IsUnmarked, Begins}
-use Rattle.arcstr_block.specs.Ledger.{Id, Inv, block_owns, block_shares, value_at, right_to, of_block, free}
+use Rattle.arcstr_block.specs.Ledger.{Id, names, Inv, block_owns, block_shares, value_at, right_to, of_block, free}
 use Rattle.arcstr_block.specs.contracts.pointer.Pointer as C
 use Rattle.arcstr_block.proofs.Fields.{pointer_val, typed, found_val, found_typed, Words, told, made}
 use Rattle.arcstr_count.specs.declared.steps.HandleState.TheVariants.{Free}
@@ -77,7 +77,7 @@ begin_spec 𝓤 𝓛 𝓜 𝓡 wired X Y L K g d dd met md =
     fsplit3 ! $ move ! (2 ∷ []) $ fpick ! (λ w. fsplit ! $ fpick ! (λ ok. drop ! $ drop ! $ let got = rights.begins 𝓛 P lim pb po t s sl n h.seat right e may one ok.1 in let k : ℕ = got.right in
     fsplit ! $ move ! (2 ∷ 3 ∷ 0 ∷ []) $ use3 𝓛 (later (‵ (right_to P lim pb po t s h.seat k))) got.turns $ await ! tt $
     -- [the right; the history's end; the invariant; what was known; the tokens]
-    move ! (2 ∷ 0 ∷ []) $ fjoin ! $ move ! (1 ∷ []) $ fpick ! (λ r'. fsplit ! $ fpick ! (λ ends. drop ! $ move ! (2 ∷ []) $ fsplit ! $ fpick ! (λ named. drop ! $ drop ! $ nothing ! $ fpack ! (t.2 ≡ h.block) (λ _. ftrue) named $ fjoin ! $ fjoin ! $
+    move ! (2 ∷ 0 ∷ []) $ fjoin ! $ move ! (1 ∷ []) $ fpick ! (λ r'. fsplit ! $ fpick ! (λ ends. drop ! $ move ! (2 ∷ []) $ fsplit ! $ fpick ! (λ named. drop ! $ drop ! $ nothing ! $ fpack ! (names t ≡ h.block) (λ _. ftrue) named $ fjoin ! $ fjoin ! $
     fpack ! Id (of_block holds R lim p h.value k h.seat h.block r') t $ nothing ! $ fpack ! (InBlock p) (λ _. ftrue) inb $ fjoin ! $ let h' : Row.Denot = record h { right = k; history = r' } in let r : Val = found_val n p in
     use0 𝓛 (‵ (D.own_val (p, (tt, tt)) (pointer_val p ∷ []))) (made R B g 𝓛 p) $ fjoin ! $ nothing ! $ flt_i ! n (2 ^ 64) fits $ feq_i ! (List Val) (vint w64 n ∷ []) (vint w64 n ∷ []) refl $ fjoin ! $
     move ! (0 ∷ 2 ∷ 1 ∷ []) $ fjoin3 ! $ feq_i ! (List Val) (r ∷ []) (r ∷ []) refl $ fjoin ! $

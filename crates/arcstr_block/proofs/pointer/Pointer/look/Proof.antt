@@ -32,7 +32,7 @@ use Rattle.core.specs.contracts.marker.PhantomData as Marker
 use Rattle.atomic_table.proofs.Walks.{proved, leaves}
 use Rattle.atomic_table.proofs.Calls.{fm, seq_cst, found, finds, loads}
 use Rattle.arcstr_block.specs.Rights.{IsFree, IsWord, Looks}
-use Rattle.arcstr_block.specs.Ledger.{Id, Inv, block_owns, block_shares, value_at, knows, right_to, of_block, pointer_shares}
+use Rattle.arcstr_block.specs.Ledger.{Id, names, Inv, block_owns, block_shares, value_at, knows, right_to, of_block, pointer_shares}
 use Rattle.arcstr_block.specs.contracts.pointer.Pointer as C
 use Rattle.arcstr_block.proofs.Fields.{pointer_val, typed, found_val, found_typed, Words, told, made, opened}
 use base.Share
@@ -99,7 +99,7 @@ look_spec 𝓤 𝓛 𝓜 𝓡 wired X Y L K g d dd met md =
     let got = rights.looked 𝓛 P lim pb po t s sl n w ok.2 ok.3 in let k : ℕ = got.right in
     move ! (0 ∷ 4 ∷ []) $ use2 𝓛 (later (‵ (right_to P lim pb po t s 0 k))) got.turns $ await ! tt $ move ! (3 ∷ 0 ∷ []) $ fjoin ! $
     -- [the right; the tokens; what is said; the beginning]
-    move ! (2 ∷ []) $ fpick ! (λ r'. fsplit ! $ fpick ! (λ ends. drop ! $ move ! (3 ∷ []) $ fsplit ! $ fpick ! (λ named. drop ! $ drop ! $ nothing ! $ fpack ! (t.2 ≡ h.block) (λ _. ftrue) named $ fjoin ! $ fjoin ! $
+    move ! (2 ∷ []) $ fpick ! (λ r'. fsplit ! $ fpick ! (λ ends. drop ! $ move ! (3 ∷ []) $ fsplit ! $ fpick ! (λ named. drop ! $ drop ! $ nothing ! $ fpack ! (names t ≡ h.block) (λ _. ftrue) named $ fjoin ! $ fjoin ! $
     fpack ! Id (of_block holds R lim p h.value k 0 h.block r') t $ nothing ! $ fpack ! (InBlock p) (λ _. ftrue) inb $ fjoin ! $ let h' : Row.Denot = record h { right = k; seat = 0; history = r' } in let r : Val = found_val n p in
     use0 𝓛 (‵ (D.own_val (p, (tt, tt)) (pointer_val p ∷ []))) (made R B g 𝓛 p) $ fjoin ! $ nothing ! $ flt_i ! n (2 ^ 64) fits $ feq_i ! (List Val) (vint w64 n ∷ []) (vint w64 n ∷ []) refl $ fjoin ! $
     move ! (0 ∷ 2 ∷ 1 ∷ []) $ fjoin3 ! $ feq_i ! (List Val) (r ∷ []) (r ∷ []) refl $ fjoin ! $

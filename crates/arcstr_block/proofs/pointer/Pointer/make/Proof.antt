@@ -29,7 +29,7 @@ use Rattle.core.proofs.alloc.Calls.{Goes-blank}
 use Rattle.std_alloc.proofs.ResultValues.{and_tt}
 use Rattle.atomic_table.proofs.Walks.{proved_at, leaves}
 use Rattle.arcstr_block.specs.Rights.{counted}
-use Rattle.arcstr_block.specs.Ledger.{Id, block_owns, block_shares, value_at, rejoins, held_with, of_block}
+use Rattle.arcstr_block.specs.Ledger.{Id, names, block_owns, block_shares, value_at, rejoins, held_with, of_block}
 use Rattle.arcstr_block.specs.contracts.block.Block.{the_row as block_row}
 use Rattle.arcstr_block.specs.contracts.pointer.Pointer as C
 use Rattle.arcstr_count.specs.declared.steps.Step.TheVariants.{Make}
@@ -62,7 +62,7 @@ make_spec 𝓤 𝓛 𝓜 𝓡 wired X Y L K g d dd met md =
     let sl = lent_at_shr_laws R (param_laws 0 X L).shr_laws (value_at holds R p x) x in
     use2 𝓛 (later (‵ (fex Id (λ t. fsep (reached t.2 (Make ∷ [])) (held_with P lim b (o + 0) t s 0 1))) ⊛ t₁))
     (begins 𝓛 P lim b (o + 0) s sl small κs.0 (Lends-first 𝓛 (lies_at R full_share (value_at holds R p x) x) _ s κs.0 (Lends-lies 𝓛 R κs.0 (value_at holds R p x) x (Shares-less 𝓛 R R.lives κs.0 leX ((param_laws 0 X L).shares 𝓛) x))) κs.0 qs.0 (Incl-refl κs.0)) $ await ! tt $ split ! $
-    fpick ! (λ t. fsplit ! $ nothing ! $ fpack ! (t.2 ≡ t.2) (λ _. ftrue) refl $ fjoin ! $ fjoin ! $ fpack ! Id (of_block holds R lim p x 1 0 t.2 (Make ∷ [])) t $
+    fpick ! (λ t. fsplit ! $ nothing ! $ fpack ! (names t ≡ names t) (λ _. ftrue) refl $ fjoin ! $ fjoin ! $ fpack ! Id (of_block holds R lim p x 1 0 (names t) (Make ∷ [])) t $
     -- [the owner; the tokens; the handle]
     nothing ! $ fpack ! (InBlock p) (λ _. ftrue) tt $ fjoin ! $ use0 𝓛 (‵ ((Words R Z g).own_val (p, (tt, tt)) (pointer_val p ∷ []))) (made R Z g 𝓛 p) $ fjoin ! $
     sets ! (of_opd ! (get_in ! (fld ! refl (stop !)) (sub ! 0 refl (whole !)))) refl (tt, tt) $ sets ! (of_opd ! (get_in ! (fld ! refl (stop !)) (sub ! 1 refl (whole !)))) refl fits $
@@ -70,7 +70,7 @@ make_spec 𝓤 𝓛 𝓜 𝓡 wired X Y L K g d dd met md =
     sets ! (agg ! (and_then ! (get ! refl) (and_then ! (get ! refl) (no_more !)))) refl (and_tt (mir.Val.has_ty (layout Z) h) fits.0, ((tt, (tt, tt)), (fits.1, tt))) $
     -- [the pointer; the tokens, in three; the handle]
     move ! (1 ∷ 2 ∷ 3 ∷ []) $ group ! 3 $ move ! (1 ∷ 2 ∷ []) $ nothing ! $ move ! (1 ∷ 2 ∷ 0 ∷ []) $ fjoin3 ! $
-    let h' : Row.Denot = record { at = p; marker = record {}; home = a; value = x; limit = lim; right = 1; seat = 0; block = t.2; history = Make ∷ [] } in let r : Val = both (pointer_val p) h in feq_i ! (List Val) (r ∷ []) (r ∷ []) refl $ fjoin ! $
+    let h' : Row.Denot = record { at = p; marker = record {}; home = a; value = x; limit = lim; right = 1; seat = 0; block = names t; history = Make ∷ [] } in let r : Val = both (pointer_val p) h in feq_i ! (List Val) (r ∷ []) (r ∷ []) refl $ fjoin ! $
     fpack ! (Valss (Row ∷ Z ∷ [])) (λ uss. fsep (feq (List Val) (r ∷ []) (vstruct (of_list (uss.0 ++ (uss.1.0 ++ []))) ∷ [])) (owns (Row ∷ Z ∷ []) (h', (a, tt)) uss)) (pointer_val p ∷ [], (h ∷ [], tt)) $
     let Home : Type 0 = (a ≡ a) × (a ≡ a) in use0 𝓛 (raw (fact 𝓤 (1 ≡ counted))) (fact_i 𝓤 (1 ≡ counted) (emp 𝓤) refl) $ use0 𝓛 (raw (fact 𝓤 (lim ≡ lim))) (fact_i 𝓤 (lim ≡ lim) (emp 𝓤) refl) $ join ! $
     use0 𝓛 (raw (fact 𝓤 (x ≡ x))) (fact_i 𝓤 (x ≡ x) (emp 𝓤) refl) $ join ! $ use0 𝓛 (raw (fact 𝓤 Home)) (fact_i 𝓤 Home (emp 𝓤) (refl, refl)) $ join ! $ nothing ! $ nothing ! $ fjoin ! $

@@ -26,7 +26,7 @@ use denote.Struct.Lending.{lent_out, lent_at_shr_laws}
 use denote.Triple.Walked.{Stays, stay_dropped, walk_of, Goes-dropped}
 use Rattle.core.specs.contracts.marker.PhantomData as Marker
 use Rattle.atomic_table.proofs.Walks.{proved, leaves}
-use Rattle.arcstr_block.specs.Ledger.{block_owns, block_shares, value_at, pointer_shares}
+use Rattle.arcstr_block.specs.Ledger.{Names, block_owns, block_shares, value_at, pointer_shares}
 use Rattle.arcstr_block.specs.contracts.pointer.Pointer as C
 use Rattle.arcstr_block.specs.contracts.seen.Seen as Seen
 use Rattle.arcstr_block.specs.Book.{reached}
@@ -55,7 +55,7 @@ seen_spec 𝓤 𝓛 𝓜 𝓡 wired X Y L K g d dd met md =
     enter ! 𝓣.C 𝓣.Λ fn (vptr b o ∷ []) Post $ alloc_all ! (λ l. pass_all ! refl ((tt, tt), tt) $
     use1 𝓛 (‵ (hidden_shr D κ (p, (tt, tt)) b o) ⊛ ‵ (fhide (pointer_shares holds R lim p h.value right h.seat h.block h.history κ)))
     (lent_out 𝓛 (C.struct R B g) (C.the_codes X.Denot Y.Denot R.coded B.coded (Marker.the_row B).coded) (C.the_heap R B g) (C.the_lent R B g) κ h b o) $
-    split ! $ drop ! $ unhide ! $ fsplit ! $ drop ! $ fpick ! (λ t. fsplit ! $ move ! (1 ∷ []) $ drop ! $ fsplit ! $ fpick ! (λ named. drop ! $ rewrite ! 0 (λ (γ : ℕ). ‵ (reached γ h.history)) named refl $
+    split ! $ drop ! $ unhide ! $ fsplit ! $ drop ! $ fpick ! (λ t. fsplit ! $ move ! (1 ∷ []) $ drop ! $ fsplit ! $ fpick ! (λ named. drop ! $ rewrite ! 0 (λ (block : Names). ‵ (reached block.0 h.history)) named refl $
     -- [the history's beginning; κ; the others]
     use0 𝓛 (‵ (D'.own_val (record {}, tt) (token ∷ []))) (token_made unit 𝓛) $ fjoin ! $ sets ! (agg ! (no_more !)) refl (tt, tt) $ sets ! (agg ! (and_then ! (get ! refl) (no_more !))) refl (tt, (tt, tt)) $
     move ! (1 ∷ 2 ∷ []) $ join ! $ move ! (1 ∷ []) $ let s' : S.Denot = record { marker = record {}; block = h.block; history = h.history } in
