@@ -1,4 +1,5 @@
-//! Scripts of steps on counted blocks, answered line by line: `arcbench script` answers its input.
+//! `arcbench script` answers its input, a script of steps on counted blocks; `arcbench threads N` starts
+//! callers of one text in threads of their own.
 #![tactic(auto)]
 
 mod pool;

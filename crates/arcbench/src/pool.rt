@@ -60,6 +60,10 @@ impl fmt::Display for PoolFault {
 impl Error for PoolFault {}
 
 impl From<AllocError> for PoolFault {
+    ghost use Rattle.arcbench.specs.declared.pool.PoolFault.TheVariants.{Memory};
+
+    ghost from_gives = { λ _ given. given ≡ Memory };
+
     fn from(_: AllocError) -> PoolFault {
         PoolFault::Memory
     }

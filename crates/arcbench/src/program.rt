@@ -66,6 +66,7 @@ where
         → IsAtEnd (R.remaining input.new.value) }
     ensures too_large { result ≡ 2 → IfSome (R.remaining input.old.value)
         (λ script. answer_to script ≡ Err LimitTooLarge) }
+    ensures too_large_of_scripts { result ≡ 2 → command_of (map (λ word. string_bytes word) words.now) ≡ Some Command.Script }
     ensures io { (result ≡ 4) ↔ (IsTrue input.new.failed ⊎ IsTrue output.new.failed) }
     ensures no_thread { result ≡ 5 → IsSomeAnd (command_of (map (λ word. string_bytes word) words.now)) IsForThreads }
 

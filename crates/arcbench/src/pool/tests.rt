@@ -1,6 +1,6 @@
 use super::{Gate, PoolFault, callers};
 use arcstr::ArcStr;
-use std::sync::atomic::{AtomicBool, Ordering};
+use std::sync::atomic::{AtomicBool, AtomicU64, Ordering};
 use std::test::Fail;
 
 /// How often a worker looks for the other's flag.
@@ -70,4 +70,31 @@ fn a_refused_call_leaves_one_handle(rt: HostRuntime) {
         Err(fault) => assert!(rt; fault == PoolFault::Memory || fault == PoolFault::NoThread),
     }
     assert_eq!(rt; ArcStr::strong_count(&text), Some(1));
+}
+
+/// Counts how often each of two workers passes.
+#[derive(Drop)]
+struct Counted {
+    passes: [AtomicU64; 2],
+}
+
+impl Gate for Counted {
+    fn pass(&self, worker: usize) {
+        if worker < 2 {
+            self.passes[worker].fetch_add(1, Ordering::SeqCst);
+        }
+    }
+}
+
+#[test]
+fn each_worker_passes_once_with_its_number(rt: HostRuntime) -> Result<(), Fail> {
+    let text = ArcStr::from_str(rt.alloc(), "foobar")?;
+    let gate = Counted {
+        passes: [AtomicU64::new(0), AtomicU64::new(0)],
+    };
+    let handles = callers(&rt, rt.alloc(), &text, 2, &gate)?;
+    assert_eq!(rt; handles.len(), 2);
+    assert_eq!(rt; gate.passes[0].load(Ordering::SeqCst), 1);
+    assert_eq!(rt; gate.passes[1].load(Ordering::SeqCst), 1);
+    Ok(())
 }
