@@ -62,6 +62,10 @@ impl<const LIMIT: u64, A: Allocator + Copy> Shared<LIMIT, A> {
         let Ok(mut copies) = String::with_capacity(alloc, length) else {
             return Err(TextFault::Memory);
         };
+        // Copies of an empty text are not counted out, since there may be `usize::MAX` of them.
+        if text.is_empty() {
+            return Ok(Shared::placed(memory, copies));
+        }
         for _ in 0..n {
             let Ok(()) = copies.push_str(text) else {
                 return Err(TextFault::Memory);

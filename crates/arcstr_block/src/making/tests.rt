@@ -1,4 +1,5 @@
 use crate::{Shared, TextFault};
+use linked_list_allocator::LocalHeap;
 use std::test::Fail;
 
 #[test]
@@ -35,4 +36,29 @@ fn bytes_that_are_no_text_are_refused(rt: HostRuntime) {
         }
     });
     assert!(rt; matches!(made, Err(TextFault::Utf8(2))));
+}
+
+/// There may be `usize::MAX` copies of nothing, and none of them is counted out.
+#[test]
+fn copies_of_nothing_are_made_at_once(rt: HostRuntime) -> Result<(), Fail> {
+    let made = Shared::<5, _>::repeat(rt.alloc(), "", usize::MAX)?;
+    assert_eq!(rt; made.len(), 0);
+    Ok(())
+}
+
+fn is_refused(heap: &LocalHeap) -> bool {
+    let made = Shared::<5, _>::init(heap, 3, |bytes| {
+        if let Some(byte) = bytes.get_mut(2) {
+            *byte = 255;
+        }
+    });
+    matches!(made, Err(TextFault::Utf8(2)))
+}
+
+#[test]
+fn a_refused_fill_gives_its_memory_back(rt: HostRuntime) -> Result<(), Fail> {
+    let heap = LocalHeap::new(rt.alloc(), 4096)?;
+    assert!(rt; is_refused(&heap));
+    assert_eq!(rt; heap.used(), 0);
+    Ok(())
 }
