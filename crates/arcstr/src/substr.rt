@@ -55,8 +55,8 @@ impl Substr {
         Substr::from_static("")
     }
 
-    /// A copy of this text in a block, with one request for memory, as a slice of itself; of the
-    /// empty literal where it is empty. Refused, in this order: a text that is too long for a block
+    /// A copy of this text in a block, as a slice of the whole of it; of the empty literal where the
+    /// text is empty. Refused, in this order: a text that is too long for a block
     /// (`Length`), one that has more than `MAX_PLACE` bytes (`TooFar`), and want of memory (`Memory`).
     pub fn from_str(alloc: Global, text: &str) -> Result<Substr, TextFault>
         ensures made { IfOk result (λ slice. slice ≡ whole_of (made_of text.now)) }

@@ -40,3 +40,13 @@ fn two_threads_clone_and_drop_one_text(rt: HostRuntime) -> Result<(), Fail> {
     assert_eq!(rt; ArcStr::strong_count(&text), Some(1));
     Ok(())
 }
+
+#[test]
+fn two_threads_read_one_static_text(rt: HostRuntime) -> Result<(), Fail> {
+    let text = ArcStr::from_str(rt.alloc(), "foobar")?;
+    let kept = text.leak();
+    let (first, second) = thread::join(&rt, || kept.len(), || kept.as_str().len());
+    assert_eq!(rt; first, 6);
+    assert_eq!(rt; second, 6);
+    Ok(())
+}
