@@ -30,7 +30,7 @@ pub enum Command {
 
 /// Why the program ends with a status above 0, in the words that it prints.
 #[derive(Debug, Drop, Error)]
-enum Fault {
+pub(crate) enum Fault {
     #[error("usage: arcbench script, arcbench threads N, arcbench tokens N")]
     Usage,
     #[error("arcbench: {0}")]
@@ -127,7 +127,7 @@ pub fn serve_without_words<E: Write>(errors: &mut E, error: &io::Error) -> u8
 }
 
 /// Prints the line of a fault, and answers its status.
-fn report<E: Write>(errors: &mut E, fault: &Fault) -> u8
+pub(crate) fn report<E: Write>(errors: &mut E, fault: &Fault) -> u8
     ensures { result ≡ status_of fault.now }
 {
     let _ = writeln!(errors, "{fault}");

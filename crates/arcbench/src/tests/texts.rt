@@ -10,3 +10,5 @@ pub const TOO_LARGE: &str = "arcbench: limit too large\n";
 pub const NO_MEMORY: &str = "arcbench: out of memory\n";
 
 pub const IO: &str = "arcbench: io\n";
+
+pub const NO_THREAD: &str = "arcbench: no thread\n";

@@ -1,6 +1,9 @@
 //! The words for callers in threads.
+use super::fakes::FakeWriter;
 use super::statuses::{NO_FAULT, expect, run_program};
-use super::texts::USAGE;
+use super::texts::{NO_MEMORY, NO_THREAD, USAGE};
+use crate::pool::PoolFault;
+use crate::program::{Fault, report};
 use std::test::Fail;
 
 #[test]
@@ -39,5 +42,20 @@ fn a_fault_of_writing_ends_the_callers_too(rt: HostRuntime) -> Result<(), Fail> 
     let found = run_program(&rt, &["threads", "1"], "", at)?;
     assert_eq!(rt; found.status, 4);
     assert_eq!(rt; found.output.as_slice(), b"worker".as_slice());
+    Ok(())
+}
+
+/// A test cannot take the machine's memory or threads away, so what the program says of their want is asked for itself.
+#[test]
+fn faults_of_the_pool_have_their_lines(rt: HostRuntime) -> Result<(), Fail> {
+    let faults = [
+        (PoolFault::Memory, 3, NO_MEMORY),
+        (PoolFault::NoThread, 5, NO_THREAD),
+    ];
+    for (fault, status, line) in faults {
+        let mut errors = FakeWriter::new(Vec::new(rt.alloc()), u64::MAX);
+        assert_eq!(rt; report(&mut errors, &Fault::Pool(fault)), status);
+        assert_eq!(rt; errors.taken.as_slice(), line.as_bytes());
+    }
     Ok(())
 }
