@@ -62,3 +62,54 @@ fn a_refused_fill_gives_its_memory_back(rt: HostRuntime) -> Result<(), Fail> {
     assert_eq!(rt; heap.used(), 0);
     Ok(())
 }
+
+/// The heaps grow by the least block that they hand out, so each request is once the first that is refused.
+const SIZES: usize = 16;
+
+const GRAIN: usize = 16;
+
+/// Whether a block of 40 bytes was made, and whether its closure ran.
+fn made_by_closure(heap: &LocalHeap) -> (bool, bool) {
+    let mut ran = false;
+    let made = Shared::<5, _>::init(heap, 40, |_| ran = true);
+    (made.is_ok(), ran)
+}
+
+#[test]
+fn each_request_of_a_fill_is_refused(rt: HostRuntime) -> Result<(), Fail> {
+    let mut refused = 0u64;
+    for size in 1..SIZES {
+        let heap = LocalHeap::new(rt.alloc(), size * GRAIN)?;
+        let (made, ran) = made_by_closure(&heap);
+        assert_eq!(rt; (made, heap.used()), (ran, 0));
+        if !made {
+            refused = refused.wrapping_add(1);
+        }
+    }
+    assert!(rt; 3 < refused && refused < 15);
+    Ok(())
+}
+
+/// Whether a block of 20 copies was made; else the answer is Memory.
+fn made_of_copies(heap: &LocalHeap) -> Option<bool> {
+    match Shared::<5, _>::repeat(heap, "ab", 20) {
+        Ok(made) => Some(made.len() == 40),
+        Err(TextFault::Memory) => Some(false),
+        Err(_) => None,
+    }
+}
+
+#[test]
+fn each_request_of_copies_is_refused(rt: HostRuntime) -> Result<(), Fail> {
+    let mut refused = 0u64;
+    for size in 1..SIZES {
+        let heap = LocalHeap::new(rt.alloc(), size * GRAIN)?;
+        let made = made_of_copies(&heap);
+        assert_eq!(rt; (made.is_some(), heap.used()), (true, 0));
+        if made == Some(false) {
+            refused = refused.wrapping_add(1);
+        }
+    }
+    assert!(rt; 3 < refused && refused < 15);
+    Ok(())
+}
