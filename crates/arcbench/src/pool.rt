@@ -1,6 +1,7 @@
 //! Callers in threads of their own, each with its own handle on one text.
-ghost use Rattle.std.specs.Prelude.{◌≡◌, ℕ, ◌<◌, ◌≤◌, IfOk, Some, vec_len, slice_index_or};
+ghost use Rattle.std.specs.Prelude.{◌≡◌, ◌≢◌, ℕ, ◌<◌, ◌≤◌, IfOk, Err, Some, vec_len, slice_index_or};
 ghost use Rattle.arcbench.specs.Pool.{pool_fault_number, pool_fault_text};
+ghost use Rattle.arcbench.specs.declared.pool.PoolFault.TheVariants.{NoThread};
 
 use arcstr::ArcStr;
 use std::alloc::{AllocError, Global};
@@ -134,6 +135,7 @@ fn joined<'a, R: Threads>(
     requires { (k : ℕ) (d : _) → k < vec_len started → (slice_index_or started.items k d).promise.0.now ≡ text.now }
     ensures one_each { IfOk result (λ handles. vec_len handles ≡ workers) }
     ensures same_text { IfOk result (λ handles. (worker : ℕ) (d : _) → worker < workers → slice_index_or handles.items worker d ≡ text.now) }
+    ensures no_thread { result ≡ Err NoThread → vec_len started.entry ≢ workers }
 {
     match thread::join_promised(rt, started) {
         Ok(handles) if handles.len() == workers => Ok(handles),

@@ -1,5 +1,5 @@
-use Rattle.std.proofs.Common.{◌≡◌, ◌<◌, ◌++◌, ◌∷◌, [], string_bytes, ℕ, suc, ◌+◌, ◌∙◌, ap, sym, add-one, append_assoc, length}
-use Rattle.arcbench.specs.Threads.{shared_text, worker_line, worker_lines}
+use Rattle.std.proofs.Common.{◌≡◌, ◌++◌, string_bytes, ℕ, ◌+◌, ◌∙◌, ap, sym, add-one, append_assoc}
+use Rattle.arcbench.specs.Threads.{worker_line, worker_lines}
 use Rattle.arcstr_count.specs.History.{numbers_below}
 use Rattle.arcbench.proofs.Joined.{concat-map-push}
 use Rattle.arcbench.proofs.threads.push_lines.Goals as goal
