@@ -1,11 +1,12 @@
 //! What the end of a handle leaves.
-ghost use Rattle.std.specs.Prelude.{◌≡◌, List, ℕ};
-ghost use Rattle.std.specs.String.{string_bytes};
+ghost use Rattle.std.specs.Prelude.{◌≡◌};
 ghost use Rattle.arcstr_block.specs.Rights.{owed};
+ghost use Rattle.arcstr_block.specs.Handle.{Debt};
 
 use crate::block::Block;
 use crate::pointer::Pointer;
 use std::alloc::Allocator;
+use std::marker::Model;
 
 /// How a handle ended.
 pub enum Down<A: Allocator> {
@@ -18,11 +19,18 @@ pub enum Down<A: Allocator> {
 }
 
 /// The memory of a block that nobody else has, to be given back. It cannot be let go otherwise.
+/// Contracts see its block's name, and the number of the handle that was subtracted last.
 pub struct Owed<A: Allocator> {
     pub(crate) pointer: Pointer<String<A>, A>,
     pub(crate) alloc: A,
     ghost right: { pointer.right ≡ owed },
     ghost home: { alloc ≡ pointer.home },
+}
+
+impl<A: Allocator> Model for Owed<A> {
+    ghost Value = { Debt };
+
+    ghost view = { λ o. record { block = o.pointer.block; seat = o.pointer.seat } };
 }
 
 impl<A: Allocator> Owed<A> {

@@ -41,7 +41,7 @@ impl<const LIMIT: u64, A: Allocator + Copy> Model for Shared<LIMIT, A> {
 }
 
 impl<const LIMIT: u64, A: Allocator + Copy> Shared<LIMIT, A> {
-    ghost use Rattle.arcstr_block.specs.Ending.{EndsAs};
+    ghost use Rattle.arcstr_block.specs.Ending.{EndsAs, OwesAs};
 
     /// The first handle on a new block with this text. A text that is too long is refused first, then
     /// whatever there is no memory for: the word, or the text beside it. An empty text has a block too.
@@ -183,6 +183,7 @@ impl<const LIMIT: u64, A: Allocator + Copy> Shared<LIMIT, A> {
     /// The end of the handle. A look that finds the mark leaves the word as it is; else the count falls by one.
     pub fn down(self) -> (Down<A>, Seen)
         ensures seen { EndsAs LIMIT result.1.history self.seat result.0 }
+        ensures owes { OwesAs self result.0 }
         ensures block { result.1.block ≡ self.block }
     {
         let Shared { handle } = self;
