@@ -2,7 +2,7 @@
 ghost use Rattle.std.specs.Prelude.{◌≡◌, ◌≢◌, ◌↔◌, List, ℕ, length, IsErrOf, ◌<◌, ◌≤◌, ◌+◌, MatchResult, MatchOption, IfOk, IfErr, IfSome};
 ghost use Rattle.std.specs.String.{string_bytes};
 ghost use Rattle.arcstr_block.specs.Making.{IsTooLong, IsFaultOfMaking};
-ghost use Rattle.arcstr_block.specs.Rights.{IsFree, IsUnmarked, IsWord, IsClone};
+ghost use Rattle.arcstr_block.specs.Rights.{owed, IsFree, HasSeat, IsUnmarked, IsWord, IsClone};
 ghost use Rattle.arcstr_block.specs.Handle.{Handle, SawCount, SawMark};
 
 use crate::block::{Block, empty_block};
@@ -158,26 +158,33 @@ impl<const LIMIT: u64, A: Allocator + Copy> Shared<LIMIT, A> {
         ensures second { result.1 ≡ other }
         ensures apart { self.block ≡ other.block → self.seat ≢ other.seat }
     {
-        let Shared { handle } = self;
-        let Counted {
-            pointer: first,
-            alloc: home,
-        } = handle;
         let Shared { handle } = other;
-        let Counted {
-            pointer: second,
-            alloc,
-        } = handle;
-        let (first, second) = first.apart(second);
-        let first = Counted {
-            pointer: first,
-            alloc: home,
+        let Counted { pointer, alloc } = handle;
+        let (first, pointer) = self.beside(pointer);
+        let second = Shared {
+            handle: Counted { pointer, alloc },
         };
-        let second = Counted {
-            pointer: second,
-            alloc,
+        (first, second)
+    }
+
+    /// The law of this handle beside a pointer that has a seat: they have two, and nothing that is owed is on its block. No step.
+    pub(crate) fn beside(
+        self,
+        other: Pointer<String<A>, A>,
+    ) -> (Shared<LIMIT, A>, Pointer<String<A>, A>)
+        requires { HasSeat other.right }
+        ensures first { result.0 ≡ self }
+        ensures second { result.1 ≡ other }
+        ensures apart { self.block ≡ other.block → self.seat ≢ other.seat }
+        ensures alone { other.right ≡ owed → other.block ≢ self.block }
+    {
+        let Shared { handle } = self;
+        let Counted { pointer, alloc } = handle;
+        let (other, pointer) = other.apart(pointer);
+        let first = Shared {
+            handle: Counted { pointer, alloc },
         };
-        (Shared { handle: first }, Shared { handle: second })
+        (first, other)
     }
 
     /// The end of the handle. A look that finds the mark leaves the word as it is; else the count falls by one.
