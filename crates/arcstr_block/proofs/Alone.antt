@@ -5,13 +5,13 @@ use Rattle.std.proofs.lemmas.Option.{get_or_from_slice_get, slice_get_within}
 use mathlib.Core.Option.{some}
 use seplogic.Ra.Ura.{Ura}
 use base.Fraction.{full_share}
+use base.Share.{three_quarters}
 use base.FractionLaws.{not-OpDef-full_share}
 use base.Growing.{growing, latest}
 use base.Logic.{SProp, ent, sep}
 use base.Fml.{Lft, GName, Fml}
 use types.Logic.{Logic, sem}
 use types.Owned.{own_sum}
-use base.Share.{three_quarters}
 use types.Kit.{‵, ◌⊛◌, given, ◌$◌, ◌∵◌, !, qed, by, move, keep, drop, fsplit, fsplit3, fpick, learn, use1, use2}
 use Rattle.atomic_table.specs.Seated.{roster}
 use Rattle.arcstr_count.specs.declared.steps.Step.{Step}
@@ -60,15 +60,17 @@ module _ {M : Type 1} {𝓤 : Ura M} (𝓛 : Logic 𝓤) where
   unfolding latest
   one_history γ r r' Z = own_sum 𝓛 (growing steps) γ (some full_share, r) (some full_share, r') Z (λ c m. absurd (not-OpDef-full_share full_share m.0.1.0.0))
 
+  -- and so one book
   one_book : (L L' : ℕ) (γ δ δ' : GName) (n n' : ℕ) (Z : Pr) → ⟦ Book L γ δ n ⟧ ∗ ⟦ Book L' γ δ' n' ⟧ ⊢ Z
   one_book L L' γ δ δ' n n' Z = qed 𝓛 (‵ (Book L γ δ n) ∷ ‵ (Book L' γ δ' n') ∷ []) ∵ fpick ! (λ x. fsplit3 ! $ move ! (3 ∷ []) $ fpick ! (λ y. fsplit3 ! $ keep ! (1 ∷ 4 ∷ []) $ by ! (one_history γ y.0 x.0 Z)))
 
+  -- beside the book of the word 0 no seat is a living handle's
   no_living_seat : (L : ℕ) (γ δ : GName) (h : ℕ) (state : HandleState) → lives state ≡ true → (Z : Pr) → ⟦ Book L γ δ 0 ⟧ ∗ ⟦ seat δ h state ⟧ ⊢ Z
   no_living_seat L γ δ h state alive Z = qed 𝓛 (‵ (Book L γ δ 0) ∷ ‵ (seat δ h state) ∷ []) ∵ fpick ! (λ x. fsplit3 ! $ fpick ! (λ keeps. drop ! $ move ! (1 ∷ 2 ∷ []) $
       use2 𝓛 (given (slice_get x.1 h ≡ Some state) (‵ (roster state_code δ 0 x.1) ⊛ ‵ (seat δ h state))) (agrees 𝓛 δ x.1 0 h h three_quarters state (sym (Rattle.std.proofs.Common.zero-add h))) $
       learn ! (λ at. absurd (none_lives L x.0 x.1 h state keeps at alive))))
 
-  -- beside the book of the word 0 there is no right with a seat
+  -- and no right has a seat
   module _ (P : Fml) (L b o : ℕ) (t : Id) (s : Lft → Fml) (laws : denote.Sharing.ShrLaws s) (L₀ h : ℕ) (Z : Pr) where
     abbrev Right : ℕ → Fml
     Right right = right_to P L b o t s h right

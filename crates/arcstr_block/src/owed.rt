@@ -51,7 +51,7 @@ impl<A: Allocator + Copy> Owed<A> {
         ensures alone { self.block ≢ other.block }
     {
         let Owed { pointer, alloc } = self;
-        let (other, pointer) = other.beside(pointer);
+        let (other, pointer) = other.apart_from(pointer);
         (Owed { pointer, alloc }, other)
     }
 }

@@ -196,7 +196,7 @@ impl<X, A: Allocator> Pointer<X, A> {
         }
     }
 
-    /// Two pointers on one block that have seats have two, and beside one that is owed there is none. No step.
+    /// The law of two pointers that have seats: on one block they have two, and a block that is owed has no other. No step.
     pub(crate) fn apart(self, other: Pointer<X, A>) -> (Pointer<X, A>, Pointer<X, A>)
         requires first { HasSeat self.right }
         requires second { HasSeat other.right }

@@ -160,15 +160,16 @@ impl<const LIMIT: u64, A: Allocator + Copy> Shared<LIMIT, A> {
     {
         let Shared { handle } = other;
         let Counted { pointer, alloc } = handle;
-        let (first, pointer) = self.beside(pointer);
+        let (first, pointer) = self.apart_from(pointer);
         let second = Shared {
             handle: Counted { pointer, alloc },
         };
         (first, second)
     }
 
-    /// The law of this handle beside a pointer that has a seat: they have two, and nothing that is owed is on its block. No step.
-    pub(crate) fn beside(
+    /// The law of this handle and a pointer that has a seat: on one block they have two, and what is owed is another
+    /// block. No step.
+    pub(crate) fn apart_from(
         self,
         other: Pointer<String<A>, A>,
     ) -> (Shared<LIMIT, A>, Pointer<String<A>, A>)
