@@ -1,5 +1,6 @@
 pub mod Parts
 pub mod Apart
+pub mod Alone
 pub mod Atomic
 pub mod Lent
 pub mod Words

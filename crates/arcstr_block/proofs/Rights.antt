@@ -15,7 +15,7 @@ use denote.Steps.{nothing}
 use Rattle.arcstr_count.specs.declared.steps.HandleState.{HandleState}
 use Rattle.arcstr_count.specs.declared.steps.HandleState.TheVariants.{Free, Dropping, Owing, Gone}
 use Rattle.arcstr_count.specs.Word.{FlagAndCount}
-use Rattle.arcstr_block.specs.Rights.{MaySee, IsFree, IsMarked, IsUnmarked, counted, uncounted, Looks, Finds, Gains, Begins, Leaves}
+use Rattle.arcstr_block.specs.Rights.{MaySee, IsFree, HasSeat, IsMarked, IsUnmarked, counted, uncounted, Looks, Finds, Gains, Begins, Leaves}
 use Rattle.arcstr_block.specs.Book.{seat, seat_share}
 use Rattle.arcstr_block.specs.Ledger.{Id, parts, some_share, Inv, stated, for_good, right_to, shown, knows}
 use Rattle.arcstr_block.proofs.Parts.{parts_in}
@@ -23,6 +23,12 @@ use Rattle.arcstr_block.proofs.Words.{odd_or_even, unmarked_word, last_two}
 use Rattle.arcstr_block.proofs.Book.{begun, left_in, Born}
 use Rattle.arcstr_block.proofs.Lent.{free_in}
 use Rattle.arcstr_block.proofs.Steps.{Gain, none, part, share, last, rank, gained}
+
+-- the state of the seat, of a right that has one
+abbrev pub seat_state : ℕ → HandleState
+seat_state (suc (suc (suc (suc zero)))) = Dropping
+seat_state (suc (suc (suc (suc (suc k))))) = Owing
+seat_state right = Free
 
 module _ {M : Type 1} {𝓤 : Ura M} (𝓛 : Logic 𝓤) (P : Fml) (L b o : ℕ) (t : Id) where
   open 𝓛 use {H, A}
@@ -87,9 +93,17 @@ module _ {M : Type 1} {𝓤 : Ura M} (𝓛 : Logic 𝓤) (P : Fml) (L b o : ℕ)
     is_free h (suc (suc zero)) may = id⊢ 𝓤 _
     is_free h (suc (suc (suc k))) may = let high = may.1 in absurd (omega (arith, high))
 
-    -- a free handle has its seat
-    pub has_seat : (h right : ℕ) → IsFree right → ⟦ Right h right ⟧ ⊢ ⟦ seat t.3 h Free ⟧
-    has_seat h right may = qed 𝓛 (‵ (Right h right) ∷ []) ∵ use1 𝓛 (‵ (Rattle.arcstr_block.specs.Ledger.free P L b o t s h right)) (is_free h right may) $ fpick ! (λ e. fsplit3 ! $ move ! (2 ∷ []) $ fsplit3 ! $ keep ! (2 ∷ []) $ done !)
+    free_has_seat : (h right : ℕ) → ⟦ Rattle.arcstr_block.specs.Ledger.free P L b o t s h right ⟧ ⊢ ⟦ seat t.3 h Free ⟧
+    free_has_seat h right = qed 𝓛 (‵ (Rattle.arcstr_block.specs.Ledger.free P L b o t s h right) ∷ []) ∵ fpick ! (λ e. fsplit3 ! $ move ! (2 ∷ []) $ fsplit3 ! $ keep ! (2 ∷ []) $ done !)
+
+    -- each right but to know the block or its mark has the seat of its handle
+    pub has_seat : (h right : ℕ) → HasSeat right → ⟦ Right h right ⟧ ⊢ ⟦ seat t.3 h (seat_state right) ⟧
+    has_seat h zero may = absurd (may.0 refl)
+    has_seat h (suc zero) may = free_has_seat h 1
+    has_seat h (suc (suc zero)) may = free_has_seat h 2
+    has_seat h (suc (suc (suc zero))) may = absurd (may.1 refl)
+    has_seat h (suc (suc (suc (suc zero)))) may = qed 𝓛 (‵ (Right h 4) ∷ []) ∵ fsplit3 ! $ keep ! (2 ∷ []) $ done !
+    has_seat h (suc (suc (suc (suc (suc k))))) may = qed 𝓛 (‵ (Right h 5) ∷ []) ∵ fsplit3 ! $ keep ! (2 ∷ []) $ done !
 
     knows_nothing : ⟦ ftrue ⟧ ⊢ ⟦ knows t 1 ⟧
     knows_nothing = all_i 𝓤 {P = emp 𝓤} (λ (_ : 1 ≡ uncounted). A.dead (t.1 ∷ [])) (λ e. absurd (omega (arith, e)))

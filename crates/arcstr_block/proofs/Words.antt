@@ -1,5 +1,5 @@
 -- The words that a step leaves, as numbers.
-use Rattle.std.proofs.Common.{◌≢◌, ◌==◌, eq-eqb, ne_eqb, true, false, if◌then◌else◌, inl, inr, ◌≡◌, ℕ, ◌+◌, ◌-◌, ◌*◌, ◌/◌, ◌%◌, ◌^◌, ◌<◌, refl, sym, ap, ◌∙◌, arith, lit<}
+use Rattle.std.proofs.Common.{◌≢◌, ◌==◌, eq-eqb, ne_eqb, true, false, if◌then◌else◌, inl, inr, ◌≡◌, ℕ, ◌+◌, ◌-◌, ◌*◌, ◌/◌, ◌%◌, ◌^◌, ◌<◌, ◌≤◌, refl, sym, ap, ◌∙◌, arith, lit<}
 use Rattle.std.specs.Prelude.{bit_or}
 use Rattle.std.specs.Int.Bits.{or_zero_r}
 use Rattle.std.proofs.lemmas.Nat.{or_block}
@@ -39,12 +39,20 @@ word_marked n = elim (odd_or_even n) [
 pub word_kept : (L n : ℕ) → IsMarked n → word_of n ≡ cloned_of L (word_of n)
 word_kept L n odd = marked_word n odd ∙ sym (ap (cloned_of L) (marked_word n odd))
 
+-- a clone below the limit counts one more
+cloned_below : (L old new : ℕ) → old / 2 ≤ L → IsUnmarked new → new / 2 ≡ old / 2 + 1 → word_of new ≡ cloned_of L (record { flag = false; count = old / 2 })
+cloned_below L old new room even more =
+    unmarked_word new even ∙ ap (λ c. record { flag = false; count = c }) more ∙ ap (λ b. if b then record { flag = true; count = old / 2 } else record { flag = false; count = old / 2 + 1 }) (sym (le-ltb L (old / 2) room))
+
+-- a clone above the limit marks
+cloned_above : (L old new : ℕ) → L < old / 2 → IsMarked new → new / 2 ≡ old / 2 → word_of new ≡ cloned_of L (record { flag = false; count = old / 2 })
+cloned_above L old new above odd same =
+    marked_word new odd ∙ ap (λ c. record { flag = true; count = c }) same ∙ ap (λ b. if b then record { flag = true; count = old / 2 } else record { flag = false; count = old / 2 + 1 }) (sym (lt-ltb L (old / 2) above))
+
 cloned_even : (L old new : ℕ) → IsClone L old new → word_of new ≡ cloned_of L (record { flag = false; count = old / 2 })
 cloned_even L old new asked = let even = asked.0 in dite (dec_le (old / 2) L)
-    (λ room. let is : new ≡ old + 2 = asked.2 room in let un : IsUnmarked new = omega (arith, is, even) in let k : new / 2 ≡ old / 2 + 1 = omega (arith, is) in
-    unmarked_word new un ∙ ap (λ c. record { flag = false; count = c }) k ∙ ap (λ b. if b then record { flag = true; count = old / 2 } else record { flag = false; count = old / 2 + 1 }) (sym (le-ltb L (old / 2) room)))
-    (λ above. let full : L < old / 2 = omega (arith, above) in let is : new ≡ old + 1 = asked.1 full in let od : IsMarked new = omega (arith, is, even) in let k : new / 2 ≡ old / 2 = omega (arith, is, even) in
-    marked_word new od ∙ ap (λ c. record { flag = true; count = c }) k ∙ ap (λ b. if b then record { flag = true; count = old / 2 } else record { flag = false; count = old / 2 + 1 }) (sym (lt-ltb L (old / 2) full)))
+    (λ room. let is : new ≡ old + 2 = asked.2 room in cloned_below L old new room (omega (arith, is, even)) (omega (arith, is)))
+    (λ not_below. let above : L < old / 2 = omega (arith, not_below) in let is : new ≡ old + 1 = asked.1 above in cloned_above L old new above (omega (arith, is, even)) (omega (arith, is, even)))
 
 pub word_cloned : (L old new : ℕ) → IsClone L old new → word_of new ≡ cloned_of L (word_of old)
 word_cloned L old new asked = cloned_even L old new asked ∙ sym (ap (cloned_of L) (unmarked_word old asked.0))

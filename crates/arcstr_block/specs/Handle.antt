@@ -11,6 +11,11 @@ pub record Handle : Type 0 where
   pub block : ℕ × ℕ
   pub seat : ℕ
 
+-- what the last subtraction of a block leaves owed: the block, and the handle in it that was subtracted
+pub record Debt : Type 0 where
+  pub block : ℕ × ℕ
+  pub seat : ℕ
+
 -- the history ends in a look of the handle h that the core answers by this number of handles
 abbrev pub SawCount : ℕ → List Step → ℕ → ℕ → Type 0
 SawCount limit history h n = EndsIn limit history (Look h) (Count n)

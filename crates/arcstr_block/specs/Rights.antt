@@ -33,6 +33,10 @@ IsFree right = (0 < right) × (right < 3)
 abbrev pub MaySee : ℕ → Type 0
 MaySee right = (0 < right) × (right < 4)
 
+-- the rights by which a pointer has the seat of its handle: all but to know the block, and that it is marked
+abbrev pub HasSeat : ℕ → Type 0
+HasSeat right = (right ≢ nothing) × (right ≢ fixed)
+
 -- the rights that stand for nothing in the block's history, and may be let go
 abbrev pub IsIdle : ℕ → Type 0
 IsIdle right = (right ≢ counted) × (right ≢ uncounted) × (right ≢ dropping) × (right ≢ owed)

@@ -29,4 +29,4 @@ module _ {X A : Type 0} where
 
   -- the subtraction of p's drop
   abbrev pub SubtractedAs : Pointer X A → ℕ → Pointer X A → Type 0
-  SubtractedAs p word q = (word ≡ 2 → SawStep p q (Sub p.seat) Owes) × ((word ≡ 2 → ⊥) → SawStep p q (Sub p.seat) Left)
+  SubtractedAs p word q = (q.seat ≡ p.seat) × (word ≡ 2 → SawStep p q (Sub p.seat) Owes) × ((word ≡ 2 → ⊥) → SawStep p q (Sub p.seat) Left)

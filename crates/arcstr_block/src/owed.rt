@@ -1,11 +1,13 @@
 //! What the end of a handle leaves.
-ghost use Rattle.std.specs.Prelude.{◌≡◌, List, ℕ};
-ghost use Rattle.std.specs.String.{string_bytes};
+ghost use Rattle.std.specs.Prelude.{◌≡◌, ◌≢◌};
 ghost use Rattle.arcstr_block.specs.Rights.{owed};
+ghost use Rattle.arcstr_block.specs.Handle.{Debt};
 
 use crate::block::Block;
 use crate::pointer::Pointer;
+use crate::shared::Shared;
 use std::alloc::Allocator;
+use std::marker::Model;
 
 /// How a handle ended.
 pub enum Down<A: Allocator> {
@@ -18,11 +20,18 @@ pub enum Down<A: Allocator> {
 }
 
 /// The memory of a block that nobody else has, to be given back. It cannot be let go otherwise.
+/// Contracts see its block's name, and the number of the handle that was subtracted last.
 pub struct Owed<A: Allocator> {
     pub(crate) pointer: Pointer<String<A>, A>,
     pub(crate) alloc: A,
     ghost right: { pointer.right ≡ owed },
     ghost home: { alloc ≡ pointer.home },
+}
+
+impl<A: Allocator> Model for Owed<A> {
+    ghost Value = { Debt };
+
+    ghost view = { λ o. record { block = o.pointer.block; seat = o.pointer.seat } };
 }
 
 impl<A: Allocator> Owed<A> {
@@ -31,6 +40,47 @@ impl<A: Allocator> Owed<A> {
         let Owed { pointer, alloc } = self;
         let memory = pointer.release(alloc).into_box();
         drop(memory);
+    }
+}
+
+impl<A: Allocator + Copy> Owed<A> {
+    /// The law that no handle is left on a block that is owed. No step.
+    pub fn alone<const LIMIT: u64>(self, other: Shared<LIMIT, A>) -> (Owed<A>, Shared<LIMIT, A>)
+        ensures first { result.0 ≡ self }
+        ensures second { result.1 ≡ other }
+        ensures alone { self.block ≢ other.block }
+    {
+        let Owed { pointer, alloc } = self;
+        let (other, pointer) = other.apart_from(pointer);
+        (Owed { pointer, alloc }, other)
+    }
+}
+
+impl<A: Allocator> Owed<A> {
+    /// The law that a block is owed once. No step.
+    pub fn apart(self, other: Owed<A>) -> (Owed<A>, Owed<A>)
+        ensures first { result.0 ≡ self }
+        ensures second { result.1 ≡ other }
+        ensures apart { self.block ≢ other.block }
+    {
+        let Owed {
+            pointer: first,
+            alloc: home,
+        } = self;
+        let Owed {
+            pointer: second,
+            alloc,
+        } = other;
+        let (first, second) = first.apart(second);
+        let first = Owed {
+            pointer: first,
+            alloc: home,
+        };
+        let second = Owed {
+            pointer: second,
+            alloc,
+        };
+        (first, second)
     }
 }
 

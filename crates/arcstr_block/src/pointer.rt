@@ -4,7 +4,7 @@ ghost use Rattle.std.specs.Prelude.{◌≡◌, ◌≢◌, ℕ, List, ◌<◌};
 ghost use Rattle.std.specs.Coded.{coded_list};
 ghost use Rattle.arcstr_count.specs.declared.steps.Step.{Step};
 ghost use Rattle.arcstr_count.specs.contracts.steps.Step.{the_row as step_row};
-ghost use Rattle.arcstr_block.specs.Rights.{nothing, counted, fixed, dropping, owed, IsFree, MaySee, IsIdle, IsWord, Looks, Finds, IsClone, Gains, Begins, Leaves};
+ghost use Rattle.arcstr_block.specs.Rights.{nothing, counted, fixed, dropping, owed, IsFree, HasSeat, MaySee, IsIdle, IsWord, Looks, Finds, IsClone, Gains, Begins, Leaves};
 ghost use Rattle.arcstr_block.specs.Ledger.{pointer_owns, pointer_shares};
 
 use crate::block::Block;
@@ -196,13 +196,14 @@ impl<X, A: Allocator> Pointer<X, A> {
         }
     }
 
-    /// Two free handles on one block have two seats. No step.
+    /// The law of two pointers that have seats: on one block they have two, and a block that is owed has no other. No step.
     pub(crate) fn apart(self, other: Pointer<X, A>) -> (Pointer<X, A>, Pointer<X, A>)
-        requires first { IsFree self.right }
-        requires second { IsFree other.right }
+        requires first { HasSeat self.right }
+        requires second { HasSeat other.right }
         ensures first { result.0 ≡ self }
         ensures second { result.1 ≡ other }
         ensures apart { self.block ≡ other.block → self.seat ≢ other.seat }
+        ensures alone { self.right ≡ owed → self.block ≢ other.block }
     {
         (self, other)
     }

@@ -2,7 +2,7 @@
 ghost use Rattle.std.specs.Prelude.{◌≡◌, ◌≢◌, ◌↔◌, List, ℕ, length, IsErrOf, ◌<◌, ◌≤◌, ◌+◌, MatchResult, MatchOption, IfOk, IfErr, IfSome};
 ghost use Rattle.std.specs.String.{string_bytes};
 ghost use Rattle.arcstr_block.specs.Making.{IsTooLong, IsFaultOfMaking};
-ghost use Rattle.arcstr_block.specs.Rights.{IsFree, IsUnmarked, IsWord, IsClone};
+ghost use Rattle.arcstr_block.specs.Rights.{owed, IsFree, HasSeat, IsUnmarked, IsWord, IsClone};
 ghost use Rattle.arcstr_block.specs.Handle.{Handle, SawCount, SawMark};
 
 use crate::block::{Block, empty_block};
@@ -41,7 +41,7 @@ impl<const LIMIT: u64, A: Allocator + Copy> Model for Shared<LIMIT, A> {
 }
 
 impl<const LIMIT: u64, A: Allocator + Copy> Shared<LIMIT, A> {
-    ghost use Rattle.arcstr_block.specs.Ending.{EndsAs};
+    ghost use Rattle.arcstr_block.specs.Ending.{EndsAs, OwesAs};
 
     /// The first handle on a new block with this text. A text that is too long is refused first, then
     /// whatever there is no memory for: the word, or the text beside it. An empty text has a block too.
@@ -158,31 +158,40 @@ impl<const LIMIT: u64, A: Allocator + Copy> Shared<LIMIT, A> {
         ensures second { result.1 ≡ other }
         ensures apart { self.block ≡ other.block → self.seat ≢ other.seat }
     {
-        let Shared { handle } = self;
-        let Counted {
-            pointer: first,
-            alloc: home,
-        } = handle;
         let Shared { handle } = other;
-        let Counted {
-            pointer: second,
-            alloc,
-        } = handle;
-        let (first, second) = first.apart(second);
-        let first = Counted {
-            pointer: first,
-            alloc: home,
+        let Counted { pointer, alloc } = handle;
+        let (first, pointer) = self.apart_from(pointer);
+        let second = Shared {
+            handle: Counted { pointer, alloc },
         };
-        let second = Counted {
-            pointer: second,
-            alloc,
+        (first, second)
+    }
+
+    /// The law of this handle and a pointer that has a seat: on one block they have two, and what is owed is another
+    /// block. No step.
+    pub(crate) fn apart_from(
+        self,
+        other: Pointer<String<A>, A>,
+    ) -> (Shared<LIMIT, A>, Pointer<String<A>, A>)
+        requires { HasSeat other.right }
+        ensures first { result.0 ≡ self }
+        ensures second { result.1 ≡ other }
+        ensures apart { self.block ≡ other.block → self.seat ≢ other.seat }
+        ensures alone { other.right ≡ owed → other.block ≢ self.block }
+    {
+        let Shared { handle } = self;
+        let Counted { pointer, alloc } = handle;
+        let (other, pointer) = other.apart(pointer);
+        let first = Shared {
+            handle: Counted { pointer, alloc },
         };
-        (Shared { handle: first }, Shared { handle: second })
+        (first, other)
     }
 
     /// The end of the handle. A look that finds the mark leaves the word as it is; else the count falls by one.
     pub fn down(self) -> (Down<A>, Seen)
         ensures seen { EndsAs LIMIT result.1.history self.seat result.0 }
+        ensures owes { OwesAs self result.0 }
         ensures block { result.1.block ≡ self.block }
     {
         let Shared { handle } = self;

@@ -1,4 +1,4 @@
-ghost use Rattle.std.specs.Prelude.{◌≡◌, ◌≢◌, ◌≤◌};
+ghost use Rattle.std.specs.Prelude.{◌≡◌, ◌≢◌, ◌≤◌, IsTrue};
 ghost use Rattle.arcstr_count.specs.declared.words.TheConstants.{RC_MAX};
 
 use crate::{Down, Fixed, Shared, TextFault};
@@ -61,6 +61,81 @@ fn the_last_handle_owes(rt: HostRuntime) -> Result<(), Fail> {
     let second = first.up(&rt);
     assert_eq!(rt; ended(first.down().0), 2);
     assert_eq!(rt; ended(second.down().0), 3);
+    Ok(())
+}
+
+/// Ends a handle, and gives back what it owes: if anything, it was on another block than the other one.
+fn owes_beside(handle: Shared<5, Global>, other: Shared<5, Global>) -> (bool, Shared<5, Global>)
+    ensures kept { result.1 ≡ other }
+    ensures alone { IsTrue result.0 → handle.block ≢ other.block }
+{
+    match handle.down().0 {
+        Down::Owes(owed) => {
+            let (owed, other) = owed.alone(other);
+            owed.give_back();
+            (true, other)
+        }
+        Down::Left | Down::Ended => (false, other),
+    }
+}
+
+#[test]
+fn no_handle_is_left_on_what_is_owed(rt: HostRuntime) -> Result<(), Fail> {
+    let first = Shared::<5, Global>::from_text(rt.alloc(), "foobar")?;
+    let second = first.up(&rt);
+    let other = Shared::<5, Global>::from_text(rt.alloc(), "foo")?;
+    let (left, other) = owes_beside(first, other);
+    let (owes, other) = owes_beside(second, other);
+    assert_eq!(rt; (left, owes), (false, true));
+    assert_eq!(rt; (other.as_str(), other.look().0), ("foo", Some(1)));
+    Ok(())
+}
+
+/// Ends two handles, and gives back what they owe: if both owe, they were on two blocks.
+fn both_owe(first: Shared<5, Global>, second: Shared<5, Global>) -> bool
+    ensures { IsTrue result → first.block ≢ second.block }
+{
+    let down = second.down().0;
+    match first.down().0 {
+        Down::Owes(owed) => match down {
+            Down::Owes(other) => {
+                let (owed, other) = owed.apart(other);
+                owed.give_back();
+                other.give_back();
+                true
+            }
+            Down::Left | Down::Ended => {
+                owed.give_back();
+                false
+            }
+        },
+        Down::Left | Down::Ended => {
+            down.settle();
+            false
+        }
+    }
+}
+
+#[test]
+fn a_block_is_owed_once(rt: HostRuntime) -> Result<(), Fail> {
+    let first = Shared::<5, Global>::from_text(rt.alloc(), "foobar")?;
+    let other = Shared::<5, Global>::from_text(rt.alloc(), "foo")?;
+    let second = first.up(&rt);
+    let third = first.up(&rt);
+    assert_eq!(rt; both_owe(first, second), false);
+    assert_eq!(rt; both_owe(third, other), true);
+    Ok(())
+}
+
+/// A value that threads may hand to one another, and share.
+fn crossing<T: Send + Sync>(value: T) -> T {
+    value
+}
+
+#[test]
+fn what_is_owed_may_cross_threads(rt: HostRuntime) -> Result<(), Fail> {
+    let first = Shared::<5, Global>::from_text(rt.alloc(), "foobar")?;
+    assert_eq!(rt; ended(crossing(first.down().0)), 3);
     Ok(())
 }
 

@@ -21,10 +21,10 @@ use denote.Param.Laws.{param_laws}
 use denote.Triple.Entry.{alive}
 use denote.Triple.Walked.{Stays, stay_dropped, walk_of, Goes-dropped}
 use Rattle.atomic_table.proofs.Walks.{proved, leaves}
-use Rattle.arcstr_block.specs.Rights.{IsFree}
+use Rattle.arcstr_block.specs.Rights.{HasSeat}
 use Rattle.arcstr_block.specs.contracts.pointer.Pointer as C
 use Rattle.arcstr_block.proofs.Fields.{pointer_val, typed, two_val, two_typed, told}
-use Rattle.arcstr_block.proofs.Apart.{Apart, are_apart}
+use Rattle.arcstr_block.proofs.Apart.{Apart, Alone, Distinct, are_apart}
 use Rattle.arcstr_block.specs.contracts.pointer.Pointer.apart.{ended, clauses}
 use Rattle.arcstr_block.specs.contracts.pointer.Pointer.apart.Key.{name as #self}
 use Rattle.arcstr_block.proofs.pointer.Pointer.apart.Statement.{statement}
@@ -39,14 +39,15 @@ apart_spec 𝓤 𝓛 𝓜 𝓡 wired X Y L K g d dd met md =
     (λ κs. ((λ x. pointer_val x.at ∷ []), ((λ x. pointer_val x.at ∷ []), tt))) (λ κs. ((λ x vs so. told R B g x.at vs so.0), ((λ x vs so. told R B g x.at vs so.0), tt))) (λ κs qs bounds a gh are.
     let h : Row.Denot = a.0 in let j : Row.Denot = a.1.0 in let p : Ptr = h.at in let q : Ptr = j.at in let vs : List Val = pointer_val p ∷ [] in let ws : List Val = pointer_val q ∷ [] in let r : Val = two_val p q in
     let y : (walk_of 𝓛 En hs c).Ghost = ((κs, qs, bounds, a, (vs, (ws, tt))), gh) in let Post : Val → SProp 𝓤 = (walk_of 𝓛 En hs c).post y in
-    qed 𝓛 ((raw (alive 𝓛 En.signature κs qs) ⊛ ‵ (owns (types_at En.signature.params κs) a y.0.4)) ∷ raw (fact 𝓤 _) ∷ raw (fact 𝓤 _) ∷ raw (fact 𝓤 (IsFree h.right)) ∷ raw (fact 𝓤 (IsFree j.right)) ∷ []) ∵
-    keep ! (3 ∷ 4 ∷ 0 ∷ []) $ heard ! (IsFree h.right) (λ may. heard ! (IsFree j.right) (λ may'. split ! $ move ! (1 ∷ []) $ fsplit3 ! $ keep ! (0 ∷ 1 ∷ 3 ∷ []) $
-    use2 𝓛 (given (Apart 𝓛 R B g (param_laws 0 X L) h j) (‵ (Row.own_val h vs) ⊛ ‵ (Row.own_val j ws))) (are_apart 𝓛 R B g (param_laws 0 X L) h j vs ws may may') $ learn ! (λ differ. split ! $
+    qed 𝓛 ((raw (alive 𝓛 En.signature κs qs) ⊛ ‵ (owns (types_at En.signature.params κs) a y.0.4)) ∷ raw (fact 𝓤 _) ∷ raw (fact 𝓤 _) ∷ raw (fact 𝓤 (HasSeat h.right)) ∷ raw (fact 𝓤 (HasSeat j.right)) ∷ []) ∵
+    keep ! (3 ∷ 4 ∷ 0 ∷ []) $ heard ! (HasSeat h.right) (λ may. heard ! (HasSeat j.right) (λ may'. split ! $ move ! (1 ∷ []) $ fsplit3 ! $ keep ! (0 ∷ 1 ∷ 3 ∷ []) $
+    use2 𝓛 (given (Distinct 𝓛 R B g (param_laws 0 X L) h j vs ws) (‵ (Row.own_val h vs) ⊛ ‵ (Row.own_val j ws))) (are_apart 𝓛 R B g (param_laws 0 X L) h j vs ws may may') $ learn ! (λ laws. split ! $
     -- [the first; the second; the tokens]
     enter ! 𝓣.C 𝓣.Λ fn (pointer_val p ∷ pointer_val q ∷ []) Post $ alloc_all ! (λ l. pass_all ! refl (typed p, (typed q, tt)) $
     sets ! (of_opd ! (get ! refl)) refl (typed p) $ sets ! (of_opd ! (get ! refl)) refl (typed q) $ sets ! (agg ! (and_then ! (get ! refl) (and_then ! (get ! refl) (no_more !)))) refl (two_typed p q) $
     nothing ! $ move ! (1 ∷ 2 ∷ 0 ∷ []) $ fjoin3 ! $ feq_i ! (List Val) (r ∷ []) (r ∷ []) refl $ fjoin ! $
     fpack ! (Valss (Row ∷ Row ∷ [])) (λ uss. fsep (feq (List Val) (r ∷ []) (vstruct (of_list (uss.0 ++ (uss.1.0 ++ []))) ∷ [])) (owns (Row ∷ Row ∷ []) (h, (j, tt)) uss)) (vs, (ws, tt)) $
-    let Differ : Type 0 = Apart 𝓛 R B g (param_laws 0 X L) h j in use0 𝓛 (raw (fact 𝓤 Differ)) (fact_i 𝓤 Differ (emp 𝓤) differ) $
+    let Differ : Type 0 = Apart 𝓛 R B g (param_laws 0 X L) h j vs ws in let Away : Type 0 = Alone 𝓛 R B g (param_laws 0 X L) h j vs ws in
+    use0 𝓛 (raw (fact 𝓤 Away)) (fact_i 𝓤 Away (emp 𝓤) laws.1) $ use0 𝓛 (raw (fact 𝓤 Differ)) (fact_i 𝓤 Differ (emp 𝓤) laws.0) $ join ! $
     use0 𝓛 (raw (fact 𝓤 (j ≡ j))) (fact_i 𝓤 (j ≡ j) (emp 𝓤) refl) $ join ! $ use0 𝓛 (raw (fact 𝓤 (h ≡ h))) (fact_i 𝓤 (h ≡ h) (emp 𝓤) refl) $ join ! $ nothing ! $ nothing ! $ fjoin ! $ nothing ! $ fjoin ! $
     returns ! (look_at ! 0 refl) $ free_all ! refl $ keep ! (3 ∷ 0 ∷ 2 ∷ 1 ∷ []) $ by ! (leaves 𝓛 En hs c y r (h, j) (tt, (tt, tt)) (tt, (tt, tt))))))))

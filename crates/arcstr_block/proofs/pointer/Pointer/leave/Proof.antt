@@ -83,6 +83,6 @@ leave_spec 𝓤 𝓛 𝓜 𝓡 wired X Y L K g d dd met md =
     use0 𝓛 (‵ (D.own_val (p, (tt, tt)) (pointer_val p ∷ []))) (made R B g 𝓛 p) $ fjoin ! $ nothing ! $ flt_i ! n (2 ^ 64) fits $ feq_i ! (List Val) (vint w64 n ∷ []) (vint w64 n ∷ []) refl $ fjoin ! $
     move ! (0 ∷ 2 ∷ 1 ∷ []) $ fjoin3 ! $ feq_i ! (List Val) (r ∷ []) (r ∷ []) refl $ fjoin ! $
     fpack ! (Valss (u64 ∷ Row ∷ [])) (λ uss. fsep (feq (List Val) (r ∷ []) (vstruct (of_list (uss.0 ++ (uss.1.0 ++ []))) ∷ [])) (owns (u64 ∷ Row ∷ []) (n, (h', tt)) uss)) (vint w64 n ∷ [], (pointer_val p ∷ [], tt)) $
-    let Same : Type 0 = (h.home ≡ h.home) × (h.value ≡ h.value) × (lim ≡ lim) × (h.block ≡ h.block) in let Saw : Type 0 = (n ≡ 2 → EndsIn lim r' (Sub h.seat) Owes) × (n ≢ 2 → EndsIn lim r' (Sub h.seat) Left) in
-    use0 𝓛 (raw (fact 𝓤 Same)) (fact_i 𝓤 Same (emp 𝓤) (refl, refl, refl, refl)) $ use0 𝓛 (raw (fact 𝓤 Saw)) (fact_i 𝓤 Saw (emp 𝓤) ((λ two. subst (EndsIn lim r' (Sub h.seat)) (ap (λ y. if y then Owes else Left) (last_two n two)) ends), (λ ne. subst (EndsIn lim r' (Sub h.seat)) (ap (λ y. if y then Owes else Left) (not_last n ne)) ends))) $ join ! $ use0 𝓛 (raw (fact 𝓤 (Leaves n k))) (fact_i 𝓤 (Leaves n k) (emp 𝓤) got.said) $ join ! $
+    let Same : Type 0 = (h.home ≡ h.home) × (h.value ≡ h.value) × (lim ≡ lim) × (h.block ≡ h.block) in let Saw : Type 0 = (h.seat ≡ h.seat) × (n ≡ 2 → EndsIn lim r' (Sub h.seat) Owes) × (n ≢ 2 → EndsIn lim r' (Sub h.seat) Left) in
+    use0 𝓛 (raw (fact 𝓤 Same)) (fact_i 𝓤 Same (emp 𝓤) (refl, refl, refl, refl)) $ use0 𝓛 (raw (fact 𝓤 Saw)) (fact_i 𝓤 Saw (emp 𝓤) (refl, (λ two. subst (EndsIn lim r' (Sub h.seat)) (ap (λ y. if y then Owes else Left) (last_two n two)) ends), (λ ne. subst (EndsIn lim r' (Sub h.seat)) (ap (λ y. if y then Owes else Left) (not_last n ne)) ends))) $ join ! $ use0 𝓛 (raw (fact 𝓤 (Leaves n k))) (fact_i 𝓤 (Leaves n k) (emp 𝓤) got.said) $ join ! $
     nothing ! $ nothing ! $ fjoin ! $ returns ! (look_at ! 0 refl) $ free_all ! refl $ keep ! (3 ∷ 0 ∷ 2 ∷ 1 ∷ []) $ by ! (leaves 𝓛 En hs c y r (n, h') (tt, tt) (tt, tt))))))))))))))
