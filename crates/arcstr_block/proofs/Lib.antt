@@ -16,3 +16,4 @@ pub mod Memory
 pub mod LooseValues
 pub mod Crosses
 pub mod Looks
+pub mod InLine
