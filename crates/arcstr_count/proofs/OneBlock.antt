@@ -154,6 +154,7 @@ pub record Prolongs (limit : ℕ) (r : List Step) (s : Step) (reply : Reply) (w 
   pub keeps : Keeps limit (r ++ s ∷ []) w seats
   pub ends : EndsIn limit (r ++ s ∷ []) s reply
 
+-- a step that is accepted after r and answered so prolongs r, where the longer history is kept
 prolonged : {limit : ℕ} {r : List Step} {s : Step} {reply : Reply} {w : FlagAndCount} {seats : List HandleState}
     → Keeps limit (r ++ s ∷ []) w seats → is_accepted limit (past_of limit r) s ≡ true → answer_after limit r s ≡ reply
     → Prolongs limit r s reply w seats
