@@ -17,3 +17,4 @@ pub mod Memory
 pub mod LooseValues
 pub mod Crosses
 pub mod Looks
+pub mod InLine

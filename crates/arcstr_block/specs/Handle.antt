@@ -1,5 +1,5 @@
 -- What a handle on a block is seen as, and what was seen of its block's history.
-use Rattle.std.specs.Prelude.{ℕ, List}
+use Rattle.std.specs.Prelude.{◌≡◌, ℕ, List, ◌++◌}
 use Rattle.arcstr_count.specs.declared.steps.Step.{Step}
 use Rattle.arcstr_count.specs.declared.steps.Step.TheVariants.{Look}
 use Rattle.arcstr_count.specs.declared.steps.Reply.TheVariants.{Count, Static}
@@ -23,3 +23,7 @@ SawCount limit history h n = EndsIn limit history (Look h) (Count n)
 -- the history ends in a look of the handle h at a marked block
 abbrev pub SawMark : ℕ → List Step → ℕ → Type 0
 SawMark limit history h = EndsIn limit history (Look h) Static
+
+-- the history goes on from the front, or is the same
+abbrev pub IsFront : List Step → List Step → Type 0
+IsFront front history = (later : List Step) × (history ≡ front ++ later)

@@ -1,9 +1,10 @@
 //! What was seen of a block's history.
-ghost use Rattle.std.specs.Prelude.{◌≡◌, ℕ, List};
+ghost use Rattle.std.specs.Prelude.{◌≡◌, ◌≤◌, ℕ, List, length};
 ghost use Rattle.std.specs.Coded.{coded_list};
 ghost use Rattle.arcstr_count.specs.declared.steps.Step.{Step};
 ghost use Rattle.arcstr_count.specs.contracts.steps.Step.{the_row as step_row};
 ghost use Rattle.arcstr_block.specs.Book.{reached};
+ghost use Rattle.arcstr_block.specs.Handle.{IsFront};
 
 use std::marker::{Model, PhantomData};
 
@@ -21,6 +22,14 @@ impl Model for Seen {
     ghost also_owns = { λ s. reached s.block.0 s.history };
 
     ghost also_shares = { λ s _ κ. reached s.block.0 s.history };
+}
+
+impl Seen {
+    /// The law that a block has one history: of two beginnings of it, the longer goes on from the other. No step.
+    pub fn agree(&self, other: &Seen)
+        ensures front { self.now.block ≡ other.now.block → length self.now.history ≤ length other.now.history → IsFront self.now.history other.now.history }
+        ensures longer { self.now.block ≡ other.now.block → length other.now.history ≤ length self.now.history → IsFront other.now.history self.now.history }
+    {}
 }
 
 unsafe impl Send for Seen {}

@@ -1,7 +1,8 @@
-ghost use Rattle.std.specs.Prelude.{◌≡◌, ◌≢◌, ◌≤◌, IsTrue};
+ghost use Rattle.std.specs.Prelude.{◌≡◌, ◌≢◌, ◌≤◌, IsTrue, length};
 ghost use Rattle.arcstr_count.specs.declared.words.TheConstants.{RC_MAX};
+ghost use Rattle.arcstr_block.specs.Handle.{IsFront};
 
-use crate::{Down, Fixed, Shared, TextFault};
+use crate::{Down, Fixed, Seen, Shared, TextFault};
 use linked_list_allocator::LocalHeap;
 use std::alloc::Global;
 use std::process::Abort;
@@ -40,6 +41,30 @@ fn apart_hands_both_back_in_order(rt: HostRuntime) -> Result<(), Fail> {
     let (second, other) = second.apart(other);
     assert_eq!(rt; (second.as_str(), other.as_str()), ("foobar", "foo"));
     assert_eq!(rt; (first.look().0, other.look().0), (Some(2), Some(1)));
+    Ok(())
+}
+
+/// What two looks at one block saw of its one history.
+fn looked_twice(handle: &Shared<5, Global>) -> (Seen, Seen)
+    ensures front { length result.0.history ≤ length result.1.history → IsFront result.0.history result.1.history }
+    ensures longer { length result.1.history ≤ length result.0.history → IsFront result.1.history result.0.history }
+    ensures block { result.1.block ≡ result.0.block }
+{
+    let (_, first) = handle.look();
+    let (_, second) = handle.look();
+    first.agree(&second);
+    (first, second)
+}
+
+#[test]
+fn two_looks_agree(rt: HostRuntime) -> Result<(), Fail> {
+    let first = Shared::<5, Global>::from_text(rt.alloc(), "foobar")?;
+    let second = first.up(&rt);
+    let (seen, again) = looked_twice(&first);
+    let (_, other) = second.look();
+    again.agree(&seen);
+    other.agree(&seen);
+    assert_eq!(rt; second.look().0, Some(2));
     Ok(())
 }
 

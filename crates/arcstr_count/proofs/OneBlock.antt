@@ -14,7 +14,7 @@ use Rattle.arcstr_count.specs.Word.{FlagAndCount, fresh_word, looked_of, cloned_
 use Rattle.arcstr_count.specs.History.{makes, births, block_of, numbers_below}
 use Rattle.arcstr_count.specs.Marks.{is_marked, state_of, living, is_only}
 use Rattle.arcstr_count.specs.Answer.{handle_state, is_accepted, reply_by, accepted_answer, unless_free, unless_dropping, unless_owing}
-use Rattle.arcstr_count.specs.Past.{past_of}
+use Rattle.arcstr_count.specs.Past.{past_of, answer_after}
 use Rattle.arcstr_count.specs.Left.{word_left, Stands}
 use Rattle.arcstr_count.specs.Summary.{handles_of, handle_summary}
 use Rattle.arcstr_count.specs.OneBlock.{Keeps, EndsIn, look_reply}
@@ -154,6 +154,14 @@ pub record Prolongs (limit : ℕ) (r : List Step) (s : Step) (reply : Reply) (w 
   pub keeps : Keeps limit (r ++ s ∷ []) w seats
   pub ends : EndsIn limit (r ++ s ∷ []) s reply
 
+prolonged : {limit : ℕ} {r : List Step} {s : Step} {reply : Reply} {w : FlagAndCount} {seats : List HandleState}
+    → Keeps limit (r ++ s ∷ []) w seats → is_accepted limit (past_of limit r) s ≡ true → answer_after limit r s ≡ reply
+    → Prolongs limit r s reply w seats
+prolonged {r = r} keeps accepted answered = record {
+  keeps = keeps;
+  ends = record { one_block = keeps.one_block; front = r; ends = refl; accepted = accepted; answered = answered };
+}
+
 pub keeps-make : (limit : ℕ) → Keeps limit (Make ∷ []) fresh_word (Free ∷ [])
 keeps-make limit = record {
   one_block = record { made = refl; accepted = refl };
@@ -177,16 +185,11 @@ pub keeps-look : (limit : ℕ) (r : List Step) (w : FlagAndCount) (seats : List 
 keeps-look limit r w seats h keeps seat =
     let i : IsIn limit (past_of limit r) h Free = seat_is limit r w seats h Free keeps seat in
     let open_to : unless_free (handle_state limit (past_of limit r) h) ≡ None = accepts_free limit (past_of limit r) h i in
-    record {
-      keeps = kept limit r w w seats seats (Look h) keeps (ap is_none open_to) refl keeps.left keeps.states;
-      ends = record {
-        front = r;
-        ends = refl;
-        accepted = ap is_none open_to;
-        answered = ap (λ o. reply_by o (accepted_answer limit (past_of limit r) (Look h))) open_to
-            ∙ look_reply-is limit (past_of limit r) w _ (on_block limit r w seats h Free keeps i) (stands limit r w seats keeps);
-      };
-    }
+    prolonged
+    (kept limit r w w seats seats (Look h) keeps (ap is_none open_to) refl keeps.left keeps.states)
+    (ap is_none open_to)
+    (ap (λ o. reply_by o (accepted_answer limit (past_of limit r) (Look h))) open_to
+    ∙ look_reply-is limit (past_of limit r) w _ (on_block limit r w seats h Free keeps i) (stands limit r w seats keeps))
 
 pub keeps-begin : (limit : ℕ) (r : List Step) (w : FlagAndCount) (seats : List HandleState) (h : ℕ)
     → Keeps limit r w seats → slice_get seats h ≡ Some Free
@@ -202,16 +205,11 @@ keeps-begin limit r w seats h keeps seat =
     ∙ ap (λ b. set (states_in limit (past_of limit r)) h (if b then Gone else Dropping)) (sym mark)
     ∙ sym (states_in-set limit (past_of limit r) (Begin h ∷ past_of limit r) h _
     (handles-Begin limit (past_of limit r) h (IsPast-past_of limit r) (ap is_none open_to))) in
-    record {
-      keeps = kept limit r w w seats _ (Begin h) keeps (ap is_none open_to) refl keeps.left states;
-      ends = record {
-        front = r;
-        ends = refl;
-        accepted = ap is_none open_to;
-        answered = ap (λ o. reply_by o (accepted_answer limit (past_of limit r) (Begin h))) open_to
-            ∙ ap (λ b. if b then Ended else Looked) mark;
-      };
-    }
+    prolonged
+    (kept limit r w w seats _ (Begin h) keeps (ap is_none open_to) refl keeps.left states)
+    (ap is_none open_to)
+    (ap (λ o. reply_by o (accepted_answer limit (past_of limit r) (Begin h))) open_to
+    ∙ ap (λ b. if b then Ended else Looked) mark)
 
 pub keeps-clone : (limit : ℕ) (r : List Step) (w : FlagAndCount) (seats : List HandleState) (h : ℕ)
     → Keeps limit r w seats → slice_get seats h ≡ Some Free
@@ -229,15 +227,10 @@ keeps-clone limit r w seats h keeps seat =
     ∙ sym (ap (λ b. if b == 0 then cloned_of limit (word_left limit (past_of limit r) 0) else word_left limit (past_of limit r) 0) on) in
     let born : births (past_of limit r) ≡ length seats =
     sym (length-states_in limit (past_of limit r)) ∙ ap length (sym keeps.states) in
-    record {
-      keeps = kept limit r w (cloned_of limit w) seats _ (Clone h) keeps (ap is_none open_to) refl left states;
-      ends = record {
-        front = r;
-        ends = refl;
-        accepted = ap is_none open_to;
-        answered = ap (λ o. reply_by o (accepted_answer limit (past_of limit r) (Clone h))) open_to ∙ ap Handle born;
-      };
-    }
+    prolonged
+    (kept limit r w (cloned_of limit w) seats _ (Clone h) keeps (ap is_none open_to) refl left states)
+    (ap is_none open_to)
+    (ap (λ o. reply_by o (accepted_answer limit (past_of limit r) (Clone h))) open_to ∙ ap Handle born)
 
 pub keeps-leak : (limit : ℕ) (r : List Step) (w : FlagAndCount) (seats : List HandleState) (h : ℕ)
     → Keeps limit r w seats → slice_get seats h ≡ Some Free
@@ -249,15 +242,10 @@ keeps-leak limit r w seats h keeps seat =
     let left : marked_of w ≡ word_left limit (Leak h ∷ past_of limit r) 0 =
     ap marked_of keeps.left
     ∙ sym (ap (λ b. if b == 0 then marked_of (word_left limit (past_of limit r) 0) else word_left limit (past_of limit r) 0) on) in
-    record {
-      keeps = kept limit r w (marked_of w) seats seats (Leak h) keeps (ap is_none open_to) refl left keeps.states;
-      ends = record {
-        front = r;
-        ends = refl;
-        accepted = ap is_none open_to;
-        answered = ap (λ o. reply_by o (accepted_answer limit (past_of limit r) (Leak h))) open_to;
-      };
-    }
+    prolonged
+    (kept limit r w (marked_of w) seats seats (Leak h) keeps (ap is_none open_to) refl left keeps.states)
+    (ap is_none open_to)
+    (ap (λ o. reply_by o (accepted_answer limit (past_of limit r) (Leak h))) open_to)
 
 pub keeps-sub : (limit : ℕ) (r : List Step) (w : FlagAndCount) (seats : List HandleState) (h : ℕ)
     → Keeps limit r w seats → slice_get seats h ≡ Some Dropping
@@ -278,16 +266,11 @@ keeps-sub limit r w seats h keeps seat =
     ∙ sym (states_in-set limit (past_of limit r) (Sub h ∷ past_of limit r) h _
     (handles-Sub limit (past_of limit r) h (IsPast-past_of limit r) (ap is_none open_to))) in (
       takes.counted,
-      record {
-        keeps = kept limit r w (dropped_of w) seats _ (Sub h) keeps (ap is_none open_to) refl left states;
-        ends = record {
-          front = r;
-          ends = refl;
-          accepted = ap is_none open_to;
-          answered = ap (λ o. reply_by o (accepted_answer limit (past_of limit r) (Sub h))) open_to
-              ∙ ap (λ b. if b then Owes else Left) takes.last;
-        };
-      },
+      prolonged
+          (kept limit r w (dropped_of w) seats _ (Sub h) keeps (ap is_none open_to) refl left states)
+          (ap is_none open_to)
+          (ap (λ o. reply_by o (accepted_answer limit (past_of limit r) (Sub h))) open_to
+          ∙ ap (λ b. if b then Owes else Left) takes.last),
     )
 
 pub keeps-back : (limit : ℕ) (r : List Step) (w : FlagAndCount) (seats : List HandleState) (h : ℕ)
@@ -300,12 +283,7 @@ keeps-back limit r w seats h keeps seat =
     ap (λ old. set old h Gone) keeps.states
     ∙ sym (states_in-set limit (past_of limit r) (Back h ∷ past_of limit r) h _
     (handles-Back limit (past_of limit r) h (ap is_none open_to))) in
-    record {
-      keeps = kept limit r w w seats _ (Back h) keeps (ap is_none open_to) refl keeps.left states;
-      ends = record {
-        front = r;
-        ends = refl;
-        accepted = ap is_none open_to;
-        answered = ap (λ o. reply_by o (accepted_answer limit (past_of limit r) (Back h))) open_to;
-      };
-    }
+    prolonged
+    (kept limit r w w seats _ (Back h) keeps (ap is_none open_to) refl keeps.left states)
+    (ap is_none open_to)
+    (ap (λ o. reply_by o (accepted_answer limit (past_of limit r) (Back h))) open_to)

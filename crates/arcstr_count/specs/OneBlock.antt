@@ -32,8 +32,9 @@ abbrev pub look_reply : Option ℕ → Reply
 look_reply (Some n) = Count n
 look_reply None = Static
 
--- the history ends in this step, which is accepted there, and which the core answers so
+-- the history is one of one block and ends in this step, which is accepted there, and which the core answers so
 pub record EndsIn (limit : ℕ) (history : List Step) (s : Step) (reply : Reply) : Type 0 where
+  pub one_block : IsOneBlock limit history
   pub front : List Step
   pub ends : history ≡ front ++ s ∷ []
   pub accepted : is_accepted limit (past_of limit front) s ≡ true

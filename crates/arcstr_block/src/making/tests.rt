@@ -1,5 +1,6 @@
 use crate::{Shared, TextFault};
 use linked_list_allocator::LocalHeap;
+use std::alloc::Global;
 use std::test::Fail;
 
 #[test]
@@ -28,14 +29,24 @@ fn a_block_is_filled_with_copies(rt: HostRuntime) -> Result<(), Fail> {
     Ok(())
 }
 
+/// The place of the first byte that is no text, if one was refused. Want of memory is handed on.
+fn refused_place(made: Result<Shared<5, Global>, TextFault>) -> Result<Option<usize>, TextFault> {
+    match made {
+        Ok(_) => Ok(None),
+        Err(TextFault::Utf8(place)) => Ok(Some(place)),
+        Err(fault) => Err(fault),
+    }
+}
+
 #[test]
-fn bytes_that_are_no_text_are_refused(rt: HostRuntime) {
+fn bytes_that_are_no_text_are_refused(rt: HostRuntime) -> Result<(), Fail> {
     let made = Shared::<5, _>::init(rt.alloc(), 3, |bytes| {
         if let Some(byte) = bytes.get_mut(2) {
             *byte = 255;
         }
     });
-    assert!(rt; matches!(made, Err(TextFault::Utf8(2))));
+    assert_eq!(rt; refused_place(made)?, Some(2));
+    Ok(())
 }
 
 /// There may be `usize::MAX` copies of nothing, and none of them is counted out.

@@ -1,4 +1,4 @@
-use Rattle.std.proofs.Common.{◌≡◌, ◌-◌, ◌+◌, ◌++◌, [], suc, zero, ℕ, List, length, arith, append_assoc, ◌∙◌, ap, sym, refl, string_bytes, eqb-true}
+use Rattle.std.proofs.Common.{◌≡◌, ◌-◌, ◌+◌, ◌++◌, [], suc, zero, ℕ, List, length, arith, append_assoc, ◌∙◌, ap, sym, refl, eqb-true}
 use Rattle.std.proofs.lemmas.List.{nil_from_length, append-nil}
 use Rattle.std.specs.List.{repeat}
 use Rattle.arcstr_block.proofs.shared.Shared.repeat.Goals as goal
