@@ -8,7 +8,7 @@ use base.Fml.{Lft, Fml, fsep, fex}
 use types.Logic.{Logic, sem}
 use types.Kit.{‵, ◌⊛◌, given, ◌$◌, ◌∵◌, !, qed, by, move, keep, drop, split, fsplit, fjoin, fpick, fpack, use1, use2, learn, check, rewrite, done}
 use denote.RattleType.{RattleType}
-use denote.RawPtr.{Ptr, block_of, count_of}
+use denote.RawPtr.{block_of, count_of}
 use denote.Param.Laws.{Laws}
 use denote.Struct.Lending.{lent_at_shr_laws}
 use Rattle.core.specs.declared.alloc.Allocator.{Ghosts}

@@ -11,6 +11,16 @@ pub record Handle : Type 0 where
   pub block : ℕ × ℕ
   pub seat : ℕ
 
+-- what a marked block is seen as, which is kept for good: the bytes of its text, its name, and the limit on its count
+pub record Kept : Type 0 where
+  pub text : List ℕ
+  pub block : ℕ × ℕ
+  pub limit : ℕ
+
+-- the block of this handle, kept for good
+abbrev pub kept_of : ℕ → Handle → Kept
+kept_of limit handle = record { text = handle.text; block = handle.block; limit = limit }
+
 -- what the last subtraction of a block leaves owed: the block, and the handle in it that was subtracted
 pub record Debt : Type 0 where
   pub block : ℕ × ℕ

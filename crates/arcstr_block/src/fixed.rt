@@ -1,22 +1,24 @@
 //! A block that is known to be marked.
-ghost use Rattle.std.specs.Prelude.{◌≡◌, List, ℕ, length};
+ghost use Rattle.std.specs.Prelude.{◌≡◌, length};
 ghost use Rattle.std.specs.String.{string_bytes};
 ghost use Rattle.arcstr_block.specs.Rights.{fixed};
+ghost use Rattle.arcstr_block.specs.Handle.{Kept};
 
 use crate::pointer::Pointer;
 use std::alloc::Allocator;
 use std::marker::Model;
 
-/// A block that is marked, for good: its text is read as long as its allocator lasts. Contracts see its text, as bytes.
+/// A block that is marked, for good: its text is read as long as its allocator lasts. Contracts see the bytes of
+/// its text, its block's name, and the limit on the count of the handles that it came from.
 pub struct Fixed<A: Allocator + Copy> {
     pub(crate) pointer: Pointer<String<A>, A>,
     pub(crate) alloc: A,
 }
 
 impl<A: Allocator + Copy> Model for Fixed<A> {
-    ghost Value = { List ℕ };
+    ghost Value = { Kept };
 
-    ghost view = { λ f. string_bytes f.pointer.value };
+    ghost view = { λ f. record { text = string_bytes f.pointer.value; block = f.pointer.block; limit = f.pointer.limit } };
 
     ghost invariant = { λ f. f.pointer.right ≡ fixed };
 }
@@ -24,14 +26,14 @@ impl<A: Allocator + Copy> Model for Fixed<A> {
 impl<A: Allocator + Copy> Fixed<A> {
     /// The text.
     pub fn as_str(&self) -> &str
-        ensures { result.now ≡ self.now }
+        ensures { result.now ≡ self.now.text }
     {
         self.pointer.value().as_str()
     }
 
     /// The length of the text, in bytes.
     pub fn len(&self) -> usize
-        ensures { result ≡ length self.now }
+        ensures { result ≡ length self.now.text }
     {
         self.as_str().len()
     }
