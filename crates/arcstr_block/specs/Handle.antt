@@ -1,9 +1,10 @@
 -- What a handle on a block is seen as, and what was seen of its block's history.
-use Rattle.std.specs.Prelude.{◌≡◌, ℕ, List, ◌++◌}
+use Rattle.std.specs.Prelude.{◌≡◌, ℕ, IsTrue, List, ◌++◌}
 use Rattle.arcstr_count.specs.declared.steps.Step.{Step}
 use Rattle.arcstr_count.specs.declared.steps.Step.TheVariants.{Look}
 use Rattle.arcstr_count.specs.declared.steps.Reply.TheVariants.{Count, Static}
-use Rattle.arcstr_count.specs.OneBlock.{EndsIn}
+use Rattle.arcstr_count.specs.OneBlock.{IsOneBlock, EndsIn}
+use Rattle.arcstr_count.specs.After.{marked_after}
 
 -- the bytes of the text, the name of the block (of its history, and of the seats of its handles), and the number of the handle in it
 pub record Handle : Type 0 where
@@ -33,6 +34,10 @@ SawCount limit history h n = EndsIn limit history (Look h) (Count n)
 -- the history ends in a look of the handle h at a marked block
 abbrev pub SawMark : ℕ → List Step → ℕ → Type 0
 SawMark limit history h = EndsIn limit history (Look h) Static
+
+-- the history is one of one block, number 0, which is marked after it
+abbrev pub IsMarkedIn : ℕ → List Step → Type 0
+IsMarkedIn limit history = IsOneBlock limit history × IsTrue (marked_after limit history 0)
 
 -- the history goes on from the front, or is the same
 abbrev pub IsFront : List Step → List Step → Type 0

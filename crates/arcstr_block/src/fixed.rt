@@ -2,9 +2,10 @@
 ghost use Rattle.std.specs.Prelude.{◌≡◌, length};
 ghost use Rattle.std.specs.String.{string_bytes};
 ghost use Rattle.arcstr_block.specs.Rights.{fixed};
-ghost use Rattle.arcstr_block.specs.Handle.{Kept};
+ghost use Rattle.arcstr_block.specs.Handle.{Kept, IsMarkedIn};
 
 use crate::pointer::Pointer;
+use crate::seen::Seen;
 use std::alloc::Allocator;
 use std::marker::Model;
 
@@ -20,7 +21,7 @@ impl<A: Allocator + Copy> Model for Fixed<A> {
 
     ghost view = { λ f. record { text = string_bytes f.pointer.value; block = f.pointer.block; limit = f.pointer.limit } };
 
-    ghost invariant = { λ f. f.pointer.right ≡ fixed };
+    ghost invariant = { λ f. (f.pointer.right ≡ fixed) × IsMarkedIn f.pointer.limit f.pointer.history };
 }
 
 impl<A: Allocator + Copy> Fixed<A> {
@@ -46,6 +47,14 @@ impl<A: Allocator + Copy> Fixed<A> {
             pointer: self.pointer.again(),
             alloc: self.alloc,
         }
+    }
+
+    /// What was seen of the block's history when it was found or made marked: it has the mark. No step.
+    pub fn seen(&self) -> Seen
+        ensures block { result.block ≡ self.now.block }
+        ensures marked { IsMarkedIn self.now.limit result.history }
+    {
+        self.pointer.seen()
     }
 }
 
