@@ -1,8 +1,8 @@
 -- What a handle on a block is seen as, and what was seen of its block's history.
 use Rattle.std.specs.Prelude.{◌≡◌, ℕ, IsTrue, List, ◌++◌}
 use Rattle.arcstr_count.specs.declared.steps.Step.{Step}
-use Rattle.arcstr_count.specs.declared.steps.Step.TheVariants.{Look}
-use Rattle.arcstr_count.specs.declared.steps.Reply.TheVariants.{Count, Static}
+use Rattle.arcstr_count.specs.declared.steps.Step.TheVariants.{Look, Leak}
+use Rattle.arcstr_count.specs.declared.steps.Reply.TheVariants.{Count, Static, Marked}
 use Rattle.arcstr_count.specs.OneBlock.{IsOneBlock, EndsIn}
 use Rattle.arcstr_count.specs.After.{marked_after}
 
@@ -12,15 +12,17 @@ pub record Handle : Type 0 where
   pub block : ℕ × ℕ
   pub seat : ℕ
 
--- what a marked block is seen as, which is kept for good: the bytes of its text, its name, and the limit on its count
+-- what a marked block is seen as, which is kept for good: the bytes of its text, its name, the limit on its count,
+-- and the beginning of its history that was seen when it was found or made marked
 pub record Kept : Type 0 where
   pub text : List ℕ
   pub block : ℕ × ℕ
   pub limit : ℕ
+  pub history : List Step
 
--- the block of this handle, kept for good
-abbrev pub kept_of : ℕ → Handle → Kept
-kept_of limit handle = record { text = handle.text; block = handle.block; limit = limit }
+-- the block of this handle, kept for good, with this beginning of its history
+abbrev pub kept_of : ℕ → Handle → List Step → Kept
+kept_of limit handle history = record { text = handle.text; block = handle.block; limit = limit; history = history }
 
 -- what the last subtraction of a block leaves owed: the block, and the handle in it that was subtracted
 pub record Debt : Type 0 where
@@ -34,6 +36,10 @@ SawCount limit history h n = EndsIn limit history (Look h) (Count n)
 -- the history ends in a look of the handle h at a marked block
 abbrev pub SawMark : ℕ → List Step → ℕ → Type 0
 SawMark limit history h = EndsIn limit history (Look h) Static
+
+-- the history ends in a mark by the handle h
+abbrev pub SawLeak : ℕ → List Step → ℕ → Type 0
+SawLeak limit history h = EndsIn limit history (Leak h) Marked
 
 -- the history is one of one block, number 0, which is marked after it
 abbrev pub IsMarkedIn : ℕ → List Step → Type 0

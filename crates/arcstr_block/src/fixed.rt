@@ -10,7 +10,7 @@ use std::alloc::Allocator;
 use std::marker::Model;
 
 /// A block that is marked, for good: its text is read as long as its allocator lasts. Contracts see the bytes of
-/// its text, its block's name, and the limit on the count of the handles that it came from.
+/// its text, its block's name, the limit on its count, and the beginning of its history in which it was marked.
 pub struct Fixed<A: Allocator + Copy> {
     pub(crate) pointer: Pointer<String<A>, A>,
     pub(crate) alloc: A,
@@ -19,7 +19,7 @@ pub struct Fixed<A: Allocator + Copy> {
 impl<A: Allocator + Copy> Model for Fixed<A> {
     ghost Value = { Kept };
 
-    ghost view = { λ f. record { text = string_bytes f.pointer.value; block = f.pointer.block; limit = f.pointer.limit } };
+    ghost view = { λ f. record { text = string_bytes f.pointer.value; block = f.pointer.block; limit = f.pointer.limit; history = f.pointer.history } };
 
     ghost invariant = { λ f. (f.pointer.right ≡ fixed) × IsMarkedIn f.pointer.limit f.pointer.history };
 }
@@ -49,9 +49,10 @@ impl<A: Allocator + Copy> Fixed<A> {
         }
     }
 
-    /// What was seen of the block's history when it was found or made marked: it has the mark. No step.
+    /// What was seen of the block's history when it was found or made marked: the mark is in it. No step.
     pub fn seen(&self) -> Seen
         ensures block { result.block ≡ self.now.block }
+        ensures history { result.history ≡ self.now.history }
         ensures marked { IsMarkedIn self.now.limit result.history }
     {
         self.pointer.seen()
