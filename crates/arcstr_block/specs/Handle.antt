@@ -42,8 +42,9 @@ abbrev pub SawLeak : ℕ → List Step → ℕ → Type 0
 SawLeak limit history h = EndsIn limit history (Leak h) Marked
 
 -- the history is one of one block, number 0, which is marked after it
-abbrev pub IsMarkedIn : ℕ → List Step → Type 0
-IsMarkedIn limit history = IsOneBlock limit history × IsTrue (marked_after limit history 0)
+pub record IsMarkedIn (limit : ℕ) (history : List Step) : Type 0 where
+  pub one_block : IsOneBlock limit history
+  pub marked : IsTrue (marked_after limit history 0)
 
 -- the history goes on from the front, or is the same
 abbrev pub IsFront : List Step → List Step → Type 0

@@ -14,14 +14,14 @@ use std::marker::Model;
 pub struct Fixed<A: Allocator + Copy> {
     pub(crate) pointer: Pointer<String<A>, A>,
     pub(crate) alloc: A,
+    ghost right: { pointer.right ≡ fixed },
+    ghost marked: { IsMarkedIn pointer.limit pointer.history },
 }
 
 impl<A: Allocator + Copy> Model for Fixed<A> {
     ghost Value = { Kept };
 
     ghost view = { λ f. record { text = string_bytes f.pointer.value; block = f.pointer.block; limit = f.pointer.limit; history = f.pointer.history } };
-
-    ghost invariant = { λ f. (f.pointer.right ≡ fixed) × IsMarkedIn f.pointer.limit f.pointer.history };
 }
 
 impl<A: Allocator + Copy> Fixed<A> {
