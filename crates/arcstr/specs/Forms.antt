@@ -6,4 +6,4 @@ use Rattle.arcstr.specs.declared.arc_str.Form.TheVariants.{Literal, Block, Fixed
 abbrev pub text_view : Form → TextView
 text_view (Literal text) = record { text = text.now; kind = literal }
 text_view (Block shared) = record { text = shared.text; kind = block }
-text_view (Fixed fixed) = record { text = fixed; kind = fixed_block }
+text_view (Fixed fixed) = record { text = fixed.text; kind = fixed_block }

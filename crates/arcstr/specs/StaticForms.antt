@@ -5,4 +5,4 @@ use Rattle.arcstr.specs.declared.static_str.StaticForm.TheVariants.{Literal, Fix
 
 abbrev pub static_text_view : StaticForm → TextView
 static_text_view (Literal text) = literal_of text.now
-static_text_view (Fixed fixed) = fixed_of fixed
+static_text_view (Fixed fixed) = fixed_of fixed.text

@@ -191,7 +191,7 @@ impl ArcStr {
     }
 
     pub(crate) fn from_fixed(fixed: Fixed<Global>) -> ArcStr
-        ensures { result ≡ fixed_of fixed }
+        ensures { result ≡ fixed_of fixed.text }
     {
         ArcStr {
             form: Form::Fixed(fixed),

@@ -41,7 +41,7 @@ impl StaticStr {
     }
 
     pub(crate) fn from_fixed(fixed: Fixed<Global>) -> StaticStr
-        ensures { result ≡ fixed_of fixed }
+        ensures { result ≡ fixed_of fixed.text }
     {
         StaticStr {
             form: StaticForm::Fixed(fixed),

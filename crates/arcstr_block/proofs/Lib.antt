@@ -17,4 +17,5 @@ pub mod Memory
 pub mod LooseValues
 pub mod Crosses
 pub mod Looks
+pub mod Marked
 pub mod InLine

@@ -1,9 +1,9 @@
 -- Two pointers to one block, and what a step of one says of the other.
 use Rattle.std.specs.Prelude.{◌≡◌, ℕ}
 use Rattle.arcstr_count.specs.declared.steps.Step.{Step}
-use Rattle.arcstr_count.specs.declared.steps.Step.TheVariants.{Look, Begin, Sub}
+use Rattle.arcstr_count.specs.declared.steps.Step.TheVariants.{Look, Begin, Sub, Leak}
 use Rattle.arcstr_count.specs.declared.steps.Reply.{Reply}
-use Rattle.arcstr_count.specs.declared.steps.Reply.TheVariants.{Ended, Looked as LookedReply, Owes, Left}
+use Rattle.arcstr_count.specs.declared.steps.Reply.TheVariants.{Ended, Looked as LookedReply, Owes, Left, Marked}
 use Rattle.arcstr_count.specs.Word.{looked_of}
 use Rattle.arcstr_count.specs.OneBlock.{EndsIn, look_reply}
 use Rattle.arcstr_block.specs.Rights.{IsMarked, IsUnmarked}
@@ -22,6 +22,10 @@ module _ {X A : Type 0} where
   -- a look of p that found the word
   abbrev pub Looked : Pointer X A → ℕ → Pointer X A → Type 0
   Looked p word q = SawStep p q (Look p.seat) (look_reply (looked_of (word_of word)))
+
+  -- the mark by p
+  abbrev pub Leaked : Pointer X A → Pointer X A → Type 0
+  Leaked p q = SawStep p q (Leak p.seat) Marked
 
   -- the look of p's drop
   abbrev pub BegunAs : Pointer X A → ℕ → Pointer X A → Type 0

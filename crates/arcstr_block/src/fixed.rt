@@ -1,37 +1,40 @@
 //! A block that is known to be marked.
-ghost use Rattle.std.specs.Prelude.{◌≡◌, List, ℕ, length};
+ghost use Rattle.std.specs.Prelude.{◌≡◌, length};
 ghost use Rattle.std.specs.String.{string_bytes};
 ghost use Rattle.arcstr_block.specs.Rights.{fixed};
+ghost use Rattle.arcstr_block.specs.Handle.{Kept, IsMarkedIn};
 
 use crate::pointer::Pointer;
+use crate::seen::Seen;
 use std::alloc::Allocator;
 use std::marker::Model;
 
-/// A block that is marked, for good: its text is read as long as its allocator lasts. Contracts see its text, as bytes.
+/// A block that is marked, for good: its text is read as long as its allocator lasts. Contracts see the bytes of
+/// its text, its block's name, the limit on its count, and the beginning of its history in which it was marked.
 pub struct Fixed<A: Allocator + Copy> {
     pub(crate) pointer: Pointer<String<A>, A>,
     pub(crate) alloc: A,
+    ghost right: { pointer.right ≡ fixed },
+    ghost marked: { IsMarkedIn pointer.limit pointer.history },
 }
 
 impl<A: Allocator + Copy> Model for Fixed<A> {
-    ghost Value = { List ℕ };
+    ghost Value = { Kept };
 
-    ghost view = { λ f. string_bytes f.pointer.value };
-
-    ghost invariant = { λ f. f.pointer.right ≡ fixed };
+    ghost view = { λ f. record { text = string_bytes f.pointer.value; block = f.pointer.block; limit = f.pointer.limit; history = f.pointer.history } };
 }
 
 impl<A: Allocator + Copy> Fixed<A> {
     /// The text.
     pub fn as_str(&self) -> &str
-        ensures { result.now ≡ self.now }
+        ensures { result.now ≡ self.now.text }
     {
         self.pointer.value().as_str()
     }
 
     /// The length of the text, in bytes.
     pub fn len(&self) -> usize
-        ensures { result ≡ length self.now }
+        ensures { result ≡ length self.now.text }
     {
         self.as_str().len()
     }
@@ -44,6 +47,15 @@ impl<A: Allocator + Copy> Fixed<A> {
             pointer: self.pointer.again(),
             alloc: self.alloc,
         }
+    }
+
+    /// What was seen of the block's history when it was found or made marked: the mark is in it. No step.
+    pub fn seen(&self) -> Seen
+        ensures block { result.block ≡ self.now.block }
+        ensures history { result.history ≡ self.now.history }
+        ensures marked { IsMarkedIn self.now.limit result.history }
+    {
+        self.pointer.seen()
     }
 }
 

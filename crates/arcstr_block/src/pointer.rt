@@ -37,7 +37,7 @@ impl<X, A: Allocator> Model for Pointer<X, A> {
 }
 
 impl<X, A: Allocator> Pointer<X, A> {
-    ghost use Rattle.arcstr_block.specs.Same.{IsSameBlock, Looked, BegunAs, SubtractedAs};
+    ghost use Rattle.arcstr_block.specs.Same.{IsSameBlock, Looked, Leaked, BegunAs, SubtractedAs};
 
     /// The first pointer to a block, whose word counts it alone.
     pub(crate) fn make(memory: Loose<Block<X>, A>) -> (Pointer<X, A>, A)
@@ -125,6 +125,7 @@ impl<X, A: Allocator> Pointer<X, A> {
     pub(crate) fn mark(&self) -> Pointer<X, A>
         requires { IsFree self.now.right }
         ensures right { result.right ≡ fixed }
+        ensures history { Leaked self.now result }
         ensures same { IsSameBlock result self.now }
     {
         let at = self.at;
@@ -163,6 +164,7 @@ impl<X, A: Allocator> Pointer<X, A> {
     pub(crate) fn again(&self) -> Pointer<X, A>
         requires { self.now.right ≡ fixed }
         ensures right { result.right ≡ fixed }
+        ensures history { result.history ≡ self.now.history }
         ensures same { IsSameBlock result self.now }
     {
         let at = self.at;

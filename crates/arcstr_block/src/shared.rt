@@ -3,7 +3,7 @@ ghost use Rattle.std.specs.Prelude.{◌≡◌, ◌≢◌, ◌↔◌, List, ℕ, 
 ghost use Rattle.std.specs.String.{string_bytes};
 ghost use Rattle.arcstr_block.specs.Making.{IsTooLong, IsFaultOfMaking};
 ghost use Rattle.arcstr_block.specs.Rights.{owed, IsFree, HasSeat, IsUnmarked, IsWord, IsClone};
-ghost use Rattle.arcstr_block.specs.Handle.{Handle, SawCount, SawMark};
+ghost use Rattle.arcstr_block.specs.Handle.{Handle, SawCount, SawMark, SawLeak, kept_of};
 
 use crate::block::{Block, empty_block};
 use crate::fault::{TOO_LONG, TextFault};
@@ -102,7 +102,7 @@ impl<const LIMIT: u64, A: Allocator + Copy> Shared<LIMIT, A> {
 
     /// One load: the block as a fixed one, where it is found marked. What was seen of the history ends in this look.
     pub fn fixed(&self) -> (Option<Fixed<A>>, Seen)
-        ensures text { IfSome result.0 (λ fixed. fixed ≡ self.now.text) }
+        ensures kept { IfSome result.0 (λ fixed. fixed ≡ kept_of LIMIT self.now result.1.history) }
         ensures seen { MatchOption result.0 ((n : ℕ) × SawCount LIMIT result.1.history self.now.seat n) (λ _. SawMark LIMIT result.1.history self.now.seat) }
         ensures block { result.1.block ≡ self.now.block }
     {
@@ -119,9 +119,10 @@ impl<const LIMIT: u64, A: Allocator + Copy> Shared<LIMIT, A> {
         (None, seen)
     }
 
-    /// One fetch-or: the block is marked, and stays for good.
+    /// One fetch-or: the block is marked, and stays for good. What was seen of the history ends in this mark.
     pub fn mark(&self) -> Fixed<A>
-        ensures { result ≡ self.now.text }
+        ensures kept { result ≡ kept_of LIMIT self.now result.history }
+        ensures step { SawLeak LIMIT result.history self.now.seat }
     {
         Fixed {
             pointer: self.handle.pointer.mark(),

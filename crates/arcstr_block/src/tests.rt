@@ -1,6 +1,6 @@
-ghost use Rattle.std.specs.Prelude.{◌≡◌, ◌≢◌, ◌≤◌, IsTrue, length};
+ghost use Rattle.std.specs.Prelude.{◌≡◌, ◌≢◌, ◌≤◌, IsTrue, IfSome, length};
 ghost use Rattle.arcstr_count.specs.declared.words.TheConstants.{RC_MAX};
-ghost use Rattle.arcstr_block.specs.Handle.{IsFront};
+ghost use Rattle.arcstr_block.specs.Handle.{IsFront, IsMarkedIn};
 
 use crate::{Down, Fixed, Seen, Shared, TextFault};
 use linked_list_allocator::LocalHeap;
@@ -173,6 +173,31 @@ fn a_marked_block_ends_no_handle(rt: HostRuntime) -> Result<(), Fail> {
     assert_eq!(rt; (first.look().0, second.fixed().0.is_some()), (None, true));
     assert_eq!(rt; (ended(first.down().0), ended(second.down().0)), (1, 1));
     assert_eq!(rt; fixed.again().as_str(), "foobar");
+    Ok(())
+}
+
+/// Marks the block by one handle and finds it marked by another: both saw a beginning of one history with the mark in it.
+fn marks_and_finds(first: &Shared<5, Global>, second: &Shared<5, Global>) -> (Seen, Option<Seen>)
+    requires { second.now.block ≡ first.now.block }
+    ensures made { IsMarkedIn 5 result.0.history }
+    ensures found { IfSome result.1 (λ found. (found.block ≡ result.0.block) × IsMarkedIn 5 found.history) }
+{
+    let made = first.mark().again().seen();
+    match second.fixed().0 {
+        Some(fixed) => (made, Some(fixed.seen())),
+        None => (made, None),
+    }
+}
+
+#[test]
+fn what_marked_a_block_has_the_mark(rt: HostRuntime) -> Result<(), Fail> {
+    let first = Shared::<5, Global>::from_text(rt.alloc(), "foobar")?;
+    let (first, second) = cloned(&rt, first);
+    let (made, found) = marks_and_finds(&first, &second);
+    let Some(found) = found else {
+        return Err(Fail::from("the mark was not found"));
+    };
+    made.agree(&found);
     Ok(())
 }
 

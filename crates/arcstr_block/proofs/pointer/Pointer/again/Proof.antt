@@ -67,5 +67,5 @@ again_spec 𝓤 𝓛 𝓜 𝓡 wired X Y L K g d dd met md =
     nothing ! $ fpack ! (InBlock p) (λ _. ftrue) inb $ fjoin ! $ let h' : Row.Denot = record h { right = 3 } in let r : Val = pointer_val p in
     use0 𝓛 (‵ (D.own_val (p, (tt, tt)) (pointer_val p ∷ []))) (made R B g 𝓛 p) $ fjoin ! $
     let Same : Type 0 = (h.home ≡ h.home) × (h.value ≡ h.value) × (lim ≡ lim) × (h.block ≡ h.block) in
-    use0 𝓛 (raw (fact 𝓤 Same)) (fact_i 𝓤 Same (emp 𝓤) (refl, refl, refl, refl)) $ use0 𝓛 (raw (fact 𝓤 (3 ≡ fixed))) (fact_i 𝓤 (3 ≡ fixed) (emp 𝓤) refl) $ join ! $
+    use0 𝓛 (raw (fact 𝓤 Same)) (fact_i 𝓤 Same (emp 𝓤) (refl, refl, refl, refl)) $ use0 𝓛 (raw (fact 𝓤 (h.history ≡ h.history))) (fact_i 𝓤 (h.history ≡ h.history) (emp 𝓤) refl) $ join ! $ use0 𝓛 (raw (fact 𝓤 (3 ≡ fixed))) (fact_i 𝓤 (3 ≡ fixed) (emp 𝓤) refl) $ join ! $
     nothing ! $ nothing ! $ fjoin ! $ returns ! (look_at ! 0 refl) $ free_all ! refl $ keep ! (3 ∷ 0 ∷ 2 ∷ 1 ∷ []) $ by ! (leaves 𝓛 En hs c y r h' (tt, tt) (tt, tt)))))))))

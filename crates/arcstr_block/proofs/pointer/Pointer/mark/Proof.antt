@@ -32,11 +32,12 @@ use Rattle.core.specs.contracts.marker.PhantomData as Marker
 use Rattle.atomic_table.proofs.Walks.{proved, leaves}
 use Rattle.atomic_table.proofs.Calls.{fm, seq_cst, found, finds, ors}
 use Rattle.arcstr_block.specs.Rights.{IsFree, fixed}
-use Rattle.arcstr_block.specs.Ledger.{Id, Inv, block_owns, block_shares, value_at, knows, right_to, of_block, pointer_shares}
+use Rattle.arcstr_block.specs.Ledger.{Id, names, Inv, block_owns, block_shares, value_at, knows, right_to, of_block, pointer_shares}
 use Rattle.arcstr_block.specs.contracts.pointer.Pointer as C
 use Rattle.arcstr_block.proofs.Fields.{pointer_val, typed, Words, told, made, opened}
 use base.Share
 use Rattle.arcstr_count.specs.declared.steps.HandleState.TheVariants.{Free}
+use Rattle.arcstr_count.specs.OneBlock.{EndsIn}
 use Rattle.arcstr_block.specs.Book.{seat_share, Ends}
 use Rattle.arcstr_block.proofs.Seats.{seat_halves}
 use Rattle.arcstr_count.specs.declared.steps.Step.TheVariants.{Leak}
@@ -99,8 +100,9 @@ mark_spec 𝓤 𝓛 𝓜 𝓡 wired X Y L K g d dd met md =
     let got = rights.marked 𝓛 P lim pb po t s sl w ok in let k : ℕ = got.right in
     move ! (0 ∷ 4 ∷ []) $ use2 𝓛 (later (‵ (right_to P lim pb po t s 0 k))) got.turns $ await ! tt $ move ! (3 ∷ 0 ∷ []) $ fjoin ! $
     -- [the right; the tokens; what is said; the beginning]
-    move ! (3 ∷ 0 ∷ []) $ fjoin ! $ fpack ! Id (of_block holds R lim p h.value k 0 h.block h.history) t $ nothing ! $ fpack ! (InBlock p) (λ _. ftrue) inb $ fjoin ! $ let h' : Row.Denot = record h { right = k; seat = 0 } in let r : Val = pointer_val p in
+    move ! (2 ∷ []) $ fpick ! (λ r'. fsplit ! $ fpick ! (λ ends. drop ! $ move ! (3 ∷ []) $ fsplit ! $ fpick ! (λ named. drop ! $ drop ! $ nothing ! $ fpack ! (names t ≡ h.block) (λ _. ftrue) named $ fjoin ! $ fjoin ! $
+    fpack ! Id (of_block holds R lim p h.value k 0 h.block r') t $ nothing ! $ fpack ! (InBlock p) (λ _. ftrue) inb $ fjoin ! $ let h' : Row.Denot = record h { right = k; seat = 0; history = r' } in let r : Val = pointer_val p in
     use0 𝓛 (‵ (D.own_val (p, (tt, tt)) (pointer_val p ∷ []))) (made R B g 𝓛 p) $ fjoin ! $
-    let Same : Type 0 = (h.home ≡ h.home) × (h.value ≡ h.value) × (lim ≡ lim) × (h.block ≡ h.block) in
-    use0 𝓛 (raw (fact 𝓤 Same)) (fact_i 𝓤 Same (emp 𝓤) (refl, refl, refl, refl)) $ use0 𝓛 (raw (fact 𝓤 (k ≡ fixed))) (fact_i 𝓤 (k ≡ fixed) (emp 𝓤) got.said) $ join ! $
-    nothing ! $ nothing ! $ fjoin ! $ returns ! (look_at ! 0 refl) $ free_all ! refl $ keep ! (3 ∷ 0 ∷ 2 ∷ 1 ∷ []) $ by ! (leaves 𝓛 En hs c y r h' (tt, tt) (tt, tt)))))))))))))))
+    let Same : Type 0 = (h.home ≡ h.home) × (h.value ≡ h.value) × (lim ≡ lim) × (h.block ≡ h.block) in let Saw : Type 0 = EndsIn lim r' (Leak h.seat) Marked in
+    use0 𝓛 (raw (fact 𝓤 Same)) (fact_i 𝓤 Same (emp 𝓤) (refl, refl, refl, refl)) $ use0 𝓛 (raw (fact 𝓤 Saw)) (fact_i 𝓤 Saw (emp 𝓤) ends) $ join ! $ use0 𝓛 (raw (fact 𝓤 (k ≡ fixed))) (fact_i 𝓤 (k ≡ fixed) (emp 𝓤) got.said) $ join ! $
+    nothing ! $ nothing ! $ fjoin ! $ returns ! (look_at ! 0 refl) $ free_all ! refl $ keep ! (3 ∷ 0 ∷ 2 ∷ 1 ∷ []) $ by ! (leaves 𝓛 En hs c y r h' (tt, tt) (tt, tt))))))))))))))))))
