@@ -27,6 +27,13 @@ pub(crate) fn check_count(rt: &impl Abort, text: &ArcStr, wanted: Option<usize>)
     assert_eq!(rt; ArcStr::strong_count(text), wanted);
 }
 
+/// Asserts that the text is the empty literal.
+pub(crate) fn check_empty(rt: &impl Abort, text: &ArcStr) {
+    assert!(rt; text.is_empty());
+    assert!(rt; ArcStr::is_static(text));
+    check_count(rt, text, None);
+}
+
 /// Asserts the slice's own text and its places in its parent.
 pub(crate) fn check_slice(rt: &impl Abort, slice: &Substr, text: &str, places: Range<usize>) {
     check_text(rt, slice.as_str(), text);
@@ -36,8 +43,7 @@ pub(crate) fn check_slice(rt: &impl Abort, slice: &Substr, text: &str, places: R
 /// Asserts that the slice is `Substr::new()`.
 pub(crate) fn check_nothing(rt: &impl Abort, slice: &Substr) {
     check_slice(rt, slice, "", 0..0);
-    check_text(rt, slice.parent().as_str(), "");
-    assert!(rt; ArcStr::is_static(slice.parent()));
+    check_empty(rt, slice.parent());
 }
 
 /// Asserts that there is a slice, its own text and its places.
@@ -61,6 +67,11 @@ pub(crate) fn check_no_slice(
     }
 }
 
+/// Asserts a part of a text, or that there is none.
+pub(crate) fn check_part(rt: &impl Abort, part: Option<&str>, wanted: Option<&str>) {
+    assert_eq!(rt; part, wanted);
+}
+
 pub(crate) fn check_bytes(rt: &impl Abort, bytes: &[u8], wanted: &[u8]) {
     assert_eq!(rt; bytes, wanted);
 }
@@ -81,10 +92,16 @@ pub(crate) fn check_refused(rt: &impl Abort, made: Result<ArcStr, TextFault>, wa
 }
 
 /// What a hasher of std makes of the value.
-pub(crate) fn hash_of<T: Hash>(value: &T) -> u64 {
+fn hash_of<T: Hash>(value: &T) -> u64 {
     let mut state = DefaultHasher::new();
     value.hash(&mut state);
     state.finish()
+}
+
+/// Whether the two are equal, and have the hash of this text.
+pub(crate) fn are_one_key<T: Eq + Hash>(one: &T, other: &T, text: &str) -> bool {
+    let hash = hash_of(&text);
+    one == other && hash_of(one) == hash && hash_of(other) == hash
 }
 
 /// Asserts that a copy was made, and its text.

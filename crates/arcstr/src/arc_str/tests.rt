@@ -1,6 +1,6 @@
 use super::ArcStr;
 use crate::literal;
-use crate::test_steps::{check_bytes, check_count, check_text, made};
+use crate::test_steps::{check_bytes, check_count, check_empty, check_part, check_text, made};
 use std::process::Abort;
 
 #[test]
@@ -13,11 +13,9 @@ fn a_made_text_has_its_length_and_is_counted_once(rt: HostRuntime) {
 
 #[test]
 fn the_empty_text_is_a_literal(rt: HostRuntime) {
-    let text = made(&rt, "");
-    assert!(rt; text.is_empty());
-    check_count(&rt, &text, None);
-    assert!(rt; ArcStr::new().is_empty());
-    assert!(rt; ArcStr::default().is_empty());
+    check_empty(&rt, &made(&rt, ""));
+    check_empty(&rt, &ArcStr::new());
+    check_empty(&rt, &ArcStr::default());
 }
 
 #[test]
@@ -26,7 +24,7 @@ fn clones_of_a_literal_are_literals(rt: HostRuntime) {
     let last = text.clone(&rt).clone(&rt).clone(&rt).clone(&rt);
     let kept = ArcStr::as_static(&last).expect(&rt, "a literal is static");
     check_text(&rt, kept.as_str(), "Wow!");
-    check_text(&rt, kept.literal().expect(&rt, "no literal"), "Wow!");
+    check_part(&rt, kept.literal(), Some("Wow!"));
 }
 
 #[test]
@@ -42,13 +40,17 @@ fn a_clone_shares_the_count(rt: HostRuntime) {
 #[test]
 fn a_leaked_text_reads_on_without_its_handles(rt: HostRuntime) {
     let text = made(&rt, "foobar");
-    assert!(rt; !ArcStr::is_static(&text));
-    assert!(rt; ArcStr::as_static(&text).is_none());
+    check_not_static(&rt, &text);
     let kept = text.leak();
     check_leaked(&rt, &text, "foobar");
     drop(text);
     check_text(&rt, kept.as_str(), "foobar");
-    assert!(rt; kept.literal().is_none());
+    check_part(&rt, kept.literal(), None);
+}
+
+fn check_not_static(rt: &impl Abort, text: &ArcStr) {
+    assert!(rt; !ArcStr::is_static(text));
+    assert!(rt; ArcStr::as_static(text).is_none());
 }
 
 /// Asserts that the text is static and reads so, and that no handles are counted.

@@ -2,7 +2,7 @@ use super::JsonFault;
 use crate::arc_str::ArcStr;
 use crate::literal;
 use crate::substr::Substr;
-use crate::test_steps::{check_copied, check_nothing, check_text, made, part};
+use crate::test_steps::{check_copied, check_empty, check_nothing, check_text, made, part};
 use serde_json::Value;
 use std::alloc::AllocGlobal;
 use std::process::Abort;
@@ -34,12 +34,16 @@ fn a_text_is_written_and_read_back(rt: HostRuntime) {
     check_read(&rt, &value.expect(&rt, "no memory"), "hi");
 }
 
+fn check_fault(rt: &impl Abort, found: Option<JsonFault>, wanted: JsonFault) {
+    assert_eq!(rt; found, Some(wanted));
+}
+
 /// Asserts that neither a text nor a slice is read from the value.
 fn is_no_text(rt: &(impl Abort + AllocGlobal), value: Value) {
-    let text = ArcStr::from_json(rt.alloc(), &value).err();
-    assert_eq!(rt; text, Some(JsonFault::NotText));
-    let slice = Substr::from_json(rt.alloc(), &value).err();
-    assert_eq!(rt; slice, Some(JsonFault::NotText));
+    let of_text = ArcStr::from_json(rt.alloc(), &value).err();
+    check_fault(rt, of_text, JsonFault::NotText);
+    let of_slice = Substr::from_json(rt.alloc(), &value).err();
+    check_fault(rt, of_slice, JsonFault::NotText);
 }
 
 #[test]
@@ -55,8 +59,7 @@ fn other_values_are_no_texts(rt: HostRuntime) {
 fn the_empty_string_gives_the_empty_literal(rt: HostRuntime) {
     let value = string(&rt, "");
     let text = ArcStr::from_json(rt.alloc(), &value).expect(&rt, "no text");
-    assert!(rt; text.is_empty());
-    assert!(rt; ArcStr::is_static(&text));
+    check_empty(&rt, &text);
     let slice = Substr::from_json(rt.alloc(), &value).expect(&rt, "no slice");
     check_nothing(&rt, &slice);
 }

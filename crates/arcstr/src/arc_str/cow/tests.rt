@@ -1,31 +1,34 @@
 use super::*;
 use crate::literal;
 use crate::test_steps::{check_borrowed, check_owned, made};
+use std::alloc::AllocGlobal;
+use std::process::Abort;
+
+/// Asserts that the text gives a copy of itself.
+fn is_copied(rt: &(impl Abort + AllocGlobal), text: ArcStr, wanted: &str) {
+    check_owned(
+        rt,
+        text.into_cow(rt.alloc()).expect(rt, "no memory"),
+        wanted,
+    );
+}
 
 #[test]
 fn the_text_of_a_literal_is_borrowed(rt: HostRuntime) {
-    let cow = literal!("hi").into_cow(rt.alloc()).expect(&rt, "no memory");
-    check_borrowed(&rt, cow, "hi");
+    let cow = literal!("hi").into_cow(rt.alloc());
+    check_borrowed(&rt, cow.expect(&rt, "no memory"), "hi");
 }
 
 #[test]
 fn the_text_of_a_leaked_block_is_copied(rt: HostRuntime) {
     let text = made(&rt, "hi");
     text.leak();
-    check_owned(
-        &rt,
-        text.into_cow(rt.alloc()).expect(&rt, "no memory"),
-        "hi",
-    );
+    is_copied(&rt, text, "hi");
 }
 
 #[test]
 fn the_text_of_a_block_is_copied(rt: HostRuntime) {
     let text = made(&rt, "hi");
     check_borrowed(&rt, text.to_cow(), "hi");
-    check_owned(
-        &rt,
-        text.into_cow(rt.alloc()).expect(&rt, "no memory"),
-        "hi",
-    );
+    is_copied(&rt, text, "hi");
 }

@@ -21,6 +21,10 @@ fn a_refused_copy_answers_memory(rt: HostRuntime) {
 fn a_refused_repetition_answers_memory(rt: HostRuntime) {
     is_whole_or_refused(&rt, ArcStr::try_repeat(rt.alloc(), "ab", 3), "ababab");
     is_whole_or_refused(&rt, ArcStr::repeat(rt.alloc(), "ab", 3), "ababab");
+}
+
+#[test]
+fn a_refused_print_answers_memory(rt: HostRuntime) {
     is_whole_or_refused(&rt, format_arcstr!(rt.alloc(); "cool {}", 123), "cool 123");
 }
 
@@ -35,6 +39,7 @@ fn an_empty_text_is_never_refused(rt: HostRuntime) {
 fn a_closure_is_run_only_where_the_memory_is_there(rt: HostRuntime) {
     let mut ran = false;
     let made = ArcStr::init_with(rt.alloc(), 3, |_| ran = true);
-    assert!(rt; made.is_ok() == ran);
+    let is_made = made.is_ok();
     is_whole_or_refused(&rt, made, "\0\0\0");
+    assert!(rt; is_made == ran);
 }

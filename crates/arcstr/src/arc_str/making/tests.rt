@@ -1,4 +1,4 @@
-use crate::test_steps::{check_count, check_made, check_refused};
+use crate::test_steps::{check_empty, check_made, check_refused};
 use crate::{ArcStr, TextFault};
 
 /// The least length that is too long.
@@ -17,8 +17,8 @@ fn bytes_of_a_text_are_taken(rt: HostRuntime) {
         ArcStr::from_utf8(rt.alloc(), &[0x61, 0xc3, 0xa9]),
         "aé",
     );
-    let nothing = ArcStr::from_utf8(rt.alloc(), &[]).expect(&rt, "no memory");
-    check_count(&rt, &nothing, None);
+    let nothing = ArcStr::from_utf8(rt.alloc(), &[]);
+    check_empty(&rt, &nothing.expect(&rt, "no memory"));
 }
 
 #[test]
@@ -51,24 +51,24 @@ fn a_closure_that_leaves_no_text_is_refused(rt: HostRuntime) {
 fn no_bytes_are_filled_too(rt: HostRuntime) {
     let mut length = None;
     let made = ArcStr::init_with(rt.alloc(), 0, |bytes| length = Some(bytes.len()));
-    assert_eq!(rt; length, Some(0));
-    check_count(&rt, &made.expect(&rt, "refused"), None);
+    check_empty(&rt, &made.expect(&rt, "refused"));
+    assert!(rt; length == Some(0));
 }
 
 #[test]
 fn a_closure_is_not_run_for_a_length_that_is_too_long(rt: HostRuntime) {
     let mut ran = false;
     let made = ArcStr::init_with(rt.alloc(), TOO_LONG, |_| ran = true);
-    assert!(rt; !ran);
     check_refused(&rt, made, TextFault::Length);
+    assert!(rt; !ran);
 }
 
 #[test]
 fn a_closure_is_not_run_without_memory(rt: HostRuntime) {
     let mut ran = false;
     let made = ArcStr::init_with(rt.alloc(), TOO_LONG - 1, |_| ran = true);
-    assert!(rt; !ran);
     check_refused(&rt, made, TextFault::Memory);
+    assert!(rt; !ran);
 }
 
 #[test]
@@ -77,6 +77,11 @@ fn texts_are_repeated(rt: HostRuntime) {
     check_made(&rt, ArcStr::try_repeat(alloc, "A", 10), "AAAAAAAAAA");
     check_made(&rt, ArcStr::try_repeat(alloc, "é", 2), "éé");
     check_made(&rt, ArcStr::repeat(alloc, "ab", 2), "abab");
+}
+
+#[test]
+fn no_copies_and_copies_of_nothing_are_empty(rt: HostRuntime) {
+    let alloc = rt.alloc();
     check_made(&rt, ArcStr::try_repeat(alloc, "", usize::MAX), "");
     check_made(&rt, ArcStr::try_repeat(alloc, "foo", 0), "");
 }

@@ -1,6 +1,6 @@
 use super::*;
 use crate::literal;
-use crate::test_steps::{check_text, hash_of, made};
+use crate::test_steps::{are_one_key, check_text, made};
 use std::collections::{BTreeSet, HashMap};
 
 #[test]
@@ -9,23 +9,17 @@ fn texts_stand_in_order_of_their_bytes(rt: HostRuntime) {
     for text in ["é", "b", "ab", "Z", "a"] {
         texts.insert(made(&rt, text)).expect(&rt, "no memory");
     }
-    let mut walked = String::new(rt.alloc());
-    for text in &texts {
-        walked.push_str(text.as_str()).expect(&rt, "no memory");
-        walked.push_str(" ").expect(&rt, "no memory");
+    assert!(rt; texts.len() == 5);
+    for (text, wanted) in texts.iter().zip(["Z", "a", "ab", "b", "é"]) {
+        check_text(&rt, text.as_str(), wanted);
     }
-    check_text(&rt, walked.as_str(), "Z a ab b é ");
 }
 
 #[test]
 fn a_literal_and_a_block_of_one_text_are_one_key(rt: HostRuntime) {
     let text = made(&rt, "bar");
-    let same = literal!("bar");
-    assert!(rt; text == same);
-    assert!(rt; hash_of(&text) == hash_of(&same));
-    assert!(rt; hash_of(&text) == hash_of(&"bar"));
-    assert!(rt; text.eq_str("bar"));
-    assert!(rt; !text.eq_str("ba"));
+    assert!(rt; are_one_key(&text, &literal!("bar"), "bar"));
+    assert!(rt; text.eq_str("bar") && !text.eq_str("ba"));
 }
 
 #[test]
@@ -40,7 +34,4 @@ fn a_map_finds_a_key_of_another_kind(rt: HostRuntime) {
 #[test]
 fn a_longer_text_may_come_first(rt: HostRuntime) {
     assert!(rt; literal!("abc") < literal!("b"));
-    assert!(rt; literal!("") < literal!("a"));
-    assert!(rt; literal!("ab") > literal!("a"));
-    assert!(rt; literal!("b").cmp(&literal!("b")) == Ordering::Equal);
 }

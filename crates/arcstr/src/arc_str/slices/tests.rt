@@ -1,37 +1,44 @@
 use super::*;
 use crate::literal;
 use crate::test_steps::{
-    check_count, check_no_slice, check_nothing, check_slice, check_sliced, check_text, made, part,
+    check_count, check_no_slice, check_nothing, check_part, check_slice, check_sliced, check_text,
+    made, part,
 };
 use std::process::Abort;
 
 const MAX: usize = usize::MAX;
 
+/// Asserts the slice's text and places, and its parent's text.
+fn check_within(rt: &impl Abort, slice: &Substr, text: &str, places: Range<usize>, parent: &str) {
+    check_slice(rt, slice, text, places);
+    check_text(rt, slice.parent().as_str(), parent);
+}
+
 #[test]
 fn slices_keep_their_parent(rt: HostRuntime) {
     let text = made(&rt, "abcde");
     let tail = part(&rt, &text, 2..);
-    check_slice(&rt, &tail, "cde", 2..5);
-    check_text(&rt, tail.parent().as_str(), "abcde");
+    check_within(&rt, &tail, "cde", 2..5, "abcde");
     check_count(&rt, &text, Some(2));
 }
 
 #[test]
 fn empty_slices_keep_their_parent(rt: HostRuntime) {
     let text = made(&rt, "abcde");
-    let end = part(&rt, &text, 5..);
-    check_slice(&rt, &end, "", 5..5);
-    check_text(&rt, end.parent().as_str(), "abcde");
+    check_within(&rt, &part(&rt, &text, 5..), "", 5..5, "abcde");
     check_no_slice(&rt, text.substr(&rt, 6..), RangeFault::OutOfOrder);
 }
 
 #[test]
 fn slices_of_a_literal(rt: HostRuntime) {
-    let text = literal!("12345");
-    let digits = part(&rt, &text, 1..4);
+    let digits = part(&rt, &literal!("12345"), 1..4);
     check_slice(&rt, &digits, "234", 1..4);
     assert!(rt; ArcStr::is_static(digits.parent()));
-    check_sliced(&rt, text.substr(&rt, ..), "12345", 0..5);
+}
+
+#[test]
+fn the_slice_of_all_of_a_literal(rt: HostRuntime) {
+    check_sliced(&rt, literal!("12345").substr(&rt, ..), "12345", 0..5);
 }
 
 /// Asserts that `aé` has no slice in the range, and why.
@@ -89,7 +96,7 @@ fn slices_up_to_a_last_place(rt: HostRuntime) {
 
 /// Asserts what `get` answers for the range in `aé`.
 fn reads<R: Into<StrRange>>(rt: &impl Abort, range: R, wanted: Option<&str>) {
-    assert_eq!(rt; literal!("aé").get(range), wanted);
+    check_part(rt, literal!("aé").get(range), wanted);
 }
 
 #[test]
@@ -101,53 +108,61 @@ fn parts_are_those_of_str(rt: HostRuntime) {
     reads(&rt, StrRange::Full, Some("aé"));
 }
 
-/// Asserts that the text has a slice that shows the view at these places.
-fn finds(rt: &(impl Abort + Wait), text: &ArcStr, shown: &str, places: Range<usize>) {
-    let view = StrView::at(shown, places.start).expect(rt, "no view");
-    let found = text.try_substr_from(rt, view).expect(rt, "not found");
-    check_slice(rt, &found, shown, places);
-    check_text(rt, found.parent().as_str(), text.as_str());
+/// The slice of the text that shows this at the place, where there is one.
+fn found(rt: &(impl Abort + Wait), text: &ArcStr, shown: &str, place: usize) -> Option<Substr> {
+    let view = StrView::at(shown, place).expect(rt, "no view");
+    text.try_substr_from(rt, view)
 }
 
-/// Asserts that the text does not have the view at the place.
+/// Asserts that the text has a slice that shows this at these places.
+fn finds(rt: &(impl Abort + Wait), text: &ArcStr, shown: &str, places: Range<usize>) {
+    let slice = found(rt, text, shown, places.start);
+    check_slice(rt, &slice.expect(rt, "not found"), shown, places);
+}
+
+/// Asserts that the text does not show this at the place.
 fn lacks(rt: &(impl Abort + Wait), text: &ArcStr, shown: &str, place: usize) {
-    let view = StrView::at(shown, place).expect(rt, "no view");
-    assert!(rt; text.try_substr_from(rt, view).is_none());
+    assert!(rt; found(rt, text, shown, place).is_none());
 }
 
 #[test]
 fn a_trimmed_view_is_found(rt: HostRuntime) {
     let text = made(&rt, "   abc");
     let trimmed = StrView::whole(text.as_str()).trim();
-    let found = text.try_substr_from(&rt, trimmed).expect(&rt, "not found");
-    check_slice(&rt, &found, "abc", 3..6);
-    check_text(&rt, found.parent().as_str(), "   abc");
-    lacks(&rt, &text, "abc", 0);
+    let slice = text.try_substr_from(&rt, trimmed).expect(&rt, "not found");
+    check_within(&rt, &slice, "abc", 3..6, "   abc");
 }
 
 #[test]
 fn an_empty_view_is_found_everywhere(rt: HostRuntime) {
     let text = made(&rt, "abab");
     for place in [99, MAX] {
-        let view = StrView::at("", place).expect(&rt, "no view");
-        check_nothing(
-            &rt,
-            &text.try_substr_from(&rt, view).expect(&rt, "not found"),
-        );
+        let slice = found(&rt, &text, "", place);
+        check_nothing(&rt, &slice.expect(&rt, "not found"));
     }
     check_nothing(&rt, &text.substr_from(&rt, StrView::whole("")));
+}
+
+#[test]
+fn a_view_does_not_end_past_the_last_place(rt: HostRuntime) {
     assert!(rt; StrView::at("abc", MAX).is_none());
 }
 
 #[test]
-fn a_view_is_found_at_its_place_alone(rt: HostRuntime) {
+fn a_view_is_found_at_its_place(rt: HostRuntime) {
     let text = literal!("abab");
     finds(&rt, &text, "b", 3..4);
     finds(&rt, &text, "ab", 2..4);
+    finds(&rt, &literal!("aé"), "é", 1..3);
+}
+
+#[test]
+fn a_view_is_not_found_elsewhere(rt: HostRuntime) {
+    let text = literal!("abab");
     lacks(&rt, &text, "ab", 1);
     lacks(&rt, &text, "ab", 3);
     lacks(&rt, &text, "a", MAX - 1);
-    finds(&rt, &literal!("aé"), "é", 1..3);
+    lacks(&rt, &literal!("   abc"), "abc", 0);
     lacks(&rt, &literal!("aé"), "é", 0);
 }
 
@@ -166,19 +181,26 @@ fn equal_places_of_a_closure_give_the_slice_of_nothing(rt: HostRuntime) {
         let found = text.substr_using(&rt, |_| place..place);
         check_nothing(&rt, &found.expect(&rt, "no slice"));
     }
-    let found = text.try_substr_using(&rt, |_| 7..7);
+}
+
+#[test]
+fn equal_places_are_tried_too(rt: HostRuntime) {
+    let found = literal!("aé").try_substr_using(&rt, |_| 7..7);
     check_nothing(&rt, &found.expect(&rt, "no slice"));
 }
 
 #[test]
 fn other_places_of_a_closure_are_a_range(rt: HostRuntime) {
-    let text = literal!("abc");
+    let found = literal!("abc").try_substr_using(&rt, |_| 1..3);
+    check_sliced(&rt, found, "bc", 1..3);
     let off = literal!("aé").substr_using(&rt, |_| 1..2);
     check_no_slice(&rt, off, RangeFault::OffBoundary);
-    let turned = text.try_substr_using(&rt, |_| 2..1);
+}
+
+#[test]
+fn turned_places_of_a_closure_are_refused(rt: HostRuntime) {
+    let turned = literal!("abc").try_substr_using(&rt, |_| 2..1);
     check_no_slice(&rt, turned, RangeFault::OutOfOrder);
-    let found = text.try_substr_using(&rt, |_| 1..3);
-    check_sliced(&rt, found, "bc", 1..3);
 }
 
 #[test]

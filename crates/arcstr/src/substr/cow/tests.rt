@@ -1,36 +1,34 @@
 use super::*;
 use crate::literal;
 use crate::test_steps::{check_borrowed, check_owned, made, part};
+use std::alloc::AllocGlobal;
+use std::process::Abort;
+
+/// Asserts that the slice gives a copy of its own text.
+fn is_copied(rt: &(impl Abort + AllocGlobal), slice: Substr, wanted: &str) {
+    check_owned(
+        rt,
+        slice.into_cow(rt.alloc()).expect(rt, "no memory"),
+        wanted,
+    );
+}
 
 #[test]
 fn the_slice_of_a_literal_is_borrowed(rt: HostRuntime) {
-    let slice = part(&rt, &literal!("foobar"), 3..);
-    check_borrowed(
-        &rt,
-        slice.into_cow(rt.alloc()).expect(&rt, "no memory"),
-        "bar",
-    );
+    let cow = part(&rt, &literal!("foobar"), 3..).into_cow(rt.alloc());
+    check_borrowed(&rt, cow.expect(&rt, "no memory"), "bar");
 }
 
 #[test]
 fn the_slice_of_a_block_is_copied(rt: HostRuntime) {
     let slice = part(&rt, &made(&rt, "foobar"), 3..);
     check_borrowed(&rt, slice.to_cow(), "bar");
-    check_owned(
-        &rt,
-        slice.into_cow(rt.alloc()).expect(&rt, "no memory"),
-        "bar",
-    );
+    is_copied(&rt, slice, "bar");
 }
 
 #[test]
 fn the_slice_of_a_leaked_block_is_copied(rt: HostRuntime) {
     let parent = made(&rt, "foobar");
     parent.leak();
-    let slice = part(&rt, &parent, ..2);
-    check_owned(
-        &rt,
-        slice.into_cow(rt.alloc()).expect(&rt, "no memory"),
-        "fo",
-    );
+    is_copied(&rt, part(&rt, &parent, ..2), "fo");
 }

@@ -1,6 +1,6 @@
 use super::*;
 use crate::literal;
-use crate::test_steps::{check_text, hash_of, made, part};
+use crate::test_steps::{are_one_key, check_text, made, part};
 use std::collections::{BTreeSet, HashMap};
 
 #[test]
@@ -11,24 +11,17 @@ fn slices_stand_in_order_of_their_own_texts(rt: HostRuntime) {
         let slice = part(&rt, &parent, start..end);
         slices.insert(slice).expect(&rt, "no memory");
     }
-    let mut walked = String::new(rt.alloc());
-    for slice in &slices {
-        walked.push_str(slice.as_str()).expect(&rt, "no memory");
-        walked.push_str(" ").expect(&rt, "no memory");
+    assert!(rt; slices.len() == 5);
+    for (slice, wanted) in slices.iter().zip(["Z", "a", "ab", "b", "é"]) {
+        check_text(&rt, slice.as_str(), wanted);
     }
-    check_text(&rt, walked.as_str(), "Z a ab b é ");
 }
 
 #[test]
 fn slices_of_one_text_are_equal_whatever_their_parents(rt: HostRuntime) {
     let slice = part(&rt, &made(&rt, "foobar"), 3..6);
-    let same = Substr::from_static("bar");
-    assert!(rt; slice == same);
-    assert!(rt; hash_of(&slice) == hash_of(&same));
-    assert!(rt; hash_of(&slice) == hash_of(&"bar"));
-    assert!(rt; slice.eq_str("bar"));
-    assert!(rt; !slice.eq_str("ba"));
-    assert!(rt; !slice.eq_str("foobar"));
+    assert!(rt; are_one_key(&slice, &Substr::from_static("bar"), "bar"));
+    assert!(rt; slice.eq_str("bar") && !slice.eq_str("ba") && !slice.eq_str("foobar"));
 }
 
 #[test]

@@ -11,10 +11,10 @@ fn a_slice_is_padded_as_a_str_is(rt: HostRuntime) {
 #[test]
 fn debug_of_a_slice_escapes_its_own_text(rt: HostRuntime) {
     let parent = made(&rt, "\"a\"b\"é");
-    let quoted = part(&rt, &parent, 1..4);
-    check_copied(&rt, format!(in rt.alloc(); "{quoted:?}"), "\"a\\\"b\"");
-    let wide = part(&rt, &parent, 5..);
-    check_copied(&rt, format!(in rt.alloc(); "{wide:?}"), "\"é\"");
+    for (start, end, wanted) in [(1, 4, "\"a\\\"b\""), (5, 7, "\"é\"")] {
+        let slice = part(&rt, &parent, start..end);
+        check_copied(&rt, format!(in rt.alloc(); "{slice:?}"), wanted);
+    }
 }
 
 #[test]

@@ -1,7 +1,7 @@
 use super::*;
 use crate::literal;
 use crate::test_steps::{
-    check_no_slice, check_nothing, check_slice, check_sliced, check_text, made, part,
+    check_no_slice, check_nothing, check_part, check_slice, check_sliced, check_text, made, part,
 };
 use std::process::Abort;
 
@@ -15,7 +15,11 @@ fn a_slice_is_measured_in_its_own_text(rt: HostRuntime) {
     let bar = bar(&rt);
     check_slice(&rt, &bar, "bar", 3..6);
     check_no_slice(&rt, bar.substr(&rt, 0..5), RangeFault::PastEnd);
-    let inner = bar.substr(&rt, 1..3).expect(&rt, "no slice");
+}
+
+#[test]
+fn a_slice_of_a_slice_keeps_the_parent(rt: HostRuntime) {
+    let inner = bar(&rt).substr(&rt, 1..3).expect(&rt, "no slice");
     check_slice(&rt, &inner, "ar", 4..6);
     check_text(&rt, inner.parent().as_str(), "foobarbaz");
 }
@@ -37,7 +41,7 @@ fn places_of_a_slice_of_a_slice_are_sums(rt: HostRuntime) {
 
 /// Asserts what `get` answers for the range in `bar`.
 fn reads<R: Into<StrRange>>(rt: &(impl Abort + Wait), range: R, wanted: Option<&str>) {
-    assert_eq!(rt; bar(rt).get(range), wanted);
+    check_part(rt, bar(rt).get(range), wanted);
 }
 
 #[test]
@@ -58,9 +62,13 @@ fn found(rt: &(impl Abort + Wait), shown: &str, place: usize) -> Option<Substr> 
 fn a_view_is_found_in_the_own_text(rt: HostRuntime) {
     let whole = found(&rt, "bar", 0).expect(&rt, "not found");
     check_slice(&rt, &whole, "bar", 3..6);
+    check_nothing(&rt, &found(&rt, "", 99).expect(&rt, "not found"));
+}
+
+#[test]
+fn a_view_is_not_found_past_the_own_text(rt: HostRuntime) {
     assert!(rt; found(&rt, "bar", 3).is_none());
     assert!(rt; found(&rt, "foo", 0).is_none());
-    check_nothing(&rt, &found(&rt, "", 99).expect(&rt, "not found"));
 }
 
 #[test]
@@ -74,13 +82,16 @@ fn a_trimmed_view_of_a_slice_is_found(rt: HostRuntime) {
 
 #[test]
 fn closures_find_places_of_the_own_text(rt: HostRuntime) {
-    let bar = bar(&rt);
-    let whole = bar.substr_using(&rt, |own| 0..own.len());
+    let whole = bar(&rt).substr_using(&rt, |own| 0..own.len());
     check_sliced(&rt, whole, "bar", 3..6);
-    let past = bar.substr_using(&rt, |_| 0..9);
-    check_no_slice(&rt, past, RangeFault::PastEnd);
-    let middle = bar.try_substr_using(&rt, |_| 1..2);
+    let middle = bar(&rt).try_substr_using(&rt, |_| 1..2);
     check_sliced(&rt, middle, "a", 4..5);
+}
+
+#[test]
+fn places_past_the_own_text_are_refused(rt: HostRuntime) {
+    let past = bar(&rt).substr_using(&rt, |_| 0..9);
+    check_no_slice(&rt, past, RangeFault::PastEnd);
 }
 
 #[test]
