@@ -75,8 +75,9 @@ impl ArcStr {
         }
     }
 
-    /// Another handle on the same text. A block's word is changed by one exchange, tried again where
-    /// the word changed between; of a literal or a fixed block no step is taken.
+    /// Another handle on the same text. Of a block one load of its word, and where that found no mark a
+    /// compare-exchange that counts the handle, or sets the mark where the count is past its limit; it is
+    /// tried again where the word changed between. Of a literal or a fixed block no step is taken.
     pub fn clone(&self, rt: &impl Wait) -> ArcStr
         ensures { result ≡ self.now }
     {
@@ -143,7 +144,8 @@ impl ArcStr {
         }
     }
 
-    /// The same text for good. A block is marked by one step on its word.
+    /// The same text for good. Of a block one fetch-or sets the mark in its word; of a literal or a
+    /// fixed block no step is taken.
     pub fn leak(&self) -> StaticStr
         ensures { result ≡ leaked self.now }
     {

@@ -17,4 +17,6 @@ mod mac;
 mod refusal_tests;
 mod static_str;
 mod substr;
+#[cfg(test)]
+mod test_steps;
 mod text_order;

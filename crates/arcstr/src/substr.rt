@@ -7,7 +7,7 @@ ghost use Rattle.arcstr.specs.TextView.{literal_of, made_of};
 ghost use Rattle.arcstr.specs.Substr.{IsFaultOfMakingSlice, IsSoundSlice, IsTooFar, empty_slice, slice_of, text_of, whole_of};
 
 use crate::arc_str::ArcStr;
-use arcstr_block::TextFault;
+use arcstr_block::{TOO_LONG, TextFault};
 use arcstr_range::range::MAX_PLACE;
 use std::alloc::Global;
 use std::marker::Model;
@@ -20,12 +20,9 @@ mod order;
 mod printing;
 mod slices;
 #[cfg(test)]
-pub(crate) mod tests;
+mod tests;
 #[cfg(test)]
 mod thread_tests;
-
-/// From this many bytes on, `2^63 - 25`, a text is too long for an `ArcStr`.
-const TOO_LONG: usize = 9_223_372_036_854_775_783;
 
 /// A slice of a shared text. It keeps its parent, and so the parent's text, as long as it lives. A
 /// contract sees the parent, and the two places in bytes of the parent's text between which the slice

@@ -1,84 +1,80 @@
 use super::ArcStr;
 use crate::literal;
-use std::test::Fail;
+use crate::test_steps::{check_bytes, check_count, check_empty, check_part, check_text, made};
+use std::process::Abort;
 
 #[test]
-fn a_made_text_has_its_length_and_is_counted_once(rt: HostRuntime) -> Result<(), Fail> {
-    let text = ArcStr::from_str(rt.alloc(), "foo")?;
-    assert_eq!(rt; text.len(), 3);
-    assert_eq!(rt; text.as_bytes(), b"foo".as_slice());
-    assert_eq!(rt; ArcStr::strong_count(&text), Some(1));
-    Ok(())
+fn a_made_text_has_its_length_and_is_counted_once(rt: HostRuntime) {
+    let text = made(&rt, "foo");
+    assert!(rt; text.len() == 3);
+    check_bytes(&rt, text.as_bytes(), b"foo");
+    check_count(&rt, &text, Some(1));
 }
 
 #[test]
-fn the_empty_text_is_a_literal(rt: HostRuntime) -> Result<(), Fail> {
-    let text = ArcStr::from_str(rt.alloc(), "")?;
-    assert!(rt; text.is_empty());
-    assert_eq!(rt; ArcStr::strong_count(&text), None);
-    assert!(rt; ArcStr::new().is_empty());
-    assert!(rt; ArcStr::default().is_empty());
-    Ok(())
+fn the_empty_text_is_a_literal(rt: HostRuntime) {
+    check_empty(&rt, &made(&rt, ""));
+    check_empty(&rt, &ArcStr::new());
+    check_empty(&rt, &ArcStr::default());
 }
 
 #[test]
 fn clones_of_a_literal_are_literals(rt: HostRuntime) {
     let text = literal!("Wow!",);
     let last = text.clone(&rt).clone(&rt).clone(&rt).clone(&rt);
-    let Some(kept) = ArcStr::as_static(&last) else {
-        panic!(rt; "a literal is static");
-    };
-    assert_eq!(rt; kept.as_str(), "Wow!");
-    assert_eq!(rt; kept.literal(), Some("Wow!"));
+    let kept = ArcStr::as_static(&last).expect(&rt, "a literal is static");
+    check_text(&rt, kept.as_str(), "Wow!");
+    check_part(&rt, kept.literal(), Some("Wow!"));
 }
 
 #[test]
-fn a_clone_shares_the_count(rt: HostRuntime) -> Result<(), Fail> {
-    let text = ArcStr::from_str(rt.alloc(), "foobar")?;
-    {
-        let copy = text.clone(&rt);
-        assert_eq!(rt; ArcStr::strong_count(&text), Some(2));
-        assert_eq!(rt; ArcStr::strong_count(&copy), Some(2));
-    }
-    assert_eq!(rt; ArcStr::strong_count(&text), Some(1));
-    Ok(())
+fn a_clone_shares_the_count(rt: HostRuntime) {
+    let text = made(&rt, "foobar");
+    let copy = text.clone(&rt);
+    check_count(&rt, &text, Some(2));
+    check_count(&rt, &copy, Some(2));
+    drop(copy);
+    check_count(&rt, &text, Some(1));
 }
 
 #[test]
-fn a_leaked_text_reads_on_without_its_handles(rt: HostRuntime) -> Result<(), Fail> {
-    let text = ArcStr::from_str(rt.alloc(), "foobar")?;
-    assert!(rt; !ArcStr::is_static(&text));
-    assert!(rt; ArcStr::as_static(&text).is_none());
+fn a_leaked_text_reads_on_without_its_handles(rt: HostRuntime) {
+    let text = made(&rt, "foobar");
+    check_not_static(&rt, &text);
     let kept = text.leak();
-    assert!(rt; ArcStr::is_static(&text));
-    assert_eq!(rt; ArcStr::strong_count(&text), None);
-    let Some(again) = ArcStr::as_static(&text) else {
-        panic!(rt; "a leaked text is static");
-    };
-    assert_eq!(rt; again.as_str(), "foobar");
+    check_leaked(&rt, &text, "foobar");
     drop(text);
-    assert_eq!(rt; kept.as_str(), "foobar");
-    assert!(rt; kept.literal().is_none());
-    Ok(())
+    check_text(&rt, kept.as_str(), "foobar");
+    check_part(&rt, kept.literal(), None);
+}
+
+fn check_not_static(rt: &impl Abort, text: &ArcStr) {
+    assert!(rt; !ArcStr::is_static(text));
+    assert!(rt; ArcStr::as_static(text).is_none());
+}
+
+/// Asserts that the text is static and reads so, and that no handles are counted.
+fn check_leaked(rt: &impl Abort, text: &ArcStr, wanted: &str) {
+    assert!(rt; ArcStr::is_static(text));
+    check_count(rt, text, None);
+    let kept = ArcStr::as_static(text).expect(rt, "a leaked text is static");
+    check_text(rt, kept.as_str(), wanted);
 }
 
 #[test]
-fn a_static_text_gives_handles_again(rt: HostRuntime) -> Result<(), Fail> {
-    let kept = ArcStr::from_str(rt.alloc(), "foobar")?.leak();
+fn a_static_text_gives_handles_again(rt: HostRuntime) {
+    let kept = made(&rt, "foobar").leak();
     assert!(rt; kept.is_static());
-    assert_eq!(rt; kept.len(), 6);
+    assert!(rt; kept.len() == 6);
     let text = kept.to_arc_str();
-    assert_eq!(rt; text.as_str(), "foobar");
-    assert_eq!(rt; ArcStr::strong_count(&text.clone(&rt)), None);
-    assert!(rt; ArcStr::is_static(&text));
-    Ok(())
+    check_leaked(&rt, &text, "foobar");
+    check_count(&rt, &text.clone(&rt), None);
 }
 
 #[test]
-fn a_raw_handle_comes_back(rt: HostRuntime) -> Result<(), Fail> {
-    let raw = ArcStr::into_raw(ArcStr::from_str(rt.alloc(), "abcd")?);
+fn a_raw_handle_comes_back(rt: HostRuntime) {
+    let raw = ArcStr::into_raw(made(&rt, "abcd"));
     let text = ArcStr::from_raw(raw);
-    assert_eq!(rt; text.as_str(), "abcd");
-    assert_eq!(rt; ArcStr::strong_count(&text), Some(1));
-    Ok(())
+    check_text(&rt, text.as_str(), "abcd");
+    check_count(&rt, &text, Some(1));
 }

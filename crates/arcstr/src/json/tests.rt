@@ -2,87 +2,92 @@ use super::JsonFault;
 use crate::arc_str::ArcStr;
 use crate::literal;
 use crate::substr::Substr;
+use crate::test_steps::{check_copied, check_empty, check_nothing, check_text, made, part};
 use serde_json::Value;
-use std::test::Fail;
+use std::alloc::AllocGlobal;
+use std::process::Abort;
 
-#[test]
-fn a_slice_is_written_and_read_back(rt: HostRuntime) -> Result<(), Fail> {
-    let slice = literal!("aé").substr(&rt, 1..).ok().ok_or("refused")?;
-    let value = slice.to_json(rt.alloc())?;
-    assert_eq!(rt; value.as_str(), Some("é"));
-    assert!(rt; Substr::from_json(rt.alloc(), &value)? == slice);
-    Ok(())
+/// The JSON string of the text.
+fn string(rt: &(impl Abort + AllocGlobal), text: &str) -> Value {
+    Value::try_from_str(rt.alloc(), text).expect(rt, "no memory")
+}
+
+/// Asserts that the value is the string of this text, and that a text and a slice are read from it.
+fn check_read(rt: &(impl Abort + AllocGlobal), value: &Value, wanted: &str) {
+    check_text(rt, value.as_str().expect(rt, "no string"), wanted);
+    let text = ArcStr::from_json(rt.alloc(), value).expect(rt, "no text");
+    check_text(rt, text.as_str(), wanted);
+    let slice = Substr::from_json(rt.alloc(), value).expect(rt, "no slice");
+    check_text(rt, slice.as_str(), wanted);
 }
 
 #[test]
-fn a_text_is_written_and_read_back(rt: HostRuntime) -> Result<(), Fail> {
-    let text = ArcStr::from_str(rt.alloc(), "hi")?;
-    let value = text.to_json(rt.alloc())?;
-    assert_eq!(rt; value.as_str(), Some("hi"));
-    assert!(rt; ArcStr::from_json(rt.alloc(), &value)? == text);
-    Ok(())
-}
-
-/// What reading a text and a slice from the value refuses.
-fn faults(alloc: std::alloc::Global, value: &Value) -> (Option<JsonFault>, Option<JsonFault>) {
-    (
-        ArcStr::from_json(alloc, value).err(),
-        Substr::from_json(alloc, value).err(),
-    )
+fn a_slice_is_written_and_read_back(rt: HostRuntime) {
+    let slice = part(&rt, &literal!("aé"), 1..);
+    let value = slice.to_json(rt.alloc()).expect(&rt, "no memory");
+    check_read(&rt, &value, "é");
 }
 
 #[test]
-fn other_values_are_no_texts(rt: HostRuntime) -> Result<(), Fail> {
-    let alloc = rt.alloc();
-    let both = (Some(JsonFault::NotText), Some(JsonFault::NotText));
-    assert_eq!(rt; faults(alloc, &Value::from(12u8)), both);
-    assert_eq!(rt; faults(alloc, &Value::Null), both);
-    assert_eq!(rt; faults(alloc, &Value::from(true)), both);
-    let list = vec![in alloc; Value::try_from_str(alloc, "a")?]?;
-    assert_eq!(rt; faults(alloc, &Value::Array(list)), both);
-    Ok(())
+fn a_text_is_written_and_read_back(rt: HostRuntime) {
+    let value = made(&rt, "hi").to_json(rt.alloc());
+    check_read(&rt, &value.expect(&rt, "no memory"), "hi");
+}
+
+fn check_fault(rt: &impl Abort, found: Option<JsonFault>, wanted: JsonFault) {
+    assert_eq!(rt; found, Some(wanted));
+}
+
+/// Asserts that neither a text nor a slice is read from the value.
+fn is_no_text(rt: &(impl Abort + AllocGlobal), value: Value) {
+    let of_text = ArcStr::from_json(rt.alloc(), &value).err();
+    check_fault(rt, of_text, JsonFault::NotText);
+    let of_slice = Substr::from_json(rt.alloc(), &value).err();
+    check_fault(rt, of_slice, JsonFault::NotText);
 }
 
 #[test]
-fn the_empty_string_gives_the_empty_literal(rt: HostRuntime) -> Result<(), Fail> {
-    let value = Value::try_from_str(rt.alloc(), "")?;
-    let text = ArcStr::from_json(rt.alloc(), &value)?;
-    assert!(rt; text.is_empty());
-    assert!(rt; ArcStr::is_static(&text));
-    let slice = Substr::from_json(rt.alloc(), &value)?;
-    assert_eq!(rt; slice.range(), 0..0);
-    assert!(rt; ArcStr::is_static(slice.parent()));
-    Ok(())
+fn other_values_are_no_texts(rt: HostRuntime) {
+    is_no_text(&rt, Value::from(12u8));
+    is_no_text(&rt, Value::Null);
+    is_no_text(&rt, Value::from(true));
+    let list = vec![in rt.alloc(); string(&rt, "a")];
+    is_no_text(&rt, Value::Array(list.expect(&rt, "no memory")));
 }
 
 #[test]
-fn a_written_text_is_parsed_back(rt: HostRuntime) -> Result<(), Fail> {
-    let text = ArcStr::from_str(rt.alloc(), "\"\\/ \0\u{1f}\n\u{7f}é\u{10ffff}")?;
-    let written = text.to_json(rt.alloc())?.to_string(rt.alloc())?;
-    assert_eq!(rt;
+fn the_empty_string_gives_the_empty_literal(rt: HostRuntime) {
+    let value = string(&rt, "");
+    let text = ArcStr::from_json(rt.alloc(), &value).expect(&rt, "no text");
+    check_empty(&rt, &text);
+    let slice = Substr::from_json(rt.alloc(), &value).expect(&rt, "no slice");
+    check_nothing(&rt, &slice);
+}
+
+#[test]
+fn a_written_text_is_parsed_back(rt: HostRuntime) {
+    let text = "\"\\/ \0\u{1f}\n\u{7f}é\u{10ffff}";
+    let value = made(&rt, text).to_json(rt.alloc()).expect(&rt, "no memory");
+    let written = value.to_string(rt.alloc()).expect(&rt, "no memory");
+    check_text(
+        &rt,
         written.as_str(),
-        "\"\\\"\\\\/ \\u0000\\u001f\\n\u{7f}é\u{10ffff}\""
+        "\"\\\"\\\\/ \\u0000\\u001f\\n\u{7f}é\u{10ffff}\"",
     );
-    let value = Value::from_str(rt.alloc(), written.as_str())?;
-    assert!(rt; ArcStr::from_json(rt.alloc(), &value)? == text);
-    assert!(rt; Substr::from_json(rt.alloc(), &value)?.eq_str(text.as_str()));
-    Ok(())
+    let parsed = Value::from_str(rt.alloc(), written.as_str());
+    check_read(&rt, &parsed.expect(&rt, "not parsed"), text);
 }
 
 #[test]
-fn faults_have_numbers_and_texts(rt: HostRuntime) -> Result<(), Fail> {
-    assert_eq!(rt; JsonFault::NotText.number(), 1);
-    assert_eq!(rt; JsonFault::TooFar.number(), 4);
-    let shown = format!(in rt.alloc();
-        "{}, {}, {}, {}",
-        JsonFault::NotText,
-        JsonFault::Length,
-        JsonFault::Memory,
-        JsonFault::TooFar
-    )?;
-    assert_eq!(rt;
-        shown.as_str(),
-        "value is not a text, text is too long, out of memory, text is too long for 32-bit places"
-    );
-    Ok(())
+fn faults_have_numbers_and_texts(rt: HostRuntime) {
+    let texts = [
+        (JsonFault::NotText, 1, "value is not a text"),
+        (JsonFault::Length, 2, "text is too long"),
+        (JsonFault::Memory, 3, "out of memory"),
+        (JsonFault::TooFar, 4, "text is too long for 32-bit places"),
+    ];
+    for (fault, number, text) in texts {
+        assert!(rt; fault.number() == number);
+        check_copied(&rt, format!(in rt.alloc(); "{fault}"), text);
+    }
 }

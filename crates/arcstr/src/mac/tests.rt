@@ -3,9 +3,9 @@ ghost use Rattle.std.specs.Prelude.{◌≡◌, ◌++◌, IfOk, codes, encode_utf
 ghost use Rattle.std.specs.Fmt.{decimal};
 ghost use Rattle.arcstr.specs.TextView.{made_of};
 
+use crate::test_steps::{check_made, check_text};
 use crate::{ArcStr, TextFault, format_arcstr};
 use std::alloc::Global;
-use std::test::Fail;
 
 fn printed_number(alloc: Global, number: u64) -> Result<ArcStr, TextFault>
     ensures { IfOk result (λ made. made ≡ made_of (codes "cool " ++ decimal number)) }
@@ -32,21 +32,23 @@ fn printed_text(alloc: Global, text: &str) -> Result<ArcStr, TextFault>
 }
 
 #[test]
-fn values_are_printed(rt: HostRuntime) -> Result<(), Fail> {
-    assert_eq!(rt; printed_number(rt.alloc(), 123)?.as_str(), "cool 123");
-    assert_eq!(rt; printed_truth(rt.alloc(), true)?.as_str(), "true");
-    assert_eq!(rt; printed_character(rt.alloc(), 'é')?.as_str(), "é");
-    assert_eq!(rt; printed_text(rt.alloc(), "foo")?.as_str(), "foo!");
-    Ok(())
+fn values_are_printed(rt: HostRuntime) {
+    check_made(&rt, printed_number(rt.alloc(), 123), "cool 123");
+    check_made(&rt, printed_truth(rt.alloc(), true), "true");
+    check_made(&rt, printed_character(rt.alloc(), 'é'), "é");
+    check_made(&rt, printed_text(rt.alloc(), "foo"), "foo!");
 }
 
 #[test]
-fn printing_makes_a_block_or_the_empty_literal(rt: HostRuntime) -> Result<(), Fail> {
-    let text = format_arcstr!(rt.alloc(); "cool {}", 123)?;
-    assert_eq!(rt; text.as_str(), "cool 123");
+fn printing_makes_a_block(rt: HostRuntime) {
+    let text = format_arcstr!(rt.alloc(); "cool {}", 123).expect(&rt, "no memory");
+    check_text(&rt, text.as_str(), "cool 123");
     assert!(rt; ArcStr::as_static(&text).is_none());
-    let nothing = format_arcstr!(rt.alloc(); "")?;
+}
+
+#[test]
+fn printing_nothing_makes_the_empty_literal(rt: HostRuntime) {
+    let nothing = format_arcstr!(rt.alloc(); "").expect(&rt, "no memory");
     assert!(rt; nothing.is_empty());
     assert!(rt; ArcStr::as_static(&nothing).is_some());
-    Ok(())
 }

@@ -1,37 +1,34 @@
 use super::*;
 use crate::literal;
-use std::test::Fail;
+use crate::test_steps::{check_borrowed, check_owned, made};
+use std::alloc::AllocGlobal;
+use std::process::Abort;
 
-#[test]
-fn the_text_of_a_literal_is_borrowed(rt: HostRuntime) -> Result<(), Fail> {
-    let CowStr::Borrowed(text) = literal!("hi").into_cow(rt.alloc())? else {
-        panic!(rt; "a literal's text was copied");
-    };
-    assert_eq!(rt; text, "hi");
-    Ok(())
+/// Asserts that the text gives a copy of itself.
+fn is_copied(rt: &(impl Abort + AllocGlobal), text: ArcStr, wanted: &str) {
+    check_owned(
+        rt,
+        text.into_cow(rt.alloc()).expect(rt, "no memory"),
+        wanted,
+    );
 }
 
 #[test]
-fn the_text_of_a_leaked_block_is_copied(rt: HostRuntime) -> Result<(), Fail> {
-    let text = ArcStr::from_str(rt.alloc(), "hi")?;
+fn the_text_of_a_literal_is_borrowed(rt: HostRuntime) {
+    let cow = literal!("hi").into_cow(rt.alloc());
+    check_borrowed(&rt, cow.expect(&rt, "no memory"), "hi");
+}
+
+#[test]
+fn the_text_of_a_leaked_block_is_copied(rt: HostRuntime) {
+    let text = made(&rt, "hi");
     text.leak();
-    let CowStr::Owned(copy) = text.into_cow(rt.alloc())? else {
-        panic!(rt; "a block's text was borrowed");
-    };
-    assert_eq!(rt; copy.as_str(), "hi");
-    Ok(())
+    is_copied(&rt, text, "hi");
 }
 
 #[test]
-fn the_text_of_a_block_is_copied(rt: HostRuntime) -> Result<(), Fail> {
-    let text = ArcStr::from_str(rt.alloc(), "hi")?;
-    let CowStr::Borrowed(lent) = text.to_cow() else {
-        panic!(rt; "the text was copied");
-    };
-    assert_eq!(rt; lent, "hi");
-    let CowStr::Owned(copy) = text.into_cow(rt.alloc())? else {
-        panic!(rt; "a block's text was borrowed");
-    };
-    assert_eq!(rt; copy.as_str(), "hi");
-    Ok(())
+fn the_text_of_a_block_is_copied(rt: HostRuntime) {
+    let text = made(&rt, "hi");
+    check_borrowed(&rt, text.to_cow(), "hi");
+    is_copied(&rt, text, "hi");
 }

@@ -1,55 +1,37 @@
 use super::*;
 use crate::literal;
+use crate::test_steps::{are_one_key, check_text, made};
 use std::collections::{BTreeSet, HashMap};
-use std::hash::DefaultHasher;
-use std::test::Fail;
-
-fn hash_of<T: Hash>(text: &T) -> u64 {
-    let mut state = DefaultHasher::new();
-    text.hash(&mut state);
-    state.finish()
-}
 
 #[test]
-fn texts_stand_in_order_of_their_bytes(rt: HostRuntime) -> Result<(), Fail> {
+fn texts_stand_in_order_of_their_bytes(rt: HostRuntime) {
     let mut texts = BTreeSet::new(rt.alloc());
     for text in ["é", "b", "ab", "Z", "a"] {
-        texts.insert(ArcStr::from_str(rt.alloc(), text)?)?;
+        texts.insert(made(&rt, text)).expect(&rt, "no memory");
     }
-    let mut walked = String::new(rt.alloc());
-    for text in &texts {
-        walked.push_str(text.as_str())?;
-        walked.push_str(" ")?;
+    assert!(rt; texts.len() == 5);
+    for (text, wanted) in texts.iter().zip(["Z", "a", "ab", "b", "é"]) {
+        check_text(&rt, text.as_str(), wanted);
     }
-    assert_eq!(rt; walked.as_str(), "Z a ab b é ");
-    Ok(())
 }
 
 #[test]
-fn a_literal_and_a_block_of_one_text_are_one_key(rt: HostRuntime) -> Result<(), Fail> {
-    let text = ArcStr::from_str(rt.alloc(), "bar")?;
-    let same = literal!("bar");
-    assert!(rt; text == same);
-    assert_eq!(rt; hash_of(&text), hash_of(&same));
-    assert_eq!(rt; hash_of(&text), hash_of(&"bar"));
-    assert!(rt; text.eq_str("bar"));
-    assert!(rt; !text.eq_str("ba"));
-    Ok(())
+fn a_literal_and_a_block_of_one_text_are_one_key(rt: HostRuntime) {
+    let text = made(&rt, "bar");
+    assert!(rt; are_one_key(&text, &literal!("bar"), "bar"));
+    assert!(rt; text.eq_str("bar") && !text.eq_str("ba"));
 }
 
 #[test]
-fn a_map_finds_a_key_of_another_kind(rt: HostRuntime) -> Result<(), Fail> {
+fn a_map_finds_a_key_of_another_kind(rt: HostRuntime) {
     let mut numbers = HashMap::new(rt.alloc());
-    numbers.insert(ArcStr::from_str(rt.alloc(), "k")?, 7u8)?;
-    assert_eq!(rt; numbers.get(&literal!("k")).copied(), Some(7));
-    assert_eq!(rt; numbers.get(&literal!("l")).copied(), None);
-    Ok(())
+    let kept: Result<_, _> = numbers.insert(made(&rt, "k"), 7u8);
+    kept.expect(&rt, "no memory");
+    assert!(rt; numbers.get(&literal!("k")) == Some(&7));
+    assert!(rt; numbers.get(&literal!("l")).is_none());
 }
 
 #[test]
 fn a_longer_text_may_come_first(rt: HostRuntime) {
     assert!(rt; literal!("abc") < literal!("b"));
-    assert!(rt; literal!("") < literal!("a"));
-    assert!(rt; literal!("ab") > literal!("a"));
-    assert_eq!(rt; literal!("b").cmp(&literal!("b")), Ordering::Equal);
 }

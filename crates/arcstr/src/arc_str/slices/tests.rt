@@ -1,231 +1,206 @@
 use super::*;
 use crate::literal;
-use crate::substr::tests::{check, check_new, places};
-use std::test::Fail;
+use crate::test_steps::{
+    check_count, check_no_slice, check_nothing, check_part, check_slice, check_sliced, check_text,
+    made, part,
+};
+use std::process::Abort;
 
 const MAX: usize = usize::MAX;
 
-fn view(text: &str, place: usize) -> Result<StrView<'_>, Fail> {
-    Ok(StrView::at(text, place).ok_or("no view")?)
+/// Asserts the slice's text and places, and its parent's text.
+fn check_within(rt: &impl Abort, slice: &Substr, text: &str, places: Range<usize>, parent: &str) {
+    check_slice(rt, slice, text, places);
+    check_text(rt, slice.parent().as_str(), parent);
 }
 
 #[test]
-fn slices_keep_their_parent(rt: HostRuntime) -> Result<(), Fail> {
-    let text = ArcStr::from_str(rt.alloc(), "abcde")?;
-    let tail = text.substr(&rt, 2..).ok().ok_or("refused")?;
-    check(&rt, &tail, "cde", 2, 5);
-    assert_eq!(rt; tail.parent().as_str(), "abcde");
-    assert_eq!(rt; ArcStr::strong_count(&text), Some(2));
-    Ok(())
+fn slices_keep_their_parent(rt: HostRuntime) {
+    let text = made(&rt, "abcde");
+    let tail = part(&rt, &text, 2..);
+    check_within(&rt, &tail, "cde", 2..5, "abcde");
+    check_count(&rt, &text, Some(2));
 }
 
 #[test]
-fn empty_slices_keep_their_parent(rt: HostRuntime) -> Result<(), Fail> {
-    let text = ArcStr::from_str(rt.alloc(), "abcde")?;
-    let end = text.substr(&rt, 5..).ok().ok_or("refused")?;
-    check(&rt, &end, "", 5, 5);
-    assert_eq!(rt; end.parent().as_str(), "abcde");
-    assert_eq!(rt; places(text.substr(&rt, 6..)), Err(RangeFault::OutOfOrder));
-    Ok(())
+fn empty_slices_keep_their_parent(rt: HostRuntime) {
+    let text = made(&rt, "abcde");
+    check_within(&rt, &part(&rt, &text, 5..), "", 5..5, "abcde");
+    check_no_slice(&rt, text.substr(&rt, 6..), RangeFault::OutOfOrder);
 }
 
 #[test]
-fn slices_of_a_literal(rt: HostRuntime) -> Result<(), Fail> {
-    let digits = literal!("12345").substr(&rt, 1..4).ok().ok_or("refused")?;
-    check(&rt, &digits, "234", 1, 4);
+fn slices_of_a_literal(rt: HostRuntime) {
+    let digits = part(&rt, &literal!("12345"), 1..4);
+    check_slice(&rt, &digits, "234", 1..4);
     assert!(rt; ArcStr::is_static(digits.parent()));
-    let all = literal!("12345").substr(&rt, ..).ok().ok_or("refused")?;
-    check(&rt, &all, "12345", 0, 5);
-    Ok(())
+}
+
+#[test]
+fn the_slice_of_all_of_a_literal(rt: HostRuntime) {
+    check_sliced(&rt, literal!("12345").substr(&rt, ..), "12345", 0..5);
+}
+
+/// Asserts that `aé` has no slice in the range, and why.
+fn refuses<R: Into<StrRange>>(rt: &(impl Abort + Wait), range: R, wanted: RangeFault) {
+    check_no_slice(rt, literal!("aé").substr(rt, range), wanted);
+}
+
+/// Asserts the slice of `aé` in the range, and its places.
+fn gives<R: Into<StrRange>>(rt: &(impl Abort + Wait), range: R, text: &str, places: Range<usize>) {
+    check_sliced(rt, literal!("aé").substr(rt, range), text, places);
 }
 
 #[test]
 fn slices_from_a_place(rt: HostRuntime) {
-    let text = literal!("aé");
-    assert_eq!(rt; places(text.substr(&rt, 3..)), Ok((3, 3)));
-    assert_eq!(rt; places(text.substr(&rt, 2..)), Err(RangeFault::OffBoundary));
-    assert_eq!(rt; places(text.substr(&rt, 4..)), Err(RangeFault::OutOfOrder));
-    assert_eq!(rt;
-        places(text.substr(&rt, MAX..)),
-        Err(RangeFault::OutOfOrder)
-    );
+    gives(&rt, 3.., "", 3..3);
+    refuses(&rt, 2.., RangeFault::OffBoundary);
+    refuses(&rt, 4.., RangeFault::OutOfOrder);
+    refuses(&rt, MAX.., RangeFault::OutOfOrder);
 }
 
 #[test]
 fn slices_up_to_a_place(rt: HostRuntime) {
-    let text = literal!("aé");
-    assert_eq!(rt; places(text.substr(&rt, ..0)), Ok((0, 0)));
-    assert_eq!(rt; places(text.substr(&rt, ..2)), Err(RangeFault::OffBoundary));
-    assert_eq!(rt; places(text.substr(&rt, ..4)), Err(RangeFault::PastEnd));
-    assert_eq!(rt; places(text.substr(&rt, ..MAX)), Err(RangeFault::PastEnd));
+    gives(&rt, ..0, "", 0..0);
+    refuses(&rt, ..2, RangeFault::OffBoundary);
+    refuses(&rt, ..4, RangeFault::PastEnd);
+    refuses(&rt, ..MAX, RangeFault::PastEnd);
 }
 
 #[test]
 fn slices_between_places(rt: HostRuntime) {
-    let text = literal!("aé");
-    assert_eq!(rt;
-        places(text.substr(&rt, 0..2)),
-        Err(RangeFault::OffBoundary)
-    );
-    assert_eq!(rt; places(text.substr(&rt, 2..1)), Err(RangeFault::OutOfOrder));
-    assert_eq!(rt; places(text.substr(&rt, 9..8)), Err(RangeFault::OutOfOrder));
-    assert_eq!(rt; places(text.substr(&rt, 0..4)), Err(RangeFault::PastEnd));
-    assert_eq!(rt;
-        places(text.substr(&rt, 2..2)),
-        Err(RangeFault::OffBoundary)
-    );
-    assert_eq!(rt;
-        places(text.substr(&rt, MAX..MAX)),
-        Err(RangeFault::PastEnd)
-    );
+    refuses(&rt, 0..2, RangeFault::OffBoundary);
+    refuses(&rt, 2..1, RangeFault::OutOfOrder);
+    refuses(&rt, 9..8, RangeFault::OutOfOrder);
+    refuses(&rt, 0..4, RangeFault::PastEnd);
+    refuses(&rt, 2..2, RangeFault::OffBoundary);
+    refuses(&rt, MAX..MAX, RangeFault::PastEnd);
 }
 
 #[test]
 fn slices_between_a_place_and_a_last_one(rt: HostRuntime) {
-    let text = literal!("aé");
-    assert_eq!(rt; places(text.substr(&rt, 0..=0)), Ok((0, 1)));
-    assert_eq!(rt;
-        places(text.substr(&rt, 1..=1)),
-        Err(RangeFault::OffBoundary)
-    );
-    assert_eq!(rt; places(text.substr(&rt, 3..=2)), Ok((3, 3)));
-    assert_eq!(rt;
-        places(text.substr(&rt, 4..=2)),
-        Err(RangeFault::OutOfOrder)
-    );
-    assert_eq!(rt;
-        places(text.substr(&rt, MAX..=0)),
-        Err(RangeFault::OutOfOrder)
-    );
-    assert_eq!(rt;
-        places(text.substr(&rt, MAX..=MAX)),
-        Err(RangeFault::PastEnd)
-    );
+    gives(&rt, 0..=0, "a", 0..1);
+    refuses(&rt, 1..=1, RangeFault::OffBoundary);
+    gives(&rt, 3..=2, "", 3..3);
+    refuses(&rt, 4..=2, RangeFault::OutOfOrder);
+    refuses(&rt, MAX..=0, RangeFault::OutOfOrder);
+    refuses(&rt, MAX..=MAX, RangeFault::PastEnd);
 }
 
 #[test]
 fn slices_up_to_a_last_place(rt: HostRuntime) {
-    let text = literal!("aé");
-    assert_eq!(rt; places(text.substr(&rt, ..=0)), Ok((0, 1)));
-    assert_eq!(rt; places(text.substr(&rt, ..=2)), Ok((0, 3)));
-    assert_eq!(rt; places(text.substr(&rt, ..=3)), Err(RangeFault::PastEnd));
+    gives(&rt, ..=0, "a", 0..1);
+    gives(&rt, ..=2, "aé", 0..3);
+    refuses(&rt, ..=3, RangeFault::PastEnd);
+}
+
+/// Asserts what `get` answers for the range in `aé`.
+fn reads<R: Into<StrRange>>(rt: &impl Abort, range: R, wanted: Option<&str>) {
+    check_part(rt, literal!("aé").get(range), wanted);
 }
 
 #[test]
-fn parts_are_those_of_str(rt: HostRuntime) -> Result<(), Fail> {
-    let text = ArcStr::from_str(rt.alloc(), "aé")?;
-    assert_eq!(rt; text.get(1..3), Some("é"));
-    assert_eq!(rt; text.get(0..2), None);
-    assert_eq!(rt; text.get(2..2), None);
-    assert_eq!(rt; text.get(..=MAX), None);
-    assert_eq!(rt; text.get(StrRange::Full), Some("aé"));
-    Ok(())
+fn parts_are_those_of_str(rt: HostRuntime) {
+    reads(&rt, 1..3, Some("é"));
+    reads(&rt, 0..2, None);
+    reads(&rt, 2..2, None);
+    reads(&rt, ..=MAX, None);
+    reads(&rt, StrRange::Full, Some("aé"));
+}
+
+/// The slice of the text that shows this at the place, where there is one.
+fn found(rt: &(impl Abort + Wait), text: &ArcStr, shown: &str, place: usize) -> Option<Substr> {
+    let view = StrView::at(shown, place).expect(rt, "no view");
+    text.try_substr_from(rt, view)
+}
+
+/// Asserts that the text has a slice that shows this at these places.
+fn finds(rt: &(impl Abort + Wait), text: &ArcStr, shown: &str, places: Range<usize>) {
+    let slice = found(rt, text, shown, places.start);
+    check_slice(rt, &slice.expect(rt, "not found"), shown, places);
+}
+
+/// Asserts that the text does not show this at the place.
+fn lacks(rt: &(impl Abort + Wait), text: &ArcStr, shown: &str, place: usize) {
+    assert!(rt; found(rt, text, shown, place).is_none());
 }
 
 #[test]
-fn a_trimmed_view_is_found(rt: HostRuntime) -> Result<(), Fail> {
-    let text = ArcStr::from_str(rt.alloc(), "   abc")?;
+fn a_trimmed_view_is_found(rt: HostRuntime) {
+    let text = made(&rt, "   abc");
     let trimmed = StrView::whole(text.as_str()).trim();
-    let found = text.try_substr_from(&rt, trimmed).ok_or("not found")?;
-    check(&rt, &found, "abc", 3, 6);
-    assert_eq!(rt; found.parent().as_str(), "   abc");
-    assert!(rt; text.try_substr_from(&rt, view("abc", 0)?).is_none());
-    Ok(())
+    let slice = text.try_substr_from(&rt, trimmed).expect(&rt, "not found");
+    check_within(&rt, &slice, "abc", 3..6, "   abc");
 }
 
 #[test]
-fn an_empty_view_is_found_everywhere(rt: HostRuntime) -> Result<(), Fail> {
-    let text = ArcStr::from_str(rt.alloc(), "abab")?;
-    check_new(
-        &rt,
-        &text.try_substr_from(&rt, view("", 99)?).ok_or("not found")?,
-    );
-    check_new(
-        &rt,
-        &text
-            .try_substr_from(&rt, view("", MAX)?)
-            .ok_or("not found")?,
-    );
-    check_new(&rt, &text.substr_from(&rt, StrView::whole("")));
+fn an_empty_view_is_found_everywhere(rt: HostRuntime) {
+    let text = made(&rt, "abab");
+    for place in [99, MAX] {
+        let slice = found(&rt, &text, "", place);
+        check_nothing(&rt, &slice.expect(&rt, "not found"));
+    }
+    check_nothing(&rt, &text.substr_from(&rt, StrView::whole("")));
+}
+
+#[test]
+fn a_view_does_not_end_past_the_last_place(rt: HostRuntime) {
     assert!(rt; StrView::at("abc", MAX).is_none());
-    Ok(())
 }
 
 #[test]
-fn a_view_is_found_at_its_place(rt: HostRuntime) -> Result<(), Fail> {
+fn a_view_is_found_at_its_place(rt: HostRuntime) {
     let text = literal!("abab");
-    let found = text.try_substr_from(&rt, view("b", 3)?).ok_or("not found")?;
-    check(&rt, &found, "b", 3, 4);
-    let found = text
-        .try_substr_from(&rt, view("ab", 2)?)
-        .ok_or("not found")?;
-    check(&rt, &found, "ab", 2, 4);
-    Ok(())
+    finds(&rt, &text, "b", 3..4);
+    finds(&rt, &text, "ab", 2..4);
+    finds(&rt, &literal!("aé"), "é", 1..3);
 }
 
 #[test]
-fn a_view_is_not_found_elsewhere(rt: HostRuntime) -> Result<(), Fail> {
+fn a_view_is_not_found_elsewhere(rt: HostRuntime) {
     let text = literal!("abab");
-    assert!(rt; text.try_substr_from(&rt, view("ab", 1)?).is_none());
-    assert!(rt; text.try_substr_from(&rt, view("ab", 3)?).is_none());
-    assert!(rt; text.try_substr_from(&rt, view("a", MAX - 1)?).is_none());
-    Ok(())
+    lacks(&rt, &text, "ab", 1);
+    lacks(&rt, &text, "ab", 3);
+    lacks(&rt, &text, "a", MAX - 1);
+    lacks(&rt, &literal!("   abc"), "abc", 0);
+    lacks(&rt, &literal!("aé"), "é", 0);
 }
 
 #[test]
-fn a_view_of_two_bytes_is_found(rt: HostRuntime) -> Result<(), Fail> {
-    let text = literal!("aé");
-    let found = text.try_substr_from(&rt, view("é", 1)?).ok_or("not found")?;
-    check(&rt, &found, "é", 1, 3);
-    assert!(rt; text.try_substr_from(&rt, view("é", 0)?).is_none());
-    Ok(())
+fn closures_find_a_slice(rt: HostRuntime) {
+    let text = made(&rt, "   abc");
+    check_sliced(&rt, text.substr_using(&rt, |_| 3..6), "abc", 3..6);
+    let found = text.try_substr_using(&rt, |own| 1..own.len());
+    check_sliced(&rt, found, "  abc", 1..6);
 }
 
 #[test]
-fn closures_find_a_slice(rt: HostRuntime) -> Result<(), Fail> {
-    let text = ArcStr::from_str(rt.alloc(), "   abc")?;
-    let found = text.substr_using(&rt, |_| 3..6).ok().ok_or("refused")?;
-    check(&rt, &found, "abc", 3, 6);
-    let found = text
-        .try_substr_using(&rt, |own| 1..own.len())
-        .ok()
-        .ok_or("refused")?;
-    check(&rt, &found, "  abc", 1, 6);
-    Ok(())
+fn equal_places_of_a_closure_give_the_slice_of_nothing(rt: HostRuntime) {
+    let text = made(&rt, "aé");
+    for place in [2, MAX] {
+        let found = text.substr_using(&rt, |_| place..place);
+        check_nothing(&rt, &found.expect(&rt, "no slice"));
+    }
 }
 
 #[test]
-fn equal_places_of_a_closure_give_the_slice_of_nothing(rt: HostRuntime) -> Result<(), Fail> {
-    let text = ArcStr::from_str(rt.alloc(), "aé")?;
-    check_new(
-        &rt,
-        &text.substr_using(&rt, |_| 2..2).ok().ok_or("refused")?,
-    );
-    check_new(
-        &rt,
-        &text.substr_using(&rt, |_| MAX..MAX).ok().ok_or("refused")?,
-    );
-    check_new(
-        &rt,
-        &text.try_substr_using(&rt, |_| 7..7).ok().ok_or("refused")?,
-    );
-    Ok(())
+fn equal_places_are_tried_too(rt: HostRuntime) {
+    let found = literal!("aé").try_substr_using(&rt, |_| 7..7);
+    check_nothing(&rt, &found.expect(&rt, "no slice"));
 }
 
 #[test]
 fn other_places_of_a_closure_are_a_range(rt: HostRuntime) {
-    assert_eq!(rt;
-        places(literal!("aé").substr_using(&rt, |_| 1..2)),
-        Err(RangeFault::OffBoundary)
-    );
-    assert_eq!(rt;
-        places(literal!("abc").try_substr_using(&rt, |_| 2..1)),
-        Err(RangeFault::OutOfOrder)
-    );
-    assert_eq!(rt;
-        places(literal!("abc").try_substr_using(&rt, |_| 1..3)),
-        Ok((1, 3))
-    );
+    let found = literal!("abc").try_substr_using(&rt, |_| 1..3);
+    check_sliced(&rt, found, "bc", 1..3);
+    let off = literal!("aé").substr_using(&rt, |_| 1..2);
+    check_no_slice(&rt, off, RangeFault::OffBoundary);
+}
+
+#[test]
+fn turned_places_of_a_closure_are_refused(rt: HostRuntime) {
+    let turned = literal!("abc").try_substr_using(&rt, |_| 2..1);
+    check_no_slice(&rt, turned, RangeFault::OutOfOrder);
 }
 
 #[test]
@@ -235,6 +210,6 @@ fn a_closure_is_called_once_before_any_test(rt: HostRuntime) {
         calls += 1;
         9..8
     });
-    assert_eq!(rt; places(answer), Err(RangeFault::OutOfOrder));
-    assert_eq!(rt; calls, 1);
+    check_no_slice(&rt, answer, RangeFault::OutOfOrder);
+    assert!(rt; calls == 1);
 }

@@ -1,41 +1,34 @@
 use super::*;
-use crate::arc_str::ArcStr;
 use crate::literal;
-use std::test::Fail;
+use crate::test_steps::{check_borrowed, check_owned, made, part};
+use std::alloc::AllocGlobal;
+use std::process::Abort;
 
-#[test]
-fn the_slice_of_a_literal_is_borrowed(rt: HostRuntime) -> Result<(), Fail> {
-    let slice = literal!("foobar").substr(&rt, 3..).ok().ok_or("refused")?;
-    let CowStr::Borrowed(text) = slice.into_cow(rt.alloc())? else {
-        panic!(rt; "a literal's text was copied");
-    };
-    assert_eq!(rt; text, "bar");
-    Ok(())
+/// Asserts that the slice gives a copy of its own text.
+fn is_copied(rt: &(impl Abort + AllocGlobal), slice: Substr, wanted: &str) {
+    check_owned(
+        rt,
+        slice.into_cow(rt.alloc()).expect(rt, "no memory"),
+        wanted,
+    );
 }
 
 #[test]
-fn the_slice_of_a_block_is_copied(rt: HostRuntime) -> Result<(), Fail> {
-    let parent = ArcStr::from_str(rt.alloc(), "foobar")?;
-    let slice = parent.substr(&rt, 3..).ok().ok_or("refused")?;
-    let CowStr::Borrowed(lent) = slice.to_cow() else {
-        panic!(rt; "the text was copied");
-    };
-    assert_eq!(rt; lent, "bar");
-    let CowStr::Owned(copy) = slice.into_cow(rt.alloc())? else {
-        panic!(rt; "a block's text was borrowed");
-    };
-    assert_eq!(rt; copy.as_str(), "bar");
-    Ok(())
+fn the_slice_of_a_literal_is_borrowed(rt: HostRuntime) {
+    let cow = part(&rt, &literal!("foobar"), 3..).into_cow(rt.alloc());
+    check_borrowed(&rt, cow.expect(&rt, "no memory"), "bar");
 }
 
 #[test]
-fn the_slice_of_a_leaked_block_is_copied(rt: HostRuntime) -> Result<(), Fail> {
-    let parent = ArcStr::from_str(rt.alloc(), "foobar")?;
+fn the_slice_of_a_block_is_copied(rt: HostRuntime) {
+    let slice = part(&rt, &made(&rt, "foobar"), 3..);
+    check_borrowed(&rt, slice.to_cow(), "bar");
+    is_copied(&rt, slice, "bar");
+}
+
+#[test]
+fn the_slice_of_a_leaked_block_is_copied(rt: HostRuntime) {
+    let parent = made(&rt, "foobar");
     parent.leak();
-    let slice = parent.substr(&rt, ..2).ok().ok_or("refused")?;
-    let CowStr::Owned(copy) = slice.into_cow(rt.alloc())? else {
-        panic!(rt; "a block's text was borrowed");
-    };
-    assert_eq!(rt; copy.as_str(), "fo");
-    Ok(())
+    is_copied(&rt, part(&rt, &parent, ..2), "fo");
 }

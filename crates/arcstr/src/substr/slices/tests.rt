@@ -1,108 +1,101 @@
 use super::*;
-use crate::arc_str::ArcStr;
 use crate::literal;
-use crate::substr::tests::{check, check_new, places};
-use std::sync::Wait;
-use std::test::Fail;
-
-fn view(text: &str, place: usize) -> Result<StrView<'_>, Fail> {
-    Ok(StrView::at(text, place).ok_or("no view")?)
-}
+use crate::test_steps::{
+    check_no_slice, check_nothing, check_part, check_slice, check_sliced, check_text, made, part,
+};
+use std::process::Abort;
 
 /// The slice `bar` of `foobarbaz`.
-fn bar(rt: &impl Wait) -> Result<Substr, Fail> {
-    Ok(
-        literal!("foobarbaz")
-            .substr(rt, 3..6)
-            .ok()
-            .ok_or("refused")?,
-    )
+fn bar(rt: &(impl Abort + Wait)) -> Substr {
+    part(rt, &literal!("foobarbaz"), 3..6)
 }
 
 #[test]
-fn a_slice_is_measured_in_its_own_text(rt: HostRuntime) -> Result<(), Fail> {
-    let bar = bar(&rt)?;
-    check(&rt, &bar, "bar", 3, 6);
-    assert_eq!(rt; places(bar.substr(&rt, 0..5)), Err(RangeFault::PastEnd));
-    let part = bar.substr(&rt, 1..3).ok().ok_or("refused")?;
-    check(&rt, &part, "ar", 4, 6);
-    assert_eq!(rt; part.parent().as_str(), "foobarbaz");
-    Ok(())
+fn a_slice_is_measured_in_its_own_text(rt: HostRuntime) {
+    let bar = bar(&rt);
+    check_slice(&rt, &bar, "bar", 3..6);
+    check_no_slice(&rt, bar.substr(&rt, 0..5), RangeFault::PastEnd);
 }
 
 #[test]
-fn an_empty_slice_of_a_slice_keeps_the_parent(rt: HostRuntime) -> Result<(), Fail> {
-    let empty = bar(&rt)?.substr(&rt, 2..2).ok().ok_or("refused")?;
-    check(&rt, &empty, "", 5, 5);
-    assert_eq!(rt; empty.parent().as_str(), "foobarbaz");
-    Ok(())
+fn a_slice_of_a_slice_keeps_the_parent(rt: HostRuntime) {
+    let inner = bar(&rt).substr(&rt, 1..3).expect(&rt, "no slice");
+    check_slice(&rt, &inner, "ar", 4..6);
+    check_text(&rt, inner.parent().as_str(), "foobarbaz");
 }
 
 #[test]
-fn places_of_a_slice_of_a_slice_are_sums(rt: HostRuntime) -> Result<(), Fail> {
-    let tail = literal!("foobarbaz")
-        .substr(&rt, 3..)
-        .ok()
-        .ok_or("refused")?;
-    let inner = tail.substr(&rt, 1..5).ok().ok_or("refused")?;
-    check(&rt, &inner, "arba", 4, 8);
-    let all = inner.substr(&rt, ..).ok().ok_or("refused")?;
-    check(&rt, &all, "arba", 4, 8);
-    Ok(())
+fn an_empty_slice_of_a_slice_keeps_the_parent(rt: HostRuntime) {
+    let empty = bar(&rt).substr(&rt, 2..2).expect(&rt, "no slice");
+    check_slice(&rt, &empty, "", 5..5);
+    check_text(&rt, empty.parent().as_str(), "foobarbaz");
 }
 
 #[test]
-fn parts_of_a_slice_are_those_of_its_own_text(rt: HostRuntime) -> Result<(), Fail> {
-    let bar = bar(&rt)?;
-    assert_eq!(rt; bar.get(1..3), Some("ar"));
-    assert_eq!(rt; bar.get(..), Some("bar"));
-    assert_eq!(rt; bar.get(0..5), None);
-    assert_eq!(rt; bar.get(2..1), None);
-    Ok(())
+fn places_of_a_slice_of_a_slice_are_sums(rt: HostRuntime) {
+    let tail = part(&rt, &literal!("foobarbaz"), 3..);
+    let inner = tail.substr(&rt, 1..5).expect(&rt, "no slice");
+    check_slice(&rt, &inner, "arba", 4..8);
+    check_sliced(&rt, inner.substr(&rt, ..), "arba", 4..8);
+}
+
+/// Asserts what `get` answers for the range in `bar`.
+fn reads<R: Into<StrRange>>(rt: &(impl Abort + Wait), range: R, wanted: Option<&str>) {
+    check_part(rt, bar(rt).get(range), wanted);
 }
 
 #[test]
-fn a_view_is_found_in_the_own_text(rt: HostRuntime) -> Result<(), Fail> {
-    let bar = bar(&rt)?;
-    let found = bar
-        .try_substr_from(&rt, view("bar", 0)?)
-        .ok_or("not found")?;
-    check(&rt, &found, "bar", 3, 6);
-    assert!(rt; bar.try_substr_from(&rt, view("bar", 3)?).is_none());
-    assert!(rt; bar.try_substr_from(&rt, view("foo", 0)?).is_none());
-    check_new(
-        &rt,
-        &bar.try_substr_from(&rt, view("", 99)?).ok_or("not found")?,
-    );
-    Ok(())
+fn parts_of_a_slice_are_those_of_its_own_text(rt: HostRuntime) {
+    reads(&rt, 1..3, Some("ar"));
+    reads(&rt, .., Some("bar"));
+    reads(&rt, 0..5, None);
+    reads(&rt, 2..1, None);
+}
+
+/// What `bar` has at the place, where it shows this text there.
+fn found(rt: &(impl Abort + Wait), shown: &str, place: usize) -> Option<Substr> {
+    let view = StrView::at(shown, place).expect(rt, "no view");
+    bar(rt).try_substr_from(rt, view)
 }
 
 #[test]
-fn a_trimmed_view_of_a_slice_is_found(rt: HostRuntime) -> Result<(), Fail> {
-    let text = ArcStr::from_str(rt.alloc(), "foo   bar")?;
-    let tail = text.substr(&rt, 3..).ok().ok_or("refused")?;
-    check(&rt, &tail, "   bar", 3, 9);
+fn a_view_is_found_in_the_own_text(rt: HostRuntime) {
+    let whole = found(&rt, "bar", 0).expect(&rt, "not found");
+    check_slice(&rt, &whole, "bar", 3..6);
+    check_nothing(&rt, &found(&rt, "", 99).expect(&rt, "not found"));
+}
+
+#[test]
+fn a_view_is_not_found_past_the_own_text(rt: HostRuntime) {
+    assert!(rt; found(&rt, "bar", 3).is_none());
+    assert!(rt; found(&rt, "foo", 0).is_none());
+}
+
+#[test]
+fn a_trimmed_view_of_a_slice_is_found(rt: HostRuntime) {
+    let tail = part(&rt, &made(&rt, "foo   bar"), 3..);
+    check_slice(&rt, &tail, "   bar", 3..9);
     let trimmed = StrView::whole(tail.as_str()).trim();
     assert!(rt; trimmed.is_found_in(tail.as_str()));
-    let found = tail.substr_from(&rt, trimmed);
-    check(&rt, &found, "bar", 6, 9);
-    Ok(())
+    check_slice(&rt, &tail.substr_from(&rt, trimmed), "bar", 6..9);
 }
 
 #[test]
-fn closures_find_places_of_the_own_text(rt: HostRuntime) -> Result<(), Fail> {
-    let bar = bar(&rt)?;
-    let found = bar
-        .substr_using(&rt, |own| 0..own.len())
-        .ok()
-        .ok_or("refused")?;
-    check(&rt, &found, "bar", 3, 6);
-    assert_eq!(rt;
-        places(bar.substr_using(&rt, |_| 0..9)),
-        Err(RangeFault::PastEnd)
-    );
-    check_new(&rt, &bar.substr_using(&rt, |_| 9..9).ok().ok_or("refused")?);
-    let found = bar.try_substr_using(&rt, |_| 1..2).ok().ok_or("refused")?;
-    check(&rt, &found, "a", 4, 5);
-    Ok(())
+fn closures_find_places_of_the_own_text(rt: HostRuntime) {
+    let whole = bar(&rt).substr_using(&rt, |own| 0..own.len());
+    check_sliced(&rt, whole, "bar", 3..6);
+    let middle = bar(&rt).try_substr_using(&rt, |_| 1..2);
+    check_sliced(&rt, middle, "a", 4..5);
+}
+
+#[test]
+fn places_past_the_own_text_are_refused(rt: HostRuntime) {
+    let past = bar(&rt).substr_using(&rt, |_| 0..9);
+    check_no_slice(&rt, past, RangeFault::PastEnd);
+}
+
+#[test]
+fn equal_places_past_the_own_text_give_the_slice_of_nothing(rt: HostRuntime) {
+    let nothing = bar(&rt).substr_using(&rt, |_| 9..9);
+    check_nothing(&rt, &nothing.expect(&rt, "no slice"));
 }
