@@ -57,17 +57,17 @@ equal-by_first x y xs ys Equal same is later = let rest = later is in cc
 equal-by_first x y xs ys Greater above is later = cc
 
 -- what compares as equal is one text
-equal-of_Equal : (xs ys : List ℕ) → slice_cmp nat_cmp xs ys ≡ Equal → xs ≡ ys
+pub equal-of_Equal : (xs ys : List ℕ) → slice_cmp nat_cmp xs ys ≡ Equal → xs ≡ ys
 equal-of_Equal [] [] is = refl
 equal-of_Equal [] (y ∷ ys) is = cc
 equal-of_Equal (x ∷ xs) [] is = cc
 equal-of_Equal (x ∷ xs) (y ∷ ys) is =
     equal-by_first x y xs ys (nat_cmp x y) (ranked x y (nat_cmp x y) refl) is (equal-of_Equal xs ys)
 
-nat_cmp-itself : (x : ℕ) → nat_cmp x x ≡ Equal
+pub nat_cmp-itself : (x : ℕ) → nat_cmp x x ≡ Equal
 nat_cmp-itself x = tied_itself nat_cmp_total x
 
-nat_cmp-below : (x y : ℕ) → x < y → nat_cmp x y ≡ Less
+pub nat_cmp-below : (x y : ℕ) → x < y → nat_cmp x y ≡ Less
 nat_cmp-below x y below = by_ranked (nat_cmp x y) (ranked x y (nat_cmp x y) refl)
   where
     by_ranked : (r : Ordering) → MatchOrdering r (x < y) (x ≡ y) (y < x) → r ≡ Less
@@ -75,7 +75,7 @@ nat_cmp-below x y below = by_ranked (nat_cmp x y) (ranked x y (nat_cmp x y) refl
     by_ranked Equal is = absurd (omega arith)
     by_ranked Greater is = absurd (omega arith)
 
-slice_cmp-front : (front xs ys : List ℕ) → slice_cmp nat_cmp (front ++ xs) (front ++ ys) ≡ slice_cmp nat_cmp xs ys
+pub slice_cmp-front : (front xs ys : List ℕ) → slice_cmp nat_cmp (front ++ xs) (front ++ ys) ≡ slice_cmp nat_cmp xs ys
 slice_cmp-front [] xs ys = refl
 slice_cmp-front (x ∷ front) xs ys = rw (nat_cmp-itself x) (slice_cmp-front front xs ys)
 

@@ -1,17 +1,128 @@
-//! Order of texts, for both types.
-ghost use Rattle.std.specs.Prelude.{◌≡◌};
+//! Order of texts, for both types. Texts of 16 bytes and more are compared eight bytes at a time.
+ghost use Rattle.std.specs.Prelude.{◌≡◌, ◌+◌, ◌≤◌, drop, length, take};
 ghost use Rattle.std.specs.Cmp.Lexicographic.{slice_cmp};
+ghost use Rattle.std.specs.Int.{from_be_bytes, w64};
 ghost use Rattle.std.specs.Ordering.{nat_cmp};
 
 use std::cmp::Ordering;
 
-/// How two texts compare, by their bytes. Most pairs differ in their first byte, which is looked at
-/// before the texts are compared whole.
+/// How two texts compare, by their bytes.
 pub(crate) fn compare(one: &str, other: &str) -> Ordering
+    ensures { result ≡ slice_cmp nat_cmp one.now other.now }
+{
+    if one.len().min(other.len()) < 16 {
+        compare_short(one, other)
+    } else {
+        compare_long(one.as_bytes(), other.as_bytes())
+    }
+}
+
+/// How two texts compare, for short ones. Most pairs differ in their first byte, which is looked at before the texts are
+/// compared whole.
+fn compare_short(one: &str, other: &str) -> Ordering
     ensures { result ≡ slice_cmp nat_cmp one.now other.now }
 {
     match (one.as_bytes(), other.as_bytes()) {
         ([first, ..], [second, ..]) if first != second => first.cmp(second),
         _ => one.cmp(other),
     }
+}
+
+/// How two runs of eight bytes or more compare. The first 64 bytes, which mostly decide, are taken without a loop's tests.
+fn compare_long(one: &[u8], other: &[u8]) -> Ordering
+    requires { (8 ≤ length one.now) × (8 ≤ length other.now) }
+    ensures { result ≡ slice_cmp nat_cmp one.now other.now }
+{
+    let both = one.len().min(other.len());
+    if both < 64 {
+        return compare_from(one, other, 0);
+    }
+    let found = order_of_block(one, other);
+    if found.is_ne() {
+        return found;
+    }
+    if both == 64 {
+        return one.len().cmp(&other.len());
+    }
+    compare_far(one, other)
+}
+
+/// How two runs of bytes compare of which the first 64 bytes are alike: what is alike is passed by 64 bytes at a time.
+/// Out of line, so that shorter texts do not pay for its calls.
+#[inline(never)]
+fn compare_far(one: &[u8], other: &[u8]) -> Ordering
+    requires long { (64 ≤ length one.now) × (64 ≤ length other.now) }
+    requires alike { take 64 one.now ≡ take 64 other.now }
+    ensures { result ≡ slice_cmp nat_cmp one.now other.now }
+{
+    let both = one.len().min(other.len());
+    let mut from = 64;
+    while 64 <= both - from && one[from..from + 64].starts_with(&other[from..from + 64]) {
+        from += 64;
+    }
+    compare_from(one, other, from)
+}
+
+/// How two runs of bytes compare of which the first `start` bytes are alike.
+fn compare_from(one: &[u8], other: &[u8], start: usize) -> Ordering
+    requires within { (start ≤ length one.now) × (start ≤ length other.now) }
+    requires a_word { (8 ≤ length one.now) × (8 ≤ length other.now) }
+    requires alike { take start one.now ≡ take start other.now }
+    ensures { result ≡ slice_cmp nat_cmp one.now other.now }
+{
+    let both = one.len().min(other.len());
+    let mut from = start;
+    while 8 < both - from {
+        let found = order_of_word(one, other, from);
+        if found.is_ne() {
+            return found;
+        }
+        from += 8;
+    }
+    // The last eight bytes, of which some were compared already.
+    let found = order_of_word(one, other, both - 8);
+    if found.is_ne() {
+        return found;
+    }
+    one.len().cmp(&other.len())
+}
+
+/// How the first 64 bytes compare.
+fn order_of_block(one: &[u8], other: &[u8]) -> Ordering
+    requires { (64 ≤ length one.now) × (64 ≤ length other.now) }
+    ensures { result ≡ slice_cmp nat_cmp (take 64 one.now) (take 64 other.now) }
+{
+    for word in 0..8 {
+        let found = order_of_word(one, other, 8 * word);
+        if found.is_ne() {
+            return found;
+        }
+    }
+    Ordering::Equal
+}
+
+/// How the first `from + 8` bytes compare, of which the first `from` are alike: as the next eight compare as numbers.
+fn order_of_word(one: &[u8], other: &[u8], from: usize) -> Ordering
+    requires within { (from + 8 ≤ length one.now) × (from + 8 ≤ length other.now) }
+    requires alike { take from one.now ≡ take from other.now }
+    ensures { result ≡ slice_cmp nat_cmp (take (from + 8) one.now) (take (from + 8) other.now) }
+{
+    word_at(one, from).cmp(&word_at(other, from))
+}
+
+/// The number that the eight bytes from `at` on spell, the greatest first.
+fn word_at(bytes: &[u8], at: usize) -> u64
+    requires { at + 8 ≤ length bytes.now }
+    ensures { result ≡ from_be_bytes w64 (take 8 (drop at bytes.now)) }
+{
+    u64::from_be_bytes([
+        bytes[at],
+        bytes[at + 1],
+        bytes[at + 2],
+        bytes[at + 3],
+        bytes[at + 4],
+        bytes[at + 5],
+        bytes[at + 6],
+        bytes[at + 7],
+    ])
 }

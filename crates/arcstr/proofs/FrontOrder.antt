@@ -1,0 +1,99 @@
+-- The order of two lists by their fronts: where fronts differ they decide, and where they are alike the rest does.
+use Rattle.std.proofs.Common.{◌≡◌, ℕ, zero, suc, ◌+◌, ◌≤◌, ◌<◌, List, [], ◌∷◌, Bool, true, false, length, min, nat_eq, take, drop, length-take-le, length-take, take-add, take-take, refl, sym, ap, ◌∙◌, subst, arith}
+use Rattle.std.specs.declared.cmp.Ordering.{Ordering}
+use Rattle.std.specs.declared.cmp.Ordering.TheVariants.{Less, Equal, Greater}
+use Rattle.std.specs.Cmp.Lexicographic.{bytes_decides, slice_cmp}
+use Rattle.std.specs.List.{starts_with}
+use Rattle.std.specs.Ordering.{nat_cmp, ordering_then, is_ne}
+use Rattle.std.proofs.lemmas.Bool.Decides.{nat_tests}
+use Rattle.std.proofs.lemmas.Cmp.{nat_list_cmp_total, tied_itself}
+use Rattle.arcstr.proofs.TextOrders.{equal-of_Equal, nat_cmp-below, nat_cmp-itself, slice_cmp-front}
+
+nat_cmp-above : (x y : ℕ) → y < x → nat_cmp x y ≡ Greater
+nat_cmp-above x y above = grind (arith, nat_tests)
+
+nat_cmp-suc : (x y : ℕ) → nat_cmp (suc x) (suc y) ≡ nat_cmp x y
+nat_cmp-suc x y = grind (arith, nat_tests)
+
+decided-step : (n : ℕ) (xs ys : List ℕ) (o : Ordering) →
+    (is_ne (slice_cmp nat_cmp (take n xs) (take n ys)) ≡ true → slice_cmp nat_cmp (take n xs) (take n ys) ≡ slice_cmp nat_cmp xs ys) →
+    is_ne (ordering_then o (slice_cmp nat_cmp (take n xs) (take n ys))) ≡ true →
+    ordering_then o (slice_cmp nat_cmp (take n xs) (take n ys)) ≡ ordering_then o (slice_cmp nat_cmp xs ys)
+decided-step n xs ys Less later differ = refl
+decided-step n xs ys Equal later differ = later differ
+decided-step n xs ys Greater later differ = refl
+
+decided : (n : ℕ) (xs ys : List ℕ) → n ≤ length xs → n ≤ length ys → is_ne (slice_cmp nat_cmp (take n xs) (take n ys)) ≡ true →
+    slice_cmp nat_cmp (take n xs) (take n ys) ≡ slice_cmp nat_cmp xs ys
+decided zero xs ys in_xs in_ys differ = cc
+decided (suc n) [] ys in_xs in_ys differ = absurd (omega arith)
+decided (suc n) (x ∷ xs) [] in_xs in_ys differ = absurd (omega arith)
+decided (suc n) (x ∷ xs) (y ∷ ys) in_xs in_ys differ =
+    decided-step n xs ys (nat_cmp x y) (decided n xs ys (omega arith) (omega arith)) differ
+
+-- fronts that differ decide
+pub by_fronts : (n : ℕ) (xs ys : List ℕ) (answer : Ordering) → n ≤ length xs → n ≤ length ys →
+    answer ≡ slice_cmp nat_cmp (take n xs) (take n ys) → is_ne answer ≡ true → answer ≡ slice_cmp nat_cmp xs ys
+by_fronts n xs ys answer in_xs in_ys is differ = is ∙ decided n xs ys in_xs in_ys (ap is_ne (sym is) ∙ differ)
+
+tied : (answer : Ordering) → is_ne answer ≡ false → answer ≡ Equal
+tied Less is = cc
+tied Equal is = refl
+tied Greater is = cc
+
+-- what does not compare as different is alike
+pub alike : (xs ys : List ℕ) (answer : Ordering) → answer ≡ slice_cmp nat_cmp xs ys → is_ne answer ≡ false → xs ≡ ys
+alike xs ys answer is same = equal-of_Equal xs ys (sym is ∙ tied answer same)
+
+-- what is alike compares as equal
+pub alike-Equal : (xs ys : List ℕ) → xs ≡ ys → Equal ≡ slice_cmp nat_cmp xs ys
+alike-Equal xs ys same = sym (ap (slice_cmp nat_cmp xs) (sym same) ∙ tied_itself nat_list_cmp_total xs)
+
+-- fronts of alike fronts are alike
+pub alike-front : (m n : ℕ) (xs ys : List ℕ) → m ≤ n → take n xs ≡ take n ys → take m xs ≡ take m ys
+alike-front m n xs ys shorter same = sym (take-take m n xs shorter) ∙ ap (take m) same ∙ take-take m n ys shorter
+
+-- past alike fronts the next elements decide
+pub by_next : (i n : ℕ) (xs ys : List ℕ) → take i xs ≡ take i ys →
+    slice_cmp nat_cmp (take n (drop i xs)) (take n (drop i ys)) ≡ slice_cmp nat_cmp (take (i + n) xs) (take (i + n) ys)
+by_next i n xs ys same =
+    rw (take-add i n xs) (rw (take-add i n ys) (rw (← same) (sym (slice_cmp-front (take i xs) (take n (drop i xs)) (take n (drop i ys))))))
+
+-- fronts are alike that go on alike
+pub alike-next : (i n : ℕ) (xs ys : List ℕ) → take i xs ≡ take i ys → take n (drop i xs) ≡ take n (drop i ys) → take (i + n) xs ≡ take (i + n) ys
+alike-next i n xs ys same next = rw (take-add i n xs) (rw (take-add i n ys) (cc))
+
+by_length-step : (n : ℕ) (x y : ℕ) (xs ys : List ℕ) → x ∷ take n xs ≡ y ∷ take n ys →
+    (take n xs ≡ take n ys → nat_cmp (length xs) (length ys) ≡ slice_cmp nat_cmp xs ys) →
+    nat_cmp (suc (length xs)) (suc (length ys)) ≡ ordering_then (nat_cmp x y) (slice_cmp nat_cmp xs ys)
+by_length-step n x y xs ys same later =
+    let first : x ≡ y = cc in
+    let rest : take n xs ≡ take n ys = cc in
+    rw (← first) (rw (nat_cmp-itself x) (nat_cmp-suc (length xs) (length ys) ∙ later rest))
+
+-- lists that are alike as far as the shorter goes compare as their lengths
+pub by_length : (n : ℕ) (xs ys : List ℕ) → n ≡ min (length xs) (length ys) → take n xs ≡ take n ys →
+    nat_cmp (length xs) (length ys) ≡ slice_cmp nat_cmp xs ys
+by_length zero [] [] shorter same = refl
+by_length zero [] (y ∷ ys) shorter same = nat_cmp-below 0 (suc (length ys)) (omega arith)
+by_length zero (x ∷ xs) [] shorter same = nat_cmp-above (suc (length xs)) 0 (omega arith)
+by_length zero (x ∷ xs) (y ∷ ys) shorter same = absurd (omega arith)
+by_length (suc n) [] ys shorter same = absurd (omega arith)
+by_length (suc n) (x ∷ xs) [] shorter same = absurd (omega arith)
+by_length (suc n) (x ∷ xs) (y ∷ ys) shorter same = by_length-step n x y xs ys same (by_length n xs ys (omega arith))
+
+-- fronts that differ decide for longer fronts
+pub by_fronts-within : (n m : ℕ) (xs ys : List ℕ) (answer : Ordering) → n ≤ m → n ≤ length xs → n ≤ length ys →
+    answer ≡ slice_cmp nat_cmp (take n xs) (take n ys) → is_ne answer ≡ true → answer ≡ slice_cmp nat_cmp (take m xs) (take m ys)
+by_fronts-within n m xs ys answer shorter in_xs in_ys is differ =
+    by_fronts n (take m xs) (take m ys) answer (omega (arith, length-take m xs)) (omega (arith, length-take m ys))
+    (rw (take-take n m xs shorter) (rw (take-take n m ys shorter) is)) differ
+
+-- fronts are alike of which one starts with the other
+pub alike-starts : (m : ℕ) (us vs : List ℕ) (answer : Bool) → m ≡ 64 → 64 ≤ length vs →
+    answer ≡ starts_with nat_eq (take m us) (take m vs) → answer ≡ true → take 64 us ≡ take 64 vs
+alike-starts m us vs answer is_64 in_vs is starts =
+    let whole : length (take m vs) ≡ m = length-take-le m vs (omega arith) in
+    let found : take m vs ≡ take (length (take m vs)) (take m us) = (bytes_decides (take m vs) (take (length (take m vs)) (take m us))).0 (sym is ∙ starts) in
+    let same : take m vs ≡ take m us = found ∙ ap (λ (n : ℕ). take n (take m us)) whole ∙ take-take m m us (omega arith) in
+    subst (λ (n : ℕ). take n us ≡ take n vs) is_64 (sym same)

@@ -1,0 +1,15 @@
+-- The first 64 bytes decide, or they are alike.
+use Rattle.std.proofs.Common.{sym, ◌∙◌, arith}
+use Rattle.arcstr.proofs.FrontOrder.{alike, by_fronts, by_length}
+use Rattle.arcstr.proofs.text_order.compare_long.Goals as goal
+
+pub returns-then-is_ne : goal.returns-then-is_ne
+returns-then-is_ne c =
+    by_fronts 64 c.args.one.now c.args.other.now _ (omega arith) (omega arith) c.order_of_block-found.ensures (sym c.is_ne.ensures ∙ c.if-is_ne.true)
+
+pub returns-then-both-eq64 : goal.returns-then-both-eq64
+returns-then-both-eq64 c =
+    c.cmp.ensures ∙ by_length 64 c.args.one.now c.args.other.now (omega arith) (alike _ _ _ c.order_of_block-found.ensures (sym c.is_ne.ensures ∙ c.if-is_ne.false))
+
+pub compare_far-requires-clause-alike : goal.compare_far-requires-clause-alike
+compare_far-requires-clause-alike c = alike _ _ _ c.order_of_block-found.ensures (sym c.is_ne.ensures ∙ c.if-is_ne.false)
