@@ -6,42 +6,40 @@ ghost use Rattle.std.specs.Ordering.{nat_cmp};
 
 use std::cmp::Ordering;
 
-/// How two texts compare, by their bytes.
+/// How two texts compare, by their bytes. The length that is tested first is one that few texts reach: among short texts of
+/// mixed lengths the test always goes the same way, and costs little.
 pub(crate) fn compare(one: &str, other: &str) -> Ordering
     ensures { result ≡ slice_cmp nat_cmp one.now other.now }
 {
-    if one.len().min(other.len()) < 16 {
+    if one.len().min(other.len()) < 64 {
         compare_short(one, other)
     } else {
         compare_long(one.as_bytes(), other.as_bytes())
     }
 }
 
-/// How two texts compare, for short ones. Most pairs differ in their first byte, which is looked at before the texts are
-/// compared whole.
+/// The same, for short texts. Most pairs differ in their first byte, which is looked at before their lengths.
 fn compare_short(one: &str, other: &str) -> Ordering
     ensures { result ≡ slice_cmp nat_cmp one.now other.now }
 {
+    let both = one.len().min(other.len());
     match (one.as_bytes(), other.as_bytes()) {
         ([first, ..], [second, ..]) if first != second => first.cmp(second),
+        (one_bytes, other_bytes) if 16 <= both => compare_from(one_bytes, other_bytes, 0),
         _ => one.cmp(other),
     }
 }
 
-/// How two runs of eight bytes or more compare. The first 64 bytes, which mostly decide, are taken without a loop's tests.
+/// How two runs of 64 bytes or more compare. The first 64 bytes, which mostly decide, are taken without a loop's tests.
 fn compare_long(one: &[u8], other: &[u8]) -> Ordering
-    requires { (8 ≤ length one.now) × (8 ≤ length other.now) }
+    requires { (64 ≤ length one.now) × (64 ≤ length other.now) }
     ensures { result ≡ slice_cmp nat_cmp one.now other.now }
 {
-    let both = one.len().min(other.len());
-    if both < 64 {
-        return compare_from(one, other, 0);
-    }
     let found = order_of_block(one, other);
     if found.is_ne() {
         return found;
     }
-    if both == 64 {
+    if one.len().min(other.len()) == 64 {
         return one.len().cmp(&other.len());
     }
     compare_far(one, other)
