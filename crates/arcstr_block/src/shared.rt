@@ -220,7 +220,7 @@ impl<const LIMIT: u64, A: Allocator + Copy> Counted<LIMIT, A> {
     fn exchange(&self, old: u64) -> Result<Counted<LIMIT, A>, u64>
         requires unmarked { IsUnmarked old }
         requires word { IsWord LIMIT old }
-        ensures { MatchResult result (λ clone. (clone.pointer.value ≡ self.now.pointer.value) × (clone.pointer.block ≡ self.now.pointer.block)) (λ found. IsUnmarked found × IsWord LIMIT found) }
+        ensures { MatchResult result (λ clone. (clone.pointer.value ≡ self.now.pointer.value) × (clone.pointer.block ≡ self.now.pointer.block)) (λ found. IsUnmarked found × IsWord LIMIT found × (found ≢ old)) }
     {
         let (found, gained) = self.pointer.raise(old, next(LIMIT, old));
         if found == old || marked(found) {

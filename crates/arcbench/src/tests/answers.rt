@@ -31,7 +31,7 @@ fn answers_bad_to_lines_outside_the_grammar(rt: HostRuntime) {
 }
 
 #[test]
-fn takes_no_other_byte(rt: HostRuntime) {
+fn takes_no_other_byte(rt: HostRuntime) -> Result<(), Fail> {
     let lines: [&[u8]; 12] = [
         b"make\r",
         b"make ",
@@ -47,12 +47,11 @@ fn takes_no_other_byte(rt: HostRuntime) {
         b"\xe9",
     ];
     for line in lines {
-        let mut script = b"limit 5\nmake\n".to_vec(rt.alloc());
-        if let Ok(script) = &mut script {
-            let _ = script.extend_from_slice(line);
-            expect(&rt, script, "made 0\nbad\n");
-        }
+        let mut script = b"limit 5\nmake\n".to_vec(rt.alloc())?;
+        script.extend_from_slice(line)?;
+        expect(&rt, &script, "made 0\nbad\n");
     }
+    Ok(())
 }
 
 #[test]
