@@ -1,5 +1,5 @@
 -- When making refuses.
-use Rattle.std.specs.Prelude.{◌≡◌, ◌⊎◌, ℕ, List, length, IsUtf8}
+use Rattle.std.specs.Prelude.{◌⊎◌, ℕ, List, length, IsUtf8}
 use Rattle.arcstr_block.specs.declared.fault.TextFault.{TextFault}
 pub use Rattle.arcstr_block.specs.Making.{IsTooLong, IsFaultOfMaking, IsFaultOfBytes, IsFaultOfFilling}
 
