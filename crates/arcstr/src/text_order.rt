@@ -1,17 +1,20 @@
-//! Order of texts, for both types. Texts of 16 bytes and more are compared eight bytes at a time.
-ghost use Rattle.std.specs.Prelude.{◌≡◌, ◌+◌, ◌≤◌, drop, length, take};
+//! Order of texts, for both types. Texts of 16 bytes and more are compared eight bytes at a time, and of texts of 64 bytes and
+//! more the first 64 in vectors.
+ghost use Rattle.std.specs.Prelude.{◌≡◌, ◌+◌, ◌≤◌, ◌==◌, ℕ, drop, length, not, take};
 ghost use Rattle.std.specs.Cmp.Lexicographic.{slice_cmp};
 ghost use Rattle.std.specs.Int.{from_be_bytes, w64};
 ghost use Rattle.std.specs.Ordering.{nat_cmp};
+ghost use Rattle.std.specs.Simd.Lanes.{mask_l, zip2};
 
 use std::cmp::Ordering;
+use std::simd::prelude::*;
 
 /// How two texts compare, by their bytes. The length that is tested first is one that few texts reach: among short texts of
 /// mixed lengths the test always goes the same way, and costs little.
 pub(crate) fn compare(one: &str, other: &str) -> Ordering
     ensures { result ≡ slice_cmp nat_cmp one.now other.now }
 {
-    if one.len().min(other.len()) < 64 {
+    if one.len() < 64 || other.len() < 64 {
         compare_short(one, other)
     } else {
         compare_long(one.as_bytes(), other.as_bytes())
@@ -39,7 +42,7 @@ fn compare_long(one: &[u8], other: &[u8]) -> Ordering
     if found.is_ne() {
         return found;
     }
-    if one.len().min(other.len()) == 64 {
+    if one.len() == 64 || other.len() == 64 {
         return one.len().cmp(&other.len());
     }
     compare_far(one, other)
@@ -85,18 +88,20 @@ fn compare_from(one: &[u8], other: &[u8], start: usize) -> Ordering
     one.len().cmp(&other.len())
 }
 
-/// How the first 64 bytes compare.
+/// How the first 64 bytes compare. Two short steps come first, because a difference is mostly near.
 fn order_of_block(one: &[u8], other: &[u8]) -> Ordering
     requires { (64 ≤ length one.now) × (64 ≤ length other.now) }
     ensures { result ≡ slice_cmp nat_cmp (take 64 one.now) (take 64 other.now) }
 {
-    for word in 0..8 {
-        let found = order_of_word(one, other, 8 * word);
-        if found.is_ne() {
-            return found;
-        }
+    let found = order_of_lanes::<16>(one, other, 0);
+    if found.is_ne() {
+        return found;
     }
-    Ordering::Equal
+    let found = order_of_lanes::<16>(one, other, 16);
+    if found.is_ne() {
+        return found;
+    }
+    order_of_lanes::<32>(one, other, 32)
 }
 
 /// How the first `from + 8` bytes compare, of which the first `from` are alike: as the next eight compare as numbers.
@@ -106,6 +111,36 @@ fn order_of_word(one: &[u8], other: &[u8], from: usize) -> Ordering
     ensures { result ≡ slice_cmp nat_cmp (take (from + 8) one.now) (take (from + 8) other.now) }
 {
     word_at(one, from).cmp(&word_at(other, from))
+}
+
+/// How the first `from + N` bytes compare, of which the first `from` are alike: as the first two of the next `N` that differ.
+fn order_of_lanes<const N: usize>(one: &[u8], other: &[u8], from: usize) -> Ordering
+    requires few { N ≤ 64 }
+    requires within { (from + N ≤ length one.now) × (from + N ≤ length other.now) }
+    requires alike { take from one.now ≡ take from other.now }
+    ensures { result ≡ slice_cmp nat_cmp (take (from + N) one.now) (take (from + N) other.now) }
+{
+    let differ = lanes_that_differ::<N>(one, other, from);
+    if differ == 0 {
+        return Ordering::Equal;
+    }
+    let place = from + differ.trailing_zeros() as usize;
+    if one[place] < other[place] {
+        Ordering::Less
+    } else {
+        Ordering::Greater
+    }
+}
+
+/// A bit for each of the `N` bytes from `from` on, set where the two differ. The first byte's bit is the lowest.
+fn lanes_that_differ<const N: usize>(one: &[u8], other: &[u8], from: usize) -> u64
+    requires few { N ≤ 64 }
+    requires within { (from + N ≤ length one.now) × (from + N ≤ length other.now) }
+    ensures { result ≡ mask_l (zip2 (λ (u v : ℕ). not (u == v)) (take N (drop from one.now)) (take N (drop from other.now))) }
+{
+    Simd::<u8, N>::from_slice(&one[from..])
+        .simd_ne(Simd::<u8, N>::from_slice(&other[from..]))
+        .to_bitmask()
 }
 
 /// The number that the eight bytes from `at` on spell, the greatest first.
