@@ -1,5 +1,5 @@
 //! Order of texts, for both types. Texts of 16 bytes and more are compared eight bytes at a time, and of texts of 64 bytes and
-//! more the first 64 in vectors.
+//! more the first 64 sixteen at a time.
 ghost use Rattle.std.specs.Prelude.{◌≡◌, ◌+◌, ◌≤◌, ◌==◌, ℕ, drop, length, not, take};
 ghost use Rattle.std.specs.Cmp.Lexicographic.{slice_cmp};
 ghost use Rattle.std.specs.Int.{from_be_bytes, w64};
@@ -14,7 +14,7 @@ use std::simd::prelude::*;
 pub(crate) fn compare(one: &str, other: &str) -> Ordering
     ensures { result ≡ slice_cmp nat_cmp one.now other.now }
 {
-    if one.len() < 64 || other.len() < 64 {
+    if one.len().min(other.len()) < 64 {
         compare_short(one, other)
     } else {
         compare_long(one.as_bytes(), other.as_bytes())
@@ -88,20 +88,24 @@ fn compare_from(one: &[u8], other: &[u8], start: usize) -> Ordering
     one.len().cmp(&other.len())
 }
 
-/// How the first 64 bytes compare. Two short steps come first, because a difference is mostly near.
+/// How the first 64 bytes compare.
 fn order_of_block(one: &[u8], other: &[u8]) -> Ordering
     requires { (64 ≤ length one.now) × (64 ≤ length other.now) }
     ensures { result ≡ slice_cmp nat_cmp (take 64 one.now) (take 64 other.now) }
 {
-    let found = order_of_lanes::<16>(one, other, 0);
+    let found = order_of_lanes(one, other, 0);
     if found.is_ne() {
         return found;
     }
-    let found = order_of_lanes::<16>(one, other, 16);
+    let found = order_of_lanes(one, other, 16);
     if found.is_ne() {
         return found;
     }
-    order_of_lanes::<32>(one, other, 32)
+    let found = order_of_lanes(one, other, 32);
+    if found.is_ne() {
+        return found;
+    }
+    order_of_lanes(one, other, 48)
 }
 
 /// How the first `from + 8` bytes compare, of which the first `from` are alike: as the next eight compare as numbers.
@@ -113,14 +117,13 @@ fn order_of_word(one: &[u8], other: &[u8], from: usize) -> Ordering
     word_at(one, from).cmp(&word_at(other, from))
 }
 
-/// How the first `from + N` bytes compare, of which the first `from` are alike: as the first two of the next `N` that differ.
-fn order_of_lanes<const N: usize>(one: &[u8], other: &[u8], from: usize) -> Ordering
-    requires few { N ≤ 64 }
-    requires within { (from + N ≤ length one.now) × (from + N ≤ length other.now) }
+/// How the first `from + 16` bytes compare, of which the first `from` are alike: as the first two of the next 16 that differ.
+fn order_of_lanes(one: &[u8], other: &[u8], from: usize) -> Ordering
+    requires within { (from + 16 ≤ length one.now) × (from + 16 ≤ length other.now) }
     requires alike { take from one.now ≡ take from other.now }
-    ensures { result ≡ slice_cmp nat_cmp (take (from + N) one.now) (take (from + N) other.now) }
+    ensures { result ≡ slice_cmp nat_cmp (take (from + 16) one.now) (take (from + 16) other.now) }
 {
-    let differ = lanes_that_differ::<N>(one, other, from);
+    let differ = lanes_that_differ(one, other, from);
     if differ == 0 {
         return Ordering::Equal;
     }
@@ -132,14 +135,13 @@ fn order_of_lanes<const N: usize>(one: &[u8], other: &[u8], from: usize) -> Orde
     }
 }
 
-/// A bit for each of the `N` bytes from `from` on, set where the two differ. The first byte's bit is the lowest.
-fn lanes_that_differ<const N: usize>(one: &[u8], other: &[u8], from: usize) -> u64
-    requires few { N ≤ 64 }
-    requires within { (from + N ≤ length one.now) × (from + N ≤ length other.now) }
-    ensures { result ≡ mask_l (zip2 (λ (u v : ℕ). not (u == v)) (take N (drop from one.now)) (take N (drop from other.now))) }
+/// A bit for each of the 16 bytes from `from` on, set where the two differ. The first byte's bit is the lowest.
+fn lanes_that_differ(one: &[u8], other: &[u8], from: usize) -> u64
+    requires { (from + 16 ≤ length one.now) × (from + 16 ≤ length other.now) }
+    ensures { result ≡ mask_l (zip2 (λ (u v : ℕ). not (u == v)) (take 16 (drop from one.now)) (take 16 (drop from other.now))) }
 {
-    Simd::<u8, N>::from_slice(&one[from..])
-        .simd_ne(Simd::<u8, N>::from_slice(&other[from..]))
+    u8x16::from_slice(&one[from..])
+        .simd_ne(u8x16::from_slice(&other[from..]))
         .to_bitmask()
 }
 
