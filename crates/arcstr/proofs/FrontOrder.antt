@@ -9,7 +9,7 @@ use Rattle.std.proofs.lemmas.Bool.Decides.{nat_tests}
 use Rattle.std.proofs.lemmas.Cmp.{nat_list_cmp_total, tied_itself}
 use Rattle.arcstr.proofs.TextOrders.{equal-of_Equal, nat_cmp-below, nat_cmp-itself, slice_cmp-front}
 
-nat_cmp-above : (x y : ℕ) → y < x → nat_cmp x y ≡ Greater
+pub nat_cmp-above : (x y : ℕ) → y < x → nat_cmp x y ≡ Greater
 nat_cmp-above x y above = grind (arith, nat_tests)
 
 nat_cmp-suc : (x y : ℕ) → nat_cmp (suc x) (suc y) ≡ nat_cmp x y

@@ -5,3 +5,4 @@ pub mod TextOrders
 pub mod OrderExamples
 pub mod BigEndianOrder
 pub mod FrontOrder
+pub mod LaneOrder

@@ -1,10 +1,13 @@
-//! Order of texts, for both types. Texts of 16 bytes and more are compared eight bytes at a time.
-ghost use Rattle.std.specs.Prelude.{◌≡◌, ◌+◌, ◌≤◌, drop, length, take};
+//! Order of texts, for both types. Texts of 16 bytes and more are compared eight bytes at a time, and of texts of 64 bytes and
+//! more the first 64 sixteen at a time.
+ghost use Rattle.std.specs.Prelude.{◌≡◌, ◌+◌, ◌≤◌, ◌==◌, ℕ, drop, length, not, take};
 ghost use Rattle.std.specs.Cmp.Lexicographic.{slice_cmp};
 ghost use Rattle.std.specs.Int.{from_be_bytes, w64};
 ghost use Rattle.std.specs.Ordering.{nat_cmp};
+ghost use Rattle.std.specs.Simd.Lanes.{mask_l, zip2};
 
 use std::cmp::Ordering;
+use std::simd::prelude::*;
 
 /// How two texts compare, by their bytes. The length that is tested first is one that few texts reach: among short texts of
 /// mixed lengths the test always goes the same way, and costs little.
@@ -39,7 +42,7 @@ fn compare_long(one: &[u8], other: &[u8]) -> Ordering
     if found.is_ne() {
         return found;
     }
-    if one.len().min(other.len()) == 64 {
+    if one.len() == 64 || other.len() == 64 {
         return one.len().cmp(&other.len());
     }
     compare_far(one, other)
@@ -90,13 +93,19 @@ fn order_of_block(one: &[u8], other: &[u8]) -> Ordering
     requires { (64 ≤ length one.now) × (64 ≤ length other.now) }
     ensures { result ≡ slice_cmp nat_cmp (take 64 one.now) (take 64 other.now) }
 {
-    for word in 0..8 {
-        let found = order_of_word(one, other, 8 * word);
-        if found.is_ne() {
-            return found;
-        }
+    let found = order_of_lanes(one, other, 0);
+    if found.is_ne() {
+        return found;
     }
-    Ordering::Equal
+    let found = order_of_lanes(one, other, 16);
+    if found.is_ne() {
+        return found;
+    }
+    let found = order_of_lanes(one, other, 32);
+    if found.is_ne() {
+        return found;
+    }
+    order_of_lanes(one, other, 48)
 }
 
 /// How the first `from + 8` bytes compare, of which the first `from` are alike: as the next eight compare as numbers.
@@ -106,6 +115,34 @@ fn order_of_word(one: &[u8], other: &[u8], from: usize) -> Ordering
     ensures { result ≡ slice_cmp nat_cmp (take (from + 8) one.now) (take (from + 8) other.now) }
 {
     word_at(one, from).cmp(&word_at(other, from))
+}
+
+/// How the first `from + 16` bytes compare, of which the first `from` are alike: as the first two of the next 16 that differ.
+fn order_of_lanes(one: &[u8], other: &[u8], from: usize) -> Ordering
+    requires within { (from + 16 ≤ length one.now) × (from + 16 ≤ length other.now) }
+    requires alike { take from one.now ≡ take from other.now }
+    ensures { result ≡ slice_cmp nat_cmp (take (from + 16) one.now) (take (from + 16) other.now) }
+{
+    let differ = lanes_that_differ(one, other, from);
+    if differ == 0 {
+        return Ordering::Equal;
+    }
+    let place = from + differ.trailing_zeros() as usize;
+    if one[place] < other[place] {
+        Ordering::Less
+    } else {
+        Ordering::Greater
+    }
+}
+
+/// A bit for each of the 16 bytes from `from` on, set where the two differ. The first byte's bit is the lowest.
+fn lanes_that_differ(one: &[u8], other: &[u8], from: usize) -> u64
+    requires { (from + 16 ≤ length one.now) × (from + 16 ≤ length other.now) }
+    ensures { result ≡ mask_l (zip2 (λ (u v : ℕ). not (u == v)) (take 16 (drop from one.now)) (take 16 (drop from other.now))) }
+{
+    u8x16::from_slice(&one[from..])
+        .simd_ne(u8x16::from_slice(&other[from..]))
+        .to_bitmask()
 }
 
 /// The number that the eight bytes from `at` on spell, the greatest first.

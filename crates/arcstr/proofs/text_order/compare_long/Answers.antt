@@ -7,8 +7,8 @@ pub returns-then-is_ne : goal.returns-then-is_ne
 returns-then-is_ne c =
     by_fronts 64 c.args.one.now c.args.other.now _ (omega arith) (omega arith) c.order_of_block-found.ensures (sym c.is_ne.ensures ∙ c.if-is_ne.true)
 
-pub returns-then-min-eq64 : goal.returns-then-min-eq64
-returns-then-min-eq64 c =
+pub returns-then-one-eq64 : goal.returns-then-one-eq64
+returns-then-one-eq64 c =
     c.cmp.ensures ∙ by_length 64 c.args.one.now c.args.other.now (omega arith) (alike _ _ _ c.order_of_block-found.ensures (sym c.is_ne.ensures ∙ c.if-is_ne.false))
 
 pub compare_far-requires-clause-alike : goal.compare_far-requires-clause-alike
