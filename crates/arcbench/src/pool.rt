@@ -83,6 +83,8 @@ type Worker<'a> = PromisedHandle<ArcStr, HandleOn<'a>>;
 /// Starts `workers` threads, each of which clones the text, passes the gate once with its number and
 /// hands its clone back. Answers their handles in the order of the workers.
 /// After a fault every thread that was started has been joined, and its clone dropped.
+/// No clause can say that a thread could be had: a body that always refuses is caught by the test
+/// `each_worker_hands_its_clone_back`.
 pub fn callers<R: Threads + Wait + Sync, G: Gate + Sync>(
     rt: &R,
     alloc: Global,

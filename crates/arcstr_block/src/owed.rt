@@ -36,6 +36,7 @@ impl<A: Allocator> Model for Owed<A> {
 
 impl<A: Allocator> Owed<A> {
     /// Gives the memory of the block, and of its text, back to the allocator.
+    /// That a heap has it again is shown by the test `all_memory_is_given_back`.
     pub fn give_back(self) {
         let Owed { pointer, alloc } = self;
         let memory = pointer.release(alloc).into_box();
