@@ -1,5 +1,6 @@
 -- When a text is refused.
 use Rattle.std.specs.Prelude.{◌≡◌, ◌≤◌, ◌⊎◌, ℕ, List, length, IsUtf8}
+use Rattle.std.specs.Str.{IsValidUpTo}
 use Rattle.std.specs.Str.Lossy.{utf8_valid_len}
 use Rattle.arcstr_block.specs.declared.fault.TextFault.{TextFault}
 use Rattle.arcstr_block.specs.declared.fault.TextFault.TheVariants.{Length, Memory, Utf8}
@@ -12,9 +13,9 @@ IsTooLong n = 9223372036854775783 ≤ n
 abbrev pub IsFaultOfMaking : ℕ → TextFault → Type 0
 IsFaultOfMaking n fault = ((fault ≡ Length) × IsTooLong n) ⊎ (fault ≡ Memory)
 
--- the place up to which these bytes are a text, where they are none
+-- the place up to which these bytes are a text, where they are none: no longer front of them is one
 abbrev pub IsFaultOfBytes : List ℕ → TextFault → Type 0
-IsFaultOfBytes bytes fault = (¬ IsUtf8 bytes) × (fault ≡ Utf8 (utf8_valid_len bytes))
+IsFaultOfBytes bytes fault = (¬ IsUtf8 bytes) × IsValidUpTo bytes (utf8_valid_len bytes) × (fault ≡ Utf8 (utf8_valid_len bytes))
 
 -- n bytes are refused before they are filled, or for what the closure left in them
 abbrev pub IsFaultOfFilling : (List ℕ → Type 0) → ℕ → TextFault → Type 0

@@ -1,6 +1,6 @@
 //! Blocks that are filled by a closure or with copies of a text.
 ghost use Rattle.std.specs.Prelude.{◌≡◌, ◌↔◌, ◌*◌, ◌≤◌, length, replicate, vec_len, IfOk, IfErr, IsErrOf, IsUtf8};
-ghost use Rattle.std.specs.Fn.{FnOnceReturnsAtMut};
+ghost use Rattle.std.specs.Fn.{FnOnceReturnsAtMut, FnOnceTakesAtMut};
 ghost use Rattle.std.specs.List.{repeat};
 ghost use Rattle.std.specs.String.{string_bytes};
 ghost use Rattle.arcstr_block.specs.Making.{IsTooLong, IsFaultOfMaking, IsFaultOfBytes, IsFaultOfFilling};
@@ -25,7 +25,7 @@ impl<const LIMIT: u64, A: Allocator + Copy> Shared<LIMIT, A> {
         fill: F,
     ) -> Result<Shared<LIMIT, A>, TextFault>
         requires limit { LIMIT ≤ RC_MAX }
-        requires callable { F.IsAlwaysCallable fill }
+        requires callable { FnOnceTakesAtMut F.FnOnce fill (replicate n 0) }
         ensures made { IfOk result (λ made. FnOnceReturnsAtMut F.FnOnce fill (replicate n 0) tt made.text) }
         ensures as_long { IfOk result (λ made. length made.text ≡ n) }
         ensures text { IfOk result (λ made. IsUtf8 made.text) }
@@ -82,7 +82,7 @@ fn zeros<A: Allocator>(alloc: A, n: usize) -> Result<Vec<u8, A>, AllocError>
 }
 
 fn filled<A: Allocator, F: FnOnce(&mut [u8])>(mut bytes: Vec<u8, A>, fill: F) -> Vec<u8, A>
-    requires { F.IsAlwaysCallable fill }
+    requires { FnOnceTakesAtMut F.FnOnce fill bytes.items }
     ensures left { FnOnceReturnsAtMut F.FnOnce fill bytes.items tt result.items }
     ensures as_long { vec_len result ≡ vec_len bytes }
 {
@@ -91,7 +91,7 @@ fn filled<A: Allocator, F: FnOnce(&mut [u8])>(mut bytes: Vec<u8, A>, fill: F) ->
 }
 
 fn fill_slice<F: FnOnce(&mut [u8])>(bytes: &mut [u8], fill: F)
-    requires { F.IsAlwaysCallable fill }
+    requires { FnOnceTakesAtMut F.FnOnce fill bytes.old }
     ensures { FnOnceReturnsAtMut F.FnOnce fill bytes.old tt bytes.new }
 {
     fill(bytes);

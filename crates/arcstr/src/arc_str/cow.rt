@@ -3,7 +3,7 @@ ghost use Rattle.std.specs.Prelude.{◌≡◌, ◌↔◌, IsOk, IsSome, IfErr, I
 ghost use Rattle.std.specs.Cow.{IsBorrowedStr, cow_str_bytes};
 ghost use Rattle.arcstr.specs.TextView.{literal};
 
-use crate::arc_str::ArcStr;
+use crate::arc_str::{ArcStr, Form};
 use std::alloc::Global;
 use std::borrow::CowStr;
 
@@ -36,11 +36,14 @@ impl ArcStr {
         }
     }
 
-    /// The text as the program has it, exactly where it is a literal.
-    pub(crate) fn literal_text(&self) -> Option<&'static str>
+    /// The text as the program has it, exactly where it is a literal. No step is taken.
+    fn literal_text(&self) -> Option<&'static str>
         ensures exactly { IsSome result ↔ (self.now.kind ≡ literal) }
         ensures same { IfSome result (λ text. text.now ≡ self.now.text) }
     {
-        ArcStr::as_static(self)?.literal()
+        match &self.form {
+            Form::Literal(text) => Some(text),
+            Form::Block(_) => None,
+        }
     }
 }

@@ -1,6 +1,6 @@
 //! The ways of making an `ArcStr`. An empty result is always the empty literal, and takes no memory.
 ghost use Rattle.std.specs.Prelude.{◌≡◌, ◌*◌, ◌↔◌, [], length, replicate, Ok, IsUtf8, OnOk, IfOk, IfErr, IsErrOf};
-ghost use Rattle.std.specs.Fn.{FnOnceReturnsAtMut};
+ghost use Rattle.std.specs.Fn.{FnOnceReturnsAtMut, FnOnceTakesAtMut};
 ghost use Rattle.std.specs.List.{repeat};
 ghost use Rattle.std.specs.Str.Lossy.{utf8_valid_len};
 ghost use Rattle.arcstr.specs.TextView.{literal_of, made_of};
@@ -65,7 +65,7 @@ impl ArcStr {
         n: usize,
         fill: F,
     ) -> Result<ArcStr, TextFault>
-        requires { F.IsAlwaysCallable fill }
+        requires { FnOnceTakesAtMut F.FnOnce fill (replicate n 0) }
         ensures left { IfOk result (λ made. FnOnceReturnsAtMut F.FnOnce fill (replicate n 0) tt made.text) }
         ensures text { IfOk result (λ made. IsUtf8 made.text) }
         ensures as_long { IfOk result (λ made. length made.text ≡ n) }
@@ -117,7 +117,7 @@ impl ArcStr {
 
 /// Runs the closure on an empty slice.
 fn fill_nothing<F: FnOnce(&mut [u8])>(fill: F)
-    requires { F.IsAlwaysCallable fill }
+    requires { FnOnceTakesAtMut F.FnOnce fill [] }
     ensures { FnOnceReturnsAtMut F.FnOnce fill [] tt [] }
 {
     let mut nothing = [];
@@ -125,7 +125,7 @@ fn fill_nothing<F: FnOnce(&mut [u8])>(fill: F)
 }
 
 fn fill_slice<F: FnOnce(&mut [u8])>(bytes: &mut [u8], fill: F)
-    requires { F.IsAlwaysCallable fill }
+    requires { FnOnceTakesAtMut F.FnOnce fill bytes.old }
     ensures { FnOnceReturnsAtMut F.FnOnce fill bytes.old tt bytes.new }
 {
     fill(bytes);

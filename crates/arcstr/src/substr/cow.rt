@@ -4,6 +4,7 @@ ghost use Rattle.std.specs.Cow.{IsBorrowedStr, cow_str_bytes};
 ghost use Rattle.arcstr.specs.Substr.{text_of};
 ghost use Rattle.arcstr.specs.TextView.{literal};
 
+use crate::arc_str::ArcStr;
 use crate::substr::Substr;
 use std::alloc::Global;
 use std::borrow::CowStr;
@@ -21,7 +22,8 @@ impl Substr {
     }
 
     /// The slice's own text without its parent: of a literal's slice it is borrowed, of any other it is
-    /// copied, with one request for memory. For want of memory the slice itself comes back.
+    /// copied, with one request for memory where it is not empty. For want of memory the slice itself comes
+    /// back.
     pub fn into_cow(self, alloc: Global) -> Result<CowStr<'static>, Substr>
         ensures text { IfOk result (λ cow. cow_str_bytes cow ≡ text_of self) }
         ensures borrowed { IfOk result (λ cow. IsBorrowedStr cow ↔ (self.parent.kind ≡ literal)) }
@@ -37,13 +39,14 @@ impl Substr {
         }
     }
 
-    /// The slice's own text as the program has it, exactly where its parent is a literal.
+    /// The slice's own text as the program has it, exactly where its parent is a literal. Of a parent in a
+    /// counted block one load of its word is taken.
     fn literal_text(&self) -> Option<&'static str>
         ensures exactly { IsSome result ↔ (self.now.parent.kind ≡ literal) }
         ensures same { IfSome result (λ text. text.now ≡ text_of self.now) }
     {
         let places = self.range();
-        let whole = self.parent().literal_text()?;
+        let whole = ArcStr::as_static(self.parent())?.literal()?;
         Some(&whole[places.start..places.end])
     }
 }

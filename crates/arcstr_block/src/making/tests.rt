@@ -40,11 +40,7 @@ fn refused_place(made: Result<Shared<5, Global>, TextFault>) -> Result<Option<us
 
 #[test]
 fn bytes_that_are_no_text_are_refused(rt: HostRuntime) -> Result<(), Fail> {
-    let made = Shared::<5, _>::init(rt.alloc(), 3, |bytes| {
-        if let Some(byte) = bytes.get_mut(2) {
-            *byte = 255;
-        }
-    });
+    let made = Shared::<5, _>::init(rt.alloc(), 3, |bytes| bytes[2] = 255);
     assert_eq!(rt; refused_place(made)?, Some(2));
     Ok(())
 }

@@ -23,11 +23,7 @@ fn bytes_of_a_text_are_taken(rt: HostRuntime) {
 
 #[test]
 fn a_closure_fills_a_text(rt: HostRuntime) {
-    let digits = ArcStr::init_with(rt.alloc(), 5, |bytes| {
-        for (byte, digit) in bytes.iter_mut().zip(b"01234") {
-            *byte = *digit;
-        }
-    });
+    let digits = ArcStr::init_with(rt.alloc(), 5, |bytes| bytes.copy_from_slice(b"01234"));
     check_made(&rt, digits, "01234");
 }
 
@@ -39,11 +35,7 @@ fn a_closure_may_leave_zeros(rt: HostRuntime) {
 
 #[test]
 fn a_closure_that_leaves_no_text_is_refused(rt: HostRuntime) {
-    let made = ArcStr::init_with(rt.alloc(), 5, |bytes| {
-        if let Some(byte) = bytes.get_mut(2) {
-            *byte = 255;
-        }
-    });
+    let made = ArcStr::init_with(rt.alloc(), 5, |bytes| bytes[2] = 255);
     check_refused(&rt, made, TextFault::Utf8(2));
 }
 
