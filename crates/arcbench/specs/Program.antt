@@ -37,15 +37,14 @@ command_in words = command_of (map (λ word. string_bytes word) words)
 abbrev pub IsForScript : List (String Global) → Type 0
 IsForScript words = command_in words ≡ Some Script
 
+-- the words mean `threads` and a number of workers
+abbrev pub IsForThreads : List (String Global) → Type 0
+IsForThreads words = (n : ℕ) × (command_in words ≡ Some (Threads n))
+
 -- a command for threads has from 1 to 64 workers
 abbrev pub HasLawfulCount : Command → Type 0
 HasLawfulCount Script = Unit {0}
 HasLawfulCount (Threads n) = (1 ≤ n) × (n ≤ 64)
-
--- a command for threads
-abbrev pub IsForThreads : Command → Type 0
-IsForThreads Script = ⊥
-IsForThreads (Threads n) = Unit {0}
 
 -- what a command that is done wrote: the answer to the script that was read, or the lines of the workers
 abbrev pub IsDone : Command → Option (List ℕ) → Option (List ℕ) → Option (List ℕ) → Type 0

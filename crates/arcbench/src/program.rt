@@ -1,5 +1,5 @@
 //! The program over its words, a reader and two writers.
-ghost use Rattle.std.specs.Prelude.{◌≡◌, ◌≢◌, ◌≤◌, ◌↔◌, ◌⊎◌, false, IsTrue, IsSome, IfSome, IsSomeAnd, IfErr, OnOk, None, Some, Err};
+ghost use Rattle.std.specs.Prelude.{◌≡◌, ◌≢◌, ◌≤◌, ◌↔◌, ◌⊎◌, false, IsTrue, IsSome, IfSome, IfErr, OnOk, None, Some, Err};
 ghost use Rattle.std.specs.Io.KnownBytes.{IsAtEnd, Appends};
 ghost use Rattle.std.specs.IoError.{error_kind};
 ghost use Rattle.arcstr_count.specs.declared.faults.RunFault.TheVariants.{LimitTooLarge};
@@ -67,7 +67,7 @@ where
     ensures too_large_of_scripts { result ≡ 2 → IsForScript words.now }
     ensures memory { result ≡ 3 → IsSome (command_in words.now) }
     ensures io { (result ≡ 4) ↔ (IsTrue input.new.failed ⊎ IsTrue output.new.failed) }
-    ensures no_thread { result ≡ 5 → IsSomeAnd (command_in words.now) IsForThreads }
+    ensures no_thread { result ≡ 5 → IsForThreads words.now }
 
     // What stays the same.
     ensures unread { command_in words.now ≢ Some Command.Script → input.new ≡ input.old }
