@@ -80,10 +80,7 @@ where
         Some(Command::Script) => copy(alloc, input, output).map_err(Fault::Copy),
         Some(Command::Threads(workers)) => tell_threads(rt, workers, output),
     };
-    match done {
-        Ok(()) => 0,
-        Err(fault) => report(errors, &fault),
-    }
+    status_after(errors, done)
 }
 
 /// Starts the callers, and writes the lines of their texts once they are all there.
@@ -117,6 +114,18 @@ pub fn serve_without_words<E: Write>(errors: &mut E, error: &io::Error) -> u8
         report(errors, &Fault::Copy(CopyFault::Memory))
     } else {
         report(errors, &Fault::Usage)
+    }
+}
+
+/// The status 0 where all is done, else that of the fault, whose line is printed.
+fn status_after<E: Write>(errors: &mut E, done: Result<(), Fault>) -> u8
+    ensures ok { OnOk done (result ≡ 0) }
+    ensures silent { OnOk done (errors.new ≡ errors.old) }
+    ensures fault { IfErr done (λ fault. result ≡ status_of fault) }
+{
+    match done {
+        Ok(()) => 0,
+        Err(fault) => report(errors, &fault),
     }
 }
 
