@@ -1,5 +1,6 @@
 -- What the words of the program mean, what each command writes, and the status of each fault.
-use Rattle.std.specs.Prelude.{ℕ, ◌≤◌, ◌&&◌, nat_le, if◌then◌else◌, List, [], ◌∷◌, Option, None, Some, option_and_then, option_map, IfSome, codes}
+use Rattle.std.specs.Prelude.{ℕ, ◌≤◌, ◌&&◌, nat_le, if◌then◌else◌, List, [], ◌∷◌, Option, None, Some, option_and_then, option_map, IfSome, String, string_bytes, codes, map, ◌≡◌}
+use Rattle.std.specs.declared.alloc.Global.{Global}
 use Rattle.std.specs.Str.{bytes_eq}
 use Rattle.std.specs.Io.KnownBytes.{Appends}
 use Rattle.arcbench.specs.declared.program.Command.{Command}
@@ -28,15 +29,22 @@ command_of (word ∷ count ∷ []) =
     if bytes_eq word (codes "threads") then option_map (λ n. Threads n) (worker_count count) else None
 command_of (word ∷ next ∷ third ∷ more) = None
 
+-- the command that the program's words mean
+abbrev pub command_in : List (String Global) → Option Command
+command_in words = command_of (map (λ word. string_bytes word) words)
+
+-- the words mean `script`
+abbrev pub IsForScript : List (String Global) → Type 0
+IsForScript words = command_in words ≡ Some Script
+
+-- the words mean `threads` and a number of workers
+abbrev pub IsForThreads : List (String Global) → Type 0
+IsForThreads words = (n : ℕ) × (command_in words ≡ Some (Threads n))
+
 -- a command for threads has from 1 to 64 workers
 abbrev pub HasLawfulCount : Command → Type 0
 HasLawfulCount Script = Unit {0}
 HasLawfulCount (Threads n) = (1 ≤ n) × (n ≤ 64)
-
--- a command for threads
-abbrev pub IsForThreads : Command → Type 0
-IsForThreads Script = ⊥
-IsForThreads (Threads n) = Unit {0}
 
 -- what a command that is done wrote: the answer to the script that was read, or the lines of the workers
 abbrev pub IsDone : Command → Option (List ℕ) → Option (List ℕ) → Option (List ℕ) → Type 0

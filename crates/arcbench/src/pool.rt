@@ -118,7 +118,7 @@ pub fn callers<R: Threads + Wait + Sync, G: Gate + Sync>(
     )
 }
 
-/// What one worker does: its clone of the text, after it passed the gate.
+/// What one worker does: clones the text, passes the gate, and hands the clone back.
 fn called<R: Wait, G: Gate>(rt: &R, text: &ArcStr, worker: usize, gate: &G) -> ArcStr
     ensures { result ≡ text.now }
 {

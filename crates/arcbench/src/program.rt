@@ -1,12 +1,11 @@
 //! The program over its words, a reader and two writers.
-ghost use Rattle.std.specs.Prelude.{◌≡◌, ◌≢◌, ◌≤◌, ◌↔◌, ◌⊎◌, false, IsTrue, IfSome, IsSomeAnd, IfErr, OnOk, None, Some, Err, map, string_bytes};
+ghost use Rattle.std.specs.Prelude.{◌≡◌, ◌≢◌, ◌≤◌, ◌↔◌, ◌⊎◌, false, IsTrue, IsSome, IfSome, IfErr, OnOk, None, Some, Err};
 ghost use Rattle.std.specs.Io.KnownBytes.{IsAtEnd, Appends};
 ghost use Rattle.std.specs.IoError.{error_kind};
 ghost use Rattle.arcstr_count.specs.declared.faults.RunFault.TheVariants.{LimitTooLarge};
 ghost use Rattle.arcbench.specs.Script.{answer_to};
-ghost use Rattle.arcbench.specs.Copy.{WritesAnswer};
 ghost use Rattle.arcbench.specs.Threads.{threads_answer};
-ghost use Rattle.arcbench.specs.Program.{command_of, worker_count, status_of, HasLawfulCount, IsForThreads, IsFaultOfThreads, IsDone};
+ghost use Rattle.arcbench.specs.Program.{command_in, worker_count, status_of, HasLawfulCount, IsForScript, IsForThreads, IsFaultOfThreads, IsDone};
 
 use crate::pool::PoolFault;
 use crate::port::Port;
@@ -59,37 +58,29 @@ where
     requires output_is_sound { output.old.failed ≡ false }
 
     ensures statuses { result ≤ 5 }
-    ensures usage { (result ≡ 1) ↔ (command_of (map (λ word. string_bytes word) words.now) ≡ None) }
-    ensures done { result ≡ 0 → IfSome (command_of (map (λ word. string_bytes word) words.now)) (λ command.
-        IsDone command (R.remaining input.old.value) (W.contents output.old.value) (W.contents output.new.value)) }
-    ensures at_end { result ≡ 0 → command_of (map (λ word. string_bytes word) words.now) ≡ Some Command.Script
-        → IsAtEnd (R.remaining input.new.value) }
-    ensures too_large { result ≡ 2 → IfSome (R.remaining input.old.value)
-        (λ script. answer_to script ≡ Err LimitTooLarge) }
-    ensures too_large_of_scripts { result ≡ 2 → command_of (map (λ word. string_bytes word) words.now) ≡ Some Command.Script }
+    ensures usage { (result ≡ 1) ↔ (command_in words.now ≡ None) }
+    ensures done { result ≡ 0 → IfSome (command_in words.now) (λ command. IsDone command
+        (R.remaining input.old.value) (W.contents output.old.value) (W.contents output.new.value)) }
+    ensures at_end { result ≡ 0 → IsForScript words.now → IsAtEnd (R.remaining input.new.value) }
+    ensures too_large { result ≢ 3 → result ≢ 4 → IsForScript words.now → IfSome (R.remaining input.old.value)
+        (λ script. (result ≡ 2) ↔ (answer_to script ≡ Err LimitTooLarge)) }
+    ensures too_large_of_scripts { result ≡ 2 → IsForScript words.now }
+    ensures memory { result ≡ 3 → IsSome (command_in words.now) }
     ensures io { (result ≡ 4) ↔ (IsTrue input.new.failed ⊎ IsTrue output.new.failed) }
-    ensures no_thread { result ≡ 5 → IsSomeAnd (command_of (map (λ word. string_bytes word) words.now)) IsForThreads }
+    ensures no_thread { result ≡ 5 → IsForThreads words.now }
 
     // What stays the same.
-    ensures unread { result ≡ 1 → input.new ≡ input.old }
-    ensures unread_by_threads { IfSome (command_of (map (λ word. string_bytes word) words.now)) (λ command.
-        IsForThreads command → input.new ≡ input.old) }
+    ensures unread { command_in words.now ≢ Some Command.Script → input.new ≡ input.old }
     ensures unwritten { result ≢ 0 → result ≢ 4 → output.new ≡ output.old }
     ensures unwritten_unread { IsTrue input.new.failed → output.new ≡ output.old }
     ensures silent { result ≡ 0 → errors.new ≡ errors.old }
 {
-    let fault = match command_of(words) {
-        None => Fault::Usage,
-        Some(Command::Script) => match copy(alloc, input, output) {
-            Ok(()) => return 0,
-            Err(fault) => Fault::Copy(fault),
-        },
-        Some(Command::Threads(workers)) => match tell_threads(rt, workers, output) {
-            Ok(()) => return 0,
-            Err(fault) => fault,
-        },
+    let done = match command_of(words) {
+        None => Err(Fault::Usage),
+        Some(Command::Script) => copy(alloc, input, output).map_err(Fault::Copy),
+        Some(Command::Threads(workers)) => tell_threads(rt, workers, output),
     };
-    report(errors, &fault)
+    status_after(errors, done)
 }
 
 /// Starts the callers, and writes the lines of their texts once they are all there.
@@ -126,6 +117,18 @@ pub fn serve_without_words<E: Write>(errors: &mut E, error: &io::Error) -> u8
     }
 }
 
+/// The status 0 where all is done, else that of the fault, whose line is printed.
+fn status_after<E: Write>(errors: &mut E, done: Result<(), Fault>) -> u8
+    ensures ok { OnOk done (result ≡ 0) }
+    ensures silent { OnOk done (errors.new ≡ errors.old) }
+    ensures fault { IfErr done (λ fault. result ≡ status_of fault) }
+{
+    match done {
+        Ok(()) => 0,
+        Err(fault) => report(errors, &fault),
+    }
+}
+
 /// Prints the line of a fault, and answers its status.
 pub(crate) fn report<E: Write>(errors: &mut E, fault: &Fault) -> u8
     ensures { result ≡ status_of fault.now }
@@ -143,7 +146,7 @@ pub(crate) fn report<E: Write>(errors: &mut E, fault: &Fault) -> u8
 
 /// The command that the words mean, and none for other words.
 fn command_of(words: &[String]) -> Option<Command>
-    ensures value { result ≡ command_of (map (λ word. string_bytes word) words.now) }
+    ensures value { result ≡ command_in words.now }
     ensures lawful { IfSome result HasLawfulCount }
 {
     match words {

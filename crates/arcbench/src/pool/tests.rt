@@ -59,7 +59,8 @@ fn two_workers_run_at_once(rt: HostRuntime) -> Result<(), Fail> {
     Ok(())
 }
 
-/// Run with each allocation refused in turn: the full answer, or a fault after which no clone lives.
+/// For `rt try --test --fail-alloc N`, which refuses the request N: all handles, or a fault after which
+/// no clone lives. With ample memory, as in the gate, only the first is seen.
 #[test]
 fn a_refused_call_leaves_one_handle(rt: HostRuntime) {
     let Ok(text) = ArcStr::from_str(rt.alloc(), "foobar") else {

@@ -87,12 +87,13 @@ pub fn copy<A: Allocator + Copy, R: Read, W: Write>(
     ensures at_end { OnOk result (IsAtEnd (R.remaining input.new.value)) }
 
     ensures io { (result ≡ Err CopyFault.Io) ↔ (IsTrue input.new.failed ⊎ IsTrue output.new.failed) }
-    ensures too_large { result ≡ Err CopyFault.LimitTooLarge → IfSome (R.remaining input.old.value)
-        (λ script. answer_to script ≡ Err RunLimitTooLarge) }
+    ensures too_large { result ≢ Err CopyFault.Memory → result ≢ Err CopyFault.Io
+        → IfSome (R.remaining input.old.value) (λ script.
+        (result ≡ Err CopyFault.LimitTooLarge) ↔ (answer_to script ≡ Err RunLimitTooLarge)) }
 
     // Nothing was written after any fault but one of writing.
     ensures unwritten { IfErr result (λ fault. fault ≢ CopyFault.Io → output.new ≡ output.old) }
-    ensures unread { IsTrue input.new.failed → output.new ≡ output.old }
+    ensures unwritten_unread { IsTrue input.new.failed → output.new ≡ output.old }
 {
     let script = read_to_end(alloc, input)?;
     let answer = answer(alloc, &script)?;

@@ -6,7 +6,7 @@ ghost use Rattle.std.specs.Str.{bytes_eq};
 ghost use Rattle.std.specs.Str.Parse.{digits_value};
 ghost use Rattle.arcstr_count.specs.declared.steps.Step.{Step};
 ghost use Rattle.arcbench.specs.LineText.{line_text, limit_text, HasHandle};
-ghost use Rattle.arcbench.specs.Line.{is_decimal, number_of, step_named, step_of, limit_of, lines_of, word_of, after_word};
+ghost use Rattle.arcbench.specs.Line.{is_decimal, number_of, step_named, step_of, limit_of, lines_of};
 
 use arcstr::count::Step;
 use std::str;
