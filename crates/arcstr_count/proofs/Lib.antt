@@ -17,6 +17,7 @@ mod SentencesDone
 mod SentencesState
 mod SentencesLiving
 mod SentencesCounts
+mod SentencesAnswer
 mod SentencesBirths
 mod LawsExamples
 pub mod Entries

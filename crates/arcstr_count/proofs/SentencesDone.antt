@@ -156,12 +156,12 @@ began_unmarked_sentence limit h history = test_sentence limit (Begin h) (Unmarke
 abbrev Alone : ℕ → ℕ → List Step → Type 0
 Alone limit h q = IsFalse (is_marked limit q (block_of q h)) × (living limit q (block_of q h) ≡ h ∷ [])
 
-only_one : (h : ℕ) (xs : List ℕ) → is_only h xs ≡ true → xs ≡ h ∷ []
+pub only_one : (h : ℕ) (xs : List ℕ) → is_only h xs ≡ true → xs ≡ h ∷ []
 only_one h [] e = cc
 only_one h (x ∷ []) e = ap (λ y. y ∷ []) (eqb-true x h e)
 only_one h (x ∷ y ∷ xs) e = cc
 
-is_only_one : (h : ℕ) (xs : List ℕ) → xs ≡ h ∷ [] → is_only h xs ≡ true
+pub is_only_one : (h : ℕ) (xs : List ℕ) → xs ≡ h ∷ [] → is_only h xs ≡ true
 is_only_one h xs e = rw e (eq-eqb h h refl)
 
 -- what a subtraction asks of the past before it

@@ -2,6 +2,7 @@
 use Rattle.std.specs.Prelude.{◌≡◌, ℕ, ◌+◌, ◌<◌, ◌≤◌, ◌↔◌, IsTrue, IsFalse, Some, List, [], ◌++◌, length}
 use Rattle.arcstr_count.specs.declared.steps.Step.{Step}
 use Rattle.arcstr_count.specs.Word.{looked_of}
+use Rattle.arcstr_count.specs.Summary.{WorldView, StandsFor}
 use Rattle.arcstr_count.specs.After.{AtEachFront, IsMade, StandsAfter, marked_after, living_after, dropping_after, owing_after, given_after, word_after}
 
 -- P holds of every front of the steps, every front that goes on from it or is the same, and every block made in the first
@@ -42,3 +43,7 @@ abbrev pub GivenExactlyIfUnmarked : ℕ → List Step → Type 0
 GivenExactlyIfUnmarked limit steps = AtEachFront limit steps (λ front b.
     living_after limit front b ≡ [] → dropping_after limit front b ≡ [] → owing_after limit front b ≡ []
     → ((given_after limit front b ≡ 1) ↔ IsFalse (marked_after limit front b)))
+
+-- the law holds of each history that the world stands for
+abbrev pub InEachHistoryOf : WorldView → (ℕ → List Step → Type 0) → Type 0
+InEachHistoryOf w Law = (history : List Step) → StandsFor w history → Law w.summary.limit history

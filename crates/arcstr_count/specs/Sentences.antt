@@ -7,8 +7,11 @@ use Rattle.arcstr_count.specs.declared.steps.Step.{Step}
 use Rattle.arcstr_count.specs.declared.steps.Step.TheVariants.{Make, Look, Clone, Begin, Sub, Back, Leak, IntoRaw, FromRaw}
 use Rattle.arcstr_count.specs.declared.steps.HandleState.{HandleState}
 use Rattle.arcstr_count.specs.declared.steps.HandleState.TheVariants.{Free, Raw, Dropping, Owing, Gone}
+use Rattle.arcstr_count.specs.declared.steps.Reply.{Reply}
+use Rattle.arcstr_count.specs.declared.steps.Reply.TheVariants.{Made, Count, Static, Handle, Looked, Ended, Left, Owes, Given, Marked, Raw as RawReply, Unraw, Refused}
+use Rattle.arcstr_count.specs.declared.faults.StepFault.{StepFault}
 use Rattle.arcstr_count.specs.History.{makes, births, block_of, numbers_below}
-use Rattle.arcstr_count.specs.Answer.{handle_state, is_accepted}
+use Rattle.arcstr_count.specs.Answer.{handle_state, is_accepted, unless_free, unless_dropping, unless_owing, unless_raw}
 use Rattle.arcstr_count.specs.Past.{past_of}
 use Rattle.arcstr_count.specs.After.{marked_after, living_after}
 
@@ -192,3 +195,47 @@ is_back_on block b s = false
 -- How often a block was given back: the number of accepted `Back` steps on it.
 abbrev pub given_count : ℕ → List Step → ℕ → ℕ
 given_count limit history b = accepted_count limit history (λ front s. is_back_on (λ h. block_after limit front h) b s)
+
+-- ---- answers
+
+-- Why a step is refused after a history: its row of the table of refusals has this fault for the state of its
+-- handle there. `Make` never is.
+abbrev pub RefusedSentence : ℕ → List Step → Step → StepFault → Type 0
+RefusedSentence limit history Make fault = ⊥
+RefusedSentence limit history (Look h) fault = unless_free (state_after limit history h) ≡ Some fault
+RefusedSentence limit history (Clone h) fault = unless_free (state_after limit history h) ≡ Some fault
+RefusedSentence limit history (Begin h) fault = unless_free (state_after limit history h) ≡ Some fault
+RefusedSentence limit history (Sub h) fault = unless_dropping (state_after limit history h) ≡ Some fault
+RefusedSentence limit history (Back h) fault = unless_owing (state_after limit history h) ≡ Some fault
+RefusedSentence limit history (Leak h) fault = unless_free (state_after limit history h) ≡ Some fault
+RefusedSentence limit history (IntoRaw h) fault = unless_free (state_after limit history h) ≡ Some fault
+RefusedSentence limit history (FromRaw h) fault = unless_raw (state_after limit history h) ≡ Some fault
+
+-- The first reply where the fact holds, the second one where it does not.
+abbrev pub ByFact : Type 0 → (holds fails reply : Reply) → Type 0
+ByFact fact holds fails reply = (fact × (reply ≡ holds)) ⊎ ((¬ fact) × (reply ≡ fails))
+
+-- The block of h is marked.
+abbrev pub IsOnMarked : ℕ → List Step → ℕ → Type 0
+IsOnMarked limit history h = IsTrue (marked_after limit history (block_after limit history h))
+
+-- What an accepted step answers: a birth the number of the handle, which is how many were born before it; a look
+-- `Static` at a marked block, else how many handles live on it; a beginning `Ended` on a marked block, else
+-- `Looked`; a subtraction `Owes` if its block is unmarked and no other handle lives on it, else `Left`.
+abbrev pub AcceptedAnswer : ℕ → List Step → Step → Reply → Type 0
+AcceptedAnswer limit history Make reply = reply ≡ Made (births_after limit history)
+AcceptedAnswer limit history (Look h) reply =
+    ByFact (IsOnMarked limit history h) Static (Count (length (living_after limit history (block_after limit history h)))) reply
+AcceptedAnswer limit history (Clone h) reply = reply ≡ Handle (births_after limit history)
+AcceptedAnswer limit history (Begin h) reply = ByFact (IsOnMarked limit history h) Ended Looked reply
+AcceptedAnswer limit history (Sub h) reply = ByFact (LivesAlone limit history h) Owes Left reply
+AcceptedAnswer limit history (Back h) reply = reply ≡ Given
+AcceptedAnswer limit history (Leak h) reply = reply ≡ Marked
+AcceptedAnswer limit history (IntoRaw h) reply = reply ≡ RawReply
+AcceptedAnswer limit history (FromRaw h) reply = reply ≡ Unraw
+
+-- The reply to a step after a history: what it answers if it is accepted, else the fault that it is refused for.
+abbrev pub AnswerSentence : ℕ → List Step → Step → Reply → Type 0
+AnswerSentence limit history s reply =
+    (AcceptedSentence limit history s × AcceptedAnswer limit history s reply)
+    ⊎ ((fault : StepFault) × RefusedSentence limit history s fault × (reply ≡ Refused fault))

@@ -1,3 +1,5 @@
+//! The faults: why a step is refused, and why a world or a run fails. Each has a number and a text.
+
 ghost use Rattle.std.specs.Prelude.{◌≡◌, Some};
 ghost use Rattle.arcstr_count.specs.Faults.{step_fault_number, run_fault_number, step_fault_text, run_fault_text};
 
@@ -7,7 +9,7 @@ use std::fmt;
 /// Why a step is refused, by the state of the handle that it names.
 #[derive(Clone, Copy, Debug, PartialEq, Eq)]
 pub enum StepFault {
-    /// No handle of this number is there: it was never born, or it has ended.
+    /// No handle of this number is there: it was never born, owes its block, or has ended.
     NoHandle,
     /// The handle is dropping.
     InDrop,
@@ -66,7 +68,7 @@ impl Error for StepFault {}
 pub enum RunFault {
     /// The limit is above `RC_MAX`.
     LimitTooLarge,
-    /// There was no memory for a new handle or block.
+    /// A growth was refused: of a table, of the replies or of an answer.
     Memory,
 }
 

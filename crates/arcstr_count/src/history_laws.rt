@@ -1,3 +1,5 @@
+//! The laws of every list of steps, whatever the order of its holders' acts.
+
 ghost use Rattle.arcstr_count.specs.Laws.{WordsStand, LooksAreExact, MarksStay, AtMostOneOwes, GivenAtMostOnce, GivenExactlyIfUnmarked};
 
 use crate::steps::Step;

@@ -1,3 +1,5 @@
+//! The replies to a whole list of steps.
+
 ghost use Rattle.std.specs.Prelude.{◌≡◌, ◌<◌, ◌↔◌, IfOk};
 ghost use Rattle.arcstr_count.specs.After.{AnswersEach};
 ghost use Rattle.arcstr_count.specs.Laws.{WordsStand, LooksAreExact, MarksStay, AtMostOneOwes, GivenAtMostOnce, GivenExactlyIfUnmarked};
@@ -10,6 +12,8 @@ use crate::worlds::World;
 use std::alloc::Allocator;
 
 /// The reply to each step of a list, from the empty history on.
+///
+/// `LimitTooLarge` is tested first; then `Memory`, where it comes.
 pub fn run<A: Allocator + Copy>(
     alloc: A,
     limit: u64,

@@ -7,9 +7,10 @@ ghost use Rattle.std.specs.Prelude.{◌≡◌, ◌≢◌, ◌↔◌, ◌<◌, �
 ghost use Rattle.std.specs.List.Sorted.{IsStrictlyIncreasing};
 ghost use Rattle.arcstr_count.specs.declared.steps.HandleState.TheVariants.{Dropping, Owing};
 ghost use Rattle.arcstr_count.specs.After.{marked_after, living_after, dropping_after, owing_after, given_after};
-ghost use Rattle.arcstr_count.specs.Sentences.{accepted_after, makes_after, births_after, block_after, state_after, accepted_count, is_make, is_birth, given_count, AcceptedSentence, BornSentence, MarkedSentence, StateSentence, OwesSentence, LivingSentence, UnderWaySentence};
+ghost use Rattle.arcstr_count.specs.Past.{answer_after};
+ghost use Rattle.arcstr_count.specs.Sentences.{accepted_after, makes_after, births_after, block_after, state_after, accepted_count, is_make, is_birth, given_count, AcceptedSentence, BornSentence, MarkedSentence, StateSentence, OwesSentence, LivingSentence, UnderWaySentence, AnswerSentence};
 
-use crate::steps::{HandleState, Step};
+use crate::steps::{HandleState, Reply, Step};
 
 /// Which steps are accepted: a step whose handle's state has 'ok' in the table of refusals, and `Make`
 /// always. `Look`, `Clone`, `Begin`, `Leak` and `IntoRaw` want a free handle, `Sub` a dropping one,
@@ -74,4 +75,12 @@ pub fn under_way_is(limit: u64, history: &[Step], block: u64, handle: u64)
 /// How often a block was given back: as often as the history has an accepted `Back` of a handle on it.
 pub fn given_is(limit: u64, history: &[Step], block: u64)
     ensures { given_after limit history.now block ≡ given_count limit history.now block }
+{}
+
+/// What a step answers. A refused one: the fault that the table of refusals has for the state of its
+/// handle. An accepted one: `Make` and `Clone` the number of births before it; `Look` `Static` at a marked
+/// block, else how many handles live on it; `Begin` `Ended` on a marked block, else `Looked`; `Sub` `Owes`
+/// if its block is unmarked and no other handle lives on it, else `Left`; each other step its one reply.
+pub fn answer_is(limit: u64, history: &[Step], step: Step, reply: Reply)
+    ensures { (answer_after limit history.now step ≡ reply) ↔ AnswerSentence limit history.now step reply }
 {}

@@ -1,3 +1,5 @@
+//! What holders of handles do, what it answers, and where it leaves their handles.
+
 use crate::faults::StepFault;
 
 /// One act of one holder. The number is that of the handle that acts.
@@ -15,7 +17,7 @@ pub enum Step {
     Begin(u64),
     /// A drop that found its block unmarked takes its handle out of the count.
     Sub(u64),
-    /// The handle that took out the last share gives the block back.
+    /// The handle that was subtracted last gives the block back.
     Back(u64),
     /// Marks the block static, for good.
     Leak(u64),
@@ -65,7 +67,7 @@ pub enum HandleState {
     Raw,
     /// Its drop began, found the block unmarked, and has not subtracted yet.
     Dropping,
-    /// It took out the last share, and has to give the block back.
+    /// It was subtracted last, and has to give the block back.
     Owing,
     /// It has ended.
     Gone,

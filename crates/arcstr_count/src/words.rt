@@ -1,4 +1,6 @@
-ghost use Rattle.std.specs.Prelude.{◌≡◌, ℕ, ◌+◌, ◌*◌, ◌/◌, ◌%◌, ◌<◌, ◌≤◌, ◌==◌, ◌^◌};
+//! The word of a block: one number that holds its mark and its count.
+
+ghost use Rattle.std.specs.Prelude.{◌≡◌, ◌+◌, ◌/◌, ◌%◌, ◌<◌, ◌≤◌, ◌==◌, ◌^◌};
 ghost use Rattle.arcstr_count.specs.Word.{FlagAndCount, bits_of, looked_of, cloned_of, dropped_of, is_last, marked_of, fresh_word};
 ghost use Rattle.arcstr_count.specs.declared.words.TheConstants.{RC_MAX};
 

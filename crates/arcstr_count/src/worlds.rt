@@ -1,9 +1,12 @@
+//! The world of counted blocks, which answers one step at a time by the meaning of its history.
+
 ghost use Rattle.std.specs.Prelude.{◌≡◌, ◌<◌, ◌≤◌, ◌↔◌, ◌+◌, ◌++◌, [], ◌∷◌, List, IfOk, IfErr, OnOk, OnErr, IsOk, IfSome, Some, slice_get, vec_len, vec_capacity};
 ghost use Rattle.arcstr_count.specs.declared.steps.Step.{Step};
 ghost use Rattle.arcstr_count.specs.Summary.{StandsFor};
 ghost use Rattle.arcstr_count.specs.After.{given_after};
 ghost use Rattle.arcstr_count.specs.Answer.{unless_free, unless_dropping, unless_owing, unless_raw};
 ghost use Rattle.arcstr_count.specs.Taken.{GivesBirth, IsRefusal, IsAcceptedBy, Answers, Follows, Takes, HasHistory};
+ghost use Rattle.arcstr_count.specs.Laws.{WordsStand, LooksAreExact, MarksStay, AtMostOneOwes, GivenAtMostOnce, GivenExactlyIfUnmarked, InEachHistoryOf};
 ghost use Rattle.arcstr_count.specs.Looked.{state_at, IsAt};
 
 use crate::faults::{RunFault, StepFault};
@@ -85,8 +88,9 @@ impl<A: Allocator + Copy> World<A> {
 
     /// How often the block was given back: 0 or 1 times, and 0 for a block that was never made.
     pub fn given(&self, block: u64) -> u64
-        ensures { (history : List Step) → StandsFor self.now history
+        ensures value { (history : List Step) → StandsFor self.now history
             → result ≡ given_after self.now.summary.limit history block }
+        ensures at_most_once { result ≤ 1 }
     {
         match entry_at(&self.blocks, block) {
             Some(entry) if entry.given => 1,
@@ -94,10 +98,21 @@ impl<A: Allocator + Copy> World<A> {
         }
     }
 
-    /// The law that each world stands for at least one history.
+    /// The law that each world stands for at least one history, and the laws of every interleaving for
+    /// each history that it stands for: what holds after every front of it, of every block made in it.
+    /// It does nothing: its clauses are what it is for.
     pub fn stands_for_a_history(&self)
-        ensures { HasHistory self.now }
+        ensures some { HasHistory self.now }
+
+        ensures words_stand { InEachHistoryOf self.now WordsStand }
+        ensures looks_exact { InEachHistoryOf self.now LooksAreExact }
+        ensures marks_stay { InEachHistoryOf self.now MarksStay }
+        ensures one_owes { InEachHistoryOf self.now AtMostOneOwes }
+        ensures given_once { InEachHistoryOf self.now GivenAtMostOnce }
+        ensures given_exactly { InEachHistoryOf self.now GivenExactlyIfUnmarked }
     {
+        // A clause has the invariant of what is behind a `&` once the body reads it; without this read
+        // nothing is known of the world.
         let _limit = self.limit;
     }
 

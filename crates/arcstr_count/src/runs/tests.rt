@@ -4,8 +4,8 @@ use std::alloc::Global;
 use std::process::Abort;
 use std::test::Fail;
 
-/// What `run` gives, and how often a world that takes the same steps says that block 0 was given
-/// back, are what is expected; and with memory to spare both give something.
+/// What `run` gives, what a world answers to each of the same steps, and how often it says then that
+/// block 0 was given back, are what is expected; and with memory to spare both give something.
 fn plays(
     rt: &impl Abort,
     alloc: Global,
@@ -17,8 +17,8 @@ fn plays(
     let replies = run(alloc, limit, steps)?;
     assert_eq!(rt; replies.as_slice(), expected);
     let mut world = World::new(alloc, limit)?;
-    for step in steps {
-        let _reply = world.step(*step)?;
+    for (step, wanted) in steps.iter().zip(expected) {
+        assert_eq!(rt; world.step(*step)?, *wanted);
     }
     assert_eq!(rt; world.given(0), given);
     Ok(())

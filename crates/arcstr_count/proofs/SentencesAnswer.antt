@@ -1,0 +1,94 @@
+-- The reply to a step is the one that the sentence on the history says.
+use Rattle.std.proofs.Common.{◌≡◌, ◌↔◌, ℕ, Bool, true, false, not, ◌&&◌, if◌then◌else◌, is_none, IsTrue, Option, None, Some, List, ◌⊎◌, inl, inr, refl, sym}
+use Rattle.std.proofs.lemmas.Bool.{not-true, not_from_false, and_parts, and_from}
+use Rattle.arcstr_count.specs.declared.steps.Step.{Step}
+use Rattle.arcstr_count.specs.declared.steps.Step.TheVariants.{Make, Look, Clone, Begin, Sub, Back, Leak, IntoRaw, FromRaw}
+use Rattle.arcstr_count.specs.declared.steps.Reply.{Reply}
+use Rattle.arcstr_count.specs.declared.steps.Reply.TheVariants.{Refused}
+use Rattle.arcstr_count.specs.declared.faults.StepFault.{StepFault}
+use Rattle.arcstr_count.specs.History.{block_of}
+use Rattle.arcstr_count.specs.Marks.{is_marked, living, is_only}
+use Rattle.arcstr_count.specs.Answer.{reply_by, refusal_of, accepted_answer}
+use Rattle.arcstr_count.specs.Past.{past_of, answer_after}
+use Rattle.arcstr_count.specs.Sentences.{LivesAlone, RefusedSentence, ByFact, AcceptedAnswer, AnswerSentence}
+use Rattle.arcstr_count.proofs.SentencesDone.{only_one, is_only_one}
+use Rattle.arcstr_count.proofs.SentencesTable.{accepted_sentence}
+
+-- ---- an accepted step
+
+-- one reply or another by a test that decides a fact
+by_test : (b : Bool) (fact : Type 0) → IsTrue b ↔ fact → (holds fails reply : Reply) → ((if b then holds else fails) ≡ reply) ↔ ByFact fact holds fails reply
+by_test true fact decides holds fails reply = (
+  (λ e. inl (decides.0 refl, sym e)),
+  elim [ inl w ↦ sym w.1 | inr w ↦ absurd (w.0 (decides.0 refl)) ],
+)
+by_test false fact decides holds fails reply = (
+  (λ e. inr ((λ f. let no = decides.1 f in cc), sym e)),
+  elim [ inl w ↦ (let no = decides.1 w.0 in cc) | inr w ↦ sym w.1 ],
+)
+
+same : (x y : Reply) → (x ≡ y) ↔ (y ≡ x)
+same x y = ((λ e. sym e), (λ e. sym e))
+
+module _ (limit : ℕ) (history : List Step) where
+  alone_sentence : (h : ℕ) → IsTrue (not (is_marked limit (past_of limit history) (block_of (past_of limit history) h))
+      && is_only h (living limit (past_of limit history) (block_of (past_of limit history) h))) ↔ LivesAlone limit history h
+  alone_sentence h =
+      let marked = is_marked limit (past_of limit history) (block_of (past_of limit history) h) in
+      let others = living limit (past_of limit history) (block_of (past_of limit history) h) in (
+        (λ e. let parts = and_parts (not marked) (is_only h others) e in (not-true marked parts.0, only_one h others parts.1)),
+        (λ w. and_from (not marked) (is_only h others) (not_from_false marked w.0) (is_only_one h others w.1)),
+      )
+
+  accepted_answer_sentence : (s : Step) (reply : Reply) → (accepted_answer limit (past_of limit history) s ≡ reply) ↔ AcceptedAnswer limit history s reply
+  accepted_answer_sentence Make reply = same _ reply
+  accepted_answer_sentence (Look h) reply = by_test (is_marked limit (past_of limit history) (block_of (past_of limit history) h)) _ ((λ e. e), (λ e. e)) _ _ reply
+  accepted_answer_sentence (Clone h) reply = same _ reply
+  accepted_answer_sentence (Begin h) reply = by_test (is_marked limit (past_of limit history) (block_of (past_of limit history) h)) _ ((λ e. e), (λ e. e)) _ _ reply
+  accepted_answer_sentence (Sub h) reply = by_test _ (LivesAlone limit history h) (alone_sentence h) _ _ reply
+  accepted_answer_sentence (Back h) reply = same _ reply
+  accepted_answer_sentence (Leak h) reply = same _ reply
+  accepted_answer_sentence (IntoRaw h) reply = same _ reply
+  accepted_answer_sentence (FromRaw h) reply = same _ reply
+
+  -- ---- a refused one
+
+  refused_sentence : (s : Step) (fault : StepFault) → (refusal_of limit (past_of limit history) s ≡ Some fault) ↔ RefusedSentence limit history s fault
+  refused_sentence Make fault = ((λ e. cc), (λ e. absurd e))
+  refused_sentence (Look h) fault = ((λ e. e), (λ e. e))
+  refused_sentence (Clone h) fault = ((λ e. e), (λ e. e))
+  refused_sentence (Begin h) fault = ((λ e. e), (λ e. e))
+  refused_sentence (Sub h) fault = ((λ e. e), (λ e. e))
+  refused_sentence (Back h) fault = ((λ e. e), (λ e. e))
+  refused_sentence (Leak h) fault = ((λ e. e), (λ e. e))
+  refused_sentence (IntoRaw h) fault = ((λ e. e), (λ e. e))
+  refused_sentence (FromRaw h) fault = ((λ e. e), (λ e. e))
+
+-- ---- both
+
+-- the reply by a refusal
+by_refusal : (o : Option StepFault) (answer reply : Reply) → (reply_by o answer ≡ reply)
+    ↔ ((IsTrue (is_none o) × (answer ≡ reply)) ⊎ ((fault : StepFault) × (o ≡ Some fault) × (reply ≡ Refused fault)))
+by_refusal None answer reply = (
+  (λ e. inl (refl, e)),
+  elim [ inl w ↦ w.1 | inr w ↦ (let no = w.1 in cc) ],
+)
+by_refusal (Some fault) answer reply = (
+  (λ e. inr (fault, refl, sym e)),
+  elim [ inl w ↦ (let no = w.0 in cc) | inr w ↦ (let is = w.1 in let said = w.2 in cc) ],
+)
+
+pub answer_sentence : (limit : ℕ) (history : List Step) (s : Step) (reply : Reply) → (answer_after limit history s ≡ reply) ↔ AnswerSentence limit history s reply
+answer_sentence limit history s reply =
+    let accepted = accepted_sentence limit history s in
+    let answered = accepted_answer_sentence limit history s reply in
+    let replied = by_refusal (refusal_of limit (past_of limit history) s) (accepted_answer limit (past_of limit history) s) reply in (
+      (λ e. elim (replied.0 e) [
+        | inl w ↦ inl (accepted.0 w.0, answered.0 w.1)
+        | inr w ↦ inr (w.0, (refused_sentence limit history s w.0).0 w.1, w.2)
+      ]),
+      elim [
+        | inl w ↦ replied.1 (inl (accepted.1 w.0, answered.1 w.1))
+        | inr w ↦ replied.1 (inr (w.0, (refused_sentence limit history s w.0).1 w.1, w.2))
+      ],
+    )
