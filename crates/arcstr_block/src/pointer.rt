@@ -210,6 +210,16 @@ impl<X, A: Allocator> Pointer<X, A> {
         (self, other)
     }
 
+    /// The law that a block that is owed is not marked: a pointer that knows the mark is on another. No step.
+    pub(crate) fn unmarked(self, other: &Pointer<X, A>) -> Pointer<X, A>
+        requires owed { self.right ≡ owed }
+        requires fixed { other.now.right ≡ fixed }
+        ensures same { result ≡ self }
+        ensures unmarked { self.block ≢ other.now.block }
+    {
+        self
+    }
+
     /// Lets go of a pointer that stands for nothing in the block's history.
     pub(crate) fn forget(self)
         requires { IsIdle self.right }
