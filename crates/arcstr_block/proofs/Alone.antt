@@ -61,7 +61,7 @@ module _ {M : Type 1} {𝓤 : Ura M} (𝓛 : Logic 𝓤) where
   one_history γ r r' Z = own_sum 𝓛 (growing steps) γ (some full_share, r) (some full_share, r') Z (λ c m. absurd (not-OpDef-full_share full_share m.0.1.0.0))
 
   -- and so one book
-  one_book : (L L' : ℕ) (γ δ δ' : GName) (n n' : ℕ) (Z : Pr) → ⟦ Book L γ δ n ⟧ ∗ ⟦ Book L' γ δ' n' ⟧ ⊢ Z
+  pub one_book : (L L' : ℕ) (γ δ δ' : GName) (n n' : ℕ) (Z : Pr) → ⟦ Book L γ δ n ⟧ ∗ ⟦ Book L' γ δ' n' ⟧ ⊢ Z
   one_book L L' γ δ δ' n n' Z = qed 𝓛 (‵ (Book L γ δ n) ∷ ‵ (Book L' γ δ' n') ∷ []) ∵ fpick ! (λ x. fsplit3 ! $ move ! (3 ∷ []) $ fpick ! (λ y. fsplit3 ! $ keep ! (1 ∷ 4 ∷ []) $ by ! (one_history γ y.0 x.0 Z)))
 
   -- beside the book of the word 0 no seat is a living handle's

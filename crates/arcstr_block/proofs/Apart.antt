@@ -65,7 +65,7 @@ module _ {M : Type 1} {𝓤 : Ura M} (𝓛 : Logic 𝓤) (R B : RattleType) (g :
       rewrite ! 0 (λ (z : Names). ‵ (seat z.1 h.seat (seat_state h.right))) named refl $ done !))
 
   -- what is owed has the book of the word 0
-  book_of : (h : Row.Denot) (vs : List Val) → h.right ≡ owed → ⟦ Row.own_val h vs ⟧ ⊢ ⟦ Book h.limit h.block.0 h.block.1 0 ⟧
+  pub book_of : (h : Row.Denot) (vs : List Val) → h.right ≡ owed → ⟦ Row.own_val h vs ⟧ ⊢ ⟦ Book h.limit h.block.0 h.block.1 0 ⟧
   book_of h vs mine = qed 𝓛 (‵ (Row.own_val h vs) ∷ []) ∵ use1 𝓛 (‵ (fex Id (named_right h))) (right_of h vs) $ fpick ! (λ t. fsplit ! $ fpick ! (λ named. drop ! $
       rewrite ! 0 (λ (k : ℕ). ‵ (Right h t k)) mine refl $ fsplit ! $ fsplit ! $ keep ! (1 ∷ []) $ rewrite ! 0 (λ (z : Names). ‵ (Book h.limit z.0 z.1 0)) named refl $ done !))
 

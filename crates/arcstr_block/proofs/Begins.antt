@@ -1,5 +1,5 @@
 -- A block begins: its word is 2, its content is lent, and its first handle has one part. Assumes `Logic`.
-use Rattle.std.proofs.Common.{◌≡◌, ℕ, ◌-◌, ◌^◌, ◌<◌, Bool, true, [], ◌∷◌, refl, arith, lit<}
+use Rattle.std.proofs.Common.{◌≡◌, ℕ, ◌-◌, ◌^◌, Bool, true, [], ◌∷◌, refl, arith, lit<}
 use seplogic.Ra.Ura.{Ura}
 use base.Fraction.{full_share}
 use base.FractionLaws.{Counts-all}
@@ -11,7 +11,7 @@ use types.Kit.{‵, ◌⊛◌, some, later, ◌$◌, ◌∵◌, !, qed, move, gr
 use types.Tokens.{lft_new, bor_new}
 use denote.Struct.Lending.{Lends}
 use Rattle.core.specs.Sync.RawAtomic.{word}
-use Rattle.arcstr_block.specs.Rights.{uncounted}
+use Rattle.arcstr_block.specs.Rights.{IsLimit, uncounted}
 use Rattle.arcstr_block.specs.Book.{Book, reached, seat}
 use Rattle.arcstr_block.specs.Ledger.{Id, parts, unmarked, Ledger, counting, if_alive, Inv, knows, free, held_with}
 use Rattle.arcstr_count.specs.declared.steps.Step.TheVariants.{Make}
@@ -45,7 +45,7 @@ module _ {M : Type 1} {𝓤 : Ura M} (𝓛 : Logic 𝓤) (P : Fml) (L b o : ℕ)
   infix 26 ◌⊢◌
   infixr 35 ◌∗◌
   infixr 30 ◌-∗◌
-  module _ (s : Lft → Fml) (laws : ShrLaws s) (small : L < 2 ^ 62) where
+  module _ (s : Lft → Fml) (laws : ShrLaws s) (small : IsLimit L) where
     abbrev Owner : Fml
     Owner = fex Id (λ t. fsep (reached t.2 (Make ∷ [])) (held_with P L b o t s 0 1))
 

@@ -26,6 +26,7 @@ pub data Gain : Type 0 where
   share : Gain
   last : Gain
 
+-- The number of a gain, which is not the number of a right (`specs/Rights.antt`). None is turned to nothing (0), a part to counted (1), a share to fixed (3) or, with a new seat, to uncounted (2), and the last to owed (5).
 abbrev pub rank : Gain → ℕ
 rank none = 0
 rank part = 1

@@ -2,7 +2,8 @@
 --     a      the lifetime for which the content is shared. Each counted handle has one part in 2 ^ 63 of its token.
 --     c      the lifetime that ends with the mark: its token is beside an unmarked word, and that it has ended is a fact for good.
 --     γ, δ   the names of the block's history and of the seats of its handles, which lie beside the word.
--- An unmarked word 2k has k parts out. A marked one has m parts out, of drops that looked before the mark, and keeps one part for good, of which each who finds the mark has a share.
+-- An unmarked word 2k has k parts out, one for each counted handle. A marked word has m parts out, and keeps one part for good, of which each who finds the mark has a share.
+-- At the mark m is k, and it is one fewer after each later subtraction, of a drop that looked before the mark. A handle whose drop finds the mark lets its part go, and m stays.
 use Rattle.std.specs.Prelude.{◌≡◌, ℕ, zero, suc, ◌+◌, ◌-◌, ◌*◌, ◌/◌, ◌^◌, ◌<◌, ◌≤◌, Bool, true, false, List, [], ◌∷◌}
 use base.Fraction.{full_share}
 use base.FractionLaws.{Counts}
@@ -19,7 +20,7 @@ use Rattle.core.specs.Ptr.{points_to}
 use Rattle.core.specs.Sync.RawAtomic.{word}
 use Rattle.arcstr_count.specs.declared.steps.Step.{Step}
 use Rattle.arcstr_count.specs.declared.steps.HandleState.TheVariants.{Free, Dropping, Owing}
-use Rattle.arcstr_block.specs.Rights.{IsMarked, counted, uncounted}
+use Rattle.arcstr_block.specs.Rights.{IsLimit, IsMarked, counted, uncounted}
 use Rattle.arcstr_block.specs.Book.{Book, reached, seat, seat_share}
 use Rattle.arcstr_block.specs.contracts.block.Block.{the_row as block_row}
 
@@ -33,7 +34,7 @@ parts a k = fex Share (λ e. fex (Counts 63 e k) (λ _. flft (a ∷ []) e))
 abbrev pub some_share : ℕ → Fml
 some_share a = fex Share (λ s. flft (a ∷ []) s)
 
--- a, c, γ and δ
+-- what a block is known by: the lifetime a for which its content is shared, the lifetime c that ends with the mark, the name γ of its history, and the name δ of the seats of its handles
 abbrev pub Id : Type 0
 Id = ℕ × ℕ × GName × GName
 
@@ -59,8 +60,8 @@ pub data Phase : Type 0 where
 -- P is what the block owns, L its limit, and b and o where its word lies.
 module _ (P : Fml) (L b o : ℕ) (t : Id) where
   abbrev pub Fits : ℕ → Phase → Type 0
-  Fits n (unmarked k) = (n ≡ 2 * k) × (0 < k) × (k ≤ L + 1) × (L < 2 ^ 62)
-  Fits n (marked m) = IsMarked n × (m ≤ n / 2) × (n / 2 ≤ L + 1) × (L < 2 ^ 62)
+  Fits n (unmarked k) = (n ≡ 2 * k) × (0 < k) × (k ≤ L + 1) × IsLimit L
+  Fits n (marked m) = IsMarked n × (m ≤ n / 2) × (n / 2 ≤ L + 1) × IsLimit L
 
   abbrev pub rest : Phase → Fml
   rest (unmarked k) = fsep (parts t.0 (2 ^ 63 - k)) (fsep (flft (t.1 ∷ []) full_share) (flent (t.0 ∷ []) P))
@@ -101,6 +102,7 @@ module _ (P : Fml) (L b o : ℕ) (t : Id) where
     abbrev pub free : ℕ → Fml
     free right = fex Share (with_share right)
 
+    -- what lies in a right, by the numbers of `specs/Rights.antt`: nothing, counted, uncounted, fixed, dropping, owed
     abbrev pub right_to : ℕ → Fml
     right_to zero = s (t.0 ∷ [])
     right_to (suc zero) = free 1

@@ -9,7 +9,7 @@ nothing = 0
 abbrev pub counted : ℕ
 counted = 1
 
--- a free handle that was cloned from a marked block
+-- a free handle whose clone found the mark, or whose exchange set it above the limit
 abbrev pub uncounted : ℕ
 uncounted = 2
 
@@ -46,6 +46,10 @@ IsMarked word = word % 2 ≡ 1
 
 abbrev pub IsUnmarked : ℕ → Type 0
 IsUnmarked word = word % 2 ≡ 0
+
+-- a limit on a count is below 2 ^ 62: it is at most `RC_MAX`
+abbrev pub IsLimit : ℕ → Type 0
+IsLimit limit = limit < 4611686018427387904
 
 -- an unmarked word counts from 1 to the limit and one more
 abbrev pub IsWord : ℕ → ℕ → Type 0

@@ -1,3 +1,4 @@
+//! Why a text cannot be had, and the length from which it is too long.
 ghost use Rattle.std.specs.Prelude.{◌≡◌, Some};
 ghost use Rattle.arcstr_block.specs.Fault.{text_fault_number, text_fault_text};
 
@@ -16,7 +17,7 @@ pub enum TextFault {
     Memory,
     /// The bytes are not UTF-8: their longest front that is has this many bytes.
     Utf8(usize),
-    /// The text is too long for places of 32 bits.
+    /// The text is too long for places of 32 bits. No call of this crate answers it: it is there for the slices above.
     TooFar,
 }
 

@@ -6,6 +6,7 @@ ghost use Rattle.std.specs.Box.Ownership.{box_owns};
 use std::alloc::Allocator;
 use std::marker::Model;
 
+/// A box taken apart, which still owns its memory.
 pub(crate) struct Loose<T, A: Allocator> {
     pub(crate) at: *mut T,
     pub(crate) alloc: A,
@@ -17,6 +18,7 @@ impl<T, A: Allocator> Model for Loose<T, A> {
 }
 
 impl<T: Drop, A: Allocator> Loose<T, A> {
+    /// Takes a box apart.
     pub(crate) fn of(whole: Box<T, A>) -> Loose<T, A>
         ensures { (result.value ≡ whole.value) × (result.alloc ≡ box_allocator whole) }
     {
@@ -24,6 +26,7 @@ impl<T: Drop, A: Allocator> Loose<T, A> {
         Loose { at, alloc }
     }
 
+    /// The box again.
     pub(crate) fn into_box(self) -> Box<T, A>
         ensures { (result.value ≡ self.value) × (box_allocator result ≡ self.alloc) }
     {

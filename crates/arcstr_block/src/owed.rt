@@ -4,6 +4,7 @@ ghost use Rattle.arcstr_block.specs.Rights.{owed};
 ghost use Rattle.arcstr_block.specs.Handle.{Debt};
 
 use crate::block::Block;
+use crate::fixed::Fixed;
 use crate::pointer::Pointer;
 use crate::shared::Shared;
 use std::alloc::Allocator;
@@ -54,6 +55,16 @@ impl<A: Allocator + Copy> Owed<A> {
         let Owed { pointer, alloc } = self;
         let (other, pointer) = other.apart_from(pointer);
         (Owed { pointer, alloc }, other)
+    }
+
+    /// The law that a block that is owed is not marked. No step.
+    pub fn unmarked(self, fixed: &Fixed<A>) -> Owed<A>
+        ensures same { result ≡ self }
+        ensures unmarked { self.block ≢ fixed.now.block }
+    {
+        let Owed { pointer, alloc } = self;
+        let pointer = pointer.unmarked(&fixed.pointer);
+        Owed { pointer, alloc }
     }
 }
 

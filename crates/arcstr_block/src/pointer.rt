@@ -1,10 +1,14 @@
-//! The pointer to a block. Every raw pointer and every atomic step of the crate is here.
-//! The word is `2 * count`, or `2 * count + 1` once the block is marked.
-ghost use Rattle.std.specs.Prelude.{◌≡◌, ◌≢◌, ℕ, List, ◌<◌};
+//! The pointer to a block. Every atomic step is here, and every pointer through which a block is read or stepped on;
+//! `loose.rt` takes the box apart. The word is `2 * count`, or `2 * count + 1` once the block is marked.
+//!
+//! A `Pointer` is one address when it runs. Its right, seat and history are ghost, and are moved by the proof of each
+//! function (`proofs/pointer/Pointer/NAME/Proof.antt`), so a body shows the machine's step alone. `make` begins the
+//! history with `Make`, and `release` ends it with `Back`; `IntoRaw` and `FromRaw` never occur in it.
+ghost use Rattle.std.specs.Prelude.{◌≡◌, ◌≢◌, ℕ, List};
 ghost use Rattle.std.specs.Coded.{coded_list};
 ghost use Rattle.arcstr_count.specs.declared.steps.Step.{Step};
 ghost use Rattle.arcstr_count.specs.contracts.steps.Step.{the_row as step_row};
-ghost use Rattle.arcstr_block.specs.Rights.{nothing, counted, fixed, dropping, owed, IsFree, HasSeat, MaySee, IsIdle, IsWord, Looks, Finds, IsClone, Gains, Begins, Leaves};
+ghost use Rattle.arcstr_block.specs.Rights.{nothing, counted, fixed, dropping, owed, IsFree, HasSeat, MaySee, IsIdle, IsLimit, IsWord, Looks, Finds, IsClone, Gains, Begins, Leaves};
 ghost use Rattle.arcstr_block.specs.Ledger.{pointer_owns, pointer_shares};
 
 use crate::block::Block;
@@ -43,7 +47,7 @@ impl<X, A: Allocator> Pointer<X, A> {
     pub(crate) fn make(memory: Loose<Block<X>, A>) -> (Pointer<X, A>, A)
         ghost limit: { ℕ }
         requires word { memory.value.word ≡ 2 }
-        requires limit { limit < 4611686018427387904 }
+        requires limit { IsLimit limit }
         ensures home { (result.0.home ≡ memory.alloc) × (result.1 ≡ memory.alloc) }
         ensures value { result.0.value ≡ memory.value.value }
         ensures limit { result.0.limit ≡ limit }
@@ -208,6 +212,16 @@ impl<X, A: Allocator> Pointer<X, A> {
         ensures alone { self.right ≡ owed → self.block ≢ other.block }
     {
         (self, other)
+    }
+
+    /// The law that a block that is owed is not marked: a pointer that knows the mark is on another. No step.
+    pub(crate) fn unmarked(self, other: &Pointer<X, A>) -> Pointer<X, A>
+        requires owed { self.right ≡ owed }
+        requires fixed { other.now.right ≡ fixed }
+        ensures same { result ≡ self }
+        ensures unmarked { self.block ≢ other.now.block }
+    {
+        self
     }
 
     /// Lets go of a pointer that stands for nothing in the block's history.

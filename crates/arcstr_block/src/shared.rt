@@ -1,8 +1,8 @@
 //! One handle on a block.
-ghost use Rattle.std.specs.Prelude.{◌≡◌, ◌≢◌, ◌↔◌, List, ℕ, length, IsErrOf, ◌<◌, ◌≤◌, ◌+◌, MatchResult, MatchOption, IfOk, IfErr, IfSome};
+ghost use Rattle.std.specs.Prelude.{◌≡◌, ◌≢◌, ◌↔◌, ℕ, length, IsErrOf, ◌<◌, ◌≤◌, ◌+◌, MatchResult, MatchOption, IfOk, IfErr, IfSome};
 ghost use Rattle.std.specs.String.{string_bytes};
 ghost use Rattle.arcstr_block.specs.Making.{IsTooLong, IsFaultOfMaking};
-ghost use Rattle.arcstr_block.specs.Rights.{owed, IsFree, HasSeat, IsUnmarked, IsWord, IsClone};
+ghost use Rattle.arcstr_block.specs.Rights.{owed, IsFree, HasSeat, IsLimit, IsUnmarked, IsWord};
 ghost use Rattle.arcstr_block.specs.Handle.{Handle, SawCount, SawMark, SawLeak, kept_of};
 
 use crate::block::{Block, empty_block};
@@ -13,7 +13,7 @@ use crate::owed::{Down, Owed};
 use crate::pointer::Pointer;
 use crate::seen::Seen;
 use crate::word::{looked, marked, next};
-use arcstr_count::{RC_MAX, Word};
+use arcstr_count::RC_MAX;
 use std::alloc::Allocator;
 use std::marker::Model;
 use std::sync::Wait;
@@ -25,7 +25,7 @@ struct Counted<const LIMIT: u64, A: Allocator + Copy> {
     ghost free: { IsFree pointer.right },
     ghost home: { alloc ≡ pointer.home },
     ghost limit: { pointer.limit ≡ LIMIT },
-    ghost low: { LIMIT < 4611686018427387904 },
+    ghost low: { IsLimit LIMIT },
 }
 
 /// One handle on a block whose count has the limit `LIMIT`. Contracts see the bytes of its text,
@@ -205,6 +205,7 @@ impl<const LIMIT: u64, A: Allocator + Copy> Shared<LIMIT, A> {
         }
         let (found, pointer) = pointer.leave();
         let seen = pointer.seen();
+        // 2 is the unmarked word with count 1: this handle was the last one counted.
         if found == 2 {
             return (Down::Owes(Owed { pointer, alloc }), seen);
         }

@@ -116,6 +116,30 @@ fn no_handle_is_left_on_what_is_owed(rt: HostRuntime) -> Result<(), Fail> {
     Ok(())
 }
 
+/// Ends a handle, and gives back what it owes: if anything, it was on another block than the fixed one.
+fn owes_beside_fixed(handle: Shared<5, Global>, fixed: &Fixed<Global>) -> bool
+    ensures { IsTrue result → handle.block ≢ fixed.now.block }
+{
+    match handle.down().0 {
+        Down::Owes(owed) => {
+            owed.unmarked(fixed).give_back();
+            true
+        }
+        Down::Left | Down::Ended => false,
+    }
+}
+
+#[test]
+fn what_is_owed_is_not_marked(rt: HostRuntime) -> Result<(), Fail> {
+    let first = Shared::<5, Global>::from_text(rt.alloc(), "foobar")?;
+    let other = Shared::<5, Global>::from_text(rt.alloc(), "foo")?;
+    let fixed = first.mark();
+    assert_eq!(rt; owes_beside_fixed(first, &fixed), false);
+    assert_eq!(rt; owes_beside_fixed(other, &fixed), true);
+    assert_eq!(rt; fixed.as_str(), "foobar");
+    Ok(())
+}
+
 /// Ends two handles, and gives back what they owe: if both owe, they were on two blocks.
 fn both_owe(first: Shared<5, Global>, second: Shared<5, Global>) -> bool
     ensures { IsTrue result → first.block ≢ second.block }

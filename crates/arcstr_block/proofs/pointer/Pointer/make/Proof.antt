@@ -1,5 +1,5 @@
 -- `make` puts the word under the ledger's invariant, and lends what the block holds.
-use Rattle.std.proofs.Common.{◌≡◌, ℕ, ◌+◌, ◌<◌, List, [], ◌∷◌, ◌++◌, sym, refl, subst}
+use Rattle.std.proofs.Common.{◌≡◌, ℕ, ◌+◌, List, [], ◌∷◌, ◌++◌, sym, refl, subst}
 use mir.Syntax.{dcons, dnil, a_type}
 use mir.Val.{Val, vptr, vstruct, vcons, vnil, of_list}
 use mir.MapTy.{inst_fn}
@@ -28,7 +28,7 @@ use Rattle.core.specs.Sync.RawAtomic.{word}
 use Rattle.core.proofs.alloc.Calls.{Goes-blank}
 use Rattle.std_alloc.proofs.ResultValues.{and_tt}
 use Rattle.atomic_table.proofs.Walks.{proved_at, leaves}
-use Rattle.arcstr_block.specs.Rights.{counted}
+use Rattle.arcstr_block.specs.Rights.{IsLimit, counted}
 use Rattle.arcstr_block.specs.Ledger.{Id, names, block_owns, block_shares, value_at, rejoins, held_with, of_block}
 use Rattle.arcstr_block.specs.contracts.block.Block.{the_row as block_row}
 use Rattle.arcstr_block.specs.contracts.pointer.Pointer as C
@@ -52,8 +52,8 @@ make_spec 𝓤 𝓛 𝓜 𝓡 wired X Y L K g d dd met md =
     let κs = z.0.0 in let qs = z.0.1 in let t₁ : Item 𝓤 = ‵ (flft κs.0 qs.0) in let t₂ : Item 𝓤 = ‵ (flft κs.1.0 qs.1.0) in let inX = κs.0 ⊑ X.lives in let inY = κs.1.0 ⊑ Y.lives in
     let v : Boxed.Denot = z.0.3.0 in let a : Y.Denot = v.alloc in let x : X.Denot = v.value.value in let lim : ℕ = z.1 in let holds = g.dealloc_token a in
     let Post : Val → SProp 𝓤 = (walk_of 𝓛 En hs c).post z in let Run : List Val → SProp 𝓤 = λ ws. WpFn 𝓤 H 𝓣.C 𝓣.Λ fn ws Post in
-    qed 𝓛 (((t₁ ⊛ t₂ ⊛ ‵ ftrue) ⊛ ‵ (owns (types_at En.signature.params κs) z.0.3 z.0.4)) ∷ raw (fact 𝓤 inX) ∷ raw (fact 𝓤 inY) ∷ raw (fact 𝓤 (v.value.word ≡ 2)) ∷ raw (fact 𝓤 (lim < 4611686018427387904)) ∷ []) ∵
-    move ! (1 ∷ 2 ∷ 3 ∷ 4 ∷ []) $ heard ! inX (λ leX. heard ! inY (λ leY. heard ! (v.value.word ≡ 2) (λ two. heard ! (lim < 4611686018427387904) (λ small. split ! $ move ! (1 ∷ []) $ fsplit ! $ loose_out BR Z LZ g ! v z.0.4.0 (λ b o h e ws fits.
+    qed 𝓛 (((t₁ ⊛ t₂ ⊛ ‵ ftrue) ⊛ ‵ (owns (types_at En.signature.params κs) z.0.3 z.0.4)) ∷ raw (fact 𝓤 inX) ∷ raw (fact 𝓤 inY) ∷ raw (fact 𝓤 (v.value.word ≡ 2)) ∷ raw (fact 𝓤 (IsLimit lim)) ∷ []) ∵
+    move ! (1 ∷ 2 ∷ 3 ∷ 4 ∷ []) $ heard ! inX (λ leX. heard ! inY (λ leY. heard ! (v.value.word ≡ 2) (λ two. heard ! (IsLimit lim) (λ small. split ! $ move ! (1 ∷ []) $ fsplit ! $ loose_out BR Z LZ g ! v z.0.4.0 (λ b o h e ws fits.
     let p : Ptr = block_ptr b o in let P : Fml = block_owns holds R p x in let s = block_shares holds R p x in let w : Val = both (vptr b o) h in
     fsplit ! $ use1 𝓛 (‵ (word b (o + 0) v.value.word) ⊛ ‵ (lies_at R full_share (value_at holds R p x) x) ⊛ ‵ (rejoins holds R p x)) (cuts 𝓛 X L holds x b o v.value.word) $ split3 ! $
     rewrite ! 0 (λ (n : ℕ). ‵ (word b (o + 0) n)) two refl $ move ! (1 ∷ 2 ∷ 3 ∷ []) $ fjoin3 ! $ move ! (1 ∷ 0 ∷ []) $ fjoin ! $ move ! (3 ∷ []) $ split3 ! $ move ! (3 ∷ 0 ∷ []) $
