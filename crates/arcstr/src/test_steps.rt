@@ -4,6 +4,7 @@ use crate::{ArcStr, Substr, TextFault};
 use arcstr_range::range::{RangeFault, StrRange};
 use std::alloc::{AllocError, AllocGlobal};
 use std::borrow::CowStr;
+use std::cmp::Ordering;
 use std::hash::{DefaultHasher, Hash, Hasher};
 use std::ops::Range;
 use std::process::Abort;
@@ -102,6 +103,27 @@ fn hash_of<T: Hash>(value: &T) -> u64 {
 pub(crate) fn are_one_key<T: Eq + Hash>(one: &T, other: &T, text: &str) -> bool {
     let hash = hash_of(&text);
     one == other && hash_of(one) == hash && hash_of(other) == hash
+}
+
+/// A text of this many letters `b`, with another letter at the place.
+pub(crate) fn letters(
+    rt: &(impl Abort + AllocGlobal),
+    length: usize,
+    place: usize,
+    letter: char,
+) -> ArcStr {
+    let mut text = String::new(rt.alloc());
+    for at in 0..length {
+        let pushed = text.push(if at == place { letter } else { 'b' });
+        pushed.expect(rt, "no memory");
+    }
+    made(rt, text.as_str())
+}
+
+/// Asserts how the two compare, and that they compare the other way round too.
+pub(crate) fn check_order<T: Ord>(rt: &impl Abort, one: &T, other: &T, wanted: Ordering) {
+    assert!(rt; one.cmp(other) == wanted);
+    assert!(rt; other.cmp(one) == wanted.reverse());
 }
 
 /// Asserts that a copy was made, and its text.

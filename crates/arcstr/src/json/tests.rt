@@ -26,12 +26,16 @@ fn a_slice_is_written_and_read_back(rt: HostRuntime) {
     let slice = part(&rt, &literal!("aé"), 1..);
     let value = slice.to_json(rt.alloc()).expect(&rt, "no memory");
     check_read(&rt, &value, "é");
+    let read = Substr::from_json(rt.alloc(), &value).expect(&rt, "no slice");
+    assert!(rt; read == slice);
 }
 
 #[test]
 fn a_text_is_written_and_read_back(rt: HostRuntime) {
-    let value = made(&rt, "hi").to_json(rt.alloc());
-    check_read(&rt, &value.expect(&rt, "no memory"), "hi");
+    let value = made(&rt, "hi").to_json(rt.alloc()).expect(&rt, "no memory");
+    check_read(&rt, &value, "hi");
+    let read = ArcStr::from_json(rt.alloc(), &value).expect(&rt, "no text");
+    assert!(rt; read == literal!("hi"));
 }
 
 fn check_fault(rt: &impl Abort, found: Option<JsonFault>, wanted: JsonFault) {

@@ -3,7 +3,7 @@ ghost use Rattle.std.specs.Prelude.{◌≡◌, ◌++◌, IfOk, codes, encode_utf
 ghost use Rattle.std.specs.Fmt.{decimal};
 ghost use Rattle.arcstr.specs.TextView.{made_of};
 
-use crate::test_steps::{check_made, check_text};
+use crate::test_steps::{check_made, check_text, made};
 use crate::{ArcStr, TextFault, format_arcstr};
 use std::alloc::Global;
 
@@ -37,6 +37,14 @@ fn values_are_printed(rt: HostRuntime) {
     check_made(&rt, printed_truth(rt.alloc(), true), "true");
     check_made(&rt, printed_character(rt.alloc(), 'é'), "é");
     check_made(&rt, printed_text(rt.alloc(), "foo"), "foo!");
+}
+
+#[test]
+fn a_text_is_printed_into_a_width(rt: HostRuntime) {
+    let text = made(&rt, "foo");
+    let wide = format_arcstr!(rt.alloc(); "{:>5}", text).expect(&rt, "no memory");
+    check_text(&rt, wide.as_str(), "  foo");
+    assert!(rt; wide.len() == 5);
 }
 
 #[test]

@@ -1,7 +1,9 @@
 use super::*;
 use crate::literal;
-use crate::test_steps::{are_one_key, check_text, made};
+use crate::test_steps::{are_one_key, check_order, check_text, letters, made};
+use std::alloc::AllocGlobal;
 use std::collections::{BTreeSet, HashMap};
+use std::process::Abort;
 
 #[test]
 fn texts_stand_in_order_of_their_bytes(rt: HostRuntime) {
@@ -34,4 +36,29 @@ fn a_map_finds_a_key_of_another_kind(rt: HostRuntime) {
 #[test]
 fn a_longer_text_may_come_first(rt: HostRuntime) {
     assert!(rt; literal!("abc") < literal!("b"));
+}
+
+/// Asserts the order of texts of this many bytes that differ in the byte at the place alone, and of a text
+/// that goes on.
+fn differ_at(rt: &(impl Abort + AllocGlobal), length: usize, place: usize) {
+    let text = letters(rt, length, place, 'a');
+    check_order(rt, &text, &letters(rt, length, place, 'a'), Ordering::Equal);
+    check_order(rt, &text, &letters(rt, length, place, 'c'), Ordering::Less);
+    check_order(rt, &text, &letters(rt, length, place, 'é'), Ordering::Less);
+    check_order(
+        rt,
+        &text,
+        &letters(rt, length + 1, place, 'a'),
+        Ordering::Less,
+    );
+}
+
+/// Texts are compared by bytes, by words and by vectors, as long as they are.
+#[test]
+fn texts_of_any_length_differ_at_any_place(rt: HostRuntime) {
+    for length in [1, 7, 8, 15, 16, 17, 24, 63, 64, 65, 80, 127, 128, 129, 200] {
+        for place in 0..length {
+            differ_at(&rt, length, place);
+        }
+    }
 }

@@ -25,7 +25,9 @@ fn slices_keep_their_parent(rt: HostRuntime) {
 #[test]
 fn empty_slices_keep_their_parent(rt: HostRuntime) {
     let text = made(&rt, "abcde");
-    check_within(&rt, &part(&rt, &text, 5..), "", 5..5, "abcde");
+    let nothing = part(&rt, &text, 5..);
+    check_within(&rt, &nothing, "", 5..5, "abcde");
+    check_count(&rt, &text, Some(2));
     check_no_slice(&rt, text.substr(&rt, 6..), RangeFault::OutOfOrder);
 }
 

@@ -1,7 +1,10 @@
 use super::*;
 use crate::literal;
-use crate::test_steps::{are_one_key, check_text, made, part};
+use crate::test_steps::{are_one_key, check_order, check_text, letters, made, part};
+use std::alloc::AllocGlobal;
 use std::collections::{BTreeSet, HashMap};
+use std::process::Abort;
+use std::sync::Wait;
 
 #[test]
 fn slices_stand_in_order_of_their_own_texts(rt: HostRuntime) {
@@ -33,4 +36,41 @@ fn a_map_finds_a_slice_of_another_parent(rt: HostRuntime) {
     let same = part(&rt, &literal!("jkl"), 1..2);
     assert!(rt; numbers.get(&same) == Some(&7));
     assert!(rt; numbers.get(&Substr::new()).is_none());
+}
+
+/// The slice behind the first of these letters.
+fn behind_one<R: Abort + AllocGlobal + Wait>(
+    rt: &R,
+    length: usize,
+    place: usize,
+    letter: char,
+) -> Substr {
+    part(rt, &letters(rt, length + 1, place + 1, letter), 1..)
+}
+
+/// Asserts the order of slices of this many bytes that differ in the byte at the place alone.
+fn differ_at<R: Abort + AllocGlobal + Wait>(rt: &R, length: usize, place: usize) {
+    let slice = behind_one(rt, length, place, 'a');
+    check_order(
+        rt,
+        &slice,
+        &behind_one(rt, length, place, 'a'),
+        Ordering::Equal,
+    );
+    check_order(
+        rt,
+        &slice,
+        &behind_one(rt, length, place, 'é'),
+        Ordering::Less,
+    );
+}
+
+/// The bytes of a slice may begin at any address.
+#[test]
+fn slices_of_any_length_differ_at_any_place(rt: HostRuntime) {
+    for length in [8, 16, 17, 63, 64, 65, 130] {
+        for place in 0..length {
+            differ_at(&rt, length, place);
+        }
+    }
 }
