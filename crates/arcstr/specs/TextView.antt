@@ -41,7 +41,3 @@ leaked_kind fixed_block = fixed_block
 -- the same text, leaked
 abbrev pub leaked : TextView → TextView
 leaked view = record { text = view.text; kind = leaked_kind view.kind }
-
--- the bytes of a text
-abbrev pub text_bytes : TextView → List ℕ
-text_bytes view = view.text

@@ -3,7 +3,7 @@
 #[cfg(test)]
 mod tests;
 
-/// A literal `ArcStr` of a constant text. Takes no memory.
+/// A literal `ArcStr` of any `&'static str`. Takes no memory.
 #[macro_export]
 macro_rules! literal {
     ($text:expr $(,)?) => {
@@ -24,7 +24,8 @@ macro_rules! format_arcstr {
     }};
 }
 
-/// A literal `Substr` of a constant text of at most `MAX_PLACE` bytes. Takes no memory.
+/// A literal `Substr` of any `&'static str` of at most `MAX_PLACE` bytes, which is the caller's condition.
+/// Takes no memory.
 #[macro_export]
 macro_rules! literal_substr {
     ($text:expr $(,)?) => {

@@ -70,7 +70,8 @@ impl Substr {
         Ok(Substr::whole(parent))
     }
 
-    /// A literal of this text, as a slice of itself. Takes no memory.
+    /// A literal of this text, as a slice of itself. Takes no memory. That the text has at most `MAX_PLACE`
+    /// bytes is the caller's condition.
     pub fn from_static(text: &'static str) -> Substr
         requires { length text.now ≤ MAX_PLACE }
         ensures { result ≡ whole_of (literal_of text.now) }
@@ -99,7 +100,8 @@ impl Substr {
         Substr::from_parts_unchecked(parent, 0..end)
     }
 
-    /// The slice of a shared text between two places, which are lawful in it. Takes no memory, and no
+    /// The slice of a shared text between two places, in bytes. That these are in order, at most the
+    /// text's length and `MAX_PLACE`, and at boundaries, is the caller's condition. Takes no memory, and no
     /// step is taken.
     pub fn from_parts_unchecked(parent: ArcStr, range: Range<usize>) -> Substr
         requires { IsLawful parent.text range.start range.end }
@@ -119,7 +121,7 @@ impl Substr {
         &self.parent
     }
 
-    /// The places of the slice in its parent's text, which are lawful in it.
+    /// The places of the slice, in bytes of its parent's text.
     pub fn range(&self) -> Range<usize>
         ensures start { result.start ≡ self.now.start }
         ensures end { result.end ≡ self.now.end }

@@ -1,5 +1,5 @@
-//! Order of texts, for both types. Texts of 16 bytes and more are compared eight bytes at a time, and of texts of 64 bytes and
-//! more the first 64 sixteen at a time.
+//! Order of texts, for both types. Texts of 16 bytes and more are compared eight bytes at a time; of texts of 64 bytes and more
+//! the first 64 are compared sixteen at a time, and then 64 at a time are passed while they are alike.
 ghost use Rattle.std.specs.Prelude.{◌≡◌, ◌+◌, ◌≤◌, ◌==◌, ℕ, drop, length, not, take};
 ghost use Rattle.std.specs.Cmp.Lexicographic.{slice_cmp};
 ghost use Rattle.std.specs.Int.{from_be_bytes, w64};
@@ -21,7 +21,7 @@ pub(crate) fn compare(one: &str, other: &str) -> Ordering
     }
 }
 
-/// The same, for short texts. Most pairs differ in their first byte, which is looked at before their lengths.
+/// The same, for short texts. Most pairs differ in their first byte, which is tried before anything longer.
 fn compare_short(one: &str, other: &str) -> Ordering
     ensures { result ≡ slice_cmp nat_cmp one.now other.now }
 {
@@ -117,7 +117,7 @@ fn order_of_word(one: &[u8], other: &[u8], from: usize) -> Ordering
     word_at(one, from).cmp(&word_at(other, from))
 }
 
-/// How the first `from + 16` bytes compare, of which the first `from` are alike: as the first two of the next 16 that differ.
+/// How the first `from + 16` bytes compare, of which the first `from` are alike: as the first pair of the next 16 that differs.
 fn order_of_lanes(one: &[u8], other: &[u8], from: usize) -> Ordering
     requires within { (from + 16 ≤ length one.now) × (from + 16 ≤ length other.now) }
     requires alike { take from one.now ≡ take from other.now }

@@ -38,8 +38,8 @@ impl<'a> StrView<'a> {
         StrView { text, place: 0 }
     }
 
-    /// The view of a text that stands at a place. `None` exactly where the place and the text's length
-    /// have a sum above `usize::MAX`.
+    /// The view of a text that stands at a place, in bytes. `None` exactly where the place and the text's
+    /// length have a sum above `usize::MAX`.
     pub fn at(text: &'a str, place: usize) -> Option<StrView<'a>>
         ensures some { IsSome result ↔ (place + length text.now ≤ usize.MAX) }
         ensures value { IfSome result (λ view. view ≡ view_at text.now place) }

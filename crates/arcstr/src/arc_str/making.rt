@@ -18,7 +18,8 @@ mod tests;
 mod utf8_tests;
 
 impl ArcStr {
-    /// A copy of this text. Refused: a text that is too long, and then want of memory.
+    /// A copy of this text. Refused, in this order: a text of `2^63 - 25` bytes or more (`Length`), and want
+    /// of memory (`Memory`).
     pub fn from_str(alloc: Global, text: &str) -> Result<ArcStr, TextFault>
         ensures made { IfOk result (λ made. made ≡ made_of text.now) }
         ensures empty { text.now ≡ [] → result ≡ Ok (literal_of []) }
@@ -41,8 +42,8 @@ impl ArcStr {
         ArcStr::from_str(alloc, text)
     }
 
-    /// The text of these bytes. Refused: bytes that are not UTF-8, with the length of their longest
-    /// front that is; then as `from_str`.
+    /// The text of these bytes. Refused: bytes that are not UTF-8 (`Utf8`, with the length in bytes of their
+    /// longest front that is); then as `from_str`.
     pub fn from_utf8(alloc: Global, bytes: &[u8]) -> Result<ArcStr, TextFault>
         ensures made { IfOk result (λ made. made ≡ made_of bytes.now) }
         ensures empty { bytes.now ≡ [] → result ≡ Ok (literal_of []) }
@@ -57,9 +58,9 @@ impl ArcStr {
         }
     }
 
-    /// The text that `fill` leaves in `n` zero bytes. Refused: a length that is too long, then want of
-    /// memory, and the closure is not run after either; then bytes that are not UTF-8, as in `from_utf8`.
-    /// For no bytes the closure runs on an empty slice.
+    /// The text that `fill` leaves in `n` zero bytes. Refused: a length that is too long (`Length`), then want
+    /// of memory (`Memory`), and the closure is not run after either; then bytes that are not UTF-8 (`Utf8`), as
+    /// in `from_utf8`. For no bytes the closure runs on an empty slice.
     pub fn init_with<F: FnOnce(&mut [u8])>(
         alloc: Global,
         n: usize,
@@ -84,8 +85,8 @@ impl ArcStr {
         }
     }
 
-    /// `n` copies of the text, joined. Nothing is refused for an empty text or no copies; else a
-    /// length that is too long, and then want of memory.
+    /// `n` copies of the text, joined. Nothing is refused for an empty text or no copies; else a length of all
+    /// copies that is too long (`Length`), and then want of memory (`Memory`).
     #[tactic(auto, using(crate::proofs::Copies::copies_of_nothing))]
     pub fn try_repeat(alloc: Global, text: &str, n: usize) -> Result<ArcStr, TextFault>
         ensures made { IfOk result (λ made. made ≡ made_of (repeat n text.now)) }
