@@ -48,7 +48,7 @@ fn differ_at(rt: &(impl Abort + AllocGlobal), length: usize, place: usize) {
     check_order(
         rt,
         &text,
-        &letters(rt, length + 1, place, 'a'),
+        &letters(rt, length.saturating_add(1), place, 'a'),
         Ordering::Less,
     );
 }

@@ -38,17 +38,17 @@ fn a_map_finds_a_slice_of_another_parent(rt: HostRuntime) {
     assert!(rt; numbers.get(&Substr::new()).is_none());
 }
 
-/// The slice behind the first of these letters.
+/// The slice of these letters behind the first, which is not the letter at the place.
 fn behind_one<R: Abort + AllocGlobal + Wait>(
     rt: &R,
     length: usize,
     place: usize,
     letter: char,
 ) -> Substr {
-    part(rt, &letters(rt, length + 1, place + 1, letter), 1..)
+    part(rt, &letters(rt, length, place, letter), 1..)
 }
 
-/// Asserts the order of slices of this many bytes that differ in the byte at the place alone.
+/// Asserts the order of slices of texts of this many bytes that differ in the byte at the place alone.
 fn differ_at<R: Abort + AllocGlobal + Wait>(rt: &R, length: usize, place: usize) {
     let slice = behind_one(rt, length, place, 'a');
     check_order(
@@ -68,8 +68,8 @@ fn differ_at<R: Abort + AllocGlobal + Wait>(rt: &R, length: usize, place: usize)
 /// The bytes of a slice may begin at any address.
 #[test]
 fn slices_of_any_length_differ_at_any_place(rt: HostRuntime) {
-    for length in [8, 16, 17, 63, 64, 65, 130] {
-        for place in 0..length {
+    for length in [9, 17, 18, 64, 65, 66, 131] {
+        for place in 1..length {
             differ_at(&rt, length, place);
         }
     }
