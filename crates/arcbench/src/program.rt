@@ -44,6 +44,9 @@ pub(crate) enum Fault {
 ///
 /// The line of a status above 0 goes to `errors`, and a fault in writing it changes no status. `rt` is
 /// the leave to start threads and to wait, and lends the texts of threads the machine's allocator.
+///
+/// No clause can say that memory was there: a body that always answers 3 to a command is caught by the
+/// tests `answers_a_script` and `two_workers_print_their_texts`.
 pub fn serve<H, A: Allocator + Copy, R: Read, W: Write, E: Write>(
     rt: &H,
     alloc: A,

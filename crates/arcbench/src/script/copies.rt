@@ -74,6 +74,8 @@ impl From<RunFault> for CopyFault {
 /// While reading, `Io` or `Memory`, whichever comes first; then the faults of `answer`; while writing,
 /// `Io`. All memory is asked for before the first write, so only a fault of writing can leave a part of
 /// the answer written.
+///
+/// A body that always answers `Memory` is caught by the test `copies_the_answer_to_a_script`.
 pub fn copy<A: Allocator + Copy, R: Read, W: Write>(
     alloc: A,
     input: &mut Port<R>,
