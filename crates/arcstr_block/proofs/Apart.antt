@@ -10,17 +10,18 @@ use types.Kit.{‵, ◌⊛◌, given, ◌$◌, ◌∵◌, !, qed, by, move, keep
 use denote.RattleType.{RattleType}
 use denote.RawPtr.{block_of, count_of}
 use denote.Param.Laws.{Laws}
-use denote.Struct.Lending.{lent_at_shr_laws}
 use Rattle.core.specs.declared.alloc.Allocator.{Ghosts}
 use Rattle.arcstr_block.specs.Rights.{HasSeat, owed}
 use Rattle.arcstr_block.specs.Book.{seat, Book}
-use Rattle.arcstr_block.specs.Ledger.{Id, Names, names, fact, block_owns, block_shares, value_at, right_to}
+use Rattle.arcstr_block.specs.Memory.{block_owns, block_shares}
+use Rattle.arcstr_block.proofs.Memory.{shares_laws}
+use Rattle.arcstr_block.specs.Ledger.{Id, Names, names, fact, right_to}
 use Rattle.arcstr_block.specs.contracts.pointer.Pointer as C
 use Rattle.arcstr_block.proofs.Rights.{has_seat, seat_state}
 use Rattle.arcstr_block.proofs.Seats.{one_owner}
 use Rattle.arcstr_block.proofs.Alone.{no_other}
 
-module _ {M : Type 1} {𝓤 : Ura M} (𝓛 : Logic 𝓤) (R B : RattleType) (g : Ghosts B.Denot) (L : Laws R) where
+module _ {M : Type 1} {𝓤 : Ura M} (𝓛 : Logic 𝓤) (B : RattleType) (g : Ghosts B.Denot) where
   abbrev Pr : Type 2
   Pr = SProp 𝓤
 
@@ -36,15 +37,15 @@ module _ {M : Type 1} {𝓤 : Ura M} (𝓛 : Logic 𝓤) (R B : RattleType) (g :
   infix 26 ◌⊢◌
   infixr 35 ◌∗◌
   abbrev Row : RattleType
-  Row = C.the_row R B g
+  Row = C.the_row B g
 
   -- what a pointer's right is, under names that are its block's
   module _ (h : Row.Denot) where
     abbrev P : Fml
-    P = block_owns (g.dealloc_token h.home) R h.at h.value
+    P = block_owns (g.dealloc_token h.home) h.at h.text
 
     abbrev s : Lft → Fml
-    s = block_shares (g.dealloc_token h.home) R h.at h.value
+    s = block_shares h.at h.text
 
     abbrev Right : Id → ℕ → Fml
     Right t right = right_to P h.limit (block_of h.at) (count_of h.at + 0) t s h.seat right
@@ -53,7 +54,7 @@ module _ {M : Type 1} {𝓤 : Ura M} (𝓛 : Logic 𝓤) (R B : RattleType) (g :
     named_right t = fsep (fact (names t ≡ h.block)) (Right t h.right)
 
     sl : denote.Sharing.ShrLaws s
-    sl = lent_at_shr_laws R L.shr_laws (value_at (g.dealloc_token h.home) R h.at h.value) h.value
+    sl = shares_laws h.at h.text
 
   right_of : (h : Row.Denot) (vs : List Val) → ⟦ Row.own_val h vs ⟧ ⊢ ⟦ fex Id (named_right h) ⟧
   right_of h vs = qed 𝓛 (‵ (Row.own_val h vs) ∷ []) ∵ fsplit ! $ drop ! $ fsplit ! $ drop ! $ fpick ! (λ t. fsplit ! $ fsplit ! $ move ! (1 ∷ []) $ drop ! $ move ! (1 ∷ []) $ fsplit ! $ drop ! $

@@ -15,7 +15,8 @@ pub mod Fields
 pub mod Seats
 pub mod Book
 pub mod Memory
-pub mod LooseValues
+pub mod Places
+pub mod Copies
 pub mod Crosses
 pub mod Looks
 pub mod Marked

@@ -70,9 +70,9 @@ module _ {M : Type 1} {𝓤 : Ura M} (𝓛 : Logic 𝓤) (P : Fml) (L b o : ℕ)
         keep ! (1 ∷ 3 ∷ 4 ∷ []) $ use2 𝓛 (raw (⟦ I ⟧ -∗ upd 𝓤 (⟦ I ⟧ ∗ Z))) (opened u Z) $ move ! (1 ∷ 0 ∷ []) $
         use2 𝓛 (later (raw Z)) (𝓛.invs.inv_acc I Z) $ await ! tt $ now ! $ done !)
 
-  module _ (R B : RattleType) (g : Ghosts B.Denot) (laws : Laws R) (h : (C.the_row R B g).Denot) (vs : List Val) (block : Names) where
+  module _ (B : RattleType) (g : Ghosts B.Denot) (h : (C.the_row B g).Denot) (vs : List Val) (block : Names) where
     abbrev Own : Fml
-    Own = (C.the_row R B g).own_val h vs
+    Own = (C.the_row B g).own_val h vs
 
     abbrev Away : Pr
     Away = guard 𝓤 (h.block ≢ block) ⟦ Own ⟧
@@ -80,7 +80,7 @@ module _ {M : Type 1} {𝓤 : Ura M} (𝓛 : Logic 𝓤) (P : Fml) (L b o : ℕ)
     by_names : h.right ≡ owed → names t ≡ block → Dec (h.block.0 ≡ block.0) → Dec (h.block.1 ≡ block.1) → ⟦ Own ⟧ ∗ ⟦ finv I ⟧ ∗ ⟦ Good ⟧ ⊢ H.⇛ Away
     by_names mine named (no other) d = qed 𝓛 (‵ Own ∷ ‵ (finv I) ∷ ‵ Good ∷ []) ∵ updating ! $ now ! $ keep ! (0 ∷ []) $ check ! (λ e. other (ap (λ (z : Names). z.0) e)) $ done !
     by_names mine named (yes e) (no other) = qed 𝓛 (‵ Own ∷ ‵ (finv I) ∷ ‵ Good ∷ []) ∵ updating ! $ now ! $ keep ! (0 ∷ []) $ check ! (λ e. other (ap (λ (z : Names). z.1) e)) $ done !
-    by_names mine named (yes e) (yes f) = qed 𝓛 (‵ Own ∷ ‵ (finv I) ∷ ‵ Good ∷ []) ∵ use1 𝓛 (‵ (Book h.limit h.block.0 h.block.1 0)) (book_of 𝓛 R B g laws h vs mine) $
+    by_names mine named (yes e) (yes f) = qed 𝓛 (‵ Own ∷ ‵ (finv I) ∷ ‵ Good ∷ []) ∵ use1 𝓛 (‵ (Book h.limit h.block.0 h.block.1 0)) (book_of 𝓛 B g h vs mine) $
         let γ : h.block.0 ≡ t.2 = e ∙ sym (ap (λ (z : Names). z.0) named) in let δ : h.block.1 ≡ t.3 = f ∙ sym (ap (λ (z : Names). z.1) named) in
         rewrite ! 0 (λ (k : ℕ). ‵ (Book h.limit k h.block.1 0)) γ refl $ rewrite ! 0 (λ (k : ℕ). ‵ (Book h.limit t.2 k 0)) δ refl $ by ! (not_marked h.limit Away)
 

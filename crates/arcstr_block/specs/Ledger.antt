@@ -7,22 +7,16 @@
 use Rattle.std.specs.Prelude.{◌≡◌, ℕ, zero, suc, ◌+◌, ◌-◌, ◌*◌, ◌/◌, ◌^◌, ◌<◌, ◌≤◌, Bool, true, false, List, [], ◌∷◌}
 use base.Fraction.{full_share}
 use base.FractionLaws.{Counts}
-use base.Fml.{Lft, GName, Share, Fml, ftrue, fsep, fex, fall, fwand, flft, fdead, flent, fshr_bor, finv}
+use base.Fml.{Lft, GName, Share, Fml, ftrue, fsep, fex, fall, flft, fdead, flent, fshr_bor, finv}
 use mir.Syntax.{Ty}
-use mir.Raw.{raw}
-use prog.Memory.{up, align}
-use denote.RattleType.{RattleType}
-use denote.Memory.{lone}
-use denote.RawPtr.{Ptr, InBlock, block_of, count_of, lies_at, ◌+ₚ◌}
+use denote.RawPtr.{Ptr, block_of, count_of}
 use denote.Sharing.{said, beside, some, one, held, always, nothing}
-use denote.Struct.Lending.{lent_at}
-use Rattle.core.specs.Ptr.{points_to}
 use Rattle.core.specs.Sync.RawAtomic.{word}
 use Rattle.arcstr_count.specs.declared.steps.Step.{Step}
 use Rattle.arcstr_count.specs.declared.steps.HandleState.TheVariants.{Free, Dropping, Owing}
 use Rattle.arcstr_block.specs.Rights.{IsLimit, IsMarked, counted, uncounted}
 use Rattle.arcstr_block.specs.Book.{Book, reached, seat, seat_share}
-use Rattle.arcstr_block.specs.contracts.block.Block.{the_row as block_row}
+use Rattle.arcstr_block.specs.Memory.{block_owns, block_shares, placed, IsText}
 
 abbrev pub fact : Type 0 → Fml
 fact φ = fex φ (λ _. ftrue)
@@ -128,34 +122,16 @@ module _ (P : Fml) (L b o : ℕ) (t : Id) where
     shown (suc (suc (suc zero))) = beside (said for_good) seen
     shown (suc (suc (suc (suc _)))) = nothing
 
-module _ (holds : Ty → Ptr → Fml) (R : RattleType) (p : Ptr) (x : R.Denot) where
-  abbrev pub value_at : Ptr
-  value_at = p +ₚ up (align (lone R.mir)) 8
-
-  -- the word and the value make the block whole
-  abbrev pub rejoins : Fml
-  rejoins = fall ℕ (λ n. fwand (fsep (word (block_of p) (count_of p + 0) n) (lies_at R full_share value_at x)) (points_to (block_row R) p (record { word = n; value = x })))
-
-  -- what the block owns beside its word: the value, the rest of the memory and the right to free it
-  abbrev pub block_owns : Fml
-  block_owns = fsep (lies_at R full_share value_at x) (fsep rejoins (holds (raw (lone (block_row R).mir)) p))
-
-  abbrev pub block_shares : Lft → Fml
-  block_shares = lent_at R value_at x
-
-abbrev pub in_block : Ptr → Fml
-in_block p = fact (InBlock p)
-
--- what a pointer says of itself: its allocator's right to free, its limit, its address, its content, its right, its handle's number, its block's names and a beginning of its history
-module _ (holds : Ty → Ptr → Fml) (R : RattleType) (L : ℕ) (p : Ptr) (x : R.Denot) (right h : ℕ) (block : Names) (history : List Step) where
+-- what a pointer says of itself: its allocator's right to give back, its limit, its address, its text, its right, its handle's number, its block's names and a beginning of its history
+module _ (holds : Ty → Ptr → Fml) (L : ℕ) (p : Ptr) (text : List ℕ) (right h : ℕ) (block : Names) (history : List Step) where
   abbrev pub of_block : Id → Fml
-  of_block t = fsep (known t block history) (held_with (block_owns holds R p x) L (block_of p) (count_of p + 0) t (block_shares holds R p x) h right)
+  of_block t = fsep (known t block history) (held_with (block_owns holds p text) L (block_of p) (count_of p + 0) t (block_shares p text) h right)
 
   abbrev pub pointer_owns : Fml
-  pointer_owns = fsep (in_block p) (fex Id of_block)
+  pointer_owns = fsep (placed p (IsText text)) (fex Id of_block)
 
   abbrev pub of_block_shown : Id → Lft → Fml
-  of_block_shown t = beside (said (known t block history)) (shown (block_owns holds R p x) L (block_of p) (count_of p + 0) t (block_shares holds R p x) h right)
+  of_block_shown t = beside (said (known t block history)) (shown (block_owns holds p text) L (block_of p) (count_of p + 0) t (block_shares p text) h right)
 
   abbrev pub pointer_shares : Lft → Fml
-  pointer_shares = beside (said (in_block p)) (some Id of_block_shown)
+  pointer_shares = beside (said (placed p (IsText text))) (some Id of_block_shown)

@@ -1,4 +1,6 @@
 pub mod Rights
+pub mod Memory
+pub mod Lends
 pub mod Ledger
 pub mod Same
 pub mod Book

@@ -10,27 +10,27 @@ use Rattle.arcstr_block.specs.Rights.{IsMarked, IsUnmarked}
 use Rattle.arcstr_block.specs.Book.{word_of}
 use Rattle.arcstr_block.specs.declared.pointer.Pointer.{Pointer}
 
-module _ {X A : Type 0} where
+module _ {A : Type 0} where
   -- They have one allocator, one content, one limit, and one history.
-  abbrev pub IsSameBlock : Pointer X A → Pointer X A → Type 0
-  IsSameBlock q p = (q.home ≡ p.home) × (q.value ≡ p.value) × (q.limit ≡ p.limit) × (q.block ≡ p.block)
+  abbrev pub IsSameBlock : Pointer A → Pointer A → Type 0
+  IsSameBlock q p = (q.home ≡ p.home) × (q.text ≡ p.text) × (q.limit ≡ p.limit) × (q.block ≡ p.block)
 
   -- what q has seen ends in this step of p's handle, and the core answered so
-  abbrev pub SawStep : Pointer X A → Pointer X A → Step → Reply → Type 0
+  abbrev pub SawStep : Pointer A → Pointer A → Step → Reply → Type 0
   SawStep p q s reply = EndsIn p.limit q.history s reply
 
   -- a look of p that found the word
-  abbrev pub Looked : Pointer X A → ℕ → Pointer X A → Type 0
+  abbrev pub Looked : Pointer A → ℕ → Pointer A → Type 0
   Looked p word q = SawStep p q (Look p.seat) (look_reply (looked_of (word_of word)))
 
   -- the mark by p
-  abbrev pub Leaked : Pointer X A → Pointer X A → Type 0
+  abbrev pub Leaked : Pointer A → Pointer A → Type 0
   Leaked p q = SawStep p q (Leak p.seat) Marked
 
   -- the look of p's drop
-  abbrev pub BegunAs : Pointer X A → ℕ → Pointer X A → Type 0
+  abbrev pub BegunAs : Pointer A → ℕ → Pointer A → Type 0
   BegunAs p word q = (q.seat ≡ p.seat) × (IsMarked word → SawStep p q (Begin p.seat) Ended) × (IsUnmarked word → SawStep p q (Begin p.seat) LookedReply)
 
   -- the subtraction of p's drop
-  abbrev pub SubtractedAs : Pointer X A → ℕ → Pointer X A → Type 0
+  abbrev pub SubtractedAs : Pointer A → ℕ → Pointer A → Type 0
   SubtractedAs p word q = (q.seat ≡ p.seat) × (word ≡ 2 → SawStep p q (Sub p.seat) Owes) × ((word ≡ 2 → ⊥) → SawStep p q (Sub p.seat) Left)

@@ -266,25 +266,6 @@ fn a_mark_keeps_the_block(rt: HostRuntime) -> Result<(), Fail> {
     Ok(())
 }
 
-/// Whether making answers Memory on a heap of this size, and leaves nothing used.
-fn is_refused(heap: &LocalHeap, text: &str) -> bool {
-    match Shared::<5, &LocalHeap>::from_text(heap, text) {
-        Ok(_) => false,
-        Err(fault) => fault == TextFault::Memory && heap.used() == 0,
-    }
-}
-
-#[test]
-fn each_request_may_be_refused(rt: HostRuntime) -> Result<(), Fail> {
-    // 80 bytes hold a text of 64, and no word beside it.
-    let heap = LocalHeap::new(rt.alloc(), 80)?;
-    let text = "0123456701234567012345670123456701234567012345670123456701234567";
-    assert_eq!(rt; is_refused(&heap, text), true);
-    let small = LocalHeap::new(rt.alloc(), 32)?;
-    assert_eq!(rt; is_refused(&small, text), true);
-    Ok(())
-}
-
 /// What two threads leave that take a clone each, before any drop.
 fn look_after_two<const LIMIT: u64, R: Threads + Wait + Sync>(
     rt: &R,

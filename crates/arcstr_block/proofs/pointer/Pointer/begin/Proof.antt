@@ -1,5 +1,5 @@
 -- `begin` is one load. A drop goes on where it finds no mark.
-use Rattle.std.proofs.Common.{◌≡◌, ℕ, ◌+◌, ◌^◌, List, [], ◌∷◌, ◌++◌, sym, refl, ap, subst, if◌then◌else◌, lit<, w64}
+use Rattle.std.proofs.Common.{◌≡◌, ℕ, ◌+◌, ◌^◌, List, [], ◌∷◌, ◌++◌, sym, refl, ap, subst, if◌then◌else◌, lit<, w64, length}
 use mir.Syntax.{dcons, dnil, a_type}
 use mir.Val.{Val, vint, vptr, vstruct, of_list}
 use mir.MapTy.{inst_fn}
@@ -26,7 +26,9 @@ use Rattle.core.proofs.atomic.Steps.{tail}
 use Rattle.atomic_table.proofs.Walks.{proved, leaves}
 use Rattle.atomic_table.proofs.Calls.{fm, seq_cst, found, finds, loads}
 use Rattle.arcstr_block.specs.Rights.{IsFree, IsMarked, IsUnmarked, Begins}
-use Rattle.arcstr_block.specs.Ledger.{Id, names, Inv, block_owns, block_shares, value_at, right_to, of_block, free}
+use Rattle.arcstr_block.specs.Memory.{IsText, block_owns, block_shares}
+use Rattle.arcstr_block.specs.Ledger.{Id, names, Inv, right_to, of_block, free}
+use Rattle.arcstr_block.proofs.Memory.{shares_laws}
 use Rattle.arcstr_block.specs.contracts.pointer.Pointer as C
 use Rattle.arcstr_block.proofs.Fields.{pointer_val, typed, found_val, found_typed, Words, told, made}
 use Rattle.arcstr_count.specs.declared.steps.HandleState.TheVariants.{Free}
@@ -45,18 +47,18 @@ use Rattle.arcstr_block.proofs.pointer.Pointer.begin.Statement.{statement}
 use Rattle.arcstr_block.proofs.pointer.Pointer.begin.Code as code
 
 pub begin_spec : {M : Type 1} → statement M
-begin_spec 𝓤 𝓛 𝓜 𝓡 wired X Y L K g d dd met md =
-    let H = 𝓛.H in let 𝓣 = tables 𝓤 H 𝓜 𝓡 𝓡.env in let R : RattleType = param 0 X in let B : RattleType = param 1 Y in let En = ended X Y g d dd in let c = clauses X Y g d dd 𝓛 𝓜.mem 𝓡.returns in
-    let inst = bounded (a_type ∷ a_type ∷ []) (X, (Y, tt)) (dcons d (dcons dd dnil)) in let fn = inst_fn inst code.function in let closed = code.unfolded 𝓤 H 𝓜 𝓡 wired (X, (Y, tt)) d dd in
-    let Row : RattleType = C.the_row R B g in let D : RattleType = Words R B g in let self = plain (λ _. Row) in let hs : Stays En.signature.params En.kept = (stay_dropped self no, tt) in
-    proved 𝓛 En hs c 𝓜 𝓡 (Goes-dropped 𝓛 2 self no (λ κs x f. refl), tt) (#self inst) fn closed
-    (λ κs. ((λ x. pointer_val x.at ∷ []), tt)) (λ κs. ((λ x vs so. told R B g x.at vs so.0), tt)) (λ κs qs bounds a gh are.
-    let h : Row.Denot = a.0 in let p : Ptr = h.at in let lim : ℕ = h.limit in let holds = g.dealloc_token h.home in let P : Fml = block_owns holds R p h.value in let s : Lft → Fml = block_shares holds R p h.value in
-    let right : ℕ = h.right in let sl = lent_at_shr_laws R (param_laws 0 X L).shr_laws (value_at holds R p h.value) h.value in
+begin_spec 𝓤 𝓛 𝓜 𝓡 wired Y K g d dd met md =
+    let H = 𝓛.H in let 𝓣 = tables 𝓤 H 𝓜 𝓡 𝓡.env in let B : RattleType = param 0 Y in let En = ended Y g d dd in let c = clauses Y g d dd 𝓛 𝓜.mem 𝓡.returns in
+    let inst = bounded (a_type ∷ []) (Y, tt) (dcons d (dcons dd dnil)) in let fn = inst_fn inst code.function in let closed = code.unfolded 𝓤 H 𝓜 𝓡 wired (Y, tt) d dd in
+    let Row : RattleType = C.the_row B g in let D : RattleType = Words B g in let self = plain (λ _. Row) in let hs : Stays En.signature.params En.kept = (stay_dropped self no, tt) in
+    proved 𝓛 En hs c 𝓜 𝓡 (Goes-dropped 𝓛 1 self no (λ κs x f. refl), tt) (#self inst) fn closed
+    (λ κs. ((λ x. pointer_val x.at ∷ []), tt)) (λ κs. ((λ x vs so. told B g x.at vs so.0), tt)) (λ κs qs bounds a gh are.
+    let h : Row.Denot = a.0 in let p : Ptr = h.at in let lim : ℕ = h.limit in let holds = g.dealloc_token h.home in let P : Fml = block_owns holds p h.text in let s : Lft → Fml = block_shares p h.text in
+    let right : ℕ = h.right in let sl = shares_laws p h.text in
     let pb : ℕ = block_of p in let po : ℕ = count_of p + 0 in
     let y : (walk_of 𝓛 En hs c).Ghost = ((κs, qs, bounds, a, (pointer_val p ∷ [], tt)), gh) in let Post : Val → SProp 𝓤 = (walk_of 𝓛 En hs c).post y in
-    qed 𝓛 ((raw (alive 𝓛 En.signature κs qs) ⊛ ‵ (owns (types_at En.signature.params κs) a y.0.4)) ∷ raw (fact 𝓤 _) ∷ raw (fact 𝓤 _) ∷ raw (fact 𝓤 (IsFree h.right)) ∷ []) ∵
-    keep ! (3 ∷ 0 ∷ []) $ heard ! (IsFree h.right) (λ may. split ! $ move ! (1 ∷ []) $ fsplit ! $ fsplit ! $ keep ! (1 ∷ 3 ∷ []) $ fsplit ! $ fpick ! (λ inb. drop ! $ let at : p ≡ block_ptr pb (count_of p) = at_block p inb in
+    qed 𝓛 ((raw (alive 𝓛 En.signature κs qs) ⊛ ‵ (owns (types_at En.signature.params κs) a y.0.4)) ∷ raw (fact 𝓤 _) ∷ raw (fact 𝓤 (IsFree h.right)) ∷ []) ∵
+    keep ! (2 ∷ 0 ∷ []) $ heard ! (IsFree h.right) (λ may. split ! $ move ! (1 ∷ []) $ fsplit ! $ fsplit ! $ keep ! (1 ∷ 3 ∷ []) $ fsplit ! $ fpick ! (λ inb. drop ! $ let at : p ≡ block_ptr pb (count_of p) = at_block p inb.0 in
     fpick ! (λ t. let I : Fml = Inv P lim pb po t in let af : Lft = t.0 ∷ [] in fsplit ! $ move ! (1 ∷ []) $
     fsplit ! $ use1 𝓛 (‵ (finv I) ⊛ ‵ (finv I)) (𝓛.invs.inv_dup I) $ split ! $ move ! (2 ∷ []) $
     use1 𝓛 (‵ (free P lim pb po t s h.seat right)) (rights.is_free 𝓛 P lim pb po t s sl h.seat right may) $ fpick ! (λ e. fsplit ! $ fpick ! (λ one. drop ! $ fsplit3 ! $ move ! (2 ∷ []) $ fsplit ! $
@@ -78,10 +80,10 @@ begin_spec 𝓤 𝓛 𝓜 𝓡 wired X Y L K g d dd met md =
     fsplit ! $ move ! (2 ∷ 3 ∷ 0 ∷ []) $ use3 𝓛 (later (‵ (right_to P lim pb po t s h.seat k))) got.turns $ await ! tt $
     -- [the right; the history's end; the invariant; what was known; the tokens]
     move ! (2 ∷ 0 ∷ []) $ fjoin ! $ move ! (1 ∷ []) $ fpick ! (λ r'. fsplit ! $ fpick ! (λ ends. drop ! $ move ! (2 ∷ []) $ fsplit ! $ fpick ! (λ named. drop ! $ drop ! $ nothing ! $ fpack ! (names t ≡ h.block) (λ _. ftrue) named $ fjoin ! $ fjoin ! $
-    fpack ! Id (of_block holds R lim p h.value k h.seat h.block r') t $ nothing ! $ fpack ! (InBlock p) (λ _. ftrue) inb $ fjoin ! $ let h' : Row.Denot = record h { right = k; history = r' } in let r : Val = found_val n p in
-    use0 𝓛 (‵ (D.own_val (p, (tt, tt)) (pointer_val p ∷ []))) (made R B g 𝓛 p) $ fjoin ! $ nothing ! $ flt_i ! n (2 ^ 64) fits $ feq_i ! (List Val) (vint w64 n ∷ []) (vint w64 n ∷ []) refl $ fjoin ! $
+    fpack ! Id (of_block holds lim p h.text k h.seat h.block r') t $ nothing ! $ fpack ! (InBlock p × IsText h.text) (λ _. ftrue) inb $ fjoin ! $ let h' : Row.Denot = record h { right = k; history = r' } in let r : Val = found_val n p in
+    use0 𝓛 (‵ (D.own_val (p, (tt, tt)) (pointer_val p ∷ []))) (made B g 𝓛 p) $ fjoin ! $ nothing ! $ flt_i ! n (2 ^ 64) fits $ feq_i ! (List Val) (vint w64 n ∷ []) (vint w64 n ∷ []) refl $ fjoin ! $
     move ! (0 ∷ 2 ∷ 1 ∷ []) $ fjoin3 ! $ feq_i ! (List Val) (r ∷ []) (r ∷ []) refl $ fjoin ! $
     fpack ! (Valss (u64 ∷ Row ∷ [])) (λ uss. fsep (feq (List Val) (r ∷ []) (vstruct (of_list (uss.0 ++ (uss.1.0 ++ []))) ∷ [])) (owns (u64 ∷ Row ∷ []) (n, (h', tt)) uss)) (vint w64 n ∷ [], (pointer_val p ∷ [], tt)) $
-    let Same : Type 0 = (h.home ≡ h.home) × (h.value ≡ h.value) × (lim ≡ lim) × (h.block ≡ h.block) in let Saw : Type 0 = (h.seat ≡ h.seat) × (IsMarked n → EndsIn lim r' (Begin h.seat) Ended) × (IsUnmarked n → EndsIn lim r' (Begin h.seat) Looked) in
+    let Same : Type 0 = (h.home ≡ h.home) × (h.text ≡ h.text) × (lim ≡ lim) × (h.block ≡ h.block) in let Saw : Type 0 = (h.seat ≡ h.seat) × (IsMarked n → EndsIn lim r' (Begin h.seat) Ended) × (IsUnmarked n → EndsIn lim r' (Begin h.seat) Looked) in
     use0 𝓛 (raw (fact 𝓤 Same)) (fact_i 𝓤 Same (emp 𝓤) (refl, refl, refl, refl)) $ use0 𝓛 (raw (fact 𝓤 Saw)) (fact_i 𝓤 Saw (emp 𝓤) (refl, (λ odd. subst (EndsIn lim r' (Begin h.seat)) (ap (λ (v : FlagAndCount). if v.flag then Ended else Looked) (marked_word n odd)) ends), (λ even. subst (EndsIn lim r' (Begin h.seat)) (ap (λ (v : FlagAndCount). if v.flag then Ended else Looked) (unmarked_word n even)) ends))) $ join ! $ use0 𝓛 (raw (fact 𝓤 (Begins n k))) (fact_i 𝓤 (Begins n k) (emp 𝓤) got.said) $ join ! $
     nothing ! $ nothing ! $ fjoin ! $ returns ! (look_at ! 0 refl) $ free_all ! refl $ keep ! (3 ∷ 0 ∷ 2 ∷ 1 ∷ []) $ by ! (leaves 𝓛 En hs c y r (n, h') (tt, tt) (tt, tt))))))))))))))))
