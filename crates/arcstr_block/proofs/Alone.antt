@@ -37,7 +37,7 @@ some_passes test (y ∷ ys) (suc i) x at passes = by_test (test y) (some_passes 
     by_test false later = later
 
 -- the unmarked word 0 counts no handle that lives
-none_lives : (L : ℕ) (history : List Step) (seats : List HandleState) (h : ℕ) (state : HandleState) → Keeps L history (word_of 0) seats → slice_get seats h ≡ Some state → lives state ≡ true → ⊥
+pub none_lives : (L : ℕ) (history : List Step) (seats : List HandleState) (h : ℕ) (state : HandleState) → Keeps L history (word_of 0) seats → slice_get seats h ≡ Some state → lives state ≡ true → ⊥
 none_lives L history seats h state keeps at alive = let counted = seats-counted L history (word_of 0) seats keeps refl in let some_lives = some_passes lives seats h state at alive in absurd (omega (arith, counted, some_lives))
 
 module _ {M : Type 1} {𝓤 : Ura M} (𝓛 : Logic 𝓤) where

@@ -1,6 +1,7 @@
 pub mod Parts
 pub mod Apart
 pub mod Alone
+pub mod Beside
 pub mod Unmarked
 pub mod Atomic
 pub mod Lent

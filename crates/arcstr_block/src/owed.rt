@@ -57,6 +57,16 @@ impl<A: Allocator + Copy> Owed<A> {
         (Owed { pointer, alloc }, other)
     }
 
+    /// The law that a handle that is lent is on another block than what is owed. No step.
+    pub fn alone_beside<const LIMIT: u64>(self, handle: &Shared<LIMIT, A>) -> Owed<A>
+        ensures same { result ≡ self }
+        ensures alone { self.block ≢ handle.now.block }
+    {
+        let Owed { pointer, alloc } = self;
+        let pointer = handle.alone_from(pointer);
+        Owed { pointer, alloc }
+    }
+
     /// The law that a block that is owed is not marked. No step.
     pub fn unmarked(self, fixed: &Fixed<A>) -> Owed<A>
         ensures same { result ≡ self }

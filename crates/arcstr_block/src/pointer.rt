@@ -232,6 +232,16 @@ impl<A: Allocator> Pointer<A> {
         (self, other)
     }
 
+    /// The law that a block that is owed has no free handle: a free one is on another block. No step.
+    pub(crate) fn alone(self, other: &Pointer<A>) -> Pointer<A>
+        requires owed { self.right ≡ owed }
+        requires free { IsFree other.now.right }
+        ensures same { result ≡ self }
+        ensures alone { self.block ≢ other.now.block }
+    {
+        self
+    }
+
     /// The law that a block that is owed is not marked: a pointer that knows the mark is on another. No step.
     pub(crate) fn unmarked(self, other: &Pointer<A>) -> Pointer<A>
         requires owed { self.right ≡ owed }

@@ -166,6 +166,15 @@ impl<const LIMIT: u64, A: Allocator + Copy> Shared<LIMIT, A> {
         (first, other)
     }
 
+    /// The law that what is owed is another block than this handle's. No step.
+    pub(crate) fn alone_from(&self, other: Pointer<A>) -> Pointer<A>
+        requires { other.right ≡ owed }
+        ensures same { result ≡ other }
+        ensures alone { other.block ≢ self.now.block }
+    {
+        other.alone(&self.handle.pointer)
+    }
+
     /// The end of the handle. A look that finds the mark leaves the word as it is; else the count falls by one.
     pub fn down(self) -> (Down<A>, Seen)
         ensures seen { EndsAs LIMIT result.1.history self.seat result.0 }

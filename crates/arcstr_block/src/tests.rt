@@ -116,6 +116,30 @@ fn no_handle_is_left_on_what_is_owed(rt: HostRuntime) -> Result<(), Fail> {
     Ok(())
 }
 
+/// Ends a handle, and gives back what it owes: if anything, it was on another block than the one that is lent.
+fn owes_beside_lent(handle: Shared<5, Global>, lent: &Shared<5, Global>) -> bool
+    ensures { IsTrue result → handle.block ≢ lent.now.block }
+{
+    match handle.down().0 {
+        Down::Owes(owed) => {
+            owed.alone_beside(lent).give_back();
+            true
+        }
+        Down::Left | Down::Ended => false,
+    }
+}
+
+#[test]
+fn no_lent_handle_is_on_what_is_owed(rt: HostRuntime) -> Result<(), Fail> {
+    let first = Shared::<5, Global>::from_text(rt.alloc(), "foobar")?;
+    let second = first.up(&rt);
+    let other = Shared::<5, Global>::from_text(rt.alloc(), "foo")?;
+    assert_eq!(rt; owes_beside_lent(first, &second), false);
+    assert_eq!(rt; owes_beside_lent(second, &other), true);
+    assert_eq!(rt; other.look().0, Some(1));
+    Ok(())
+}
+
 /// Ends a handle, and gives back what it owes: if anything, it was on another block than the fixed one.
 fn owes_beside_fixed(handle: Shared<5, Global>, fixed: &Fixed<Global>) -> bool
     ensures { IsTrue result → handle.block ≢ fixed.now.block }
