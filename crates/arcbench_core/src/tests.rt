@@ -1,4 +1,5 @@
 mod answers;
+mod copies;
 mod fakes;
 mod lists;
 mod memory;

@@ -1,4 +1,4 @@
-//! Each request for memory of a run, and of a world's steps, refused in turn by heaps with less and less room.
+//! Requests for memory of a run, and of a world's steps, refused in turn.
 use crate::faults::RunFault;
 use crate::runs::run;
 use crate::steps::{Reply, Step};
@@ -50,6 +50,8 @@ const REPLIES: [Reply; 14] = [
     Reply::Count(1),
 ];
 
+/// On heaps with more and more room each request that wants more than those before it is once the first
+/// that is refused.
 #[test]
 fn a_run_answers_or_is_out_of_memory(rt: HostRuntime) -> Result<(), Fail> {
     let mut answered = false;

@@ -2,6 +2,9 @@
 use std::io;
 use std::io::{ErrorKind, Read, Write};
 
+/// The number of a call that no test makes.
+pub const NEVER: u64 = u64::MAX;
+
 /// Gives three bytes at a time, and fails at the read of this number.
 #[derive(Drop)]
 pub struct FakeReader<'a> {

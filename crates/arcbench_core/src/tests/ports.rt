@@ -1,14 +1,12 @@
 //! Ports: the bytes of the reader and the writer in them, and a flag that stays.
-use super::fakes::{FakeReader, FakeWriter};
-use super::texts::{FIRST_ANSWER, FIRST_SCRIPT};
+use super::fakes::{FakeReader, FakeWriter, NEVER};
 use crate::port::Port;
-use crate::script::{CopyFault, copy};
 use std::io::ErrorKind;
 use std::test::Fail;
 
 #[test]
 fn reads_what_its_reader_gives(rt: HostRuntime) -> Result<(), Fail> {
-    let mut port = Port::new(FakeReader::new(b"abcd", u64::MAX));
+    let mut port = Port::new(FakeReader::new(b"abcd", NEVER));
     let mut buf = [0; 8];
     assert_eq!(rt; port.read(&mut buf)?, 3);
     assert_eq!(rt; port.read(&mut buf[3..])?, 1);
@@ -19,7 +17,7 @@ fn reads_what_its_reader_gives(rt: HostRuntime) -> Result<(), Fail> {
 
 #[test]
 fn writes_what_its_writer_takes(rt: HostRuntime) -> Result<(), Fail> {
-    let mut writer = FakeWriter::new(Vec::new(rt.alloc()), u64::MAX);
+    let mut writer = FakeWriter::new(Vec::new(rt.alloc()), NEVER);
     let mut port = Port::new(&mut writer);
     port.write_all(b"abcde")?;
     assert!(rt; !port.failed());
@@ -41,27 +39,5 @@ fn remembers_a_fault_after_calls_that_work(rt: HostRuntime) -> Result<(), Fail> 
     assert_eq!(rt; fault, Err(ErrorKind::StorageFull));
     port.write_all(b"ab")?;
     assert!(rt; port.failed());
-    Ok(())
-}
-
-#[test]
-fn copies_the_answer_to_a_script(rt: HostRuntime) -> Result<(), Fail> {
-    let mut writer = FakeWriter::new(Vec::new(rt.alloc()), u64::MAX);
-    let mut input = Port::new(FakeReader::new(FIRST_SCRIPT.as_bytes(), u64::MAX));
-    let mut output = Port::new(&mut writer);
-    copy(rt.alloc(), &mut input, &mut output)?;
-    assert_eq!(rt; writer.taken.as_slice(), FIRST_ANSWER.as_bytes());
-    Ok(())
-}
-
-#[test]
-fn prints_each_fault(rt: HostRuntime) -> Result<(), Fail> {
-    let faults = [CopyFault::LimitTooLarge, CopyFault::Memory, CopyFault::Io];
-    let texts = ["1 limit too large", "2 out of memory", "3 io"];
-    for (fault, text) in faults.into_iter().zip(texts) {
-        let number = fault.number();
-        let printed = format!(in rt.alloc(); "{number} {fault}")?;
-        assert_eq!(rt; printed.as_str(), text);
-    }
     Ok(())
 }

@@ -1,5 +1,5 @@
 //! The program's statuses, what it prints, and a fault at each read and each write.
-use super::fakes::{FakeReader, FakeWriter};
+use super::fakes::{FakeReader, FakeWriter, NEVER};
 use super::texts::{FIRST_ANSWER, FIRST_SCRIPT, IO, NO_MEMORY, TOO_LARGE, USAGE};
 use crate::port::Port;
 use crate::program::{serve, serve_without_words};
@@ -10,8 +10,6 @@ use std::process::Abort;
 use std::sync::Wait;
 use std::test::Fail;
 use std::thread::Threads;
-
-const NEVER: u64 = u64::MAX;
 
 /// What the program did.
 #[derive(Drop)]
