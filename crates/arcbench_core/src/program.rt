@@ -1,17 +1,18 @@
 //! The program over its words, a reader and two writers.
-ghost use Rattle.std.specs.Prelude.{◌≡◌, ◌≢◌, ◌≤◌, ◌↔◌, ◌⊎◌, false, IsTrue, IsSome, IfSome, IfErr, OnOk, None, Some, Err};
+ghost use Rattle.std.specs.Prelude.{◌≡◌, ◌≢◌, ◌≤◌, ◌↔◌, ◌⊎◌, false, IsTrue, IsSome, IfSome, IfOk, IfErr, OnOk, None, Some, Err, vec_len};
 ghost use Rattle.std.specs.Io.KnownBytes.{IsAtEnd, Appends};
 ghost use Rattle.std.specs.IoError.{error_kind};
 ghost use Rattle.arcstr_count.specs.declared.faults.RunFault.TheVariants.{LimitTooLarge};
 ghost use Rattle.arcbench_core.specs.Script.{answer_to};
-ghost use Rattle.arcbench_core.specs.Threads.{threads_answer};
+ghost use Rattle.arcbench_core.specs.Threads.{ReadSharedText, threads_answer};
 ghost use Rattle.arcbench_core.specs.Program.{command_in, worker_count, status_of, HasLawfulCount, IsForScript, IsForThreads, IsFaultOfThreads, IsDone};
 
 use crate::pool::PoolFault;
 use crate::port::Port;
 use crate::script::{CopyFault, copy, number_of};
 use crate::threads;
-use std::alloc::Allocator;
+use arcstr::ArcStr;
+use std::alloc::{Allocator, Global};
 use std::io;
 use std::io::{ErrorKind, Read, Write};
 use std::sync::Wait;
@@ -81,23 +82,32 @@ where
     let done = match command_of(words) {
         None => Err(Fault::Usage),
         Some(Command::Script) => copy(alloc, input, output).map_err(Fault::Copy),
-        Some(Command::Threads(workers)) => tell_threads(rt, workers, output),
+        Some(Command::Threads(workers)) => {
+            let handles = threads::start(rt, rt.alloc(), workers);
+            tell_threads(rt.alloc(), handles, output)
+        }
     };
     status_after(errors, done)
 }
 
-/// Starts the callers, and writes the lines of their texts once they are all there.
-fn tell_threads<H, W: Write>(rt: &H, workers: usize, output: &mut Port<W>) -> Result<(), Fault>
-where
-    H: Threads + Wait + Sync + AllocGlobal,
-    requires count { (1 ≤ workers) × (workers ≤ 64) }
+/// Writes the lines of callers once they are all there. Where there are no callers, the fault of the pool
+/// is handed on.
+pub(crate) fn tell_threads<W: Write>(
+    alloc: Global,
+    handles: Result<Vec<ArcStr>, PoolFault>,
+    output: &mut Port<W>,
+) -> Result<(), Fault>
+    requires shared_text { IfOk handles (λ all. ReadSharedText all.items) }
     requires sound { output.old.failed ≡ false }
-    ensures done { OnOk result (Appends (W.contents output.old.value) (W.contents output.new.value) (threads_answer workers)) }
+    ensures done { IfOk handles (λ all. OnOk result (Appends (W.contents output.old.value)
+        (W.contents output.new.value) (threads_answer (vec_len all)))) }
+    ensures fault_of_the_pool { IfErr handles (λ fault. result ≡ Err (Fault.Pool fault)) }
+    ensures memory { OnOk handles (result ≢ Err (Fault.Pool PoolFault.NoThread)) }
     ensures fault { IfErr result IsFaultOfThreads }
     ensures io { (result ≡ Err (Fault.Copy CopyFault.Io)) ↔ IsTrue output.new.failed }
     ensures unwritten { IfErr result (λ fault. fault ≢ Fault.Copy CopyFault.Io → output.new ≡ output.old) }
 {
-    let lines = match threads::answer(rt, rt.alloc(), workers) {
+    let lines = match threads::answer(alloc, handles) {
         Ok(lines) => lines,
         Err(fault) => return Err(Fault::Pool(fault)),
     };
@@ -121,7 +131,7 @@ pub fn serve_without_words<E: Write>(errors: &mut E, error: &io::Error) -> u8
 }
 
 /// The status 0 where all is done, else that of the fault, whose line is printed.
-fn status_after<E: Write>(errors: &mut E, done: Result<(), Fault>) -> u8
+pub(crate) fn status_after<E: Write>(errors: &mut E, done: Result<(), Fault>) -> u8
     ensures ok { OnOk done (result ≡ 0) }
     ensures silent { OnOk done (errors.new ≡ errors.old) }
     ensures fault { IfErr done (λ fault. result ≡ status_of fault) }
@@ -133,7 +143,7 @@ fn status_after<E: Write>(errors: &mut E, done: Result<(), Fault>) -> u8
 }
 
 /// Prints the line of a fault, and answers its status.
-pub(crate) fn report<E: Write>(errors: &mut E, fault: &Fault) -> u8
+fn report<E: Write>(errors: &mut E, fault: &Fault) -> u8
     ensures { result ≡ status_of fault.now }
 {
     let _ = writeln!(errors, "{fault}");

@@ -73,16 +73,16 @@ fn a_refused_call_leaves_one_handle(rt: HostRuntime) {
     assert_eq!(rt; ArcStr::strong_count(&text), Some(1));
 }
 
-/// Counts how often each of two workers passes.
+/// Counts how often a worker of each number passes.
 #[derive(Drop)]
 struct Counted {
-    passes: [AtomicU64; 2],
+    passes: Vec<AtomicU64>,
 }
 
 impl Gate for Counted {
     fn pass(&self, worker: usize) {
-        if worker < 2 {
-            self.passes[worker].fetch_add(1, Ordering::SeqCst);
+        if let Some(passes) = self.passes.get(worker) {
+            passes.fetch_add(1, Ordering::SeqCst);
         }
     }
 }
@@ -90,12 +90,18 @@ impl Gate for Counted {
 #[test]
 fn each_worker_passes_once_with_its_number(rt: HostRuntime) -> Result<(), Fail> {
     let text = ArcStr::from_str(rt.alloc(), "foobar")?;
-    let gate = Counted {
-        passes: [AtomicU64::new(0), AtomicU64::new(0)],
-    };
-    let handles = callers(&rt, rt.alloc(), &text, 2, &gate)?;
-    assert_eq!(rt; handles.len(), 2);
-    assert_eq!(rt; gate.passes[0].load(Ordering::SeqCst), 1);
-    assert_eq!(rt; gate.passes[1].load(Ordering::SeqCst), 1);
+    for workers in [1, 2, 64] {
+        let mut passes = Vec::new(rt.alloc());
+        for _ in 0..workers {
+            passes.push(AtomicU64::new(0))?;
+        }
+        let gate = Counted { passes };
+        let handles = callers(&rt, rt.alloc(), &text, workers, &gate)?;
+        assert_eq!(rt; handles.len(), workers);
+        for (passes, handle) in gate.passes.iter().zip(&handles) {
+            assert_eq!(rt; passes.load(Ordering::SeqCst), 1);
+            assert_eq!(rt; handle.as_str(), "foobar");
+        }
+    }
     Ok(())
 }

@@ -1,9 +1,10 @@
 //! The words for callers in threads.
-use super::fakes::FakeWriter;
+use super::fakes::{FakeWriter, NEVER};
 use super::statuses::{NO_FAULT, expect, run_program};
 use super::texts::{NO_MEMORY, NO_THREAD, USAGE};
 use crate::pool::PoolFault;
-use crate::program::{Fault, report};
+use crate::port::Port;
+use crate::program::{status_after, tell_threads};
 use std::test::Fail;
 
 #[test]
@@ -16,9 +17,13 @@ fn two_workers_print_their_texts(rt: HostRuntime) -> Result<(), Fail> {
 
 #[test]
 fn sixty_four_workers_are_the_most(rt: HostRuntime) -> Result<(), Fail> {
+    let mut lines = String::new(rt.alloc());
+    for worker in 0..64 {
+        write!(lines, "worker {worker} foobar\n")?;
+    }
+    lines.push_str("done 64\n")?;
     let found = run_program(&rt, &["threads", "64"], "", NO_FAULT)?;
-    assert_eq!(rt; found.status, 0);
-    assert!(rt; found.output.ends_with(b"worker 63 foobar\ndone 64\n"));
+    expect(&rt, &found, 0, lines.as_str(), "");
     Ok(())
 }
 
@@ -45,7 +50,8 @@ fn a_fault_of_writing_ends_the_callers_too(rt: HostRuntime) -> Result<(), Fail> 
     Ok(())
 }
 
-/// A test cannot take the machine's memory or threads away, so what the program says of their want is asked for itself.
+/// A test cannot take the machine's memory or threads away, so what the program does with a fault of the
+/// pool is asked for itself.
 #[test]
 fn faults_of_the_pool_have_their_lines(rt: HostRuntime) -> Result<(), Fail> {
     let faults = [
@@ -53,9 +59,12 @@ fn faults_of_the_pool_have_their_lines(rt: HostRuntime) -> Result<(), Fail> {
         (PoolFault::NoThread, 5, NO_THREAD),
     ];
     for (fault, status, line) in faults {
-        let mut errors = FakeWriter::new(Vec::new(rt.alloc()), u64::MAX);
-        assert_eq!(rt; report(&mut errors, &Fault::Pool(fault)), status);
+        let mut errors = FakeWriter::new(Vec::new(rt.alloc()), NEVER);
+        let mut writer = FakeWriter::new(Vec::new(rt.alloc()), NEVER);
+        let done = tell_threads(rt.alloc(), Err(fault), &mut Port::new(&mut writer));
+        assert_eq!(rt; status_after(&mut errors, done), status);
         assert_eq!(rt; errors.taken.as_slice(), line.as_bytes());
+        assert_eq!(rt; writer.taken.len(), 0);
     }
     Ok(())
 }
