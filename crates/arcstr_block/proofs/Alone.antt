@@ -20,8 +20,9 @@ use Rattle.arcstr_count.specs.declared.steps.HandleState.TheVariants.{Free, Drop
 use Rattle.arcstr_count.specs.History.{lives}
 use Rattle.arcstr_count.specs.OneBlock.{Keeps}
 use Rattle.arcstr_count.proofs.Seats.{seats-counted}
+use Rattle.arcstr_block.specs.Word.{word_of}
 use Rattle.arcstr_block.specs.Rights.{HasSeat}
-use Rattle.arcstr_block.specs.Book.{word_of, steps, state_code, seat, Book}
+use Rattle.arcstr_block.specs.Book.{steps, state_code, seat, Book}
 use Rattle.arcstr_block.specs.Ledger.{Id, right_to}
 use Rattle.arcstr_block.proofs.Rights.{has_seat}
 use Rattle.arcstr_block.proofs.Seats.{agrees}

@@ -11,7 +11,8 @@ use types.Kit.{‵, ◌⊛◌, some, later, ◌$◌, ◌∵◌, !, qed, move, gr
 use types.Tokens.{lft_new, bor_new}
 use denote.Struct.Lending.{Lends}
 use Rattle.core.specs.Sync.RawAtomic.{word}
-use Rattle.arcstr_block.specs.Rights.{IsLimit, uncounted}
+use Rattle.arcstr_block.specs.Word.{IsLimit}
+use Rattle.arcstr_block.specs.Rights.{uncounted}
 use Rattle.arcstr_block.specs.Book.{Book, reached, seat}
 use Rattle.arcstr_block.specs.Ledger.{Id, parts, unmarked, Ledger, counting, if_alive, Inv, knows, free, held_with}
 use Rattle.arcstr_count.specs.declared.steps.Step.TheVariants.{Make}

@@ -22,7 +22,8 @@ use Rattle.arcstr_count.specs.declared.steps.Reply.TheVariants.{Ended, Looked, O
 use Rattle.arcstr_count.specs.Word.{FlagAndCount, looked_of, cloned_of, is_last}
 use Rattle.arcstr_count.specs.OneBlock.{Keeps, EndsIn, look_reply}
 use Rattle.arcstr_count.proofs.OneBlock.{Prolongs, keeps-make, keeps-look, keeps-begin, keeps-clone, keeps-leak, keeps-sub, keeps-back}
-use Rattle.arcstr_block.specs.Book.{word_of, steps, state_code, reached, seat, seat_share, book, Book, Ends, ends_in}
+use Rattle.arcstr_block.specs.Word.{word_of}
+use Rattle.arcstr_block.specs.Book.{steps, state_code, reached, seat, seat_share, book, Book, Ends, ends_in}
 use Rattle.arcstr_block.proofs.Words.{word_marked, word_dropped}
 use Rattle.arcstr_block.proofs.Seats.{agrees, moves, adds}
 

@@ -13,7 +13,7 @@ use types.Kit.{‵, raw, ◌⊛◌, ◌$◌, ◌∵◌, !, qed, by, move, keep, 
 use denote.RawPtr.{block_ptr}
 use denote.Steps.{nothing}
 use Rattle.core.specs.Sync.RawAtomic.{asks, always}
-use Rattle.arcstr_block.specs.Rights.{IsMarked, IsUnmarked, IsWord, IsClone}
+use Rattle.arcstr_block.specs.Word.{IsMarked, IsUnmarked, IsWord, IsClone}
 use Rattle.arcstr_block.specs.Ledger.{parts, some_share, Id, Phase, unmarked, marked, Fits, rest, Inv, stated}
 use Rattle.arcstr_block.specs.Book.{Book}
 use Rattle.arcstr_block.proofs.Words.{or_unmarked, or_marked}

@@ -5,8 +5,7 @@ use Rattle.arcstr_count.specs.declared.steps.Step.TheVariants.{Look}
 use Rattle.arcstr_count.specs.declared.steps.Reply.TheVariants.{Count}
 use Rattle.arcstr_count.specs.Word.{looked_of}
 use Rattle.arcstr_count.specs.OneBlock.{EndsIn, look_reply}
-use Rattle.arcstr_block.specs.Rights.{IsMarked, IsUnmarked}
-use Rattle.arcstr_block.specs.Book.{word_of}
+use Rattle.arcstr_block.specs.Word.{IsMarked, IsUnmarked, word_of}
 use Rattle.arcstr_block.proofs.Words.{odd_or_even, unmarked_word}
 
 pub counted_look : (L L' n h h' : ℕ) (r r' : List Step) → EndsIn L r (Look h) (look_reply (looked_of (word_of n))) → L ≡ L' → r' ≡ r → h' ≡ h → (IsMarked n → ⊥) → (x : ℕ) × EndsIn L' r' (Look h') (Count x)

@@ -12,8 +12,7 @@ use Rattle.arcstr_count.specs.Past.{past_of}
 use Rattle.arcstr_count.specs.OneBlock.{IsOneBlock, EndsIn, look_reply}
 use Rattle.arcstr_count.proofs.Pasts.{past_of-step, IsPast-past_of}
 use Rattle.arcstr_count.proofs.LawsOfHandles.{block_made, Look-finds, Leak-finds}
-use Rattle.arcstr_block.specs.Rights.{IsMarked}
-use Rattle.arcstr_block.specs.Book.{word_of}
+use Rattle.arcstr_block.specs.Word.{IsMarked, word_of}
 use Rattle.arcstr_block.specs.Handle.{IsMarkedIn}
 use Rattle.arcstr_block.proofs.Words.{marked_word}
 

@@ -15,7 +15,8 @@ use denote.Steps.{nothing}
 use Rattle.arcstr_count.specs.declared.steps.HandleState.{HandleState}
 use Rattle.arcstr_count.specs.declared.steps.HandleState.TheVariants.{Free, Dropping, Owing, Gone}
 use Rattle.arcstr_count.specs.Word.{FlagAndCount}
-use Rattle.arcstr_block.specs.Rights.{MaySee, IsFree, HasSeat, IsMarked, IsUnmarked, counted, uncounted, Looks, Finds, Gains, Begins, Leaves}
+use Rattle.arcstr_block.specs.Word.{IsMarked, IsUnmarked}
+use Rattle.arcstr_block.specs.Rights.{MaySee, IsFree, HasSeat, counted, uncounted, Looks, Finds, Gains, Begins, Leaves}
 use Rattle.arcstr_block.specs.Book.{seat, seat_share}
 use Rattle.arcstr_block.specs.Ledger.{Id, parts, some_share, Inv, stated, for_good, right_to, shown, knows}
 use Rattle.arcstr_block.proofs.Parts.{parts_in}

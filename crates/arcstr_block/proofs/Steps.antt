@@ -13,7 +13,8 @@ use types.Kit.{‵, raw, ◌⊛◌, given, ◌$◌, ◌∵◌, !, qed, by, move,
 use denote.RawPtr.{block_ptr}
 use denote.Steps.{nothing}
 use Rattle.core.specs.Sync.RawAtomic.{asks, always, word}
-use Rattle.arcstr_block.specs.Rights.{IsMarked, IsUnmarked, IsWord, uncounted}
+use Rattle.arcstr_block.specs.Word.{IsMarked, IsUnmarked, IsWord}
+use Rattle.arcstr_block.specs.Rights.{uncounted}
 use Rattle.arcstr_block.specs.Book.{Book}
 use Rattle.arcstr_block.specs.Ledger.{fact, parts, some_share, Id, Phase, unmarked, marked, Fits, rest, counting, if_alive, Inv, knows, stated}
 use Rattle.arcstr_block.proofs.Ledger.{phase_in, not_alive, marks, marked_in, finds_mark}

@@ -8,8 +8,7 @@ use Rattle.std.specs.Prelude.{◌⊎◌}
 use mathlib.Core.Logic.{dite}
 use native.Mathlib.Decide.{ℕ_discrete, dec_le}
 use Rattle.arcstr_count.specs.Word.{marked_of, cloned_of, dropped_of, is_last}
-use Rattle.arcstr_block.specs.Rights.{IsMarked, IsUnmarked, IsClone}
-use Rattle.arcstr_block.specs.Book.{word_of}
+use Rattle.arcstr_block.specs.Word.{IsMarked, IsUnmarked, IsClone, word_of}
 
 or_one : (k r : ℕ) → r < 2 → bit_or r 1 ≡ 1 → bit_or (k * 2 + r) 1 ≡ k * 2 + 1
 or_one k r small one = or_block 1 k 0 r 1 small (lit< tt) ∙ ap (λ x. x * 2 + bit_or r 1) (or_zero_r k) ∙ ap (λ x. k * 2 + x) one

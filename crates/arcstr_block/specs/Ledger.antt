@@ -2,9 +2,9 @@
 --     a      the lifetime for which the content is shared. Each counted handle has one part in 2 ^ 63 of its token.
 --     c      the lifetime that ends with the mark: its token is beside an unmarked word, and that it has ended is a fact for good.
 --     γ, δ   the names of the block's history and of the seats of its handles, which lie beside the word.
--- An unmarked word 2k has k parts out, one for each counted handle. A marked word has m parts out, and keeps one part for good, of which each who finds the mark has a share.
+-- An unmarked word that counts k has k parts out, one for each counted handle. A marked word has m parts out, and keeps one part for good, of which each who finds the mark has a share.
 -- At the mark m is k, and it is one fewer after each later subtraction, of a drop that looked before the mark. A handle whose drop finds the mark lets its part go, and m stays.
-use Rattle.std.specs.Prelude.{◌≡◌, ℕ, zero, suc, ◌+◌, ◌-◌, ◌*◌, ◌/◌, ◌^◌, ◌<◌, ◌≤◌, Bool, true, false, List, [], ◌∷◌}
+use Rattle.std.specs.Prelude.{◌≡◌, ℕ, zero, suc, ◌+◌, ◌-◌, ◌^◌, ◌<◌, ◌≤◌, Bool, true, false, List, [], ◌∷◌}
 use base.Fraction.{full_share}
 use base.FractionLaws.{Counts}
 use base.Fml.{Lft, GName, Share, Fml, ftrue, fsep, fex, fall, flft, fdead, flent, fshr_bor, finv}
@@ -14,7 +14,8 @@ use denote.Sharing.{said, beside, some, one, held, always, nothing}
 use Rattle.core.specs.Sync.RawAtomic.{word}
 use Rattle.arcstr_count.specs.declared.steps.Step.{Step}
 use Rattle.arcstr_count.specs.declared.steps.HandleState.TheVariants.{Free, Dropping, Owing}
-use Rattle.arcstr_block.specs.Rights.{IsLimit, IsMarked, counted, uncounted}
+use Rattle.arcstr_block.specs.Word.{IsLimit, IsMarked, counting_word, count_in}
+use Rattle.arcstr_block.specs.Rights.{counted, uncounted}
 use Rattle.arcstr_block.specs.Book.{Book, reached, seat, seat_share}
 use Rattle.arcstr_block.specs.Memory.{block_owns, block_shares, placed, IsText}
 
@@ -54,8 +55,8 @@ pub data Phase : Type 0 where
 -- P is what the block owns, L its limit, and b and o where its word lies.
 module _ (P : Fml) (L b o : ℕ) (t : Id) where
   abbrev pub Fits : ℕ → Phase → Type 0
-  Fits n (unmarked k) = (n ≡ 2 * k) × (0 < k) × (k ≤ L + 1) × IsLimit L
-  Fits n (marked m) = IsMarked n × (m ≤ n / 2) × (n / 2 ≤ L + 1) × IsLimit L
+  Fits n (unmarked k) = (n ≡ counting_word k) × (0 < k) × (k ≤ L + 1) × IsLimit L
+  Fits n (marked m) = IsMarked n × (m ≤ count_in n) × (count_in n ≤ L + 1) × IsLimit L
 
   abbrev pub rest : Phase → Fml
   rest (unmarked k) = fsep (parts t.0 (2 ^ 63 - k)) (fsep (flft (t.1 ∷ []) full_share) (flent (t.0 ∷ []) P))
@@ -103,7 +104,7 @@ module _ (P : Fml) (L b o : ℕ) (t : Id) where
     right_to (suc (suc zero)) = free 2
     right_to (suc (suc (suc zero))) = fsep for_good (s (t.0 ∷ []))
     right_to (suc (suc (suc (suc zero)))) = fsep (parts t.0 1) (fsep (s (t.0 ∷ [])) (seat t.3 h Dropping))
-    right_to (suc (suc (suc (suc (suc _))))) = fsep (stated 0) (fsep P (seat t.3 h Owing))
+    right_to (suc (suc (suc (suc (suc _))))) = fsep (stated (counting_word 0)) (fsep P (seat t.3 h Owing))
 
     abbrev pub held_with : ℕ → Fml
     held_with right = fsep (finv Inv) (right_to right)

@@ -1,5 +1,6 @@
 -- The right that a pointer to a block has, and what each step on the word gains.
-use Rattle.std.specs.Prelude.{◌≡◌, ◌≢◌, ℕ, ◌+◌, ◌/◌, ◌%◌, ◌<◌, ◌≤◌}
+use Rattle.std.specs.Prelude.{◌≡◌, ◌≢◌, ℕ, ◌<◌}
+use Rattle.arcstr_block.specs.Word.{IsMarked, IsUnmarked, IsLast}
 
 -- no right but to know the block
 abbrev pub nothing : ℕ
@@ -41,20 +42,6 @@ HasSeat right = (right ≢ nothing) × (right ≢ fixed)
 abbrev pub IsIdle : ℕ → Type 0
 IsIdle right = (right ≢ counted) × (right ≢ uncounted) × (right ≢ dropping) × (right ≢ owed)
 
-abbrev pub IsMarked : ℕ → Type 0
-IsMarked word = word % 2 ≡ 1
-
-abbrev pub IsUnmarked : ℕ → Type 0
-IsUnmarked word = word % 2 ≡ 0
-
--- a limit on a count is below 2 ^ 62: it is at most `RC_MAX`
-abbrev pub IsLimit : ℕ → Type 0
-IsLimit limit = limit < 4611686018427387904
-
--- an unmarked word counts from 1 to the limit and one more
-abbrev pub IsWord : ℕ → ℕ → Type 0
-IsWord limit word = IsUnmarked word → (0 < word / 2) × (word / 2 ≤ limit + 1)
-
 -- a look that found the word: whoever finds the mark has the block as a fixed one
 abbrev pub Looks : ℕ → ℕ → Type 0
 Looks word gained = (IsMarked word → gained ≡ fixed) × (IsUnmarked word → gained ≡ nothing)
@@ -62,10 +49,6 @@ Looks word gained = (IsMarked word → gained ≡ fixed) × (IsUnmarked word →
 -- the load of a clone that found the word: where it is marked the clone is had
 abbrev pub Finds : ℕ → ℕ → Type 0
 Finds word gained = (IsMarked word → gained ≡ uncounted) × (IsUnmarked word → gained ≡ nothing)
-
--- a clone of the unmarked word old: the mark above the limit, else one more
-abbrev pub IsClone : ℕ → ℕ → ℕ → Type 0
-IsClone limit old new = IsUnmarked old × (limit < old / 2 → new ≡ old + 1) × (old / 2 ≤ limit → new ≡ old + 2)
 
 -- a compare-exchange of old to its clone new, which found the word
 abbrev pub Gains : ℕ → ℕ → ℕ → ℕ → Type 0
@@ -76,6 +59,6 @@ Gains old new word gained = (IsMarked word → gained ≡ uncounted) × (IsUnmar
 abbrev pub Begins : ℕ → ℕ → Type 0
 Begins word gained = (IsMarked word → gained ≡ nothing) × (IsUnmarked word → gained ≡ dropping)
 
--- a subtraction owes the memory exactly where it found 2
+-- a subtraction owes the memory exactly where it was the last one
 abbrev pub Leaves : ℕ → ℕ → Type 0
-Leaves word gained = (word ≡ 2 → gained ≡ owed) × (word ≢ 2 → gained ≡ nothing)
+Leaves word gained = (IsLast word → gained ≡ owed) × ((¬ IsLast word) → gained ≡ nothing)

@@ -6,8 +6,7 @@ use Rattle.arcstr_count.specs.declared.steps.Reply.{Reply}
 use Rattle.arcstr_count.specs.declared.steps.Reply.TheVariants.{Ended, Looked as LookedReply, Owes, Left, Marked}
 use Rattle.arcstr_count.specs.Word.{looked_of}
 use Rattle.arcstr_count.specs.OneBlock.{EndsIn, look_reply}
-use Rattle.arcstr_block.specs.Rights.{IsMarked, IsUnmarked}
-use Rattle.arcstr_block.specs.Book.{word_of}
+use Rattle.arcstr_block.specs.Word.{word_of, IsMarked, IsUnmarked, IsLast}
 use Rattle.arcstr_block.specs.declared.pointer.Pointer.{Pointer}
 
 module _ {A : Type 0} where
@@ -33,4 +32,4 @@ module _ {A : Type 0} where
 
   -- the subtraction of p's drop
   abbrev pub SubtractedAs : Pointer A → ℕ → Pointer A → Type 0
-  SubtractedAs p word q = (q.seat ≡ p.seat) × (word ≡ 2 → SawStep p q (Sub p.seat) Owes) × ((word ≡ 2 → ⊥) → SawStep p q (Sub p.seat) Left)
+  SubtractedAs p word q = (q.seat ≡ p.seat) × (IsLast word → SawStep p q (Sub p.seat) Owes) × ((¬ IsLast word) → SawStep p q (Sub p.seat) Left)

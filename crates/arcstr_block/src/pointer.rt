@@ -1,5 +1,5 @@
-//! The pointer to a block. Every atomic step is here, and every pointer through which a block is read or stepped on;
-//! `loose.rt` takes the box apart. The word is `2 * count`, or `2 * count + 1` once the block is marked.
+//! The pointer to a block. Every atomic step is here, and every pointer through which a block is read or stepped on.
+//! What a number of the word says is in `word.rt`.
 //!
 //! A `Pointer` is one address when it runs. Its right, seat and history are ghost, and are moved by the proof of each
 //! function (`proofs/pointer/Pointer/NAME/Proof.antt`), so a body shows the machine's step alone. `make` begins the
@@ -9,12 +9,14 @@ ghost use Rattle.std.specs.Coded.{coded_list};
 ghost use Rattle.arcstr_count.specs.declared.steps.Step.{Step};
 ghost use Rattle.arcstr_count.specs.contracts.steps.Step.{the_row as step_row};
 ghost use Rattle.arcstr_count.specs.Word.{bits_of, fresh_word};
-ghost use Rattle.arcstr_block.specs.Rights.{nothing, counted, fixed, dropping, owed, IsFree, HasSeat, MaySee, IsIdle, IsLimit, IsWord, Looks, Finds, IsClone, Gains, Begins, Leaves};
+ghost use Rattle.arcstr_block.specs.Word.{IsLimit, IsWord, IsClone};
+ghost use Rattle.arcstr_block.specs.Rights.{nothing, counted, fixed, dropping, owed, IsFree, HasSeat, MaySee, IsIdle, Looks, Finds, Gains, Begins, Leaves};
 ghost use Rattle.arcstr_block.specs.Memory.{Fits};
 ghost use Rattle.arcstr_block.specs.Ledger.{pointer_owns, pointer_shares};
 
 use crate::block::{Block, Sole};
 use crate::seen::Seen;
+use crate::word::{MARK, ONE};
 use atomic_table::exchange;
 use std::alloc::Allocator;
 use std::marker::{Brand, Model, PhantomData};
@@ -151,7 +153,7 @@ impl<A: Allocator> Pointer<A> {
         ensures same { IsSameBlock result self.now }
     {
         let at = self.at;
-        unsafe { raw::fetch_or::<Brand>(&raw const (*at).word, 1, SeqCst) };
+        unsafe { raw::fetch_or::<Brand>(&raw const (*at).word, MARK, SeqCst) };
         Pointer {
             at,
             marker: PhantomData,
@@ -178,7 +180,7 @@ impl<A: Allocator> Pointer<A> {
         ensures same { IsSameBlock result.1 self }
     {
         let Pointer { at, marker } = self;
-        let found = unsafe { raw::fetch_sub::<Brand>(&raw const (*at).word, 2, SeqCst) };
+        let found = unsafe { raw::fetch_sub::<Brand>(&raw const (*at).word, ONE, SeqCst) };
         (found, Pointer { at, marker })
     }
 

@@ -1,7 +1,8 @@
 //! One handle on a block.
 ghost use Rattle.std.specs.Prelude.{◌≡◌, ◌≢◌, ◌↔◌, ℕ, length, IsUtf8, ◌<◌, ◌≤◌, ◌+◌, MatchResult, MatchOption, IfSome};
 ghost use Rattle.arcstr_count.specs.Word.{bits_of, fresh_word};
-ghost use Rattle.arcstr_block.specs.Rights.{owed, IsFree, HasSeat, IsLimit, IsUnmarked, IsWord};
+ghost use Rattle.arcstr_block.specs.Word.{IsLimit, IsUnmarked, IsWord};
+ghost use Rattle.arcstr_block.specs.Rights.{owed, IsFree, HasSeat};
 ghost use Rattle.arcstr_block.specs.Handle.{Handle, SawCount, SawMark, SawLeak, kept_of};
 
 use crate::block::Sole;
@@ -9,7 +10,7 @@ use crate::fixed::Fixed;
 use crate::owed::{Down, Owed};
 use crate::pointer::Pointer;
 use crate::seen::Seen;
-use crate::word::{looked, marked, next};
+use crate::word::{is_last, looked, marked, next};
 use arcstr_count::RC_MAX;
 use std::alloc::Allocator;
 use std::marker::Model;
@@ -182,8 +183,7 @@ impl<const LIMIT: u64, A: Allocator + Copy> Shared<LIMIT, A> {
         }
         let (found, pointer) = pointer.leave();
         let seen = pointer.seen();
-        // 2 is the unmarked word with count 1: this handle was the last one counted.
-        if found == 2 {
+        if is_last(found) {
             return (Down::Owes(Owed { pointer, alloc }), seen);
         }
         pointer.forget();

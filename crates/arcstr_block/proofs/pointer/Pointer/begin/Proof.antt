@@ -25,7 +25,8 @@ use denote.Triple.Walked.{Stays, stay_dropped, walk_of, Goes-dropped}
 use Rattle.core.proofs.atomic.Steps.{tail}
 use Rattle.atomic_table.proofs.Walks.{proved, leaves}
 use Rattle.atomic_table.proofs.Calls.{fm, seq_cst, found, finds, loads}
-use Rattle.arcstr_block.specs.Rights.{IsFree, IsMarked, IsUnmarked, Begins}
+use Rattle.arcstr_block.specs.Word.{IsMarked, IsUnmarked}
+use Rattle.arcstr_block.specs.Rights.{IsFree, Begins}
 use Rattle.arcstr_block.specs.Memory.{IsText, block_owns, block_shares}
 use Rattle.arcstr_block.specs.Ledger.{Id, names, Inv, right_to, of_block, free}
 use Rattle.arcstr_block.proofs.Memory.{shares_laws}

@@ -31,7 +31,8 @@ use Rattle.core.proofs.atomic.Steps.{tail}
 use Rattle.core.specs.contracts.marker.PhantomData as Marker
 use Rattle.atomic_table.proofs.Walks.{proved, leaves}
 use Rattle.atomic_table.proofs.Calls.{fm, seq_cst, found, finds, loads}
-use Rattle.arcstr_block.specs.Rights.{IsFree, IsWord, IsMarked, Finds}
+use Rattle.arcstr_block.specs.Word.{IsWord, IsMarked}
+use Rattle.arcstr_block.specs.Rights.{IsFree, Finds}
 use Rattle.arcstr_block.specs.Memory.{IsText, block_owns, block_shares}
 use Rattle.arcstr_block.specs.Ledger.{Id, Inv, knows, right_to, of_block, pointer_shares}
 use Rattle.arcstr_block.proofs.Memory.{shares_laws}

@@ -31,7 +31,8 @@ use Rattle.core.proofs.atomic.Steps.{tail}
 use Rattle.core.specs.contracts.marker.PhantomData as Marker
 use Rattle.atomic_table.proofs.Walks.{proved, leaves}
 use Rattle.atomic_table.proofs.Calls.{fm, seq_cst, found, finds, loads}
-use Rattle.arcstr_block.specs.Rights.{IsFree, IsWord, Looks}
+use Rattle.arcstr_block.specs.Word.{IsWord, word_of}
+use Rattle.arcstr_block.specs.Rights.{IsFree, Looks}
 use Rattle.arcstr_block.specs.Memory.{IsText, block_owns, block_shares}
 use Rattle.arcstr_block.specs.Ledger.{Id, names, Inv, knows, right_to, of_block, pointer_shares}
 use Rattle.arcstr_block.proofs.Memory.{shares_laws}
@@ -40,7 +41,7 @@ use Rattle.arcstr_block.proofs.Fields.{pointer_val, typed, found_val, found_type
 use base.Share
 use Rattle.arcstr_count.specs.declared.steps.HandleState.TheVariants.{Free}
 use Rattle.arcstr_count.specs.OneBlock.{EndsIn, look_reply}
-use Rattle.arcstr_block.specs.Book.{seat_share, Ends, word_of}
+use Rattle.arcstr_block.specs.Book.{seat_share, Ends}
 use Rattle.arcstr_block.proofs.Seats.{seat_halves}
 use Rattle.arcstr_count.specs.declared.steps.Step.TheVariants.{Look}
 use Rattle.arcstr_count.specs.Word.{looked_of}

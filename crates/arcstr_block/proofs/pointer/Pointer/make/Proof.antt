@@ -23,7 +23,8 @@ use Rattle.core.specs.Sync.RawAtomic.{word}
 use Rattle.atomic_table.proofs.Walks.{proved, leaves}
 use Rattle.arcstr_count.specs.Word.{bits_of, fresh_word}
 use Rattle.arcstr_count.specs.declared.steps.Step.TheVariants.{Make}
-use Rattle.arcstr_block.specs.Rights.{IsLimit, counted}
+use Rattle.arcstr_block.specs.Word.{IsLimit}
+use Rattle.arcstr_block.specs.Rights.{counted}
 use Rattle.arcstr_block.specs.Book.{reached}
 use Rattle.arcstr_block.specs.Memory.{IsText, block_owns, block_shares}
 use Rattle.arcstr_block.specs.Ledger.{Id, names, held_with, of_block}

@@ -32,7 +32,8 @@ use Rattle.core.proofs.atomic.Steps.{tail}
 use Rattle.core.specs.contracts.marker.PhantomData as Marker
 use Rattle.atomic_table.proofs.Walks.{proved, leaves}
 use Rattle.atomic_table.proofs.Calls.{fm, found, finds, exchanges}
-use Rattle.arcstr_block.specs.Rights.{IsFree, IsWord, IsClone, Gains}
+use Rattle.arcstr_block.specs.Word.{IsWord, IsClone}
+use Rattle.arcstr_block.specs.Rights.{IsFree, Gains}
 use Rattle.arcstr_block.specs.Memory.{IsText, block_owns, block_shares}
 use Rattle.arcstr_block.specs.Ledger.{Id, Inv, knows, right_to, of_block, pointer_shares}
 use Rattle.arcstr_block.proofs.Memory.{shares_laws}

@@ -1,5 +1,5 @@
 use Rattle.std.proofs.Common.{ap, refl, sym, true≢false}
-use Rattle.arcstr_block.specs.Rights.{IsMarked}
+use Rattle.arcstr_block.specs.Word.{IsMarked}
 use Rattle.arcstr_block.proofs.Looks.{counted_look}
 use Rattle.arcstr_block.proofs.Marked.{at_same_limit, marked_by_word}
 use Rattle.arcstr_block.proofs.shared.Shared.fixed.Goals as goal
