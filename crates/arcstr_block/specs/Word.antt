@@ -1,19 +1,19 @@
 -- What the number of a block's word says: whether the block is marked, and a count. `bits_of` of `arcstr_count` is the encoding, and this file alone tells its numbers.
-use Rattle.std.specs.Prelude.{◌≡◌, ℕ, ◌+◌, ◌*◌, ◌/◌, ◌%◌, ◌==◌, ◌<◌, ◌≤◌}
-use Rattle.arcstr_count.specs.Word.{FlagAndCount}
+use Rattle.std.specs.Prelude.{◌≡◌, ℕ, ◌+◌, ◌/◌, ◌%◌, ◌==◌, ◌<◌, ◌≤◌, true, false}
+use Rattle.arcstr_count.specs.Word.{FlagAndCount, bits_of, fresh_word}
 use Rattle.arcstr_count.specs.declared.words.TheConstants.{RC_MAX}
 
 -- the number of the mark
 abbrev pub mark : ℕ
-mark = 1
+mark = bits_of (record { flag = true; count = 0 })
 
 -- the number of a count of one: an unmarked word with it is the word of a new block
 abbrev pub one : ℕ
-one = 2
+one = bits_of fresh_word
 
 -- the unmarked word that counts k
 abbrev pub counting_word : ℕ → ℕ
-counting_word k = 2 * k
+counting_word k = bits_of (record { flag = false; count = k })
 
 -- the count that the number says
 abbrev pub count_in : ℕ → ℕ
