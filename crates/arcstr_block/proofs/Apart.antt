@@ -11,7 +11,8 @@ use denote.RattleType.{RattleType}
 use denote.RawPtr.{block_of, count_of}
 use denote.Param.Laws.{Laws}
 use Rattle.core.specs.declared.alloc.Allocator.{Ghosts}
-use Rattle.arcstr_block.specs.Rights.{HasSeat, owed}
+use Rattle.arcstr_block.proofs.Decided.{owed_or_not}
+use Rattle.arcstr_block.specs.Rights.{HasSeat, owed, Right}
 use Rattle.arcstr_block.specs.Book.{seat, Book}
 use Rattle.arcstr_block.specs.Memory.{block_owns, block_shares}
 use Rattle.arcstr_block.proofs.Memory.{shares_laws}
@@ -47,11 +48,11 @@ module _ {M : Type 1} {𝓤 : Ura M} (𝓛 : Logic 𝓤) (B : RattleType) (g : G
     abbrev s : Lft → Fml
     s = block_shares h.at h.text
 
-    abbrev Right : Id → ℕ → Fml
-    Right t right = right_to P h.limit (block_of h.at) (count_of h.at + 0) t s h.seat right
+    abbrev Held : Id → Right → Fml
+    Held t right = right_to P h.limit (block_of h.at) (count_of h.at + 0) t s h.seat right
 
     abbrev named_right : Id → Fml
-    named_right t = fsep (fact (names t ≡ h.block)) (Right t h.right)
+    named_right t = fsep (fact (names t ≡ h.block)) (Held t h.right)
 
     sl : denote.Sharing.ShrLaws s
     sl = shares_laws h.at h.text
@@ -68,7 +69,7 @@ module _ {M : Type 1} {𝓤 : Ura M} (𝓛 : Logic 𝓤) (B : RattleType) (g : G
   -- what is owed has the book of the word 0
   pub book_of : (h : Row.Denot) (vs : List Val) → h.right ≡ owed → ⟦ Row.own_val h vs ⟧ ⊢ ⟦ Book h.limit h.block.0 h.block.1 0 ⟧
   book_of h vs mine = qed 𝓛 (‵ (Row.own_val h vs) ∷ []) ∵ use1 𝓛 (‵ (fex Id (named_right h))) (right_of h vs) $ fpick ! (λ t. fsplit ! $ fpick ! (λ named. drop ! $
-      rewrite ! 0 (λ (k : ℕ). ‵ (Right h t k)) mine refl $ fsplit ! $ fsplit ! $ keep ! (1 ∷ []) $ rewrite ! 0 (λ (z : Names). ‵ (Book h.limit z.0 z.1 0)) named refl $ done !))
+      rewrite ! 0 (λ (k : Right). ‵ (Held h t k)) mine refl $ fsplit ! $ fsplit ! $ keep ! (1 ∷ []) $ rewrite ! 0 (λ (z : Names). ‵ (Book h.limit z.0 z.1 0)) named refl $ done !))
 
   module _ (h j : Row.Denot) (vs ws : List Val) where
     abbrev pub Apart : Type 0
@@ -107,4 +108,4 @@ module _ {M : Type 1} {𝓤 : Ura M} (𝓛 : Logic 𝓤) (B : RattleType) (g : G
     pub are_apart : HasSeat h.right → HasSeat j.right → Two ⊢ guard 𝓤 Distinct Two
     are_apart may may' = qed 𝓛 (‵ (Row.own_val h vs) ∷ ‵ (Row.own_val j ws) ∷ []) ∵ use2 𝓛 (given Apart (‵ (Row.own_val h vs) ⊛ ‵ (Row.own_val j ws)))
         (one_seat may may' (ℕ_discrete h.block.1 j.block.1) (ℕ_discrete h.seat j.seat)) $ learn ! (λ two. split ! $ use2 𝓛 (given Alone (‵ (Row.own_val h vs) ⊛ ‵ (Row.own_val j ws)))
-        (are_alone may' (ℕ_discrete h.right owed)) $ learn ! (λ alone. check ! (two, alone) $ done !))
+        (are_alone may' (owed_or_not h.right)) $ learn ! (λ alone. check ! (two, alone) $ done !))

@@ -12,7 +12,7 @@ use types.Tokens.{lft_new, bor_new}
 use denote.Struct.Lending.{Lends}
 use Rattle.core.specs.Sync.RawAtomic.{word}
 use Rattle.arcstr_block.specs.Word.{IsLimit}
-use Rattle.arcstr_block.specs.Rights.{uncounted}
+use Rattle.arcstr_block.specs.Rights.{uncounted, counted}
 use Rattle.arcstr_block.specs.Book.{Book, reached, seat}
 use Rattle.arcstr_block.specs.Ledger.{Id, parts, unmarked, Ledger, counting, if_alive, Inv, knows, free, held_with}
 use Rattle.arcstr_count.specs.declared.steps.Step.TheVariants.{Make}
@@ -48,7 +48,7 @@ module _ {M : Type 1} {𝓤 : Ura M} (𝓛 : Logic 𝓤) (P : Fml) (L b o : ℕ)
   infixr 30 ◌-∗◌
   module _ (s : Lft → Fml) (laws : ShrLaws s) (small : IsLimit L) where
     abbrev Owner : Fml
-    Owner = fex Id (λ t. fsep (reached t.2 (Make ∷ [])) (held_with P L b o t s 0 1))
+    Owner = fex Id (λ t. fsep (reached t.2 (Make ∷ [])) (held_with P L b o t s 0 counted))
 
     pub begins : (l : Lft) → Lends 𝓛 P s l → (μ : Lft) (q : Share) → Incl μ l → ⟦ fsep (word b o 2) P ⟧ ∗ A.lft μ q ⊢ H.⇛ (⟦ Owner ⟧ ∗ A.lft μ q)
     begins l lends μ q inc = qed 𝓛 (‵ (fsep (word b o 2) P) ∷ ‵ (flft μ q) ∷ []) ∵ updating ! $ fsplit ! $
@@ -68,6 +68,6 @@ module _ {M : Type 1} {𝓤 : Ura M} (𝓛 : Logic 𝓤) (P : Fml) (L b o : ℕ)
         use2 𝓛 (later (‵ (s (a ∷ [])) ⊛ ‵ (flft (a ∷ []) e) ⊛ ‵ (flft μ q)))
         (lends (a ∷ []) ((a ∷ [], e) ∷ (μ, q) ∷ []) (Incl-trans (meet_⊑_right (a ∷ []) μ) inc) (meet_⊑_left (a ∷ []) μ)) $ await ! tt $ split3 ! $
         -- [what is shared; the part; μ; the invariant; the seat; the first step]
-        nothing ! $ use1 𝓛 (‵ (knows t 1)) (all_i 𝓤 {P = emp 𝓤} (λ (_ : 1 ≡ uncounted). A.dead (c ∷ [])) (λ w. absurd (omega (arith, w)))) $ move ! (2 ∷ 0 ∷ 1 ∷ 5 ∷ []) $ group ! 4 $
-        use1 𝓛 (‵ (free P L b o t s 0 1)) (free_in P L b o s laws 0 𝓛 t 1 e (λ _. one)) $ move ! (2 ∷ 0 ∷ []) $ fjoin ! $ move ! (2 ∷ 0 ∷ []) $ fjoin ! $
-        fpack ! Id (λ y. fsep (reached y.2 (Make ∷ [])) (held_with P L b o y s 0 1)) t $ now ! $ done !)))))
+        nothing ! $ use1 𝓛 (‵ (knows t counted)) (all_i 𝓤 {P = emp 𝓤} (λ (_ : counted ≡ uncounted). A.dead (c ∷ [])) (λ w. absurd cc)) $ move ! (2 ∷ 0 ∷ 1 ∷ 5 ∷ []) $ group ! 4 $
+        use1 𝓛 (‵ (free P L b o t s 0 counted)) (free_in P L b o s laws 0 𝓛 t counted e (λ _. one)) $ move ! (2 ∷ 0 ∷ []) $ fjoin ! $ move ! (2 ∷ 0 ∷ []) $ fjoin ! $
+        fpack ! Id (λ y. fsep (reached y.2 (Make ∷ [])) (held_with P L b o y s 0 counted)) t $ now ! $ done !)))))

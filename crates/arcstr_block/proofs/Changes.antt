@@ -13,12 +13,12 @@ use types.Kit.{‵, raw, ◌⊛◌, ◌$◌, ◌∵◌, !, qed, by, move, keep, 
 use denote.RawPtr.{block_ptr}
 use denote.Steps.{nothing}
 use Rattle.core.specs.Sync.RawAtomic.{asks, always}
-use Rattle.arcstr_block.specs.Word.{IsMarked, IsUnmarked, IsWord, IsClone}
+use Rattle.arcstr_block.specs.Word.{IsMarked, IsUnmarked, IsWord, IsClone, IsLast}
 use Rattle.arcstr_block.specs.Ledger.{parts, some_share, Id, Phase, unmarked, marked, Fits, rest, Inv, stated}
 use Rattle.arcstr_block.specs.Book.{Book}
 use Rattle.arcstr_block.proofs.Words.{or_unmarked, or_marked}
 use Rattle.arcstr_block.proofs.Ledger.{share_not_alive, takes, gives, gives_last, gives_marked, too_many, finds_mark}
-use Rattle.arcstr_block.proofs.Steps.{none, part, share, last, after, all_after, Stepped, Shut, keeps, ending, gains, marking, stepped, token_alive}
+use Rattle.arcstr_block.proofs.Steps.{Gain, none, part, share, last, after, all_after, Stepped, Shut, keeps, ending, gains, marking, stepped, token_alive}
 
 module _ {M : Type 1} {𝓤 : Ura M} (𝓛 : Logic 𝓤) (P : Fml) (L b o : ℕ) (t : Id) where
   open 𝓛 use {H, A}
@@ -61,8 +61,8 @@ module _ {M : Type 1} {𝓤 : Ura M} (𝓛 : Logic 𝓤) (P : Fml) (L b o : ℕ)
     Tok = flft (t.0 ∷ []) q
 
     -- ---- the mark
-    abbrev pub Fixed : ℕ → ℕ → Type 0
-    Fixed n r = r ≡ 2
+    abbrev pub Fixed : ℕ → Gain → Type 0
+    Fixed n g = g ≡ share
 
     abbrev pub with_mark : ℕ → ℕ
     with_mark n = bit_or n 1
@@ -81,8 +81,8 @@ module _ {M : Type 1} {𝓤 : Ura M} (𝓛 : Logic 𝓤) (P : Fml) (L b o : ℕ)
 
     -- ---- a clone, by a compare-exchange
     module _ (old new : ℕ) (asked : IsClone L old new) where
-      abbrev pub Raised : ℕ → ℕ → Type 0
-      Raised n r = IsWord L n × (IsMarked n → r ≡ 2) × (IsUnmarked n → n ≢ old → r ≡ 0) × (n ≡ old → IsUnmarked new → r ≡ 1) × (n ≡ old → IsMarked new → r ≡ 2)
+      abbrev pub Raised : ℕ → Gain → Type 0
+      Raised n g = IsWord L n × (IsMarked n → g ≡ share) × (IsUnmarked n → n ≢ old → g ≡ none) × (n ≡ old → IsUnmarked new → g ≡ part) × (n ≡ old → IsMarked new → g ≡ share)
 
       abbrev pub exchanged : ℕ → ℕ
       exchanged n = either (eqb n old) new n
@@ -134,8 +134,8 @@ module _ {M : Type 1} {𝓤 : Ura M} (𝓛 : Logic 𝓤) (P : Fml) (L b o : ℕ)
   abbrev pub less : ℕ → ℕ
   less n = (n + (2 ^ 64 - 2)) % 2 ^ 64
 
-  abbrev pub Left : ℕ → ℕ → Type 0
-  Left n r = (n ≡ 2 → r ≡ 3) × (n ≢ 2 → r ≡ 0)
+  abbrev pub Left : ℕ → Gain → Type 0
+  Left n g = (IsLast n → g ≡ last) × ((¬ IsLast n) → g ≡ none)
 
   abbrev pub One : Fml
   One = parts t.0 1

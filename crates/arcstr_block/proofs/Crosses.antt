@@ -21,6 +21,7 @@ use Rattle.atomic_table.specs.Seated.{halved}
 use Rattle.arcstr_count.specs.declared.steps.Step.{Step}
 use Rattle.arcstr_count.specs.declared.steps.HandleState.{HandleState}
 use Rattle.arcstr_count.specs.declared.steps.HandleState.TheVariants.{Free, Dropping, Owing}
+use Rattle.arcstr_block.specs.Rights.{Right, nothing, counted, uncounted, fixed, dropping, owed}
 use Rattle.arcstr_block.specs.Book.{steps, state_code, reached, seat_share, Book}
 use Rattle.arcstr_block.specs.Memory.{block_type, length_at, text_at, block_owns, block_shares}
 use Rattle.arcstr_block.specs.Ledger.{Id, Names, Phase, unmarked, marked, rest, stated, if_alive, known, right_to, shown}
@@ -58,20 +59,21 @@ module _ (P : Fml) (L b o : ℕ) (t : Id) (k : Keyless P) where
   alive_keyless false = tt
 
   module _ (s : Lft → Fml) (common : Common s) (h : ℕ) where
-    right_keyless : (right : ℕ) → Keyless (right_to P L b o t s h right)
-    right_keyless zero = common _
-    right_keyless (suc zero) = λ e. ((λ _. tt), (tt, ((λ _. tt), (common _, seat_keyless t.3 h three_quarters Free))))
-    right_keyless (suc (suc zero)) = λ e. ((λ _. tt), (tt, ((λ _. tt), (common _, seat_keyless t.3 h three_quarters Free))))
-    right_keyless (suc (suc (suc zero))) = (((λ q. tt), tt), common _)
-    right_keyless (suc (suc (suc (suc zero)))) = ((λ e c. tt), (common _, seat_keyless t.3 h three_quarters Dropping))
-    right_keyless (suc (suc (suc (suc (suc m))))) = (stated_keyless 0, (k, seat_keyless t.3 h three_quarters Owing))
+    right_keyless : (right : Right) → Keyless (right_to P L b o t s h right)
+    right_keyless nothing = common _
+    right_keyless counted = λ e. ((λ _. tt), (tt, ((λ _. tt), (common _, seat_keyless t.3 h three_quarters Free))))
+    right_keyless uncounted = λ e. ((λ _. tt), (tt, ((λ _. tt), (common _, seat_keyless t.3 h three_quarters Free))))
+    right_keyless fixed = (((λ q. tt), tt), common _)
+    right_keyless dropping = ((λ e c. tt), (common _, seat_keyless t.3 h three_quarters Dropping))
+    right_keyless owed = (stated_keyless 0, (k, seat_keyless t.3 h three_quarters Owing))
 
-    shown_common : (right : ℕ) → Common (shown P L b o t s h right)
-    shown_common zero κ = tt
-    shown_common (suc zero) κ = ((λ q. tt), ((λ q. seat_keyless t.3 h q Free), ((λ _. tt), (alive_keyless, common _))))
-    shown_common (suc (suc zero)) κ = ((λ q. tt), ((λ q. seat_keyless t.3 h q Free), ((λ _. tt), (alive_keyless, common _))))
-    shown_common (suc (suc (suc zero))) κ = (((λ q. tt), tt), (alive_keyless, common _))
-    shown_common (suc (suc (suc (suc m)))) κ = tt
+    shown_common : (right : Right) → Common (shown P L b o t s h right)
+    shown_common nothing κ = tt
+    shown_common counted κ = ((λ q. tt), ((λ q. seat_keyless t.3 h q Free), ((λ _. tt), (alive_keyless, common _))))
+    shown_common uncounted κ = ((λ q. tt), ((λ q. seat_keyless t.3 h q Free), ((λ _. tt), (alive_keyless, common _))))
+    shown_common fixed κ = (((λ q. tt), tt), (alive_keyless, common _))
+    shown_common dropping κ = tt
+    shown_common owed κ = tt
 
 known_keyless : (t : Id) (block : Names) (history : List Step) → Keyless (known t block history)
 known_keyless t block history = ((λ _. tt), reached_keyless t.2 history)

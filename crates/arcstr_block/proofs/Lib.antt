@@ -8,6 +8,7 @@ pub mod Words
 pub mod Ledger
 pub mod Steps
 pub mod Changes
+pub mod Decided
 pub mod Rights
 pub mod Turns
 pub mod Begins

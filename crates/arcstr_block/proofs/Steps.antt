@@ -13,8 +13,9 @@ use types.Kit.{‵, raw, ◌⊛◌, given, ◌$◌, ◌∵◌, !, qed, by, move,
 use denote.RawPtr.{block_ptr}
 use denote.Steps.{nothing}
 use Rattle.core.specs.Sync.RawAtomic.{asks, always, word}
+use Rattle.arcstr_block.proofs.Decided.{uncounted_or_not}
 use Rattle.arcstr_block.specs.Word.{IsMarked, IsUnmarked, IsWord}
-use Rattle.arcstr_block.specs.Rights.{uncounted}
+use Rattle.arcstr_block.specs.Rights.{uncounted, Right}
 use Rattle.arcstr_block.specs.Book.{Book}
 use Rattle.arcstr_block.specs.Ledger.{fact, parts, some_share, Id, Phase, unmarked, marked, Fits, rest, counting, if_alive, Inv, knows, stated}
 use Rattle.arcstr_block.proofs.Ledger.{phase_in, not_alive, marks, marked_in, finds_mark}
@@ -26,13 +27,6 @@ pub data Gain : Type 0 where
   part : Gain
   share : Gain
   last : Gain
-
--- The number of a gain, which is not the number of a right (`specs/Rights.antt`). None is turned to nothing (0), a part to counted (1), a share to fixed (3) or, with a new seat, to uncounted (2), and the last to owed (5).
-abbrev pub rank : Gain → ℕ
-rank none = 0
-rank part = 1
-rank share = 2
-rank last = 3
 
 module _ {M : Type 1} {𝓤 : Ura M} (𝓛 : Logic 𝓤) (P : Fml) (L b o : ℕ) (t : Id) where
   open 𝓛 use {H, A}
@@ -77,9 +71,9 @@ module _ {M : Type 1} {𝓤 : Ura M} (𝓛 : Logic 𝓤) (P : Fml) (L b o : ℕ)
   gained last = fsep (St 0) (fsep (fdead (t.0 ∷ [])) (flent (t.0 ∷ []) P))
 
   -- The word n becomes f n. `ok` says which gain goes with n, K is what the step takes, and `kept` what it gives back.
-  module _ (f : ℕ → ℕ) (ok : ℕ → ℕ → Type 0) (K kept : Fml) where
+  module _ (f : ℕ → ℕ) (ok : ℕ → Gain → Type 0) (K kept : Fml) where
     abbrev pub told : ℕ → Gain → Fml
-    told n g = fsep (fact (ok n (rank g))) (gained g)
+    told n g = fsep (fact (ok n g)) (gained g)
 
     abbrev pub after : ℕ → Fml
     after n = fsep kept (fex Gain (told n))
@@ -100,18 +94,18 @@ module _ {M : Type 1} {𝓤 : Ura M} (𝓛 : Logic 𝓤) (P : Fml) (L b o : ℕ)
     pub ending : (n d : ℕ) → A.lft (d ∷ []) full_share ∗ (A.dead (d ∷ []) -∗ upd 𝓤 (Shut n)) ⊢ Stepped n
     ending n d = via 𝓤 (ex 𝓤 (Out 𝓛 I b o f after n)) (ex_i 𝓤 (Out 𝓛 I b o f after n) (Some d)) (upd_i 𝓤 (ex 𝓤 (Out 𝓛 I b o f after n)))
 
-    pub gains : (n : ℕ) (g : Gain) → ok n (rank g) → ⟦ kept ⟧ ∗ ⟦ gained g ⟧ ⊢ ⟦ after n ⟧
-    gains n g h = qed 𝓛 (‵ kept ∷ ‵ (gained g) ∷ []) ∵ move ! (1 ∷ []) $ nothing ! $ fpack ! (ok n (rank g)) (λ _. ftrue) h $ fjoin ! $ fpack ! Gain (told n) g $ move ! (1 ∷ 0 ∷ []) $ fjoin ! $ done !
+    pub gains : (n : ℕ) (g : Gain) → ok n g → ⟦ kept ⟧ ∗ ⟦ gained g ⟧ ⊢ ⟦ after n ⟧
+    gains n g h = qed 𝓛 (‵ kept ∷ ‵ (gained g) ∷ []) ∵ move ! (1 ∷ []) $ nothing ! $ fpack ! (ok n g) (λ _. ftrue) h $ fjoin ! $ fpack ! Gain (told n) g $ move ! (1 ∷ 0 ∷ []) $ fjoin ! $ done !
 
-    shuts : (n : ℕ) (s : Phase) → In (f n) s → (g : Gain) → ok n (rank g) → ⟦ St (f n) ⟧ ∗ ⟦ Keeps s ⟧ ∗ ⟦ kept ⟧ ∗ ⟦ gained g ⟧ ⊢ Shut n
+    shuts : (n : ℕ) (s : Phase) → In (f n) s → (g : Gain) → ok n g → ⟦ St (f n) ⟧ ∗ ⟦ Keeps s ⟧ ∗ ⟦ kept ⟧ ∗ ⟦ gained g ⟧ ⊢ Shut n
     shuts n s h g y = qed 𝓛 (‵ (St (f n)) ∷ ‵ (Keeps s) ∷ ‵ kept ∷ ‵ (gained g) ∷ []) ∵ move ! (2 ∷ 3 ∷ []) $ use2 𝓛 (‵ (after n)) (gains n g y) $ move ! (2 ∷ []) $
         use1 𝓛 (‵ _) (phase_in 𝓛 P L b o t (f n) s h) $ move ! (2 ∷ 0 ∷ []) $ fjoin ! $ fpack ! ℕ (counting P L b o t) (f n) $ fpack ! Bool (if_alive P L b o t) true $ done !
 
-    pub keeps : (n : ℕ) (s : Phase) → In (f n) s → (g : Gain) → ok n (rank g) → ⟦ St (f n) ⟧ ∗ ⟦ Keeps s ⟧ ∗ ⟦ kept ⟧ ∗ ⟦ gained g ⟧ ⊢ Stepped n
+    pub keeps : (n : ℕ) (s : Phase) → In (f n) s → (g : Gain) → ok n g → ⟦ St (f n) ⟧ ∗ ⟦ Keeps s ⟧ ∗ ⟦ kept ⟧ ∗ ⟦ gained g ⟧ ⊢ Stepped n
     keeps n s h g y = via 𝓤 (Shut n) (shuts n s h g y) (same n)
 
     -- the mark is set, and c ends
-    pub marking : (n k : ℕ) → k < 2 ^ 63 - 1 → In (f n) (marked k) → ok n 2 → ⟦ St (f n) ⟧ ∗ ⟦ Keeps (unmarked k) ⟧ ∗ ⟦ kept ⟧ ⊢ Stepped n
+    pub marking : (n k : ℕ) → k < 2 ^ 63 - 1 → In (f n) (marked k) → ok n share → ⟦ St (f n) ⟧ ∗ ⟦ Keeps (unmarked k) ⟧ ∗ ⟦ kept ⟧ ⊢ Stepped n
     marking n k small h y =
         qed 𝓛 (‵ (St (f n)) ∷ ‵ (Keeps (unmarked k)) ∷ ‵ kept ∷ []) ∵ move ! (1 ∷ []) $
         use1 𝓛 (‵ (flft (t.1 ∷ []) full_share) ⊛ ‵ (parts t.0 (2 ^ 63 - (k + 1))) ⊛ ‵ (some_share t.0) ⊛ ‵ (some_share t.0)) (marks 𝓛 P L b o t k small) $ split3 ! $ move ! (2 ∷ []) $ split ! $
@@ -147,19 +141,19 @@ module _ {M : Type 1} {𝓤 : Ura M} (𝓛 : Logic 𝓤) (P : Fml) (L b o : ℕ)
   token_alive q = 𝓛.lfts.lft-dead (t.0 ∷ []) q
 
   -- ---- the load. `right` is what the caller knows
-  module _ (q : Share) (right : ℕ) where
+  module _ (q : Share) (right : Right) where
     abbrev pub Tok : Fml
     Tok = flft (t.0 ∷ []) q
 
-    abbrev pub Told : ℕ → ℕ → Type 0
-    Told n r = IsWord L n × (right ≡ uncounted → IsMarked n) × (IsMarked n → r ≡ 2) × (IsUnmarked n → r ≡ 0)
+    abbrev pub Told : ℕ → Gain → Type 0
+    Told n g = IsWord L n × (right ≡ uncounted → IsMarked n) × (IsMarked n → g ≡ share) × (IsUnmarked n → g ≡ none)
 
     abbrev pub With : Fml
     With = fsep Tok (knows t right)
 
     sees : (n : ℕ) → n < 2 ^ 64 → (s : Phase) → In n s → ⟦ St n ⟧ ∗ ⟦ Keeps s ⟧ ∗ ⟦ With ⟧ ⊢ Stepped (λ m. m) Told With Tok n
     sees n fits (unmarked k) h = let even : IsUnmarked n = omega (arith, h.0) in let h₁ = h.1 in let h₂ = h.2 in let h₀ = h.0 in
-        qed 𝓛 (‵ (St n) ∷ ‵ (Keeps (unmarked k)) ∷ ‵ With ∷ []) ∵ move ! (2 ∷ []) $ fsplit ! $ dite (ℕ_discrete right 2)
+        qed 𝓛 (‵ (St n) ∷ ‵ (Keeps (unmarked k)) ∷ ‵ With ∷ []) ∵ move ! (2 ∷ []) $ fsplit ! $ dite (uncounted_or_not right)
         (λ e. move ! (1 ∷ 3 ∷ []) $ use1 𝓛 (‵ (fdead (t.1 ∷ []))) (all_e 𝓤 (λ (_ : right ≡ uncounted). A.dead (t.1 ∷ [])) e) $ move ! (1 ∷ []) $ fsplit3 ! $ keep ! (1 ∷ 3 ∷ []) $ by ! (not_alive 𝓛 P L b o t full_share t.1 _))
         (λ ne. move ! (1 ∷ []) $ drop ! $ nothing ! $ move ! (2 ∷ 3 ∷ 1 ∷ 0 ∷ []) $
         by ! (keeps (λ m. m) Told With Tok n (unmarked k) h none ((λ _. (omega arith, omega arith)), (λ e. absurd (ne e)), (λ odd. absurd (omega arith)), (λ _. refl))))

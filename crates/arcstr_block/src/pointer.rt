@@ -10,7 +10,7 @@ ghost use Rattle.arcstr_count.specs.declared.steps.Step.{Step};
 ghost use Rattle.arcstr_count.specs.contracts.steps.Step.{the_row as step_row};
 ghost use Rattle.arcstr_count.specs.Word.{bits_of, fresh_word};
 ghost use Rattle.arcstr_block.specs.Word.{IsLimit, IsWord, IsClone};
-ghost use Rattle.arcstr_block.specs.Rights.{nothing, counted, fixed, dropping, owed, IsFree, HasSeat, MaySee, IsIdle, Looks, Finds, Gains, Begins, Leaves};
+ghost use Rattle.arcstr_block.specs.Rights.{Right, right_code, nothing, counted, fixed, dropping, owed, IsFree, HasSeat, MaySee, IsIdle, Looks, Finds, Gains, Begins, Leaves};
 ghost use Rattle.arcstr_block.specs.Memory.{Fits};
 ghost use Rattle.arcstr_block.specs.Ledger.{pointer_owns, pointer_shares};
 
@@ -32,7 +32,7 @@ pub(crate) struct Pointer<A: Allocator> {
     pub ghost home: { A } by { A.code },
     pub ghost text: { List ℕ },
     pub ghost limit: { ℕ },
-    pub ghost right: { ℕ },
+    pub ghost right: { Right } by { right_code },
     pub ghost seat: { ℕ },
     pub ghost block: { ℕ × ℕ },
     pub ghost history: { List Step } by { coded_list step_row.coded },

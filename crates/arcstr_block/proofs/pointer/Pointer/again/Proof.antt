@@ -27,7 +27,7 @@ use denote.Struct.Lending.{lent_out, lent_at_shr_laws}
 use denote.Triple.Walked.{Stays, stay_dropped, walk_of, Goes-dropped}
 use Rattle.core.specs.contracts.marker.PhantomData as Marker
 use Rattle.atomic_table.proofs.Walks.{proved, leaves}
-use Rattle.arcstr_block.specs.Rights.{fixed}
+use Rattle.arcstr_block.specs.Rights.{fixed, Right}
 use Rattle.arcstr_block.specs.Memory.{IsText, block_owns, block_shares}
 use Rattle.arcstr_block.specs.Ledger.{Id, Inv, shown, of_block, pointer_shares}
 use Rattle.arcstr_block.proofs.Memory.{shares_laws}
@@ -46,7 +46,7 @@ again_spec 𝓤 𝓛 𝓜 𝓡 wired Y K g d dd met md =
     proved 𝓛 En hs c 𝓜 𝓡 (Goes-dropped 𝓛 2 self yes (λ κs x f. refl), tt) (#self inst) fn closed
     (λ κs. (shr_vals, tt)) (λ κs. (shr_Tells (named 0) κs.0 Row, tt)) (λ κs qs bounds a gh are.
     let b : ℕ = a.0.ref_ptr.0 in let o : ℕ = a.0.ref_ptr.1 in let κ : Lft = κs.0 in let q : Share = qs.0 in let others : Fml = fsep (flft κs.1.0 qs.1.0) ftrue in
-    let h : Row.Denot = a.0.now in let p : Ptr = h.at in let right : ℕ = h.right in let lim : ℕ = h.limit in let holds = g.dealloc_token h.home in let P : Fml = block_owns holds p h.text in let s : Lft → Fml = block_shares p h.text in
+    let h : Row.Denot = a.0.now in let p : Ptr = h.at in let right : Right = h.right in let lim : ℕ = h.limit in let holds = g.dealloc_token h.home in let P : Fml = block_owns holds p h.text in let s : Lft → Fml = block_shares p h.text in
     let sl = shares_laws p h.text in
     let pb : ℕ = block_of p in let po : ℕ = count_of p + 0 in
     let y : (walk_of 𝓛 En hs c).Ghost = ((κs, qs, bounds, a, (vptr b o ∷ [], tt)), gh) in let Post : Val → SProp 𝓤 = (walk_of 𝓛 En hs c).post y in
@@ -56,7 +56,7 @@ again_spec 𝓤 𝓛 𝓜 𝓡 wired Y K g d dd met md =
     use1 𝓛 (‵ (hidden_shr D κ (p, (tt, tt)) b o) ⊛ ‵ (fhide (pointer_shares holds lim p h.text right h.seat h.block h.history κ)))
     (lent_out 𝓛 (C.struct B g) (C.the_codes Y.Denot B.coded (Marker.the_row B).coded) (C.the_heap B g) (C.the_lent B g) κ h b o) $
     split ! $ move ! (1 ∷ []) $ unhide ! $ fsplit ! $ fpick ! (λ inb. drop ! $ let at : p ≡ block_ptr pb (count_of p) = at_block p inb.0 in fpick ! (λ t. let I : Fml = Inv P lim pb po t in let af : Lft = t.0 ∷ [] in
-    fsplit ! $ move ! (1 ∷ []) $ rewrite ! 0 (λ (k : ℕ). ‵ (shown P lim pb po t s h.seat k κ)) same_right refl $ fsplit3 ! $
+    fsplit ! $ move ! (1 ∷ []) $ rewrite ! 0 (λ (k : Right). ‵ (shown P lim pb po t s h.seat k κ)) same_right refl $ fsplit3 ! $
     -- [the share for good; the invariant; what is shared; what is known; the fields; κ; the others]
     move ! (4 ∷ 5 ∷ []) $ looks ! tt D (opened B g 𝓛) (p, (tt, tt)) b o (λ e vs. move ! (1 ∷ []) $ peeks ! D (Is D) (shows 𝓛 D) (p, (tt, tt)) vs (λ so.
     let ev : vs ≡ pointer_val (block_ptr pb (count_of p)) ∷ [] = told B g p vs so ∙ ap (λ (r : Ptr). pointer_val r ∷ []) at in
@@ -64,10 +64,10 @@ again_spec 𝓤 𝓛 𝓜 𝓡 wired Y K g d dd met md =
     sets ! (of_opd ! (load ! (through ! refl (fld ! refl (stop !))) (look_in ! 1 (sub ! 0 refl (whole !))))) refl (tt, tt) $
     rewrite ! 1 (λ (ws : List Val). ‵ (cell_at e D.mir ws b o)) (sym ev) refl $ move ! (1 ∷ 0 ∷ 2 ∷ []) $ shuts ! tt D e (p, (tt, tt)) vs b o $
     -- [κ; the fields; the share for good; the invariant; what is shared; what is known; the others]
-    move ! (0 ∷ 6 ∷ []) $ join ! $ move ! (2 ∷ 4 ∷ []) $ fjoin ! $ move ! (3 ∷ 0 ∷ []) $ fjoin ! $ move ! (3 ∷ 0 ∷ []) $ fjoin ! $ fpack ! Id (of_block holds lim p h.text 3 h.seat h.block h.history) t $
+    move ! (0 ∷ 6 ∷ []) $ join ! $ move ! (2 ∷ 4 ∷ []) $ fjoin ! $ move ! (3 ∷ 0 ∷ []) $ fjoin ! $ move ! (3 ∷ 0 ∷ []) $ fjoin ! $ fpack ! Id (of_block holds lim p h.text fixed h.seat h.block h.history) t $
     sets ! (agg ! (no_more !)) refl (tt, tt) $ sets ! (is ! (agg ! (and_then ! (get ! refl) (and_then ! (get ! refl) (no_more !)))) (ap pointer_val (sym at))) refl (typed p) $
-    nothing ! $ fpack ! (InBlock p × IsText h.text) (λ _. ftrue) inb $ fjoin ! $ let h' : Row.Denot = record h { right = 3 } in let r : Val = pointer_val p in
+    nothing ! $ fpack ! (InBlock p × IsText h.text) (λ _. ftrue) inb $ fjoin ! $ let h' : Row.Denot = record h { right = fixed } in let r : Val = pointer_val p in
     use0 𝓛 (‵ (D.own_val (p, (tt, tt)) (pointer_val p ∷ []))) (made B g 𝓛 p) $ fjoin ! $
     let Same : Type 0 = (h.home ≡ h.home) × (h.text ≡ h.text) × (lim ≡ lim) × (h.block ≡ h.block) in
-    use0 𝓛 (raw (fact 𝓤 Same)) (fact_i 𝓤 Same (emp 𝓤) (refl, refl, refl, refl)) $ use0 𝓛 (raw (fact 𝓤 (h.history ≡ h.history))) (fact_i 𝓤 (h.history ≡ h.history) (emp 𝓤) refl) $ join ! $ use0 𝓛 (raw (fact 𝓤 (3 ≡ fixed))) (fact_i 𝓤 (3 ≡ fixed) (emp 𝓤) refl) $ join ! $
+    use0 𝓛 (raw (fact 𝓤 Same)) (fact_i 𝓤 Same (emp 𝓤) (refl, refl, refl, refl)) $ use0 𝓛 (raw (fact 𝓤 (h.history ≡ h.history))) (fact_i 𝓤 (h.history ≡ h.history) (emp 𝓤) refl) $ join ! $ use0 𝓛 (raw (fact 𝓤 (fixed ≡ fixed))) (fact_i 𝓤 (fixed ≡ fixed) (emp 𝓤) refl) $ join ! $
     nothing ! $ nothing ! $ fjoin ! $ returns ! (look_at ! 0 refl) $ free_all ! refl $ keep ! (3 ∷ 0 ∷ 2 ∷ 1 ∷ []) $ by ! (leaves 𝓛 En hs c y r h' (tt, tt) (tt, tt)))))))))

@@ -26,7 +26,7 @@ use Rattle.core.proofs.atomic.Steps.{tail}
 use Rattle.atomic_table.proofs.Walks.{proved, leaves}
 use Rattle.atomic_table.proofs.Calls.{fm, seq_cst, found, finds, loads}
 use Rattle.arcstr_block.specs.Word.{IsMarked, IsUnmarked}
-use Rattle.arcstr_block.specs.Rights.{IsFree, Begins}
+use Rattle.arcstr_block.specs.Rights.{IsFree, Begins, Right}
 use Rattle.arcstr_block.specs.Memory.{IsText, block_owns, block_shares}
 use Rattle.arcstr_block.specs.Ledger.{Id, names, Inv, right_to, of_block, free}
 use Rattle.arcstr_block.proofs.Memory.{shares_laws}
@@ -55,7 +55,7 @@ begin_spec 𝓤 𝓛 𝓜 𝓡 wired Y K g d dd met md =
     proved 𝓛 En hs c 𝓜 𝓡 (Goes-dropped 𝓛 1 self no (λ κs x f. refl), tt) (#self inst) fn closed
     (λ κs. ((λ x. pointer_val x.at ∷ []), tt)) (λ κs. ((λ x vs so. told B g x.at vs so.0), tt)) (λ κs qs bounds a gh are.
     let h : Row.Denot = a.0 in let p : Ptr = h.at in let lim : ℕ = h.limit in let holds = g.dealloc_token h.home in let P : Fml = block_owns holds p h.text in let s : Lft → Fml = block_shares p h.text in
-    let right : ℕ = h.right in let sl = shares_laws p h.text in
+    let right : Right = h.right in let sl = shares_laws p h.text in
     let pb : ℕ = block_of p in let po : ℕ = count_of p + 0 in
     let y : (walk_of 𝓛 En hs c).Ghost = ((κs, qs, bounds, a, (pointer_val p ∷ [], tt)), gh) in let Post : Val → SProp 𝓤 = (walk_of 𝓛 En hs c).post y in
     qed 𝓛 ((raw (alive 𝓛 En.signature κs qs) ⊛ ‵ (owns (types_at En.signature.params κs) a y.0.4)) ∷ raw (fact 𝓤 _) ∷ raw (fact 𝓤 (IsFree h.right)) ∷ []) ∵
@@ -77,7 +77,7 @@ begin_spec 𝓤 𝓛 𝓜 𝓡 wired Y K g d dd met md =
     sets ! (is ! (agg ! (and_then ! (get ! refl) (and_then ! (get ! refl) (no_more !)))) (ap pointer_val (sym at))) refl (typed p) $
     sets ! (agg ! (and_then ! (get ! refl) (and_then ! (get ! refl) (no_more !)))) refl (found_typed n fits p) $
     -- [what is said; the share; the gain; what is shared; the invariant; what is known; the tokens]
-    fsplit3 ! $ move ! (2 ∷ []) $ fpick ! (λ w. fsplit ! $ fpick ! (λ ok. drop ! $ drop ! $ let got = rights.begins 𝓛 P lim pb po t s sl n h.seat right e may one ok.1 in let k : ℕ = got.right in
+    fsplit3 ! $ move ! (2 ∷ []) $ fpick ! (λ w. fsplit ! $ fpick ! (λ ok. drop ! $ drop ! $ let got = rights.begins 𝓛 P lim pb po t s sl n h.seat right e may one ok.1 in let k : Right = got.right in
     fsplit ! $ move ! (2 ∷ 3 ∷ 0 ∷ []) $ use3 𝓛 (later (‵ (right_to P lim pb po t s h.seat k))) got.turns $ await ! tt $
     -- [the right; the history's end; the invariant; what was known; the tokens]
     move ! (2 ∷ 0 ∷ []) $ fjoin ! $ move ! (1 ∷ []) $ fpick ! (λ r'. fsplit ! $ fpick ! (λ ends. drop ! $ move ! (2 ∷ []) $ fsplit ! $ fpick ! (λ named. drop ! $ drop ! $ nothing ! $ fpack ! (names t ≡ h.block) (λ _. ftrue) named $ fjoin ! $ fjoin ! $

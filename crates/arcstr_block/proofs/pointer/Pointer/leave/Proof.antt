@@ -25,7 +25,7 @@ use denote.Triple.Walked.{Stays, stay_dropped, walk_of, Goes-dropped}
 use Rattle.core.proofs.atomic.Steps.{tail}
 use Rattle.atomic_table.proofs.Walks.{proved, leaves}
 use Rattle.atomic_table.proofs.Calls.{fm, seq_cst, found, finds, subs}
-use Rattle.arcstr_block.specs.Rights.{dropping, Leaves}
+use Rattle.arcstr_block.specs.Rights.{dropping, Leaves, Right}
 use Rattle.std.specs.Prelude.{◌≢◌}
 use Rattle.arcstr_block.specs.Memory.{IsText, block_owns, block_shares}
 use Rattle.arcstr_block.specs.Ledger.{Id, names, Inv, held_with, right_to, of_block}
@@ -55,13 +55,13 @@ leave_spec 𝓤 𝓛 𝓜 𝓡 wired Y K g d dd met md =
     proved 𝓛 En hs c 𝓜 𝓡 (Goes-dropped 𝓛 1 self no (λ κs x f. refl), tt) (#self inst) fn closed
     (λ κs. ((λ x. pointer_val x.at ∷ []), tt)) (λ κs. ((λ x vs so. told B g x.at vs so.0), tt)) (λ κs qs bounds a gh are.
     let h : Row.Denot = a.0 in let p : Ptr = h.at in let lim : ℕ = h.limit in let holds = g.dealloc_token h.home in let P : Fml = block_owns holds p h.text in let s : Lft → Fml = block_shares p h.text in
-    let right : ℕ = h.right in let sl = shares_laws p h.text in
+    let right : Right = h.right in let sl = shares_laws p h.text in
     let pb : ℕ = block_of p in let po : ℕ = count_of p + 0 in
     let y : (walk_of 𝓛 En hs c).Ghost = ((κs, qs, bounds, a, (pointer_val p ∷ [], tt)), gh) in let Post : Val → SProp 𝓤 = (walk_of 𝓛 En hs c).post y in
     qed 𝓛 ((raw (alive 𝓛 En.signature κs qs) ⊛ ‵ (owns (types_at En.signature.params κs) a y.0.4)) ∷ raw (fact 𝓤 _) ∷ raw (fact 𝓤 (h.right ≡ dropping)) ∷ []) ∵
     keep ! (2 ∷ 0 ∷ []) $ heard ! (h.right ≡ dropping) (λ mine. split ! $ move ! (1 ∷ []) $ fsplit ! $ fsplit ! $ keep ! (1 ∷ 3 ∷ []) $ fsplit ! $ fpick ! (λ inb. drop ! $ let at : p ≡ block_ptr pb (count_of p) = at_block p inb.0 in
     fpick ! (λ t. let I : Fml = Inv P lim pb po t in let af : Lft = t.0 ∷ [] in fsplit ! $ move ! (1 ∷ []) $
-    rewrite ! 0 (λ (k : ℕ). ‵ (held_with P lim pb po t s h.seat k)) mine refl $ fsplit ! $ use1 𝓛 (‵ (finv I) ⊛ ‵ (finv I)) (𝓛.invs.inv_dup I) $ split ! $ move ! (2 ∷ []) $ fsplit3 ! $
+    rewrite ! 0 (λ (k : Right). ‵ (held_with P lim pb po t s h.seat k)) mine refl $ fsplit ! $ use1 𝓛 (‵ (finv I) ⊛ ‵ (finv I)) (𝓛.invs.inv_dup I) $ split ! $ move ! (2 ∷ []) $ fsplit3 ! $
     -- [the part; what is shared; the seat; the invariant, twice; what is known; the tokens]
     move ! (3 ∷ 0 ∷ 2 ∷ []) $
     enter ! 𝓣.C 𝓣.Λ fn (pointer_val p ∷ []) Post $ alloc_all ! (λ l. pass_all ! refl (typed p, tt) $ let Ev = env fn.locals l in
@@ -76,7 +76,7 @@ leave_spec 𝓤 𝓛 𝓜 𝓡 wired Y K g d dd met md =
     sets ! (is ! (agg ! (and_then ! (get ! refl) (and_then ! (get ! refl) (no_more !)))) (ap pointer_val (sym at))) refl (typed p) $
     sets ! (agg ! (and_then ! (get ! refl) (and_then ! (get ! refl) (no_more !)))) refl (found_typed n fits p) $
     -- [what is said; nothing; the gain; what is shared; the invariant; what is known; the tokens]
-    fsplit3 ! $ move ! (1 ∷ []) $ drop ! $ move ! (1 ∷ []) $ fpick ! (λ w. fsplit ! $ fpick ! (λ ok. drop ! $ let got = rights.subtracted 𝓛 P lim pb po t s sl n h.seat w ok.0 ok.1 in let k : ℕ = got.right in
+    fsplit3 ! $ move ! (1 ∷ []) $ drop ! $ move ! (1 ∷ []) $ fpick ! (λ w. fsplit ! $ fpick ! (λ ok. drop ! $ let got = rights.subtracted 𝓛 P lim pb po t s sl n h.seat w ok.0 ok.1 in let k : Right = got.right in
     -- [the gain; what is said; what is shared; the invariant; what is known; the tokens]
     move ! (1 ∷ []) $ fsplit ! $ move ! (2 ∷ 3 ∷ 0 ∷ []) $ use3 𝓛 (later (‵ (right_to P lim pb po t s h.seat k))) got.turns $ await ! tt $
     -- [the right; the history's end; the invariant; what was known; the tokens]

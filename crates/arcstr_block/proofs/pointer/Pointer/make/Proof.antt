@@ -24,7 +24,7 @@ use Rattle.atomic_table.proofs.Walks.{proved, leaves}
 use Rattle.arcstr_count.specs.Word.{bits_of, fresh_word}
 use Rattle.arcstr_count.specs.declared.steps.Step.TheVariants.{Make}
 use Rattle.arcstr_block.specs.Word.{IsLimit}
-use Rattle.arcstr_block.specs.Rights.{counted}
+use Rattle.arcstr_block.specs.Rights.{counted, Right}
 use Rattle.arcstr_block.specs.Book.{reached}
 use Rattle.arcstr_block.specs.Memory.{IsText, block_owns, block_shares}
 use Rattle.arcstr_block.specs.Ledger.{Id, names, held_with, of_block}
@@ -54,15 +54,15 @@ make_spec 𝓤 𝓛 𝓜 𝓡 wired Y K g d dd met md =
     -- [the word; what the block owns; the tokens]
     enter ! 𝓣.C 𝓣.Λ fn (pointer_val p ∷ []) Post $ alloc_all ! (λ l. pass_all ! refl (typed p, tt) $
     rewrite ! 0 (λ (n : ℕ). ‵ (word b (o + 0) n)) fresh refl $ fjoin ! $ move ! (1 ∷ []) $ split ! $ move ! (2 ∷ 0 ∷ []) $
-    use2 𝓛 (later (‵ (fex Id (λ t. fsep (reached t.2 (Make ∷ [])) (held_with P lim b (o + 0) t s 0 1))) ⊛ t₁))
+    use2 𝓛 (later (‵ (fex Id (λ t. fsep (reached t.2 (Make ∷ [])) (held_with P lim b (o + 0) t s 0 counted))) ⊛ t₁))
     (begins 𝓛 P lim b (o + 0) s (shares_laws p xs) small κs.0 (lends_block 𝓛 holds p xs κs.0) κs.0 qs.0 (Incl-refl κs.0)) $ await ! tt $ split ! $
-    fpick ! (λ t. fsplit ! $ nothing ! $ fpack ! (names t ≡ names t) (λ _. ftrue) refl $ fjoin ! $ fjoin ! $ fpack ! Id (of_block holds lim p xs 1 0 (names t) (Make ∷ [])) t $
+    fpick ! (λ t. fsplit ! $ nothing ! $ fpack ! (names t ≡ names t) (λ _. ftrue) refl $ fjoin ! $ fjoin ! $ fpack ! Id (of_block holds lim p xs counted 0 (names t) (Make ∷ [])) t $
     -- [the owner; the tokens]
     nothing ! $ fpack ! (InBlock p × IsText xs) (λ _. ftrue) (inb.0, (inb.1, text)) $ fjoin ! $ use0 𝓛 (‵ ((Words B g).own_val (p, (tt, tt)) (pointer_val p ∷ []))) (made B g 𝓛 p) $ fjoin ! $
     move ! (1 ∷ 2 ∷ []) $ join ! $ move ! (1 ∷ 0 ∷ []) $
     sets ! (is ! (of_opd ! (get_in ! (fld ! refl (stop !)) (sub ! 0 refl (whole !)))) (ap ptr_val at)) refl (tt, tt) $ sets ! (of_opd ! (get_in ! (fld ! refl (stop !)) (sub ! 1 refl (whole !)))) refl (tt, tt) $
     sets ! (is ! (agg ! (and_then ! (get ! refl) (and_then ! (get ! refl) (no_more !)))) (ap pointer_val (sym at))) refl (typed p) $
-    let h' : Row.Denot = record { at = p; marker = record {}; home = v.home; text = xs; limit = lim; right = 1; seat = 0; block = names t; history = Make ∷ [] } in
-    use0 𝓛 (raw (fact 𝓤 (1 ≡ counted))) (fact_i 𝓤 (1 ≡ counted) (emp 𝓤) refl) $ use0 𝓛 (raw (fact 𝓤 (lim ≡ lim))) (fact_i 𝓤 (lim ≡ lim) (emp 𝓤) refl) $ join ! $
+    let h' : Row.Denot = record { at = p; marker = record {}; home = v.home; text = xs; limit = lim; right = counted; seat = 0; block = names t; history = Make ∷ [] } in
+    use0 𝓛 (raw (fact 𝓤 (counted ≡ counted))) (fact_i 𝓤 (counted ≡ counted) (emp 𝓤) refl) $ use0 𝓛 (raw (fact 𝓤 (lim ≡ lim))) (fact_i 𝓤 (lim ≡ lim) (emp 𝓤) refl) $ join ! $
     use0 𝓛 (raw (fact 𝓤 (xs ≡ xs))) (fact_i 𝓤 (xs ≡ xs) (emp 𝓤) refl) $ join ! $ use0 𝓛 (raw (fact 𝓤 (v.home ≡ v.home))) (fact_i 𝓤 (v.home ≡ v.home) (emp 𝓤) refl) $ join ! $ nothing ! $ nothing ! $ fjoin ! $
     returns ! (look_at ! 0 refl) $ free_all ! refl $ keep ! (3 ∷ 0 ∷ 2 ∷ 1 ∷ []) $ by ! (leaves 𝓛 En hs c y (pointer_val p) h' (tt, tt) (tt, tt)))))))))

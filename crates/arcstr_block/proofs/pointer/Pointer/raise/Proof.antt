@@ -33,7 +33,7 @@ use Rattle.core.specs.contracts.marker.PhantomData as Marker
 use Rattle.atomic_table.proofs.Walks.{proved, leaves}
 use Rattle.atomic_table.proofs.Calls.{fm, found, finds, exchanges}
 use Rattle.arcstr_block.specs.Word.{IsWord, IsClone}
-use Rattle.arcstr_block.specs.Rights.{IsFree, Gains}
+use Rattle.arcstr_block.specs.Rights.{IsFree, Gains, Right}
 use Rattle.arcstr_block.specs.Memory.{IsText, block_owns, block_shares}
 use Rattle.arcstr_block.specs.Ledger.{Id, Inv, knows, right_to, of_block, pointer_shares}
 use Rattle.arcstr_block.proofs.Memory.{shares_laws}
@@ -60,7 +60,7 @@ raise_spec 𝓤 𝓛 𝓜 𝓡 wired Y K g d dd met md =
     proved 𝓛 En hs c 𝓜 𝓡 (Goes-dropped 𝓛 2 self yes (λ κs x f. refl), (Goes-dropped 𝓛 2 number yes (λ κs x f. refl), (Goes-dropped 𝓛 2 number yes (λ κs x f. refl), tt))) (#self inst) fn closed
     (λ κs. (shr_vals, (uint_vals w64, (uint_vals w64, tt)))) (λ κs. (shr_Tells (named 0) κs.0 Row, (uint_Tells w64, (uint_Tells w64, tt)))) (λ κs qs bounds a gh are.
     let b : ℕ = a.0.ref_ptr.0 in let o : ℕ = a.0.ref_ptr.1 in let κ : Lft = κs.0 in let q : Share = qs.0 in let others : Fml = fsep (flft κs.1.0 qs.1.0) ftrue in
-    let h : Row.Denot = a.0.now in let p : Ptr = h.at in let right : ℕ = h.right in let lim : ℕ = h.limit in let holds = g.dealloc_token h.home in let P : Fml = block_owns holds p h.text in let s : Lft → Fml = block_shares p h.text in
+    let h : Row.Denot = a.0.now in let p : Ptr = h.at in let right : Right = h.right in let lim : ℕ = h.limit in let holds = g.dealloc_token h.home in let P : Fml = block_owns holds p h.text in let s : Lft → Fml = block_shares p h.text in
     let sl = shares_laws p h.text in
     let old : ℕ = a.1.0 in let new : ℕ = a.1.1.0 in let us : List Val = vptr b o ∷ vint w64 old ∷ vint w64 new ∷ [] in let pb : ℕ = block_of p in let po : ℕ = count_of p + 0 in
     let y : (walk_of 𝓛 En hs c).Ghost = ((κs, qs, bounds, a, (vptr b o ∷ [], (vint w64 old ∷ [], (vint w64 new ∷ [], tt)))), gh) in let Post : Val → SProp 𝓤 = (walk_of 𝓛 En hs c).post y in
@@ -99,7 +99,7 @@ raise_spec 𝓤 𝓛 𝓜 𝓡 wired Y K g d dd met md =
     -- [κ; what is said; the gain; the invariant; what is shared; the beginning; the others]
     move ! (0 ∷ 6 ∷ []) $ join ! $ move ! (2 ∷ []) $ fpick ! (λ w. fsplit ! $ fpick ! (λ ok. drop ! $
     -- [the gain; the tokens; what is said; the invariant; what is shared; the beginning]
-    let got = rights.raised 𝓛 P lim pb po t s sl old new n w (ok.1, ok.2, ok.3, ok.4) in let k : ℕ = got.right in
+    let got = rights.raised 𝓛 P lim pb po t s sl old new n w (ok.1, ok.2, ok.3, ok.4) in let k : Right = got.right in
     move ! (0 ∷ 4 ∷ 2 ∷ []) $ use3 𝓛 (later (‵ (fex ℕ (λ j. right_to P lim pb po t s j k)))) got.turns $ await ! tt $ fpick ! (λ j.
     -- [the right; the tokens; the invariant; the beginning]
     move ! (2 ∷ 0 ∷ []) $ fjoin ! $ move ! (2 ∷ 0 ∷ []) $ fjoin ! $

@@ -30,7 +30,7 @@ use Rattle.atomic_table.proofs.Walks.{proved, leaves}
 use Rattle.arcstr_count.specs.declared.steps.Step.TheVariants.{Back}
 use Rattle.arcstr_count.specs.declared.steps.HandleState.TheVariants.{Gone}
 use Rattle.arcstr_count.specs.declared.steps.Reply.TheVariants.{Given}
-use Rattle.arcstr_block.specs.Rights.{owed}
+use Rattle.arcstr_block.specs.Rights.{owed, Right}
 use Rattle.arcstr_block.specs.Book.{Book, seat, Ends}
 use Rattle.arcstr_block.specs.Memory.{Fits, length_lies, text_lies, block_owns, block_shares}
 use Rattle.arcstr_block.specs.Ledger.{held_with}
@@ -56,7 +56,7 @@ release_spec 𝓤 𝓛 𝓜 𝓡 wired Y K g d dd met md =
     qed 𝓛 ((raw (alive 𝓛 En.signature κs qs) ⊛ ‵ (owns (types_at En.signature.params κs) a y.0.4)) ∷ raw (fact 𝓤 _) ∷ raw (fact 𝓤 (h.right ≡ owed)) ∷ []) ∵
     keep ! (2 ∷ 0 ∷ []) $ heard ! (h.right ≡ owed) (λ mine. split ! $ move ! (1 ∷ []) $ fsplit ! $ fsplit ! $ keep ! (1 ∷ 3 ∷ []) $ fsplit ! $ fpick ! (λ inb. drop ! $ let at : p ≡ block_ptr b o = at_block p inb.0 in
     let small : n < 2 ^ 64 = (let x = inb.1.0 in omega arith) in fpick ! (λ t. fsplit ! $ drop ! $
-    rewrite ! 0 (λ (k : ℕ). ‵ (held_with P lim b (o + 0) t s h.seat k)) mine refl $ fsplit ! $ drop ! $ fsplit3 ! $ fsplit ! $
+    rewrite ! 0 (λ (k : Right). ‵ (held_with P lim b (o + 0) t s h.seat k)) mine refl $ fsplit ! $ drop ! $ fsplit3 ! $ fsplit ! $
     enter ! 𝓣.C 𝓣.Λ fn (pointer_val p ∷ []) Post $ alloc_all ! (λ l. pass_all ! refl (typed p, tt) $ let Ev = env fn.locals l in
     -- [the word; the book; what the block owns; the seat; the tokens]
     move ! (1 ∷ 3 ∷ []) $ use2 𝓛 (later (‵ (Book lim t.2 t.3 0) ⊛ ‵ (seat t.3 h.seat Gone) ⊛ ‵ (Ends lim t.2 t.3 (Back h.seat) Given))) (via 𝓤 _ (book_back 𝓛 lim t.2 t.3 0 h.seat) (basic 𝓛 _)) $ await ! tt $ split3 ! $ drop ! $ drop ! $ drop ! $

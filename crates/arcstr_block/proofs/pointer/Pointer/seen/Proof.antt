@@ -26,6 +26,7 @@ use denote.Struct.Lending.{lent_out, lent_at_shr_laws}
 use denote.Triple.Walked.{Stays, stay_dropped, walk_of, Goes-dropped}
 use Rattle.core.specs.contracts.marker.PhantomData as Marker
 use Rattle.atomic_table.proofs.Walks.{proved, leaves}
+use Rattle.arcstr_block.specs.Rights.{Right}
 use Rattle.arcstr_block.specs.Memory.{block_owns, block_shares}
 use Rattle.arcstr_block.specs.Ledger.{Names, pointer_shares}
 use Rattle.arcstr_block.proofs.Memory.{shares_laws}
@@ -47,7 +48,7 @@ seen_spec 𝓤 𝓛 𝓜 𝓡 wired Y K g d dd met md =
     proved 𝓛 En hs c 𝓜 𝓡 (Goes-dropped 𝓛 2 self yes (λ κs x f. refl), tt) (#self inst) fn closed
     (λ κs. (shr_vals, tt)) (λ κs. (shr_Tells (named 0) κs.0 Row, tt)) (λ κs qs bounds a gh are.
     let b : ℕ = a.0.ref_ptr.0 in let o : ℕ = a.0.ref_ptr.1 in let κ : Lft = κs.0 in let q : Share = qs.0 in let others : Fml = fsep (flft κs.1.0 qs.1.0) ftrue in
-    let h : Row.Denot = a.0.now in let p : Ptr = h.at in let right : ℕ = h.right in let lim : ℕ = h.limit in let holds = g.dealloc_token h.home in let P : Fml = block_owns holds p h.text in let s : Lft → Fml = block_shares p h.text in
+    let h : Row.Denot = a.0.now in let p : Ptr = h.at in let right : Right = h.right in let lim : ℕ = h.limit in let holds = g.dealloc_token h.home in let P : Fml = block_owns holds p h.text in let s : Lft → Fml = block_shares p h.text in
     let sl = shares_laws p h.text in
     let pb : ℕ = block_of p in let po : ℕ = count_of p + 0 in
     let y : (walk_of 𝓛 En hs c).Ghost = ((κs, qs, bounds, a, (vptr b o ∷ [], tt)), gh) in let Post : Val → SProp 𝓤 = (walk_of 𝓛 En hs c).post y in

@@ -26,7 +26,7 @@ use denote.Triple.Entry.{alive}
 use denote.Triple.Walked.{Stays, stay_dropped, walk_of, Goes-dropped}
 use Rattle.core.specs.contracts.marker.PhantomData as Marker
 use Rattle.atomic_table.proofs.Walks.{proved, leaves}
-use Rattle.arcstr_block.specs.Rights.{owed, fixed}
+use Rattle.arcstr_block.specs.Rights.{owed, fixed, Right}
 use Rattle.arcstr_block.specs.Memory.{block_owns, block_shares}
 use Rattle.arcstr_block.specs.Ledger.{shown, pointer_shares}
 use Rattle.arcstr_block.specs.contracts.pointer.Pointer as C
@@ -56,7 +56,7 @@ unmarked_spec 𝓤 𝓛 𝓜 𝓡 wired Y K g d dd met md =
     use1 𝓛 (‵ (hidden_shr D κ (q, (tt, tt)) b o) ⊛ ‵ (fhide (pointer_shares holds lim q j.text j.right j.seat j.block j.history κ)))
     (lent_out 𝓛 (C.struct B g) (C.the_codes Y.Denot B.coded (Marker.the_row B).coded) (C.the_heap B g) (C.the_lent B g) κ j b o) $
     split ! $ drop ! $ unhide ! $ fsplit ! $ drop ! $ fpick ! (λ t. fsplit ! $ fsplit ! $ fpick ! (λ is. drop ! $ drop ! $
-    rewrite ! 0 (λ (right : ℕ). ‵ (shown P lim qb qo t s j.seat right κ)) marked refl $ fsplit3 ! $
+    rewrite ! 0 (λ (right : Right). ‵ (shown P lim qb qo t s j.seat right κ)) marked refl $ fsplit3 ! $
     -- [that it is marked; the invariant; what is shared; the owed pointer; the tokens]
     move ! (2 ∷ []) $ drop ! $ move ! (2 ∷ 1 ∷ 0 ∷ []) $ use3 𝓛 (later (given (h.block ≢ j.block) (‵ (Row.own_val h vs)))) (other_block 𝓛 P lim qb qo t B g h vs j.block mine is) $ await ! tt $ learn ! (λ away.
     sets ! (of_opd ! (get ! refl)) refl (typed p) $
