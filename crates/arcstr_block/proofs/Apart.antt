@@ -9,7 +9,6 @@ use types.Logic.{Logic, sem}
 use types.Kit.{‵, ◌⊛◌, given, ◌$◌, ◌∵◌, !, qed, by, move, keep, drop, split, fsplit, fjoin, fpick, fpack, use1, use2, learn, check, rewrite, done}
 use denote.RattleType.{RattleType}
 use denote.RawPtr.{block_of, count_of}
-use denote.Param.Laws.{Laws}
 use Rattle.core.specs.declared.alloc.Allocator.{Ghosts}
 use Rattle.arcstr_block.proofs.Decided.{owed_or_not}
 use Rattle.arcstr_block.specs.Rights.{HasSeat, owed, Right}

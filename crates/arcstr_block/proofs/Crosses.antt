@@ -1,5 +1,5 @@
 -- A pointer to a block may cross threads, where its content and its allocator may: no part of what it owns names a thread.
-use Rattle.std.proofs.Common.{ℕ, zero, suc, ◌+◌, Bool, true, false, List, [], ◌∷◌, length}
+use Rattle.std.proofs.Common.{ℕ, suc, ◌+◌, Bool, true, false, List, [], ◌∷◌, length}
 use mir.Raw.{raw}
 use base.Growing.{latest, at_least}
 use base.Fml.{Lft, GName, Share, Fml}

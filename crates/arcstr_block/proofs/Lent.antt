@@ -1,5 +1,5 @@
 -- What a `&` to a pointer holds: a share of its token, the invariant and what is shared. Assumes `Logic`.
-use Rattle.std.proofs.Common.{ℕ, zero, suc, List, [], ◌∷◌}
+use Rattle.std.proofs.Common.{ℕ, List, [], ◌∷◌}
 use seplogic.Ra.Ura.{Ura}
 use base.FractionLaws.{Counts}
 use base.Logic.{SProp, ent, sep, wand, upd_i, id⊢, snd∗}
@@ -16,7 +16,6 @@ use Rattle.core.proofs.cell.Borrows.{by_one}
 use base.Share.{three_quarters}
 use Rattle.std.proofs.Common.{◌≡◌}
 use mathlib.Core.Logic.{dite}
-use native.Mathlib.Decide.{ℕ_discrete}
 use base.Logic.{emp, all_i, all_e}
 use types.Kit.{fpack}
 use Rattle.arcstr_count.specs.declared.steps.Step.{Step}

@@ -1,13 +1,13 @@
 -- The memory of a block: its size, its three rooms, what is lent of it, and the way back to room. Assumes `Logic`.
-use Rattle.std.proofs.Common.{◌≡◌, ℕ, ◌+◌, ◌*◌, ◌/◌, ◌<◌, ◌^◌, List, [], ◌∷◌, length, refl, ap, ◌∙◌, arith}
+use Rattle.std.proofs.Common.{◌≡◌, ℕ, ◌+◌, List, [], ◌∷◌, length, refl, ap, ◌∙◌, arith}
 use seplogic.Ra.Ura.{Ura}
 use base.Fraction.{full_share}
-use base.Logic.{SProp, ent, sep, wand, via, apply∗}
+use base.Logic.{ent, sep, apply∗}
 use base.Fml.{Lft, Fml, fsep, feq, fwand, froom}
 use contract.BorrowLft.{⊑_static}
 use mir.Syntax.{Ty, w8, w64, ty_int, ty_array, tcons, tnil}
 use mir.Raw.{raw as bare}
-use mir.Val.{Val, vint}
+use mir.Val.{vint}
 use prog.Memory.{size, align, capped}
 use prog.Capped.{capped_is}
 use prog.RawLaws.{size-raw, align-raw}

@@ -1,5 +1,5 @@
 -- The places of a block's bytes, as a `Slots` at a call: made of room, and given up once each byte is written. Assumes `Logic`.
-use Rattle.std.proofs.Common.{◌≡◌, ℕ, suc, ◌+◌, ◌*◌, ◌^◌, ◌<◌, Bool, true, false, List, [], ◌∷◌, ◌++◌, length, replicate, refl, sym, ap, ◌∙◌, arith}
+use Rattle.std.proofs.Common.{◌≡◌, ℕ, suc, ◌+◌, ◌*◌, ◌^◌, ◌<◌, Bool, true, false, List, [], ◌∷◌, ◌++◌, length, refl, ap, ◌∙◌, arith}
 use seplogic.Ra.Ura.{Ura}
 use lib.Dec.{T, lit<}
 use mir.Syntax.{w64, ty_int, ty_ptr, ty_struct, tcons, tnil}
@@ -8,14 +8,14 @@ use denote.Laws.{Is, shows}
 use denote.Struct.Struct.{Struct}
 use denote.Struct.Owning.{shape}
 use base.Fraction.{full_share}
-use base.Logic.{SProp, ent, sep, ex, guard, emp, never, id⊢}
-use base.Fml.{ftrue, fsep, flft, froom}
+use base.Logic.{SProp, ent, ex, guard, emp, id⊢}
+use base.Fml.{ftrue, fsep, flft}
 use prog.Memory.{Memory}
 use prog.Routine.{Routine}
 use contract.Monad.{Fun, fact, fact_i}
 use contract.BorrowLft.{◌⊑◌, ⊑_refl}
 use types.Logic.{Logic, sem}
-use types.Kit.{‵, raw, ◌⊛◌, some, later, ◌$◌, ◌∵◌, !, qed, by, move, keep, use0, use1, drop, split, split3, join, pick, fsplit, fjoin, fpick, feq_l, feq_i, flt_l, flt_i, frame, rewrite, check, show, await, updating, now, done}
+use types.Kit.{‵, raw, ◌⊛◌, some, later, ◌$◌, ◌∵◌, !, qed, by, move, use0, use1, drop, split, split3, join, pick, fsplit, fjoin, fpick, feq_l, feq_i, flt_l, flt_i, frame, rewrite, check, show, await, updating, now, done}
 use denote.Exit.{no, left}
 use denote.RattleType.{RattleType}
 use denote.Builtin.{u8, usize}

@@ -1,7 +1,6 @@
 -- One step on a block's word, and what it gains. Assumes `Logic`.
 use Rattle.std.proofs.Common.{◌≡◌, ℕ, ◌+◌, ◌-◌, ◌^◌, ◌<◌, Bool, true, false, [], ◌∷◌, refl, arith, w64, Some, None}
 use mathlib.Core.Logic.{dite}
-use native.Mathlib.Decide.{ℕ_discrete}
 use seplogic.Ra.Ura.{Ura}
 use mir.Syntax.{ty_int}
 use mir.Val.{vint, has_ty, WT}

@@ -11,7 +11,6 @@ use types.Kit.{‵, raw, later, ◌$◌, ◌∵◌, !, qed, by, move, keep, fspl
 use types.Tokens.{shr_bor-open}
 use types.Within.{tokens_halve}
 use denote.RattleType.{RattleType}
-use denote.Param.Laws.{Laws}
 use Rattle.core.specs.declared.alloc.Allocator.{Ghosts}
 use Rattle.arcstr_block.specs.Rights.{owed}
 use Rattle.arcstr_block.specs.Book.{Book}

@@ -1,5 +1,5 @@
 -- `make` asks the allocator for a block's room, cuts it in three, writes the word and the length, and makes places of the rest.
-use Rattle.std.proofs.Common.{◌≡◌, ℕ, ◌+◌, ◌^◌, ◌<◌, Bool, true, false, List, [], ◌∷◌, length, replicate, sym, refl, ap, ◌∙◌, arith, lit<, w64}
+use Rattle.std.proofs.Common.{◌≡◌, ℕ, ◌+◌, ◌^◌, ◌<◌, Bool, true, false, List, [], ◌∷◌, length, replicate, sym, refl, ◌∙◌, arith, lit<, w64}
 use lib.ListN.{length-replicate}
 use mir.Syntax.{Ty, Body, dcons, dnil, a_type, named, w8, ty_int, ty_array}
 use mir.Raw.{raw as bare}
@@ -12,11 +12,11 @@ use prog.Wp.{Wp, after_seq, at_return}
 use contract.BorrowLft.{◌⊑◌}
 use contract.Running.{tables}
 use contract.Monad.{fact, fact_i}
-use types.Kit.{‵, raw, ◌⊛◌, any_q, some, given, later, at_ret, ◌$◌, ◌∵◌, !, qed, by, move, keep, drop, use0, use1, use2, split, join, fsplit, fsplit3, fjoin, fjoin3, fpack, pick, learn, await, rewrite, feq_i}
+use types.Kit.{‵, raw, ◌⊛◌, any_q, some, given, later, at_ret, ◌$◌, ◌∵◌, !, qed, by, move, keep, use0, use1, use2, split, join, fsplit, fsplit3, fjoin, fjoin3, fpack, pick, learn, await, rewrite, feq_i}
 use types.Match.{live, vrt, in_variant}
 use types.Run.{stop, fld, addr, lit, of_opd, no_more, and_then, first, blocks, switches_on, init, assigns, exec, returns, enter}
 use types.ByLocal.{alloc_all, pass_all, free_all, look_at, get, get_in, get_tag, through, sets, sets_last, lands_as, env}
-use types.Part.{agg, sub, whole as all_of_it}
+use types.Part.{agg, whole as all_of_it}
 use denote.Builtin.{RefOf, u8, u64, usize}
 use denote.Exit.{yes}
 use denote.Memory.{part_at}

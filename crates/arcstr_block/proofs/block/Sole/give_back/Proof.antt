@@ -1,5 +1,5 @@
 -- `give_back` makes room of the block, and hands it to the allocator.
-use Rattle.std.proofs.Common.{◌≡◌, ℕ, ◌+◌, ◌^◌, ◌<◌, List, [], ◌∷◌, length, sym, refl, ap, ◌∙◌, subst, lit<, w64}
+use Rattle.std.proofs.Common.{◌≡◌, ℕ, ◌^◌, ◌<◌, List, [], ◌∷◌, length, sym, refl, ◌∙◌, subst, lit<, w64}
 use mir.Syntax.{Ty, dcons, dnil, a_type, named, ty_unit}
 use mir.Raw.{raw as bare}
 use mir.Val.{Val, vunit, vint, vptr, has_ty, WT}

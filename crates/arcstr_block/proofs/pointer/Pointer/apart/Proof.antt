@@ -17,7 +17,6 @@ use denote.Signature.{types_at, plain}
 use denote.RawPtr.{Ptr}
 use denote.Steps.{nothing, heard}
 use denote.Param.{param, bounded}
-use denote.Param.Laws.{param_laws}
 use denote.Triple.Entry.{alive}
 use denote.Triple.Walked.{Stays, stay_dropped, walk_of, Goes-dropped}
 use Rattle.atomic_table.proofs.Walks.{proved, leaves}

@@ -22,7 +22,6 @@ use contract.BorrowLft.{meet_⊑_left}
 use denote.Laws.{Is, shows}
 use denote.Memory.{cell_at, hidden_shr}
 use denote.Param.{param, bounded}
-use denote.Param.Laws.{param_laws}
 use denote.Array.{Array}
 use denote.Builtin.{RefOf, u8, usize}
 use denote.Plain.{uint_vals, uint_Tells}

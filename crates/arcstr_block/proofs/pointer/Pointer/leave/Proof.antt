@@ -1,5 +1,5 @@
 -- `leave` is one fetch-sub. The last one has the word and what the block owns.
-use Rattle.std.proofs.Common.{◌≡◌, ℕ, ◌+◌, ◌^◌, List, [], ◌∷◌, ◌++◌, sym, refl, ap, subst, if◌then◌else◌, lit<, w64, length}
+use Rattle.std.proofs.Common.{◌≡◌, ℕ, ◌+◌, ◌^◌, List, [], ◌∷◌, ◌++◌, sym, refl, ap, subst, if◌then◌else◌, lit<, w64}
 use mir.Syntax.{dcons, dnil, a_type}
 use mir.Val.{Val, vint, vptr, vstruct, of_list}
 use mir.MapTy.{inst_fn}
@@ -17,9 +17,7 @@ use denote.Signature.{types_at, plain}
 use denote.RawPtr.{Ptr, InBlock, block_ptr, ptr_val, block_of, count_of, at_block}
 use denote.Steps.{nothing, heard}
 use denote.Param.{param, bounded}
-use denote.Param.Laws.{param_laws}
 use denote.Builtin.{u64}
-use denote.Struct.Lending.{lent_at_shr_laws}
 use denote.Triple.Entry.{alive}
 use denote.Triple.Walked.{Stays, stay_dropped, walk_of, Goes-dropped}
 use Rattle.core.proofs.atomic.Steps.{tail}

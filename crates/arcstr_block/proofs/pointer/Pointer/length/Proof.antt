@@ -22,7 +22,6 @@ use contract.BorrowLft.{meet_⊑_left}
 use denote.Laws.{Is, shows}
 use denote.Memory.{cell_at, hidden_shr}
 use denote.Param.{param, bounded}
-use denote.Param.Laws.{param_laws}
 use denote.Builtin.{RefOf, usize}
 use denote.Ref.{shr_vals, shr_Tells}
 use denote.Struct.Lending.{lent_at, lent_out}

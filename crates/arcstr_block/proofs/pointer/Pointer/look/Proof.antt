@@ -1,5 +1,5 @@
 -- `look` is one load. Whoever finds the mark has a share for good.
-use Rattle.std.proofs.Common.{◌≡◌, ℕ, ◌+◌, ◌^◌, List, [], ◌∷◌, ◌++◌, sym, refl, ap, ◌∙◌, lit<, w64, length}
+use Rattle.std.proofs.Common.{◌≡◌, ℕ, ◌+◌, ◌^◌, List, [], ◌∷◌, ◌++◌, sym, refl, ap, ◌∙◌, lit<, w64}
 use mir.Syntax.{dcons, dnil, a_type, named}
 use mir.Val.{Val, vint, vptr, vstruct, of_list}
 use mir.MapTy.{inst_fn}
@@ -22,10 +22,9 @@ use denote.Opens.{unhide}
 use denote.Laws.{Is, shows}
 use denote.Memory.{cell_at, hidden_shr}
 use denote.Param.{param, bounded}
-use denote.Param.Laws.{param_laws}
 use denote.Builtin.{RefOf, u64}
 use denote.Ref.{shr_vals, shr_Tells}
-use denote.Struct.Lending.{lent_out, lent_at_shr_laws}
+use denote.Struct.Lending.{lent_out}
 use denote.Triple.Walked.{Stays, stay_dropped, walk_of, Goes-dropped}
 use Rattle.core.proofs.atomic.Steps.{tail}
 use Rattle.core.specs.contracts.marker.PhantomData as Marker

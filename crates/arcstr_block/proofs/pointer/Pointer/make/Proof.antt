@@ -1,5 +1,5 @@
 -- `make` puts the word under the ledger's invariant, and lends what the block owns.
-use Rattle.std.proofs.Common.{◌≡◌, ℕ, ◌+◌, List, [], ◌∷◌, length, sym, refl, ap}
+use Rattle.std.proofs.Common.{◌≡◌, ℕ, ◌+◌, List, [], ◌∷◌, sym, refl, ap}
 use mir.Syntax.{dcons, dnil, a_type}
 use mir.Val.{Val}
 use mir.MapTy.{inst_fn}
@@ -24,7 +24,7 @@ use Rattle.atomic_table.proofs.Walks.{proved, leaves}
 use Rattle.arcstr_count.specs.Word.{bits_of, fresh_word}
 use Rattle.arcstr_count.specs.declared.steps.Step.TheVariants.{Make}
 use Rattle.arcstr_block.specs.Word.{IsLimit}
-use Rattle.arcstr_block.specs.Rights.{counted, Right}
+use Rattle.arcstr_block.specs.Rights.{counted}
 use Rattle.arcstr_block.specs.Book.{reached}
 use Rattle.arcstr_block.specs.Memory.{IsText, block_owns, block_shares}
 use Rattle.arcstr_block.specs.Ledger.{Id, names, held_with, of_block}

@@ -1,7 +1,7 @@
 -- `release` takes the block out whole, with its length, and ends its history.
 use Rattle.std.proofs.Common.{◌≡◌, ℕ, ◌+◌, ◌^◌, ◌<◌, List, [], ◌∷◌, ◌++◌, length, sym, refl, ap, arith}
 use mir.Syntax.{dcons, dnil, a_type, w64}
-use mir.Val.{Val, vint, vstruct, of_list, WT}
+use mir.Val.{Val, vint, vstruct, of_list}
 use mir.MapTy.{inst_fn}
 use base.Fraction.{full_share}
 use base.Logic.{SProp, emp, via}
@@ -32,7 +32,7 @@ use Rattle.arcstr_count.specs.declared.steps.HandleState.TheVariants.{Gone}
 use Rattle.arcstr_count.specs.declared.steps.Reply.TheVariants.{Given}
 use Rattle.arcstr_block.specs.Rights.{owed, Right}
 use Rattle.arcstr_block.specs.Book.{Book, seat, Ends}
-use Rattle.arcstr_block.specs.Memory.{Fits, length_lies, text_lies, block_owns, block_shares}
+use Rattle.arcstr_block.specs.Memory.{Fits, length_lies, block_owns, block_shares}
 use Rattle.arcstr_block.specs.Ledger.{held_with}
 use Rattle.arcstr_block.specs.contracts.block.Sole as S
 use Rattle.arcstr_block.specs.contracts.pointer.Pointer as C

@@ -19,10 +19,9 @@ use denote.Steps.{nothing}
 use denote.Opens.{unhide}
 use denote.Memory.{hidden_shr}
 use denote.Param.{param, bounded}
-use denote.Param.Laws.{param_laws}
 use denote.Builtin.{RefOf, unit}
 use denote.Ref.{shr_vals, shr_Tells}
-use denote.Struct.Lending.{lent_out, lent_at_shr_laws}
+use denote.Struct.Lending.{lent_out}
 use denote.Triple.Walked.{Stays, stay_dropped, walk_of, Goes-dropped}
 use Rattle.core.specs.contracts.marker.PhantomData as Marker
 use Rattle.atomic_table.proofs.Walks.{proved, leaves}
