@@ -10,6 +10,7 @@ pub mod Steps
 pub mod Changes
 pub mod Decided
 pub mod Rights
+pub mod Loads
 pub mod Turns
 pub mod Begins
 pub mod Fields

@@ -1,5 +1,5 @@
 -- The right that a pointer to a block has, and what each step on the word gains.
-use Rattle.std.specs.Prelude.{◌≡◌, ◌≢◌, ℕ, zero, suc, refl}
+use Rattle.std.specs.Prelude.{◌≡◌, ◌≢◌, ℕ, zero, suc, Bool, true, false, refl}
 use Rattle.std.specs.Coded.{Coded, code_by, coded_ℕ}
 use Rattle.arcstr_block.specs.Word.{IsMarked, IsUnmarked, IsLast}
 
@@ -68,6 +68,11 @@ Looks word gained = (IsMarked word → gained ≡ fixed) × (IsUnmarked word →
 -- the load of a clone that found the word: where it is marked the clone is had
 abbrev pub Finds : ℕ → Right → Type 0
 Finds word gained = (IsMarked word → gained ≡ uncounted) × (IsUnmarked word → gained ≡ nothing)
+
+-- a load that found the word: of a clone, or a look
+abbrev pub Loads : Bool → ℕ → Right → Type 0
+Loads true word gained = Finds word gained
+Loads false word gained = Looks word gained
 
 -- a compare-exchange of old to its clone new, which found the word
 abbrev pub Gains : ℕ → ℕ → ℕ → Right → Type 0

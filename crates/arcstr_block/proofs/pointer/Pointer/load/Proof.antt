@@ -1,10 +1,10 @@
--- `find` is one load. Whoever finds the mark has a clone.
-use Rattle.std.proofs.Common.{◌≡◌, ℕ, ◌+◌, ◌^◌, List, [], ◌∷◌, ◌++◌, sym, refl, ap, ◌∙◌, lit<, w64}
+-- `load` is one load. A look that finds the mark has a share for good, and a clone that finds it is had.
+use Rattle.std.proofs.Common.{◌≡◌, ℕ, Bool, ◌+◌, ◌^◌, List, [], ◌∷◌, ◌++◌, sym, refl, ap, ◌∙◌, lit<, w64}
 use mir.Syntax.{dcons, dnil, a_type, named}
 use mir.Val.{Val, vint, vptr, vstruct, of_list}
 use mir.MapTy.{inst_fn}
 use base.Logic.{SProp, emp, via}
-use base.Fml.{Lft, Share, Fml, ftrue, fsep, fex, feq, flft, fhide, finv, fshr_bor}
+use base.Fml.{Lft, Share, Fml, ftrue, fsep, feq, flft, fhide, finv, fshr_bor}
 use types.Kit.{‵, raw, ◌⊛◌, later, mean, at_ret, ◌$◌, ◌∵◌, !, qed, by, move, keep, drop, split, split3, join, fsplit, fsplit3, fjoin, fjoin3, fpick, fpack, use0, use1, use2, use3, await, rewrite, feq_i, flt_i}
 use types.Run.{stop, fld, load, addr, lit, of_opd, no_more, and_then, first, blocks, exec, Calls-last, returns, enter}
 use types.ByLocal.{alloc_all, pass_all, free_all, look_at, get, through, sets, lands_last, is, env}
@@ -30,27 +30,33 @@ use Rattle.core.proofs.atomic.Steps.{tail}
 use Rattle.core.specs.contracts.marker.PhantomData as Marker
 use Rattle.atomic_table.proofs.Walks.{proved, leaves}
 use Rattle.atomic_table.proofs.Calls.{fm, seq_cst, found, finds, loads}
-use Rattle.arcstr_block.specs.Word.{IsWord, IsMarked}
-use Rattle.arcstr_block.specs.Rights.{IsFree, Finds, Right}
+use Rattle.arcstr_block.specs.Word.{IsWord, word_of}
+use Rattle.arcstr_block.specs.Rights.{IsFree, Loads, Right}
 use Rattle.arcstr_block.specs.Memory.{IsText, block_owns, block_shares}
-use Rattle.arcstr_block.specs.Ledger.{Id, Inv, knows, right_to, of_block, pointer_shares}
+use Rattle.arcstr_block.specs.Ledger.{Id, names, Inv, knows, right_to, of_block, pointer_shares}
 use Rattle.arcstr_block.proofs.Memory.{shares_laws}
 use Rattle.arcstr_block.specs.contracts.pointer.Pointer as C
 use Rattle.arcstr_block.proofs.Fields.{pointer_val, typed, found_val, found_typed, Words, told, made, opened}
 use base.Share
 use Rattle.arcstr_count.specs.declared.steps.HandleState.TheVariants.{Free}
-use Rattle.arcstr_block.specs.Book.{seat_share}
+use Rattle.arcstr_count.specs.OneBlock.{EndsIn, look_reply}
+use Rattle.arcstr_block.specs.Book.{seat_share, Ends}
 use Rattle.arcstr_block.proofs.Seats.{seat_halves}
-use Rattle.arcstr_block.proofs.Turns.{finds as turn_finds}
+use Rattle.arcstr_count.specs.declared.steps.Step.TheVariants.{Look}
+use Rattle.arcstr_count.specs.Word.{looked_of}
+use Rattle.arcstr_block.proofs.Book.{book_look}
 use Rattle.arcstr_block.proofs.Rights as rights
+use Rattle.arcstr_block.proofs.Loads as steps_of
+use Rattle.arcstr_block.specs.Same.{LoadedAs}
+use Rattle.arcstr_count.specs.declared.steps.Step.{Step}
 use Rattle.arcstr_block.proofs.Steps as steps
-use Rattle.arcstr_block.specs.contracts.pointer.Pointer.find.{ended, clauses}
-use Rattle.arcstr_block.specs.contracts.pointer.Pointer.find.Key.{name as #self}
-use Rattle.arcstr_block.proofs.pointer.Pointer.find.Statement.{statement}
-use Rattle.arcstr_block.proofs.pointer.Pointer.find.Code as code
+use Rattle.arcstr_block.specs.contracts.pointer.Pointer.load.{ended, clauses}
+use Rattle.arcstr_block.specs.contracts.pointer.Pointer.load.Key.{name as #self}
+use Rattle.arcstr_block.proofs.pointer.Pointer.load.Statement.{statement}
+use Rattle.arcstr_block.proofs.pointer.Pointer.load.Code as code
 
-pub find_spec : {M : Type 1} → statement M
-find_spec 𝓤 𝓛 𝓜 𝓡 wired Y K g d dd met md =
+pub load_spec : {M : Type 1} → statement M
+load_spec 𝓤 𝓛 𝓜 𝓡 wired Y K g d dd met md =
     let H = 𝓛.H in let 𝓣 = tables 𝓤 H 𝓜 𝓡 𝓡.env in let B : RattleType = param 0 Y in let En = ended Y g d dd in let c = clauses Y g d dd 𝓛 𝓜.mem 𝓡.returns in
     let inst = bounded (a_type ∷ []) (Y, tt) (dcons d (dcons dd dnil)) in let fn = inst_fn inst code.function in let closed = code.unfolded 𝓤 H 𝓜 𝓡 wired (Y, tt) d dd in
     let Row : RattleType = C.the_row B g in let D : RattleType = Words B g in let self = RefOf (0 ∷ []) tt (plain (λ _. Row)) (λ _. tt) in let hs : Stays En.signature.params En.kept = (stay_dropped self yes, tt) in
@@ -80,11 +86,11 @@ find_spec 𝓤 𝓛 𝓜 𝓡 wired Y K g d dd met md =
     move ! (5 ∷ 0 ∷ []) $ shr_bor-open ! tt (tokens_halve 𝓛 af) (λ u. move ! (6 ∷ 2 ∷ []) $ shr_bor-open ! tt (seat_halves 𝓛 t.3 h.seat Free) (λ v. let Mine : Fml = seat_share t.3 h.seat v Free in
     -- [the open seat; its share; the open share; its token; what is known; the invariant; what is shared; the beginning; the others]
     move ! (5 ∷ []) $ use1 𝓛 (‵ (finv I) ⊛ ‵ (finv I)) (𝓛.invs.inv_dup I) $ split ! $
-    let said : ℕ → Fml = λ n. fsep Mine (rights.newborn 𝓛 P lim pb po t s sl (IsMarked n)) in
+    let clones : Bool = gh in let said : ℕ → Fml = λ n. fsep Mine (steps_of.entered 𝓛 P lim pb po t s sl h.seat clones n) in
     -- [the invariant, twice; the open seat; its share; the open share; its token; what is known; what is shared; the beginning; the others]
     move ! (5 ∷ 6 ∷ []) $ fjoin ! $ move ! (1 ∷ 0 ∷ 4 ∷ []) $ let after : ℕ → Fml = steps.all_after 𝓛 P lim pb po t (λ n. n) (steps.Told 𝓛 P lim pb po t u right) (steps.With 𝓛 P lim pb po t u right) (flft af u) said in
     use3 𝓛 (raw (𝓣.C _ (vptr pb po ∷ seq_cst ∷ []) (λ r. mean 𝓛 (found after r))))
-    (via 𝓤 _ (steps.loads 𝓛 P lim pb po t u right Mine said (λ n _. turn_finds 𝓛 lim t.2 t.3 h.seat v n)) (loads 𝓛 𝓜 𝓡 (code.calls-core::raw_atomic::load 𝓡.env wired) (block_ptr pb po) after)) $
+    (via 𝓤 _ (steps.loads 𝓛 P lim pb po t u right Mine said (λ n _. steps_of.enters 𝓛 P lim pb po t s sl h.seat clones v n)) (loads 𝓛 𝓜 𝓡 (code.calls-core::raw_atomic::load 𝓡.env wired) (block_ptr pb po) after)) $
     first ! $ blocks ! $ sets ! (addr ! (through ! refl (fld ! refl (stop !)))) refl (tt, tt) $ sets ! (agg ! (and_then ! (lit ! tt) (no_more !))) refl (tt, (record { fits = lit< tt }, tt)) $
     Calls-last ! (fm 𝓛 𝓜 𝓡) (found after) (and_then ! (get ! refl) (and_then ! (get ! refl) (no_more !))) (λ r. finds ! after (λ n fits.
     lands_last ! refl (tt, record { fits = fits }) $ exec ! 𝓣.C 𝓣.Λ Ev (tail (tail fn.body)) (at_ret Ev Post) $ sets ! (of_opd ! (get ! refl)) refl (tt, record { fits = fits }) $
@@ -95,14 +101,17 @@ find_spec 𝓤 𝓛 𝓜 𝓡 wired Y K g d dd met md =
     -- [κ; what is said; the gain; the invariant; what is shared; the beginning; the others]
     move ! (0 ∷ 6 ∷ []) $ join ! $ move ! (2 ∷ []) $ fpick ! (λ w. fsplit ! $ fpick ! (λ ok. drop ! $
     -- [the gain; the tokens; what is said; the invariant; what is shared; the beginning]
-    let got = rights.found 𝓛 P lim pb po t s sl n w ok.2 ok.3 in let k : Right = got.right in
-    move ! (0 ∷ 4 ∷ 2 ∷ []) $ use3 𝓛 (later (‵ (fex ℕ (λ j. right_to P lim pb po t s j k)))) got.turns $ await ! tt $ fpick ! (λ j.
-    -- [the right; the tokens; the invariant; the beginning]
-    move ! (2 ∷ 0 ∷ []) $ fjoin ! $ move ! (2 ∷ 0 ∷ []) $ fjoin ! $
-    fpack ! Id (of_block holds lim p h.text k j h.block h.history) t $ nothing ! $ fpack ! (InBlock p × IsText h.text) (λ _. ftrue) inb $ fjoin ! $ let h' : Row.Denot = record h { right = k; seat = j } in let r : Val = found_val n p in
+    move ! (5 ∷ []) $ fsplit ! $ fpick ! (λ named. drop ! $
+    -- [the beginning; the gain; the tokens; what is said; the invariant; what is shared]
+    let got = steps_of.loaded 𝓛 P lim pb po t s sl h.seat clones n h.history w ok.2 ok.3 in let k : Right = got.right in
+    move ! (1 ∷ 5 ∷ 3 ∷ 0 ∷ []) $ types.Kit.group ! 4 $ use1 𝓛 (later (‵ (steps_of.After 𝓛 P lim pb po t s sl h.seat clones n k))) got.turns $ await ! tt $
+    fpick ! (λ x. let j : ℕ = x.0 in let r' : List Step = x.1 in fsplit3 ! $ fpick ! (λ ends. drop ! $
+    -- [the beginning; the right; the tokens; the invariant]
+    move ! (3 ∷ 1 ∷ []) $ fjoin ! $ move ! (1 ∷ []) $ nothing ! $ fpack ! (names t ≡ h.block) (λ _. ftrue) named $ fjoin ! $ fjoin ! $
+    fpack ! Id (of_block holds lim p h.text k j h.block r') t $ nothing ! $ fpack ! (InBlock p × IsText h.text) (λ _. ftrue) inb $ fjoin ! $ let h' : Row.Denot = record h { right = k; seat = j; history = r' } in let r : Val = found_val n p in
     use0 𝓛 (‵ (D.own_val (p, (tt, tt)) (pointer_val p ∷ []))) (made B g 𝓛 p) $ fjoin ! $ nothing ! $ flt_i ! n (2 ^ 64) fits $ feq_i ! (List Val) (vint w64 n ∷ []) (vint w64 n ∷ []) refl $ fjoin ! $
     move ! (0 ∷ 2 ∷ 1 ∷ []) $ fjoin3 ! $ feq_i ! (List Val) (r ∷ []) (r ∷ []) refl $ fjoin ! $
     fpack ! (Valss (u64 ∷ Row ∷ [])) (λ uss. fsep (feq (List Val) (r ∷ []) (vstruct (of_list (uss.0 ++ (uss.1.0 ++ []))) ∷ [])) (owns (u64 ∷ Row ∷ []) (n, (h', tt)) uss)) (vint w64 n ∷ [], (pointer_val p ∷ [], tt)) $
-    let Same : Type 0 = (h.home ≡ h.home) × (h.text ≡ h.text) × (lim ≡ lim) × (h.block ≡ h.block) in
-    use0 𝓛 (raw (fact 𝓤 Same)) (fact_i 𝓤 Same (emp 𝓤) (refl, refl, refl, refl)) $ use0 𝓛 (raw (fact 𝓤 (Finds n k))) (fact_i 𝓤 (Finds n k) (emp 𝓤) got.said) $ join ! $ use0 𝓛 (raw (fact 𝓤 (IsWord lim n))) (fact_i 𝓤 (IsWord lim n) (emp 𝓤) ok.0) $ join ! $
-    nothing ! $ nothing ! $ fjoin ! $ returns ! (look_at ! 0 refl) $ free_all ! refl $ keep ! (3 ∷ 0 ∷ 2 ∷ 1 ∷ []) $ by ! (leaves 𝓛 En hs c y r (n, h') (tt, tt) (tt, tt))))))))))))))))
+    let Same : Type 0 = (h.home ≡ h.home) × (h.text ≡ h.text) × (lim ≡ lim) × (h.block ≡ h.block) in let Saw : Type 0 = LoadedAs clones h n h' in
+    use0 𝓛 (raw (fact 𝓤 Same)) (fact_i 𝓤 Same (emp 𝓤) (refl, refl, refl, refl)) $ use0 𝓛 (raw (fact 𝓤 Saw)) (fact_i 𝓤 Saw (emp 𝓤) ends) $ join ! $ use0 𝓛 (raw (fact 𝓤 (Loads clones n k))) (fact_i 𝓤 (Loads clones n k) (emp 𝓤) got.said) $ join ! $ use0 𝓛 (raw (fact 𝓤 (IsWord lim n))) (fact_i 𝓤 (IsWord lim n) (emp 𝓤) ok.0) $ join ! $
+    nothing ! $ nothing ! $ fjoin ! $ returns ! (look_at ! 0 refl) $ free_all ! refl $ keep ! (3 ∷ 0 ∷ 2 ∷ 1 ∷ []) $ by ! (leaves 𝓛 En hs c y r (n, h') (tt, tt) (tt, tt))))))))))))))))))
