@@ -19,6 +19,10 @@ module _ {A : Type 0} where
   abbrev pub IsSameBlock : Pointer A → Pointer A → Type 0
   IsSameBlock q p = (q.home ≡ p.home) × (q.text ≡ p.text) × (q.limit ≡ p.limit) × (q.block ≡ p.block)
 
+  -- a clone made by p has its text and its block
+  abbrev pub IsCloneOf : Pointer A → Pointer A → Type 0
+  IsCloneOf q p = (q.text ≡ p.text) × (q.block ≡ p.block)
+
   -- what q has seen ends in this step of p's handle, and the core answered so
   abbrev pub SawStep : Pointer A → Pointer A → Step → Reply → Type 0
   SawStep p q s reply = EndsIn p.limit q.history s reply

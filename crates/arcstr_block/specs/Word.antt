@@ -1,5 +1,5 @@
 -- What the number of a block's word says: whether the block is marked, and a count. `bits_of` of `arcstr_count` is the encoding, and this file alone tells its numbers.
-use Rattle.std.specs.Prelude.{◌≡◌, ℕ, ◌+◌, ◌/◌, ◌%◌, ◌==◌, ◌<◌, ◌≤◌, true, false}
+use Rattle.std.specs.Prelude.{◌≡◌, ◌≢◌, ℕ, ◌+◌, ◌/◌, ◌%◌, ◌==◌, ◌<◌, ◌≤◌, true, false}
 use Rattle.arcstr_count.specs.Word.{FlagAndCount, bits_of, fresh_word}
 use Rattle.arcstr_count.specs.declared.words.TheConstants.{RC_MAX}
 
@@ -44,3 +44,7 @@ IsWord limit word = IsUnmarked word → (0 < count_in word) × (count_in word �
 -- a clone of the unmarked word old: the mark above the limit, else one more
 abbrev pub IsClone : ℕ → ℕ → ℕ → Type 0
 IsClone limit old new = IsUnmarked old × (limit < count_in old → new ≡ old + mark) × (count_in old ≤ limit → new ≡ old + one)
+
+-- the unmarked word that an exchange of old found instead
+abbrev pub IsOtherWord : ℕ → ℕ → ℕ → Type 0
+IsOtherWord limit old found = IsUnmarked found × IsWord limit found × (found ≢ old)
