@@ -14,6 +14,7 @@ pub mod Loads
 pub mod Turns
 pub mod Begins
 pub mod Fields
+pub mod Framed
 pub mod Seats
 pub mod Book
 pub mod Memory
