@@ -4,7 +4,7 @@ use mir.Syntax.{dcons, dnil, a_type}
 use mir.Val.{Val, vint, vptr, vstruct, of_list}
 use mir.MapTy.{inst_fn}
 use base.Logic.{SProp, emp, via}
-use base.Fml.{Lft, Fml, ftrue, fsep, feq, flft, finv}
+use base.Fml.{Lft, Fml, ftrue, fsep, feq, flft, finv, fex, Share}
 use types.Kit.{‵, raw, ◌⊛◌, later, mean, at_ret, ◌$◌, ◌∵◌, !, qed, by, move, keep, drop, split, join, fsplit, fsplit3, fjoin, fjoin3, fpick, fpack, use0, use1, use3, await, feq_i, flt_i}
 use types.Run.{stop, fld, addr, lit, of_opd, no_more, and_then, first, blocks, exec, Calls-last, returns, enter}
 use types.ByLocal.{alloc_all, pass_all, free_all, look_at, get, get_in, through, sets, lands_last, is, env}
@@ -30,6 +30,7 @@ use Rattle.arcstr_block.specs.Ledger.{Id, names, Inv, right_to, of_block, free}
 use Rattle.arcstr_block.proofs.Memory.{shares_laws}
 use Rattle.arcstr_block.specs.contracts.pointer.Pointer as C
 use Rattle.arcstr_block.proofs.Fields.{pointer_val, typed, found_val, found_typed, Words, told, made}
+use Rattle.arcstr_block.proofs.Framed as framed
 use Rattle.arcstr_count.specs.declared.steps.HandleState.TheVariants.{Free}
 use Rattle.arcstr_count.specs.declared.steps.Step.TheVariants.{Begin}
 use Rattle.arcstr_count.specs.declared.steps.Reply.TheVariants.{Ended, Looked}
@@ -78,11 +79,11 @@ begin_spec 𝓤 𝓛 𝓜 𝓡 wired Y K g d dd met md =
     fsplit3 ! $ move ! (2 ∷ []) $ fpick ! (λ w. fsplit ! $ fpick ! (λ ok. drop ! $ drop ! $ let got = rights.begins 𝓛 P lim pb po t s sl n h.seat right e may one ok.1 in let k : Right = got.right in
     fsplit ! $ move ! (2 ∷ 3 ∷ 0 ∷ []) $ use3 𝓛 (later (‵ (right_to P lim pb po t s h.seat k))) got.turns $ await ! tt $
     -- [the right; the history's end; the invariant; what was known; the tokens]
-    move ! (2 ∷ 0 ∷ []) $ fjoin ! $ move ! (1 ∷ []) $ fpick ! (λ r'. fsplit ! $ fpick ! (λ ends. drop ! $ move ! (2 ∷ []) $ fsplit ! $ fpick ! (λ named. drop ! $ drop ! $ nothing ! $ fpack ! (names t ≡ h.block) (λ _. ftrue) named $ fjoin ! $ fjoin ! $
-    fpack ! Id (of_block holds lim p h.text k h.seat h.block r') t $ nothing ! $ fpack ! (InBlock p × IsText h.text) (λ _. ftrue) inb $ fjoin ! $ let h' : Row.Denot = record h { right = k; history = r' } in let r : Val = found_val n p in
-    use0 𝓛 (‵ (D.own_val (p, (tt, tt)) (pointer_val p ∷ []))) (made B g 𝓛 p) $ fjoin ! $ nothing ! $ flt_i ! n (2 ^ 64) fits $ feq_i ! (List Val) (vint w64 n ∷ []) (vint w64 n ∷ []) refl $ fjoin ! $
-    move ! (0 ∷ 2 ∷ 1 ∷ []) $ fjoin3 ! $ feq_i ! (List Val) (r ∷ []) (r ∷ []) refl $ fjoin ! $
-    fpack ! (Valss (u64 ∷ Row ∷ [])) (λ uss. fsep (feq (List Val) (r ∷ []) (vstruct (of_list (uss.0 ++ (uss.1.0 ++ []))) ∷ [])) (owns (u64 ∷ Row ∷ []) (n, (h', tt)) uss)) (vint w64 n ∷ [], (pointer_val p ∷ [], tt)) $
+    move ! (1 ∷ []) $ fpick ! (λ r'. fsplit ! $ fpick ! (λ ends. drop ! $ move ! (3 ∷ []) $ fsplit ! $ fpick ! (λ named. drop ! $ drop ! $
+    -- [the beginning; the right; the invariant; the tokens]
+    let h' : Row.Denot = record h { right = k; history = r' } in let r : Val = found_val n p in
+    move ! (1 ∷ 2 ∷ 0 ∷ []) $ use3 𝓛 (‵ (Row.own_val h' (pointer_val p ∷ []))) (framed.pointer_in 𝓛 B g h' t named inb) $
+    use1 𝓛 (‵ (fex (Valss (u64 ∷ Row ∷ [])) (framed.found_as 𝓛 B g h' n))) (framed.found_in 𝓛 B g h' n fits) $
     let Same : Type 0 = (h.home ≡ h.home) × (h.text ≡ h.text) × (lim ≡ lim) × (h.block ≡ h.block) in let Saw : Type 0 = (h.seat ≡ h.seat) × (IsMarked n → EndsIn lim r' (Begin h.seat) Ended) × (IsUnmarked n → EndsIn lim r' (Begin h.seat) Looked) in
     use0 𝓛 (raw (fact 𝓤 Same)) (fact_i 𝓤 Same (emp 𝓤) (refl, refl, refl, refl)) $ use0 𝓛 (raw (fact 𝓤 Saw)) (fact_i 𝓤 Saw (emp 𝓤) (refl, (λ odd. subst (EndsIn lim r' (Begin h.seat)) (ap (λ (v : FlagAndCount). if v.flag then Ended else Looked) (marked_word n odd)) ends), (λ even. subst (EndsIn lim r' (Begin h.seat)) (ap (λ (v : FlagAndCount). if v.flag then Ended else Looked) (unmarked_word n even)) ends))) $ join ! $ use0 𝓛 (raw (fact 𝓤 (Begins n k))) (fact_i 𝓤 (Begins n k) (emp 𝓤) got.said) $ join ! $
     nothing ! $ nothing ! $ fjoin ! $ returns ! (look_at ! 0 refl) $ free_all ! refl $ keep ! (3 ∷ 0 ∷ 2 ∷ 1 ∷ []) $ by ! (leaves 𝓛 En hs c y r (n, h') (tt, tt) (tt, tt))))))))))))))))

@@ -4,7 +4,7 @@ use mir.Syntax.{dcons, dnil, a_type, named}
 use mir.Val.{Val, vint, vptr}
 use mir.MapTy.{inst_fn}
 use base.Logic.{SProp, emp, via}
-use base.Fml.{Lft, Share, Fml, ftrue, fsep, flft, fhide, finv, fshr_bor}
+use base.Fml.{Lft, Share, Fml, ftrue, fsep, flft, fhide, finv, fshr_bor, fex}
 use types.Kit.{‵, raw, ◌⊛◌, later, mean, at_ret, ◌$◌, ◌∵◌, !, qed, by, move, keep, drop, split, split3, join, fsplit, fsplit3, fjoin, fpick, fpack, use0, use1, use2, use3, await, rewrite}
 use types.Run.{stop, fld, load, addr, lit, of_opd, no_more, and_then, first, blocks, exec, Calls-last, returns, enter}
 use types.ByLocal.{alloc_all, pass_all, free_all, look_at, get, through, sets, lands_last, is, env}
@@ -36,6 +36,7 @@ use Rattle.arcstr_block.specs.Ledger.{Id, names, Inv, knows, right_to, of_block,
 use Rattle.arcstr_block.proofs.Memory.{shares_laws}
 use Rattle.arcstr_block.specs.contracts.pointer.Pointer as C
 use Rattle.arcstr_block.proofs.Fields.{pointer_val, typed, Words, told, made, opened}
+use Rattle.arcstr_block.proofs.Framed as framed
 use base.Share
 use Rattle.arcstr_count.specs.declared.steps.HandleState.TheVariants.{Free}
 use Rattle.arcstr_count.specs.OneBlock.{EndsIn}
@@ -78,32 +79,34 @@ mark_spec 𝓤 𝓛 𝓜 𝓡 wired Y K g d dd met md =
     rewrite ! 1 (λ (ws : List Val). ‵ (cell_at e D.mir ws b o)) ev refl $
     sets ! (of_opd ! (load ! (through ! refl (fld ! refl (stop !))) (look_in ! 1 (sub ! 0 refl (whole !))))) refl (tt, tt) $
     rewrite ! 1 (λ (ws : List Val). ‵ (cell_at e D.mir ws b o)) (sym ev) refl $ move ! (1 ∷ 0 ∷ 2 ∷ []) $ shuts ! tt D e (p, (tt, tt)) vs b o $
-    move ! (1 ∷ []) $ drop ! $ use1 𝓛 (‵ (flft κ (Share.left q)) ⊛ ‵ (flft κ (Share.right q))) (𝓛.lfts.lft_split κ q) $ split ! $
-    -- [κ, in halves; what is known; the invariant; what is shared; the share; the seat; the beginning; the others]
-    move ! (5 ∷ 0 ∷ []) $ shr_bor-open ! tt (tokens_halve 𝓛 af) (λ u. move ! (6 ∷ 2 ∷ []) $ shr_bor-open ! tt (seat_halves 𝓛 t.3 h.seat Free) (λ v. let Mine : Fml = seat_share t.3 h.seat v Free in
-    -- [the open seat; its share; the open share; its token; what is known; the invariant; what is shared; the beginning; the others]
-    move ! (5 ∷ []) $ use1 𝓛 (‵ (finv I) ⊛ ‵ (finv I)) (𝓛.invs.inv_dup I) $ split ! $
+    move ! (1 ∷ []) $ drop ! $ move ! (4 ∷ 5 ∷ 0 ∷ []) $
+    -- [the share; the seat; κ; what is known; the invariant; what is shared; the beginning; the others]
+    use3 𝓛 (later (‵ (fex (Share × Share) (framed.lent_for 𝓛 t.0 t.3 h.seat κ q)))) (framed.borrows 𝓛 t.0 t.3 h.seat κ q) $ await ! tt $ fpick ! (λ out. let u : Share = out.0 in let v : Share = out.1 in let Mine : Fml = seat_share t.3 h.seat v Free in
+    fsplit ! $ move ! (1 ∷ []) $ fsplit ! $
+    -- [the token; the seat; the open borrows; what is known; the invariant; what is shared; the beginning; the others]
+    move ! (4 ∷ []) $ use1 𝓛 (‵ (finv I) ⊛ ‵ (finv I)) (𝓛.invs.inv_dup I) $ split ! $
     let said : ℕ → Fml = λ n. fsep Mine (Ends lim t.2 t.3 (Leak h.seat) Marked) in
-    -- [the invariant, twice; the open seat; its share; the open share; its token; what is known; what is shared; the beginning; the others]
-    move ! (0 ∷ 5 ∷ 3 ∷ []) $ let after : ℕ → Fml = steps.all_after 𝓛 P lim pb po t (changes.with_mark 𝓛 P lim pb po t u) (changes.Fixed 𝓛 P lim pb po t u) (changes.Tok 𝓛 P lim pb po t u) (flft af u) said in
+    -- [the invariant, twice; the token; the seat; the open borrows; what is known; what is shared; the beginning; the others]
+    move ! (0 ∷ 2 ∷ 3 ∷ []) $ let after : ℕ → Fml = steps.all_after 𝓛 P lim pb po t (changes.with_mark 𝓛 P lim pb po t u) (changes.Fixed 𝓛 P lim pb po t u) (changes.Tok 𝓛 P lim pb po t u) (flft af u) said in
     use3 𝓛 (raw (𝓣.C _ (vptr pb po ∷ vint w64 1 ∷ seq_cst ∷ []) (λ r. mean 𝓛 (found after r))))
     (via 𝓤 _ (changes.marks_it 𝓛 P lim pb po t u Mine said (λ n _. book_mark 𝓛 lim t.2 t.3 n h.seat v)) (ors 𝓛 𝓜 𝓡 (code.calls-core::raw_atomic::fetch_or 𝓡.env wired) (block_ptr pb po) 1 (lit< tt) after)) $
     first ! $ blocks ! $ sets ! (addr ! (through ! refl (fld ! refl (stop !)))) refl (tt, tt) $ sets ! (agg ! (and_then ! (lit ! tt) (no_more !))) refl (tt, (record { fits = lit< tt }, tt)) $
     Calls-last ! (fm 𝓛 𝓜 𝓡) (found after) (and_then ! (get ! refl) (and_then ! (lit ! tt) (and_then ! (get ! refl) (no_more !)))) (λ r. finds ! after (λ n fits.
     lands_last ! refl (tt, record { fits = fits }) $ exec ! 𝓣.C 𝓣.Λ Ev (tail (tail fn.body)) (at_ret Ev Post) $
     sets ! (agg ! (no_more !)) refl (tt, tt) $ sets ! (is ! (agg ! (and_then ! (get ! refl) (and_then ! (get ! refl) (no_more !)))) (ap pointer_val (sym at))) refl (typed p) $
-    move ! (4 ∷ []) $ drop ! $
-    -- [what is said; the token; the gain; the invariant; the open seat; the open share; what is shared; the beginning; the others]
-    fsplit3 ! $ fsplit ! $ move ! (5 ∷ 0 ∷ []) $ obor_close ! tt $ drop ! $ move ! (5 ∷ 2 ∷ []) $ obor_close ! tt $ drop ! $ move ! (0 ∷ 1 ∷ []) $ use2 𝓛 (‵ (flft κ q)) (𝓛.lfts.lft_join κ q) $
+    move ! (3 ∷ []) $ drop ! $
+    -- [the seat and what is said; the token; the gain; the invariant; the open borrows; what is shared; the beginning; the others]
+    fsplit3 ! $ fsplit ! $ move ! (2 ∷ 0 ∷ []) $ fjoin ! $ move ! (4 ∷ 0 ∷ []) $ fjoin ! $ use1 𝓛 (later (‵ (flft κ q))) (framed.restores 𝓛 t.0 t.3 h.seat κ q out) $ await ! tt $
     -- [κ; what is said; the gain; the invariant; what is shared; the beginning; the others]
     move ! (0 ∷ 6 ∷ []) $ join ! $ move ! (2 ∷ []) $ fpick ! (λ w. fsplit ! $ fpick ! (λ ok. drop ! $
     -- [the gain; the tokens; what is said; the invariant; what is shared; the beginning]
     let got = rights.marked 𝓛 P lim pb po t s sl w ok in let k : Right = got.right in
-    move ! (0 ∷ 4 ∷ []) $ use2 𝓛 (later (‵ (right_to P lim pb po t s 0 k))) got.turns $ await ! tt $ move ! (3 ∷ 0 ∷ []) $ fjoin ! $
-    -- [the right; the tokens; what is said; the beginning]
-    move ! (2 ∷ []) $ fpick ! (λ r'. fsplit ! $ fpick ! (λ ends. drop ! $ move ! (3 ∷ []) $ fsplit ! $ fpick ! (λ named. drop ! $ drop ! $ nothing ! $ fpack ! (names t ≡ h.block) (λ _. ftrue) named $ fjoin ! $ fjoin ! $
-    fpack ! Id (of_block holds lim p h.text k 0 h.block r') t $ nothing ! $ fpack ! (InBlock p × IsText h.text) (λ _. ftrue) inb $ fjoin ! $ let h' : Row.Denot = record h { right = k; seat = 0; history = r' } in let r : Val = pointer_val p in
-    use0 𝓛 (‵ (D.own_val (p, (tt, tt)) (pointer_val p ∷ []))) (made B g 𝓛 p) $ fjoin ! $
+    move ! (0 ∷ 4 ∷ []) $ use2 𝓛 (later (‵ (right_to P lim pb po t s 0 k))) got.turns $ await ! tt $
+    -- [the right; the tokens; what is said; the invariant; the beginning]
+    move ! (2 ∷ []) $ fpick ! (λ r'. fsplit ! $ fpick ! (λ ends. drop ! $ move ! (4 ∷ []) $ fsplit ! $ fpick ! (λ named. drop ! $ drop ! $
+    -- [the beginning; the right; the tokens; the invariant]
+    let h' : Row.Denot = record h { right = k; seat = 0; history = r' } in let r : Val = pointer_val p in
+    move ! (1 ∷ 3 ∷ 0 ∷ []) $ use3 𝓛 (‵ (Row.own_val h' (pointer_val p ∷ []))) (framed.pointer_in 𝓛 B g h' t named inb) $
     let Same : Type 0 = (h.home ≡ h.home) × (h.text ≡ h.text) × (lim ≡ lim) × (h.block ≡ h.block) in let Saw : Type 0 = EndsIn lim r' (Leak h.seat) Marked in
     use0 𝓛 (raw (fact 𝓤 Same)) (fact_i 𝓤 Same (emp 𝓤) (refl, refl, refl, refl)) $ use0 𝓛 (raw (fact 𝓤 Saw)) (fact_i 𝓤 Saw (emp 𝓤) ends) $ join ! $ use0 𝓛 (raw (fact 𝓤 (k ≡ fixed))) (fact_i 𝓤 (k ≡ fixed) (emp 𝓤) got.said) $ join ! $
-    nothing ! $ nothing ! $ fjoin ! $ returns ! (look_at ! 0 refl) $ free_all ! refl $ keep ! (3 ∷ 0 ∷ 2 ∷ 1 ∷ []) $ by ! (leaves 𝓛 En hs c y r h' (tt, tt) (tt, tt))))))))))))))))))
+    nothing ! $ nothing ! $ fjoin ! $ returns ! (look_at ! 0 refl) $ free_all ! refl $ keep ! (3 ∷ 0 ∷ 2 ∷ 1 ∷ []) $ by ! (leaves 𝓛 En hs c y r h' (tt, tt) (tt, tt)))))))))))))))))
