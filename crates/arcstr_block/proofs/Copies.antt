@@ -20,7 +20,8 @@ one_more : (n : ℕ) (text : List ℕ) → repeat (suc n) text ≡ repeat n text
 one_more zero text = append-nil text
 one_more (suc n) text = ap (λ rest. text ++ rest) (one_more n text) ∙ sym (append_assoc text (repeat n text) text)
 
-pub next_copy : (k m : ℕ) (old text rest : List ℕ) → length text ≡ m → k * m ≤ length old → take (k * m) old ≡ repeat k text → take (suc k * m) ((take (k * m) old ++ text) ++ rest) ≡ repeat (suc k) text
+pub next_copy : (k m : ℕ) (old text rest : List ℕ) → length text ≡ m → k * m ≤ length old → take (k * m) old ≡ repeat k text
+    → take (suc k * m) ((take (k * m) old ++ text) ++ rest) ≡ repeat (suc k) text
 next_copy k m old text rest long within made =
     let front : List ℕ = take (k * m) old in let all : List ℕ = front ++ text in
     let end : suc k * m ≡ length all = omega (arith, suc-mul k m, length-append front text, length-take-le (k * m) old within, long) in

@@ -92,7 +92,8 @@ module _ {M : Type 1} {𝓤 : Ura M} (𝓛 : Logic 𝓤) where
 
       -- beside the word n that the step found
       abbrev pub found_as : ℕ → Valss (u64 ∷ Row ∷ []) → Fml
-      found_as n uss = fsep (feq (List Val) (found_val n h.at ∷ []) (vstruct (of_list (uss.0 ++ (uss.1.0 ++ []))) ∷ [])) (owns (u64 ∷ Row ∷ []) (n, (h, tt)) uss)
+      found_as n uss = fsep (feq (List Val) (found_val n h.at ∷ []) (vstruct (of_list (uss.0 ++ (uss.1.0 ++ []))) ∷ [])) (owns (u64 ∷ Row ∷ []) (n,
+          (h, tt)) uss)
 
       pub found_in : (n : ℕ) → n < 2 ^ 64 → ⟦ Row.own_val h (pointer_val h.at ∷ []) ⟧ ⊢ ⟦ fex (Valss (u64 ∷ Row ∷ [])) (found_as n) ⟧
       found_in n fits = let r : Val = found_val n h.at in qed 𝓛 (‵ (Row.own_val h (pointer_val h.at ∷ [])) ∷ []) ∵

@@ -47,7 +47,8 @@ module _ {M : Type 1} {𝓤 : Ura M} (𝓛 : Logic 𝓤) (P : Fml) (L b o : ℕ)
   entered true n = newborn 𝓛 P L b o t s laws (IsMarked n)
   entered false n = Ends L t.2 t.3 (Look h) (look_reply (looked_of (word_of n)))
 
-  pub enters : (clones : Bool) (q : Share) (n : ℕ) → ⟦ Bk n ⟧ ∗ ⟦ seat_share t.3 h q Free ⟧ ⊢ upd 𝓤 (⟦ Bk n ⟧ ∗ ⟦ seat_share t.3 h q Free ⟧ ∗ ⟦ entered clones n ⟧)
+  pub enters : (clones : Bool) (q : Share) (n : ℕ)
+      → ⟦ Bk n ⟧ ∗ ⟦ seat_share t.3 h q Free ⟧ ⊢ upd 𝓤 (⟦ Bk n ⟧ ∗ ⟦ seat_share t.3 h q Free ⟧ ∗ ⟦ entered clones n ⟧)
   enters true q n = finds 𝓛 L t.2 t.3 h q n
   enters false q n = book_look 𝓛 L t.2 t.3 n h q
 
@@ -74,6 +75,8 @@ module _ {M : Type 1} {𝓤 : Ura M} (𝓛 : Logic 𝓤) (P : Fml) (L b o : ℕ)
     right = got.right;
     said = got.said;
     turns = qed 𝓛 (‵ (gained 𝓛 P L b o t g) ∷ ‵ (s (t.0 ∷ [])) ∷ ‵ (entered false n) ∷ ‵ (reached t.2 r) ∷ []) ∵ updating ! $
-      use2 𝓛 (later (‵ (right_to P L b o t s 0 got.right))) got.turns $ await ! tt $ move ! (1 ∷ []) $ fpick ! (λ r'. fsplit ! $ fpick ! (λ ends. drop ! $ fjoin ! $
-      nothing ! $ fpack ! (LoadEnds false L h n r') (λ _. ftrue) ends $ fjoin ! $ fpack ! (ℕ × List Step) (right_after false n got.right) (0, r') $ now ! $ keep ! (0 ∷ []) $ done !));
+      use2 𝓛 (later (‵ (right_to P L b o t s 0 got.right))) got.turns $ await ! tt $ move ! (1 ∷ []) $ fpick ! (λ r'. fsplit ! $ fpick ! (λ ends. drop ! $
+      fjoin ! $
+      nothing ! $ fpack ! (LoadEnds false L h n r') (λ _. ftrue) ends $ fjoin ! $ fpack ! (ℕ × List Step) (right_after false n got.right) (0, r') $ now ! $
+      keep ! (0 ∷ []) $ done !));
   }

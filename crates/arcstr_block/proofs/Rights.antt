@@ -9,7 +9,8 @@ use base.Logic.{SProp, ent, sep, wand, emp, all_i, all_e, id⊢}
 use base.Fml.{Lft, Share, Fml, ftrue, fex, fall, flft, finv, fshr_bor}
 use contract.BorrowLft.{⊑_static}
 use types.Logic.{Logic, sem}
-use types.Kit.{‵, raw, ◌⊛◌, later, ◌$◌, ◌∵◌, !, qed, by, move, keep, drop, use0, use1, use2, split, fsplit, fsplit3, fjoin, fjoin3, fpick, fpack, await, rewrite, updating, now, done}
+use types.Kit.{‵, raw, ◌⊛◌, later, ◌$◌, ◌∵◌, !, qed, by, move, keep, drop, use0, use1, use2, split, fsplit, fsplit3, fjoin, fjoin3, fpick, fpack, await}
+use types.Kit.{rewrite, updating, now, done}
 use types.Tokens.{bor_new, bor_fracture, lent_back}
 use denote.Steps.{nothing as no_item}
 use Rattle.arcstr_count.specs.declared.steps.HandleState.{HandleState}
@@ -91,7 +92,8 @@ module _ {M : Type 1} {𝓤 : Ura M} (𝓛 : Logic 𝓤) (P : Fml) (L b o : ℕ)
     may_see h owed may κ = absurd (may.2 refl)
 
     -- what a free handle shows
-    pub may_step : (h : ℕ) (right : Right) → IsFree right → (κ : Lft) → ⟦ Shown h right κ ⟧ ⊢ ⟦ fshr_bor κ (λ q. flft a q) ⟧ ∗ ⟦ fshr_bor κ (λ q. seat_share t.3 h q Free) ⟧ ∗ ⟦ knows t right ⟧ ∗ ⟦ finv I ⟧ ∗ ⟦ s a ⟧
+    pub may_step : (h : ℕ) (right : Right) → IsFree right → (κ : Lft)
+        → ⟦ Shown h right κ ⟧ ⊢ ⟦ fshr_bor κ (λ q. flft a q) ⟧ ∗ ⟦ fshr_bor κ (λ q. seat_share t.3 h q Free) ⟧ ∗ ⟦ knows t right ⟧ ∗ ⟦ finv I ⟧ ∗ ⟦ s a ⟧
     may_step h nothing may κ = absurd (may.0 refl)
     may_step h counted may κ = id⊢ 𝓤 _
     may_step h uncounted may κ = id⊢ 𝓤 _
@@ -109,7 +111,8 @@ module _ {M : Type 1} {𝓤 : Ura M} (𝓛 : Logic 𝓤) (P : Fml) (L b o : ℕ)
     is_free h owed may = absurd (may.3 refl)
 
     free_has_seat : (h : ℕ) (right : Right) → ⟦ Rattle.arcstr_block.specs.Ledger.free P L b o t s h right ⟧ ⊢ ⟦ seat t.3 h Free ⟧
-    free_has_seat h right = qed 𝓛 (‵ (Rattle.arcstr_block.specs.Ledger.free P L b o t s h right) ∷ []) ∵ fpick ! (λ e. fsplit3 ! $ move ! (2 ∷ []) $ fsplit3 ! $ keep ! (2 ∷ []) $ done !)
+    free_has_seat h right = qed 𝓛 (‵ (Rattle.arcstr_block.specs.Ledger.free P L b o t s h right) ∷ []) ∵ fpick ! (λ e. fsplit3 ! $ move ! (2 ∷ []) $ fsplit3 ! $
+        keep ! (2 ∷ []) $ done !)
 
     -- each right but to know the block or its mark has the seat of its handle
     pub has_seat : (h : ℕ) (right : Right) → HasSeat right → ⟦ Held h right ⟧ ⊢ ⟦ seat t.3 h (seat_state right) ⟧
@@ -128,7 +131,8 @@ module _ {M : Type 1} {𝓤 : Ura M} (𝓛 : Logic 𝓤) (P : Fml) (L b o : ℕ)
 
     -- a share is had for good once it is borrowed for a lifetime that never ends
     for_good_of : ⟦ gained 𝓛 P L b o t share ⟧ ∗ ⟦ s a ⟧ ⊢ H.⇛ ⟦ Held 0 fixed ⟧
-    for_good_of = qed 𝓛 (‵ (gained 𝓛 P L b o t share) ∷ ‵ (s a) ∷ []) ∵ updating ! $ fsplit ! $ fpick ! (λ e. bor_new ! tt [] $ bor_fracture ! tt (λ q. flft a q) e $
+    for_good_of = qed 𝓛 (‵ (gained 𝓛 P L b o t share) ∷ ‵ (s a) ∷ []) ∵ updating ! $ fsplit ! $ fpick ! (λ e. bor_new ! tt [] $ bor_fracture ! tt (λ q.
+        flft a q) e $
         move ! (0 ∷ 2 ∷ []) $ fjoin ! $ move ! (0 ∷ 2 ∷ []) $ fjoin ! $ now ! $ keep ! (0 ∷ []) $ done !)
 
     nothing_of : (X : Fml) → ⟦ X ⟧ ∗ ⟦ s a ⟧ ⊢ H.⇛ ⟦ Held 0 nothing ⟧
@@ -168,12 +172,14 @@ module _ {M : Type 1} {𝓤 : Ura M} (𝓛 : Logic 𝓤) (P : Fml) (L b o : ℕ)
 
     counted_clone : (event : Type 0) → event → FromClone event part ⊢ H.⇛ (ToClone counted)
     counted_clone event y = qed 𝓛 (‵ (parts t.0 1) ∷ ‵ (s a) ∷ ‵ (newborn event) ∷ []) ∵ updating ! $ fpick ! (λ e. fpick ! (λ c. move ! (2 ∷ []) $
-        use1 𝓛 (‵ (Born 𝓛 L t.2 t.3)) (all_e 𝓤 (λ (_ : event). ⟦ Born 𝓛 L t.2 t.3 ⟧) y) $ fpick ! (λ j. no_item ! $ use1 𝓛 (‵ (knows t counted)) knows_nothing $ move ! (2 ∷ 0 ∷ 3 ∷ 1 ∷ []) $ types.Kit.group ! 4 $
+        use1 𝓛 (‵ (Born 𝓛 L t.2 t.3)) (all_e 𝓤 (λ (_ : event). ⟦ Born 𝓛 L t.2 t.3 ⟧) y) $ fpick ! (λ j. no_item ! $ use1 𝓛 (‵ (knows t counted)) knows_nothing $
+        move ! (2 ∷ 0 ∷ 3 ∷ 1 ∷ []) $ types.Kit.group ! 4 $
         use1 𝓛 (‵ (Held j counted)) (free_in P L b o s laws j 𝓛 t counted e (λ _. c)) $ fpack ! ℕ (λ i. Held i counted) j $ now ! $ done !)))
 
     uncounted_clone : (event : Type 0) → event → FromClone event share ⊢ H.⇛ (ToClone uncounted)
     uncounted_clone event y = qed 𝓛 (‵ (gained 𝓛 P L b o t share) ∷ ‵ (s a) ∷ ‵ (newborn event) ∷ []) ∵ updating ! $ fsplit ! $ fpick ! (λ e. move ! (3 ∷ []) $
-        use1 𝓛 (‵ (Born 𝓛 L t.2 t.3)) (all_e 𝓤 (λ (_ : event). ⟦ Born 𝓛 L t.2 t.3 ⟧) y) $ fpick ! (λ j. move ! (2 ∷ []) $ use1 𝓛 (‵ (knows t uncounted)) knows_mark $ move ! (2 ∷ 0 ∷ 3 ∷ 1 ∷ []) $ types.Kit.group ! 4 $
+        use1 𝓛 (‵ (Born 𝓛 L t.2 t.3)) (all_e 𝓤 (λ (_ : event). ⟦ Born 𝓛 L t.2 t.3 ⟧) y) $ fpick ! (λ j. move ! (2 ∷ []) $
+        use1 𝓛 (‵ (knows t uncounted)) knows_mark $ move ! (2 ∷ 0 ∷ 3 ∷ 1 ∷ []) $ types.Kit.group ! 4 $
         use1 𝓛 (‵ (Held j uncounted)) (free_in P L b o s laws j 𝓛 t uncounted e (λ w. absurd cc)) $ fpack ! ℕ (λ i. Held i uncounted) j $ now ! $ done !))
 
     neither : (n : ℕ) → (IsMarked n → ⊥) → (IsUnmarked n → ⊥) → ⊥
@@ -182,7 +188,8 @@ module _ {M : Type 1} {𝓤 : Ura M} (𝓛 : Logic 𝓤) (P : Fml) (L b o : ℕ)
     pub found : (n : ℕ) (g : Gain) → (IsMarked n → g ≡ share) → (IsUnmarked n → g ≡ none) → Becomes (Finds n) (FromClone (IsMarked n) g) ToClone
     found n none m u = record { right = nothing; said = ((λ odd. let e = m odd in absurd cc), (λ _. refl)); turns = no_clone (IsMarked n) ftrue }
     found n part m u = absurd (neither n (λ odd. let e = m odd in absurd cc) (λ even. let e = u even in absurd cc))
-    found n share m u = record { right = uncounted; said = ((λ _. refl), (λ even. let e = u even in absurd cc)); turns = uncounted_clone (IsMarked n) (elim (odd_or_even n) [ inl odd ↦ odd | inr even ↦ let e = u even in absurd cc ]) }
+    found n share m u = record { right = uncounted; said = ((λ _. refl), (λ even.
+        let e = u even in absurd cc)); turns = uncounted_clone (IsMarked n) (elim (odd_or_even n) [ inl odd ↦ odd | inr even ↦ let e = u even in absurd cc ]) }
     found n last m u = absurd (neither n (λ odd. let e = m odd in absurd cc) (λ even. let e = u even in absurd cc))
 
     module _ (old new n : ℕ) where
@@ -204,9 +211,12 @@ module _ {M : Type 1} {𝓤 : Ura M} (𝓛 : Logic 𝓤) (P : Fml) (L b o : ℕ)
           (λ ne. let e = ok.1 even ne in absurd cc))
 
       pub raised : (g : Gain) → Said (g) → Becomes (Gains old new n) (FromClone Event g) ToClone
-      raised none ok = record { right = nothing; said = ((λ odd. let e = ok.0 odd in absurd cc), (λ _ _. refl), (λ hit un. let e = ok.2 hit un in absurd cc), (λ hit odd. let e = ok.3 hit odd in absurd cc)); turns = no_clone Event ftrue }
-      raised part ok = record { right = counted; said = ((λ odd. let e = ok.0 odd in absurd cc), (λ even miss. let e = ok.1 even miss in absurd cc), (λ _ _. refl), (λ hit odd. let e = ok.3 hit odd in absurd cc)); turns = counted_clone Event (event_of part (λ e. absurd cc) ok) }
-      raised share ok = record { right = uncounted; said = ((λ _. refl), (λ even miss. let e = ok.1 even miss in absurd cc), (λ hit un. let e = ok.2 hit un in absurd cc), (λ _ _. refl)); turns = uncounted_clone Event (event_of share (λ e. absurd cc) ok) }
+      raised none ok = record { right = nothing; said = ((λ odd. let e = ok.0 odd in absurd cc), (λ _ _. refl), (λ hit un.
+          let e = ok.2 hit un in absurd cc), (λ hit odd. let e = ok.3 hit odd in absurd cc)); turns = no_clone Event ftrue }
+      raised part ok = record { right = counted; said = ((λ odd. let e = ok.0 odd in absurd cc), (λ even miss. let e = ok.1 even miss in absurd cc), (λ _ _.
+          refl), (λ hit odd. let e = ok.3 hit odd in absurd cc)); turns = counted_clone Event (event_of part (λ e. absurd cc) ok) }
+      raised share ok = record { right = uncounted; said = ((λ _. refl), (λ even miss. let e = ok.1 even miss in absurd cc), (λ hit un.
+          let e = ok.2 hit un in absurd cc), (λ _ _. refl)); turns = uncounted_clone Event (event_of share (λ e. absurd cc) ok) }
       raised last ok = absurd (no_last ok)
 
     -- ---- the drop: its look, and its subtraction
@@ -219,12 +229,14 @@ module _ {M : Type 1} {𝓤 : Ura M} (𝓛 : Logic 𝓤) (P : Fml) (L b o : ℕ)
 
       goes_on : (e : Share) → Counts 63 e 1 → IsUnmarked n → FromBegin e ⊢ H.⇛ (To dropping)
       goes_on e c even = let is : begun 𝓛 L t.2 t.3 n ≡ Dropping = ap (λ (w : FlagAndCount). if w.flag then Gone else Dropping) (unmarked_word n even) in
-          qed 𝓛 (‵ (flft a e) ∷ ‵ (s a) ∷ ‵ (seat t.3 h (begun 𝓛 L t.2 t.3 n)) ∷ []) ∵ updating ! $ rewrite ! 2 (λ (v : HandleState). ‵ (seat t.3 h v)) is refl $ use1 𝓛 (‵ (parts t.0 1)) (parts_in 𝓛 t.0 1 e c) $ fjoin3 ! $ now ! $ done !
+          qed 𝓛 (‵ (flft a e) ∷ ‵ (s a) ∷ ‵ (seat t.3 h (begun 𝓛 L t.2 t.3 n)) ∷ []) ∵ updating ! $
+          rewrite ! 2 (λ (v : HandleState). ‵ (seat t.3 h v)) is refl $ use1 𝓛 (‵ (parts t.0 1)) (parts_in 𝓛 t.0 1 e c) $ fjoin3 ! $ now ! $ done !
 
       stops : (e : Share) → FromBegin e ⊢ H.⇛ (To nothing)
       stops e = qed 𝓛 (‵ (flft a e) ∷ ‵ (s a) ∷ ‵ (seat t.3 h (begun 𝓛 L t.2 t.3 n)) ∷ []) ∵ updating ! $ keep ! (1 ∷ []) $ now ! $ done !
 
-      pub begins : (right : Right) (e : Share) → IsFree right → (right ≡ counted → Counts 63 e 1) → (right ≡ uncounted → IsMarked n) → Becomes (Begins n) (FromBegin e) To
+      pub begins : (right : Right) (e : Share) → IsFree right → (right ≡ counted → Counts 63 e 1) → (right ≡ uncounted → IsMarked n)
+          → Becomes (Begins n) (FromBegin e) To
       begins right e may c known = elim (odd_or_even n) [
         | inl odd ↦ record { right = nothing; said = ((λ _. refl), (λ even. absurd (omega (arith, odd, even)))); turns = stops e }
         | inr even ↦ let one : right ≡ counted = counted_of right may (λ marks. let odd = known marks in omega (arith, odd, even)) in
@@ -236,7 +248,8 @@ module _ {M : Type 1} {𝓤 : Ura M} (𝓛 : Logic 𝓤) (P : Fml) (L b o : ℕ)
 
       owes : IsLast n → FromSub last ⊢ H.⇛ (To owed)
       owes two = let is : left_in 𝓛 L t.2 t.3 n ≡ Owing = ap (λ y. if y then Owing else Gone) (last_two n two) in
-          qed 𝓛 (‵ (gained 𝓛 P L b o t last) ∷ ‵ (s a) ∷ ‵ (seat t.3 h (left_in 𝓛 L t.2 t.3 n)) ∷ []) ∵ updating ! $ rewrite ! 2 (λ (v : HandleState). ‵ (seat t.3 h v)) is refl $ fsplit3 ! $ move ! (1 ∷ 2 ∷ []) $ lent_back ! tt $
+          qed 𝓛 (‵ (gained 𝓛 P L b o t last) ∷ ‵ (s a) ∷ ‵ (seat t.3 h (left_in 𝓛 L t.2 t.3 n)) ∷ []) ∵ updating ! $
+          rewrite ! 2 (λ (v : HandleState). ‵ (seat t.3 h v)) is refl $ fsplit3 ! $ move ! (1 ∷ 2 ∷ []) $ lent_back ! tt $
           -- [what the block owns; the word and the book; what was shared; the seat]
           move ! (0 ∷ 3 ∷ []) $ fjoin ! $ move ! (1 ∷ 0 ∷ []) $ fjoin ! $ now ! $ keep ! (0 ∷ []) $ done !
 
@@ -250,4 +263,5 @@ module _ {M : Type 1} {𝓤 : Ura M} (𝓛 : Logic 𝓤) (P : Fml) (L b o : ℕ)
       subtracted none m u = record { right = nothing; said = not_last none (λ e. absurd cc) m; turns = leaves ftrue }
       subtracted part m u = record { right = nothing; said = not_last part (λ e. absurd cc) m; turns = leaves (parts t.0 1) }
       subtracted share m u = record { right = nothing; said = not_last share (λ e. absurd cc) m; turns = leaves (gained 𝓛 P L b o t share) }
-      subtracted last m u = dite (ℕ_discrete n one) (λ two. record { right = owed; said = ((λ _. refl), (λ ne. absurd (ne two))); turns = owes two }) (λ ne. let e = u ne in absurd cc)
+      subtracted last m u = dite (ℕ_discrete n one) (λ two. record { right = owed; said = ((λ _. refl), (λ ne. absurd (ne two))); turns = owes two }) (λ ne.
+          let e = u ne in absurd cc)

@@ -2,8 +2,10 @@
 --     a      the lifetime for which the content is shared. Each counted handle has one part in 2 ^ 63 of its token.
 --     c      the lifetime that ends with the mark: its token is beside an unmarked word, and that it has ended is a fact for good.
 --     γ, δ   the names of the block's history and of the seats of its handles, which lie beside the word.
--- An unmarked word that counts k has k parts out, one for each counted handle. A marked word has m parts out, and keeps one part for good, of which each who finds the mark has a share.
--- At the mark m is k, and it is one fewer after each later subtraction, of a drop that looked before the mark. A handle whose drop finds the mark lets its part go, and m stays.
+-- An unmarked word that counts k has k parts out, one for each counted handle. A marked word has m parts out, and keeps one part for good, of which
+-- each who finds the mark has a share.
+-- At the mark m is k, and it is one fewer after each later subtraction, of a drop that looked before the mark. A handle whose drop finds the mark
+-- lets its part go, and m stays.
 use Rattle.std.specs.Prelude.{◌≡◌, ℕ, ◌+◌, ◌-◌, ◌^◌, ◌<◌, ◌≤◌, Bool, true, false, List, [], ◌∷◌}
 use base.Fraction.{full_share}
 use base.FractionLaws.{Counts}
@@ -29,7 +31,8 @@ parts a k = fex Share (λ e. fex (Counts 63 e k) (λ _. flft (a ∷ []) e))
 abbrev pub some_share : ℕ → Fml
 some_share a = fex Share (λ s. flft (a ∷ []) s)
 
--- what a block is known by: the lifetime a for which its content is shared, the lifetime c that ends with the mark, the name γ of its history, and the name δ of the seats of its handles
+-- what a block is known by: the lifetime a for which its content is shared, the lifetime c that ends with the mark, the name γ of its history, and
+-- the name δ of the seats of its handles
 abbrev pub Id : Type 0
 Id = ℕ × ℕ × GName × GName
 
@@ -124,7 +127,8 @@ module _ (P : Fml) (L b o : ℕ) (t : Id) where
     shown dropping = no_part
     shown owed = no_part
 
--- what a pointer says of itself: its allocator's right to give back, its limit, its address, its text, its right, its handle's number, its block's names and a beginning of its history
+-- what a pointer says of itself: its allocator's right to give back, its limit, its address, its text, its right, its handle's number, its block's
+-- names and a beginning of its history
 module _ (holds : Ty → Ptr → Fml) (L : ℕ) (p : Ptr) (text : List ℕ) (right : Right) (h : ℕ) (block : Names) (history : List Step) where
   abbrev pub of_block : Id → Fml
   of_block t = fsep (known t block history) (held_with (block_owns holds p text) L (block_of p) (count_of p + 0) t (block_shares p text) h right)

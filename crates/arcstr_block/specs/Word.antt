@@ -1,4 +1,5 @@
--- What the number of a block's word says: whether the block is marked, and a count. `bits_of` of `arcstr_count` is the encoding, and this file alone tells its numbers.
+-- What the number of a block's word says: whether the block is marked, and a count. `bits_of` of `arcstr_count` is the encoding, and this file alone
+-- tells its numbers.
 use Rattle.std.specs.Prelude.{◌≡◌, ◌≢◌, ℕ, ◌+◌, ◌/◌, ◌%◌, ◌==◌, ◌<◌, ◌≤◌, true, false}
 use Rattle.arcstr_count.specs.Word.{FlagAndCount, bits_of, fresh_word}
 use Rattle.arcstr_count.specs.declared.words.TheConstants.{RC_MAX}
