@@ -10,7 +10,8 @@ ghost use Rattle.arcstr_count.specs.declared.steps.Step.{Step};
 ghost use Rattle.arcstr_count.specs.contracts.steps.Step.{the_row as step_row};
 ghost use Rattle.arcstr_count.specs.Word.{bits_of, fresh_word};
 ghost use Rattle.arcstr_block.specs.Word.{IsLimit, IsWord, IsClone};
-ghost use Rattle.arcstr_block.specs.Rights.{Right, right_code, nothing, counted, fixed, dropping, owed, IsFree, HasSeat, MaySee, IsIdle, Looks, Finds, Loads, Gains, Begins, Leaves};
+ghost use Rattle.arcstr_block.specs.Rights.{Right, right_code, nothing, counted, fixed, dropping, owed};
+ghost use Rattle.arcstr_block.specs.Rights.{IsFree, HasSeat, MaySee, IsIdle, Looks, Finds, Loads, Gains, Begins, Leaves};
 ghost use Rattle.arcstr_block.specs.Memory.{Fits};
 ghost use Rattle.arcstr_block.specs.Ledger.{pointer_owns, pointer_shares};
 
