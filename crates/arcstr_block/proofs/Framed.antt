@@ -3,12 +3,14 @@ use Rattle.std.proofs.Common.{◌≡◌, ℕ, ◌+◌, ◌^◌, ◌<◌, List, [
 use mir.Val.{Val, vint, vstruct, of_list}
 use seplogic.Ra.Ura.{Ura}
 use base.Share
-use base.Logic.{SProp, ent, sep}
+use base.Logic.{SProp, ent, sep, emp}
 use base.Fml.{Lft, Share, Fml, ftrue, fsep, fex, feq, flft, finv, fobor, fshr_bor}
 use types.Logic.{Logic, sem}
-use types.Kit.{‵, ◌⊛◌, ◌$◌, ◌∵◌, !, qed, move, keep, drop, split, fsplit, fsplit3, fjoin, fjoin3, fpack, use0, use1, use2, now, updating, feq_i, flt_i, done}
+use types.Kit.{‵, raw, join, ◌⊛◌, ◌$◌, ◌∵◌, !, qed, move, keep, drop, split, fsplit, fsplit3, fjoin, fjoin3, fpack, use0, use1, use2, now, updating, feq_i}
+use types.Kit.{flt_i, done}
 use types.Tokens.{shr_bor-open, obor_close}
 use types.Within.{tokens_halve}
+use contract.Monad.{fact as said, fact_i}
 use denote.RattleType.{RattleType, Valss, owns}
 use denote.RawPtr.{Ptr, InBlock, block_of, count_of}
 use denote.Builtin.{u64}
@@ -39,6 +41,11 @@ module _ {M : Type 1} {𝓤 : Ura M} (𝓛 : Logic 𝓤) where
 
   infix 26 ◌⊢◌
   infixr 35 ◌∗◌
+  -- three clauses that hold
+  pub three : {X Y Z : Type 0} → X → Y → Z → emp 𝓤 ⊢ said 𝓤 X ∗ said 𝓤 Y ∗ said 𝓤 Z
+  three {X = X} {Y = Y} {Z = Z} x y z = qed 𝓛 [] ∵ use0 𝓛 (raw (said 𝓤 Z)) (fact_i 𝓤 Z (emp 𝓤) z) $
+      use0 𝓛 (raw (said 𝓤 Y)) (fact_i 𝓤 Y (emp 𝓤) y) $ join ! $ use0 𝓛 (raw (said 𝓤 X)) (fact_i 𝓤 X (emp 𝓤) x) $ join ! $ done !
+
   -- ---- a step through `&`, by a share of the token of a and a share of the seat h
   module _ (a : ℕ) (δ h : ℕ) (κ : Lft) (q : Share) where
     abbrev Token : Share → Fml

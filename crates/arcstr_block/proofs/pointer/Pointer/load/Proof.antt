@@ -127,8 +127,8 @@ load_spec 𝓤 𝓛 𝓜 𝓡 wired Y K g d dd met md =
     move ! (1 ∷ 3 ∷ 0 ∷ []) $ use3 𝓛 (‵ (Row.own_val h' (pointer_val p ∷ []))) (framed.pointer_in 𝓛 B g h' t named inb) $
     use1 𝓛 (‵ (fex (Valss (u64 ∷ Row ∷ [])) (framed.found_as 𝓛 B g h' n))) (framed.found_in 𝓛 B g h' n fits) $
     let Same : Type 0 = (h.home ≡ h.home) × (h.text ≡ h.text) × (lim ≡ lim) × (h.block ≡ h.block) in let Saw : Type 0 = LoadedAs clones h n h' in
-    use0 𝓛 (raw (fact 𝓤 Same)) (fact_i 𝓤 Same (emp 𝓤) (refl, refl, refl, refl)) $ use0 𝓛 (raw (fact 𝓤 Saw)) (fact_i 𝓤 Saw (emp 𝓤) ends) $ join ! $
-    use0 𝓛 (raw (fact 𝓤 (Loads clones n k))) (fact_i 𝓤 (Loads clones n k) (emp 𝓤) got.said) $ join ! $
+    use0 𝓛 (raw (fact 𝓤 (Loads clones n k)) ⊛ raw (fact 𝓤 Saw) ⊛ raw (fact 𝓤 Same))
+    (framed.three 𝓛 got.said ends (refl, refl, refl, refl)) $
     use0 𝓛 (raw (fact 𝓤 (IsWord lim n))) (fact_i 𝓤 (IsWord lim n) (emp 𝓤) ok.0) $ join ! $
     nothing ! $ nothing ! $ fjoin ! $ returns ! (look_at ! 0 refl) $ free_all ! refl $ keep ! (3 ∷ 0 ∷ 2 ∷ 1 ∷ []) $
     by ! (leaves 𝓛 En hs c y r (n, h') (tt, tt) (tt, tt)))))))))))))))))

@@ -121,7 +121,7 @@ mark_spec 𝓤 𝓛 𝓜 𝓡 wired Y K g d dd met md =
     let h' : Row.Denot = record h { right = k; seat = 0; history = r' } in let r : Val = pointer_val p in
     move ! (1 ∷ 3 ∷ 0 ∷ []) $ use3 𝓛 (‵ (Row.own_val h' (pointer_val p ∷ []))) (framed.pointer_in 𝓛 B g h' t named inb) $
     let Same : Type 0 = (h.home ≡ h.home) × (h.text ≡ h.text) × (lim ≡ lim) × (h.block ≡ h.block) in let Saw : Type 0 = EndsIn lim r' (Leak h.seat) Marked in
-    use0 𝓛 (raw (fact 𝓤 Same)) (fact_i 𝓤 Same (emp 𝓤) (refl, refl, refl, refl)) $ use0 𝓛 (raw (fact 𝓤 Saw)) (fact_i 𝓤 Saw (emp 𝓤) ends) $ join ! $
-    use0 𝓛 (raw (fact 𝓤 (k ≡ fixed))) (fact_i 𝓤 (k ≡ fixed) (emp 𝓤) got.said) $ join ! $
+    use0 𝓛 (raw (fact 𝓤 (k ≡ fixed)) ⊛ raw (fact 𝓤 Saw) ⊛ raw (fact 𝓤 Same))
+    (framed.three 𝓛 got.said ends (refl, refl, refl, refl)) $
     nothing ! $ nothing ! $ fjoin ! $ returns ! (look_at ! 0 refl) $ free_all ! refl $ keep ! (3 ∷ 0 ∷ 2 ∷ 1 ∷ []) $
     by ! (leaves 𝓛 En hs c y r h' (tt, tt) (tt, tt)))))))))))))))))
