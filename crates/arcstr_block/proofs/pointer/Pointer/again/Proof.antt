@@ -5,7 +5,7 @@ use mir.Val.{Val, vptr}
 use mir.MapTy.{inst_fn}
 use base.Logic.{SProp, emp}
 use base.Fml.{Lft, Share, Fml, ftrue, fsep, flft, fhide}
-use types.Kit.{‵, raw, ◌⊛◌, ◌$◌, ◌∵◌, !, qed, by, move, keep, drop, split, join, fsplit, fsplit3, fjoin, fpick, fpack, use0, use1, rewrite}
+use types.Kit.{‵, raw, ◌⊛◌, ◌$◌, ◌∵◌, !, qed, by, move, keep, drop, split, join, fsplit, fsplit3, fjoin, fpick, fpack, use0, use1, use3, rewrite}
 use types.Run.{stop, fld, load, of_opd, no_more, and_then, returns, enter}
 use types.ByLocal.{alloc_all, pass_all, free_all, look_at, get, through, sets, is, env}
 use types.Part.{agg, sub, whole, look_in}
@@ -31,6 +31,7 @@ use Rattle.arcstr_block.specs.Memory.{IsText, block_owns, block_shares}
 use Rattle.arcstr_block.specs.Ledger.{Id, Inv, shown, of_block, pointer_shares}
 use Rattle.arcstr_block.proofs.Memory.{shares_laws}
 use Rattle.arcstr_block.specs.contracts.pointer.Pointer as C
+use Rattle.arcstr_block.proofs.Framed as framed
 use Rattle.arcstr_block.proofs.Fields.{pointer_val, typed, Words, told, made, opened}
 use Rattle.arcstr_block.specs.contracts.pointer.Pointer.again.{ended, clauses}
 use Rattle.arcstr_block.specs.contracts.pointer.Pointer.again.Key.{name as #self}
@@ -68,16 +69,15 @@ again_spec 𝓤 𝓛 𝓜 𝓡 wired Y K g d dd met md =
     sets ! (of_opd ! (load ! (through ! refl (fld ! refl (stop !))) (look_in ! 1 (sub ! 0 refl (whole !))))) refl (tt, tt) $
     rewrite ! 1 (λ (ws : List Val). ‵ (cell_at e D.mir ws b o)) (sym ev) refl $ move ! (1 ∷ 0 ∷ 2 ∷ []) $ shuts ! tt D e (p, (tt, tt)) vs b o $
     -- [κ; the fields; the share for good; the invariant; what is shared; what is known; the others]
-    move ! (0 ∷ 6 ∷ []) $ join ! $ move ! (2 ∷ 4 ∷ []) $ fjoin ! $ move ! (3 ∷ 0 ∷ []) $ fjoin ! $ move ! (3 ∷ 0 ∷ []) $ fjoin ! $
-    fpack ! Id (of_block holds lim p h.text fixed h.seat h.block h.history) t $
+    move ! (0 ∷ 6 ∷ []) $ join ! $ move ! (2 ∷ 4 ∷ []) $ fjoin ! $ move ! (4 ∷ []) $ fsplit ! $ fpick ! (λ known. drop ! $
+    -- [the beginning; the right; the tokens; the fields; the invariant]
+    let h' : Row.Denot = record h { right = fixed } in let r : Val = pointer_val p in
+    move ! (1 ∷ 4 ∷ 0 ∷ []) $ use3 𝓛 (‵ (Row.own_val h' (pointer_val p ∷ []))) (framed.pointer_in 𝓛 B g h' t known inb) $
     sets ! (agg ! (no_more !)) refl (tt, tt) $ sets ! (is ! (agg ! (and_then ! (get ! refl) (and_then ! (get ! refl) (no_more !)))) (ap pointer_val
     (sym at))) refl (typed p) $
-    nothing ! $ fpack ! (InBlock p × IsText h.text) (λ _. ftrue) inb $ fjoin ! $ let h' : Row.Denot = record h { right = fixed } in
-    let r : Val = pointer_val p in
-    use0 𝓛 (‵ (D.own_val (p, (tt, tt)) (pointer_val p ∷ []))) (made B g 𝓛 p) $ fjoin ! $
     let Same : Type 0 = (h.home ≡ h.home) × (h.text ≡ h.text) × (lim ≡ lim) × (h.block ≡ h.block) in
     use0 𝓛 (raw (fact 𝓤 Same)) (fact_i 𝓤 Same (emp 𝓤) (refl, refl, refl, refl)) $
     use0 𝓛 (raw (fact 𝓤 (h.history ≡ h.history))) (fact_i 𝓤 (h.history ≡ h.history) (emp 𝓤) refl) $ join ! $
     use0 𝓛 (raw (fact 𝓤 (fixed ≡ fixed))) (fact_i 𝓤 (fixed ≡ fixed) (emp 𝓤) refl) $ join ! $
     nothing ! $ nothing ! $ fjoin ! $ returns ! (look_at ! 0 refl) $ free_all ! refl $ keep ! (3 ∷ 0 ∷ 2 ∷ 1 ∷ []) $
-    by ! (leaves 𝓛 En hs c y r h' (tt, tt) (tt, tt)))))))))
+    by ! (leaves 𝓛 En hs c y r h' (tt, tt) (tt, tt))))))))))

@@ -5,7 +5,7 @@ use mir.Val.{Val}
 use mir.MapTy.{inst_fn}
 use base.Logic.{SProp, emp}
 use base.Fml.{Fml, ftrue, fsep, fex, flft, Incl-refl}
-use types.Kit.{Item, ‵, raw, ◌⊛◌, later, ◌$◌, ◌∵◌, !, qed, by, move, keep, drop, split, join, fsplit, fsplit3, fjoin, fpick, fpack, use0, use2, await, rewrite}
+use types.Kit.{Item, ‵, raw, ◌⊛◌, later, ◌$◌, ◌∵◌, !, qed, by, move, keep, drop, split, join, fsplit, fsplit3, fjoin, fpick, fpack, use0, use2, use3, await, rewrite}
 use types.Run.{stop, fld, of_opd, no_more, and_then, returns, enter}
 use types.ByLocal.{alloc_all, pass_all, free_all, look_at, get, get_in, sets, is}
 use types.Part.{agg, sub, whole}
@@ -31,6 +31,7 @@ use Rattle.arcstr_block.specs.Ledger.{Id, names, held_with, of_block}
 use Rattle.arcstr_block.specs.contracts.block.Sole as S
 use Rattle.arcstr_block.specs.contracts.pointer.Pointer as C
 use Rattle.arcstr_block.proofs.Begins.{begins}
+use Rattle.arcstr_block.proofs.Framed as framed
 use Rattle.arcstr_block.proofs.Fields.{pointer_val, typed, Words, told, made}
 use Rattle.arcstr_block.proofs.Memory.{shares_laws, lends_block}
 use Rattle.arcstr_block.specs.contracts.pointer.Pointer.make.{ended, clauses}
@@ -61,17 +62,16 @@ make_spec 𝓤 𝓛 𝓜 𝓡 wired Y K g d dd met md =
     rewrite ! 0 (λ (n : ℕ). ‵ (word b (o + 0) n)) fresh refl $ fjoin ! $ move ! (1 ∷ []) $ split ! $ move ! (2 ∷ 0 ∷ []) $
     use2 𝓛 (later (‵ (fex Id (λ t. fsep (reached t.2 (Make ∷ [])) (held_with P lim b (o + 0) t s 0 counted))) ⊛ t₁))
     (begins 𝓛 P lim b (o + 0) s (shares_laws p xs) small κs.0 (lends_block 𝓛 holds p xs κs.0) κs.0 qs.0 (Incl-refl κs.0)) $ await ! tt $ split ! $
-    fpick ! (λ t. fsplit ! $ nothing ! $ fpack ! (names t ≡ names t) (λ _. ftrue) refl $ fjoin ! $ fjoin ! $
-    fpack ! Id (of_block holds lim p xs counted 0 (names t) (Make ∷ [])) t $
-    -- [the owner; the tokens]
-    nothing ! $ fpack ! (InBlock p × IsText xs) (λ _. ftrue) (inb.0, (inb.1, text)) $ fjoin ! $
-    use0 𝓛 (‵ ((Words B g).own_val (p, (tt, tt)) (pointer_val p ∷ []))) (made B g 𝓛 p) $ fjoin ! $
+    fpick ! (λ t. fsplit ! $ move ! (1 ∷ []) $ fsplit ! $
+    -- [the invariant; the right; the beginning; the tokens]
+    let h' : Row.Denot = record { at = p; marker = record {}; home = v.home; text = xs; limit = lim; right = counted; seat = 0; block = names t;
+    history = Make ∷ [] } in
+    move ! (1 ∷ 0 ∷ 2 ∷ []) $ use3 𝓛 (‵ (Row.own_val h' (pointer_val p ∷ []))) (framed.pointer_in 𝓛 B g h' t refl (inb.0, (inb.1, text))) $
+    -- [the pointer; the tokens]
     move ! (1 ∷ 2 ∷ []) $ join ! $ move ! (1 ∷ 0 ∷ []) $
     sets ! (is ! (of_opd ! (get_in ! (fld ! refl (stop !)) (sub ! 0 refl (whole !)))) (ap ptr_val at)) refl (tt, tt) $
     sets ! (of_opd ! (get_in ! (fld ! refl (stop !)) (sub ! 1 refl (whole !)))) refl (tt, tt) $
     sets ! (is ! (agg ! (and_then ! (get ! refl) (and_then ! (get ! refl) (no_more !)))) (ap pointer_val (sym at))) refl (typed p) $
-    let h' : Row.Denot = record { at = p; marker = record {}; home = v.home; text = xs; limit = lim; right = counted; seat = 0; block = names t;
-    history = Make ∷ [] } in
     use0 𝓛 (raw (fact 𝓤 (counted ≡ counted))) (fact_i 𝓤 (counted ≡ counted) (emp 𝓤) refl) $
     use0 𝓛 (raw (fact 𝓤 (lim ≡ lim))) (fact_i 𝓤 (lim ≡ lim) (emp 𝓤) refl) $ join ! $
     use0 𝓛 (raw (fact 𝓤 (xs ≡ xs))) (fact_i 𝓤 (xs ≡ xs) (emp 𝓤) refl) $ join ! $
