@@ -1,5 +1,5 @@
 -- Copies of a text, one behind the other.
-use Rattle.std.proofs.Common.{◌≡◌, ℕ, zero, suc, ◌+◌, ◌*◌, ◌≤◌, List, [], ◌∷◌, ◌++◌, length, append_assoc, refl, sym, ap, ◌∙◌, arith}
+use Rattle.std.proofs.Common.{◌≡◌, ℕ, zero, suc, ◌*◌, ◌≤◌, List, [], ◌++◌, length, append_assoc, refl, sym, ap, ◌∙◌, arith}
 use Rattle.std.specs.Prelude.{take, IsUtf8}
 use Rattle.std.specs.List.{repeat}
 use Rattle.std.proofs.lemmas.List.{append-nil, length-append, length-take-le, nil_from_length}
@@ -20,7 +20,8 @@ one_more : (n : ℕ) (text : List ℕ) → repeat (suc n) text ≡ repeat n text
 one_more zero text = append-nil text
 one_more (suc n) text = ap (λ rest. text ++ rest) (one_more n text) ∙ sym (append_assoc text (repeat n text) text)
 
-pub next_copy : (k m : ℕ) (old text rest : List ℕ) → length text ≡ m → k * m ≤ length old → take (k * m) old ≡ repeat k text → take (suc k * m) ((take (k * m) old ++ text) ++ rest) ≡ repeat (suc k) text
+pub next_copy : (k m : ℕ) (old text rest : List ℕ) → length text ≡ m → k * m ≤ length old → take (k * m) old ≡ repeat k text
+    → take (suc k * m) ((take (k * m) old ++ text) ++ rest) ≡ repeat (suc k) text
 next_copy k m old text rest long within made =
     let front : List ℕ = take (k * m) old in let all : List ℕ = front ++ text in
     let end : suc k * m ≡ length all = omega (arith, suc-mul k m, length-append front text, length-take-le (k * m) old within, long) in

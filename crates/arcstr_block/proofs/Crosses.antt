@@ -1,5 +1,5 @@
 -- A pointer to a block may cross threads, where its content and its allocator may: no part of what it owns names a thread.
-use Rattle.std.proofs.Common.{ℕ, zero, suc, ◌+◌, Bool, true, false, List, [], ◌∷◌, length}
+use Rattle.std.proofs.Common.{ℕ, suc, ◌+◌, Bool, true, false, List, [], ◌∷◌, length}
 use mir.Raw.{raw}
 use base.Growing.{latest, at_least}
 use base.Fml.{Lft, GName, Share, Fml}
@@ -21,6 +21,7 @@ use Rattle.atomic_table.specs.Seated.{halved}
 use Rattle.arcstr_count.specs.declared.steps.Step.{Step}
 use Rattle.arcstr_count.specs.declared.steps.HandleState.{HandleState}
 use Rattle.arcstr_count.specs.declared.steps.HandleState.TheVariants.{Free, Dropping, Owing}
+use Rattle.arcstr_block.specs.Rights.{Right, nothing, counted, uncounted, fixed, dropping, owed}
 use Rattle.arcstr_block.specs.Book.{steps, state_code, reached, seat_share, Book}
 use Rattle.arcstr_block.specs.Memory.{block_type, length_at, text_at, block_owns, block_shares}
 use Rattle.arcstr_block.specs.Ledger.{Id, Names, Phase, unmarked, marked, rest, stated, if_alive, known, right_to, shown}
@@ -58,20 +59,21 @@ module _ (P : Fml) (L b o : ℕ) (t : Id) (k : Keyless P) where
   alive_keyless false = tt
 
   module _ (s : Lft → Fml) (common : Common s) (h : ℕ) where
-    right_keyless : (right : ℕ) → Keyless (right_to P L b o t s h right)
-    right_keyless zero = common _
-    right_keyless (suc zero) = λ e. ((λ _. tt), (tt, ((λ _. tt), (common _, seat_keyless t.3 h three_quarters Free))))
-    right_keyless (suc (suc zero)) = λ e. ((λ _. tt), (tt, ((λ _. tt), (common _, seat_keyless t.3 h three_quarters Free))))
-    right_keyless (suc (suc (suc zero))) = (((λ q. tt), tt), common _)
-    right_keyless (suc (suc (suc (suc zero)))) = ((λ e c. tt), (common _, seat_keyless t.3 h three_quarters Dropping))
-    right_keyless (suc (suc (suc (suc (suc m))))) = (stated_keyless 0, (k, seat_keyless t.3 h three_quarters Owing))
+    right_keyless : (right : Right) → Keyless (right_to P L b o t s h right)
+    right_keyless nothing = common _
+    right_keyless counted = λ e. ((λ _. tt), (tt, ((λ _. tt), (common _, seat_keyless t.3 h three_quarters Free))))
+    right_keyless uncounted = λ e. ((λ _. tt), (tt, ((λ _. tt), (common _, seat_keyless t.3 h three_quarters Free))))
+    right_keyless fixed = (((λ q. tt), tt), common _)
+    right_keyless dropping = ((λ e c. tt), (common _, seat_keyless t.3 h three_quarters Dropping))
+    right_keyless owed = (stated_keyless 0, (k, seat_keyless t.3 h three_quarters Owing))
 
-    shown_common : (right : ℕ) → Common (shown P L b o t s h right)
-    shown_common zero κ = tt
-    shown_common (suc zero) κ = ((λ q. tt), ((λ q. seat_keyless t.3 h q Free), ((λ _. tt), (alive_keyless, common _))))
-    shown_common (suc (suc zero)) κ = ((λ q. tt), ((λ q. seat_keyless t.3 h q Free), ((λ _. tt), (alive_keyless, common _))))
-    shown_common (suc (suc (suc zero))) κ = (((λ q. tt), tt), (alive_keyless, common _))
-    shown_common (suc (suc (suc (suc m)))) κ = tt
+    shown_common : (right : Right) → Common (shown P L b o t s h right)
+    shown_common nothing κ = tt
+    shown_common counted κ = ((λ q. tt), ((λ q. seat_keyless t.3 h q Free), ((λ _. tt), (alive_keyless, common _))))
+    shown_common uncounted κ = ((λ q. tt), ((λ q. seat_keyless t.3 h q Free), ((λ _. tt), (alive_keyless, common _))))
+    shown_common fixed κ = (((λ q. tt), tt), (alive_keyless, common _))
+    shown_common dropping κ = tt
+    shown_common owed κ = tt
 
 known_keyless : (t : Id) (block : Names) (history : List Step) → Keyless (known t block history)
 known_keyless t block history = ((λ _. tt), reached_keyless t.2 history)
@@ -102,7 +104,9 @@ py = search sendable
 
 module _ (B : RattleType) (g : Ghosts B.Denot) (f : Frees g g.dealloc_token) where
   owns_keyless : (a : B.Denot) (p : Ptr) (xs : List ℕ) → Keyless (block_owns (g.dealloc_token a) p xs)
-  owns_keyless a p xs = let n : ℕ = length xs in (lies usize number_send (length_at p) n, (lies (Array u8 n) (bytes_send n) (text_at p) xs, (((tt, (tt, (tt, tt))), tt), f.frees a (raw (block_type n)) p)))
+  owns_keyless a p xs = let n : ℕ = length xs in
+      (lies usize number_send (length_at p) n, (lies (Array u8 n) (bytes_send n) (text_at p) xs, (((tt, (tt, (tt, tt))), tt), f.frees a (raw
+      (block_type n)) p)))
 
   module _ (sb : IsSend B) (yb : IsSync B) where
     ms : IsSend (Marker.the_field B).row
@@ -119,7 +123,8 @@ module _ (B : RattleType) (g : Ghosts B.Denot) (f : Frees g g.dealloc_token) whe
             known_keyless t d.block d.history,
             (
               alive_keyless P d.limit (block_of d.at) (count_of d.at + 0) t (owns_keyless d.home d.at d.text),
-              right_keyless P d.limit (block_of d.at) (count_of d.at + 0) t (owns_keyless d.home d.at d.text) (block_shares d.at d.text) (common d.at d.text) d.seat d.right,
+              right_keyless P d.limit (block_of d.at) (count_of d.at + 0) t (owns_keyless d.home d.at d.text) (block_shares d.at d.text)
+              (common d.at d.text) d.seat d.right,
             ),
           ),
         ))
@@ -129,7 +134,8 @@ module _ (B : RattleType) (g : Ghosts B.Denot) (f : Frees g g.dealloc_token) whe
     pointer_sync = record {
       shared = λ d b o κ. let P = block_owns (g.dealloc_token d.home) d.at d.text in (
         (struct_sync (shape (C.the_type B g)) (py, (my, tt))).shared (to (C.the_type B g) d) b o κ,
-        ((λ _. tt), λ t. (known_keyless t d.block d.history, shown_common P d.limit (block_of d.at) (count_of d.at + 0) t (owns_keyless d.home d.at d.text) (block_shares d.at d.text) (common d.at d.text) d.seat d.right κ)),
+        ((λ _. tt), λ t. (known_keyless t d.block d.history, shown_common P d.limit (block_of d.at) (count_of d.at + 0) t (owns_keyless d.home d.at d.text)
+        (block_shares d.at d.text) (common d.at d.text) d.seat d.right κ)),
       );
     }
 

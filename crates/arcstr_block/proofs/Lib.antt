@@ -9,10 +9,13 @@ pub mod Words
 pub mod Ledger
 pub mod Steps
 pub mod Changes
+pub mod Decided
 pub mod Rights
+pub mod Loads
 pub mod Turns
 pub mod Begins
 pub mod Fields
+pub mod Framed
 pub mod Seats
 pub mod Book
 pub mod Memory

@@ -1,13 +1,13 @@
 -- The memory of a block: its size, its three rooms, what is lent of it, and the way back to room. Assumes `Logic`.
-use Rattle.std.proofs.Common.{◌≡◌, ℕ, ◌+◌, ◌*◌, ◌/◌, ◌<◌, ◌^◌, List, [], ◌∷◌, length, refl, ap, ◌∙◌, arith}
+use Rattle.std.proofs.Common.{◌≡◌, ℕ, ◌+◌, List, [], ◌∷◌, length, refl, ap, ◌∙◌, arith}
 use seplogic.Ra.Ura.{Ura}
 use base.Fraction.{full_share}
-use base.Logic.{SProp, ent, sep, wand, via, apply∗}
+use base.Logic.{ent, sep, apply∗}
 use base.Fml.{Lft, Fml, fsep, feq, fwand, froom}
 use contract.BorrowLft.{⊑_static}
 use mir.Syntax.{Ty, w8, w64, ty_int, ty_array, tcons, tnil}
 use mir.Raw.{raw as bare}
-use mir.Val.{Val, vint}
+use mir.Val.{vint}
 use prog.Memory.{size, align, capped}
 use prog.Capped.{capped_is}
 use prog.RawLaws.{size-raw, align-raw}
@@ -53,14 +53,17 @@ module _ {M : Type 1} {𝓤 : Ura M} (𝓛 : Logic 𝓤) where
   lends_block holds p xs l = let n : ℕ = length xs in let s : Lft → Fml = lent_at (Array u8 n) (text_at p) xs in
       Lends-both 𝓛 (length_lies p n) (fsep (text_lies p xs) (rim holds n p)) (lent_at usize (length_at p) n) s l
       (Lends-lies 𝓛 usize l (length_at p) n (Shares-less 𝓛 usize [] l (⊑_static l) (number_laws.shares 𝓛) n))
-      (Lends-first 𝓛 (text_lies p xs) (rim holds n p) s l (Lends-lies 𝓛 (Array u8 n) l (text_at p) xs (Shares-Array 𝓛 u8 tt n l (Shares-less 𝓛 u8 [] l (⊑_static l) (byte_laws.shares 𝓛)) xs)))
+      (Lends-first 𝓛 (text_lies p xs) (rim holds n p) s l (Lends-lies 𝓛 (Array u8 n) l (text_at p) xs (Shares-Array 𝓛 u8 tt n l (Shares-less 𝓛 u8 [] l
+      (⊑_static l) (byte_laws.shares 𝓛)) xs)))
 
-  pub spreads : (n b o : ℕ) → ent 𝓤 (H.room (bare (block_type n)) b o) (sep 𝓤 (sem 𝓛 (rooms n b o)) (sem 𝓛 (fwand (rooms n b o) (froom (bare (block_type n)) b o))))
+  pub spreads : (n b o : ℕ)
+      → ent 𝓤 (H.room (bare (block_type n)) b o) (sep 𝓤 (sem 𝓛 (rooms n b o)) (sem 𝓛 (fwand (rooms n b o) (froom (bare (block_type n)) b o))))
   spreads n b o = 𝓛.laws.room_fields [] (tcons (ty_int w64) (tcons (ty_int w64) (tcons (ty_array (ty_int w8) n) tnil))) b o
 
   -- a block that one owner has is room again, with the right to give it back
   pub gathers : (holds : Ty → Ptr → Fml) (b o w : ℕ) (xs : List ℕ)
-      → ent 𝓤 (sep 𝓤 (sem 𝓛 (word b (o + 0) w)) (sem 𝓛 (block_owns holds (block_ptr b o) xs))) (sep 𝓤 (H.room (bare (block_type (length xs))) b o) (sem 𝓛 (holds (bare (block_type (length xs))) (block_ptr b o))))
+      → ent 𝓤 (sep 𝓤 (sem 𝓛 (word b (o + 0) w)) (sem 𝓛 (block_owns holds (block_ptr b o) xs))) (sep 𝓤 (H.room (bare (block_type (length xs))) b o) (sem 𝓛
+      (holds (bare (block_type (length xs))) (block_ptr b o))))
   gathers holds b o w xs = let n : ℕ = length xs in let τ : Ty = bare (block_type n) in
       qed 𝓛 (‵ (word b (o + 0) w) ∷ ‵ (block_owns holds (block_ptr b o) xs) ∷ []) ∵
       use1 𝓛 (‵ (froom (ty_int w64) b (o + 0))) (𝓛.laws.at_room (ty_int w64) b (o + 0) (vint w64 w)) $ move ! (1 ∷ []) $ fsplit3 ! $
@@ -68,4 +71,5 @@ module _ {M : Type 1} {𝓤 : Ura M} (𝓛 : Logic 𝓤) where
       use1 𝓛 (‵ (word b (o + 8) n)) (word_out 𝓛 b (o + 8) n) $ use1 𝓛 (‵ (froom (ty_int w64) b (o + 8))) (𝓛.laws.at_room (ty_int w64) b (o + 8) (vint w64 n)) $
       move ! (1 ∷ []) $ use1 𝓛 (‵ (fsep (feq ℕ n n) (bytes full_share xs b (o + 16)))) (bytes_apart 𝓛 full_share n xs b (o + 16)) $ fsplit ! $ drop ! $
       use1 𝓛 (‵ (froom (ty_array (ty_int w8) n) b (o + 16))) (bytes-room 𝓛 xs b (o + 16)) $ nothing ! $ move ! (1 ∷ 0 ∷ []) $ fjoin ! $
-      move ! (3 ∷ 1 ∷ 0 ∷ []) $ fjoin3 ! $ move ! (1 ∷ []) $ fsplit ! $ move ! (2 ∷ 0 ∷ []) $ use2 𝓛 (‵ (froom τ b o)) (apply∗ 𝓤 (sem 𝓛 (rooms n b o)) (H.room τ b o)) $ done !
+      move ! (3 ∷ 1 ∷ 0 ∷ []) $ fjoin3 ! $ move ! (1 ∷ []) $ fsplit ! $ move ! (2 ∷ 0 ∷ []) $
+      use2 𝓛 (‵ (froom τ b o)) (apply∗ 𝓤 (sem 𝓛 (rooms n b o)) (H.room τ b o)) $ done !

@@ -1,5 +1,5 @@
 -- The places of a block's bytes, as a `Slots` at a call: made of room, and given up once each byte is written. Assumes `Logic`.
-use Rattle.std.proofs.Common.{◌≡◌, ℕ, suc, ◌+◌, ◌*◌, ◌^◌, ◌<◌, Bool, true, false, List, [], ◌∷◌, ◌++◌, length, replicate, refl, sym, ap, ◌∙◌, arith}
+use Rattle.std.proofs.Common.{◌≡◌, ℕ, suc, ◌+◌, ◌*◌, ◌^◌, ◌<◌, Bool, true, false, List, [], ◌∷◌, ◌++◌, length, refl, ap, ◌∙◌, arith}
 use seplogic.Ra.Ura.{Ura}
 use lib.Dec.{T, lit<}
 use mir.Syntax.{w64, ty_int, ty_ptr, ty_struct, tcons, tnil}
@@ -8,14 +8,15 @@ use denote.Laws.{Is, shows}
 use denote.Struct.Struct.{Struct}
 use denote.Struct.Owning.{shape}
 use base.Fraction.{full_share}
-use base.Logic.{SProp, ent, sep, ex, guard, emp, never, id⊢}
-use base.Fml.{ftrue, fsep, flft, froom}
+use base.Logic.{SProp, ent, ex, guard, emp, id⊢}
+use base.Fml.{ftrue, fsep, flft}
 use prog.Memory.{Memory}
 use prog.Routine.{Routine}
 use contract.Monad.{Fun, fact, fact_i}
 use contract.BorrowLft.{◌⊑◌, ⊑_refl}
 use types.Logic.{Logic, sem}
-use types.Kit.{‵, raw, ◌⊛◌, some, later, ◌$◌, ◌∵◌, !, qed, by, move, keep, use0, use1, drop, split, split3, join, pick, fsplit, fjoin, fpick, feq_l, feq_i, flt_l, flt_i, frame, rewrite, check, show, await, updating, now, done}
+use types.Kit.{‵, raw, ◌⊛◌, some, later, ◌$◌, ◌∵◌, !, qed, by, move, use0, use1, drop, split, split3, join, pick, fsplit, fjoin, fpick, feq_l, feq_i, flt_l}
+use types.Kit.{flt_i, frame, rewrite, check, show, await, updating, now, done}
 use denote.Exit.{no, left}
 use denote.RattleType.{RattleType}
 use denote.Builtin.{u8, usize}
@@ -53,7 +54,8 @@ abbrev pub Words : RattleType
 Words = Struct (shape (SL.the_type u8))
 
 pub words_told : (p : Ptr) (n : ℕ) (vs : List Val) → Is Words (p, (n, tt)) vs → (vs ≡ words_val p n ∷ []) × (n < 2 ^ 64)
-words_told p n vs is = (is.1.0 ∙ ap (λ (ws : List Val). vstruct (of_list (ws ++ (is.0.1.0 ++ []))) ∷ []) is.1.1.0 ∙ ap (λ (ws : List Val). vstruct (of_list (ptr_val p ∷ (ws ++ []))) ∷ []) is.1.1.1.0.0, is.1.1.1.0.1)
+words_told p n vs is = (is.1.0 ∙ ap (λ (ws : List Val). vstruct (of_list (ws ++ (is.0.1.0 ++ []))) ∷ []) is.1.1.0 ∙ ap (λ (ws : List Val). vstruct (of_list
+    (ptr_val p ∷ (ws ++ []))) ∷ []) is.1.1.1.0.0, is.1.1.1.0.1)
 
 module _ {M : Type 1} {𝓤 : Ura M} (𝓛 : Logic 𝓤) (b : ℕ) where
   -- where each place holds its byte, they are the bytes
@@ -88,9 +90,11 @@ module _ {M : Type 1} {𝓤 : Ura M} (𝓛 : Logic 𝓤) (at_mem : Memory → SP
         use0 𝓛 (raw (fact 𝓤 Asked)) (fact_i 𝓤 Asked (emp 𝓤) (e, e')) $ join ! $
         use0 𝓛 (raw (fact 𝓤 ([] ⊑ []))) (fact_i 𝓤 ([] ⊑ []) (emp 𝓤) (⊑_refl [])) $ join ! $
         nothing ! $ flt_i ! n (2 ^ 64) (omega arith) $ feq_i ! (List Val) (vint w64 n ∷ []) (vint w64 n ∷ []) refl $ fjoin ! $ fjoin ! $
-        feq_i ! (List Val) (vptr b o ∷ []) (vptr b o ∷ []) refl $ fjoin ! $ nothing ! $ use0 𝓛 (‵ (flft [] full_share)) (𝓛.lfts.lft-nil full_share) $ join ! $ join ! $ done !
+        feq_i ! (List Val) (vptr b o ∷ []) (vptr b o ∷ []) refl $ fjoin ! $ nothing ! $ use0 𝓛 (‵ (flft [] full_share)) (𝓛.lfts.lft-nil full_share) $ join ! $
+        join ! $ done !
 
-    pub makes_gives : (v : Val) → ent 𝓤 (Makes.post at_makes v) (H.⇛ (ex 𝓤 (λ (r : Slots ℕ). guard 𝓤 (IsMade r × (v ≡ words_val (block_ptr b o) n)) (sem 𝓛 (Bytes.own_val r (v ∷ []))))))
+    pub makes_gives : (v : Val)
+      → ent 𝓤 (Makes.post at_makes v) (H.⇛ (ex 𝓤 (λ (r : Slots ℕ). guard 𝓤 (IsMade r × (v ≡ words_val (block_ptr b o) n)) (sem 𝓛 (Bytes.own_val r (v ∷ []))))))
     makes_gives v =
         qed 𝓛 (raw (Makes.post at_makes v) ∷ []) ∵ updating ! $
         use1 𝓛 (later (some (λ (r : Slots ℕ). ((‵ (flft [] full_share) ⊛ ‵ ftrue) ⊛ ‵ (Bytes.own_val r (v ∷ [])))
@@ -109,11 +113,13 @@ module _ {M : Type 1} {𝓤 : Ura M} (𝓛 : Logic 𝓤) (at_mem : Memory → SP
         qed 𝓛 (‵ (Bytes.own_val d (u ∷ [])) ∷ []) ∵ nothing ! $ use0 𝓛 (raw (fact 𝓤 ([] ⊑ []))) (fact_i 𝓤 ([] ⊑ []) (emp 𝓤) (⊑_refl [])) $ join ! $
         nothing ! $ move ! (2 ∷ 0 ∷ []) $ fjoin ! $ nothing ! $ use0 𝓛 (‵ (flft [] full_share)) (𝓛.lfts.lft-nil full_share) $ join ! $ join ! $ done !
 
-    pub ends_gives : (v : Val) → ent 𝓤 (Ends.post at_ends v) (H.⇛ (guard 𝓤 ((v ≡ words_val d.ptr d.len) × (d.len < 2 ^ 64)) (sem 𝓛 (owned R d.ptr d.len d.items d.filled))))
+    pub ends_gives : (v : Val)
+        → ent 𝓤 (Ends.post at_ends v) (H.⇛ (guard 𝓤 ((v ≡ words_val d.ptr d.len) × (d.len < 2 ^ 64)) (sem 𝓛 (owned R d.ptr d.len d.items d.filled))))
     ends_gives v = let Pair : RattleType = Tuple (RawPtr ∷ usize ∷ []) in
         qed 𝓛 (raw (Ends.post at_ends v) ∷ []) ∵ updating ! $
         use1 𝓛 (later (some (λ (r : Ptr × ℕ). ((‵ (flft [] full_share) ⊛ ‵ ftrue) ⊛ ‵ (Pair.own_val r (v ∷ [])))
-        ⊛ some (λ (ws : Unit {0} × Unit {0}). ‵ (fsep (left ((SL.the_row R).exit no) d ws.0) ftrue) ⊛ raw (fact 𝓤 ((r.0 ≡ d.ptr) × (r.1 ≡ d.len))) ⊛ ‵ (owned R d.ptr d.len d.items d.filled))))) (id⊢ 𝓤 _) $ await ! tt $ pick ! (λ r.
+        ⊛ some (λ (ws : Unit {0} × Unit {0}). ‵ (fsep (left ((SL.the_row R).exit no) d ws.0) ftrue) ⊛ raw (fact 𝓤 ((r.0 ≡ d.ptr) ×
+        (r.1 ≡ d.len))) ⊛ ‵ (owned R d.ptr d.len d.items d.filled))))) (id⊢ 𝓤 _) $ await ! tt $ pick ! (λ r.
         split ! $ move ! (1 ∷ []) $ pick ! (λ ws. split3 ! $ drop ! $ heard ! ((r.0 ≡ d.ptr) × (r.1 ≡ d.len)) (λ is. move ! (1 ∷ []) $ split ! $ drop ! $
         fpick ! (λ vss. fsplit ! $ feq_l ! (λ all. fsplit ! $ feq_l ! (λ e₀. fsplit ! $ fsplit ! $ feq_l ! (λ e₁. flt_l ! (λ fn. drop ! $ now ! $
         check ! (ap only all ∙ (λ i. vstruct (of_list (e₀ i ++ (e₁ i ++ [])))) ∙ (λ i. words_val (is.0 i) (is.1 i)), omega (arith, is.1)) $ done !))))))))

@@ -1,3 +1,4 @@
+pub mod Word
 pub mod Rights
 pub mod Memory
 pub mod Lends

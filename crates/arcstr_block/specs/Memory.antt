@@ -4,7 +4,6 @@ use base.Fraction.{full_share}
 use base.Fml.{Lft, Fml, ftrue, fsep, fex, fwand, froom}
 use mir.Syntax.{Ty, w8, w64, ty_int, ty_array, ty_struct, tcons, tnil}
 use mir.Raw.{raw}
-use denote.RattleType.{RattleType}
 use denote.RawPtr.{Ptr, InBlock, block_of, count_of, lies_at, ◌+ₚ◌}
 use denote.Builtin.{u8, usize}
 use denote.Array.{Array}

@@ -1,20 +1,23 @@
-//! The pointer to a block. Every atomic step is here, and every pointer through which a block is read or stepped on;
-//! `loose.rt` takes the box apart. The word is `2 * count`, or `2 * count + 1` once the block is marked.
+//! The pointer to a block. Every atomic step is here, and every pointer through which a block is read or stepped on.
+//! What a number of the word says is in `word.rt`.
 //!
 //! A `Pointer` is one address when it runs. Its right, seat and history are ghost, and are moved by the proof of each
 //! function (`proofs/pointer/Pointer/NAME/Proof.antt`), so a body shows the machine's step alone. `make` begins the
 //! history with `Make`, and `release` ends it with `Back`; `IntoRaw` and `FromRaw` never occur in it.
-ghost use Rattle.std.specs.Prelude.{◌≡◌, ◌≢◌, ℕ, List, length, IsUtf8};
+ghost use Rattle.std.specs.Prelude.{◌≡◌, ◌≢◌, ℕ, Bool, List, length, IsUtf8};
 ghost use Rattle.std.specs.Coded.{coded_list};
 ghost use Rattle.arcstr_count.specs.declared.steps.Step.{Step};
 ghost use Rattle.arcstr_count.specs.contracts.steps.Step.{the_row as step_row};
 ghost use Rattle.arcstr_count.specs.Word.{bits_of, fresh_word};
-ghost use Rattle.arcstr_block.specs.Rights.{nothing, counted, fixed, dropping, owed, IsFree, HasSeat, MaySee, IsIdle, IsLimit, IsWord, Looks, Finds, IsClone, Gains, Begins, Leaves};
+ghost use Rattle.arcstr_block.specs.Word.{IsLimit, IsWord, IsClone};
+ghost use Rattle.arcstr_block.specs.Rights.{Right, right_code, nothing, counted, fixed, dropping, owed};
+ghost use Rattle.arcstr_block.specs.Rights.{IsFree, HasSeat, MaySee, IsIdle, Looks, Finds, Loads, Gains, Begins, Leaves};
 ghost use Rattle.arcstr_block.specs.Memory.{Fits};
 ghost use Rattle.arcstr_block.specs.Ledger.{pointer_owns, pointer_shares};
 
 use crate::block::{Block, Sole};
 use crate::seen::Seen;
+use crate::word::{MARK, ONE};
 use atomic_table::exchange;
 use std::alloc::Allocator;
 use std::marker::{Brand, Model, PhantomData};
@@ -30,7 +33,7 @@ pub(crate) struct Pointer<A: Allocator> {
     pub ghost home: { A } by { A.code },
     pub ghost text: { List ℕ },
     pub ghost limit: { ℕ },
-    pub ghost right: { ℕ },
+    pub ghost right: { Right } by { right_code },
     pub ghost seat: { ℕ },
     pub ghost block: { ℕ × ℕ },
     pub ghost history: { List Step } by { coded_list step_row.coded },
@@ -43,7 +46,7 @@ impl<A: Allocator> Model for Pointer<A> {
 }
 
 impl<A: Allocator> Pointer<A> {
-    ghost use Rattle.arcstr_block.specs.Same.{IsSameBlock, Looked, Leaked, BegunAs, SubtractedAs};
+    ghost use Rattle.arcstr_block.specs.Same.{IsSameBlock, Looked, LoadedAs, Leaked, BegunAs, SubtractedAs};
 
     /// The first pointer to a block, whose word counts it alone.
     pub(crate) fn make(block: Sole<A>) -> Pointer<A>
@@ -95,15 +98,7 @@ impl<A: Allocator> Pointer<A> {
         ensures history { Looked self.now result.0 result.1 }
         ensures same { IsSameBlock result.1 self.now }
     {
-        let at = self.at;
-        let found = unsafe { raw::load::<Brand>(&raw const (*at).word, SeqCst) };
-        (
-            found,
-            Pointer {
-                at,
-                marker: PhantomData,
-            },
-        )
+        self.load()
     }
 
     /// The load of a clone: where it finds the mark, the clone is had.
@@ -111,6 +106,18 @@ impl<A: Allocator> Pointer<A> {
         requires { IsFree self.now.right }
         ensures word { IsWord self.now.limit result.0 }
         ensures right { Finds result.0 result.1.right }
+        ensures same { IsSameBlock result.1 self.now }
+    {
+        self.load()
+    }
+
+    /// One load, of a clone or as a look.
+    fn load(&self) -> (u64, Pointer<A>)
+        ghost clones: { Bool }
+        requires { IsFree self.now.right }
+        ensures word { IsWord self.now.limit result.0 }
+        ensures right { Loads clones result.0 result.1.right }
+        ensures history { LoadedAs clones self.now result.0 result.1 }
         ensures same { IsSameBlock result.1 self.now }
     {
         let at = self.at;
@@ -151,7 +158,7 @@ impl<A: Allocator> Pointer<A> {
         ensures same { IsSameBlock result self.now }
     {
         let at = self.at;
-        unsafe { raw::fetch_or::<Brand>(&raw const (*at).word, 1, SeqCst) };
+        unsafe { raw::fetch_or::<Brand>(&raw const (*at).word, MARK, SeqCst) };
         Pointer {
             at,
             marker: PhantomData,
@@ -178,7 +185,7 @@ impl<A: Allocator> Pointer<A> {
         ensures same { IsSameBlock result.1 self }
     {
         let Pointer { at, marker } = self;
-        let found = unsafe { raw::fetch_sub::<Brand>(&raw const (*at).word, 2, SeqCst) };
+        let found = unsafe { raw::fetch_sub::<Brand>(&raw const (*at).word, ONE, SeqCst) };
         (found, Pointer { at, marker })
     }
 

@@ -1,7 +1,8 @@
 //! One handle on a block.
-ghost use Rattle.std.specs.Prelude.{◌≡◌, ◌≢◌, ◌↔◌, ℕ, length, IsUtf8, ◌<◌, ◌≤◌, ◌+◌, MatchResult, MatchOption, IfSome};
+ghost use Rattle.std.specs.Prelude.{◌≡◌, ◌≢◌, ◌↔◌, ℕ, length, IsUtf8, ◌<◌, ◌≤◌, ◌+◌, MatchOption, IfOk, IfErr, IfSome};
 ghost use Rattle.arcstr_count.specs.Word.{bits_of, fresh_word};
-ghost use Rattle.arcstr_block.specs.Rights.{owed, IsFree, HasSeat, IsLimit, IsUnmarked, IsWord};
+ghost use Rattle.arcstr_block.specs.Word.{IsLimit, IsUnmarked, IsWord, IsOtherWord};
+ghost use Rattle.arcstr_block.specs.Rights.{owed, IsFree, HasSeat};
 ghost use Rattle.arcstr_block.specs.Handle.{Handle, SawCount, SawMark, SawLeak, kept_of};
 
 use crate::block::Sole;
@@ -9,7 +10,7 @@ use crate::fixed::Fixed;
 use crate::owed::{Down, Owed};
 use crate::pointer::Pointer;
 use crate::seen::Seen;
-use crate::word::{looked, marked, next};
+use crate::word::{is_last, looked, marked, next};
 use arcstr_count::RC_MAX;
 use std::alloc::Allocator;
 use std::marker::Model;
@@ -191,8 +192,7 @@ impl<const LIMIT: u64, A: Allocator + Copy> Shared<LIMIT, A> {
         }
         let (found, pointer) = pointer.leave();
         let seen = pointer.seen();
-        // 2 is the unmarked word with count 1: this handle was the last one counted.
-        if found == 2 {
+        if is_last(found) {
             return (Down::Owes(Owed { pointer, alloc }), seen);
         }
         pointer.forget();
@@ -201,13 +201,14 @@ impl<const LIMIT: u64, A: Allocator + Copy> Shared<LIMIT, A> {
 }
 
 impl<const LIMIT: u64, A: Allocator + Copy> Counted<LIMIT, A> {
-    ghost use Rattle.arcstr_block.specs.Same.{IsSameBlock};
+    ghost use Rattle.arcstr_block.specs.Same.{IsSameBlock, IsCloneOf};
 
     /// One try of a clone from the unmarked word `old`: another handle, or the unmarked word that was found.
     fn exchange(&self, old: u64) -> Result<Counted<LIMIT, A>, u64>
         requires unmarked { IsUnmarked old }
         requires word { IsWord LIMIT old }
-        ensures { MatchResult result (λ clone. (clone.pointer.text ≡ self.now.pointer.text) × (clone.pointer.block ≡ self.now.pointer.block)) (λ found. IsUnmarked found × IsWord LIMIT found × (found ≢ old)) }
+        ensures clone { IfOk result (λ clone. IsCloneOf clone.pointer self.now.pointer) }
+        ensures found { IfErr result (IsOtherWord LIMIT old) }
     {
         let (found, gained) = self.pointer.raise(old, next(LIMIT, old));
         if found == old || marked(found) {

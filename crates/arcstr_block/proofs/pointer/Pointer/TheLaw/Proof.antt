@@ -23,15 +23,20 @@ use Rattle.arcstr_block.proofs.pointer.Pointer.TheLaw.Statement.{statement}
 
 pub shares : (B : RattleType) (g : Ghosts B.Denot) (K : Laws B) → statement B g K
 shares B g K = of_Lends (C.struct B g) (C.the_codes B.Denot B.coded (Marker.the_row B).coded) (C.the_heap B g) (C.the_lent B g)
-    (λ d p. let holds = g.dealloc_token d.home in let P = block_owns holds d.at d.text in let s = block_shares d.at d.text in let b = block_of d.at in let o = count_of d.at + 0 in
+    (λ d p. let holds = g.dealloc_token d.home in let P = block_owns holds d.at d.text in let s = block_shares d.at d.text in let b = block_of d.at in
+    let o = count_of d.at + 0 in
     let lent = of_block_shown holds d.limit d.at d.text d.right d.seat d.block d.history in
     beside_shr_laws (said (placed d.at (IsText d.text))) (some Id lent) (said_shr_laws (placed d.at (IsText d.text)) (λ _. tt))
     (some_shr_laws Id lent (λ t. beside_shr_laws (said (known t d.block d.history)) (shown P d.limit b o t s d.seat d.right) (known_laws t d.block d.history)
     (shown_laws P d.limit b o s (shares_laws d.at d.text) d.seat t d.right))))
     (copy_shared RawPtr-field RawPtr-copy, (copy_shared (Marker.the_field B) (field_copy (Marker.the_type B) tt), tt))
-    (λ M 𝓤 𝓛 d p. let holds = g.dealloc_token d.home in let P = block_owns holds d.at d.text in let s = block_shares d.at d.text in let l = (C.the_row B g).lives in
-    let b = block_of d.at in let o = count_of d.at + 0 in let owns = of_block holds d.limit d.at d.text d.right d.seat d.block d.history in let lent = of_block_shown holds d.limit d.at d.text d.right d.seat d.block d.history in
-    Lends-both 𝓛 (placed d.at (IsText d.text)) (fex Id owns) (said (placed d.at (IsText d.text))) (some Id lent) l (Lends-said 𝓛 (placed d.at (IsText d.text)) (λ _. tt) l)
-    (Lends-some 𝓛 Id owns lent l (λ t. Lends-both 𝓛 (known t d.block d.history) (held_with P d.limit b o t s d.seat d.right) (said (known t d.block d.history)) (shown P d.limit b o t s d.seat d.right) l
+    (λ M 𝓤 𝓛 d p. let holds = g.dealloc_token d.home in let P = block_owns holds d.at d.text in let s = block_shares d.at d.text in
+    let l = (C.the_row B g).lives in
+    let b = block_of d.at in let o = count_of d.at + 0 in let owns = of_block holds d.limit d.at d.text d.right d.seat d.block d.history in
+    let lent = of_block_shown holds d.limit d.at d.text d.right d.seat d.block d.history in
+    Lends-both 𝓛 (placed d.at (IsText d.text)) (fex Id owns) (said (placed d.at (IsText d.text))) (some Id lent) l (Lends-said 𝓛 (placed d.at (IsText d.text))
+    (λ _. tt) l)
+    (Lends-some 𝓛 Id owns lent l (λ t. Lends-both 𝓛 (known t d.block d.history) (held_with P d.limit b o t s d.seat d.right) (said (known t d.block d.history))
+    (shown P d.limit b o t s d.seat d.right) l
     (lends_twice 𝓛 (known t d.block d.history) (known_twice 𝓛 t d.block d.history) l)
     (Lends-held P d.limit b o s (shares_laws d.at d.text) d.seat 𝓛 t d.right l))))

@@ -1,11 +1,11 @@
 -- `make` puts the word under the ledger's invariant, and lends what the block owns.
-use Rattle.std.proofs.Common.{◌≡◌, ℕ, ◌+◌, List, [], ◌∷◌, length, sym, refl, ap}
+use Rattle.std.proofs.Common.{◌≡◌, ℕ, ◌+◌, List, [], ◌∷◌, sym, refl, ap}
 use mir.Syntax.{dcons, dnil, a_type}
 use mir.Val.{Val}
 use mir.MapTy.{inst_fn}
 use base.Logic.{SProp, emp}
 use base.Fml.{Fml, ftrue, fsep, fex, flft, Incl-refl}
-use types.Kit.{Item, ‵, raw, ◌⊛◌, later, ◌$◌, ◌∵◌, !, qed, by, move, keep, drop, split, join, fsplit, fsplit3, fjoin, fpick, fpack, use0, use2, await, rewrite}
+use types.Kit.{Item, ‵, raw, ◌⊛◌, later, ◌$◌, ◌∵◌, !, qed, by, move, keep, drop, split, join, fsplit, fsplit3, fjoin, fpick, fpack, use0, use2, use3, await, rewrite}
 use types.Run.{stop, fld, of_opd, no_more, and_then, returns, enter}
 use types.ByLocal.{alloc_all, pass_all, free_all, look_at, get, get_in, sets, is}
 use types.Part.{agg, sub, whole}
@@ -23,13 +23,15 @@ use Rattle.core.specs.Sync.RawAtomic.{word}
 use Rattle.atomic_table.proofs.Walks.{proved, leaves}
 use Rattle.arcstr_count.specs.Word.{bits_of, fresh_word}
 use Rattle.arcstr_count.specs.declared.steps.Step.TheVariants.{Make}
-use Rattle.arcstr_block.specs.Rights.{IsLimit, counted}
+use Rattle.arcstr_block.specs.Word.{IsLimit}
+use Rattle.arcstr_block.specs.Rights.{counted}
 use Rattle.arcstr_block.specs.Book.{reached}
 use Rattle.arcstr_block.specs.Memory.{IsText, block_owns, block_shares}
 use Rattle.arcstr_block.specs.Ledger.{Id, names, held_with, of_block}
 use Rattle.arcstr_block.specs.contracts.block.Sole as S
 use Rattle.arcstr_block.specs.contracts.pointer.Pointer as C
 use Rattle.arcstr_block.proofs.Begins.{begins}
+use Rattle.arcstr_block.proofs.Framed as framed
 use Rattle.arcstr_block.proofs.Fields.{pointer_val, typed, Words, told, made}
 use Rattle.arcstr_block.proofs.Memory.{shares_laws, lends_block}
 use Rattle.arcstr_block.specs.contracts.pointer.Pointer.make.{ended, clauses}
@@ -40,28 +42,38 @@ use Rattle.arcstr_block.proofs.pointer.Pointer.make.Code as code
 pub make_spec : {M : Type 1} → statement M
 make_spec 𝓤 𝓛 𝓜 𝓡 wired Y K g d dd met md =
     let H = 𝓛.H in let 𝓣 = tables 𝓤 H 𝓜 𝓡 𝓡.env in let B : RattleType = param 0 Y in let En = ended Y g d dd in let c = clauses Y g d dd 𝓛 𝓜.mem 𝓡.returns in
-    let inst = bounded (a_type ∷ []) (Y, tt) (dcons d (dcons dd dnil)) in let fn = inst_fn inst code.function in let closed = code.unfolded 𝓤 H 𝓜 𝓡 wired (Y, tt) d dd in
-    let Row : RattleType = C.the_row B g in let Alone : RattleType = S.the_row B g in let self = plain (λ _. Alone) in let hs : Stays En.signature.params En.kept = (stay_dropped self no, tt) in
+    let inst = bounded (a_type ∷ []) (Y, tt) (dcons d (dcons dd dnil)) in let fn = inst_fn inst code.function in
+    let closed = code.unfolded 𝓤 H 𝓜 𝓡 wired (Y, tt) d dd in
+    let Row : RattleType = C.the_row B g in let Alone : RattleType = S.the_row B g in let self = plain (λ _. Alone) in
+    let hs : Stays En.signature.params En.kept = (stay_dropped self no, tt) in
     proved 𝓛 En hs c 𝓜 𝓡 (Goes-dropped 𝓛 1 self no (λ κs x f. refl), tt) (#self inst) fn closed
     (λ κs. ((λ x. pointer_val x.at ∷ []), tt)) (λ κs. ((λ x vs so. told B g x.at vs so.0), tt)) (λ κs qs bounds a gh are.
-    let v : Alone.Denot = a.0 in let p : Ptr = v.at in let xs : List ℕ = v.text in let lim : ℕ = gh in let holds = g.dealloc_token v.home in let P : Fml = block_owns holds p xs in let s = block_shares p xs in
+    let v : Alone.Denot = a.0 in let p : Ptr = v.at in let xs : List ℕ = v.text in let lim : ℕ = gh in let holds = g.dealloc_token v.home in
+    let P : Fml = block_owns holds p xs in let s = block_shares p xs in
     let b : ℕ = block_of p in let o : ℕ = count_of p in let t₁ : Item 𝓤 = ‵ (flft κs.0 qs.0) in
     let y : (walk_of 𝓛 En hs c).Ghost = ((κs, qs, bounds, a, (pointer_val p ∷ [], tt)), gh) in let Post : Val → SProp 𝓤 = (walk_of 𝓛 En hs c).post y in
-    qed 𝓛 (((t₁ ⊛ ‵ ftrue) ⊛ ‵ (owns (types_at En.signature.params κs) a y.0.4)) ∷ raw (fact 𝓤 _) ∷ raw (fact 𝓤 (v.word ≡ bits_of fresh_word)) ∷ raw (fact 𝓤 (IsUtf8 xs)) ∷ raw (fact 𝓤 (IsLimit lim)) ∷ []) ∵
-    keep ! (2 ∷ 3 ∷ 4 ∷ 0 ∷ []) $ heard ! (v.word ≡ bits_of fresh_word) (λ fresh. heard ! (IsUtf8 xs) (λ text. heard ! (IsLimit lim) (λ small. split ! $ move ! (1 ∷ []) $ fsplit ! $ fsplit ! $ keep ! (1 ∷ 3 ∷ []) $
+    qed 𝓛 (((t₁ ⊛ ‵ ftrue) ⊛ ‵ (owns (types_at En.signature.params κs) a y.0.4)) ∷ raw (fact 𝓤 _) ∷ raw (fact 𝓤 (v.word ≡ bits_of fresh_word)) ∷ raw (fact 𝓤
+    (IsUtf8 xs)) ∷ raw (fact 𝓤 (IsLimit lim)) ∷ []) ∵
+    keep ! (2 ∷ 3 ∷ 4 ∷ 0 ∷ []) $ heard ! (v.word ≡ bits_of fresh_word) (λ fresh. heard ! (IsUtf8 xs) (λ text. heard ! (IsLimit lim) (λ small. split ! $
+    move ! (1 ∷ []) $ fsplit ! $ fsplit ! $ keep ! (1 ∷ 3 ∷ []) $
     fsplit3 ! $ fpick ! (λ inb. drop ! $ let at : p ≡ block_ptr b o = at_block p inb.0 in
     -- [the word; what the block owns; the tokens]
     enter ! 𝓣.C 𝓣.Λ fn (pointer_val p ∷ []) Post $ alloc_all ! (λ l. pass_all ! refl (typed p, tt) $
     rewrite ! 0 (λ (n : ℕ). ‵ (word b (o + 0) n)) fresh refl $ fjoin ! $ move ! (1 ∷ []) $ split ! $ move ! (2 ∷ 0 ∷ []) $
-    use2 𝓛 (later (‵ (fex Id (λ t. fsep (reached t.2 (Make ∷ [])) (held_with P lim b (o + 0) t s 0 1))) ⊛ t₁))
+    use2 𝓛 (later (‵ (fex Id (λ t. fsep (reached t.2 (Make ∷ [])) (held_with P lim b (o + 0) t s 0 counted))) ⊛ t₁))
     (begins 𝓛 P lim b (o + 0) s (shares_laws p xs) small κs.0 (lends_block 𝓛 holds p xs κs.0) κs.0 qs.0 (Incl-refl κs.0)) $ await ! tt $ split ! $
-    fpick ! (λ t. fsplit ! $ nothing ! $ fpack ! (names t ≡ names t) (λ _. ftrue) refl $ fjoin ! $ fjoin ! $ fpack ! Id (of_block holds lim p xs 1 0 (names t) (Make ∷ [])) t $
-    -- [the owner; the tokens]
-    nothing ! $ fpack ! (InBlock p × IsText xs) (λ _. ftrue) (inb.0, (inb.1, text)) $ fjoin ! $ use0 𝓛 (‵ ((Words B g).own_val (p, (tt, tt)) (pointer_val p ∷ []))) (made B g 𝓛 p) $ fjoin ! $
+    fpick ! (λ t. fsplit ! $ move ! (1 ∷ []) $ fsplit ! $
+    -- [the invariant; the right; the beginning; the tokens]
+    let h' : Row.Denot = record { at = p; marker = record {}; home = v.home; text = xs; limit = lim; right = counted; seat = 0; block = names t;
+    history = Make ∷ [] } in
+    move ! (1 ∷ 0 ∷ 2 ∷ []) $ use3 𝓛 (‵ (Row.own_val h' (pointer_val p ∷ []))) (framed.pointer_in 𝓛 B g h' t refl (inb.0, (inb.1, text))) $
+    -- [the pointer; the tokens]
     move ! (1 ∷ 2 ∷ []) $ join ! $ move ! (1 ∷ 0 ∷ []) $
-    sets ! (is ! (of_opd ! (get_in ! (fld ! refl (stop !)) (sub ! 0 refl (whole !)))) (ap ptr_val at)) refl (tt, tt) $ sets ! (of_opd ! (get_in ! (fld ! refl (stop !)) (sub ! 1 refl (whole !)))) refl (tt, tt) $
+    sets ! (is ! (of_opd ! (get_in ! (fld ! refl (stop !)) (sub ! 0 refl (whole !)))) (ap ptr_val at)) refl (tt, tt) $
+    sets ! (of_opd ! (get_in ! (fld ! refl (stop !)) (sub ! 1 refl (whole !)))) refl (tt, tt) $
     sets ! (is ! (agg ! (and_then ! (get ! refl) (and_then ! (get ! refl) (no_more !)))) (ap pointer_val (sym at))) refl (typed p) $
-    let h' : Row.Denot = record { at = p; marker = record {}; home = v.home; text = xs; limit = lim; right = 1; seat = 0; block = names t; history = Make ∷ [] } in
-    use0 𝓛 (raw (fact 𝓤 (1 ≡ counted))) (fact_i 𝓤 (1 ≡ counted) (emp 𝓤) refl) $ use0 𝓛 (raw (fact 𝓤 (lim ≡ lim))) (fact_i 𝓤 (lim ≡ lim) (emp 𝓤) refl) $ join ! $
-    use0 𝓛 (raw (fact 𝓤 (xs ≡ xs))) (fact_i 𝓤 (xs ≡ xs) (emp 𝓤) refl) $ join ! $ use0 𝓛 (raw (fact 𝓤 (v.home ≡ v.home))) (fact_i 𝓤 (v.home ≡ v.home) (emp 𝓤) refl) $ join ! $ nothing ! $ nothing ! $ fjoin ! $
+    use0 𝓛 (raw (fact 𝓤 (counted ≡ counted))) (fact_i 𝓤 (counted ≡ counted) (emp 𝓤) refl) $
+    use0 𝓛 (raw (fact 𝓤 (lim ≡ lim))) (fact_i 𝓤 (lim ≡ lim) (emp 𝓤) refl) $ join ! $
+    use0 𝓛 (raw (fact 𝓤 (xs ≡ xs))) (fact_i 𝓤 (xs ≡ xs) (emp 𝓤) refl) $ join ! $
+    use0 𝓛 (raw (fact 𝓤 (v.home ≡ v.home))) (fact_i 𝓤 (v.home ≡ v.home) (emp 𝓤) refl) $ join ! $ nothing ! $ nothing ! $ fjoin ! $
     returns ! (look_at ! 0 refl) $ free_all ! refl $ keep ! (3 ∷ 0 ∷ 2 ∷ 1 ∷ []) $ by ! (leaves 𝓛 En hs c y (pointer_val p) h' (tt, tt) (tt, tt)))))))))
