@@ -26,7 +26,7 @@ use denote.Triple.Walked.{Stays, stay_dropped, walk_of, Goes-dropped}
 use Rattle.core.specs.contracts.marker.PhantomData as Marker
 use Rattle.atomic_table.proofs.Walks.{proved, leaves}
 use Rattle.arcstr_count.specs.declared.steps.HandleState.TheVariants.{Free}
-use Rattle.arcstr_block.specs.Rights.{IsFree, owed}
+use Rattle.arcstr_block.specs.Rights.{Right, IsFree, owed}
 use Rattle.arcstr_block.specs.Book.{seat_share}
 use Rattle.arcstr_block.specs.Memory.{block_owns, block_shares}
 use Rattle.arcstr_block.specs.Ledger.{Names, Inv, knows, names, pointer_shares}
@@ -50,7 +50,7 @@ alone_spec 𝓤 𝓛 𝓜 𝓡 wired Y K g d dd met md =
     proved 𝓛 En hs c 𝓜 𝓡 (Goes-dropped 𝓛 2 self no (λ κs x f. refl), (Goes-dropped 𝓛 2 other yes (λ κs x f. refl), tt)) (#self inst) fn closed
     (λ κs. ((λ x. pointer_val x.at ∷ []), (shr_vals, tt))) (λ κs. ((λ x vs so. told B g x.at vs so.0), (shr_Tells (named 0) κs.0 Row, tt))) (λ κs qs bounds a gh are.
     let h : Row.Denot = a.0 in let p : Ptr = h.at in let vs : List Val = pointer_val p ∷ [] in let κ : Lft = κs.0 in let q : Share = qs.0 in let others : Fml = fsep (flft κs.1.0 qs.1.0) ftrue in
-    let b : ℕ = a.1.0.ref_ptr.0 in let o : ℕ = a.1.0.ref_ptr.1 in let j : Row.Denot = a.1.0.now in let r : Ptr = j.at in let lim : ℕ = j.limit in let right : ℕ = j.right in
+    let b : ℕ = a.1.0.ref_ptr.0 in let o : ℕ = a.1.0.ref_ptr.1 in let j : Row.Denot = a.1.0.now in let r : Ptr = j.at in let lim : ℕ = j.limit in let right : Right = j.right in
     let holds = g.dealloc_token j.home in let P : Fml = block_owns holds r j.text in let s : Lft → Fml = block_shares r j.text in let rb : ℕ = block_of r in let ro : ℕ = count_of r + 0 in
     let y : (walk_of 𝓛 En hs c).Ghost = ((κs, qs, bounds, a, (vs, (vptr b o ∷ [], tt))), gh) in let Post : Val → SProp 𝓤 = (walk_of 𝓛 En hs c).post y in
     qed 𝓛 (((‵ (flft κ q) ⊛ ‵ others) ⊛ ‵ (owns (types_at En.signature.params κs) a y.0.4)) ∷ raw (fact 𝓤 _) ∷ raw (fact 𝓤 (h.right ≡ owed)) ∷ raw (fact 𝓤 (IsFree right)) ∷ []) ∵
