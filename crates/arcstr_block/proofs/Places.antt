@@ -97,7 +97,8 @@ module _ {M : Type 1} {𝓤 : Ura M} (𝓛 : Logic 𝓤) (at_mem : Memory → SP
         join ! $ done !
 
     pub makes_gives : (v : Val)
-        → ent 𝓤 (Makes.post at_makes v) (H.⇛ (ex 𝓤 (λ (r : Slots ℕ). guard 𝓤 (IsMade r × (v ≡ words_val (block_ptr b o) n)) (sem 𝓛 (Bytes.own_val r (v ∷ []))))))
+        → ent 𝓤 (Makes.post at_makes v) (H.⇛ (ex 𝓤 (λ (r : Slots ℕ).
+        guard 𝓤 (IsMade r × (v ≡ words_val (block_ptr b o) n)) (sem 𝓛 (Bytes.own_val r (v ∷ []))))))
     makes_gives v =
         qed 𝓛 (raw (Makes.post at_makes v) ∷ []) ∵ updating ! $
         use1 𝓛 (later (some (λ (r : Slots ℕ). ((‵ (flft [] full_share) ⊛ ‵ ftrue) ⊛ ‵ (Bytes.own_val r (v ∷ [])))
