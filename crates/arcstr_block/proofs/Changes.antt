@@ -70,8 +70,13 @@ module _ {M : Type 1} {𝓤 : Ura M} (𝓛 : Logic 𝓤) (P : Fml) (L b o : ℕ)
 
     mark : (n : ℕ) → n < 2 ^ 64 → (s : Phase) → In n s → ⟦ St (with_mark n) ⟧ ∗ ⟦ Keeps s ⟧ ∗ ⟦ Tok ⟧ ⊢ Stepped 𝓛 P L b o t with_mark Fixed Tok Tok n
     mark n fits (unmarked k) h = let h₀ = h.0 in let h₁ = h.1 in let h₂ = h.2 in let h₃ = h.3 in let even : IsUnmarked n = omega (arith, h₀) in
-        marking 𝓛 P L b o t with_mark Fixed Tok Tok n k (omega (arith, h₂, h₃)) (subst (λ (m : ℕ). In m (marked k)) (sym (or_unmarked n even)) (omega
-        (arith, h₀), omega (arith, h₀), omega (arith, h₀, h₂), h₃)) refl
+        marking 𝓛 P L b o t with_mark Fixed Tok Tok n k (omega (arith, h₂, h₃)) (subst (λ (m : ℕ). In m (marked k)) (sym (or_unmarked n even)) (
+          omega
+              (arith, h₀),
+          omega (arith, h₀),
+          omega (arith, h₀, h₂),
+          h₃,
+        )) refl
     mark n fits (marked m) h = let odd : IsMarked n = h.0 in
         qed 𝓛 (‵ (St (with_mark n)) ∷ ‵ (Keeps (marked m)) ∷ ‵ Tok ∷ []) ∵ move ! (1 ∷ []) $
         use1 𝓛 (‵ (Keeps (marked m)) ⊛ ‵ (some_share t.0) ⊛ ‵ (fdead (t.1 ∷ []))) (finds_mark 𝓛 P L b o t m) $ split3 ! $ move ! (1 ∷ 2 ∷ []) $ fjoin ! $
@@ -104,16 +109,26 @@ module _ {M : Type 1} {𝓤 : Ura M} (𝓛 : Logic 𝓤) (P : Fml) (L b o : ℕ)
       misses : (n : ℕ) → n ≢ old → (s : Phase) → In n s → ⟦ St (exchanged n) ⟧ ∗ ⟦ Keeps s ⟧ ∗ ⟦ Tok ⟧ ⊢ Went n
       misses n miss (unmarked k) h = let h₀ = h.0 in let h₁ = h.1 in let h₂ = h.2 in
           qed 𝓛 (‵ (St (exchanged n)) ∷ ‵ (Keeps (unmarked k)) ∷ ‵ Tok ∷ []) ∵ nothing ! $ move ! (1 ∷ 2 ∷ 3 ∷ 0 ∷ []) $
-          by ! (keeps 𝓛 P L b o t exchanged Raised Tok Tok n (unmarked k) (subst (λ (x : ℕ). In x (unmarked k)) (sym (lost n miss)) h) none
-          ((λ _. (omega (arith, h₀, h₁), omega (arith, h₀, h₂))), (λ odd. absurd (omega (arith, h₀, odd))), (λ _ _. refl), (λ e. absurd (miss e)), (λ e.
-          absurd (miss e))))
+          by ! (keeps 𝓛 P L b o t exchanged Raised Tok Tok n (unmarked k) (subst (λ (x : ℕ). In x (unmarked k)) (sym (lost n miss)) h) none (
+            (λ _. (omega (arith, h₀, h₁), omega (arith, h₀, h₂))),
+            (λ odd. absurd (omega (arith, h₀, odd))),
+            (λ _ _. refl),
+            (λ e. absurd (miss e)),
+            (λ e.
+                absurd (miss e)),
+          ))
       misses n miss (marked m) h = let odd : IsMarked n = h.0 in
           qed 𝓛 (‵ (St (exchanged n)) ∷ ‵ (Keeps (marked m)) ∷ ‵ Tok ∷ []) ∵ move ! (1 ∷ []) $
           use1 𝓛 (‵ (Keeps (marked m)) ⊛ ‵ (some_share t.0) ⊛ ‵ (fdead (t.1 ∷ []))) (finds_mark 𝓛 P L b o t m) $ split3 ! $ move ! (1 ∷ 2 ∷ []) $ fjoin ! $
           move ! (2 ∷ 1 ∷ 3 ∷ 0 ∷ []) $
-          by ! (keeps 𝓛 P L b o t exchanged Raised Tok Tok n (marked m) (subst (λ (x : ℕ). In x (marked m)) (sym (lost n miss)) h) share
-          ((λ even. absurd (omega (arith, odd, even))), (λ _. refl), (λ even. absurd (omega (arith, odd, even))), (λ e. absurd (miss e)), (λ e.
-          absurd (miss e))))
+          by ! (keeps 𝓛 P L b o t exchanged Raised Tok Tok n (marked m) (subst (λ (x : ℕ). In x (marked m)) (sym (lost n miss)) h) share (
+            (λ even. absurd (omega (arith, odd, even))),
+            (λ _. refl),
+            (λ even. absurd (omega (arith, odd, even))),
+            (λ e. absurd (miss e)),
+            (λ e.
+                absurd (miss e)),
+          ))
 
       hits : (s : Phase) → In old s → ⟦ St (exchanged old) ⟧ ∗ ⟦ Keeps s ⟧ ∗ ⟦ Tok ⟧ ⊢ Went old
       hits (marked m) h = let odd : IsMarked old = h.0 in let even = asked.0 in absurd (omega (arith, odd, even))
@@ -122,12 +137,22 @@ module _ {M : Type 1} {𝓤 : Ura M} (𝓛 : Logic 𝓤) (P : Fml) (L b o : ℕ)
           (λ room. let is : new ≡ old + 2 = asked.2 room in
           qed 𝓛 (‵ (St (exchanged old)) ∷ ‵ (Keeps (unmarked k)) ∷ ‵ Tok ∷ []) ∵ move ! (1 ∷ []) $
           use1 𝓛 (‵ (Keeps (unmarked (k + 1))) ⊛ ‵ (parts t.0 1)) (takes 𝓛 P L b o t k (omega (arith, h₀, room, h₃))) $ split ! $ move ! (2 ∷ 0 ∷ 3 ∷ 1 ∷ []) $
-          by ! (keeps 𝓛 P L b o t exchanged Raised Tok Tok old (unmarked (k + 1)) (subst (λ (x : ℕ). In x (unmarked (k + 1))) (sym won) (omega
-          (arith, h₀, is), omega arith, omega (arith, h₀, room), h₃)) part
+          by ! (keeps 𝓛 P L b o t exchanged Raised Tok Tok old (unmarked (k + 1)) (subst (λ (x : ℕ). In x (unmarked (k + 1))) (sym won) (
+            omega
+                (arith, h₀, is),
+            omega arith,
+            omega (arith, h₀, room),
+            h₃,
+          )) part
           (good, (λ odd. absurd (omega (arith, odd, even))), (λ _ ne. absurd (ne refl)), (λ _ _. refl), (λ _ odd. absurd (omega (arith, odd, even, is))))))
           (λ above. let full : L < old / 2 = omega (arith, above) in let is : new ≡ old + 1 = asked.1 full in
-          marking 𝓛 P L b o t exchanged Raised Tok Tok old k (omega (arith, h₂, h₃)) (subst (λ (x : ℕ). In x (marked k)) (sym won) (omega
-          (arith, is, even), omega (arith, is, h₀), omega (arith, is, h₀, h₂), h₃))
+          marking 𝓛 P L b o t exchanged Raised Tok Tok old k (omega (arith, h₂, h₃)) (subst (λ (x : ℕ). In x (marked k)) (sym won) (
+            omega
+                (arith, is, even),
+            omega (arith, is, h₀),
+            omega (arith, is, h₀, h₂),
+            h₃,
+          ))
           (good, (λ _. refl), (λ _ ne. absurd (ne refl)), (λ _ un. absurd (omega (arith, un, is, even))), (λ _ _. refl)))
 
       raise : (n : ℕ) → n < 2 ^ 64 → (s : Phase) → In n s → ⟦ St (exchanged n) ⟧ ∗ ⟦ Keeps s ⟧ ∗ ⟦ Tok ⟧ ⊢ Went n
@@ -174,8 +199,13 @@ module _ {M : Type 1} {𝓤 : Ura M} (𝓛 : Logic 𝓤) (P : Fml) (L b o : ℕ)
       (λ many. let more : 1 < k = omega (arith, h₁, many) in let is : less n ≡ n - 2 = omega (arith, h₀, more, fits) in
       qed 𝓛 (‵ (St (less n)) ∷ ‵ (Keeps (unmarked k)) ∷ ‵ One ∷ []) ∵ move ! (1 ∷ 2 ∷ []) $
       use2 𝓛 (‵ (Keeps (unmarked (k - 1)))) (gives 𝓛 P L b o t k more (omega (arith, h₂, h₃))) $ nothing ! $ nothing ! $ move ! (3 ∷ 2 ∷ 0 ∷ 1 ∷ []) $
-      by ! (keeps 𝓛 P L b o t less Left One ftrue n (unmarked (k - 1)) (subst (λ (x : ℕ). In x (unmarked (k - 1))) (sym is) (omega (arith, h₀, more), omega
-      (arith, more), omega (arith, h₂), h₃)) none
+      by ! (keeps 𝓛 P L b o t less Left One ftrue n (unmarked (k - 1)) (subst (λ (x : ℕ). In x (unmarked (k - 1))) (sym is) (
+        omega (arith, h₀, more),
+        omega
+            (arith, more),
+        omega (arith, h₂),
+        h₃,
+      )) none
       ((λ e. absurd (omega (arith, e, h₀, more))), (λ _. refl))))
   leave n fits (marked m) h = let odd : IsMarked n = h.0 in let h₁ = h.1 in let h₂ = h.2 in let h₃ = h.3 in dite (ℕ_discrete m 0)
       (λ e. subst (λ (x : ℕ). ⟦ St (less n) ⟧ ∗ ⟦ Keeps (marked x) ⟧ ∗ ⟦ One ⟧ ⊢ Gone n) (sym e) (
@@ -187,8 +217,13 @@ module _ {M : Type 1} {𝓤 : Ura M} (𝓛 : Logic 𝓤) (P : Fml) (L b o : ℕ)
       (λ some. let more : 0 < m = omega (arith, some) in let is : less n ≡ n - 2 = omega (arith, odd, more, h₁, fits) in
       qed 𝓛 (‵ (St (less n)) ∷ ‵ (Keeps (marked m)) ∷ ‵ One ∷ []) ∵ move ! (1 ∷ 2 ∷ []) $
       use2 𝓛 (‵ (Keeps (marked (m - 1)))) (gives_marked 𝓛 P L b o t m more (omega (arith, h₁, h₂, h₃))) $ nothing ! $ nothing ! $ move ! (3 ∷ 2 ∷ 0 ∷ 1 ∷ []) $
-      by ! (keeps 𝓛 P L b o t less Left One ftrue n (marked (m - 1)) (subst (λ (x : ℕ). In x (marked (m - 1))) (sym is) (omega (arith, odd, more, h₁), omega
-      (arith, odd, more, h₁), omega (arith, h₂), h₃)) none
+      by ! (keeps 𝓛 P L b o t less Left One ftrue n (marked (m - 1)) (subst (λ (x : ℕ). In x (marked (m - 1))) (sym is) (
+        omega (arith, odd, more, h₁),
+        omega
+            (arith, odd, more, h₁),
+        omega (arith, h₂),
+        h₃,
+      )) none
       ((λ e. absurd (omega (arith, e, odd))), (λ _. refl))))
 
   pub leaves_it : (B : Fml) (said : ℕ → Fml) → ((n : ℕ) → n < 2 ^ 64 → ⟦ Bk n ⟧ ∗ ⟦ B ⟧ ⊢ upd 𝓤 (⟦ Bk (less n) ⟧ ∗ ⟦ said n ⟧))

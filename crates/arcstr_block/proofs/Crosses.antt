@@ -104,9 +104,17 @@ py = search sendable
 
 module _ (B : RattleType) (g : Ghosts B.Denot) (f : Frees g g.dealloc_token) where
   owns_keyless : (a : B.Denot) (p : Ptr) (xs : List ℕ) → Keyless (block_owns (g.dealloc_token a) p xs)
-  owns_keyless a p xs = let n : ℕ = length xs in
-      (lies usize number_send (length_at p) n, (lies (Array u8 n) (bytes_send n) (text_at p) xs, (((tt, (tt, (tt, tt))), tt), f.frees a (raw
-      (block_type n)) p)))
+  owns_keyless a p xs = let n : ℕ = length xs in (
+    lies usize number_send (length_at p) n,
+    (
+      lies (Array u8 n) (bytes_send n) (text_at p) xs,
+      (
+        ((tt, (tt, (tt, tt))), tt),
+        f.frees a (raw
+            (block_type n)) p,
+      ),
+    ),
+  )
 
   module _ (sb : IsSend B) (yb : IsSync B) where
     ms : IsSend (Marker.the_field B).row
@@ -124,7 +132,7 @@ module _ (B : RattleType) (g : Ghosts B.Denot) (f : Frees g g.dealloc_token) whe
             (
               alive_keyless P d.limit (block_of d.at) (count_of d.at + 0) t (owns_keyless d.home d.at d.text),
               right_keyless P d.limit (block_of d.at) (count_of d.at + 0) t (owns_keyless d.home d.at d.text) (block_shares d.at d.text)
-              (common d.at d.text) d.seat d.right,
+                  (common d.at d.text) d.seat d.right,
             ),
           ),
         ))
@@ -134,8 +142,14 @@ module _ (B : RattleType) (g : Ghosts B.Denot) (f : Frees g g.dealloc_token) whe
     pointer_sync = record {
       shared = λ d b o κ. let P = block_owns (g.dealloc_token d.home) d.at d.text in (
         (struct_sync (shape (C.the_type B g)) (py, (my, tt))).shared (to (C.the_type B g) d) b o κ,
-        ((λ _. tt), λ t. (known_keyless t d.block d.history, shown_common P d.limit (block_of d.at) (count_of d.at + 0) t (owns_keyless d.home d.at d.text)
-        (block_shares d.at d.text) (common d.at d.text) d.seat d.right κ)),
+        (
+          (λ _. tt),
+          λ t. (
+            known_keyless t d.block d.history,
+            shown_common P d.limit (block_of d.at) (count_of d.at + 0) t (owns_keyless d.home d.at d.text)
+                (block_shares d.at d.text) (common d.at d.text) d.seat d.right κ,
+          ),
+        ),
       );
     }
 

@@ -6,13 +6,13 @@ use base.Share
 use base.Logic.{SProp, ent, sep, emp}
 use base.Fml.{Lft, Share, Fml, ftrue, fsep, fex, feq, flft, finv, fobor, fshr_bor}
 use types.Logic.{Logic, sem}
-use types.Kit.{‵, raw, join, ◌⊛◌, ◌$◌, ◌∵◌, !, qed, move, keep, drop, split, fsplit, fsplit3, fjoin, fjoin3, fpack, use0, use1, use2, now, updating, feq_i}
+use types.Kit.{‵, raw, join, ◌⊛◌, ◌$◌, ◌∵◌, !, qed, move, drop, split, fsplit, fjoin, fjoin3, fpack, use0, use1, use2, now, updating, feq_i}
 use types.Kit.{flt_i, done}
 use types.Tokens.{shr_bor-open, obor_close}
 use types.Within.{tokens_halve}
 use contract.Monad.{fact as said, fact_i}
 use denote.RattleType.{RattleType, Valss, owns}
-use denote.RawPtr.{Ptr, InBlock, block_of, count_of}
+use denote.RawPtr.{InBlock, block_of, count_of}
 use denote.Builtin.{u64}
 use denote.Steps.{nothing}
 use Rattle.core.specs.declared.alloc.Allocator.{Ghosts}
@@ -99,8 +99,10 @@ module _ {M : Type 1} {𝓤 : Ura M} (𝓛 : Logic 𝓤) where
 
       -- beside the word n that the step found
       abbrev pub found_as : ℕ → Valss (u64 ∷ Row ∷ []) → Fml
-      found_as n uss = fsep (feq (List Val) (found_val n h.at ∷ []) (vstruct (of_list (uss.0 ++ (uss.1.0 ++ []))) ∷ [])) (owns (u64 ∷ Row ∷ []) (n,
-          (h, tt)) uss)
+      found_as n uss = fsep (feq (List Val) (found_val n h.at ∷ []) (vstruct (of_list (uss.0 ++ (uss.1.0 ++ []))) ∷ [])) (owns (u64 ∷ Row ∷ []) (
+        n,
+        (h, tt),
+      ) uss)
 
       pub found_in : (n : ℕ) → n < 2 ^ 64 → ⟦ Row.own_val h (pointer_val h.at ∷ []) ⟧ ⊢ ⟦ fex (Valss (u64 ∷ Row ∷ [])) (found_as n) ⟧
       found_in n fits = let r : Val = found_val n h.at in qed 𝓛 (‵ (Row.own_val h (pointer_val h.at ∷ [])) ∷ []) ∵

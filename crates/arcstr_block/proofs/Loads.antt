@@ -68,15 +68,15 @@ module _ {M : Type 1} {𝓤 : Ura M} (𝓛 : Logic 𝓤) (P : Fml) (L b o : ℕ)
     right = got.right;
     said = got.said;
     turns = qed 𝓛 (‵ (gained 𝓛 P L b o t g) ∷ ‵ (s (t.0 ∷ [])) ∷ ‵ (entered true n) ∷ ‵ (reached t.2 r) ∷ []) ∵ updating ! $
-      use3 𝓛 (later (‵ (fex ℕ (λ j. right_to P L b o t s j got.right)))) got.turns $ await ! tt $ fpick ! (λ j. move ! (1 ∷ 0 ∷ []) $ fjoin ! $
-      nothing ! $ fpack ! (LoadEnds true L h n r) (λ _. ftrue) tt $ fjoin ! $ fpack ! (ℕ × List Step) (right_after true n got.right) (j, r) $ now ! $ done !);
+        use3 𝓛 (later (‵ (fex ℕ (λ j. right_to P L b o t s j got.right)))) got.turns $ await ! tt $ fpick ! (λ j. move ! (1 ∷ 0 ∷ []) $ fjoin ! $
+        nothing ! $ fpack ! (LoadEnds true L h n r) (λ _. ftrue) tt $ fjoin ! $ fpack ! (ℕ × List Step) (right_after true n got.right) (j, r) $ now ! $ done !);
   }
   loaded false n r g m u = let got = looked 𝓛 P L b o t s laws n g m u in record {
     right = got.right;
     said = got.said;
     turns = qed 𝓛 (‵ (gained 𝓛 P L b o t g) ∷ ‵ (s (t.0 ∷ [])) ∷ ‵ (entered false n) ∷ ‵ (reached t.2 r) ∷ []) ∵ updating ! $
-      use2 𝓛 (later (‵ (right_to P L b o t s 0 got.right))) got.turns $ await ! tt $ move ! (1 ∷ []) $ fpick ! (λ r'. fsplit ! $ fpick ! (λ ends. drop ! $
-      fjoin ! $
-      nothing ! $ fpack ! (LoadEnds false L h n r') (λ _. ftrue) ends $ fjoin ! $ fpack ! (ℕ × List Step) (right_after false n got.right) (0, r') $ now ! $
-      keep ! (0 ∷ []) $ done !));
+        use2 𝓛 (later (‵ (right_to P L b o t s 0 got.right))) got.turns $ await ! tt $ move ! (1 ∷ []) $ fpick ! (λ r'. fsplit ! $ fpick ! (λ ends. drop ! $
+        fjoin ! $
+        nothing ! $ fpack ! (LoadEnds false L h n r') (λ _. ftrue) ends $ fjoin ! $ fpack ! (ℕ × List Step) (right_after false n got.right) (0, r') $ now ! $
+        keep ! (0 ∷ []) $ done !));
   }

@@ -10,8 +10,11 @@ use Rattle.arcstr_block.proofs.Words.{odd_or_even, unmarked_word}
 
 pub counted_look : (L L' n h h' : ℕ) (r r' : List Step) → EndsIn L r (Look h) (look_reply (looked_of (word_of n))) → L ≡ L' → r' ≡ r → h' ≡ h
     → (IsMarked n → ⊥) → (x : ℕ) × EndsIn L' r' (Look h') (Count x)
-counted_look L L' n h h' r r' ends limit history seat unmarked = let even : IsUnmarked n = elim (odd_or_even n) [ inl odd ↦ absurd
-    (unmarked odd) | inr even ↦ even ] in
+counted_look L L' n h h' r r' ends limit history seat unmarked = let even : IsUnmarked n = elim (odd_or_even n) [
+  | inl odd ↦ absurd
+      (unmarked odd)
+  | inr even ↦ even
+] in
     let counted : EndsIn L r (Look h) (Count (n / 2)) = subst (EndsIn L r (Look h)) (ap (λ w. look_reply (looked_of w)) (unmarked_word n even)) ends in
     let limited : EndsIn L' r (Look h) (Count (n / 2)) = subst (λ l. EndsIn l r (Look h) (Count (n / 2))) limit counted in
     let seen : EndsIn L' r' (Look h) (Count (n / 2)) = subst (λ s. EndsIn L' s (Look h) (Count (n / 2))) (sym history) limited in

@@ -54,8 +54,11 @@ abbrev pub Words : RattleType
 Words = Struct (shape (SL.the_type u8))
 
 pub words_told : (p : Ptr) (n : ℕ) (vs : List Val) → Is Words (p, (n, tt)) vs → (vs ≡ words_val p n ∷ []) × (n < 2 ^ 64)
-words_told p n vs is = (is.1.0 ∙ ap (λ (ws : List Val). vstruct (of_list (ws ++ (is.0.1.0 ++ []))) ∷ []) is.1.1.0 ∙ ap (λ (ws : List Val). vstruct (of_list
-    (ptr_val p ∷ (ws ++ []))) ∷ []) is.1.1.1.0.0, is.1.1.1.0.1)
+words_told p n vs is = (
+  is.1.0 ∙ ap (λ (ws : List Val). vstruct (of_list (ws ++ (is.0.1.0 ++ []))) ∷ []) is.1.1.0 ∙ ap (λ (ws : List Val). vstruct (of_list
+      (ptr_val p ∷ (ws ++ []))) ∷ []) is.1.1.1.0.0,
+  is.1.1.1.0.1,
+)
 
 module _ {M : Type 1} {𝓤 : Ura M} (𝓛 : Logic 𝓤) (b : ℕ) where
   -- where each place holds its byte, they are the bytes
@@ -94,7 +97,8 @@ module _ {M : Type 1} {𝓤 : Ura M} (𝓛 : Logic 𝓤) (at_mem : Memory → SP
         join ! $ done !
 
     pub makes_gives : (v : Val)
-      → ent 𝓤 (Makes.post at_makes v) (H.⇛ (ex 𝓤 (λ (r : Slots ℕ). guard 𝓤 (IsMade r × (v ≡ words_val (block_ptr b o) n)) (sem 𝓛 (Bytes.own_val r (v ∷ []))))))
+        → ent 𝓤 (Makes.post at_makes v) (H.⇛ (ex 𝓤 (λ (r : Slots ℕ).
+        guard 𝓤 (IsMade r × (v ≡ words_val (block_ptr b o) n)) (sem 𝓛 (Bytes.own_val r (v ∷ []))))))
     makes_gives v =
         qed 𝓛 (raw (Makes.post at_makes v) ∷ []) ∵ updating ! $
         use1 𝓛 (later (some (λ (r : Slots ℕ). ((‵ (flft [] full_share) ⊛ ‵ ftrue) ⊛ ‵ (Bytes.own_val r (v ∷ [])))

@@ -188,8 +188,15 @@ module _ {M : Type 1} {𝓤 : Ura M} (𝓛 : Logic 𝓤) (P : Fml) (L b o : ℕ)
     pub found : (n : ℕ) (g : Gain) → (IsMarked n → g ≡ share) → (IsUnmarked n → g ≡ none) → Becomes (Finds n) (FromClone (IsMarked n) g) ToClone
     found n none m u = record { right = nothing; said = ((λ odd. let e = m odd in absurd cc), (λ _. refl)); turns = no_clone (IsMarked n) ftrue }
     found n part m u = absurd (neither n (λ odd. let e = m odd in absurd cc) (λ even. let e = u even in absurd cc))
-    found n share m u = record { right = uncounted; said = ((λ _. refl), (λ even.
-        let e = u even in absurd cc)); turns = uncounted_clone (IsMarked n) (elim (odd_or_even n) [ inl odd ↦ odd | inr even ↦ let e = u even in absurd cc ]) }
+    found n share m u = record {
+      right = uncounted;
+      said = (
+        (λ _. refl),
+        (λ even.
+            let e = u even in absurd cc),
+      );
+      turns = uncounted_clone (IsMarked n) (elim (odd_or_even n) [ inl odd ↦ odd | inr even ↦ let e = u even in absurd cc ]);
+    }
     found n last m u = absurd (neither n (λ odd. let e = m odd in absurd cc) (λ even. let e = u even in absurd cc))
 
     module _ (old new n : ℕ) where
@@ -211,12 +218,39 @@ module _ {M : Type 1} {𝓤 : Ura M} (𝓛 : Logic 𝓤) (P : Fml) (L b o : ℕ)
           (λ ne. let e = ok.1 even ne in absurd cc))
 
       pub raised : (g : Gain) → Said (g) → Becomes (Gains old new n) (FromClone Event g) ToClone
-      raised none ok = record { right = nothing; said = ((λ odd. let e = ok.0 odd in absurd cc), (λ _ _. refl), (λ hit un.
-          let e = ok.2 hit un in absurd cc), (λ hit odd. let e = ok.3 hit odd in absurd cc)); turns = no_clone Event ftrue }
-      raised part ok = record { right = counted; said = ((λ odd. let e = ok.0 odd in absurd cc), (λ even miss. let e = ok.1 even miss in absurd cc), (λ _ _.
-          refl), (λ hit odd. let e = ok.3 hit odd in absurd cc)); turns = counted_clone Event (event_of part (λ e. absurd cc) ok) }
-      raised share ok = record { right = uncounted; said = ((λ _. refl), (λ even miss. let e = ok.1 even miss in absurd cc), (λ hit un.
-          let e = ok.2 hit un in absurd cc), (λ _ _. refl)); turns = uncounted_clone Event (event_of share (λ e. absurd cc) ok) }
+      raised none ok = record {
+        right = nothing;
+        said = (
+          (λ odd. let e = ok.0 odd in absurd cc),
+          (λ _ _. refl),
+          (λ hit un.
+              let e = ok.2 hit un in absurd cc),
+          (λ hit odd. let e = ok.3 hit odd in absurd cc),
+        );
+        turns = no_clone Event ftrue;
+      }
+      raised part ok = record {
+        right = counted;
+        said = (
+          (λ odd. let e = ok.0 odd in absurd cc),
+          (λ even miss. let e = ok.1 even miss in absurd cc),
+          (λ _ _.
+              refl),
+          (λ hit odd. let e = ok.3 hit odd in absurd cc),
+        );
+        turns = counted_clone Event (event_of part (λ e. absurd cc) ok);
+      }
+      raised share ok = record {
+        right = uncounted;
+        said = (
+          (λ _. refl),
+          (λ even miss. let e = ok.1 even miss in absurd cc),
+          (λ hit un.
+              let e = ok.2 hit un in absurd cc),
+          (λ _ _. refl),
+        );
+        turns = uncounted_clone Event (event_of share (λ e. absurd cc) ok);
+      }
       raised last ok = absurd (no_last ok)
 
     -- ---- the drop: its look, and its subtraction

@@ -164,8 +164,13 @@ module _ {M : Type 1} {𝓤 : Ura M} (𝓛 : Logic 𝓤) (P : Fml) (L b o : ℕ)
         (λ e. move ! (1 ∷ 3 ∷ []) $ use1 𝓛 (‵ (fdead (t.1 ∷ []))) (all_e 𝓤 (λ (_ : right ≡ uncounted). A.dead (t.1 ∷ [])) e) $ move ! (1 ∷ []) $ fsplit3 ! $
         keep ! (1 ∷ 3 ∷ []) $ by ! (not_alive 𝓛 P L b o t full_share t.1 _))
         (λ ne. move ! (1 ∷ []) $ drop ! $ nothing ! $ move ! (2 ∷ 3 ∷ 1 ∷ 0 ∷ []) $
-        by ! (keeps (λ m. m) Told With Tok n (unmarked k) h none ((λ _. (omega arith, omega arith)), (λ e. absurd (ne e)), (λ odd. absurd (omega arith)), (λ _.
-        refl))))
+        by ! (keeps (λ m. m) Told With Tok n (unmarked k) h none (
+          (λ _. (omega arith, omega arith)),
+          (λ e. absurd (ne e)),
+          (λ odd. absurd (omega arith)),
+          (λ _.
+              refl),
+        )))
     sees n fits (marked m) h = let odd : IsMarked n = h.0 in
         qed 𝓛 (‵ (St n) ∷ ‵ (Keeps (marked m)) ∷ ‵ With ∷ []) ∵ move ! (2 ∷ []) $ fsplit ! $ move ! (3 ∷ []) $
         use1 𝓛 (‵ (Keeps (marked m)) ⊛ ‵ (some_share t.0) ⊛ ‵ (fdead (t.1 ∷ []))) (finds_mark 𝓛 P L b o t m) $ split3 ! $ move ! (1 ∷ 2 ∷ []) $ fjoin ! $

@@ -25,7 +25,7 @@ loop-copy-preserved c =
     let next : suc k ≡ k + 1 = omega arith in (
       record { start = c.copy_in.ensures.places.start ∙ made.0.start; count = c.copy_in.ensures.places.count ∙ made.0.count },
       subst (λ j. take (j * m) new.items ≡ repeat j text) next (ap (take (suc k * m)) c.copy_in.ensures.items ∙ next_copy k m old.items text (drop
-      (k * m + m) old.items) refl within made.1),
+          (k * m + m) old.items) refl within made.1),
       Filled-around old.filled new.filled (k * m) (k * m + m) ((k + 1) * m) c.copy_in.ensures.filled.0 c.copy_in.ensures.filled.1 made.2
           (Filled-none old.filled (k * m + m) ((k + 1) * m) (omega (arith, suc-mul k m, ap (λ j. j * m) next))),
     )

@@ -66,10 +66,27 @@ make_spec 𝓤 𝓛 𝓜 𝓡 wired Y K g d dd met md =
     let Open : RattleType = N.the_row B g in let handle = RefOf (0 ∷ []) tt (plain (λ _. B)) (λ _. tt) in let number = plain (λ _. u64) in
     let Z : Al = record { row = Y; laws = K; g = g; d = d; drops = dd } in let Two : RattleType = Tuple (Open ∷ Bytes ∷ []) in
     let Out : RattleType = Res.the_row Two refusal.the_row in
-    let hs : Stays En.signature.params En.kept = (stay_dropped handle yes, (stay_dropped number yes, (stay_dropped number yes,
-    (stay_dropped number yes, tt)))) in
-    proved 𝓛 En hs c 𝓜 𝓡 (Goes-dropped 𝓛 2 handle yes (λ κs x f. refl), (Goes-dropped 𝓛 2 number yes (λ κs x f. refl), (Goes-dropped 𝓛 2 number yes (λ κs x f.
-    refl), (Goes-dropped 𝓛 2 number yes (λ κs x f. refl), tt)))) (#self inst) fn closed
+    let hs : Stays En.signature.params En.kept = (
+      stay_dropped handle yes,
+      (
+        stay_dropped number yes,
+        (
+          stay_dropped number yes,
+          (stay_dropped number yes, tt),
+        ),
+      ),
+    ) in
+    proved 𝓛 En hs c 𝓜 𝓡 (
+      Goes-dropped 𝓛 2 handle yes (λ κs x f. refl),
+      (
+        Goes-dropped 𝓛 2 number yes (λ κs x f. refl),
+        (
+          Goes-dropped 𝓛 2 number yes (λ κs x f.
+              refl),
+          (Goes-dropped 𝓛 2 number yes (λ κs x f. refl), tt),
+        ),
+      ),
+    ) (#self inst) fn closed
     (λ κs. (shr_vals, (uint_vals w64, (uint_vals w64, (uint_vals w64, tt))))) (λ κs.
     (shr_Tells (named 0) κs.0 B, (uint_Tells w64, (uint_Tells w64, (uint_Tells w64, tt))))) (λ κs qs bounds a gh are.
     let hp : ℕ × ℕ = a.0.ref_ptr in let heap : Y.Denot = a.0.now in let w : ℕ = a.1.0 in let n : ℕ = a.1.1.0 in let size : ℕ = a.1.1.1.0 in
@@ -132,8 +149,10 @@ make_spec 𝓤 𝓛 𝓜 𝓡 wired Y K g d dd met md =
     use0 𝓛 (‵ ((Words B g).own_val (p, (tt, tt)) (pointer_val p ∷ []))) (made B g 𝓛 p) $ fjoin ! $ move ! (0 ∷ 1 ∷ 2 ∷ []) $ fjoin3 ! $
     feq_i ! (List Val) (pair ∷ []) (pair ∷ []) refl $ fjoin ! $
     let h : Open.Denot = record { at = p; marker = record {}; home = heap; word = w; length = n } in
-    fpack ! (Valss (Open ∷ Bytes ∷ [])) (within (declared.shape (tuple_type (Open ∷ Bytes ∷ []))) (h, (r, tt)) (pair ∷ [])) (pointer_val p ∷ [],
-    (wv ∷ [], tt)) $
+    fpack ! (Valss (Open ∷ Bytes ∷ [])) (within (declared.shape (tuple_type (Open ∷ Bytes ∷ []))) (h, (r, tt)) (pair ∷ [])) (
+      pointer_val p ∷ [],
+      (wv ∷ [], tt),
+    ) $
     use1 𝓛 (‵ (Out.own_val (Ok (h, r)) (val ∷ []))) (ok_of 𝓛 Two refusal.the_row (h, r) pair) $
     use0 𝓛 (raw (fact 𝓤 (r.items ≡ zs))) (fact_i 𝓤 (r.items ≡ zs) (emp 𝓤) is.0.2) $
     use0 𝓛 (raw (fact 𝓤 (r.ptr ≡ text_at p))) (fact_i 𝓤 (r.ptr ≡ text_at p) (emp 𝓤) is.0.0) $ join ! $

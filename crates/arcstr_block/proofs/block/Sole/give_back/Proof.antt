@@ -49,10 +49,22 @@ give_back_spec 𝓤 𝓛 𝓜 𝓡 wired Y K g d dd met md =
     let number = plain (λ _. usize) in
     let Z : Al = record { row = Y; laws = K; g = g; d = d; drops = dd } in
     let hs : Stays En.signature.params En.kept = (stay_dropped self no, (stay_dropped handle yes, (stay_dropped number yes, tt))) in
-    proved 𝓛 En hs c 𝓜 𝓡 (Goes-dropped 𝓛 2 self no (λ κs x f. refl), (Goes-dropped 𝓛 2 handle yes (λ κs x f. refl), (Goes-dropped 𝓛 2 number yes (λ κs x f.
-    refl), tt))) (#self inst) fn closed
-    (λ κs. ((λ x. pointer_val x.at ∷ []), (shr_vals, (uint_vals w64, tt)))) (λ κs. ((λ x vs so.
-    told B g x.at vs so.0), (shr_Tells (named 0) κs.0 B, (uint_Tells w64, tt)))) (λ κs qs bounds a gh are.
+    proved 𝓛 En hs c 𝓜 𝓡 (
+      Goes-dropped 𝓛 2 self no (λ κs x f. refl),
+      (
+        Goes-dropped 𝓛 2 handle yes (λ κs x f. refl),
+        (
+          Goes-dropped 𝓛 2 number yes (λ κs x f.
+              refl),
+          tt,
+        ),
+      ),
+    ) (#self inst) fn closed
+    (λ κs. ((λ x. pointer_val x.at ∷ []), (shr_vals, (uint_vals w64, tt)))) (λ κs. (
+      (λ x vs so.
+          told B g x.at vs so.0),
+      (shr_Tells (named 0) κs.0 B, (uint_Tells w64, tt)),
+    )) (λ κs qs bounds a gh are.
     let v : Alone.Denot = a.0 in let p : Ptr = v.at in let xs : List ℕ = v.text in let n : ℕ = length xs in let hp : ℕ × ℕ = a.1.0.ref_ptr in
     let heap : Y.Denot = a.1.0.now in let size : ℕ = a.1.1.0 in
     let κ : Lft = κs.0 in let q : Share = qs.0 in let token : Ty → Ptr → Fml = g.dealloc_token heap in let τ : Ty = bare (block_type n) in

@@ -77,15 +77,26 @@ module _ (Y : RattleType) (g : Ghosts Y.Denot) (d dd : Dict) where
   Alone = S.the_row B g
 
   abbrev ended : Ended
-  ended = record { signature = record { lifetimes = 1; outlives = []; params = RefMutOf (0 ∷ []) tt (plain (λ _. Alone)) (λ _. tt) ∷ plain (λ _.
-      usize) ∷ []; result = SliceRefMutOf (0 ∷ []) tt (plain (λ _. u8)) (λ _. tt) }; kept = (no, (yes, tt)) }
+  ended = record {
+    signature = record {
+      lifetimes = 1;
+      outlives = [];
+      params = RefMutOf (0 ∷ []) tt (plain (λ _. Alone)) (λ _. tt) ∷ plain (λ _.
+          usize) ∷ [];
+      result = SliceRefMutOf (0 ∷ []) tt (plain (λ _. u8)) (λ _. tt);
+    };
+    kept = (no, (yes, tt));
+  }
 
   abbrev stayed : Stays ended.signature.params ended.kept
   stayed = (stay_dropped (mut_ref_to (0 ∷ []) tt (plain (λ _. Alone))) no, (stay_dropped (plain (λ _. usize)) yes, tt))
 
   abbrev spec : {M : Type 1} {𝓤 : Ura M} (𝓛 : Logic 𝓤) → Clauses 𝓤 ended
-  spec {𝓤 = 𝓤} 𝓛 κs a = record { ghost = Unit {0}; requires = λ _. fact 𝓤 (a.1.0 ≡ length a.0.now.text);
-      ensures = λ _ r w. sep 𝓤 (sem 𝓛 (follows Alone (Array u8 0) a.0.ghost_name r.ghost_name (with_text a.0.now))) (fact 𝓤 (r.now ≡ a.0.now.text)) }
+  spec {𝓤 = 𝓤} 𝓛 κs a = record {
+    ghost = Unit {0};
+    requires = λ _. fact 𝓤 (a.1.0 ≡ length a.0.now.text);
+    ensures = λ _ r w. sep 𝓤 (sem 𝓛 (follows Alone (Array u8 0) a.0.ghost_name r.ghost_name (with_text a.0.now))) (fact 𝓤 (r.now ≡ a.0.now.text));
+  }
 
   module _ {M : Type 1} {𝓤 : Ura M} (𝓛 : Logic 𝓤) (C : Calls 𝓤 𝓛.H) (Λ : Loops 𝓤 𝓛.H) (κ : Lft) (q : Share) (rb ro : ℕ)
       (γ : GName) (s : Alone.Denot) (len : ℕ) (us0 us1 : List Val) where
@@ -193,8 +204,14 @@ module _ (Y : RattleType) (g : Ghosts Y.Denot) (d dd : Dict) where
 
   meets : {M : Type 1} {𝓤 : Ura M} (𝓛 : Logic 𝓤) (𝓣 : Tables 𝓤 𝓛.H) → Meets 𝓛 ended.signature (WpFn 𝓤 𝓛.H 𝓣.C 𝓣.Λ function) (closing 𝓛 ended (spec 𝓛))
   meets {𝓤 = 𝓤} 𝓛 𝓣 =
-      walk_Meets 𝓛 ended stayed (Goes-spent_ref 𝓛 1 (0 ∷ []) tt (plain (λ _. Alone)), (Goes-dropped 𝓛 1 (plain (λ _. usize)) yes (λ κs x f.
-      refl), tt)) (spec 𝓛) (WpFn 𝓤 𝓛.H 𝓣.C 𝓣.Λ function) (WpFn-mono 𝓤 𝓛.H 𝓛.laws 𝓣 function)
+      walk_Meets 𝓛 ended stayed (
+        Goes-spent_ref 𝓛 1 (0 ∷ []) tt (plain (λ _. Alone)),
+        (
+          Goes-dropped 𝓛 1 (plain (λ _. usize)) yes (λ κs x f.
+              refl),
+          tt,
+        ),
+      ) (spec 𝓛) (WpFn 𝓤 𝓛.H 𝓣.C 𝓣.Λ function) (WpFn-mono 𝓤 𝓛.H 𝓛.laws 𝓣 function)
       (λ z. needs 𝓤 (z.0.3.1.0 ≡ length z.0.3.0.now.text) _ (entry 𝓛 𝓣.C 𝓣.Λ z.0.0.0 z.0.1.0 z.0.3.0.ref_ptr.0 z.0.3.0.ref_ptr.1
       z.0.3.0.ghost_name z.0.3.0.now z.0.3.1.0 z.0.4.0 z.0.4.1.0))
 

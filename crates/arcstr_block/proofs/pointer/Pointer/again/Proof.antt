@@ -5,7 +5,7 @@ use mir.Val.{Val, vptr}
 use mir.MapTy.{inst_fn}
 use base.Logic.{SProp, emp}
 use base.Fml.{Lft, Share, Fml, ftrue, fsep, flft, fhide}
-use types.Kit.{‵, raw, ◌⊛◌, ◌$◌, ◌∵◌, !, qed, by, move, keep, drop, split, join, fsplit, fsplit3, fjoin, fpick, fpack, use0, use1, use3, rewrite}
+use types.Kit.{‵, raw, ◌⊛◌, ◌$◌, ◌∵◌, !, qed, by, move, keep, drop, split, join, fsplit, fsplit3, fjoin, fpick, use0, use1, use3, rewrite}
 use types.Run.{stop, fld, load, of_opd, no_more, and_then, returns, enter}
 use types.ByLocal.{alloc_all, pass_all, free_all, look_at, get, through, sets, is, env}
 use types.Part.{agg, sub, whole, look_in}
@@ -14,7 +14,7 @@ use contract.Monad.{fact, fact_i}
 use denote.Exit.{yes}
 use denote.RattleType.{RattleType, owns}
 use denote.Signature.{types_at, plain}
-use denote.RawPtr.{Ptr, InBlock, block_ptr, block_of, count_of, at_block}
+use denote.RawPtr.{Ptr, block_ptr, block_of, count_of, at_block}
 use denote.Steps.{nothing, peeks, heard, looks, shuts}
 use denote.Opens.{unhide}
 use denote.Laws.{Is, shows}
@@ -27,12 +27,12 @@ use denote.Triple.Walked.{Stays, stay_dropped, walk_of, Goes-dropped}
 use Rattle.core.specs.contracts.marker.PhantomData as Marker
 use Rattle.atomic_table.proofs.Walks.{proved, leaves}
 use Rattle.arcstr_block.specs.Rights.{fixed, Right}
-use Rattle.arcstr_block.specs.Memory.{IsText, block_owns, block_shares}
-use Rattle.arcstr_block.specs.Ledger.{Id, Inv, shown, of_block, pointer_shares}
+use Rattle.arcstr_block.specs.Memory.{block_owns, block_shares}
+use Rattle.arcstr_block.specs.Ledger.{Inv, shown, pointer_shares}
 use Rattle.arcstr_block.proofs.Memory.{shares_laws}
 use Rattle.arcstr_block.specs.contracts.pointer.Pointer as C
 use Rattle.arcstr_block.proofs.Framed as framed
-use Rattle.arcstr_block.proofs.Fields.{pointer_val, typed, Words, told, made, opened}
+use Rattle.arcstr_block.proofs.Fields.{pointer_val, typed, Words, told, opened}
 use Rattle.arcstr_block.specs.contracts.pointer.Pointer.again.{ended, clauses}
 use Rattle.arcstr_block.specs.contracts.pointer.Pointer.again.Key.{name as #self}
 use Rattle.arcstr_block.proofs.pointer.Pointer.again.Statement.{statement}

@@ -37,8 +37,14 @@ apart_spec 𝓤 𝓛 𝓜 𝓡 wired Y K g d dd met md =
     let Row : RattleType = C.the_row B g in let self = plain (λ _. Row) in
     let hs : Stays En.signature.params En.kept = (stay_dropped self no, (stay_dropped self no, tt)) in
     proved 𝓛 En hs c 𝓜 𝓡 (Goes-dropped 𝓛 1 self no (λ κs x f. refl), (Goes-dropped 𝓛 1 self no (λ κs x f. refl), tt)) (#self inst) fn closed
-    (λ κs. ((λ x. pointer_val x.at ∷ []), ((λ x. pointer_val x.at ∷ []), tt))) (λ κs. ((λ x vs so. told B g x.at vs so.0), ((λ x vs so.
-    told B g x.at vs so.0), tt))) (λ κs qs bounds a gh are.
+    (λ κs. ((λ x. pointer_val x.at ∷ []), ((λ x. pointer_val x.at ∷ []), tt))) (λ κs. (
+      (λ x vs so. told B g x.at vs so.0),
+      (
+        (λ x vs so.
+            told B g x.at vs so.0),
+        tt,
+      ),
+    )) (λ κs qs bounds a gh are.
     let h : Row.Denot = a.0 in let j : Row.Denot = a.1.0 in let p : Ptr = h.at in let q : Ptr = j.at in let vs : List Val = pointer_val p ∷ [] in
     let ws : List Val = pointer_val q ∷ [] in let r : Val = two_val p q in
     let y : (walk_of 𝓛 En hs c).Ghost = ((κs, qs, bounds, a, (vs, (ws, tt))), gh) in let Post : Val → SProp 𝓤 = (walk_of 𝓛 En hs c).post y in
@@ -52,8 +58,10 @@ apart_spec 𝓤 𝓛 𝓜 𝓡 wired Y K g d dd met md =
     sets ! (of_opd ! (get ! refl)) refl (typed p) $ sets ! (of_opd ! (get ! refl)) refl (typed q) $
     sets ! (agg ! (and_then ! (get ! refl) (and_then ! (get ! refl) (no_more !)))) refl (two_typed p q) $
     nothing ! $ move ! (1 ∷ 2 ∷ 0 ∷ []) $ fjoin3 ! $ feq_i ! (List Val) (r ∷ []) (r ∷ []) refl $ fjoin ! $
-    fpack ! (Valss (Row ∷ Row ∷ [])) (λ uss. fsep (feq (List Val) (r ∷ []) (vstruct (of_list (uss.0 ++ (uss.1.0 ++ []))) ∷ [])) (owns (Row ∷ Row ∷ []) (h,
-    (j, tt)) uss)) (vs, (ws, tt)) $
+    fpack ! (Valss (Row ∷ Row ∷ [])) (λ uss. fsep (feq (List Val) (r ∷ []) (vstruct (of_list (uss.0 ++ (uss.1.0 ++ []))) ∷ [])) (owns (Row ∷ Row ∷ []) (
+      h,
+      (j, tt),
+    ) uss)) (vs, (ws, tt)) $
     let Differ : Type 0 = Apart 𝓛 B g h j vs ws in let Away : Type 0 = Alone 𝓛 B g h j vs ws in
     use0 𝓛 (raw (fact 𝓤 Away)) (fact_i 𝓤 Away (emp 𝓤) laws.1) $ use0 𝓛 (raw (fact 𝓤 Differ)) (fact_i 𝓤 Differ (emp 𝓤) laws.0) $ join ! $
     use0 𝓛 (raw (fact 𝓤 (j ≡ j))) (fact_i 𝓤 (j ≡ j) (emp 𝓤) refl) $ join ! $ use0 𝓛 (raw (fact 𝓤 (h ≡ h))) (fact_i 𝓤 (h ≡ h) (emp 𝓤) refl) $ join ! $

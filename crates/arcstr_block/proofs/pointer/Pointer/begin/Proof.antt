@@ -1,21 +1,21 @@
 -- `begin` is one load. A drop goes on where it finds no mark.
-use Rattle.std.proofs.Common.{◌≡◌, ℕ, ◌+◌, ◌^◌, List, [], ◌∷◌, ◌++◌, sym, refl, ap, subst, if◌then◌else◌, lit<, w64}
+use Rattle.std.proofs.Common.{◌≡◌, ℕ, ◌+◌, [], ◌∷◌, sym, refl, ap, subst, if◌then◌else◌, lit<}
 use mir.Syntax.{dcons, dnil, a_type}
-use mir.Val.{Val, vint, vptr, vstruct, of_list}
+use mir.Val.{Val, vptr}
 use mir.MapTy.{inst_fn}
-use base.Logic.{SProp, emp, via}
-use base.Fml.{Lft, Fml, ftrue, fsep, feq, flft, finv, fex, Share}
-use types.Kit.{‵, raw, ◌⊛◌, later, mean, at_ret, ◌$◌, ◌∵◌, !, qed, by, move, keep, drop, split, join, fsplit, fsplit3, fjoin, fjoin3, fpick, fpack, use0, use1}
-use types.Kit.{use3, await, feq_i, flt_i}
+use base.Logic.{SProp, via}
+use base.Fml.{Lft, Fml, fsep, flft, finv, fex}
+use types.Kit.{‵, raw, ◌⊛◌, later, mean, at_ret, ◌$◌, ◌∵◌, !, qed, by, move, keep, drop, split, fsplit, fsplit3, fjoin, fpick, use0, use1}
+use types.Kit.{use3, await}
 use types.Run.{stop, fld, addr, lit, of_opd, no_more, and_then, first, blocks, exec, Calls-last, returns, enter}
 use types.ByLocal.{alloc_all, pass_all, free_all, look_at, get, get_in, through, sets, lands_last, is, env}
 use types.Part.{agg, sub, whole}
 use contract.Running.{tables}
-use contract.Monad.{fact, fact_i}
+use contract.Monad.{fact}
 use denote.Exit.{no}
 use denote.RattleType.{RattleType, Valss, owns}
 use denote.Signature.{types_at, plain}
-use denote.RawPtr.{Ptr, InBlock, block_ptr, ptr_val, block_of, count_of, at_block}
+use denote.RawPtr.{Ptr, block_ptr, ptr_val, block_of, count_of, at_block}
 use denote.Steps.{nothing, heard}
 use denote.Param.{param, bounded}
 use denote.Builtin.{u64}
@@ -26,11 +26,11 @@ use Rattle.atomic_table.proofs.Walks.{proved, leaves}
 use Rattle.atomic_table.proofs.Calls.{fm, seq_cst, found, finds, loads}
 use Rattle.arcstr_block.specs.Word.{IsMarked, IsUnmarked}
 use Rattle.arcstr_block.specs.Rights.{IsFree, Begins, Right}
-use Rattle.arcstr_block.specs.Memory.{IsText, block_owns, block_shares}
-use Rattle.arcstr_block.specs.Ledger.{Id, names, Inv, right_to, of_block, free}
+use Rattle.arcstr_block.specs.Memory.{block_owns, block_shares}
+use Rattle.arcstr_block.specs.Ledger.{Inv, right_to, free}
 use Rattle.arcstr_block.proofs.Memory.{shares_laws}
 use Rattle.arcstr_block.specs.contracts.pointer.Pointer as C
-use Rattle.arcstr_block.proofs.Fields.{pointer_val, typed, found_val, found_typed, Words, told, made}
+use Rattle.arcstr_block.proofs.Fields.{pointer_val, typed, found_val, found_typed, Words, told}
 use Rattle.arcstr_block.proofs.Framed as framed
 use Rattle.arcstr_count.specs.declared.steps.HandleState.TheVariants.{Free}
 use Rattle.arcstr_count.specs.declared.steps.Step.TheVariants.{Begin}
@@ -98,8 +98,12 @@ begin_spec 𝓤 𝓛 𝓜 𝓡 wired Y K g d dd met md =
     let Same : Type 0 = (h.home ≡ h.home) × (h.text ≡ h.text) × (lim ≡ lim) × (h.block ≡ h.block) in
     let Saw : Type 0 = (h.seat ≡ h.seat) × (IsMarked n → EndsIn lim r' (Begin h.seat) Ended) × (IsUnmarked n → EndsIn lim r' (Begin h.seat) Looked) in
     use0 𝓛 (raw (fact 𝓤 (Begins n k)) ⊛ raw (fact 𝓤 Saw) ⊛ raw (fact 𝓤 Same))
-    (framed.three 𝓛 got.said (refl, (λ odd. subst (EndsIn lim r' (Begin h.seat)) (ap (λ (v : FlagAndCount). if v.flag then Ended else Looked)
-    (marked_word n odd)) ends), (λ even. subst (EndsIn lim r' (Begin h.seat)) (ap (λ (v : FlagAndCount). if v.flag then Ended else Looked)
-    (unmarked_word n even)) ends)) (refl, refl, refl, refl)) $
+    (framed.three 𝓛 got.said (
+      refl,
+      (λ odd. subst (EndsIn lim r' (Begin h.seat)) (ap (λ (v : FlagAndCount). if v.flag then Ended else Looked)
+          (marked_word n odd)) ends),
+      (λ even. subst (EndsIn lim r' (Begin h.seat)) (ap (λ (v : FlagAndCount). if v.flag then Ended else Looked)
+          (unmarked_word n even)) ends),
+    ) (refl, refl, refl, refl)) $
     nothing ! $ nothing ! $ fjoin ! $ returns ! (look_at ! 0 refl) $ free_all ! refl $ keep ! (3 ∷ 0 ∷ 2 ∷ 1 ∷ []) $
     by ! (leaves 𝓛 En hs c y r (n, h') (tt, tt) (tt, tt))))))))))))))))

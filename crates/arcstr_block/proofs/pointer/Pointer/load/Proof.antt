@@ -1,23 +1,21 @@
 -- `load` is one load. A look that finds the mark has a share for good, and a clone that finds it is had.
-use Rattle.std.proofs.Common.{◌≡◌, ℕ, Bool, ◌+◌, ◌^◌, List, [], ◌∷◌, ◌++◌, sym, refl, ap, ◌∙◌, lit<, w64}
+use Rattle.std.proofs.Common.{◌≡◌, ℕ, Bool, ◌+◌, List, [], ◌∷◌, sym, refl, ap, ◌∙◌, lit<}
 use mir.Syntax.{dcons, dnil, a_type, named}
-use mir.Val.{Val, vint, vptr, vstruct, of_list}
+use mir.Val.{Val, vptr}
 use mir.MapTy.{inst_fn}
 use base.Logic.{SProp, emp, via}
-use base.Fml.{Lft, Share, Fml, ftrue, fsep, feq, flft, fhide, finv, fshr_bor, fex}
+use base.Fml.{Lft, Share, Fml, ftrue, fsep, flft, fhide, finv, fshr_bor, fex}
 use types.Kit.{‵, raw, ◌⊛◌, later, mean, at_ret, ◌$◌, ◌∵◌, !, qed, by, move, keep, drop, split, split3, join, fsplit, fsplit3, fjoin, fjoin3, fpick, fpack}
 use types.Kit.{use0, use1, use2, use3, await, rewrite, feq_i, flt_i}
 use types.Run.{stop, fld, load, addr, lit, of_opd, no_more, and_then, first, blocks, exec, Calls-last, returns, enter}
 use types.ByLocal.{alloc_all, pass_all, free_all, look_at, get, through, sets, lands_last, is, env}
 use types.Part.{agg, sub, whole, look_in}
-use types.Tokens.{shr_bor-open, obor_close}
-use types.Within.{tokens_halve}
 use contract.Running.{tables}
 use contract.Monad.{fact, fact_i}
 use denote.Exit.{yes}
 use denote.RattleType.{RattleType, Valss, owns}
 use denote.Signature.{types_at, plain}
-use denote.RawPtr.{Ptr, InBlock, block_ptr, block_of, count_of, at_block}
+use denote.RawPtr.{Ptr, block_ptr, block_of, count_of, at_block}
 use denote.Steps.{nothing, peeks, heard, looks, shuts}
 use denote.Opens.{unhide}
 use denote.Laws.{Is, shows}
@@ -31,22 +29,16 @@ use Rattle.core.proofs.atomic.Steps.{tail}
 use Rattle.core.specs.contracts.marker.PhantomData as Marker
 use Rattle.atomic_table.proofs.Walks.{proved, leaves}
 use Rattle.atomic_table.proofs.Calls.{fm, seq_cst, found, finds, loads}
-use Rattle.arcstr_block.specs.Word.{IsWord, word_of}
+use Rattle.arcstr_block.specs.Word.{IsWord}
 use Rattle.arcstr_block.specs.Rights.{IsFree, Loads, Right}
-use Rattle.arcstr_block.specs.Memory.{IsText, block_owns, block_shares}
-use Rattle.arcstr_block.specs.Ledger.{Id, names, Inv, knows, right_to, of_block, pointer_shares}
+use Rattle.arcstr_block.specs.Memory.{block_owns, block_shares}
+use Rattle.arcstr_block.specs.Ledger.{Inv, knows, pointer_shares}
 use Rattle.arcstr_block.proofs.Memory.{shares_laws}
 use Rattle.arcstr_block.specs.contracts.pointer.Pointer as C
-use Rattle.arcstr_block.proofs.Fields.{pointer_val, typed, found_val, found_typed, Words, told, made, opened}
+use Rattle.arcstr_block.proofs.Fields.{pointer_val, typed, found_val, found_typed, Words, told, opened}
 use Rattle.arcstr_block.proofs.Framed as framed
-use base.Share
 use Rattle.arcstr_count.specs.declared.steps.HandleState.TheVariants.{Free}
-use Rattle.arcstr_count.specs.OneBlock.{EndsIn, look_reply}
-use Rattle.arcstr_block.specs.Book.{seat_share, Ends}
-use Rattle.arcstr_block.proofs.Seats.{seat_halves}
-use Rattle.arcstr_count.specs.declared.steps.Step.TheVariants.{Look}
-use Rattle.arcstr_count.specs.Word.{looked_of}
-use Rattle.arcstr_block.proofs.Book.{book_look}
+use Rattle.arcstr_block.specs.Book.{seat_share}
 use Rattle.arcstr_block.proofs.Rights as rights
 use Rattle.arcstr_block.proofs.Loads as steps_of
 use Rattle.arcstr_block.specs.Same.{LoadedAs}

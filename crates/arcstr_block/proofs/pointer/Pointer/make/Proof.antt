@@ -5,7 +5,7 @@ use mir.Val.{Val}
 use mir.MapTy.{inst_fn}
 use base.Logic.{SProp, emp}
 use base.Fml.{Fml, ftrue, fsep, fex, flft, Incl-refl}
-use types.Kit.{Item, ‵, raw, ◌⊛◌, later, ◌$◌, ◌∵◌, !, qed, by, move, keep, drop, split, join, fsplit, fsplit3, fjoin, fpick, fpack, use0, use2, use3, await, rewrite}
+use types.Kit.{Item, ‵, raw, ◌⊛◌, later, ◌$◌, ◌∵◌, !, qed, by, move, keep, drop, split, join, fsplit, fsplit3, fjoin, fpick, use0, use2, use3, await, rewrite}
 use types.Run.{stop, fld, of_opd, no_more, and_then, returns, enter}
 use types.ByLocal.{alloc_all, pass_all, free_all, look_at, get, get_in, sets, is}
 use types.Part.{agg, sub, whole}
@@ -14,7 +14,7 @@ use contract.Monad.{fact, fact_i}
 use denote.Exit.{no}
 use denote.RattleType.{RattleType, owns}
 use denote.Signature.{types_at, plain}
-use denote.RawPtr.{Ptr, InBlock, block_ptr, ptr_val, block_of, count_of, at_block}
+use denote.RawPtr.{Ptr, block_ptr, ptr_val, block_of, count_of, at_block}
 use denote.Steps.{nothing, heard}
 use denote.Param.{param, bounded}
 use denote.Triple.Walked.{Stays, stay_dropped, walk_of, Goes-dropped}
@@ -26,13 +26,13 @@ use Rattle.arcstr_count.specs.declared.steps.Step.TheVariants.{Make}
 use Rattle.arcstr_block.specs.Word.{IsLimit}
 use Rattle.arcstr_block.specs.Rights.{counted}
 use Rattle.arcstr_block.specs.Book.{reached}
-use Rattle.arcstr_block.specs.Memory.{IsText, block_owns, block_shares}
-use Rattle.arcstr_block.specs.Ledger.{Id, names, held_with, of_block}
+use Rattle.arcstr_block.specs.Memory.{block_owns, block_shares}
+use Rattle.arcstr_block.specs.Ledger.{Id, names, held_with}
 use Rattle.arcstr_block.specs.contracts.block.Sole as S
 use Rattle.arcstr_block.specs.contracts.pointer.Pointer as C
 use Rattle.arcstr_block.proofs.Begins.{begins}
 use Rattle.arcstr_block.proofs.Framed as framed
-use Rattle.arcstr_block.proofs.Fields.{pointer_val, typed, Words, told, made}
+use Rattle.arcstr_block.proofs.Fields.{pointer_val, typed, told}
 use Rattle.arcstr_block.proofs.Memory.{shares_laws, lends_block}
 use Rattle.arcstr_block.specs.contracts.pointer.Pointer.make.{ended, clauses}
 use Rattle.arcstr_block.specs.contracts.pointer.Pointer.make.Key.{name as #self}
@@ -64,8 +64,17 @@ make_spec 𝓤 𝓛 𝓜 𝓡 wired Y K g d dd met md =
     (begins 𝓛 P lim b (o + 0) s (shares_laws p xs) small κs.0 (lends_block 𝓛 holds p xs κs.0) κs.0 qs.0 (Incl-refl κs.0)) $ await ! tt $ split ! $
     fpick ! (λ t. fsplit ! $ move ! (1 ∷ []) $ fsplit ! $
     -- [the invariant; the right; the beginning; the tokens]
-    let h' : Row.Denot = record { at = p; marker = record {}; home = v.home; text = xs; limit = lim; right = counted; seat = 0; block = names t;
-    history = Make ∷ [] } in
+    let h' : Row.Denot = record {
+      at = p;
+      marker = record {};
+      home = v.home;
+      text = xs;
+      limit = lim;
+      right = counted;
+      seat = 0;
+      block = names t;
+      history = Make ∷ [];
+    } in
     move ! (1 ∷ 0 ∷ 2 ∷ []) $ use3 𝓛 (‵ (Row.own_val h' (pointer_val p ∷ []))) (framed.pointer_in 𝓛 B g h' t refl (inb.0, (inb.1, text))) $
     -- [the pointer; the tokens]
     move ! (1 ∷ 2 ∷ []) $ join ! $ move ! (1 ∷ 0 ∷ []) $

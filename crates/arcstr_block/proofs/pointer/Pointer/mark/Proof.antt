@@ -3,21 +3,19 @@ use Rattle.std.proofs.Common.{◌≡◌, ℕ, ◌+◌, List, [], ◌∷◌, sym,
 use mir.Syntax.{dcons, dnil, a_type, named}
 use mir.Val.{Val, vint, vptr}
 use mir.MapTy.{inst_fn}
-use base.Logic.{SProp, emp, via}
+use base.Logic.{SProp, via}
 use base.Fml.{Lft, Share, Fml, ftrue, fsep, flft, fhide, finv, fshr_bor, fex}
-use types.Kit.{‵, raw, ◌⊛◌, later, mean, at_ret, ◌$◌, ◌∵◌, !, qed, by, move, keep, drop, split, split3, join, fsplit, fsplit3, fjoin, fpick, fpack, use0, use1}
+use types.Kit.{‵, raw, ◌⊛◌, later, mean, at_ret, ◌$◌, ◌∵◌, !, qed, by, move, keep, drop, split, split3, join, fsplit, fsplit3, fjoin, fpick, use0, use1}
 use types.Kit.{use2, use3, await, rewrite}
 use types.Run.{stop, fld, load, addr, lit, of_opd, no_more, and_then, first, blocks, exec, Calls-last, returns, enter}
 use types.ByLocal.{alloc_all, pass_all, free_all, look_at, get, through, sets, lands_last, is, env}
 use types.Part.{agg, sub, whole, look_in}
-use types.Tokens.{shr_bor-open, obor_close}
-use types.Within.{tokens_halve}
 use contract.Running.{tables}
-use contract.Monad.{fact, fact_i}
+use contract.Monad.{fact}
 use denote.Exit.{yes}
 use denote.RattleType.{RattleType, owns}
 use denote.Signature.{types_at, plain}
-use denote.RawPtr.{Ptr, InBlock, block_ptr, block_of, count_of, at_block}
+use denote.RawPtr.{Ptr, block_ptr, block_of, count_of, at_block}
 use denote.Steps.{nothing, peeks, heard, looks, shuts}
 use denote.Opens.{unhide}
 use denote.Laws.{Is, shows}
@@ -32,17 +30,15 @@ use Rattle.core.specs.contracts.marker.PhantomData as Marker
 use Rattle.atomic_table.proofs.Walks.{proved, leaves}
 use Rattle.atomic_table.proofs.Calls.{fm, seq_cst, found, finds, ors}
 use Rattle.arcstr_block.specs.Rights.{IsFree, fixed, Right}
-use Rattle.arcstr_block.specs.Memory.{IsText, block_owns, block_shares}
-use Rattle.arcstr_block.specs.Ledger.{Id, names, Inv, knows, right_to, of_block, pointer_shares}
+use Rattle.arcstr_block.specs.Memory.{block_owns, block_shares}
+use Rattle.arcstr_block.specs.Ledger.{Inv, knows, right_to, pointer_shares}
 use Rattle.arcstr_block.proofs.Memory.{shares_laws}
 use Rattle.arcstr_block.specs.contracts.pointer.Pointer as C
-use Rattle.arcstr_block.proofs.Fields.{pointer_val, typed, Words, told, made, opened}
+use Rattle.arcstr_block.proofs.Fields.{pointer_val, typed, Words, told, opened}
 use Rattle.arcstr_block.proofs.Framed as framed
-use base.Share
 use Rattle.arcstr_count.specs.declared.steps.HandleState.TheVariants.{Free}
 use Rattle.arcstr_count.specs.OneBlock.{EndsIn}
 use Rattle.arcstr_block.specs.Book.{seat_share, Ends}
-use Rattle.arcstr_block.proofs.Seats.{seat_halves}
 use Rattle.arcstr_count.specs.declared.steps.Step.TheVariants.{Leak}
 use Rattle.arcstr_count.specs.declared.steps.Reply.TheVariants.{Marked}
 use Rattle.arcstr_block.proofs.Book.{book_mark}

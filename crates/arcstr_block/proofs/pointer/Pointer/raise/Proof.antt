@@ -1,23 +1,21 @@
 -- `raise` is one compare-exchange. Where it finds the old word or the mark, a clone is had.
-use Rattle.std.proofs.Common.{◌≡◌, ℕ, ◌+◌, ◌^◌, List, [], ◌∷◌, ◌++◌, sym, refl, ap, ◌∙◌, w64}
+use Rattle.std.proofs.Common.{◌≡◌, ℕ, ◌+◌, List, [], ◌∷◌, sym, refl, ap, ◌∙◌, w64}
 use mir.Syntax.{dcons, dnil, a_type, named}
-use mir.Val.{Val, vint, vptr, vstruct, of_list}
+use mir.Val.{Val, vint, vptr}
 use mir.MapTy.{inst_fn}
 use base.Logic.{SProp, emp, via}
-use base.Fml.{Lft, Share, Fml, ftrue, fsep, fex, feq, flft, fhide, finv, fshr_bor}
-use types.Kit.{‵, raw, ◌⊛◌, later, mean, at_ret, ◌$◌, ◌∵◌, !, qed, by, move, keep, drop, split, split3, join, fsplit, fsplit3, fjoin, fjoin3, fpick, fpack}
-use types.Kit.{use0, use1, use2, use3, await, rewrite, feq_i, flt_i}
+use base.Fml.{Lft, Share, Fml, ftrue, fsep, fex, flft, fhide, finv, fshr_bor}
+use types.Kit.{‵, raw, ◌⊛◌, later, mean, at_ret, ◌$◌, ◌∵◌, !, qed, by, move, keep, drop, split, split3, join, fsplit, fsplit3, fjoin, fpick}
+use types.Kit.{use0, use1, use3, await, rewrite}
 use types.Run.{stop, fld, load, addr, of_opd, no_more, and_then, first, blocks, exec, Calls-last, returns, enter}
 use types.ByLocal.{alloc_all, pass_all, free_all, look_at, get, through, sets, lands_last, is, env}
 use types.Part.{agg, sub, whole, look_in}
-use types.Tokens.{shr_bor-open, obor_close}
-use types.Within.{tokens_halve}
 use contract.Running.{tables}
 use contract.Monad.{fact, fact_i}
 use denote.Exit.{yes}
 use denote.RattleType.{RattleType, Valss, owns}
 use denote.Signature.{types_at, plain}
-use denote.RawPtr.{Ptr, InBlock, block_ptr, block_of, count_of, at_block}
+use denote.RawPtr.{Ptr, block_ptr, block_of, count_of, at_block}
 use denote.Steps.{nothing, peeks, heard, looks, shuts}
 use denote.Opens.{unhide}
 use denote.Laws.{Is, shows}
@@ -34,16 +32,14 @@ use Rattle.atomic_table.proofs.Walks.{proved, leaves}
 use Rattle.atomic_table.proofs.Calls.{fm, found, finds, exchanges}
 use Rattle.arcstr_block.specs.Word.{IsWord, IsClone}
 use Rattle.arcstr_block.specs.Rights.{IsFree, Gains, Right}
-use Rattle.arcstr_block.specs.Memory.{IsText, block_owns, block_shares}
-use Rattle.arcstr_block.specs.Ledger.{Id, Inv, knows, right_to, of_block, pointer_shares}
+use Rattle.arcstr_block.specs.Memory.{block_owns, block_shares}
+use Rattle.arcstr_block.specs.Ledger.{Inv, knows, right_to, pointer_shares}
 use Rattle.arcstr_block.proofs.Memory.{shares_laws}
 use Rattle.arcstr_block.specs.contracts.pointer.Pointer as C
-use Rattle.arcstr_block.proofs.Fields.{pointer_val, typed, found_val, found_typed, Words, told, made, opened}
+use Rattle.arcstr_block.proofs.Fields.{pointer_val, typed, found_val, found_typed, Words, told, opened}
 use Rattle.arcstr_block.proofs.Framed as framed
-use base.Share
 use Rattle.arcstr_count.specs.declared.steps.HandleState.TheVariants.{Free}
 use Rattle.arcstr_block.specs.Book.{seat_share}
-use Rattle.arcstr_block.proofs.Seats.{seat_halves}
 use Rattle.arcstr_block.proofs.Turns.{raises as turn_raises}
 use Rattle.arcstr_block.proofs.Rights as rights
 use Rattle.arcstr_block.proofs.Steps as steps
@@ -59,10 +55,24 @@ raise_spec 𝓤 𝓛 𝓜 𝓡 wired Y K g d dd met md =
     let inst = bounded (a_type ∷ []) (Y, tt) (dcons d (dcons dd dnil)) in let fn = inst_fn inst code.function in
     let closed = code.unfolded 𝓤 H 𝓜 𝓡 wired (Y, tt) d dd in
     let Row : RattleType = C.the_row B g in let D : RattleType = Words B g in let self = RefOf (0 ∷ []) tt (plain (λ _. Row)) (λ _. tt) in
-    let number = plain (λ _. u64) in let hs : Stays En.signature.params En.kept = (stay_dropped self yes, (stay_dropped number yes,
-    (stay_dropped number yes, tt))) in
-    proved 𝓛 En hs c 𝓜 𝓡 (Goes-dropped 𝓛 2 self yes (λ κs x f. refl), (Goes-dropped 𝓛 2 number yes (λ κs x f. refl), (Goes-dropped 𝓛 2 number yes (λ κs x f.
-    refl), tt))) (#self inst) fn closed
+    let number = plain (λ _. u64) in let hs : Stays En.signature.params En.kept = (
+      stay_dropped self yes,
+      (
+        stay_dropped number yes,
+        (stay_dropped number yes, tt),
+      ),
+    ) in
+    proved 𝓛 En hs c 𝓜 𝓡 (
+      Goes-dropped 𝓛 2 self yes (λ κs x f. refl),
+      (
+        Goes-dropped 𝓛 2 number yes (λ κs x f. refl),
+        (
+          Goes-dropped 𝓛 2 number yes (λ κs x f.
+              refl),
+          tt,
+        ),
+      ),
+    ) (#self inst) fn closed
     (λ κs. (shr_vals, (uint_vals w64, (uint_vals w64, tt)))) (λ κs.
     (shr_Tells (named 0) κs.0 Row, (uint_Tells w64, (uint_Tells w64, tt)))) (λ κs qs bounds a gh are.
     let b : ℕ = a.0.ref_ptr.0 in let o : ℕ = a.0.ref_ptr.1 in let κ : Lft = κs.0 in let q : Share = qs.0 in

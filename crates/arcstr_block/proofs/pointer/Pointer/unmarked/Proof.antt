@@ -46,8 +46,11 @@ unmarked_spec 𝓤 𝓛 𝓜 𝓡 wired Y K g d dd met md =
     Row)) (λ _. tt) in
     let hs : Stays En.signature.params En.kept = (stay_dropped self no, (stay_dropped other yes, tt)) in
     proved 𝓛 En hs c 𝓜 𝓡 (Goes-dropped 𝓛 2 self no (λ κs x f. refl), (Goes-dropped 𝓛 2 other yes (λ κs x f. refl), tt)) (#self inst) fn closed
-    (λ κs. ((λ x. pointer_val x.at ∷ []), (shr_vals, tt))) (λ κs. ((λ x vs so.
-    told B g x.at vs so.0), (shr_Tells (named 0) κs.0 Row, tt))) (λ κs qs bounds a gh are.
+    (λ κs. ((λ x. pointer_val x.at ∷ []), (shr_vals, tt))) (λ κs. (
+      (λ x vs so.
+          told B g x.at vs so.0),
+      (shr_Tells (named 0) κs.0 Row, tt),
+    )) (λ κs qs bounds a gh are.
     let h : Row.Denot = a.0 in let p : Ptr = h.at in let vs : List Val = pointer_val p ∷ [] in let κ : Lft = κs.0 in
     let b : ℕ = a.1.0.ref_ptr.0 in let o : ℕ = a.1.0.ref_ptr.1 in let j : Row.Denot = a.1.0.now in let q : Ptr = j.at in let lim : ℕ = j.limit in
     let holds = g.dealloc_token j.home in let P : Fml = block_owns holds q j.text in let s : Lft → Fml = block_shares q j.text in let qb : ℕ = block_of q in
