@@ -23,8 +23,10 @@ use Rattle.arcstr_block.proofs.Seats.{agrees}
 module _ {M : Type 1} {𝓤 : Ura M} (𝓛 : Logic 𝓤) where
   -- beside the book of the word 0 no handle is free
   no_free_handle : (L : ℕ) (γ δ : GName) (h : ℕ) (q : Share) (Z : SProp 𝓤) → ent 𝓤 (sep 𝓤 (sem 𝓛 (Book L γ δ 0)) (sem 𝓛 (seat_share δ h q Free))) Z
-  no_free_handle L γ δ h q Z = qed 𝓛 (‵ (Book L γ δ 0) ∷ ‵ (seat_share δ h q Free) ∷ []) ∵ fpick ! (λ x. fsplit3 ! $ fpick ! (λ keeps. drop ! $ move ! (1 ∷ 2 ∷ []) $
-      use2 𝓛 (given (slice_get x.1 h ≡ Some Free) (‵ (roster state_code δ 0 x.1) ⊛ ‵ (seat_share δ h q Free))) (agrees 𝓛 δ x.1 0 h h q Free (sym (zero-add h))) $
+  no_free_handle L γ δ h q Z = qed 𝓛 (‵ (Book L γ δ 0) ∷ ‵ (seat_share δ h q Free) ∷ []) ∵ fpick ! (λ x. fsplit3 ! $ fpick ! (λ keeps. drop ! $
+      move ! (1 ∷ 2 ∷ []) $
+      use2 𝓛 (given (slice_get x.1 h ≡ Some Free) (‵ (roster state_code δ 0 x.1) ⊛ ‵ (seat_share δ h q Free)))
+      (agrees 𝓛 δ x.1 0 h h q Free (sym (zero-add h))) $
       learn ! (λ at. absurd (none_lives L x.0 x.1 h Free keeps at refl))))
 
   module _ (B : RattleType) (g : Ghosts B.Denot) (h : (C.the_row B g).Denot) (vs : List Val) (block : Names) (j : ℕ) (q : Share) where
