@@ -1,0 +1,7 @@
+pub mod Characters
+pub mod OneList
+pub mod CharacterAt
+pub mod RunSteps
+pub mod OneKind
+pub mod WordRuns
+pub mod Examples
