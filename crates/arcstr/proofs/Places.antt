@@ -1,17 +1,16 @@
 -- Places of slices in their parents.
-use Rattle.std.proofs.Common.{◌≡◌, ◌≢◌, ℕ, ◌≤◌, List, [], length, inl, inr, ◌∙◌, arith}
+use Rattle.std.proofs.Common.{◌≡◌, ◌≢◌, ℕ, List, [], length, inl, inr, ◌∙◌, arith}
 use Rattle.std.specs.Str.{IsUtf8}
 use Rattle.std.proofs.lemmas.Str.{IsCharBoundary-start, IsCharBoundary-end}
 use Rattle.arcstr_range.proofs.Boundaries.{cut-cut}
-use Rattle.arcstr_range.specs.declared.range.TheConstants.{MAX_PLACE}
 use Rattle.arcstr_range.specs.Ends.{IsLawful}
 use Rattle.arcstr_range.specs.View.{View, IsFoundAt, end_of}
 use Rattle.arcstr.specs.Substr.{SubstrView, IsSoundSlice, slice_within, text_of}
 
--- the whole of a text is a lawful slice of it, where its length is a place that a slice may end at
-pub IsLawful-whole : (text : List ℕ) → IsUtf8 text → length text ≤ MAX_PLACE → IsLawful text 0 (length text)
-IsLawful-whole text utf8 in_reach = record {
-  fits = record { in_order = omega arith; within = omega arith; in_reach = in_reach };
+-- the whole of a text is a lawful slice of it
+pub IsLawful-whole : (text : List ℕ) → IsUtf8 text → IsLawful text 0 (length text)
+IsLawful-whole text utf8 = record {
+  fits = record { in_order = omega arith; within = omega arith };
   at_boundaries = (IsCharBoundary-start text utf8, IsCharBoundary-end text);
 }
 

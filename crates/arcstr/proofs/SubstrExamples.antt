@@ -3,7 +3,7 @@ use Rattle.std.proofs.Common.{◌≡◌, [], refl, Ok, Err, ◌↔◌, IsErrOf, 
 use Rattle.std.specs.Prelude.{codes}
 use Rattle.arcstr_range.specs.declared.range.StrRange.TheVariants.{Between, From}
 use Rattle.arcstr_range.specs.declared.range.fault.RangeFault.{RangeFault}
-use Rattle.arcstr_range.specs.declared.range.fault.RangeFault.TheVariants.{OutOfOrder, PastEnd, TooFar, OffBoundary}
+use Rattle.arcstr_range.specs.declared.range.fault.RangeFault.TheVariants.{OutOfOrder, PastEnd, OffBoundary}
 use Rattle.arcstr_range.specs.Ends.{ends_in, IsFirstRangeFault}
 use Rattle.arcstr_range.specs.View.{view_at}
 use Rattle.arcstr.specs.TextView.{TextView, literal_of}
@@ -49,7 +49,6 @@ answered = search rules
 past_own_end_alone : (fault : RangeFault) → IsErrOf {T = SubstrView} (Err PastEnd) fault ↔ IsFirstRangeFault (text_of bar) (Between 0 5) fault
 past_own_end_alone OutOfOrder = (λ other. cc, λ first. absurd (first.broken (omega arith)))
 past_own_end_alone PastEnd = (λ _. search rules, λ _. refl)
-past_own_end_alone TooFar = (λ other. cc, λ first. absurd (omega (arith, first.kept_before PastEnd (lit< tt))))
 past_own_end_alone OffBoundary = (λ other. cc, λ first. absurd (omega (arith, first.kept_before PastEnd (lit< tt))))
 
 -- 5 is past the end of the slice's own text, though not of the parent

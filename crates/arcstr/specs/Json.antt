@@ -1,12 +1,12 @@
 -- What reading a text from a JSON value answers.
-use Rattle.std.specs.Prelude.{◌≡◌, ◌≢◌, ◌↔◌, ℕ, List, [], length, Option, Some, None, Result, Ok, IsErrOf, IsSomeAnd, IfOk, IfErr}
+use Rattle.std.specs.Prelude.{◌≡◌, ◌↔◌, ℕ, List, [], length, Option, Some, None, Result, Ok, IsErrOf, IsSomeAnd, IfOk}
 use Rattle.serde_json.specs.Find.{as_str}
 use Rattle.serde_json.specs.View.{view}
 use Rattle.serde_json.specs.declared.value.Value.{Value}
 use Rattle.arcstr.specs.Making.{IsTooLong}
 use Rattle.arcstr.specs.declared.json.JsonFault.{JsonFault}
-use Rattle.arcstr.specs.declared.json.JsonFault.TheVariants.{NotText, Length, TooFar}
-use Rattle.arcstr.specs.Substr.{SubstrView, IsTooFar, empty_slice, whole_of}
+use Rattle.arcstr.specs.declared.json.JsonFault.TheVariants.{NotText, Length}
+use Rattle.arcstr.specs.Substr.{SubstrView, empty_slice, whole_of}
 use Rattle.arcstr.specs.TextView.{TextView, literal_of, made_of}
 
 -- the text that a JSON value is, where it is a string
@@ -20,13 +20,10 @@ pub record ReadsArcStr (value : Value) (answer : Result TextView JsonFault) : Ty
   pub not_text : IsErrOf answer NotText ↔ (text_in value ≡ None)
   pub empty : text_in value ≡ Some [] → answer ≡ Ok (literal_of [])
   pub too_long : IsErrOf answer Length ↔ IsSomeAnd (text_in value) (λ text. IsTooLong (length text))
-  pub no_other : IfErr answer (λ fault. fault ≢ TooFar)
 
--- the answer for a shared slice: all of the value's text; refused as above, and before memory where the text ends past
--- the last place of a slice
+-- the answer for a shared slice: all of the value's text; refused as above
 pub record ReadsSubstr (value : Value) (answer : Result SubstrView JsonFault) : Type 0 where
   pub made : IfOk answer (λ slice. IsSomeAnd (text_in value) (λ text. slice ≡ whole_of (made_of text)))
   pub not_text : IsErrOf answer NotText ↔ (text_in value ≡ None)
   pub empty : text_in value ≡ Some [] → answer ≡ Ok empty_slice
   pub too_long : IsErrOf answer Length ↔ IsSomeAnd (text_in value) (λ text. IsTooLong (length text))
-  pub too_far : IsErrOf answer TooFar ↔ IsSomeAnd (text_in value) (λ text. IsTooFar (length text) × ¬ (IsTooLong (length text)))

@@ -1,9 +1,5 @@
 -- What a shared slice is seen as: its parent, and the places in the parent's text between which it lies.
-use Rattle.std.specs.Prelude.{◌≡◌, ℕ, ◌+◌, ◌<◌, ◌⊎◌, List, [], length}
-use Rattle.arcstr_block.specs.declared.fault.TextFault.{TextFault}
-use Rattle.arcstr_block.specs.declared.fault.TextFault.TheVariants.{TooFar}
-use Rattle.arcstr.specs.Making.{IsFaultOfMaking}
-use Rattle.arcstr_range.specs.declared.range.TheConstants.{MAX_PLACE}
+use Rattle.std.specs.Prelude.{ℕ, ◌+◌, List, [], length}
 use Rattle.arcstr_range.specs.Substring.{Substring, substring_at, IsSound}
 use Rattle.arcstr_range.specs.Substring.{text_of as text_of_substring}
 use Rattle.arcstr.specs.TextView.{TextView, literal_of}
@@ -41,12 +37,3 @@ IsSoundSlice slice = IsSound (substring_of slice)
 -- the slice between two places of a slice's own text: of the same parent, at the sums of the places
 abbrev pub slice_within : SubstrView → ℕ → ℕ → SubstrView
 slice_within outer start end = slice_of outer.parent (outer.start + start) (outer.start + end)
-
--- the text has more bytes than a slice has places
-abbrev pub IsTooFar : ℕ → Type 0
-IsTooFar n = MAX_PLACE < n
-
--- the fault of a slice of n bytes that is to be made: its length where it is too long for a block, its last place where
--- that is too far for a slice, and else want of memory
-abbrev pub IsFaultOfMakingSlice : ℕ → TextFault → Type 0
-IsFaultOfMakingSlice n fault = IsFaultOfMaking n fault ⊎ ((fault ≡ TooFar) × IsTooFar n)

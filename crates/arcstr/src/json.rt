@@ -7,8 +7,7 @@ use std::fmt;
 #[cfg(test)]
 mod tests;
 
-/// Why a JSON value is not read as a text. The tests come in the order `NotText`, `Length`, `TooFar`,
-/// `Memory`.
+/// Why a JSON value is not read as a text. The tests come in the order of the variants.
 #[derive(Clone, Copy, Debug, PartialEq, Eq, Hash)]
 pub enum JsonFault {
     /// The value is not a string.
@@ -17,8 +16,6 @@ pub enum JsonFault {
     Length,
     /// There was no memory.
     Memory,
-    /// The text is too long for the places of a slice.
-    TooFar,
 }
 
 impl JsonFault {
@@ -32,7 +29,6 @@ impl JsonFault {
             JsonFault::NotText => 1,
             JsonFault::Length => 2,
             JsonFault::Memory => 3,
-            JsonFault::TooFar => 4,
         }
     }
 }
@@ -47,7 +43,6 @@ impl fmt::Display for JsonFault {
             JsonFault::NotText => "value is not a text",
             JsonFault::Length => "text is too long",
             JsonFault::Memory => "out of memory",
-            JsonFault::TooFar => "text is too long for 32-bit places",
         })
     }
 }

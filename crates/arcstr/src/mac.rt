@@ -24,8 +24,7 @@ macro_rules! format_arcstr {
     }};
 }
 
-/// A literal `Substr` of any `&'static str` of at most `MAX_PLACE` bytes, which is the caller's condition.
-/// Takes no memory.
+/// A literal `Substr` of any `&'static str`. Takes no memory.
 #[macro_export]
 macro_rules! literal_substr {
     ($text:expr $(,)?) => {

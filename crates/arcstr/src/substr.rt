@@ -1,14 +1,13 @@
 //! `Substr`: a slice of a shared text, which keeps its parent.
-ghost use Rattle.std.specs.Prelude.{◌≡◌, ◌↔◌, ◌≤◌, ◌<◌, [], length, Ok, IsTrue, IsErr, IsErrOf, IfOk, IfErr};
-ghost use Rattle.arcstr.specs.Making.{IsTooLong};
+ghost use Rattle.std.specs.Prelude.{◌≡◌, ◌↔◌, [], length, Ok, IsTrue, IsErrOf, IfOk, IfErr};
+ghost use Rattle.arcstr.specs.Making.{IsFaultOfMaking, IsTooLong};
 ghost use Rattle.arcstr_range.specs.Ends.{IsLawful};
 ghost use Rattle.arcstr_range.specs.Text.{SpellsBetween};
 ghost use Rattle.arcstr.specs.TextView.{literal_of, made_of};
-ghost use Rattle.arcstr.specs.Substr.{IsFaultOfMakingSlice, IsSoundSlice, IsTooFar, empty_slice, slice_of, text_of, whole_of};
+ghost use Rattle.arcstr.specs.Substr.{IsSoundSlice, empty_slice, slice_of, text_of, whole_of};
 
 use crate::arc_str::ArcStr;
-use arcstr_block::{TOO_LONG, TextFault};
-use arcstr_range::range::MAX_PLACE;
+use arcstr_block::TextFault;
 use std::alloc::Global;
 use std::marker::Model;
 use std::ops::Range;
@@ -26,12 +25,12 @@ mod thread_tests;
 
 /// A slice of a shared text. It keeps its parent, and so the parent's text, as long as it lives. A
 /// contract sees the parent, and the two places in bytes of the parent's text between which the slice
-/// lies. These are in order, at most the parent's length and `MAX_PLACE`, and at boundaries.
+/// lies. These are in order, at most the parent's length, and at boundaries.
 #[derive(Drop)]
 pub struct Substr {
     parent: ArcStr,
-    start: u32,
-    end: u32,
+    start: usize,
+    end: usize,
 }
 
 impl Model for Substr {
@@ -53,47 +52,26 @@ impl Substr {
     }
 
     /// A copy of this text in a block, as a slice of the whole of it; of the empty literal where the
-    /// text is empty. Refused, in this order: a text that is too long for a block
-    /// (`Length`), one that has more than `MAX_PLACE` bytes (`TooFar`), and want of memory (`Memory`).
+    /// text is empty. Refused, in this order: a text that is too long for a block (`Length`), and want of
+    /// memory (`Memory`).
     pub fn from_str(alloc: Global, text: &str) -> Result<Substr, TextFault>
         ensures made { IfOk result (λ slice. slice ≡ whole_of (made_of text.now)) }
         ensures empty { text.now ≡ [] → result ≡ Ok empty_slice }
         ensures too_long { IsErrOf result TextFault.Length ↔ IsTooLong (length text.now) }
-        ensures too_far { IsErrOf result TextFault.TooFar
-            ↔ (IsTooFar (length text.now) × ¬ (IsTooLong (length text.now))) }
-        ensures refused { IfErr result (IsFaultOfMakingSlice (length text.now)) }
+        ensures refused { IfErr result (IsFaultOfMaking (length text.now)) }
     {
-        if text.len() > MAX_PLACE && text.len() < TOO_LONG {
-            return Err(TextFault::TooFar);
-        }
-        let parent = ArcStr::from_str(alloc, text)?;
-        Ok(Substr::whole(parent))
+        Ok(Substr::full(ArcStr::from_str(alloc, text)?))
     }
 
-    /// A literal of this text, as a slice of itself. Takes no memory. That the text has at most `MAX_PLACE`
-    /// bytes is the caller's condition.
+    /// A literal of this text, as a slice of itself. Takes no memory.
     pub fn from_static(text: &'static str) -> Substr
-        requires { length text.now ≤ MAX_PLACE }
         ensures { result ≡ whole_of (literal_of text.now) }
     {
-        Substr::whole(ArcStr::from_static(text))
+        Substr::full(ArcStr::from_static(text))
     }
 
-    /// The slice of a shared text that is all of it. A text of more than `MAX_PLACE` bytes comes back.
-    /// Takes no memory, and no step is taken.
-    pub fn full(parent: ArcStr) -> Result<Substr, ArcStr>
-        ensures whole { IfOk result (λ slice. slice ≡ whole_of parent) }
-        ensures refused { IsErr result ↔ (MAX_PLACE < length parent.text) }
-        ensures back { IfErr result (λ text. text ≡ parent) }
-    {
-        if parent.len() > MAX_PLACE {
-            return Err(parent);
-        }
-        Ok(Substr::whole(parent))
-    }
-
-    fn whole(parent: ArcStr) -> Substr
-        requires { length parent.text ≤ MAX_PLACE }
+    /// The slice of a shared text that is all of it. Takes no memory, and no step is taken.
+    pub fn full(parent: ArcStr) -> Substr
         ensures { result ≡ whole_of parent }
     {
         let end = parent.as_str().len();
@@ -101,16 +79,15 @@ impl Substr {
     }
 
     /// The slice of a shared text between two places, in bytes. That these are in order, at most the
-    /// text's length and `MAX_PLACE`, and at boundaries, is the caller's condition. Takes no memory, and no
-    /// step is taken.
+    /// text's length, and at boundaries, is the caller's condition. Takes no memory, and no step is taken.
     pub fn from_parts_unchecked(parent: ArcStr, range: Range<usize>) -> Substr
         requires { IsLawful parent.text range.start range.end }
         ensures { result ≡ slice_of parent range.start range.end }
     {
         Substr {
             parent,
-            start: range.start as u32,
-            end: range.end as u32,
+            start: range.start,
+            end: range.end,
         }
     }
 
@@ -127,7 +104,7 @@ impl Substr {
         ensures end { result.end ≡ self.now.end }
         ensures lawful { IsSoundSlice self.now }
     {
-        self.start as usize..self.end as usize
+        self.start..self.end
     }
 
     /// Another slice at the same places of the same parent, whose handle is cloned.
@@ -154,7 +131,7 @@ impl Substr {
     pub fn len(&self) -> usize
         ensures { result ≡ length (text_of self.now) }
     {
-        (self.end - self.start) as usize
+        self.end - self.start
     }
 
     /// Whether the slice's own text has no bytes.

@@ -2,16 +2,14 @@
 use Rattle.std.specs.Prelude.{ℕ, List, ◌++◌, codes}
 use Rattle.std.specs.Fmt.{decimal}
 use Rattle.arcstr_block.specs.declared.fault.TextFault.{TextFault}
-use Rattle.arcstr_block.specs.declared.fault.TextFault.TheVariants.{Length, Memory, Utf8, TooFar}
+use Rattle.arcstr_block.specs.declared.fault.TextFault.TheVariants.{Length, Memory, Utf8}
 
 abbrev pub text_fault_number : TextFault → ℕ
 text_fault_number Length = 1
 text_fault_number Memory = 2
 text_fault_number (Utf8 n) = 3
-text_fault_number TooFar = 4
 
 abbrev pub text_fault_text : TextFault → List ℕ
 text_fault_text Length = codes "text is too long"
 text_fault_text Memory = codes "out of memory"
 text_fault_text (Utf8 n) = codes "bytes are not UTF-8 from place " ++ decimal n
-text_fault_text TooFar = codes "text is too long for 32-bit places"

@@ -17,8 +17,6 @@ pub enum TextFault {
     Memory,
     /// The bytes are not UTF-8: their longest front that is has this many bytes.
     Utf8(usize),
-    /// The text is too long for places of 32 bits. No call of this crate answers it: it is there for the slices above.
-    TooFar,
 }
 
 impl TextFault {
@@ -30,7 +28,6 @@ impl TextFault {
             TextFault::Length => 1,
             TextFault::Memory => 2,
             TextFault::Utf8(_) => 3,
-            TextFault::TooFar => 4,
         }
     }
 }
@@ -43,7 +40,6 @@ impl fmt::Display for TextFault {
             TextFault::Length => f.write_str("text is too long"),
             TextFault::Memory => f.write_str("out of memory"),
             TextFault::Utf8(place) => write!(f, "bytes are not UTF-8 from place {place}"),
-            TextFault::TooFar => f.write_str("text is too long for 32-bit places"),
         }
     }
 }

@@ -321,10 +321,6 @@ fn faults_print_their_texts(rt: HostRuntime) -> Result<(), Fail> {
         format!(in rt.alloc(); "{}", TextFault::Utf8(2))?.as_str(),
         "bytes are not UTF-8 from place 2"
     );
-    assert_eq!(rt;
-        format!(in rt.alloc(); "{}", TextFault::TooFar)?.as_str(),
-        "text is too long for 32-bit places"
-    );
     Ok(())
 }
 

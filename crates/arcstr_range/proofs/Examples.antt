@@ -4,7 +4,7 @@ use Rattle.std.proofs.Common.{◌≡◌, ℕ, ◌-◌, ◌^◌, List, [], ◌∷
 use Rattle.std.specs.Prelude.{codes}
 use Rattle.std.specs.Str.{chars, trim, trim_start, trim_end}
 use Rattle.arcstr_range.specs.declared.range.StrRange.TheVariants.{Between, From, To, Full, Inclusive, ToInclusive}
-use Rattle.arcstr_range.specs.declared.range.fault.RangeFault.TheVariants.{OutOfOrder, PastEnd, TooFar, OffBoundary}
+use Rattle.arcstr_range.specs.declared.range.fault.RangeFault.TheVariants.{OutOfOrder, PastEnd, OffBoundary}
 use Rattle.arcstr_range.specs.Ends.{ends_of, length_rule, text_rule, FitsLength, IsLawful, IsFirstFault}
 use Rattle.arcstr_range.specs.Text.{IsFrontLength, SpellsBetween, cut}
 use Rattle.arcstr_range.specs.View.{view_at, part_of, IsFoundAt}
@@ -36,15 +36,27 @@ ends_inclusive = refl
 ends_unbounded : ends_of (ToInclusive greatest) 10 ≡ (0, 2 ^ 64)
 ends_unbounded = refl
 
--- lengths
-fits_limit : FitsLength 4294967295 0 4294967295
-fits_limit = search rules
+ends_wide : ends_of (ToInclusive 4294967295) 4294967296 ≡ (0, 4294967296)
+ends_wide = refl
 
-past_limit : IsFirstFault (length_rule 4294967296 0 4294967296) TooFar
-past_limit = search rules
+-- lengths, also those that 32 bits do not hold
+fits_wide : FitsLength 4294967296 0 4294967296
+fits_wide = search rules
 
-past_end_before_limit : IsFirstFault (length_rule 10 0 4294967296) PastEnd
-past_end_before_limit = search rules
+fits_wide_empty : FitsLength 4294967296 4294967296 4294967296
+fits_wide_empty = search rules
+
+fits_greatest : FitsLength greatest 0 greatest
+fits_greatest = search rules
+
+past_greatest : IsFirstFault (length_rule greatest 0 (2 ^ 64)) PastEnd
+past_greatest = search rules
+
+past_short_end : IsFirstFault (length_rule 10 0 4294967296) PastEnd
+past_short_end = search rules
+
+wide_out_of_order : IsFirstFault (length_rule 4294967296 4294967297 4294967296) OutOfOrder
+wide_out_of_order = search rules
 
 order_before_end : IsFirstFault (length_rule 3 9 8) OutOfOrder
 order_before_end = search rules

@@ -2,7 +2,7 @@
 use Rattle.std.proofs.Common.{◌≡◌, ◌<◌, ◌⊎◌, inl, inr, refl, ap, arith}
 use Rattle.std.specs.Prelude.{Err, IsErrOf}
 use Rattle.arcstr_range.specs.declared.range.fault.RangeFault.{RangeFault}
-use Rattle.arcstr_range.specs.declared.range.fault.RangeFault.TheVariants.{OutOfOrder, PastEnd, TooFar, OffBoundary}
+use Rattle.arcstr_range.specs.declared.range.fault.RangeFault.TheVariants.{OutOfOrder, PastEnd, OffBoundary}
 use Rattle.arcstr_range.specs.Ends.{IsFirstFault}
 use Rattle.arcstr_range.specs.RangeFault.{number_of}
 
@@ -10,13 +10,10 @@ use Rattle.arcstr_range.specs.RangeFault.{number_of}
 ordered : (given fault : RangeFault) → (given ≡ fault) ⊎ (number_of given < number_of fault) ⊎ (number_of fault < number_of given)
 ordered OutOfOrder OutOfOrder = inl refl
 ordered PastEnd PastEnd = inl refl
-ordered TooFar TooFar = inl refl
 ordered OffBoundary OffBoundary = inl refl
 ordered OutOfOrder _ = inr (inl (omega arith))
 ordered PastEnd OutOfOrder = inr (inr (omega arith))
 ordered PastEnd _ = inr (inl (omega arith))
-ordered TooFar OffBoundary = inr (inl (omega arith))
-ordered TooFar _ = inr (inr (omega arith))
 ordered OffBoundary _ = inr (inr (omega arith))
 
 pub IsFirstFault-unique : (rule : RangeFault → Type 0) (given fault : RangeFault) → IsFirstFault rule given → IsFirstFault rule fault → given ≡ fault

@@ -4,8 +4,7 @@ use Rattle.std.specs.Str.{IsCharBoundary}
 use Rattle.arcstr_range.specs.declared.range.StrRange.{StrRange}
 use Rattle.arcstr_range.specs.declared.range.StrRange.TheVariants.{Between, From, To, Full, Inclusive, ToInclusive}
 use Rattle.arcstr_range.specs.declared.range.fault.RangeFault.{RangeFault}
-use Rattle.arcstr_range.specs.declared.range.fault.RangeFault.TheVariants.{OutOfOrder, PastEnd, TooFar, OffBoundary}
-use Rattle.arcstr_range.specs.declared.range.TheConstants.{MAX_PLACE}
+use Rattle.arcstr_range.specs.declared.range.fault.RangeFault.TheVariants.{OutOfOrder, PastEnd, OffBoundary}
 use Rattle.arcstr_range.specs.RangeFault.{number_of}
 use Rattle.arcstr_range.specs.Text.{cut}
 
@@ -23,14 +22,12 @@ ends_of (ToInclusive last) len = (0, last + 1)
 abbrev pub length_rule : ℕ → ℕ → ℕ → RangeFault → Type 0
 length_rule len start end OutOfOrder = start ≤ end
 length_rule len start end PastEnd = end ≤ len
-length_rule len start end TooFar = end ≤ MAX_PLACE
 length_rule len start end OffBoundary = ⊤
 
 -- the rule of each fault, for a start and an end in that text
 abbrev pub text_rule : List ℕ → ℕ → ℕ → RangeFault → Type 0
 text_rule text start end OutOfOrder = length_rule (length text) start end OutOfOrder
 text_rule text start end PastEnd = length_rule (length text) start end PastEnd
-text_rule text start end TooFar = length_rule (length text) start end TooFar
 text_rule text start end OffBoundary = IsCharBoundary text start × IsCharBoundary text end
 
 -- the first fault, in the order of their numbers: its rule is broken, and each rule before it is kept
@@ -42,14 +39,13 @@ pub record IsFirstFault (rule : RangeFault → Type 0) (fault : RangeFault) : Ty
 pub record FitsLength (len start end : ℕ) : Type 0 where
   pub in_order : length_rule len start end OutOfOrder
   pub within : length_rule len start end PastEnd
-  pub in_reach : length_rule len start end TooFar
 
 -- the ends are lawful in that text: each of its rules is kept
 pub record IsLawful (text : List ℕ) (start end : ℕ) : Type 0 where
   pub fits : FitsLength (length text) start end
   pub at_boundaries : text_rule text start end OffBoundary
 
--- the ends are those of a slice of Rust's `str`: each rule is kept but that of `TooFar`, the limit of 32-bit places
+-- the ends are those of a slice of Rust's `str`: each rule of the text is kept, as by lawful ends
 pub record IsSliceable (text : List ℕ) (start end : ℕ) : Type 0 where
   pub in_order : text_rule text start end OutOfOrder
   pub within : text_rule text start end PastEnd

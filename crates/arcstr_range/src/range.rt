@@ -15,9 +15,6 @@ pub use fault::RangeFault;
 pub use places::{checked_ends, inner_ends, is_boundary, slice};
 use std::ops::{Range, RangeFrom, RangeFull, RangeInclusive, RangeTo, RangeToInclusive};
 
-/// The last place that a slice may end at: places are kept in 32 bits.
-pub const MAX_PLACE: usize = 4294967295;
-
 /// A range of places in a text, in one of the forms of Rust's ranges over `usize`.
 #[derive(Clone, Copy, Debug, PartialEq, Eq, Hash)]
 pub enum StrRange {
@@ -38,9 +35,9 @@ pub enum StrRange {
 impl StrRange {
     /// The start and the end in something of `len` bytes.
     ///
-    /// Refuses the first that fails: the start is at most the end (`OutOfOrder`), the end at most
-    /// `len` (`PastEnd`), and the end at most `MAX_PLACE` (`TooFar`). An inclusive end of `usize::MAX`
-    /// counts as one place more, and so is past the end.
+    /// Refuses the first that fails: the start is at most the end (`OutOfOrder`), and the end at most
+    /// `len` (`PastEnd`). An inclusive end of `usize::MAX` counts as one place more, and so is past the
+    /// end.
     pub fn ends(self, len: usize) -> Result<(usize, usize), RangeFault>
         ensures value { IfOk result (λ ends. ends ≡ ends_of self len) }
         ensures fits { let ends = ends_of self len in IsOk result ↔ FitsLength len ends.0 ends.1 }
@@ -58,9 +55,6 @@ impl StrRange {
         }
         if end > len {
             return Err(RangeFault::PastEnd);
-        }
-        if end > MAX_PLACE {
-            return Err(RangeFault::TooFar);
         }
         Ok((start, end))
     }

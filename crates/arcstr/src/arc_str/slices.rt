@@ -28,7 +28,7 @@ impl ArcStr {
     /// The slice of this text in the range, also where it is empty. Takes no memory; the handle is cloned.
     ///
     /// Refuses the first that fails: the start is at most the end (`OutOfOrder`), the end at most the
-    /// length (`PastEnd`) and at most `MAX_PLACE` (`TooFar`), and both are boundaries (`OffBoundary`).
+    /// length (`PastEnd`), and both are boundaries (`OffBoundary`).
     pub fn substr<R: Into<StrRange>>(&self, rt: &impl Wait, range: R) -> Result<Substr, RangeFault>
         ensures { (given : StrRange) × R.converts range given
             × AnswersRange self.now.text (slice_of self.now) given result }
@@ -38,8 +38,7 @@ impl ArcStr {
     }
 
     /// The slice of this text that a view of it shows. `None` exactly where the text doesn't have the
-    /// view's text at the view's place, or has it there with an end above `MAX_PLACE`. An empty view is
-    /// found everywhere, and gives `Substr::new()`.
+    /// view's text at the view's place. An empty view is found everywhere, and gives `Substr::new()`.
     pub fn try_substr_from(&self, rt: &impl Wait, view: StrView<'_>) -> Option<Substr>
         ensures found { IsSome result ↔ IsFoundAt self.now.text view.entry.text view.entry.place }
         ensures value { IfSome result (IsSliceOfView (slice_of self.now) view.entry) }

@@ -18,8 +18,7 @@ impl Substr {
     }
 
     /// The text of a JSON string, made as `from_str` makes it. Refused, in this order: a value that is not a
-    /// string (`NotText`), a text that is too long for a block (`Length`), one that has more than
-    /// `MAX_PLACE` bytes (`TooFar`), and want of memory (`Memory`).
+    /// string (`NotText`), a text that is too long for a block (`Length`), and want of memory (`Memory`).
     pub fn from_json(alloc: Global, value: &Value) -> Result<Substr, JsonFault>
         ensures { ReadsSubstr value.now result }
     {
@@ -29,7 +28,6 @@ impl Substr {
         match Substr::from_str(alloc, text) {
             Ok(made) => Ok(made),
             Err(TextFault::Length) => Err(JsonFault::Length),
-            Err(TextFault::TooFar) => Err(JsonFault::TooFar),
             Err(_) => Err(JsonFault::Memory),
         }
     }

@@ -11,8 +11,6 @@ pub enum RangeFault {
     OutOfOrder,
     /// The end is after the end of the text.
     PastEnd,
-    /// The end is after the last place that a slice may end at.
-    TooFar,
     /// The start or the end is inside a character.
     OffBoundary,
 }
@@ -20,14 +18,13 @@ pub enum RangeFault {
 impl RangeFault {
     ghost use Rattle.arcstr_range.specs.RangeFault.{number_of};
 
-    /// The number of the fault, from 1 on in the order of the tests.
+    /// The number of the fault, from 1 on in the order of the tests. No fault has the number 3.
     pub fn number(&self) -> u8
         ensures { result ≡ number_of self.now }
     {
         match self {
             RangeFault::OutOfOrder => 1,
             RangeFault::PastEnd => 2,
-            RangeFault::TooFar => 3,
             RangeFault::OffBoundary => 4,
         }
     }
@@ -42,7 +39,6 @@ impl fmt::Display for RangeFault {
         f.write_str(match self {
             RangeFault::OutOfOrder => "range start is after its end",
             RangeFault::PastEnd => "range ends past the text",
-            RangeFault::TooFar => "range ends past 4294967295",
             RangeFault::OffBoundary => "range cuts a character",
         })
     }

@@ -21,8 +21,7 @@ pub fn is_boundary(text: &str, place: usize) -> bool
 /// The start and the end of the range in the text.
 ///
 /// Refuses the first that fails: the start is at most the end (`OutOfOrder`), the end at most the
-/// text's length (`PastEnd`) and at most `MAX_PLACE` (`TooFar`), and both are boundaries
-/// (`OffBoundary`).
+/// text's length (`PastEnd`), and both are boundaries (`OffBoundary`).
 pub fn checked_ends(text: &str, range: StrRange) -> Result<(usize, usize), RangeFault>
     ensures value { IfOk result (λ ends. ends ≡ ends_in text.now range) }
     ensures lawful { IsOk result ↔ IsLawfulRange text.now range }
@@ -66,7 +65,7 @@ pub fn inner_ends(
 }
 
 /// The slice of the text between the ends of the range, as Rust's `str::get`: `None` exactly where
-/// the ends are out of order, past the text or inside a character. `MAX_PLACE` is no limit here.
+/// the ends are out of order, past the text or inside a character.
 pub fn slice(text: &str, range: StrRange) -> Option<&str>
     ensures some { IsSome result ↔ IsSliceRange text.now range }
     ensures value { IfSome result (λ part. part.now ≡ cut_by text.now range) }
