@@ -5,3 +5,4 @@ pub mod RunSteps
 pub mod OneKind
 pub mod WordRuns
 pub mod Examples
+pub mod TokensBefore
