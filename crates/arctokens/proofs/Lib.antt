@@ -6,3 +6,6 @@ pub mod OneKind
 pub mod WordRuns
 pub mod Examples
 pub mod TokensBefore
+pub mod Turns
+pub mod PieceSteps
+pub mod Weaving
