@@ -8,4 +8,4 @@ pub mod Examples
 pub mod TokensBefore
 pub mod Turns
 pub mod PieceSteps
-pub mod Weaving
+pub mod ListsTaken

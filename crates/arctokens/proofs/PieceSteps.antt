@@ -1,9 +1,14 @@
 -- How the piece of a worker grows by one text.
 use Rattle.std.proofs.Common.{◌≡◌, ◌⊎◌, inl, inr, ℕ, ◌+◌, ◌/◌, ◌%◌, ◌<◌, ◌≤◌, List, [], ◌∷◌, ◌++◌, length, get_or, refl, sym, ap, subst, ◌∙◌, arith}
+use Rattle.std.specs.Prelude.{Vec}
+use Rattle.std.specs.declared.alloc.Global.{Global}
+use Rattle.std.proofs.lemmas.Bool.{cases_lt}
 use Rattle.std.proofs.lemmas.List.{get_or_read, get_or_append_left, get_or_push, length_push}
 use Rattle.arcstr.specs.TextView.{TextView}
 use Rattle.arctokens.specs.Tokens.{AreTokens, TokenList}
-use Rattle.arctokens.specs.Pieces.{HasTokensOf, IsPiece}
+use Rattle.arctokens.specs.Pieces.{HasTokensOf, IsPiece, ArePiecesOfFirst}
+use Rattle.arctokens.specs.declared.workers.Share.{Share}
+use Rattle.arctokens.specs.Shares.{IsShare, AreSharesOfFirst}
 use Rattle.arctokens.proofs.Turns.{turn_cases, next_row, next_turn, first_turn, first_row}
 
 -- the lists of a worker's texts before one of its numbers, which may be past the last text
@@ -62,3 +67,43 @@ IsPieceBefore-more texts workers worker number lists pushed text list some piece
 pub IsPiece-before : (texts : List TextView) (workers worker number : ℕ) (lists : List TokenList) → IsPieceBefore texts workers worker number lists
     → length texts ≤ number → IsPiece texts workers worker lists
 IsPiece-before texts workers worker number lists piece all other within turn = piece.before other (omega arith) turn
+
+-- the piece of one more worker
+pub ArePiecesOfFirst-more : (texts : List TextView) (workers count : ℕ) (pieces pushed : List (Vec TokenList Global)) (piece : Vec TokenList Global)
+    → ArePiecesOfFirst texts workers count pieces → IsPiece texts workers count piece.items → pushed ≡ pieces ++ piece ∷ []
+    → ArePiecesOfFirst texts workers (count + 1) pushed
+ArePiecesOfFirst-more texts workers count pieces pushed piece are next grown =
+    subst (ArePiecesOfFirst texts workers (count + 1)) (sym grown) (record {
+      one_each = omega (arith, length_push pieces piece, are.one_each);
+      piece = λ worker d below. by_place worker d (cases_lt worker count) below;
+    })
+  where
+    by_place : (worker : ℕ) (d : Vec TokenList Global) → (worker < count) ⊎ (count ≤ worker) → worker < count + 1
+        → IsPiece texts workers worker (get_or (pieces ++ piece ∷ []) worker d).items
+    by_place worker d (inl early) below =
+        let within : worker < length pieces = omega (arith, are.one_each) in
+        subst (λ (v : Vec TokenList Global). IsPiece texts workers worker v.items) (sym (get_or_append_left pieces (piece ∷ []) d worker within)) (are.piece worker d early)
+    by_place worker d (inr late) below =
+        let here : worker ≡ count = omega arith in
+        subst (λ (v : Vec TokenList Global). IsPiece texts workers worker v.items) (sym (get_or_push pieces piece d worker (are.one_each ∙ sym here)))
+        (subst (λ n. IsPiece texts workers n piece.items) (sym here) next)
+
+-- the share of one more worker
+pub AreSharesOfFirst-more : (texts : List TextView) (workers count : ℕ) (shares pushed : List Share) (share : Share)
+    → AreSharesOfFirst texts workers count shares → IsShare texts workers count share → pushed ≡ shares ++ share ∷ []
+    → AreSharesOfFirst texts workers (count + 1) pushed
+AreSharesOfFirst-more texts workers count shares pushed share are next grown =
+    subst (AreSharesOfFirst texts workers (count + 1)) (sym grown) (record {
+      one_each = omega (arith, length_push shares share, are.one_each);
+      share = λ worker d below. by_place worker d (cases_lt worker count) below;
+    })
+  where
+    by_place : (worker : ℕ) (d : Share) → (worker < count) ⊎ (count ≤ worker) → worker < count + 1
+        → IsShare texts workers worker (get_or (shares ++ share ∷ []) worker d)
+    by_place worker d (inl early) below =
+        let within : worker < length shares = omega (arith, are.one_each) in
+        subst (λ (s : Share). IsShare texts workers worker s) (sym (get_or_append_left shares (share ∷ []) d worker within)) (are.share worker d early)
+    by_place worker d (inr late) below =
+        let here : worker ≡ count = omega arith in
+        subst (λ (s : Share). IsShare texts workers worker s) (sym (get_or_push shares share d worker (are.one_each ∙ sym here)))
+        (subst (λ n. IsShare texts workers n share) (sym here) next)

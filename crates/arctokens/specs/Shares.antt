@@ -1,10 +1,10 @@
 -- Where the piece of a worker comes from.
-use Rattle.std.specs.Prelude.{◌≡◌, ℕ, List, IfOk}
+use Rattle.std.specs.Prelude.{◌≡◌, ℕ, ◌<◌, List, length, slice_index_or}
 use Rattle.arcstr.specs.TextView.{TextView}
-use Rattle.arctokens.specs.Pieces.{IsPiece}
-use Rattle.arctokens.specs.declared.many_texts.PieceOf.{PieceOf}
-use Rattle.arctokens.specs.declared.many_texts.Share.{Share}
-use Rattle.arctokens.specs.declared.many_texts.Share.TheVariants.{Thread, Own}
+use Rattle.arctokens.specs.Pieces.{IsPieceOf}
+use Rattle.arctokens.specs.declared.workers.PieceOf.{PieceOf}
+use Rattle.arctokens.specs.declared.workers.Share.{Share}
+use Rattle.arctokens.specs.declared.workers.Share.TheVariants.{Thread, Own}
 
 -- the promise is that of the worker's piece
 pub record IsPromiseOf (texts : List TextView) (workers worker : ℕ) (promise : PieceOf) : Type 0 where
@@ -15,4 +15,9 @@ pub record IsPromiseOf (texts : List TextView) (workers worker : ℕ) (promise :
 -- the share is the worker's: a thread that promises its piece, or its piece
 abbrev pub IsShare : List TextView → ℕ → ℕ → Share → Type 0
 IsShare texts workers worker (Thread thread) = IsPromiseOf texts workers worker thread.promise
-IsShare texts workers worker (Own piece) = IfOk piece (λ lists. IsPiece texts workers worker lists.items)
+IsShare texts workers worker (Own piece) = IsPieceOf texts workers worker piece
+
+-- the shares of the first so many of the workers, in the order of their numbers
+pub record AreSharesOfFirst (texts : List TextView) (workers count : ℕ) (shares : List Share) : Type 0 where
+  pub one_each : length shares ≡ count
+  pub share : (worker : ℕ) (d : Share) → worker < count → IsShare texts workers worker (slice_index_or shares worker d)

@@ -1,7 +1,7 @@
 use Rattle.std.proofs.Common.{◌≡◌, ◌%◌, ◌<◌, length, refl, arith}
 use Rattle.std.proofs.lemmas.Nat.{mod_below}
-use Rattle.arctokens.proofs.Weaving.{AreLeft-more, AreTokensOfEach-next, taken_tokens}
-use Rattle.arctokens.proofs.many_texts.woven.Goals as goal
+use Rattle.arctokens.proofs.ListsTaken.{AreLeft-more, AreTokensOfEach-next, taken_tokens}
+use Rattle.arctokens.proofs.weaving.woven.Goals as goal
 
 pub loop-number-preserved : goal.loop-number-preserved
 loop-number-preserved c =

@@ -1,6 +1,6 @@
 use Rattle.std.proofs.Common.{◌<◌, arith}
 use Rattle.arctokens.proofs.PieceSteps.{IsPieceBefore-more}
-use Rattle.arctokens.proofs.many_texts.piece_of.Goals as goal
+use Rattle.arctokens.proofs.workers.piece_of.Goals as goal
 
 pub loop-number-preserved : goal.loop-number-preserved
 loop-number-preserved g c =

@@ -1,6 +1,6 @@
 use Rattle.std.proofs.Common.{length, ◌-◌}
 use Rattle.arctokens.proofs.PieceSteps.{IsPieceBefore}
-use Rattle.arctokens.proofs.many_texts.piece_of.Given as goal
+use Rattle.arctokens.proofs.workers.piece_of.Given as goal
 
 abbrev pub invariant-loop-number : goal.invariant-loop-number
 invariant-loop-number g l = IsPieceBefore l.texts l.workers l.worker l.number l.lists.items

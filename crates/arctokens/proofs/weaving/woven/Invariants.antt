@@ -1,8 +1,8 @@
 -- So far the lists of the texts before a number are in their order, the others are left, and there is room for them.
 use Rattle.std.proofs.Common.{◌≡◌, ◌≤◌, take, length, vec_len, vec_capacity}
 use Rattle.arctokens.specs.Tokens.{AreTokensOfEach}
-use Rattle.arctokens.proofs.Weaving.{AreLeft}
-use Rattle.arctokens.proofs.many_texts.woven.Given as goal
+use Rattle.arctokens.proofs.ListsTaken.{AreLeft}
+use Rattle.arctokens.proofs.weaving.woven.Given as goal
 
 abbrev pub invariant-loop-number : goal.invariant-loop-number
 invariant-loop-number l =
