@@ -15,7 +15,7 @@ use Rattle.arctokens.proofs.Turns.{same_number}
 pub record AreLeft (texts : List TextView) (workers number : ℕ) (pieces : List (Vec TokenList Global)) : Type 0 where
   pub one_each : length pieces ≡ workers
   pub left : (other : ℕ) (d : Vec TokenList Global) → number ≤ other → other < length texts
-    → HasTokensOf texts other (get_or pieces (other % workers) d).items (other / workers)
+      → HasTokensOf texts other (get_or pieces (other % workers) d).items (other / workers)
 
 -- at first all are left
 pub AreLeft-all : (texts : List TextView) (workers : ℕ) (pieces : List (Vec TokenList Global)) → 0 < workers → ArePieces texts workers pieces → AreLeft texts workers 0 pieces
@@ -32,8 +32,8 @@ kept_row texts other row taken lists list apart has =
     record {
       within = omega (arith, has.within, length-set lists taken list);
       tokens = λ text d.
-      subst (λ (l : TokenList). AreTokens (get_or texts other text) l.items)
-      (sym (get_or-set_other lists taken row list d apart)) (has.tokens text d);
+          subst (λ (l : TokenList). AreTokens (get_or texts other text) l.items)
+          (sym (get_or-set_other lists taken row list d apart)) (has.tokens text d);
     }
 
 -- the pieces after the list of the text with that number was taken from its piece

@@ -32,8 +32,8 @@ kept texts number row lists list has =
     record {
       within = omega (arith, has.within, length_push lists list);
       tokens = λ text d.
-      subst (λ (l : TokenList). AreTokens (get_or texts number text) l.items)
-      (sym (get_or_append_left lists (list ∷ []) d row has.within)) (has.tokens text d);
+          subst (λ (l : TokenList). AreTokens (get_or texts number text) l.items)
+          (sym (get_or_append_left lists (list ∷ []) d row has.within)) (has.tokens text d);
     }
 
 added : (texts : List TextView) (number : ℕ) (lists : List TokenList) (list : TokenList) → ((text : TextView) → AreTokens (get_or texts number text) list.items)
@@ -42,7 +42,7 @@ added texts number lists list are =
     record {
       within = omega (arith, length_push lists list);
       tokens = λ text d.
-      subst (λ (l : TokenList). AreTokens (get_or texts number text) l.items) (sym (get_or_push lists list d (length lists) refl)) (are text);
+          subst (λ (l : TokenList). AreTokens (get_or texts number text) l.items) (sym (get_or_push lists list d (length lists) refl)) (are text);
     }
 
 -- the tokens of the worker's next text

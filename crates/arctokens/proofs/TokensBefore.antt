@@ -58,12 +58,14 @@ word_cases text place start end a b words utf8 before next word low = by_place (
   where
     Wanted : Type 0
     Wanted = Contains (words ++ (start, end) ∷ []) (a, b)
+
     by_start : (start < a) ⊎ (a ≤ start) → start ≤ a → Contains (words ++ (start, end) ∷ []) (a, b)
     by_start (inl inside) late = absurd (none_inside text start end a b utf8 next.word word inside low)
     by_start (inr there) late =
         let same_start : start ≡ a = omega arith in
         let same_end : end ≡ b = one_end text start end b utf8 next.word (subst (λ n. IsWord text n b) (sym same_start) word) in
         subst (λ (w : ℕ × ℕ). Contains (words ++ (start, end) ∷ []) w) (cc) (Contains-push words (start, end))
+
     by_place : (a < place) ⊎ (place ≤ a) → Contains (words ++ (start, end) ∷ []) (a, b)
     by_place (inl early) = Contains-append_left words _ (a, b) (before.every_word a b word early)
     by_place (inr late) = by_start (cases_lt start a) (next.first a b word late)

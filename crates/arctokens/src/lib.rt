@@ -6,6 +6,8 @@ pub use one_text::{tokens, tokens_are_one};
 
 mod many_texts;
 mod one_text;
+#[cfg(test)]
+mod test_steps;
 mod weaving;
 mod words;
 mod workers;

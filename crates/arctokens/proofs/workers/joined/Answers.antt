@@ -26,8 +26,8 @@ loop-share-preserved-in-Ok g c =
     record {
       at_most = omega (arith, c.push_reserved.ensures.len, before.at_most, grown);
       whole = λ all.
-      let so_far : vec_len c.loop-share.pieces ≡ count = omega (arith, all, c.push_reserved.ensures.len, grown) in
-      subst (λ n. ArePiecesOfFirst texts workers n c.push_reserved.new.self.items) (sym grown)
-      (ArePiecesOfFirst-more texts workers count c.loop-share.pieces.items _ c.in-Ok.lists (before.whole so_far) piece c.push_reserved.ensures.items);
+          let so_far : vec_len c.loop-share.pieces ≡ count = omega (arith, all, c.push_reserved.ensures.len, grown) in
+          subst (λ n. ArePiecesOfFirst texts workers n c.push_reserved.new.self.items) (sym grown)
+          (ArePiecesOfFirst-more texts workers count c.loop-share.pieces.items _ c.in-Ok.lists (before.whole so_far) piece c.push_reserved.ensures.items);
       room = omega (arith, c.push_reserved.ensures.capacity, before.room);
     }
