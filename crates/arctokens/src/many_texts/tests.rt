@@ -1,3 +1,6 @@
+//! Tests of many texts.
+ghost use Rattle.std.specs.Prelude.{◌≤◌};
+
 use super::{Gate, OpenGate, tokens_all, tokens_all_with};
 use crate::one_text::tokens;
 use crate::test_steps::{check_count, check_tokens, made};
@@ -7,6 +10,7 @@ use std::process::Abort;
 use std::sync::Wait;
 use std::sync::atomic::{AtomicBool, AtomicU64, Ordering};
 use std::test::Fail;
+use std::thread::Threads;
 
 /// How often a worker looks for the other's flag.
 const LOOKS: u32 = 100_000_000;
@@ -17,9 +21,13 @@ fn two_texts(rt: &(impl Abort + AllocGlobal)) -> [ArcStr; 2] {
 }
 
 fn check_two_texts(rt: &impl Abort, lists: &[Vec<Substr>]) {
-    assert_eq!(rt; lists.len(), 2);
-    check_tokens(rt, &lists[0], &[(0, 1, "a"), (2, 3, "b")]);
-    check_tokens(rt, &lists[1], &[]);
+    match lists {
+        [first, second] => {
+            check_tokens(rt, first, &[(0, 1, "a"), (2, 3, "b")]);
+            check_tokens(rt, second, &[]);
+        }
+        _ => panic!(rt; "not one list for each text"),
+    }
 }
 
 #[test]
@@ -52,20 +60,33 @@ fn seven_texts<R: Abort + AllocGlobal>(rt: &R) -> Result<Vec<ArcStr>, AllocError
     Ok(texts)
 }
 
-/// Asserts that so many workers answer for each text what one thread does, and leave its count.
-fn check_workers(
-    rt: &(impl Abort + AllocGlobal + Wait),
+/// Asserts that one list is the other, by the places and the texts of its slices.
+fn check_same(rt: &impl Abort, list: &[Substr], other: &[Substr]) {
+    assert_eq!(rt; list.len(), other.len());
+    for (one, another) in list.iter().zip(other) {
+        assert_eq!(rt; one.range(), another.range());
+        assert_eq!(rt; one.as_str(), another.as_str());
+    }
+}
+
+/// Asserts that so many workers answer for each text what one thread does, and that each text has one
+/// handle again once their answer is dropped.
+fn check_workers<R: Abort + AllocGlobal + Threads + Wait + Sync>(
+    rt: &R,
     texts: &[ArcStr],
-    lists: Vec<Vec<Substr>>,
-) -> Result<(), AllocError> {
+    workers: usize,
+) -> Result<(), AllocError>
+    requires { (1 ≤ workers) × (workers ≤ 64) }
+{
+    let lists = tokens_all(rt, rt.alloc(), texts, workers)?;
     assert_eq!(rt; lists.len(), texts.len());
     for (text, list) in texts.iter().zip(&lists) {
         let alone = tokens(rt, rt.alloc(), text)?;
-        assert_eq!(rt; list.len(), alone.len());
-        for (one, other) in list.iter().zip(&alone) {
-            assert_eq!(rt; one.range(), other.range());
-            assert_eq!(rt; one.as_str(), other.as_str());
-        }
+        check_same(rt, list, &alone);
+    }
+    drop(lists);
+    for text in texts {
+        assert!(rt; text.is_empty() || ArcStr::strong_count(text) == Some(1));
     }
     Ok(())
 }
@@ -73,26 +94,24 @@ fn check_workers(
 #[test]
 fn each_number_of_workers_finds_the_tokens_of_one_thread(rt: HostRuntime) -> Result<(), Fail> {
     let texts = seven_texts(&rt)?;
-    for workers in [1, 2, 3, 4, 7, 8, 64] {
-        let lists = tokens_all(&rt, rt.alloc(), &texts, workers)?;
-        check_workers(&rt, &texts, lists)?;
-    }
-    check_count(&rt, &texts[6], Some(1));
+    check_workers(&rt, &texts, 1)?;
+    check_workers(&rt, &texts, 2)?;
+    check_workers(&rt, &texts, 3)?;
+    check_workers(&rt, &texts, 7)?;
+    check_workers(&rt, &texts, 64)?;
     Ok(())
 }
 
 #[test]
 fn counts_of_texts_while_their_tokens_live(rt: HostRuntime) -> Result<(), Fail> {
-    let texts = seven_texts(&rt)?;
+    let texts = [made(&rt, "a b"), made(&rt, "c d e"), made(&rt, " ")];
     let lists = tokens_all(&rt, rt.alloc(), &texts, 2)?;
-    check_count(&rt, &texts[1], Some(3));
-    check_count(&rt, &texts[6], Some(5));
+    check_count(&rt, &texts[0], Some(3));
+    check_count(&rt, &texts[1], Some(4));
+    check_count(&rt, &texts[2], Some(1));
     drop(lists);
-    for text in &texts {
-        if !text.is_empty() {
-            check_count(&rt, text, Some(1));
-        }
-    }
+    check_count(&rt, &texts[0], Some(1));
+    check_count(&rt, &texts[1], Some(1));
     Ok(())
 }
 
@@ -129,22 +148,23 @@ fn two_workers_run_at_once(rt: HostRuntime) -> Result<(), Fail> {
     Ok(())
 }
 
-/// Counts how often each worker passes, and notes for the first whether its text had a slice by then.
+/// Notes how often workers pass, and which ones; and of the first worker how many handles its text has
+/// then, one of which is the gate's.
 #[derive(Drop)]
-struct Counted<'a> {
-    text: &'a ArcStr,
-    passes: [AtomicU64; 64],
-    first_count: AtomicU64,
+struct Noted {
+    text: ArcStr,
+    passes: AtomicU64,
+    workers: AtomicU64,
+    handles: AtomicU64,
 }
 
-impl<'a> Gate for Counted<'a> {
+impl Gate for Noted {
     fn pass(&self, worker: usize) {
-        if worker < 64 {
-            self.passes[worker].fetch_add(1, Ordering::SeqCst);
-        }
+        self.passes.fetch_add(1, Ordering::SeqCst);
+        self.workers.fetch_or(1 << (worker % 64), Ordering::SeqCst);
         if worker == 0 {
-            let count = ArcStr::strong_count(self.text).unwrap_or(0);
-            self.first_count.store(count as u64, Ordering::SeqCst);
+            let handles = ArcStr::strong_count(&self.text).unwrap_or(0);
+            self.handles.store(handles as u64, Ordering::SeqCst);
         }
     }
 }
@@ -152,17 +172,24 @@ impl<'a> Gate for Counted<'a> {
 #[test]
 fn each_worker_passes_once_before_its_first_text(rt: HostRuntime) -> Result<(), Fail> {
     let texts = two_texts(&rt);
-    let gate = Counted {
-        text: &texts[0],
-        passes: [const { AtomicU64::new(0) }; 64],
-        first_count: AtomicU64::new(0),
+    let gate = Noted {
+        text: texts[0].clone(&rt),
+        passes: AtomicU64::new(0),
+        workers: AtomicU64::new(0),
+        handles: AtomicU64::new(0),
     };
     check_two_texts(&rt, &tokens_all_with(&rt, rt.alloc(), &texts, 64, &gate)?);
-    for passes in &gate.passes {
-        assert_eq!(rt; passes.load(Ordering::SeqCst), 1);
-    }
-    assert_eq!(rt; gate.first_count.load(Ordering::SeqCst), 1);
+    assert_eq!(rt; gate.passes.load(Ordering::SeqCst), 64);
+    assert_eq!(rt; gate.workers.load(Ordering::SeqCst), u64::MAX);
+    assert_eq!(rt; gate.handles.load(Ordering::SeqCst), 2);
     Ok(())
+}
+
+fn check_one_list(rt: &impl Abort, lists: &[Vec<Substr>]) {
+    match lists {
+        [list] => check_tokens(rt, list, &[(0, 3, "foo"), (4, 7, "bar")]),
+        _ => panic!(rt; "not one list"),
+    }
 }
 
 /// For `rt try --test --fail-alloc N`, which refuses the request N: all lists, or a refusal; either way no
@@ -174,7 +201,7 @@ fn a_refused_call_leaves_no_slice(rt: HostRuntime) {
     };
     let texts = [text];
     if let Ok(lists) = tokens_all(&rt, rt.alloc(), &texts, 2) {
-        check_tokens(&rt, &lists[0], &[(0, 3, "foo"), (4, 7, "bar")]);
+        check_one_list(&rt, &lists);
     }
     check_count(&rt, &texts[0], Some(1));
 }

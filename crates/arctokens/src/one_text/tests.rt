@@ -85,7 +85,8 @@ fn other_characters_are_no_separators(rt: HostRuntime) -> Result<(), Fail> {
 fn tokens_of_a_literal_are_slices_of_the_literal(rt: HostRuntime) -> Result<(), Fail> {
     let words = tokens(&rt, rt.alloc(), &ArcStr::from_static("a b"))?;
     check_tokens(&rt, &words, &[(0, 1, "a"), (2, 3, "b")]);
-    assert!(rt; ArcStr::is_static(words[1].parent()));
+    let last = words.last().ok_or("no token")?;
+    assert!(rt; ArcStr::is_static(last.parent()));
     Ok(())
 }
 
@@ -95,6 +96,7 @@ fn tokens_keep_their_text(rt: HostRuntime) -> Result<(), Fail> {
     let words = tokens(&rt, rt.alloc(), &text)?;
     drop(text);
     check_tokens(&rt, &words, &[(0, 3, "foo"), (6, 9, "bar")]);
-    check_count(&rt, words[0].parent(), Some(2));
+    let first = words.first().ok_or("no token")?;
+    check_count(&rt, first.parent(), Some(2));
     Ok(())
 }
