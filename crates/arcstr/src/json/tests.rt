@@ -88,7 +88,6 @@ fn faults_have_numbers_and_texts(rt: HostRuntime) {
         (JsonFault::NotText, 1, "value is not a text"),
         (JsonFault::Length, 2, "text is too long"),
         (JsonFault::Memory, 3, "out of memory"),
-        (JsonFault::TooFar, 4, "text is too long for 32-bit places"),
     ];
     for (fault, number, text) in texts {
         assert!(rt; fault.number() == number);

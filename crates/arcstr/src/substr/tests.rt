@@ -33,7 +33,7 @@ fn literal_slices_have_a_literal_as_parent(rt: HostRuntime) {
 
 #[test]
 fn a_full_slice_takes_the_handle(rt: HostRuntime) {
-    let slice = Substr::full(made(&rt, "foo")).expect(&rt, "handed back");
+    let slice = Substr::full(made(&rt, "foo"));
     check_slice(&rt, &slice, "foo", 0..3);
     check_count(&rt, slice.parent(), Some(1));
 }
