@@ -2,13 +2,8 @@
 //! callers of one text in threads of their own.
 #![tactic(auto)]
 
-mod pool;
-mod port;
-mod program;
-mod script;
-mod threads;
-
-use port::Port;
+use arcbench_core::port::Port;
+use arcbench_core::program;
 use std::env::Env;
 use std::process::ExitCode;
 use std::{env, io};
@@ -37,6 +32,3 @@ fn main(rt: HostRuntime) -> ExitCode {
 fn words<R: Env + AllocGlobal>(rt: &R) -> io::Result<Vec<String>> {
     Ok(env::args(rt)?.skip(1).collect(rt.alloc())?)
 }
-
-#[cfg(test)]
-mod tests;

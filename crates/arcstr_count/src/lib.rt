@@ -15,6 +15,8 @@ pub use worlds::World;
 
 mod faults;
 mod history_laws;
+#[cfg(test)]
+mod refusal_tests;
 mod runs;
 mod seat_laws;
 pub mod sentences;

@@ -1,9 +1,0 @@
--- So far each worker's thread was started, there is room for all, and each promises a handle on the text.
-use Rattle.std.proofs.Common.{◌≡◌, ℕ, ◌<◌, ◌≤◌, vec_len, vec_items, vec_capacity, get_or}
-use Rattle.arcbench.proofs.pool.fn.callers.scope.Given as goal
-
-abbrev pub invariant-loop-worker : goal.invariant-loop-worker
-invariant-loop-worker g l =
-    (vec_len l.started ≡ l.worker)
-    × (l.workers ≤ vec_capacity l.started)
-    × ((k : ℕ) (d : _) → k < vec_len l.started → (get_or (vec_items l.started) k d).promise.0.now ≡ l.text.now)

@@ -1,0 +1,190 @@
+-- A line has a step exactly where it is the text of the step.
+use Rattle.std.proofs.Common.{◌≡◌, ◌==◌, ◌⊎◌, inl, inr, ℕ, zero, suc, ◌^◌, ◌+◌, ◌<◌, ◌≤◌, Bool, true, false, not, if◌then◌else◌, List, [], ◌∷◌, ◌++◌, length, get_or, Option, None, Some, refl, sym, ap, ◌∙◌, arith}
+use Rattle.std.specs.Prelude.{codes, option_and_then, IfSome}
+use Rattle.std.specs.Fmt.{decimal}
+use Rattle.std.specs.List.{position_or_len}
+use Rattle.std.specs.Str.{bytes_eq}
+use Rattle.std.specs.Str.Parse.{digits_value}
+use Rattle.std.proofs.lemmas.Bool.{eqb-true, eq-eqb, ne_eqb, lt-ltb, not-false, cases_lt, and_parts}
+use Rattle.std.proofs.lemmas.Fmt.{decimal-digits_value, digits_decimal, digits_value-decimal, decimal_nonempty, first_decimal, decimal_digit}
+use Rattle.std.proofs.lemmas.List.Sums.{prefix_len_stops, split_at_first}
+use Rattle.std.proofs.lemmas.Slice.Eq.{bytes_eq-Decides}
+use Rattle.std.proofs.Math.ListN.{drop_of_length-le}
+use Rattle.arcstr_count.specs.declared.steps.Step.{Step}
+use Rattle.arcstr_count.specs.declared.steps.Step.TheVariants.{Make, Look, Clone, Begin, Sub, Back, Leak, IntoRaw, FromRaw}
+use Rattle.arcbench_core.specs.Line.{word_of, after_word, is_decimal, has_idle_zero, number_of, step_named, step_of, limit_of}
+use Rattle.arcbench_core.specs.LineText.{line_text, limit_text, HasHandle}
+use Rattle.arcbench_core.proofs.Numbers.{own, is_decimal-true, from_is_decimal}
+
+-- ---- numbers
+
+-- the parts of an `if` that gives a value
+chosen : {X : Type 0} (b : Bool) (x y : X) (other : Option X) → (if b then Some x else other) ≡ Some y → ((b ≡ true) × (x ≡ y)) ⊎ (other ≡ Some y)
+chosen true x y other e = inl (refl, cc)
+chosen false x y other e = inr e
+
+idle_zero : (text : List ℕ) → has_idle_zero text ≡ false → get_or text 0 0 ≡ 48 → 0 < length text → length text ≡ 1
+idle_zero text none zero_first some =
+    elim (cases_lt 1 (length text)) [
+      | inl long ↦ absurd (let e : has_idle_zero text ≡ true = rw (eq-eqb _ _ zero_first, lt-ltb _ _ long) refl in cc)
+      | inr short ↦ omega arith
+    ]
+
+-- a NUMBER is what `decimal` writes of its value
+pub number_of-Some : (text : List ℕ) (n : ℕ) → number_of text ≡ Some n → (text ≡ decimal n) × (n < 2 ^ 64)
+number_of-Some text n e =
+    elim (chosen _ (digits_value 10 text) n None e) [
+      | inl h ↦
+          let parts = and_parts _ _ h.0 in
+          let digits = from_is_decimal text parts.0 in
+          let written : decimal (digits_value 10 text) ≡ text =
+          decimal-digits_value own text digits.0 digits.1 (λ zero_first. idle_zero text (not-false' _ parts.1) zero_first digits.1) digits.2 in
+          (sym written ∙ ap decimal h.1, let below : digits_value 10 text < 2 ^ 64 = digits.2 in omega (arith, h.1))
+      | inr h ↦ absurd cc
+    ]
+  where
+    not-false' : (b : Bool) → not b ≡ true → b ≡ false
+    not-false' true e = cc
+    not-false' false e = refl
+
+no_idle_zero : (n : ℕ) → n < 2 ^ 64 → has_idle_zero (decimal n) ≡ false
+no_idle_zero zero h = rw (decimal_digit 0 (omega arith)) refl
+no_idle_zero (suc n) h =
+    let first : 48 < get_or (decimal (suc n)) 0 0 = first_decimal (suc n) (omega arith) h in
+    let other : (get_or (decimal (suc n)) 0 0 == 48) ≡ false = ne_eqb _ _ (λ e. omega arith) in
+    rw other refl
+
+pub number_of-decimal : (n : ℕ) → n < 2 ^ 64 → number_of (decimal n) ≡ Some n
+number_of-decimal n h =
+    let value : digits_value 10 (decimal n) ≡ n = digits_value-decimal own n h in
+    let small : digits_value 10 (decimal n) < 2 ^ 64 = omega arith in
+    let is : is_decimal (decimal n) ≡ true = is_decimal-true (decimal n) (digits_decimal own n h, decimal_nonempty n h, small) in
+    rw (is, no_idle_zero n h, value) refl
+
+-- ---- words
+
+same_bytes : (xs ys : List ℕ) → bytes_eq xs ys ≡ true → xs ≡ ys
+same_bytes xs ys e = (bytes_eq-Decides xs ys).0 e
+
+-- a line with bytes after its word is the word, a space and those bytes
+word_and_rest : (line : List ℕ) → 0 < length (after_word line) → line ≡ word_of line ++ 32 ∷ after_word line
+word_and_rest line some =
+    elim (cases_lt (position_or_len (λ b. b == 32) line) (length line)) [
+      | inl there ↦
+          let stops : not (get_or line (position_or_len (λ b. b == 32) line) 0 == 32) ≡ false = prefix_len_stops (λ b. not (b == 32)) line 0 there in
+          let space : get_or line (position_or_len (λ b. b == 32) line) 0 ≡ 32 = eqb-true _ _ (not-false _ stops) in
+          split_at_first (λ b. b == 32) line 0 there ∙ ap (λ b. word_of line ++ b ∷ after_word line) space
+      | inr absent ↦
+          let past : length line ≤ position_or_len (λ b. b == 32) line + 1 = omega arith in
+          let none : after_word line ≡ [] = drop_of_length-le line past in
+          absurd (omega (arith, ap length none))
+    ]
+
+number_after : (line : List ℕ) (n : ℕ) → number_of (after_word line) ≡ Some n → line ≡ word_of line ++ 32 ∷ decimal n
+number_after line n e =
+    let number = number_of-Some (after_word line) n e in
+    let some : 0 < length (after_word line) = rw number.0 (decimal_nonempty n number.1) in
+    word_and_rest line some ∙ ap (λ rest. word_of line ++ 32 ∷ rest) number.0
+
+-- the words of steps
+step_named-Some : (word : List ℕ) (h : ℕ) (step : Step) → step_named word h ≡ Some step → word ++ 32 ∷ decimal h ≡ line_text step
+step_named-Some word h step e =
+    elim (chosen (bytes_eq word (codes "look")) (Look h) step _ e) [
+      | inl c ↦ named (codes "look") c.0 ∙ ap line_text c.1
+      | inr e ↦
+          elim (chosen (bytes_eq word (codes "clone")) (Clone h) step _ e) [
+            | inl c ↦ named (codes "clone") c.0 ∙ ap line_text c.1
+            | inr e ↦
+                elim (chosen (bytes_eq word (codes "begin")) (Begin h) step _ e) [
+                  | inl c ↦ named (codes "begin") c.0 ∙ ap line_text c.1
+                  | inr e ↦
+                      elim (chosen (bytes_eq word (codes "sub")) (Sub h) step _ e) [
+                        | inl c ↦ named (codes "sub") c.0 ∙ ap line_text c.1
+                        | inr e ↦
+                            elim (chosen (bytes_eq word (codes "back")) (Back h) step _ e) [
+                              | inl c ↦ named (codes "back") c.0 ∙ ap line_text c.1
+                              | inr e ↦
+                                  elim (chosen (bytes_eq word (codes "leak")) (Leak h) step _ e) [
+                                    | inl c ↦ named (codes "leak") c.0 ∙ ap line_text c.1
+                                    | inr e ↦
+                                        elim (chosen (bytes_eq word (codes "raw")) (IntoRaw h) step _ e) [
+                                          | inl c ↦ named (codes "raw") c.0 ∙ ap line_text c.1
+                                          | inr e ↦
+                                              elim (chosen (bytes_eq word (codes "unraw")) (FromRaw h) step _ e) [
+                                                | inl c ↦ named (codes "unraw") c.0 ∙ ap line_text c.1
+                                                | inr e ↦
+                                                    absurd cc
+                                              ]
+                                        ]
+                                  ]
+                            ]
+                      ]
+                ]
+          ]
+    ]
+  where
+    named : (text : List ℕ) → bytes_eq word text ≡ true → word ++ 32 ∷ decimal h ≡ text ++ 32 ∷ decimal h
+    named text same = ap (λ w. w ++ 32 ∷ decimal h) (same_bytes word text same)
+
+-- ---- lines
+
+found_by : {X Y : Type 0} (f : X → Option Y) (o : Option X) (y : Y) → option_and_then f o ≡ Some y → (x : X) × (o ≡ Some x) × (f x ≡ Some y)
+found_by f None y e = absurd cc
+found_by f (Some x) y e = (x, refl, e)
+
+pub step_of-Some : (line : List ℕ) (step : Step) → step_of line ≡ Some step → line ≡ line_text step
+step_of-Some line step e =
+    elim (chosen (bytes_eq line (codes "make")) Make step _ e) [
+      | inl c ↦ same_bytes line (codes "make") c.0 ∙ ap line_text c.1
+      | inr e ↦
+          let found = found_by (λ h. step_named (word_of line) h) (number_of (after_word line)) step e in
+          number_after line found.0 found.1 ∙ step_named-Some (word_of line) found.0 step found.2
+    ]
+
+pub step_of-line_text : (step : Step) → HasHandle step → step_of (line_text step) ≡ Some step
+step_of-line_text Make h = refl
+step_of-line_text (Look n) h = rw (number_of-decimal n h) refl
+step_of-line_text (Clone n) h = rw (number_of-decimal n h) refl
+step_of-line_text (Begin n) h = rw (number_of-decimal n h) refl
+step_of-line_text (Sub n) h = rw (number_of-decimal n h) refl
+step_of-line_text (Back n) h = rw (number_of-decimal n h) refl
+step_of-line_text (Leak n) h = rw (number_of-decimal n h) refl
+step_of-line_text (IntoRaw n) h = rw (number_of-decimal n h) refl
+step_of-line_text (FromRaw n) h = rw (number_of-decimal n h) refl
+
+pub limit_of-Some : (line : List ℕ) (n : ℕ) → limit_of line ≡ Some n → line ≡ limit_text n
+limit_of-Some line n e = limit_by (bytes_eq (word_of line) (codes "limit")) refl e
+  where
+    limit_by : (b : Bool) → bytes_eq (word_of line) (codes "limit") ≡ b → (if b then number_of (after_word line) else None) ≡ Some n → line ≡ limit_text n
+    limit_by true same e = number_after line n e ∙ ap (λ w. w ++ 32 ∷ decimal n) (same_bytes (word_of line) (codes "limit") same)
+    limit_by false same e = absurd cc
+
+pub limit_of-limit_text : (n : ℕ) → n < 2 ^ 64 → limit_of (limit_text n) ≡ Some n
+limit_of-limit_text n h = number_of-decimal n h
+
+-- ---- what a function that computes these says
+
+if_some : {X : Type 0} (o : Option X) (P : X → Type 0) → ((x : X) → o ≡ Some x → P x) → IfSome o P
+if_some None P h = tt
+if_some (Some x) P h = h x refl
+
+module _ (text : List ℕ) (r : Option ℕ) (is : r ≡ number_of text) where
+  pub number_written : IfSome r (λ n. text ≡ decimal n)
+  number_written = if_some r (λ n. text ≡ decimal n) (λ n e. (number_of-Some text n (sym is ∙ e)).0)
+
+  pub number_read : (n : ℕ) → n < 2 ^ 64 → text ≡ decimal n → r ≡ Some n
+  number_read n h e = is ∙ ap number_of e ∙ number_of-decimal n h
+
+module _ (line : List ℕ) (r : Option Step) (is : r ≡ step_of line) where
+  pub step_written : IfSome r (λ step. line ≡ line_text step)
+  step_written = if_some r (λ step. line ≡ line_text step) (λ step e. step_of-Some line step (sym is ∙ e))
+
+  pub step_read : (step : Step) → HasHandle step → line ≡ line_text step → r ≡ Some step
+  step_read step h e = is ∙ ap step_of e ∙ step_of-line_text step h
+
+module _ (line : List ℕ) (r : Option ℕ) (is : r ≡ limit_of line) where
+  pub limit_written : IfSome r (λ n. line ≡ limit_text n)
+  limit_written = if_some r (λ n. line ≡ limit_text n) (λ n e. limit_of-Some line n (sym is ∙ e))
+
+  pub limit_read : (n : ℕ) → n < 2 ^ 64 → line ≡ limit_text n → r ≡ Some n
+  limit_read n h e = is ∙ ap limit_of e ∙ limit_of-limit_text n h

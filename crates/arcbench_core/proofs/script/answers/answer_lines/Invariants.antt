@@ -1,0 +1,11 @@
+use Rattle.std.proofs.Common.{List, ℕ, length, string_bytes}
+use Rattle.arcbench_core.specs.Line.{lines_of}
+use Rattle.arcbench_core.proofs.LinesDone.{LinesDone}
+use Rattle.arcbench_core.proofs.script.answers.answer_lines.Given as goal
+
+abbrev pub invariant-loop-rest : goal.invariant-loop-rest
+invariant-loop-rest g l =
+    (done : List (List ℕ)) × LinesDone (lines_of l.bytes) done (lines_of l.rest) l.initial.world l.world (string_bytes l.initial.out) (string_bytes l.out)
+
+abbrev pub decreases-loop-rest : goal.decreases-loop-rest
+decreases-loop-rest g l = length l.rest

@@ -1,0 +1,7 @@
+use Rattle.std.proofs.Common.{arith}
+use Rattle.std.proofs.lemmas.Grind.{common_steps}
+use Rattle.arcbench_core.proofs.LineTexts.{limit_written}
+use Rattle.arcbench_core.proofs.script.line.limit_of.Goals as goal
+
+pub returns-then-is_text-clause-written : goal.returns-then-is_text-clause-written
+returns-then-is_text-clause-written c = limit_written c.args.line.now _ (grind (arith, common_steps))

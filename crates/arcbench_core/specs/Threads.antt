@@ -1,0 +1,26 @@
+-- What the program prints of callers in threads.
+use Rattle.std.specs.Prelude.{◌≡◌, ℕ, ◌<◌, List, [], ◌∷◌, ◌++◌, length, map, slice_index_or, codes}
+use Rattle.std.specs.Fmt.{decimal}
+use Rattle.std.specs.List.{concat}
+use Rattle.arcstr.specs.TextView.{TextView}
+use Rattle.arcstr_count.specs.History.{numbers_below}
+
+-- the text that the callers share
+abbrev pub shared_text : List ℕ
+shared_text = codes "foobar"
+
+-- each handle of a list reads that text
+abbrev pub ReadSharedText : List TextView → Type 0
+ReadSharedText handles = (worker : ℕ) (d : TextView) → worker < length handles → (slice_index_or handles worker d).text ≡ shared_text
+
+-- the line of a worker: its number, and the text as it reads it
+abbrev pub worker_line : ℕ → List ℕ
+worker_line worker = codes "worker " ++ decimal worker ++ codes " " ++ shared_text ++ 10 ∷ []
+
+-- the lines of the workers, in the order of their numbers
+abbrev pub worker_lines : ℕ → List ℕ
+worker_lines workers = concat (map worker_line (numbers_below workers))
+
+-- all that is printed of so many workers
+abbrev pub threads_answer : ℕ → List ℕ
+threads_answer workers = worker_lines workers ++ codes "done " ++ decimal workers ++ 10 ∷ []

@@ -1,0 +1,68 @@
+//! A reader or a writer that remembers whether it failed.
+ghost use Rattle.std.specs.Prelude.{◌≡◌, ◌||◌, false, is_err, OnOk};
+ghost use Rattle.std.specs.Io.{ReadsAtMost};
+ghost use Rattle.std.specs.Io.KnownBytes.{ReadConsumes, Appends};
+ghost use Rattle.arcbench_core.specs.Port.{PortView};
+
+use std::io;
+use std::io::{Read, Write};
+use std::marker::Model;
+
+/// A reader or a writer with a flag, which the first error of one of its calls sets for good.
+#[derive(Drop)]
+pub struct Port<T> {
+    value: T,
+    failed: bool,
+}
+
+impl<T> Model for Port<T> {
+    ghost Value = { PortView T };
+
+    ghost view = { λ p. record { value = p.value; failed = p.failed } };
+}
+
+impl<T> Port<T> {
+    /// A port that has not failed.
+    pub fn new(value: T) -> Port<T>
+        ensures { result ≡ record { value = value; failed = false } }
+    {
+        Port {
+            value,
+            failed: false,
+        }
+    }
+
+    /// Whether a call has failed.
+    pub fn failed(&self) -> bool
+        ensures { result ≡ self.now.failed }
+    {
+        self.failed
+    }
+}
+
+impl<R: Read> Port<R> {
+    /// One read of the reader.
+    pub fn read(&mut self, buf: &mut [u8]) -> io::Result<usize>
+        ensures bound { ReadsAtMost result buf.new }
+        ensures bytes { ReadConsumes (R.remaining self.old.value) (R.remaining self.new.value)
+            result buf.new }
+        ensures failed { self.new.failed ≡ (self.old.failed || is_err result) }
+    {
+        let result = self.value.read(buf);
+        self.failed = self.failed || result.is_err();
+        result
+    }
+}
+
+impl<W: Write> Port<W> {
+    /// Writes all the bytes to the writer.
+    pub fn write_all(&mut self, bytes: &[u8]) -> io::Result<()>
+        ensures bytes { OnOk result (Appends (W.contents self.old.value) (W.contents self.new.value)
+            bytes.now) }
+        ensures failed { self.new.failed ≡ (self.old.failed || is_err result) }
+    {
+        let result = self.value.write_all(bytes);
+        self.failed = self.failed || result.is_err();
+        result
+    }
+}

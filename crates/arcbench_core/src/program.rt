@@ -1,0 +1,183 @@
+//! The program over its words, a reader and two writers.
+ghost use Rattle.std.specs.Prelude.{◌≡◌, ◌≢◌, ◌≤◌, ◌↔◌, ◌⊎◌, false, IsTrue, IsSome, IfSome, IfOk, IfErr, OnOk, None, Some, Err, vec_len};
+ghost use Rattle.std.specs.Io.KnownBytes.{IsAtEnd, Appends};
+ghost use Rattle.std.specs.IoError.{error_kind};
+ghost use Rattle.arcstr_count.specs.declared.faults.RunFault.TheVariants.{LimitTooLarge};
+ghost use Rattle.arcbench_core.specs.Script.{answer_to};
+ghost use Rattle.arcbench_core.specs.Threads.{ReadSharedText, threads_answer};
+ghost use Rattle.arcbench_core.specs.Program.{command_in, worker_count, status_of, HasLawfulCount, IsForScript, IsForThreads, IsFaultOfThreads, IsDone};
+
+use crate::pool::PoolFault;
+use crate::port::Port;
+use crate::script::{CopyFault, copy, number_of};
+use crate::threads;
+use arcstr::ArcStr;
+use std::alloc::{Allocator, Global};
+use std::io;
+use std::io::{ErrorKind, Read, Write};
+use std::sync::Wait;
+use std::thread::Threads;
+use thiserror::Error;
+
+/// What the program can be asked to do.
+#[derive(Clone, Copy, Debug, PartialEq, Eq)]
+pub enum Command {
+    /// Answers the script on its input.
+    Script,
+    /// Starts so many callers of one text, from 1 to 64.
+    Threads(usize),
+}
+
+/// Why the program ends with a status above 0, in the words that it prints.
+#[derive(Debug, Drop, Error)]
+pub(crate) enum Fault {
+    #[error("usage: arcbench script, arcbench threads N, arcbench tokens N")]
+    Usage,
+    #[error("arcbench: {0}")]
+    Copy(CopyFault),
+    #[error("arcbench: {0}")]
+    Pool(PoolFault),
+}
+
+/// Runs the program, and answers its status: 0 where it is done, 1 for other words, 2 for a limit that
+/// is too large, 3 for want of memory, 4 for a fault of reading or writing, 5 where a thread could not
+/// be started.
+///
+/// The line of a status above 0 goes to `errors`, and a fault in writing it changes no status. `rt` is
+/// the leave to start threads and to wait, and lends the texts of threads the machine's allocator.
+///
+/// No clause can say that memory was there: a body that always answers 3 to a command is caught by the
+/// tests `answers_a_script` and `two_workers_print_their_texts`.
+pub fn serve<H, A: Allocator + Copy, R: Read, W: Write, E: Write>(
+    rt: &H,
+    alloc: A,
+    words: &[String],
+    input: &mut Port<R>,
+    output: &mut Port<W>,
+    errors: &mut E,
+) -> u8
+where
+    H: Threads + Wait + Sync + AllocGlobal,
+    requires input_is_sound { input.old.failed ≡ false }
+    requires output_is_sound { output.old.failed ≡ false }
+
+    ensures statuses { result ≤ 5 }
+    ensures usage { (result ≡ 1) ↔ (command_in words.now ≡ None) }
+    ensures done { result ≡ 0 → IfSome (command_in words.now) (λ command. IsDone command
+        (R.remaining input.old.value) (W.contents output.old.value) (W.contents output.new.value)) }
+    ensures at_end { result ≡ 0 → IsForScript words.now → IsAtEnd (R.remaining input.new.value) }
+    ensures too_large { result ≢ 3 → result ≢ 4 → IsForScript words.now → IfSome (R.remaining input.old.value)
+        (λ script. (result ≡ 2) ↔ (answer_to script ≡ Err LimitTooLarge)) }
+    ensures too_large_of_scripts { result ≡ 2 → IsForScript words.now }
+    ensures memory { result ≡ 3 → IsSome (command_in words.now) }
+    ensures io { (result ≡ 4) ↔ (IsTrue input.new.failed ⊎ IsTrue output.new.failed) }
+    ensures no_thread { result ≡ 5 → IsForThreads words.now }
+
+    // What stays the same.
+    ensures unread { command_in words.now ≢ Some Command.Script → input.new ≡ input.old }
+    ensures unwritten { result ≢ 0 → result ≢ 4 → output.new ≡ output.old }
+    ensures unwritten_unread { IsTrue input.new.failed → output.new ≡ output.old }
+    ensures silent { result ≡ 0 → errors.new ≡ errors.old }
+{
+    let done = match command_of(words) {
+        None => Err(Fault::Usage),
+        Some(Command::Script) => copy(alloc, input, output).map_err(Fault::Copy),
+        Some(Command::Threads(workers)) => {
+            let handles = threads::start(rt, rt.alloc(), workers);
+            tell_threads(rt.alloc(), handles, output)
+        }
+    };
+    status_after(errors, done)
+}
+
+/// Writes the lines of callers once they are all there. Where there are no callers, the fault of the pool
+/// is handed on.
+pub(crate) fn tell_threads<W: Write>(
+    alloc: Global,
+    handles: Result<Vec<ArcStr>, PoolFault>,
+    output: &mut Port<W>,
+) -> Result<(), Fault>
+    requires shared_text { IfOk handles (λ all. ReadSharedText all.items) }
+    requires sound { output.old.failed ≡ false }
+    ensures done { IfOk handles (λ all. OnOk result (Appends (W.contents output.old.value)
+        (W.contents output.new.value) (threads_answer (vec_len all)))) }
+    ensures fault_of_the_pool { IfErr handles (λ fault. result ≡ Err (Fault.Pool fault)) }
+    ensures memory { OnOk handles (result ≢ Err (Fault.Pool PoolFault.NoThread)) }
+    ensures fault { IfErr result IsFaultOfThreads }
+    ensures io { (result ≡ Err (Fault.Copy CopyFault.Io)) ↔ IsTrue output.new.failed }
+    ensures unwritten { IfErr result (λ fault. fault ≢ Fault.Copy CopyFault.Io → output.new ≡ output.old) }
+{
+    let lines = match threads::answer(alloc, handles) {
+        Ok(lines) => lines,
+        Err(fault) => return Err(Fault::Pool(fault)),
+    };
+    match output.write_all(&lines) {
+        Ok(()) => Ok(()),
+        Err(_) => Err(Fault::Copy(CopyFault::Io)),
+    }
+}
+
+/// The status where the program's own words were not to be had: want of memory, or an argument that is
+/// no text, which counts as other words.
+pub fn serve_without_words<E: Write>(errors: &mut E, error: &io::Error) -> u8
+    ensures memory { (result ≡ 3) ↔ (error_kind error.now ≡ ErrorKind.OutOfMemory) }
+    ensures usage { (result ≡ 1) ↔ (error_kind error.now ≢ ErrorKind.OutOfMemory) }
+{
+    if error.kind() == ErrorKind::OutOfMemory {
+        report(errors, &Fault::Copy(CopyFault::Memory))
+    } else {
+        report(errors, &Fault::Usage)
+    }
+}
+
+/// The status 0 where all is done, else that of the fault, whose line is printed.
+pub(crate) fn status_after<E: Write>(errors: &mut E, done: Result<(), Fault>) -> u8
+    ensures ok { OnOk done (result ≡ 0) }
+    ensures silent { OnOk done (errors.new ≡ errors.old) }
+    ensures fault { IfErr done (λ fault. result ≡ status_of fault) }
+{
+    match done {
+        Ok(()) => 0,
+        Err(fault) => report(errors, &fault),
+    }
+}
+
+/// Prints the line of a fault, and answers its status.
+fn report<E: Write>(errors: &mut E, fault: &Fault) -> u8
+    ensures { result ≡ status_of fault.now }
+{
+    let _ = writeln!(errors, "{fault}");
+    match fault {
+        Fault::Usage => 1,
+        Fault::Copy(CopyFault::LimitTooLarge) => 2,
+        Fault::Copy(CopyFault::Memory) => 3,
+        Fault::Copy(CopyFault::Io) => 4,
+        Fault::Pool(PoolFault::Memory) => 3,
+        Fault::Pool(PoolFault::NoThread) => 5,
+    }
+}
+
+/// The command that the words mean, and none for other words.
+fn command_of(words: &[String]) -> Option<Command>
+    ensures value { result ≡ command_in words.now }
+    ensures lawful { IfSome result HasLawfulCount }
+{
+    match words {
+        [word] if word.as_str() == "script" => Some(Command::Script),
+        [word, count] if word.as_str() == "threads" => {
+            worker_count(count.as_bytes()).map(Command::Threads)
+        }
+        _ => None,
+    }
+}
+
+/// The number of workers that a word means: a NUMBER from 1 to 64.
+fn worker_count(word: &[u8]) -> Option<usize>
+    ensures value { result ≡ worker_count word.now }
+    ensures lawful { IfSome result (λ count. (1 ≤ count) × (count ≤ 64)) }
+{
+    match number_of(word) {
+        Some(count) if 1 <= count && count <= 64 => Some(count as usize),
+        _ => None,
+    }
+}

@@ -1,0 +1,102 @@
+//! The answer to a script of steps.
+ghost use Rattle.std.specs.Prelude.{◌≡◌, ◌++◌, ◌∷◌, [], ◌↔◌, List, Ok, IfOk, IfErr, OnOk, string_bytes};
+ghost use Rattle.arcstr_count.specs.declared.steps.Step.{Step};
+ghost use Rattle.arcstr_count.specs.Summary.{StandsFor};
+ghost use Rattle.arcbench_core.specs.Line.{lines_of, step_of};
+ghost use Rattle.arcbench_core.specs.Script.{answer_by, answer_to, answer_under, answers, bad_limit, history_with};
+
+use super::line::{first_line, limit_of, step_of};
+use super::reply::push_reply;
+use arcstr::count::{RunFault, World};
+use std::alloc::Allocator;
+
+/// The answer to a script: `bad limit` where its first line sets no limit, else a line for each of the
+/// other lines, with the reply to its step or `bad`.
+///
+/// `LimitTooLarge` comes exactly where the limit is above `RC_MAX`, and `Memory` only where a growth was
+/// refused. The time is linear in the length of the script.
+pub fn answer<A: Allocator + Copy>(alloc: A, script: &[u8]) -> Result<Vec<u8, A>, RunFault>
+    ensures ok { IfOk result (λ out. answer_to script.now ≡ Ok out.items) }
+    ensures too_large { (result ≡ Err RunFault.LimitTooLarge)
+        ↔ (answer_to script.now ≡ Err RunFault.LimitTooLarge) }
+{
+    if script.is_empty() {
+        return bad_limit(alloc);
+    }
+    let (first, later) = first_line(script);
+    match limit_of(first) {
+        None => bad_limit(alloc),
+        Some(limit) => answer_under(alloc, limit, later),
+    }
+}
+
+/// The answer to a script whose first line sets no limit.
+fn bad_limit<A: Allocator>(alloc: A) -> Result<Vec<u8, A>, RunFault>
+    ensures ok { IfOk result (λ out. out.items ≡ bad_limit) }
+    ensures memory { IfErr result (λ fault. fault ≡ RunFault.Memory) }
+{
+    match String::from_str(alloc, "bad limit\n") {
+        Ok(out) => Ok(out.into_bytes()),
+        Err(_) => Err(RunFault::Memory),
+    }
+}
+
+/// The answers to lines under a limit.
+fn answer_under<A: Allocator + Copy>(
+    alloc: A,
+    limit: u64,
+    later: &[u8],
+) -> Result<Vec<u8, A>, RunFault>
+    ensures ok { IfOk result (λ out. answer_under (Some limit) (lines_of later.now) ≡ Ok out.items) }
+    ensures too_large { (result ≡ Err RunFault.LimitTooLarge)
+        ↔ (answer_under (Some limit) (lines_of later.now) ≡ Err RunFault.LimitTooLarge) }
+{
+    let mut world = World::new(alloc, limit)?;
+    let mut out = String::new(alloc);
+    answer_lines(&mut world, &mut out, later)?;
+    Ok(out.into_bytes())
+}
+
+/// Appends the answer to each line of bytes, of a world that has taken no step.
+fn answer_lines<A: Allocator + Copy>(
+    world: &mut World<A>,
+    out: &mut String<A>,
+    bytes: &[u8],
+) -> Result<(), RunFault>
+    requires { StandsFor world.old [] }
+    ensures text { OnOk result (string_bytes out.new
+        ≡ string_bytes out.old ++ answers world.old.summary.limit (lines_of bytes.now)) }
+    ensures memory { IfErr result (λ fault. fault ≡ RunFault.Memory) }
+{
+    let mut rest = bytes;
+    while !rest.is_empty() {
+        let (line, later) = first_line(rest);
+        answer_line(world, out, line)?;
+        rest = later;
+    }
+    Ok(())
+}
+
+/// Appends the answer to a line, and takes its step.
+fn answer_line<A: Allocator + Copy>(
+    world: &mut World<A>,
+    out: &mut String<A>,
+    line: &[u8],
+) -> Result<(), RunFault>
+    ensures text { OnOk result ((history : List Step) → StandsFor world.old history
+        → string_bytes out.new ≡ string_bytes out.old
+        ++ (answer_by world.old.summary.limit history (step_of line.now) ++ 10 ∷ [])) }
+    ensures stands { OnOk result ((history : List Step) → StandsFor world.old history
+        → StandsFor world.new (history_with history (step_of line.now))) }
+    ensures limit { world.new.summary.limit ≡ world.old.summary.limit }
+    ensures memory { IfErr result (λ fault. fault ≡ RunFault.Memory) }
+{
+    let pushed = match step_of(line) {
+        None => out.push_str("bad"),
+        Some(step) => push_reply(out, world.step(step)?),
+    };
+    if pushed.is_err() || out.push('\n').is_err() {
+        return Err(RunFault::Memory);
+    }
+    Ok(())
+}

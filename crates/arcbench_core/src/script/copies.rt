@@ -1,0 +1,136 @@
+//! A script from a reader, and its answer to a writer.
+ghost use Rattle.std.specs.Prelude.{◌≡◌, ◌≢◌, ◌↔◌, ◌⊎◌, false, IsTrue, IfOk, IfErr, OnOk, IfSome, Some, Err};
+ghost use Rattle.std.specs.Io.KnownBytes.{IsAtEnd};
+ghost use Rattle.arcstr_count.specs.declared.faults.RunFault.TheVariants.{LimitTooLarge as RunLimitTooLarge};
+ghost use Rattle.arcbench_core.specs.Script.{answer_to};
+ghost use Rattle.arcbench_core.specs.Copy.{WritesAnswer, copy_fault_number, copy_fault_text, copy_fault_from};
+
+use super::answers::answer;
+use crate::port::Port;
+use arcstr::count::RunFault;
+use std::alloc::Allocator;
+use std::error::Error;
+use std::fmt;
+use std::io::{Read, Write};
+
+/// Why a script was not answered.
+#[derive(Clone, Copy, Debug, PartialEq, Eq)]
+pub enum CopyFault {
+    /// The limit of the script is above `RC_MAX`.
+    LimitTooLarge,
+    /// There was no memory for the script or its answer.
+    Memory,
+    /// Reading or writing failed.
+    Io,
+}
+
+impl CopyFault {
+    /// The number of the fault, from 1.
+    pub fn number(&self) -> u8
+        ensures { result ≡ copy_fault_number self.now }
+    {
+        match self {
+            CopyFault::LimitTooLarge => 1,
+            CopyFault::Memory => 2,
+            CopyFault::Io => 3,
+        }
+    }
+
+    /// The text of the fault, as it is printed.
+    pub fn text(&self) -> &'static str
+        ensures { result.now ≡ copy_fault_text self.now }
+    {
+        match self {
+            CopyFault::LimitTooLarge => "limit too large",
+            CopyFault::Memory => "out of memory",
+            CopyFault::Io => "io",
+        }
+    }
+}
+
+impl fmt::Display for CopyFault {
+    ghost output = { λ fault. Some (copy_fault_text fault) };
+
+    fn fmt<W: fmt::Write>(&self, f: &mut fmt::Formatter<W>) -> fmt::Result {
+        f.write_str(self.text())
+    }
+}
+
+impl Error for CopyFault {}
+
+impl From<RunFault> for CopyFault {
+    ghost from_gives = { λ fault given. given ≡ copy_fault_from fault };
+
+    fn from(fault: RunFault) -> CopyFault {
+        match fault {
+            RunFault::LimitTooLarge => CopyFault::LimitTooLarge,
+            RunFault::Memory => CopyFault::Memory,
+        }
+    }
+}
+
+/// Reads a script to its end and writes its answer.
+///
+/// While reading, `Io` or `Memory`, whichever comes first; then the faults of `answer`; while writing,
+/// `Io`. All memory is asked for before the first write, so only a fault of writing can leave a part of
+/// the answer written.
+///
+/// A body that always answers `Memory` is caught by the test `copies_the_answer_to_a_script`.
+pub fn copy<A: Allocator + Copy, R: Read, W: Write>(
+    alloc: A,
+    input: &mut Port<R>,
+    output: &mut Port<W>,
+) -> Result<(), CopyFault>
+    requires input_is_sound { input.old.failed ≡ false }
+    requires output_is_sound { output.old.failed ≡ false }
+
+    ensures ok { OnOk result (IfSome (R.remaining input.old.value)
+        (λ script. WritesAnswer script (W.contents output.old.value) (W.contents output.new.value))) }
+    ensures at_end { OnOk result (IsAtEnd (R.remaining input.new.value)) }
+
+    ensures io { (result ≡ Err CopyFault.Io) ↔ (IsTrue input.new.failed ⊎ IsTrue output.new.failed) }
+    ensures too_large { result ≢ Err CopyFault.Memory → result ≢ Err CopyFault.Io
+        → IfSome (R.remaining input.old.value) (λ script.
+        (result ≡ Err CopyFault.LimitTooLarge) ↔ (answer_to script ≡ Err RunLimitTooLarge)) }
+
+    // Nothing was written after any fault but one of writing.
+    ensures unwritten { IfErr result (λ fault. fault ≢ CopyFault.Io → output.new ≡ output.old) }
+    ensures unwritten_unread { IsTrue input.new.failed → output.new ≡ output.old }
+{
+    let script = read_to_end(alloc, input)?;
+    let answer = answer(alloc, &script)?;
+    match output.write_all(&answer) {
+        Ok(()) => Ok(()),
+        Err(_) => Err(CopyFault::Io),
+    }
+}
+
+/// Reads all bytes that are left. Each error of a read ends it, also one of an interrupted read.
+fn read_to_end<A: Allocator, R: Read>(
+    alloc: A,
+    input: &mut Port<R>,
+) -> Result<Vec<u8, A>, CopyFault>
+    requires { input.old.failed ≡ false }
+    ensures bytes { IfOk result (λ script. IfSome (R.remaining input.old.value)
+        (λ bytes. script.items ≡ bytes)) }
+    ensures at_end { OnOk result (IsAtEnd (R.remaining input.new.value)) }
+    ensures io { (result ≡ Err CopyFault.Io) ↔ IsTrue input.new.failed }
+    ensures faults { result ≢ Err CopyFault.LimitTooLarge }
+{
+    let mut script = Vec::new(alloc);
+    let mut chunk = [0; CHUNK];
+    loop {
+        match input.read(&mut chunk) {
+            Err(_) => return Err(CopyFault::Io),
+            Ok(0) => return Ok(script),
+            Ok(count) => {
+                if script.extend_from_slice(&chunk[..count]).is_err() {
+                    return Err(CopyFault::Memory);
+                }
+            }
+        }
+    }
+}
+
+/// How many bytes one read asks for.
+const CHUNK: usize = 8192;

@@ -1,0 +1,9 @@
+mod answers;
+mod copies;
+mod fakes;
+mod lists;
+mod memory;
+mod ports;
+mod statuses;
+mod texts;
+mod threads;

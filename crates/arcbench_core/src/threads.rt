@@ -1,0 +1,72 @@
+//! What the program prints of callers in threads.
+ghost use Rattle.std.specs.Prelude.{◌≡◌, ◌≤◌, length, vec_len, ◌++◌, ◌∷◌, [], IfOk, IfErr, OnOk, Err, string_bytes, codes};
+ghost use Rattle.std.specs.Fmt.{decimal};
+ghost use Rattle.arcbench_core.specs.Threads.{shared_text, ReadSharedText, worker_line, worker_lines, threads_answer};
+
+use crate::pool::{Gate, PoolFault, callers};
+use arcstr::ArcStr;
+use std::alloc::{AllocError, Global};
+use std::sync::Wait;
+use std::thread::Threads;
+
+/// A gate that every worker passes at once.
+struct OpenGate;
+
+impl Gate for OpenGate {
+    fn pass(&self, _worker: usize) {}
+}
+
+/// Starts callers of one text, and hands out their handles.
+pub fn start<R: Threads + Wait + Sync>(
+    rt: &R,
+    alloc: Global,
+    workers: usize,
+) -> Result<Vec<ArcStr>, PoolFault>
+    requires { (1 ≤ workers) × (workers ≤ 64) }
+    ensures one_each { IfOk result (λ handles. vec_len handles ≡ workers) }
+    ensures shared_text { IfOk result (λ handles. ReadSharedText handles.items) }
+{
+    match ArcStr::from_str(alloc, "foobar") {
+        Ok(text) => callers(rt, alloc, &text, workers, &OpenGate),
+        Err(_) => Err(PoolFault::Memory),
+    }
+}
+
+/// The lines of callers: one for each with the text as its handle reads it, and a last one with their
+/// number. Where there are no callers, the fault is that of the pool; else it is `Memory`.
+pub fn answer(alloc: Global, handles: Result<Vec<ArcStr>, PoolFault>) -> Result<Vec<u8>, PoolFault>
+    requires { IfOk handles (λ all. ReadSharedText all.items) }
+    ensures lines { IfOk handles (λ all. IfOk result (λ out. out.items ≡ threads_answer (vec_len all))) }
+    ensures fault_of_the_pool { IfErr handles (λ fault. result ≡ Err fault) }
+    ensures memory { OnOk handles (IfErr result (λ fault. fault ≡ PoolFault.Memory)) }
+{
+    let handles = handles?;
+    let mut out = String::new(alloc);
+    push_lines(&mut out, &handles)?;
+    push_end(&mut out, handles.len())?;
+    Ok(out.into_bytes())
+}
+
+/// Appends the line of each worker, in the order of their handles.
+fn push_lines(out: &mut String, handles: &[ArcStr]) -> Result<(), AllocError>
+    requires { ReadSharedText handles.now }
+    ensures { OnOk result (string_bytes out.new ≡ string_bytes out.old ++ worker_lines (length handles.now)) }
+{
+    for (worker, handle) in handles.iter().enumerate() {
+        push_line(out, worker, handle)?;
+    }
+    Ok(())
+}
+
+fn push_line(out: &mut String, worker: usize, handle: &ArcStr) -> Result<(), AllocError>
+    ensures { OnOk result (handle.now.text ≡ shared_text → string_bytes out.new ≡ string_bytes out.old ++ worker_line worker) }
+{
+    let text = handle.as_str();
+    write!(out, "worker {worker} {text}\n")
+}
+
+fn push_end(out: &mut String, workers: usize) -> Result<(), AllocError>
+    ensures { OnOk result (string_bytes out.new ≡ string_bytes out.old ++ codes "done " ++ decimal workers ++ 10 ∷ []) }
+{
+    write!(out, "done {workers}\n")
+}

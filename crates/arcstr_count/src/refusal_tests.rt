@@ -1,0 +1,162 @@
+//! Requests for memory of a run, and of a world's steps, refused in turn.
+use crate::faults::RunFault;
+use crate::runs::run;
+use crate::steps::{Reply, Step};
+use crate::worlds::World;
+use linked_list_allocator::LocalHeap;
+use std::process::Abort;
+use std::test::Fail;
+
+/// The least block that a heap hands out, in bytes.
+const GRAIN: usize = 16;
+
+/// So many grains are room for all the steps.
+const GRAINS: usize = 96;
+
+const LIMIT: u64 = 9;
+
+/// A block is given back, and then handles and blocks are made until both tables have grown again.
+const STEPS: [Step; 14] = [
+    Step::Make,
+    Step::Begin(0),
+    Step::Sub(0),
+    Step::Back(0),
+    Step::Make,
+    Step::Clone(1),
+    Step::Clone(1),
+    Step::Clone(1),
+    Step::Make,
+    Step::Make,
+    Step::Make,
+    Step::Make,
+    Step::Look(1),
+    Step::Look(8),
+];
+
+const REPLIES: [Reply; 14] = [
+    Reply::Made(0),
+    Reply::Looked,
+    Reply::Owes,
+    Reply::Given,
+    Reply::Made(1),
+    Reply::Handle(2),
+    Reply::Handle(3),
+    Reply::Handle(4),
+    Reply::Made(5),
+    Reply::Made(6),
+    Reply::Made(7),
+    Reply::Made(8),
+    Reply::Count(4),
+    Reply::Count(1),
+];
+
+/// On heaps with more and more room each request that wants more than those before it is once the first
+/// that is refused.
+#[test]
+fn a_run_answers_or_is_out_of_memory(rt: HostRuntime) -> Result<(), Fail> {
+    let mut answered = false;
+    for grains in 1..GRAINS {
+        let heap = LocalHeap::new(rt.alloc(), grains * GRAIN)?;
+        match run(&heap, LIMIT, &STEPS) {
+            Ok(replies) => {
+                assert_eq!(rt; replies.as_slice(), REPLIES.as_slice());
+                answered = true;
+            }
+            Err(fault) => {
+                assert_eq!(rt; fault, RunFault::Memory);
+                assert!(rt; !answered, "{grains}");
+            }
+        }
+        assert_eq!(rt; heap.used(), 0);
+    }
+    assert!(rt; answered);
+    Ok(())
+}
+
+/// A step that was refused: its place in the list, and whether one of the two tables had grown for it.
+#[derive(Clone, Copy, Debug, PartialEq, Eq)]
+struct Refusal {
+    place: usize,
+    grown: bool,
+}
+
+/// The refusals, from a heap that has room to one that has none. A table has room for four entries at
+/// first, and then for twice as many: so the handles grow at the first step, a `Clone` and the last
+/// `Make`, the blocks at the first step and the `Make` before the last.
+const REFUSALS: [Option<Refusal>; 6] = [
+    None,
+    Some(Refusal {
+        place: 11,
+        grown: false,
+    }),
+    Some(Refusal {
+        place: 10,
+        grown: false,
+    }),
+    Some(Refusal {
+        place: 7,
+        grown: false,
+    }),
+    Some(Refusal {
+        place: 0,
+        grown: true,
+    }),
+    Some(Refusal {
+        place: 0,
+        grown: false,
+    }),
+];
+
+#[test]
+fn a_refused_step_answers_as_if_nothing_had_happened(rt: HostRuntime) -> Result<(), Fail> {
+    let mut refusals = Vec::new(rt.alloc());
+    for grains in 0..GRAINS {
+        let heap = LocalHeap::new(rt.alloc(), GRAINS * GRAIN)?;
+        let refusal = first_refusal(&rt, &heap, grains * GRAIN)?;
+        if refusals.last() != Some(&refusal) {
+            refusals.push(refusal)?;
+        }
+    }
+    assert_eq!(rt; refusals.as_slice(), REFUSALS.as_slice());
+    Ok(())
+}
+
+/// Takes the steps beside a ballast of so many bytes, which is let go at the first refusal: then the same
+/// step answers. Hands out the refusal, where there was one.
+fn first_refusal(rt: &impl Abort, heap: &LocalHeap, bytes: usize) -> Result<Option<Refusal>, Fail> {
+    let mut world = World::new(heap, LIMIT)?;
+    let mut ballast = Some(Vec::<u8, &LocalHeap>::with_capacity(heap, bytes)?);
+    let mut refusal = None;
+    for (place, (step, wanted)) in STEPS.iter().zip(REPLIES).enumerate() {
+        let given = given_of_each(&world);
+        let used = heap.used();
+        let reply = match world.step(*step) {
+            Ok(reply) => reply,
+            Err(fault) => {
+                assert_eq!(rt; fault, RunFault::Memory);
+                assert_eq!(rt; given_of_each(&world), given);
+                assert_eq!(rt; refusal, None);
+                refusal = Some(Refusal {
+                    place,
+                    grown: heap.used() > used,
+                });
+                drop(ballast.take());
+                world.step(*step)?
+            }
+        };
+        assert_eq!(rt; reply, wanted);
+    }
+    Ok(refusal)
+}
+
+/// How often each of the six blocks was given back.
+fn given_of_each(world: &World<&LocalHeap>) -> [u64; 6] {
+    [
+        world.given(0),
+        world.given(1),
+        world.given(2),
+        world.given(3),
+        world.given(4),
+        world.given(5),
+    ]
+}
