@@ -4,3 +4,4 @@ pub mod Examples
 pub mod Joined
 pub mod LinesDone
 pub mod LineTexts
+pub mod TokensPrinted
