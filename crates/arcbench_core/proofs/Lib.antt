@@ -5,3 +5,4 @@ pub mod Joined
 pub mod LinesDone
 pub mod LineTexts
 pub mod TokensPrinted
+pub mod Utf8Known

@@ -40,13 +40,15 @@ lines_of_lists-push number (first ∷ lists) list =
     ∙ sym (append_assoc (slice_lines number first.items) (lines_of_lists (number + 1) lists) (slice_lines (number + 1 + length lists) list.items))
     ∙ ap (λ n. (slice_lines number first.items ++ lines_of_lists (number + 1) lists) ++ slice_lines n list.items) same
 
-pub lines_of_lists-more : (lists : List TokenList) (k : ℕ) (list : TokenList) → k < length lists → list ≡ get_or lists k list
-    → lines_of_lists 0 (take (k + 1) lists) ≡ lines_of_lists 0 (take k lists) ++ slice_lines k list.items
-lines_of_lists-more lists k list within read =
+pub lines_of_lists-more : (lists : List TokenList) (k : ℕ) (list : TokenList) (slices : List SubstrView) → k < length lists
+    → list ≡ get_or lists k list → slices ≡ list.items
+    → lines_of_lists 0 (take (k + 1) lists) ≡ lines_of_lists 0 (take k lists) ++ slice_lines k slices
+lines_of_lists-more lists k list slices within read same =
     let number : 0 + length (take k lists) ≡ k = omega (arith, length-take-le k lists (omega arith)) in
     ap (lines_of_lists 0) (take_more lists k list within) ∙ lines_of_lists-push 0 (take k lists) (get_or lists k list)
     ∙ ap (λ n. lines_of_lists 0 (take k lists) ++ slice_lines n (get_or lists k list).items) number
     ∙ ap (λ (l : TokenList). lines_of_lists 0 (take k lists) ++ slice_lines k l.items) (sym read)
+    ∙ ap (λ s. lines_of_lists 0 (take k lists) ++ slice_lines k s) (sym same)
 
 -- the lines of the tokens of a text are those of its words
 slice_lines-words : (number : ℕ) (text : TextView) (words : List (ℕ × ℕ))
