@@ -4,3 +4,5 @@ pub mod Examples
 pub mod Joined
 pub mod LinesDone
 pub mod LineTexts
+pub mod TokensPrinted
+pub mod Utf8Known

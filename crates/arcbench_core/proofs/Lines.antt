@@ -36,3 +36,9 @@ cut p bytes h (inr absent) =
 
 pub lines_of-first : (bytes : List ℕ) → 0 < length bytes → lines_of bytes ≡ before_first (λ b. b == 10) bytes ∷ lines_of (after_first (λ b. b == 10) bytes)
 lines_of-first bytes h = cut (λ b. b == 10) bytes h (cases_lt (position_or_len (λ b. b == 10) bytes) (length bytes))
+
+-- bytes with no byte 10 are one line
+pub lines_of-none : (bytes : List ℕ) → 0 < length bytes → position_or_len (λ b. b == 10) bytes ≡ length bytes → lines_of bytes ≡ bytes ∷ []
+lines_of-none bytes h absent =
+    let past : length bytes ≤ position_or_len (λ b. b == 10) bytes = omega (arith, absent) in
+    rw (slice_split_none (λ b. b == 10) bytes (none_passes (λ b. b == 10) bytes past)) (without_empty_last-one bytes h)

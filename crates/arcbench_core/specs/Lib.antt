@@ -7,3 +7,4 @@ pub mod Copy
 pub mod Program
 pub mod Pool
 pub mod Threads
+pub mod TokenLines

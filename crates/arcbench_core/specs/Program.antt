@@ -1,17 +1,18 @@
 -- What the words of the program mean, what each command writes, and the status of each fault.
-use Rattle.std.specs.Prelude.{ℕ, ◌≤◌, ◌&&◌, nat_le, if◌then◌else◌, List, [], ◌∷◌, Option, None, Some, option_and_then, option_map, IfSome, String, string_bytes, codes, map, ◌≡◌}
+use Rattle.std.specs.Prelude.{ℕ, ◌≤◌, ◌&&◌, nat_le, if◌then◌else◌, List, [], ◌∷◌, Option, None, Some, option_and_then, option_map, IfSome, String, string_bytes, codes, map, ◌≡◌, ◌⊎◌}
 use Rattle.std.specs.declared.alloc.Global.{Global}
 use Rattle.std.specs.Str.{bytes_eq}
 use Rattle.std.specs.Io.KnownBytes.{Appends}
 use Rattle.arcbench_core.specs.declared.program.Command.{Command}
-use Rattle.arcbench_core.specs.declared.program.Command.TheVariants.{Script, Threads}
+use Rattle.arcbench_core.specs.declared.program.Command.TheVariants.{Script, Threads, Tokens}
 use Rattle.arcbench_core.specs.declared.program.Fault.{Fault}
-use Rattle.arcbench_core.specs.declared.program.Fault.TheVariants.{Usage, Copy, Pool}
+use Rattle.arcbench_core.specs.declared.program.Fault.TheVariants.{Usage, Copy, Pool, NotUtf8}
 use Rattle.arcbench_core.specs.declared.script.copies.CopyFault.TheVariants.{LimitTooLarge, Memory, Io}
 use Rattle.arcbench_core.specs.declared.pool.PoolFault.TheVariants.{Memory as PoolMemory, NoThread}
 use Rattle.arcbench_core.specs.Copy.{WritesAnswer}
 use Rattle.arcbench_core.specs.Line.{number_of}
 use Rattle.arcbench_core.specs.Threads.{threads_answer}
+use Rattle.arcbench_core.specs.TokenLines.{WritesTokens}
 
 -- a number of workers, where it is lawful: from 1 to 64
 abbrev pub lawful_count : ℕ → Option ℕ
@@ -21,12 +22,17 @@ lawful_count n = if nat_le 1 n && nat_le n 64 then Some n else None
 abbrev pub worker_count : List ℕ → Option ℕ
 worker_count word = option_and_then (λ n. lawful_count n) (number_of word)
 
--- the command that words mean: `script` alone, or `threads` and a number of workers; other words mean none
+-- the command that a word and a number of workers mean: `threads` or `tokens`
+abbrev pub command_for : List ℕ → Option ℕ → Option Command
+command_for word count =
+    if bytes_eq word (codes "threads") then option_map (λ n. Threads n) count
+    else (if bytes_eq word (codes "tokens") then option_map (λ n. Tokens n) count else None)
+
+-- the command that words mean: `script` alone, or `threads` or `tokens` and a number of workers; other words mean none
 abbrev pub command_of : List (List ℕ) → Option Command
 command_of [] = None
 command_of (word ∷ []) = if bytes_eq word (codes "script") then Some Script else None
-command_of (word ∷ count ∷ []) =
-    if bytes_eq word (codes "threads") then option_map (λ n. Threads n) (worker_count count) else None
+command_of (word ∷ count ∷ []) = command_for word (worker_count count)
 command_of (word ∷ next ∷ third ∷ more) = None
 
 -- the command that the program's words mean
@@ -41,15 +47,26 @@ IsForScript words = command_in words ≡ Some Script
 abbrev pub IsForThreads : List (String Global) → Type 0
 IsForThreads words = (n : ℕ) × (command_in words ≡ Some (Threads n))
 
--- a command for threads has from 1 to 64 workers
+-- the words mean `tokens` and a number of workers
+abbrev pub IsForTokens : List (String Global) → Type 0
+IsForTokens words = (n : ℕ) × (command_in words ≡ Some (Tokens n))
+
+-- the words mean a command that reads its input: `script`, or `tokens` and a number of workers
+abbrev pub ReadsInput : List (String Global) → Type 0
+ReadsInput words = IsForScript words ⊎ IsForTokens words
+
+-- a command for threads or tokens has from 1 to 64 workers
 abbrev pub HasLawfulCount : Command → Type 0
 HasLawfulCount Script = Unit {0}
 HasLawfulCount (Threads n) = (1 ≤ n) × (n ≤ 64)
+HasLawfulCount (Tokens n) = (1 ≤ n) × (n ≤ 64)
 
--- what a command that is done wrote: the answer to the script that was read, or the lines of the workers
+-- what a command that is done wrote: the answer to the script that was read, the lines of the workers, or the lines of the words
+-- of the input that was read
 abbrev pub IsDone : Command → Option (List ℕ) → Option (List ℕ) → Option (List ℕ) → Type 0
 IsDone Script input old new = IfSome input (λ script. WritesAnswer script old new)
 IsDone (Threads n) input old new = Appends old new (threads_answer n)
+IsDone (Tokens n) input old new = IfSome input (λ bytes. WritesTokens bytes old new)
 
 -- what a command for threads can end in: a fault of the pool or of writing
 abbrev pub IsFaultOfThreads : Fault → Type 0
@@ -58,6 +75,16 @@ IsFaultOfThreads (Copy LimitTooLarge) = ⊥
 IsFaultOfThreads (Copy Memory) = ⊥
 IsFaultOfThreads (Copy Io) = Unit {0}
 IsFaultOfThreads (Pool fault) = Unit {0}
+IsFaultOfThreads NotUtf8 = ⊥
+
+-- what a command for tokens can end in: want of memory, a fault of reading or writing, or an input that is not UTF-8
+abbrev pub IsFaultOfTokens : Fault → Type 0
+IsFaultOfTokens Usage = ⊥
+IsFaultOfTokens (Copy LimitTooLarge) = ⊥
+IsFaultOfTokens (Copy Memory) = Unit {0}
+IsFaultOfTokens (Copy Io) = Unit {0}
+IsFaultOfTokens (Pool fault) = ⊥
+IsFaultOfTokens NotUtf8 = Unit {0}
 
 -- the status of the program after a fault
 abbrev pub status_of : Fault → ℕ
@@ -67,3 +94,4 @@ status_of (Copy Memory) = 3
 status_of (Copy Io) = 4
 status_of (Pool PoolMemory) = 3
 status_of (Pool NoThread) = 5
+status_of NotUtf8 = 6

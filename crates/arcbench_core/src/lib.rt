@@ -9,3 +9,4 @@ pub mod script;
 #[cfg(test)]
 mod tests;
 pub mod threads;
+pub mod tokens;

@@ -2,15 +2,18 @@
 ghost use Rattle.std.specs.Prelude.{◌≡◌, ◌≢◌, ◌≤◌, ◌↔◌, ◌⊎◌, false, IsTrue, IsSome, IfSome, IfOk, IfErr, OnOk, None, Some, Err, vec_len};
 ghost use Rattle.std.specs.Io.KnownBytes.{IsAtEnd, Appends};
 ghost use Rattle.std.specs.IoError.{error_kind};
+ghost use Rattle.std.specs.Str.{IsUtf8};
 ghost use Rattle.arcstr_count.specs.declared.faults.RunFault.TheVariants.{LimitTooLarge};
 ghost use Rattle.arcbench_core.specs.Script.{answer_to};
 ghost use Rattle.arcbench_core.specs.Threads.{ReadSharedText, threads_answer};
-ghost use Rattle.arcbench_core.specs.Program.{command_in, worker_count, status_of, HasLawfulCount, IsForScript, IsForThreads, IsFaultOfThreads, IsDone};
+ghost use Rattle.arcbench_core.specs.TokenLines.{WritesTokens};
+ghost use Rattle.arcbench_core.specs.Program.{command_in, worker_count, status_of, HasLawfulCount, IsForScript, IsForThreads, IsForTokens, IsFaultOfThreads, IsFaultOfTokens, IsDone, ReadsInput};
 
 use crate::pool::PoolFault;
 use crate::port::Port;
-use crate::script::{CopyFault, copy, number_of};
-use crate::threads;
+use crate::script::{CopyFault, copy, number_of, read_to_end};
+use crate::tokens::TokensFault;
+use crate::{threads, tokens};
 use arcstr::ArcStr;
 use std::alloc::{Allocator, Global};
 use std::io;
@@ -26,6 +29,8 @@ pub enum Command {
     Script,
     /// Starts so many callers of one text, from 1 to 64.
     Threads(usize),
+    /// Prints the words of the lines of its input, which so many workers find, from 1 to 64.
+    Tokens(usize),
 }
 
 /// Why the program ends with a status above 0, in the words that it prints.
@@ -37,17 +42,19 @@ pub(crate) enum Fault {
     Copy(CopyFault),
     #[error("arcbench: {0}")]
     Pool(PoolFault),
+    #[error("arcbench: not UTF-8")]
+    NotUtf8,
 }
 
 /// Runs the program, and answers its status: 0 where it is done, 1 for other words, 2 for a limit that
 /// is too large, 3 for want of memory, 4 for a fault of reading or writing, 5 where a thread could not
-/// be started.
+/// be started, 6 where the input for words is not UTF-8.
 ///
 /// The line of a status above 0 goes to `errors`, and a fault in writing it changes no status. `rt` is
 /// the leave to start threads and to wait, and lends the texts of threads the machine's allocator.
 ///
 /// No clause can say that memory was there: a body that always answers 3 to a command is caught by the
-/// tests `answers_a_script` and `two_workers_print_their_texts`.
+/// tests `answers_a_script`, `two_workers_print_their_texts` and `prints_the_words_of_each_line`.
 pub fn serve<H, A: Allocator + Copy, R: Read, W: Write, E: Write>(
     rt: &H,
     alloc: A,
@@ -61,20 +68,23 @@ where
     requires input_is_sound { input.old.failed ≡ false }
     requires output_is_sound { output.old.failed ≡ false }
 
-    ensures statuses { result ≤ 5 }
+    ensures statuses { result ≤ 6 }
     ensures usage { (result ≡ 1) ↔ (command_in words.now ≡ None) }
     ensures done { result ≡ 0 → IfSome (command_in words.now) (λ command. IsDone command
         (R.remaining input.old.value) (W.contents output.old.value) (W.contents output.new.value)) }
-    ensures at_end { result ≡ 0 → IsForScript words.now → IsAtEnd (R.remaining input.new.value) }
+    ensures at_end { result ≡ 0 → ReadsInput words.now → IsAtEnd (R.remaining input.new.value) }
     ensures too_large { result ≢ 3 → result ≢ 4 → IsForScript words.now → IfSome (R.remaining input.old.value)
         (λ script. (result ≡ 2) ↔ (answer_to script ≡ Err LimitTooLarge)) }
     ensures too_large_of_scripts { result ≡ 2 → IsForScript words.now }
     ensures memory { result ≡ 3 → IsSome (command_in words.now) }
     ensures io { (result ≡ 4) ↔ (IsTrue input.new.failed ⊎ IsTrue output.new.failed) }
     ensures no_thread { result ≡ 5 → IsForThreads words.now }
+    ensures not_utf8 { result ≢ 3 → result ≢ 4 → IsForTokens words.now → IfSome (R.remaining input.old.value)
+        (λ bytes. (result ≡ 6) ↔ ¬ (IsUtf8 bytes)) }
+    ensures not_utf8_of_tokens { result ≡ 6 → IsForTokens words.now }
 
     // What stays the same.
-    ensures unread { command_in words.now ≢ Some Command.Script → input.new ≡ input.old }
+    ensures unread { ¬ (ReadsInput words.now) → input.new ≡ input.old }
     ensures unwritten { result ≢ 0 → result ≢ 4 → output.new ≡ output.old }
     ensures unwritten_unread { IsTrue input.new.failed → output.new ≡ output.old }
     ensures silent { result ≡ 0 → errors.new ≡ errors.old }
@@ -86,6 +96,7 @@ where
             let handles = threads::start(rt, rt.alloc(), workers);
             tell_threads(rt.alloc(), handles, output)
         }
+        Some(Command::Tokens(workers)) => tell_tokens(rt, alloc, workers, input, output),
     };
     status_after(errors, done)
 }
@@ -110,6 +121,46 @@ pub(crate) fn tell_threads<W: Write>(
     let lines = match threads::answer(alloc, handles) {
         Ok(lines) => lines,
         Err(fault) => return Err(Fault::Pool(fault)),
+    };
+    match output.write_all(&lines) {
+        Ok(()) => Ok(()),
+        Err(_) => Err(Fault::Copy(CopyFault::Io)),
+    }
+}
+
+/// Reads the input to its end, and writes the lines of its words once they are all there. `rt` lends the
+/// texts and their words the machine's allocator.
+fn tell_tokens<H, A: Allocator + Copy, R: Read, W: Write>(
+    rt: &H,
+    alloc: A,
+    workers: usize,
+    input: &mut Port<R>,
+    output: &mut Port<W>,
+) -> Result<(), Fault>
+where
+    H: Threads + Wait + Sync + AllocGlobal,
+    requires workers { (1 ≤ workers) × (workers ≤ 64) }
+    requires input_is_sound { input.old.failed ≡ false }
+    requires output_is_sound { output.old.failed ≡ false }
+
+    ensures done { OnOk result (IfSome (R.remaining input.old.value)
+        (λ bytes. WritesTokens bytes (W.contents output.old.value) (W.contents output.new.value))) }
+    ensures at_end { OnOk result (IsAtEnd (R.remaining input.new.value)) }
+    ensures fault { IfErr result IsFaultOfTokens }
+    ensures io { (result ≡ Err (Fault.Copy CopyFault.Io)) ↔ (IsTrue input.new.failed ⊎ IsTrue output.new.failed) }
+    ensures not_utf8 { result ≢ Err (Fault.Copy CopyFault.Memory) → result ≢ Err (Fault.Copy CopyFault.Io)
+        → IfSome (R.remaining input.old.value) (λ bytes. (result ≡ Err Fault.NotUtf8) ↔ ¬ (IsUtf8 bytes)) }
+    ensures unwritten { IfErr result (λ fault. fault ≢ Fault.Copy CopyFault.Io → output.new ≡ output.old) }
+    ensures unwritten_unread { IsTrue input.new.failed → output.new ≡ output.old }
+{
+    let bytes = match read_to_end(alloc, input) {
+        Ok(bytes) => bytes,
+        Err(fault) => return Err(Fault::Copy(fault)),
+    };
+    let lines = match tokens::answer(rt, alloc, workers, &bytes) {
+        Ok(lines) => lines,
+        Err(TokensFault::Memory) => return Err(Fault::Copy(CopyFault::Memory)),
+        Err(TokensFault::NotUtf8) => return Err(Fault::NotUtf8),
     };
     match output.write_all(&lines) {
         Ok(()) => Ok(()),
@@ -154,6 +205,7 @@ fn report<E: Write>(errors: &mut E, fault: &Fault) -> u8
         Fault::Copy(CopyFault::Io) => 4,
         Fault::Pool(PoolFault::Memory) => 3,
         Fault::Pool(PoolFault::NoThread) => 5,
+        Fault::NotUtf8 => 6,
     }
 }
 
@@ -166,6 +218,9 @@ fn command_of(words: &[String]) -> Option<Command>
         [word] if word.as_str() == "script" => Some(Command::Script),
         [word, count] if word.as_str() == "threads" => {
             worker_count(count.as_bytes()).map(Command::Threads)
+        }
+        [word, count] if word.as_str() == "tokens" => {
+            worker_count(count.as_bytes()).map(Command::Tokens)
         }
         _ => None,
     }

@@ -7,3 +7,4 @@ mod ports;
 mod statuses;
 mod texts;
 mod threads;
+mod tokens;

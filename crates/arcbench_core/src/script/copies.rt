@@ -106,7 +106,7 @@ pub fn copy<A: Allocator + Copy, R: Read, W: Write>(
 }
 
 /// Reads all bytes that are left. Each error of a read ends it, also one of an interrupted read.
-fn read_to_end<A: Allocator, R: Read>(
+pub(crate) fn read_to_end<A: Allocator, R: Read>(
     alloc: A,
     input: &mut Port<R>,
 ) -> Result<Vec<u8, A>, CopyFault>

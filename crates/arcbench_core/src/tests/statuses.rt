@@ -39,6 +39,15 @@ pub fn run_program<R: Threads + Wait + Sync + AllocGlobal>(
     script: &str,
     at: FailsAt,
 ) -> Result<Outcome, AllocError> {
+    run_on_bytes(rt, words, script.as_bytes(), at)
+}
+
+pub fn run_on_bytes<R: Threads + Wait + Sync + AllocGlobal>(
+    rt: &R,
+    words: &[&str],
+    bytes: &[u8],
+    at: FailsAt,
+) -> Result<Outcome, AllocError> {
     let alloc = rt.alloc();
     let mut owned = Vec::new(alloc);
     for word in words {
@@ -46,7 +55,7 @@ pub fn run_program<R: Threads + Wait + Sync + AllocGlobal>(
     }
     let mut errors = FakeWriter::new(Vec::new(alloc), at.error);
     let mut writer = FakeWriter::new(Vec::new(alloc), at.write);
-    let mut input = Port::new(FakeReader::new(script.as_bytes(), at.read));
+    let mut input = Port::new(FakeReader::new(bytes, at.read));
     let mut output = Port::new(&mut writer);
     let status = serve(rt, alloc, &owned, &mut input, &mut output, &mut errors);
     Ok(Outcome {
@@ -77,7 +86,7 @@ fn prints_its_usage(rt: HostRuntime) -> Result<(), Fail> {
         &["Script"],
         &["script", ""],
         &["threads"],
-        &["tokens", "2"],
+        &["tokens"],
         &["script", "script"],
     ];
     for words in lists {

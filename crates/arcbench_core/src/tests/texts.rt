@@ -1,4 +1,4 @@
-//! The first script, its answer, and the lines of the faults.
+//! The first script and its answer, lines and their words, and the lines of the faults.
 pub const FIRST_SCRIPT: &str = "limit 5\nmake\nclone 0\nlook 1\nbegin 0\nsub 0\nlook 1\n";
 
 pub const FIRST_ANSWER: &str = "made 0\nhandle 1\ncount 2\nlooked\nleft\ncount 1\n";
@@ -12,3 +12,9 @@ pub const NO_MEMORY: &str = "arcbench: out of memory\n";
 pub const IO: &str = "arcbench: io\n";
 
 pub const NO_THREAD: &str = "arcbench: no thread\n";
+
+pub const NOT_UTF8: &str = "arcbench: not UTF-8\n";
+
+pub const LINES: &str = "foo   bar\n\naé b\n";
+
+pub const WORDS_OF_LINES: &str = "0 0..3 foo\n0 6..9 bar\n2 0..3 aé\n2 4..5 b\n";

@@ -1,0 +1,142 @@
+//! What the program prints of the words of its input's lines.
+ghost use Rattle.std.specs.Prelude.{◌≡◌, ◌≢◌, ◌≤◌, ◌<◌, ◌↔◌, ◌∷◌, ◌++◌, length, map, IfOk, IfErr, OnOk, Err, string_bytes};
+ghost use Rattle.std.specs.Str.{IsUtf8};
+ghost use Rattle.arcstr.specs.TextView.{TextView};
+ghost use Rattle.arcbench_core.specs.Line.{lines_of};
+ghost use Rattle.arcbench_core.specs.TokenLines.{IsTokenAnswer, lines_of_lists, slice_line, slice_lines, texts_of};
+
+use arcstr::{ArcStr, Substr};
+use arctokens::tokens_all;
+use std::alloc::{AllocError, Allocator, Global};
+use std::str;
+use std::sync::Wait;
+use std::thread::Threads;
+
+/// Why the words of an input are not printed.
+#[derive(Clone, Copy, Debug, PartialEq, Eq)]
+pub enum TokensFault {
+    /// There was no memory for the texts, their words or the lines.
+    Memory,
+    /// The input is not UTF-8.
+    NotUtf8,
+}
+
+/// The lines of the words of an input: each of its lines, cut at byte 10, is a text, and each word of a
+/// text is a line `I A..B TEXT`, with the number of the text from 0, and the places and the bytes of the
+/// word. So many workers find the words.
+///
+/// That the input is UTF-8 is tested before all else. A line that is too long for a text is want of memory.
+pub fn answer<H, A: Allocator>(
+    rt: &H,
+    alloc: A,
+    workers: usize,
+    input: &[u8],
+) -> Result<Vec<u8, A>, TokensFault>
+where
+    H: Threads + Wait + Sync + AllocGlobal,
+    requires { (1 ≤ workers) × (workers ≤ 64) }
+    ensures ok { IfOk result (λ lines. IsTokenAnswer input.now lines.items) }
+    ensures not_utf8 { (result ≡ Err TokensFault.NotUtf8) ↔ ¬ (IsUtf8 input.now) }
+{
+    let Ok(text) = str::from_utf8(input) else {
+        return Err(TokensFault::NotUtf8);
+    };
+    match lines_of_words(rt, alloc, workers, text) {
+        Ok(lines) => Ok(lines.into_bytes()),
+        Err(_) => Err(TokensFault::Memory),
+    }
+}
+
+/// The same of an input that is UTF-8.
+fn lines_of_words<H, A: Allocator>(
+    rt: &H,
+    alloc: A,
+    workers: usize,
+    input: &str,
+) -> Result<String<A>, AllocError>
+where
+    H: Threads + Wait + Sync + AllocGlobal,
+    requires { (1 ≤ workers) × (workers ≤ 64) }
+    ensures { IfOk result (λ lines. IsTokenAnswer input.now (string_bytes lines)) }
+{
+    let texts = texts_of(rt.alloc(), input)?;
+    let lists = tokens_all(rt, rt.alloc(), &texts, workers)?;
+    let mut lines = String::new(alloc);
+    push_lists(&mut lines, &lists)?;
+    Ok(lines)
+}
+
+/// A text for each line of the input, in order.
+fn texts_of(alloc: Global, input: &str) -> Result<Vec<ArcStr>, AllocError>
+    ensures { IfOk result (λ texts. texts_of texts.items ≡ lines_of input.now) }
+{
+    let mut texts = Vec::new(alloc);
+    let mut rest = input;
+    while !rest.is_empty() {
+        let (line, later) = first_line(rest);
+        texts.push(text_of(alloc, line)?)?;
+        rest = later;
+    }
+    Ok(texts)
+}
+
+/// The first line of a text, and what comes after it.
+fn first_line(text: &str) -> (&str, &str)
+    requires { 0 < length text.now }
+    ensures lines { lines_of text.now ≡ result.0.now ∷ lines_of result.1.now }
+    ensures shorter { length result.1.now < length text.now }
+{
+    match text.split_once('\n') {
+        Some(parts) => parts,
+        None => (text, ""),
+    }
+}
+
+/// A text of its own. One that is too long is want of memory, too.
+fn text_of(alloc: Global, line: &str) -> Result<ArcStr, AllocError>
+    ensures { IfOk result (λ text. text.text ≡ line.now) }
+{
+    match ArcStr::from_str(alloc, line) {
+        Ok(text) => Ok(text),
+        Err(_) => Err(AllocError),
+    }
+}
+
+/// Appends the lines of all slices: those of each list under its number.
+fn push_lists<A: Allocator>(out: &mut String<A>, lists: &[Vec<Substr>]) -> Result<(), AllocError>
+    ensures { OnOk result (string_bytes out.new ≡ string_bytes out.old ++ lines_of_lists 0 lists.now) }
+{
+    for (number, list) in lists.iter().enumerate() {
+        push_slices(out, number, list)?;
+    }
+    Ok(())
+}
+
+/// Appends the lines of slices of one text.
+fn push_slices<A: Allocator>(
+    out: &mut String<A>,
+    number: usize,
+    slices: &[Substr],
+) -> Result<(), AllocError>
+    ensures { OnOk result (string_bytes out.new ≡ string_bytes out.old ++ slice_lines number slices.now) }
+{
+    for slice in slices {
+        push_slice(out, number, slice)?;
+    }
+    Ok(())
+}
+
+/// Appends the line of a slice.
+fn push_slice<A: Allocator>(
+    out: &mut String<A>,
+    number: usize,
+    slice: &Substr,
+) -> Result<(), AllocError>
+    ensures { OnOk result (string_bytes out.new ≡ string_bytes out.old ++ slice_line number slice.now) }
+{
+    let range = slice.range();
+    let start = range.start;
+    let end = range.end;
+    let text = slice.as_str();
+    write!(out, "{number} {start}..{end} {text}\n")
+}

@@ -1,0 +1,13 @@
+-- So far each worker's thread was tried, each that was started promises its worker's piece, and there is room for the rest.
+use Rattle.std.proofs.Common.{◌≡◌, ◌<◌, ◌≤◌, ℕ, IfSome, vec_len, vec_capacity, slice_index_or}
+use Rattle.arctokens.specs.Shares.{IsPromiseOf}
+use Rattle.arctokens.proofs.workers.fn.pieces_of_all.scope.Given as goal
+
+abbrev pub invariant-loop-worker : goal.invariant-loop-worker
+invariant-loop-worker g l =
+    record {
+      one_each : vec_len l.threads ≡ l.worker;
+      promised : (k : ℕ) (d : _) → k < l.worker
+          → IfSome (slice_index_or l.threads.items k d) (λ thread. IsPromiseOf l.texts.now l.workers k thread.promise);
+      room : l.workers ≤ vec_capacity l.threads;
+    }

@@ -1,0 +1,12 @@
+-- So far there is a piece for each share, or some share was refused memory; and there is room for the rest.
+use Rattle.std.proofs.Common.{◌≡◌, ◌≤◌, length, vec_len, vec_capacity}
+use Rattle.arctokens.specs.Pieces.{ArePiecesOfFirst}
+use Rattle.arctokens.proofs.workers.joined.Given as goal
+
+abbrev pub invariant-loop-share : goal.invariant-loop-share
+invariant-loop-share g l =
+    record {
+      at_most : vec_len l.pieces ≤ length l.yielded;
+      whole : vec_len l.pieces ≡ length l.yielded → ArePiecesOfFirst l.texts l.workers (length l.yielded) l.pieces.items;
+      room : l.workers ≤ vec_capacity l.pieces;
+    }

@@ -1,0 +1,5 @@
+pub mod Pieces
+pub mod Runs
+pub mod Shares
+pub mod Tokens
+pub mod Words

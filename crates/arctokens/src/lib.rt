@@ -1,0 +1,13 @@
+//! The words of shared texts, as slices of them: of one text, or of many by any number of workers.
+#![tactic(auto)]
+
+pub use many_texts::{Gate, tokens_all, tokens_all_with};
+pub use one_text::{tokens, tokens_are_one};
+
+mod many_texts;
+mod one_text;
+#[cfg(test)]
+mod test_steps;
+mod weaving;
+mod words;
+mod workers;

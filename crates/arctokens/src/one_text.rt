@@ -1,0 +1,35 @@
+//! The tokens of one shared text.
+ghost use Rattle.std.specs.Prelude.{◌≡◌, IfOk};
+ghost use Rattle.arctokens.specs.Tokens.{AreTokens};
+
+use crate::words::next_word;
+use arcstr::{ArcStr, Substr};
+use std::alloc::{AllocError, Global};
+use std::sync::Wait;
+
+/// The words of a text in rising order, each as a slice of it: the longest runs of characters that are
+/// not white space (`char::is_whitespace`).
+///
+/// Takes one clone of the text for each word, and memory for the list alone. That a call succeeds where
+/// memory is there, no clause can say: a body that always refuses is caught by the tests.
+pub fn tokens<R: Wait>(rt: &R, alloc: Global, text: &ArcStr) -> Result<Vec<Substr>, AllocError>
+    ensures { IfOk result (λ tokens. AreTokens text.now tokens.items) }
+{
+    let whole = text.as_str();
+    let mut tokens = Vec::new(alloc);
+    let mut from = 0;
+    while let Some(word) = next_word(whole, from) {
+        from = word.end;
+        tokens.push(Substr::from_parts_unchecked(text.clone(rt), word))?;
+    }
+    Ok(tokens)
+}
+
+/// The law that a text has one list of tokens, and so that each two answers of `tokens` are the same. It
+/// does nothing: its clause is what it is for.
+pub fn tokens_are_one(text: &ArcStr, one: &[Substr], other: &[Substr])
+    ensures { AreTokens text.now one.now → AreTokens text.now other.now → one.now ≡ other.now }
+{}
+
+#[cfg(test)]
+mod tests;

@@ -1,0 +1,30 @@
+//! The steps that tests repeat.
+use arcstr::{ArcStr, Substr};
+use std::alloc::AllocGlobal;
+use std::process::Abort;
+
+/// A word as a test wants it: its start, its end and its text.
+pub(crate) type Wanted<'a> = (usize, usize, &'a str);
+
+/// A text of its own, where memory is there.
+pub(crate) fn made(rt: &(impl Abort + AllocGlobal), text: &str) -> ArcStr {
+    ArcStr::from_str(rt.alloc(), text).expect(rt, "no memory")
+}
+
+pub(crate) fn check_count(rt: &impl Abort, text: &ArcStr, wanted: Option<usize>) {
+    assert_eq!(rt; ArcStr::strong_count(text), wanted);
+}
+
+fn check_token(rt: &impl Abort, token: &Substr, wanted: Wanted) {
+    let (start, end, text) = wanted;
+    assert_eq!(rt; token.as_str(), text);
+    assert_eq!(rt; token.range(), start..end);
+}
+
+/// Asserts the places and the texts of all tokens.
+pub(crate) fn check_tokens(rt: &impl Abort, tokens: &[Substr], wanted: &[Wanted]) {
+    assert_eq!(rt; tokens.len(), wanted.len());
+    for (token, word) in tokens.iter().zip(wanted) {
+        check_token(rt, token, *word);
+    }
+}

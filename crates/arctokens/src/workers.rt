@@ -1,0 +1,187 @@
+//! Workers that find the tokens of many texts, each in a thread of its own.
+ghost use Rattle.std.specs.Prelude.{◌≡◌, ◌≤◌, ◌<◌, ℕ, List, IfOk, IfSome, vec_len, vec_capacity, slice_index_or};
+ghost use Rattle.arcstr.specs.TextView.{TextView};
+ghost use Rattle.arctokens.specs.Pieces.{ArePieces, IsPieceOf};
+ghost use Rattle.arctokens.specs.Shares.{AreSharesOfFirst, IsPromiseOf, IsShare};
+
+use crate::many_texts::Gate;
+use crate::one_text::tokens;
+use arcstr::{ArcStr, Substr};
+use std::alloc::{AllocError, Global};
+use std::sync::Wait;
+use std::thread;
+use std::thread::{Promise, PromisedHandle, Threads};
+
+/// The lists of the texts that fall to one worker, or that memory was refused.
+type Piece = Result<Vec<Vec<Substr>>, AllocError>;
+
+/// Promises the piece of one of so many workers.
+#[derive(Clone, Copy)]
+struct PieceOf<'a> {
+    texts: &'a [ArcStr],
+    workers: usize,
+    worker: usize,
+}
+
+impl<'a> Promise<Piece> for PieceOf<'a> {
+    ghost kept_by = { λ promise piece. IsPieceOf promise.texts.now promise.workers promise.worker piece };
+}
+
+type Worker<'a> = PromisedHandle<Piece, PieceOf<'a>>;
+
+/// Where the piece of a worker comes from.
+#[derive(Drop)]
+enum Share<'a> {
+    /// A thread that is still to be joined.
+    Thread(Worker<'a>),
+    /// The calling thread, which did the texts of a worker whose thread could not be started.
+    Own(Piece),
+}
+
+impl<'a> Share<'a> {
+    /// The piece, once the thread that finds it has been joined.
+    fn into_piece<R: Threads>(self, rt: &R) -> Piece
+        ensures { (texts : List TextView) (workers worker : ℕ) → IsShare texts workers worker self.entry → IsPieceOf texts workers worker result }
+    {
+        match self {
+            Share::Thread(thread) => thread.join(rt),
+            Share::Own(piece) => piece,
+        }
+    }
+}
+
+/// Starts a thread for each worker, and joins them all. Answers their pieces in the order of the workers.
+/// Room for the handles is asked for before the first thread is started, so that each can be joined.
+pub(crate) fn pieces_of_all<R: Threads + Wait + Sync, G: Gate + Sync>(
+    rt: &R,
+    alloc: Global,
+    texts: &[ArcStr],
+    workers: usize,
+    gate: &G,
+) -> Result<Vec<Vec<Vec<Substr>>>, AllocError>
+    requires { (1 ≤ workers) × (workers ≤ 64) }
+    ensures { IfOk result (λ pieces. ArePieces texts.now workers pieces.items) }
+{
+    thread::scope(
+        thread::scope_env(),
+        rt,
+        |scope| -> Result<Vec<Vec<Vec<Substr>>>, AllocError>
+            requires { (1 ≤ workers) × (workers ≤ 64) }
+            ensures { IfOk result (λ pieces. ArePieces texts.entry.now workers pieces.items) }
+        {
+            let mut threads: Vec<Option<Worker>> = Vec::with_capacity(alloc, workers)?;
+            let shares: Vec<Share> = Vec::with_capacity(alloc, workers)?;
+            let pieces: Vec<Vec<Vec<Substr>>> = Vec::with_capacity(alloc, workers)?;
+            for worker in 0..workers {
+                let promise = PieceOf {
+                    texts,
+                    workers,
+                    worker,
+                };
+                let started = scope.spawn_with(
+                    promise,
+                    move || -> Piece
+                        requires { (worker < workers) × (workers ≤ 64) }
+                    { piece_of(rt, alloc, texts, workers, worker, gate) },
+                );
+                threads.push_reserved(started.ok());
+            }
+            let shares = shares_of_all(rt, alloc, texts, workers, gate, threads, shares);
+            joined(rt, texts, workers, shares, pieces)
+        },
+    )
+}
+
+/// The shares of all workers: their threads, or where none could be started what the calling thread does
+/// in its place. It joins none.
+fn shares_of_all<'a, R: Wait, G: Gate>(
+    rt: &R,
+    alloc: Global,
+    texts: &[ArcStr],
+    workers: usize,
+    gate: &G,
+    threads: Vec<Option<Worker<'a>>>,
+    mut shares: Vec<Share<'a>>,
+) -> Vec<Share<'a>>
+    requires workers { workers ≤ 64 }
+    requires one_each { vec_len threads ≡ workers }
+    requires promised { (worker : ℕ) (d : _) → worker < workers
+        → IfSome (slice_index_or threads.items worker d) (λ thread. IsPromiseOf texts.now workers worker thread.promise) }
+    requires empty { vec_len shares ≡ 0 }
+    requires room { workers ≤ vec_capacity shares }
+    ensures { AreSharesOfFirst texts.now workers workers result.items }
+{
+    for thread in threads {
+        let worker = shares.len();
+        shares.push_reserved(share_of(rt, alloc, texts, workers, worker, gate, thread));
+    }
+    shares
+}
+
+/// The share of one worker.
+fn share_of<'a, R: Wait, G: Gate>(
+    rt: &R,
+    alloc: Global,
+    texts: &[ArcStr],
+    workers: usize,
+    worker: usize,
+    gate: &G,
+    thread: Option<Worker<'a>>,
+) -> Share<'a>
+    requires worker { worker < workers }
+    requires workers { workers ≤ 64 }
+    requires promised { IfSome thread (λ thread. IsPromiseOf texts.now workers worker thread.promise) }
+    ensures { IsShare texts.now workers worker result }
+{
+    match thread {
+        Some(thread) => Share::Thread(thread),
+        None => Share::Own(piece_of(rt, alloc, texts, workers, worker, gate)),
+    }
+}
+
+/// What one worker does: passes the gate, and then finds the tokens of each text that falls to it.
+fn piece_of<R: Wait, G: Gate>(
+    rt: &R,
+    alloc: Global,
+    texts: &[ArcStr],
+    workers: usize,
+    worker: usize,
+    gate: &G,
+) -> Piece
+    requires worker { worker < workers }
+    requires workers { workers ≤ 64 }
+    ensures { IsPieceOf texts.now workers worker result }
+{
+    gate.pass(worker);
+    let mut lists = Vec::new(alloc);
+    let mut number = worker;
+    while number < texts.len() {
+        lists.push(tokens(rt, alloc, &texts[number])?)?;
+        number += workers;
+    }
+    Ok(lists)
+}
+
+/// Joins each thread, and only then tells whether memory was refused to any worker.
+fn joined<'a, R: Threads>(
+    rt: &R,
+    texts: &[ArcStr],
+    workers: usize,
+    shares: Vec<Share<'a>>,
+    mut pieces: Vec<Vec<Vec<Substr>>>,
+) -> Result<Vec<Vec<Vec<Substr>>>, AllocError>
+    requires shares { AreSharesOfFirst texts.now workers workers shares.items }
+    requires empty { vec_len pieces ≡ 0 }
+    requires room { workers ≤ vec_capacity pieces }
+    ensures { IfOk result (λ pieces. ArePieces texts.now workers pieces.items) }
+{
+    for share in shares {
+        if let Ok(lists) = share.into_piece(rt) {
+            pieces.push_reserved(lists);
+        }
+    }
+    if pieces.len() < workers {
+        return Err(AllocError);
+    }
+    Ok(pieces)
+}
