@@ -5,7 +5,7 @@ use Rattle.std.proofs.lemmas.List.{map-append, append-nil, append_assoc, length-
 use Rattle.std.proofs.lemmas.List.Folds.{concat-append}
 use Rattle.arcstr.specs.Substr.{SubstrView, slice_of}
 use Rattle.arcstr.specs.TextView.{TextView}
-use Rattle.arctokens.specs.Tokens.{AreTokens, AreTokensOfEach, TokenList}
+use Rattle.arctokens.specs.Tokens.{AreTokensOfEach, TokenList}
 use Rattle.arctokens.specs.Words.{AreWords}
 use Rattle.arcbench_core.specs.Line.{lines_of}
 use Rattle.arcbench_core.specs.TokenLines.{IsTokenAnswer, word_line, word_lines, lines_from, texts_of, slice_line, slice_lines, lines_of_lists}

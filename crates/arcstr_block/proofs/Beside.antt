@@ -1,5 +1,5 @@
 -- Beside what is owed no share of a free handle's seat is on its block, so a handle that is lent is on another. Assumes `Logic`.
-use Rattle.std.proofs.Common.{◌≡◌, ◌≢◌, ℕ, List, [], ◌∷◌, zero-add, sym, refl, ap, ◌∙◌}
+use Rattle.std.proofs.Common.{◌≡◌, ◌≢◌, ℕ, List, [], ◌∷◌, zero-add, sym, refl, ap}
 use Rattle.std.specs.Prelude.{Some, slice_get}
 use native.Mathlib.Decide.{ℕ_discrete}
 use seplogic.Ra.Ura.{Ura}

@@ -1,11 +1,10 @@
 -- How a run of characters grows by one, and where it ends.
 use mathlib.Core.Bool.{beq}
-use Rattle.std.proofs.Common.{◌≡◌, ◌⊎◌, inl, inr, ℕ, ◌+◌, ◌-◌, ◌<◌, ◌≤◌, Bool, true, false, not, List, [], ◌∷◌, ◌++◌, length, take, drop, refl, sym, ap, subst, ◌∙◌, arith}
-use Rattle.std.specs.Prelude.{All}
+use Rattle.std.proofs.Common.{◌≡◌, inl, inr, ℕ, ◌-◌, ◌≤◌, Bool, true, false, not, List, [], ◌∷◌, ◌++◌, length, take, drop, refl, sym, ap, subst, ◌∙◌, arith}
 use Rattle.std.specs.Char.{is_whitespace}
 use Rattle.std.specs.Str.{chars, IsUtf8, IsCharBoundary}
 use Rattle.std.proofs.lemmas.List.Elements.{All-nil, All-push}
-use Rattle.std.proofs.lemmas.Str.{chars-nil, IsCharBoundary-end}
+use Rattle.std.proofs.lemmas.Str.{chars-nil}
 use Rattle.arcstr_range.specs.Text.{cut}
 use Rattle.arctokens.specs.Runs.{IsCharacterBetween, AreOfKind, AreAlike, IsRun}
 use Rattle.arctokens.proofs.Characters.{chars-split}

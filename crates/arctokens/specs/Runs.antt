@@ -1,5 +1,5 @@
 -- Runs of a text: characters that are all white space, or of which none is.
-use Rattle.std.specs.Prelude.{◌≡◌, ◌⊎◌, ℕ, ◌+◌, ◌<◌, ◌≤◌, List, [], ◌∷◌, ◌++◌, length, Bool, not, All}
+use Rattle.std.specs.Prelude.{◌≡◌, ◌⊎◌, ℕ, ◌<◌, ◌≤◌, List, [], ◌∷◌, ◌++◌, length, Bool, not, All}
 use Rattle.std.specs.Char.{is_whitespace}
 use Rattle.std.specs.Str.{IsCharBoundary, chars}
 use Rattle.arcstr_range.specs.Text.{cut}

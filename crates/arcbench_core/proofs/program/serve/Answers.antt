@@ -1,4 +1,3 @@
-use Rattle.std.proofs.Common.{◌≡◌}
 use Rattle.arcbench_core.proofs.Utf8Known.{says_by_status}
 use Rattle.arcbench_core.proofs.program.serve.Goals.{in-None, in-Some-Script, in-Some-Threads, in-Some-Tokens}
 use Rattle.arcbench_core.proofs.program.serve.Goals as goal

@@ -29,7 +29,7 @@ use Rattle.arcstr_count.specs.declared.steps.HandleState.TheVariants.{Free}
 use Rattle.arcstr_block.specs.Rights.{Right, IsFree, owed}
 use Rattle.arcstr_block.specs.Book.{seat_share}
 use Rattle.arcstr_block.specs.Memory.{block_owns, block_shares}
-use Rattle.arcstr_block.specs.Ledger.{Names, Inv, knows, names, pointer_shares}
+use Rattle.arcstr_block.specs.Ledger.{Inv, knows, names, pointer_shares}
 use Rattle.arcstr_block.specs.contracts.pointer.Pointer as C
 use Rattle.arcstr_block.proofs.Beside.{other_block}
 use Rattle.arcstr_block.proofs.Fields.{pointer_val, typed, Words, told}
