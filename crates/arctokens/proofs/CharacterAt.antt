@@ -1,5 +1,5 @@
 -- One character of a text, from its first byte or as its bytes spell it.
-use Rattle.std.proofs.Common.{◌≡◌, ℕ, zero, suc, ◌+◌, ◌-◌, ◌<◌, ◌≤◌, List, [], ◌∷◌, ◌++◌, length, get_or, take, drop, refl, sym, ap, subst, ◌∙◌, arith}
+use Rattle.std.proofs.Common.{◌≡◌, ℕ, zero, suc, ◌+◌, ◌-◌, ◌<◌, List, [], ◌∷◌, ◌++◌, length, get_or, take, drop, refl, sym, ap, ◌∙◌, arith}
 use Rattle.std.specs.Prelude.{encode_utf8}
 use Rattle.std.specs.Char.{is_whitespace, len_utf8, IsScalar}
 use Rattle.std.specs.Str.{chars, all_scalars, IsUtf8, IsAscii, IsCharBoundary}

@@ -2,7 +2,7 @@
 use Rattle.std.proofs.Common.{◌≡◌, ℕ, ◌+◌, ◌-◌, ◌<◌, ◌≤◌, List, [], ◌∷◌, ◌++◌, length, take, drop, refl, sym, ap, ◌∙◌, arith}
 use Rattle.std.specs.Prelude.{encode_utf8_all}
 use Rattle.std.specs.Str.{chars, IsUtf8, IsCharBoundary}
-use Rattle.std.proofs.lemmas.List.{take-append-drop, length-take-le, length-drop, take-take, drop-drop, drop-take, append_assoc}
+use Rattle.std.proofs.lemmas.List.{take-append-drop, length-take-le, length-drop, take-take, drop-drop, drop-take}
 use Rattle.std.proofs.lemmas.Str.{IsUtf8-between, chars-append, encodes-chars}
 use Rattle.arcstr_range.specs.Text.{cut}
 

@@ -1,6 +1,5 @@
 -- Worked examples of the definitions, by computation: what they say is what was meant.
-use lib.Utf8.{encode}
-use Rattle.std.proofs.Common.{◌≡◌, ℕ, List, [], ◌∷◌, ◌++◌, length, ◌⊎◌, false, true, refl, sym, ◌∙◌, inl, inr, ap, arith, rules}
+use Rattle.std.proofs.Common.{◌≡◌, ℕ, List, [], ◌∷◌, length, ◌⊎◌, false, true, refl, sym, ◌∙◌, inl, inr, ap, arith, rules}
 use Rattle.std.specs.Prelude.{IsFalse}
 use Rattle.std.specs.Char.{is_whitespace}
 use Rattle.std.specs.Str.{chars}

@@ -8,7 +8,7 @@ use Rattle.std.proofs.lemmas.Nat.{mod_below}
 use Rattle.std.proofs.lemmas.Slice.Zip.{all_zipped_more}
 use Rattle.arcstr.specs.TextView.{TextView, literal_of}
 use Rattle.arctokens.specs.Tokens.{AreTokens, AreTokensOfEach, TokenList}
-use Rattle.arctokens.specs.Pieces.{HasTokensOf, IsPiece, ArePieces}
+use Rattle.arctokens.specs.Pieces.{HasTokensOf, ArePieces}
 use Rattle.arctokens.proofs.Turns.{same_number}
 
 -- the pieces have the tokens of the texts from a number on

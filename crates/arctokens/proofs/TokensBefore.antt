@@ -1,5 +1,5 @@
 -- The tokens of a text that lie before a place, from none to all of them.
-use Rattle.std.proofs.Common.{◌≡◌, ◌⊎◌, inl, inr, ℕ, ◌+◌, ◌<◌, ◌≤◌, List, [], ◌∷◌, ◌++◌, length, get_or, map, refl, sym, ap, subst, ◌∙◌, arith}
+use Rattle.std.proofs.Common.{◌≡◌, ◌⊎◌, inl, inr, ℕ, ◌<◌, ◌≤◌, List, [], ◌∷◌, ◌++◌, length, get_or, map, refl, sym, ap, subst, ◌∙◌, arith}
 use Rattle.std.specs.Prelude.{All, AllPairs, Contains}
 use Rattle.std.specs.Str.{IsUtf8, IsCharBoundary}
 use Rattle.std.proofs.lemmas.Bool.{cases_lt}
@@ -10,7 +10,7 @@ use Rattle.std.proofs.lemmas.Str.{IsCharBoundary-start}
 use Rattle.arcstr.specs.TextView.{TextView}
 use Rattle.arcstr.specs.Substr.{SubstrView, slice_of}
 use Rattle.arcstr_range.specs.Ends.{IsLawful}
-use Rattle.arctokens.specs.Words.{AreWords, IsWord, StartsBefore}
+use Rattle.arctokens.specs.Words.{IsWord, StartsBefore}
 use Rattle.arctokens.specs.Tokens.{AreTokens}
 use Rattle.arctokens.specs.Runs.{HasNoWord, IsBetweenWords, IsFirstWord}
 use Rattle.arctokens.proofs.WordRuns.{none_inside, one_end}

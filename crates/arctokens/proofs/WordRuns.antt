@@ -1,10 +1,10 @@
 -- Words and runs: a run that follows white space is a word, words do not overlap, and none starts in white space.
-use Rattle.std.proofs.Common.{◌≡◌, ◌⊎◌, inl, inr, ℕ, ◌+◌, ◌-◌, ◌<◌, ◌≤◌, Bool, true, false, not, List, [], ◌∷◌, ◌++◌, length, refl, sym, ap, subst, ◌∙◌, arith}
-use Rattle.std.specs.Str.{chars, IsUtf8, IsCharBoundary}
+use Rattle.std.proofs.Common.{◌≡◌, ◌⊎◌, inl, inr, ℕ, ◌<◌, ◌≤◌, true, false, List, length, subst, arith}
+use Rattle.std.specs.Str.{IsUtf8, IsCharBoundary}
 use Rattle.std.proofs.lemmas.Bool.{cases_lt, cases_order}
 use Rattle.arctokens.specs.Words.{IsWhiteBefore, IsWhiteAfter, IsWord}
 use Rattle.arctokens.specs.Runs.{IsFirstAfter, IsLastBefore, AreAlike, IsRun, IsBetweenWords, IsFirstWord, HasNoWord}
-use Rattle.arctokens.proofs.OneKind.{kind_after, kind_before, one_after, one_before, none_after_end}
+use Rattle.arctokens.proofs.OneKind.{kind_after, kind_before, one_after, one_before}
 
 -- the characters of a word are alike
 word_alike : (text : List ℕ) (start end : ℕ) → IsWord text start end → AreAlike text start end false

@@ -1,7 +1,6 @@
 use Rattle.std.proofs.Common.{◌≡◌, ℕ, length, sym, subst, arith}
 use Rattle.std.proofs.lemmas.List.{length_push}
 use Rattle.arctokens.specs.Shares.{AreSharesOfFirst, IsShare}
-use Rattle.arctokens.specs.declared.workers.Share.{Share}
 use Rattle.arctokens.proofs.PieceSteps.{AreSharesOfFirst-more}
 use Rattle.arctokens.proofs.workers.shares_of_all.Goals as goal
 
