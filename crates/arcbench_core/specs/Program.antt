@@ -1,5 +1,6 @@
 -- What the words of the program mean, what each command writes, and the status of each fault.
-use Rattle.std.specs.Prelude.{ℕ, ◌≤◌, ◌&&◌, nat_le, if◌then◌else◌, List, [], ◌∷◌, Option, None, Some, option_and_then, option_map, IfSome, String, string_bytes, codes, map, ◌≡◌, ◌⊎◌}
+use Rattle.std.specs.Prelude.{ℕ, ◌≤◌, ◌&&◌, nat_le, if◌then◌else◌, List, [], ◌∷◌, map, ◌≡◌, ◌⊎◌}
+use Rattle.std.specs.Prelude.{Option, None, Some, option_and_then, option_map, IfSome, String, string_bytes, codes}
 use Rattle.std.specs.declared.alloc.Global.{Global}
 use Rattle.std.specs.Str.{bytes_eq}
 use Rattle.std.specs.Io.KnownBytes.{Appends}

@@ -41,7 +41,8 @@ impl<T> Port<T> {
 }
 
 impl<R: Read> Port<R> {
-    /// One read of the reader.
+    /// One read of the reader. Which error it is no clause can say: a body that hands out another one is
+    /// caught by the test `remembers_a_fault_after_calls_that_work`.
     pub fn read(&mut self, buf: &mut [u8]) -> io::Result<usize>
         ensures bound { ReadsAtMost result buf.new }
         ensures bytes { ReadConsumes (R.remaining self.old.value) (R.remaining self.new.value)
@@ -55,7 +56,7 @@ impl<R: Read> Port<R> {
 }
 
 impl<W: Write> Port<W> {
-    /// Writes all the bytes to the writer.
+    /// Writes all the bytes to the writer. Which error it is the same test shows.
     pub fn write_all(&mut self, bytes: &[u8]) -> io::Result<()>
         ensures bytes { OnOk result (Appends (W.contents self.old.value) (W.contents self.new.value)
             bytes.now) }

@@ -7,7 +7,8 @@ ghost use Rattle.arcstr_count.specs.declared.faults.RunFault.TheVariants.{LimitT
 ghost use Rattle.arcbench_core.specs.Script.{answer_to};
 ghost use Rattle.arcbench_core.specs.Threads.{ReadSharedText, threads_answer};
 ghost use Rattle.arcbench_core.specs.TokenLines.{WritesTokens};
-ghost use Rattle.arcbench_core.specs.Program.{command_in, worker_count, status_of, HasLawfulCount, IsForScript, IsForThreads, IsForTokens, IsFaultOfThreads, IsFaultOfTokens, IsDone, ReadsInput};
+ghost use Rattle.arcbench_core.specs.Program.{command_in, worker_count, status_of, HasLawfulCount, IsDone, ReadsInput};
+ghost use Rattle.arcbench_core.specs.Program.{IsForScript, IsForThreads, IsForTokens, IsFaultOfThreads, IsFaultOfTokens};
 
 use crate::pool::PoolFault;
 use crate::port::Port;

@@ -16,7 +16,8 @@ impl Gate for OpenGate {
     fn pass(&self, _worker: usize) {}
 }
 
-/// Starts callers of one text, and hands out their handles.
+/// Starts callers of one text, and hands out their handles. A body that always refuses is caught by the
+/// test `two_workers_print_their_texts`.
 pub fn start<R: Threads + Wait + Sync>(
     rt: &R,
     alloc: Global,

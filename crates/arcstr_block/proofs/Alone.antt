@@ -20,8 +20,9 @@ use Rattle.arcstr_count.specs.declared.steps.HandleState.TheVariants.{Free, Drop
 use Rattle.arcstr_count.specs.History.{lives}
 use Rattle.arcstr_count.specs.OneBlock.{Keeps}
 use Rattle.arcstr_count.proofs.Seats.{seats-counted}
-use Rattle.arcstr_block.specs.Rights.{HasSeat}
-use Rattle.arcstr_block.specs.Book.{word_of, steps, state_code, seat, Book}
+use Rattle.arcstr_block.specs.Word.{word_of}
+use Rattle.arcstr_block.specs.Rights.{HasSeat, Right, nothing, counted, uncounted, fixed, dropping, owed}
+use Rattle.arcstr_block.specs.Book.{steps, state_code, seat, Book}
 use Rattle.arcstr_block.specs.Ledger.{Id, right_to}
 use Rattle.arcstr_block.proofs.Rights.{has_seat}
 use Rattle.arcstr_block.proofs.Seats.{agrees}
@@ -37,8 +38,10 @@ some_passes test (y ∷ ys) (suc i) x at passes = by_test (test y) (some_passes 
     by_test false later = later
 
 -- the unmarked word 0 counts no handle that lives
-none_lives : (L : ℕ) (history : List Step) (seats : List HandleState) (h : ℕ) (state : HandleState) → Keeps L history (word_of 0) seats → slice_get seats h ≡ Some state → lives state ≡ true → ⊥
-none_lives L history seats h state keeps at alive = let counted = seats-counted L history (word_of 0) seats keeps refl in let some_lives = some_passes lives seats h state at alive in absurd (omega (arith, counted, some_lives))
+pub none_lives : (L : ℕ) (history : List Step) (seats : List HandleState) (h : ℕ) (state : HandleState) → Keeps L history (word_of 0) seats
+    → slice_get seats h ≡ Some state → lives state ≡ true → ⊥
+none_lives L history seats h state keeps at alive = let counted = seats-counted L history (word_of 0) seats keeps refl in
+    let some_lives = some_passes lives seats h state at alive in absurd (omega (arith, counted, some_lives))
 
 module _ {M : Type 1} {𝓤 : Ura M} (𝓛 : Logic 𝓤) where
   abbrev Pr : Type 2
@@ -62,29 +65,34 @@ module _ {M : Type 1} {𝓤 : Ura M} (𝓛 : Logic 𝓤) where
 
   -- and so one book
   pub one_book : (L L' : ℕ) (γ δ δ' : GName) (n n' : ℕ) (Z : Pr) → ⟦ Book L γ δ n ⟧ ∗ ⟦ Book L' γ δ' n' ⟧ ⊢ Z
-  one_book L L' γ δ δ' n n' Z = qed 𝓛 (‵ (Book L γ δ n) ∷ ‵ (Book L' γ δ' n') ∷ []) ∵ fpick ! (λ x. fsplit3 ! $ move ! (3 ∷ []) $ fpick ! (λ y. fsplit3 ! $ keep ! (1 ∷ 4 ∷ []) $ by ! (one_history γ y.0 x.0 Z)))
+  one_book L L' γ δ δ' n n' Z = qed 𝓛 (‵ (Book L γ δ n) ∷ ‵ (Book L' γ δ' n') ∷ []) ∵ fpick ! (λ x. fsplit3 ! $ move ! (3 ∷ []) $ fpick ! (λ y. fsplit3 ! $
+      keep ! (1 ∷ 4 ∷ []) $ by ! (one_history γ y.0 x.0 Z)))
 
   -- beside the book of the word 0 no seat is a living handle's
   no_living_seat : (L : ℕ) (γ δ : GName) (h : ℕ) (state : HandleState) → lives state ≡ true → (Z : Pr) → ⟦ Book L γ δ 0 ⟧ ∗ ⟦ seat δ h state ⟧ ⊢ Z
-  no_living_seat L γ δ h state alive Z = qed 𝓛 (‵ (Book L γ δ 0) ∷ ‵ (seat δ h state) ∷ []) ∵ fpick ! (λ x. fsplit3 ! $ fpick ! (λ keeps. drop ! $ move ! (1 ∷ 2 ∷ []) $
-      use2 𝓛 (given (slice_get x.1 h ≡ Some state) (‵ (roster state_code δ 0 x.1) ⊛ ‵ (seat δ h state))) (agrees 𝓛 δ x.1 0 h h three_quarters state (sym (Rattle.std.proofs.Common.zero-add h))) $
+  no_living_seat L γ δ h state alive Z = qed 𝓛 (‵ (Book L γ δ 0) ∷ ‵ (seat δ h state) ∷ []) ∵ fpick ! (λ x. fsplit3 ! $ fpick ! (λ keeps. drop ! $
+      move ! (1 ∷ 2 ∷ []) $
+      use2 𝓛 (given (slice_get x.1 h ≡ Some state) (‵ (roster state_code δ 0 x.1) ⊛ ‵ (seat δ h state))) (agrees 𝓛 δ x.1 0 h h three_quarters state (sym
+      (Rattle.std.proofs.Common.zero-add h))) $
       learn ! (λ at. absurd (none_lives L x.0 x.1 h state keeps at alive))))
 
   -- and no right has a seat
   module _ (P : Fml) (L b o : ℕ) (t : Id) (s : Lft → Fml) (laws : denote.Sharing.ShrLaws s) (L₀ h : ℕ) (Z : Pr) where
-    abbrev Right : ℕ → Fml
-    Right right = right_to P L b o t s h right
+    abbrev Held : Right → Fml
+    Held right = right_to P L b o t s h right
 
     abbrev Book₀ : Fml
     Book₀ = Book L₀ t.2 t.3 0
 
-    by_seat : (right : ℕ) (state : HandleState) → lives state ≡ true → ⟦ Right right ⟧ ⊢ ⟦ seat t.3 h state ⟧ → ⟦ Book₀ ⟧ ∗ ⟦ Right right ⟧ ⊢ Z
-    by_seat right state alive has = qed 𝓛 (‵ Book₀ ∷ ‵ (Right right) ∷ []) ∵ move ! (1 ∷ []) $ use1 𝓛 (‵ (seat t.3 h state)) has $ move ! (1 ∷ 0 ∷ []) $ by ! (no_living_seat L₀ t.2 t.3 h state alive Z)
+    by_seat : (right : Right) (state : HandleState) → lives state ≡ true → ⟦ Held right ⟧ ⊢ ⟦ seat t.3 h state ⟧ → ⟦ Book₀ ⟧ ∗ ⟦ Held right ⟧ ⊢ Z
+    by_seat right state alive has = qed 𝓛 (‵ Book₀ ∷ ‵ (Held right) ∷ []) ∵ move ! (1 ∷ []) $ use1 𝓛 (‵ (seat t.3 h state)) has $ move ! (1 ∷ 0 ∷ []) $
+        by ! (no_living_seat L₀ t.2 t.3 h state alive Z)
 
-    pub no_other : (right : ℕ) → HasSeat right → ⟦ Book₀ ⟧ ∗ ⟦ Right right ⟧ ⊢ Z
-    no_other zero may = absurd (may.0 refl)
-    no_other (suc zero) may = by_seat 1 Free refl (has_seat 𝓛 P L b o t s laws h 1 may)
-    no_other (suc (suc zero)) may = by_seat 2 Free refl (has_seat 𝓛 P L b o t s laws h 2 may)
-    no_other (suc (suc (suc zero))) may = absurd (may.1 refl)
-    no_other (suc (suc (suc (suc zero)))) may = by_seat 4 Dropping refl (has_seat 𝓛 P L b o t s laws h 4 may)
-    no_other (suc (suc (suc (suc (suc k))))) may = qed 𝓛 (‵ Book₀ ∷ ‵ (Right 5) ∷ []) ∵ move ! (1 ∷ []) $ fsplit ! $ fsplit ! $ keep ! (3 ∷ 1 ∷ []) $ by ! (one_book L₀ L t.2 t.3 t.3 0 0 Z)
+    pub no_other : (right : Right) → HasSeat right → ⟦ Book₀ ⟧ ∗ ⟦ Held right ⟧ ⊢ Z
+    no_other nothing may = absurd (may.0 refl)
+    no_other counted may = by_seat counted Free refl (has_seat 𝓛 P L b o t s laws h counted may)
+    no_other uncounted may = by_seat uncounted Free refl (has_seat 𝓛 P L b o t s laws h uncounted may)
+    no_other fixed may = absurd (may.1 refl)
+    no_other dropping may = by_seat dropping Dropping refl (has_seat 𝓛 P L b o t s laws h dropping may)
+    no_other owed may = qed 𝓛 (‵ Book₀ ∷ ‵ (Held owed) ∷ []) ∵ move ! (1 ∷ []) $ fsplit ! $ fsplit ! $ keep ! (3 ∷ 1 ∷ []) $
+        by ! (one_book L₀ L t.2 t.3 t.3 0 0 Z)

@@ -1,4 +1,5 @@
--- Two pointers that have the seats of their handles: on one block they have two, for a seat has one owner, and beside one that is owed there is none. Assumes `Logic`.
+-- Two pointers that have the seats of their handles: on one block they have two, for a seat has one owner, and beside one that is owed there is none.
+-- Assumes `Logic`.
 use Rattle.std.proofs.Common.{◌≡◌, ◌≢◌, ℕ, ◌+◌, List, [], ◌∷◌, sym, refl, ap, ◌∙◌}
 use native.Mathlib.Decide.{ℕ_discrete}
 use seplogic.Ra.Ura.{Ura}
@@ -9,18 +10,19 @@ use types.Logic.{Logic, sem}
 use types.Kit.{‵, ◌⊛◌, given, ◌$◌, ◌∵◌, !, qed, by, move, keep, drop, split, fsplit, fjoin, fpick, fpack, use1, use2, learn, check, rewrite, done}
 use denote.RattleType.{RattleType}
 use denote.RawPtr.{block_of, count_of}
-use denote.Param.Laws.{Laws}
-use denote.Struct.Lending.{lent_at_shr_laws}
 use Rattle.core.specs.declared.alloc.Allocator.{Ghosts}
-use Rattle.arcstr_block.specs.Rights.{HasSeat, owed}
+use Rattle.arcstr_block.proofs.Decided.{owed_or_not}
+use Rattle.arcstr_block.specs.Rights.{HasSeat, owed, Right}
 use Rattle.arcstr_block.specs.Book.{seat, Book}
-use Rattle.arcstr_block.specs.Ledger.{Id, Names, names, fact, block_owns, block_shares, value_at, right_to}
+use Rattle.arcstr_block.specs.Memory.{block_owns, block_shares}
+use Rattle.arcstr_block.proofs.Memory.{shares_laws}
+use Rattle.arcstr_block.specs.Ledger.{Id, Names, names, fact, right_to}
 use Rattle.arcstr_block.specs.contracts.pointer.Pointer as C
 use Rattle.arcstr_block.proofs.Rights.{has_seat, seat_state}
 use Rattle.arcstr_block.proofs.Seats.{one_owner}
 use Rattle.arcstr_block.proofs.Alone.{no_other}
 
-module _ {M : Type 1} {𝓤 : Ura M} (𝓛 : Logic 𝓤) (R B : RattleType) (g : Ghosts B.Denot) (L : Laws R) where
+module _ {M : Type 1} {𝓤 : Ura M} (𝓛 : Logic 𝓤) (B : RattleType) (g : Ghosts B.Denot) where
   abbrev Pr : Type 2
   Pr = SProp 𝓤
 
@@ -36,38 +38,42 @@ module _ {M : Type 1} {𝓤 : Ura M} (𝓛 : Logic 𝓤) (R B : RattleType) (g :
   infix 26 ◌⊢◌
   infixr 35 ◌∗◌
   abbrev Row : RattleType
-  Row = C.the_row R B g
+  Row = C.the_row B g
 
   -- what a pointer's right is, under names that are its block's
   module _ (h : Row.Denot) where
     abbrev P : Fml
-    P = block_owns (g.dealloc_token h.home) R h.at h.value
+    P = block_owns (g.dealloc_token h.home) h.at h.text
 
     abbrev s : Lft → Fml
-    s = block_shares (g.dealloc_token h.home) R h.at h.value
+    s = block_shares h.at h.text
 
-    abbrev Right : Id → ℕ → Fml
-    Right t right = right_to P h.limit (block_of h.at) (count_of h.at + 0) t s h.seat right
+    abbrev Held : Id → Right → Fml
+    Held t right = right_to P h.limit (block_of h.at) (count_of h.at + 0) t s h.seat right
 
     abbrev named_right : Id → Fml
-    named_right t = fsep (fact (names t ≡ h.block)) (Right t h.right)
+    named_right t = fsep (fact (names t ≡ h.block)) (Held t h.right)
 
     sl : denote.Sharing.ShrLaws s
-    sl = lent_at_shr_laws R L.shr_laws (value_at (g.dealloc_token h.home) R h.at h.value) h.value
+    sl = shares_laws h.at h.text
 
   right_of : (h : Row.Denot) (vs : List Val) → ⟦ Row.own_val h vs ⟧ ⊢ ⟦ fex Id (named_right h) ⟧
-  right_of h vs = qed 𝓛 (‵ (Row.own_val h vs) ∷ []) ∵ fsplit ! $ drop ! $ fsplit ! $ drop ! $ fpick ! (λ t. fsplit ! $ fsplit ! $ move ! (1 ∷ []) $ drop ! $ move ! (1 ∷ []) $ fsplit ! $ drop ! $
+  right_of h vs = qed 𝓛 (‵ (Row.own_val h vs) ∷ []) ∵ fsplit ! $ drop ! $ fsplit ! $ drop ! $ fpick ! (λ t. fsplit ! $ fsplit ! $ move ! (1 ∷ []) $ drop ! $
+      move ! (1 ∷ []) $ fsplit ! $ drop ! $
       move ! (1 ∷ 0 ∷ []) $ fjoin ! $ fpack ! Id (named_right h) t $ done !)
 
   seat_of : (h : Row.Denot) (vs : List Val) → HasSeat h.right → ⟦ Row.own_val h vs ⟧ ⊢ ⟦ seat h.block.1 h.seat (seat_state h.right) ⟧
-  seat_of h vs may = qed 𝓛 (‵ (Row.own_val h vs) ∷ []) ∵ use1 𝓛 (‵ (fex Id (named_right h))) (right_of h vs) $ fpick ! (λ t. fsplit ! $ fpick ! (λ named. drop ! $
+  seat_of h vs may = qed 𝓛 (‵ (Row.own_val h vs) ∷ []) ∵ use1 𝓛 (‵ (fex Id (named_right h))) (right_of h vs) $ fpick ! (λ t. fsplit ! $ fpick ! (λ named.
+      drop ! $
       use1 𝓛 (‵ (seat t.3 h.seat (seat_state h.right))) (has_seat 𝓛 (P h) h.limit (block_of h.at) (count_of h.at + 0) t (s h) (sl h) h.seat h.right may) $
       rewrite ! 0 (λ (z : Names). ‵ (seat z.1 h.seat (seat_state h.right))) named refl $ done !))
 
   -- what is owed has the book of the word 0
   pub book_of : (h : Row.Denot) (vs : List Val) → h.right ≡ owed → ⟦ Row.own_val h vs ⟧ ⊢ ⟦ Book h.limit h.block.0 h.block.1 0 ⟧
-  book_of h vs mine = qed 𝓛 (‵ (Row.own_val h vs) ∷ []) ∵ use1 𝓛 (‵ (fex Id (named_right h))) (right_of h vs) $ fpick ! (λ t. fsplit ! $ fpick ! (λ named. drop ! $
-      rewrite ! 0 (λ (k : ℕ). ‵ (Right h t k)) mine refl $ fsplit ! $ fsplit ! $ keep ! (1 ∷ []) $ rewrite ! 0 (λ (z : Names). ‵ (Book h.limit z.0 z.1 0)) named refl $ done !))
+  book_of h vs mine = qed 𝓛 (‵ (Row.own_val h vs) ∷ []) ∵ use1 𝓛 (‵ (fex Id (named_right h))) (right_of h vs) $ fpick ! (λ t. fsplit ! $ fpick ! (λ named.
+      drop ! $
+      rewrite ! 0 (λ (k : Right). ‵ (Held h t k)) mine refl $ fsplit ! $ fsplit ! $ keep ! (1 ∷ []) $
+      rewrite ! 0 (λ (z : Names). ‵ (Book h.limit z.0 z.1 0)) named refl $ done !))
 
   module _ (h j : Row.Denot) (vs ws : List Val) where
     abbrev pub Apart : Type 0
@@ -83,13 +89,16 @@ module _ {M : Type 1} {𝓤 : Ura M} (𝓛 : Logic 𝓤) (R B : RattleType) (g :
     one_seat may may' (no other) d = guard_i 𝓤 Apart Two (λ e. absurd (other (ap (λ (z : Names). z.1) e)))
     one_seat may may' (yes e) (no other) = guard_i 𝓤 Apart Two (λ _. other)
     one_seat may may' (yes e) (yes f) = let v = seat_state h.right in let w = seat_state j.right in
-        qed 𝓛 (‵ (Row.own_val h vs) ∷ ‵ (Row.own_val j ws) ∷ []) ∵ use1 𝓛 (‵ (seat h.block.1 h.seat v)) (seat_of h vs may) $ move ! (1 ∷ []) $ use1 𝓛 (‵ (seat j.block.1 j.seat w)) (seat_of j ws may') $
-        rewrite ! 0 (λ (δ : ℕ). ‵ (seat δ j.seat w)) (sym e) refl $ rewrite ! 0 (λ (k : ℕ). ‵ (seat h.block.1 k w)) (sym f) refl $ by ! (one_owner 𝓛 h.block.1 h.seat w v (guard 𝓤 Apart Two))
+        qed 𝓛 (‵ (Row.own_val h vs) ∷ ‵ (Row.own_val j ws) ∷ []) ∵ use1 𝓛 (‵ (seat h.block.1 h.seat v)) (seat_of h vs may) $ move ! (1 ∷ []) $
+        use1 𝓛 (‵ (seat j.block.1 j.seat w)) (seat_of j ws may') $
+        rewrite ! 0 (λ (δ : ℕ). ‵ (seat δ j.seat w)) (sym e) refl $ rewrite ! 0 (λ (k : ℕ). ‵ (seat h.block.1 k w)) (sym f) refl $
+        by ! (one_owner 𝓛 h.block.1 h.seat w v (guard 𝓤 Apart Two))
 
     one_block : h.right ≡ owed → HasSeat j.right → Dec (h.block.0 ≡ j.block.0) → Dec (h.block.1 ≡ j.block.1) → Two ⊢ guard 𝓤 (h.block ≢ j.block) Two
     one_block mine may (no other) d = guard_i 𝓤 (h.block ≢ j.block) Two (λ e. other (ap (λ (z : Names). z.0) e))
     one_block mine may (yes e) (no other) = guard_i 𝓤 (h.block ≢ j.block) Two (λ e. other (ap (λ (z : Names). z.1) e))
-    one_block mine may (yes e) (yes f) = qed 𝓛 (‵ (Row.own_val h vs) ∷ ‵ (Row.own_val j ws) ∷ []) ∵ use1 𝓛 (‵ (Book h.limit h.block.0 h.block.1 0)) (book_of h vs mine) $
+    one_block mine may (yes e) (yes f) = qed 𝓛 (‵ (Row.own_val h vs) ∷ ‵ (Row.own_val j ws) ∷ []) ∵ use1 𝓛 (‵ (Book h.limit h.block.0 h.block.1 0))
+        (book_of h vs mine) $
         move ! (1 ∷ []) $ use1 𝓛 (‵ (fex Id (named_right j))) (right_of j ws) $ fpick ! (λ t. fsplit ! $ fpick ! (λ named. drop ! $
         let γ : h.block.0 ≡ t.2 = e ∙ sym (ap (λ (z : Names). z.0) named) in let δ : h.block.1 ≡ t.3 = f ∙ sym (ap (λ (z : Names). z.1) named) in
         rewrite ! 1 (λ (k : ℕ). ‵ (Book h.limit k h.block.1 0)) γ refl $ rewrite ! 1 (λ (k : ℕ). ‵ (Book h.limit t.2 k 0)) δ refl $ move ! (1 ∷ 0 ∷ []) $
@@ -97,7 +106,8 @@ module _ {M : Type 1} {𝓤 : Ura M} (𝓛 : Logic 𝓤) (R B : RattleType) (g :
 
     are_alone : HasSeat j.right → Dec (h.right ≡ owed) → Two ⊢ guard 𝓤 Alone Two
     are_alone may (no other) = guard_i 𝓤 Alone Two (λ mine. absurd (other mine))
-    are_alone may (yes mine) = qed 𝓛 (‵ (Row.own_val h vs) ∷ ‵ (Row.own_val j ws) ∷ []) ∵ use2 𝓛 (given (h.block ≢ j.block) (‵ (Row.own_val h vs) ⊛ ‵ (Row.own_val j ws)))
+    are_alone may (yes mine) = qed 𝓛 (‵ (Row.own_val h vs) ∷ ‵ (Row.own_val j ws) ∷ []) ∵ use2 𝓛 (given (h.block ≢ j.block) (‵ (Row.own_val h vs) ⊛ ‵
+        (Row.own_val j ws)))
         (one_block mine may (ℕ_discrete h.block.0 j.block.0) (ℕ_discrete h.block.1 j.block.1)) $ learn ! (λ other. check ! (λ _. other) $ done !)
 
     abbrev pub Distinct : Type 0
@@ -105,5 +115,6 @@ module _ {M : Type 1} {𝓤 : Ura M} (𝓛 : Logic 𝓤) (R B : RattleType) (g :
 
     pub are_apart : HasSeat h.right → HasSeat j.right → Two ⊢ guard 𝓤 Distinct Two
     are_apart may may' = qed 𝓛 (‵ (Row.own_val h vs) ∷ ‵ (Row.own_val j ws) ∷ []) ∵ use2 𝓛 (given Apart (‵ (Row.own_val h vs) ⊛ ‵ (Row.own_val j ws)))
-        (one_seat may may' (ℕ_discrete h.block.1 j.block.1) (ℕ_discrete h.seat j.seat)) $ learn ! (λ two. split ! $ use2 𝓛 (given Alone (‵ (Row.own_val h vs) ⊛ ‵ (Row.own_val j ws)))
-        (are_alone may' (ℕ_discrete h.right owed)) $ learn ! (λ alone. check ! (two, alone) $ done !))
+        (one_seat may may' (ℕ_discrete h.block.1 j.block.1) (ℕ_discrete h.seat j.seat)) $ learn ! (λ two. split ! $
+        use2 𝓛 (given Alone (‵ (Row.own_val h vs) ⊛ ‵ (Row.own_val j ws)))
+        (are_alone may' (owed_or_not h.right)) $ learn ! (λ alone. check ! (two, alone) $ done !))

@@ -62,7 +62,8 @@ module _ {M : Type 1} {𝓤 : Ura M} (𝓛 : Logic 𝓤) (I : Fml) (b o : ℕ) (
     ways : (e : Option ℕ) → Out n e ⊢ along 𝓛 (way e) (if_none 𝓛 T) L
     ways None = shut
     ways (Some d) = let G : Pr = upd 𝓤 (⟦ I ⟧ ∗ upd 𝓤 T) in let N : Pr = A.lft (d ∷ []) full_share ∗ (A.dead (d ∷ []) -∗ G) in
-        qed 𝓛 (‵ (flft (d ∷ []) full_share) ∷ raw (A.dead (d ∷ []) -∗ upd 𝓤 (Closed n)) ∷ []) ∵ suffices ! _ (upd_i 𝓤 N) $ frame ! $ assume ! (‵ (fdead (d ∷ []))) $
+        qed 𝓛 (‵ (flft (d ∷ []) full_share) ∷ raw (A.dead (d ∷ []) -∗ upd 𝓤 (Closed n)) ∷ []) ∵ suffices ! _ (upd_i 𝓤 N) $ frame ! $
+        assume ! (‵ (fdead (d ∷ []))) $
         use2 𝓛 (raw (upd 𝓤 (Closed n))) (apply∗ 𝓤 (A.dead (d ∷ [])) (upd 𝓤 (Closed n))) $ settle 𝓛 (⟦ I ⟧ ∗ upd 𝓤 T) (raw (Closed n)) $ by ! shut
 
   pub asked : (X : Pr) → ⟦ I ⟧ ∗ X ⊢ upd 𝓤 (ex 𝓤 Lies) → A.inv I ∗ X ⊢ asks 𝓛 (block_ptr b o) f always after
@@ -98,4 +99,5 @@ module _ {M : Type 1} {𝓤 : Ura M} (𝓛 : Logic 𝓤) (I : Fml) (b o : ℕ) (
       use2 𝓛 (raw (upd 𝓤 Old)) (apply∗ 𝓤 Dead (upd 𝓤 Old)) $ settle 𝓛 New (raw Old) $ suffices ! _ (upd_i 𝓤 New) $ move ! (1 ∷ 0 ∷ []) $ by ! joined
 
   pub frames : ent 𝓤 (sep 𝓤 (sem 𝓛 (beside n)) (ex 𝓤 (Out 𝓛 I b o f after n))) (ex 𝓤 (Out 𝓛 I b o f both_after n))
-  frames = qed 𝓛 (‵ (beside n) ∷ some (λ (e : Option ℕ). raw (Out 𝓛 I b o f after n e)) ∷ []) ∵ move ! (1 ∷ []) $ pick ! (λ e. show ! (Out 𝓛 I b o f both_after n) e $ move ! (1 ∷ 0 ∷ []) $ by ! (framed e))
+  frames = qed 𝓛 (‵ (beside n) ∷ some (λ (e : Option ℕ). raw (Out 𝓛 I b o f after n e)) ∷ []) ∵ move ! (1 ∷ []) $ pick ! (λ e.
+      show ! (Out 𝓛 I b o f both_after n) e $ move ! (1 ∷ 0 ∷ []) $ by ! (framed e))

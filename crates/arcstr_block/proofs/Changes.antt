@@ -9,16 +9,17 @@ use base.Logic.{SProp, ent, sep, wand, upd, upd_i, never}
 use base.Fml.{Share, Fml, ftrue, flft, fdead, flent}
 use prog.Atomic.{either}
 use types.Logic.{Logic, sem}
-use types.Kit.{‵, raw, ◌⊛◌, ◌$◌, ◌∵◌, !, qed, by, move, keep, drop, split, split3, fsplit, fjoin, fjoin3, fpick, frame, assume, suffices, use1, use2, rewrite, done}
+use types.Kit.{‵, raw, ◌⊛◌, ◌$◌, ◌∵◌, !, qed, by, move, keep, drop, split, split3, fsplit, fjoin, fjoin3, fpick, frame, assume, suffices, use1, use2, rewrite}
+use types.Kit.{done}
 use denote.RawPtr.{block_ptr}
 use denote.Steps.{nothing}
 use Rattle.core.specs.Sync.RawAtomic.{asks, always}
-use Rattle.arcstr_block.specs.Rights.{IsMarked, IsUnmarked, IsWord, IsClone}
+use Rattle.arcstr_block.specs.Word.{IsMarked, IsUnmarked, IsWord, IsClone, IsLast}
 use Rattle.arcstr_block.specs.Ledger.{parts, some_share, Id, Phase, unmarked, marked, Fits, rest, Inv, stated}
 use Rattle.arcstr_block.specs.Book.{Book}
 use Rattle.arcstr_block.proofs.Words.{or_unmarked, or_marked}
 use Rattle.arcstr_block.proofs.Ledger.{share_not_alive, takes, gives, gives_last, gives_marked, too_many, finds_mark}
-use Rattle.arcstr_block.proofs.Steps.{none, part, share, last, after, all_after, Stepped, Shut, keeps, ending, gains, marking, stepped, token_alive}
+use Rattle.arcstr_block.proofs.Steps.{Gain, none, part, share, last, after, all_after, Stepped, Shut, keeps, ending, gains, marking, stepped, token_alive}
 
 module _ {M : Type 1} {𝓤 : Ura M} (𝓛 : Logic 𝓤) (P : Fml) (L b o : ℕ) (t : Id) where
   open 𝓛 use {H, A}
@@ -61,18 +62,25 @@ module _ {M : Type 1} {𝓤 : Ura M} (𝓛 : Logic 𝓤) (P : Fml) (L b o : ℕ)
     Tok = flft (t.0 ∷ []) q
 
     -- ---- the mark
-    abbrev pub Fixed : ℕ → ℕ → Type 0
-    Fixed n r = r ≡ 2
+    abbrev pub Fixed : ℕ → Gain → Type 0
+    Fixed n g = g ≡ share
 
     abbrev pub with_mark : ℕ → ℕ
     with_mark n = bit_or n 1
 
     mark : (n : ℕ) → n < 2 ^ 64 → (s : Phase) → In n s → ⟦ St (with_mark n) ⟧ ∗ ⟦ Keeps s ⟧ ∗ ⟦ Tok ⟧ ⊢ Stepped 𝓛 P L b o t with_mark Fixed Tok Tok n
     mark n fits (unmarked k) h = let h₀ = h.0 in let h₁ = h.1 in let h₂ = h.2 in let h₃ = h.3 in let even : IsUnmarked n = omega (arith, h₀) in
-        marking 𝓛 P L b o t with_mark Fixed Tok Tok n k (omega (arith, h₂, h₃)) (subst (λ (m : ℕ). In m (marked k)) (sym (or_unmarked n even)) (omega (arith, h₀), omega (arith, h₀), omega (arith, h₀, h₂), h₃)) refl
+        marking 𝓛 P L b o t with_mark Fixed Tok Tok n k (omega (arith, h₂, h₃)) (subst (λ (m : ℕ). In m (marked k)) (sym (or_unmarked n even)) (
+          omega
+              (arith, h₀),
+          omega (arith, h₀),
+          omega (arith, h₀, h₂),
+          h₃,
+        )) refl
     mark n fits (marked m) h = let odd : IsMarked n = h.0 in
         qed 𝓛 (‵ (St (with_mark n)) ∷ ‵ (Keeps (marked m)) ∷ ‵ Tok ∷ []) ∵ move ! (1 ∷ []) $
-        use1 𝓛 (‵ (Keeps (marked m)) ⊛ ‵ (some_share t.0) ⊛ ‵ (fdead (t.1 ∷ []))) (finds_mark 𝓛 P L b o t m) $ split3 ! $ move ! (1 ∷ 2 ∷ []) $ fjoin ! $ move ! (2 ∷ 1 ∷ 3 ∷ 0 ∷ []) $
+        use1 𝓛 (‵ (Keeps (marked m)) ⊛ ‵ (some_share t.0) ⊛ ‵ (fdead (t.1 ∷ []))) (finds_mark 𝓛 P L b o t m) $ split3 ! $ move ! (1 ∷ 2 ∷ []) $ fjoin ! $
+        move ! (2 ∷ 1 ∷ 3 ∷ 0 ∷ []) $
         by ! (keeps 𝓛 P L b o t with_mark Fixed Tok Tok n (marked m) (subst (λ (x : ℕ). In x (marked m)) (sym (or_marked n odd)) h) share refl)
 
     pub marks_it : (B : Fml) (said : ℕ → Fml) → ((n : ℕ) → n < 2 ^ 64 → ⟦ Bk n ⟧ ∗ ⟦ B ⟧ ⊢ upd 𝓤 (⟦ Bk (with_mark n) ⟧ ∗ ⟦ said n ⟧))
@@ -81,8 +89,9 @@ module _ {M : Type 1} {𝓤 : Ura M} (𝓛 : Logic 𝓤) (P : Fml) (L b o : ℕ)
 
     -- ---- a clone, by a compare-exchange
     module _ (old new : ℕ) (asked : IsClone L old new) where
-      abbrev pub Raised : ℕ → ℕ → Type 0
-      Raised n r = IsWord L n × (IsMarked n → r ≡ 2) × (IsUnmarked n → n ≢ old → r ≡ 0) × (n ≡ old → IsUnmarked new → r ≡ 1) × (n ≡ old → IsMarked new → r ≡ 2)
+      abbrev pub Raised : ℕ → Gain → Type 0
+      Raised n g = IsWord L n × (IsMarked n → g ≡ share) × (IsUnmarked n → n ≢ old → g ≡ none) × (n ≡ old → IsUnmarked new → g ≡ part) ×
+          (n ≡ old → IsMarked new → g ≡ share)
 
       abbrev pub exchanged : ℕ → ℕ
       exchanged n = either (eqb n old) new n
@@ -100,13 +109,26 @@ module _ {M : Type 1} {𝓤 : Ura M} (𝓛 : Logic 𝓤) (P : Fml) (L b o : ℕ)
       misses : (n : ℕ) → n ≢ old → (s : Phase) → In n s → ⟦ St (exchanged n) ⟧ ∗ ⟦ Keeps s ⟧ ∗ ⟦ Tok ⟧ ⊢ Went n
       misses n miss (unmarked k) h = let h₀ = h.0 in let h₁ = h.1 in let h₂ = h.2 in
           qed 𝓛 (‵ (St (exchanged n)) ∷ ‵ (Keeps (unmarked k)) ∷ ‵ Tok ∷ []) ∵ nothing ! $ move ! (1 ∷ 2 ∷ 3 ∷ 0 ∷ []) $
-          by ! (keeps 𝓛 P L b o t exchanged Raised Tok Tok n (unmarked k) (subst (λ (x : ℕ). In x (unmarked k)) (sym (lost n miss)) h) none
-          ((λ _. (omega (arith, h₀, h₁), omega (arith, h₀, h₂))), (λ odd. absurd (omega (arith, h₀, odd))), (λ _ _. refl), (λ e. absurd (miss e)), (λ e. absurd (miss e))))
+          by ! (keeps 𝓛 P L b o t exchanged Raised Tok Tok n (unmarked k) (subst (λ (x : ℕ). In x (unmarked k)) (sym (lost n miss)) h) none (
+            (λ _. (omega (arith, h₀, h₁), omega (arith, h₀, h₂))),
+            (λ odd. absurd (omega (arith, h₀, odd))),
+            (λ _ _. refl),
+            (λ e. absurd (miss e)),
+            (λ e.
+                absurd (miss e)),
+          ))
       misses n miss (marked m) h = let odd : IsMarked n = h.0 in
           qed 𝓛 (‵ (St (exchanged n)) ∷ ‵ (Keeps (marked m)) ∷ ‵ Tok ∷ []) ∵ move ! (1 ∷ []) $
-          use1 𝓛 (‵ (Keeps (marked m)) ⊛ ‵ (some_share t.0) ⊛ ‵ (fdead (t.1 ∷ []))) (finds_mark 𝓛 P L b o t m) $ split3 ! $ move ! (1 ∷ 2 ∷ []) $ fjoin ! $ move ! (2 ∷ 1 ∷ 3 ∷ 0 ∷ []) $
-          by ! (keeps 𝓛 P L b o t exchanged Raised Tok Tok n (marked m) (subst (λ (x : ℕ). In x (marked m)) (sym (lost n miss)) h) share
-          ((λ even. absurd (omega (arith, odd, even))), (λ _. refl), (λ even. absurd (omega (arith, odd, even))), (λ e. absurd (miss e)), (λ e. absurd (miss e))))
+          use1 𝓛 (‵ (Keeps (marked m)) ⊛ ‵ (some_share t.0) ⊛ ‵ (fdead (t.1 ∷ []))) (finds_mark 𝓛 P L b o t m) $ split3 ! $ move ! (1 ∷ 2 ∷ []) $ fjoin ! $
+          move ! (2 ∷ 1 ∷ 3 ∷ 0 ∷ []) $
+          by ! (keeps 𝓛 P L b o t exchanged Raised Tok Tok n (marked m) (subst (λ (x : ℕ). In x (marked m)) (sym (lost n miss)) h) share (
+            (λ even. absurd (omega (arith, odd, even))),
+            (λ _. refl),
+            (λ even. absurd (omega (arith, odd, even))),
+            (λ e. absurd (miss e)),
+            (λ e.
+                absurd (miss e)),
+          ))
 
       hits : (s : Phase) → In old s → ⟦ St (exchanged old) ⟧ ∗ ⟦ Keeps s ⟧ ∗ ⟦ Tok ⟧ ⊢ Went old
       hits (marked m) h = let odd : IsMarked old = h.0 in let even = asked.0 in absurd (omega (arith, odd, even))
@@ -115,10 +137,22 @@ module _ {M : Type 1} {𝓤 : Ura M} (𝓛 : Logic 𝓤) (P : Fml) (L b o : ℕ)
           (λ room. let is : new ≡ old + 2 = asked.2 room in
           qed 𝓛 (‵ (St (exchanged old)) ∷ ‵ (Keeps (unmarked k)) ∷ ‵ Tok ∷ []) ∵ move ! (1 ∷ []) $
           use1 𝓛 (‵ (Keeps (unmarked (k + 1))) ⊛ ‵ (parts t.0 1)) (takes 𝓛 P L b o t k (omega (arith, h₀, room, h₃))) $ split ! $ move ! (2 ∷ 0 ∷ 3 ∷ 1 ∷ []) $
-          by ! (keeps 𝓛 P L b o t exchanged Raised Tok Tok old (unmarked (k + 1)) (subst (λ (x : ℕ). In x (unmarked (k + 1))) (sym won) (omega (arith, h₀, is), omega arith, omega (arith, h₀, room), h₃)) part
+          by ! (keeps 𝓛 P L b o t exchanged Raised Tok Tok old (unmarked (k + 1)) (subst (λ (x : ℕ). In x (unmarked (k + 1))) (sym won) (
+            omega
+                (arith, h₀, is),
+            omega arith,
+            omega (arith, h₀, room),
+            h₃,
+          )) part
           (good, (λ odd. absurd (omega (arith, odd, even))), (λ _ ne. absurd (ne refl)), (λ _ _. refl), (λ _ odd. absurd (omega (arith, odd, even, is))))))
           (λ above. let full : L < old / 2 = omega (arith, above) in let is : new ≡ old + 1 = asked.1 full in
-          marking 𝓛 P L b o t exchanged Raised Tok Tok old k (omega (arith, h₂, h₃)) (subst (λ (x : ℕ). In x (marked k)) (sym won) (omega (arith, is, even), omega (arith, is, h₀), omega (arith, is, h₀, h₂), h₃))
+          marking 𝓛 P L b o t exchanged Raised Tok Tok old k (omega (arith, h₂, h₃)) (subst (λ (x : ℕ). In x (marked k)) (sym won) (
+            omega
+                (arith, is, even),
+            omega (arith, is, h₀),
+            omega (arith, is, h₀, h₂),
+            h₃,
+          ))
           (good, (λ _. refl), (λ _ ne. absurd (ne refl)), (λ _ un. absurd (omega (arith, un, is, even))), (λ _ _. refl)))
 
       raise : (n : ℕ) → n < 2 ^ 64 → (s : Phase) → In n s → ⟦ St (exchanged n) ⟧ ∗ ⟦ Keeps s ⟧ ∗ ⟦ Tok ⟧ ⊢ Went n
@@ -134,8 +168,8 @@ module _ {M : Type 1} {𝓤 : Ura M} (𝓛 : Logic 𝓤) (P : Fml) (L b o : ℕ)
   abbrev pub less : ℕ → ℕ
   less n = (n + (2 ^ 64 - 2)) % 2 ^ 64
 
-  abbrev pub Left : ℕ → ℕ → Type 0
-  Left n r = (n ≡ 2 → r ≡ 3) × (n ≢ 2 → r ≡ 0)
+  abbrev pub Left : ℕ → Gain → Type 0
+  Left n g = (IsLast n → g ≡ last) × ((¬ IsLast n) → g ≡ none)
 
   abbrev pub One : Fml
   One = parts t.0 1
@@ -151,28 +185,45 @@ module _ {M : Type 1} {𝓤 : Ura M} (𝓛 : Logic 𝓤) (P : Fml) (L b o : ℕ)
       qed 𝓛 (‵ (St 0) ∷ ‵ (Keeps (unmarked 1)) ∷ ‵ One ∷ []) ∵ move ! (1 ∷ 2 ∷ []) $
       use2 𝓛 (‵ (flft (t.0 ∷ []) full_share) ⊛ ‵ (flent (t.0 ∷ []) P)) (gives_last 𝓛 P L b o t) $ split ! $
       suffices ! _ (ending 𝓛 P L b o t less Left One ftrue 2 t.0) $ frame ! $ assume ! (‵ (fdead (t.0 ∷ []))) $ suffices ! _ (upd_i 𝓤 shut) $
-      use1 𝓛 (‵ (fdead (t.0 ∷ [])) ⊛ ‵ (fdead (t.0 ∷ []))) (𝓛.lfts.dead_dup (t.0 ∷ [])) $ split ! $ move ! (3 ∷ 1 ∷ 2 ∷ []) $ fjoin3 ! $ nothing ! $ move ! (0 ∷ 1 ∷ []) $
-      use2 𝓛 (‵ (after 𝓛 P L b o t less Left One ftrue 2)) (gains 𝓛 P L b o t less Left One ftrue 2 last ((λ _. refl), (λ ne. absurd (ne refl)))) $ move ! (1 ∷ []) $
+      use1 𝓛 (‵ (fdead (t.0 ∷ [])) ⊛ ‵ (fdead (t.0 ∷ []))) (𝓛.lfts.dead_dup (t.0 ∷ [])) $ split ! $ move ! (3 ∷ 1 ∷ 2 ∷ []) $ fjoin3 ! $ nothing ! $
+      move ! (0 ∷ 1 ∷ []) $
+      use2 𝓛 (‵ (after 𝓛 P L b o t less Left One ftrue 2)) (gains 𝓛 P L b o t less Left One ftrue 2 last ((λ _. refl), (λ ne. absurd (ne refl)))) $
+      move ! (1 ∷ []) $
       types.Kit.fpack ! Bool (Rattle.arcstr_block.specs.Ledger.if_alive P L b o t) false $ done !
 
   leave : (n : ℕ) → n < 2 ^ 64 → (s : Phase) → In n s → ⟦ St (less n) ⟧ ∗ ⟦ Keeps s ⟧ ∗ ⟦ One ⟧ ⊢ Gone n
   leave n fits (unmarked k) h = let h₀ = h.0 in let h₁ = h.1 in let h₂ = h.2 in let h₃ = h.3 in dite (ℕ_discrete k 1)
       (λ e. let two : n ≡ 2 = omega (arith, h₀, e) in
-      subst (λ (x : ℕ). ⟦ St (less x) ⟧ ∗ ⟦ Keeps (unmarked k) ⟧ ∗ ⟦ One ⟧ ⊢ Gone x) (sym two) (subst (λ (x : ℕ). ⟦ St 0 ⟧ ∗ ⟦ Keeps (unmarked x) ⟧ ∗ ⟦ One ⟧ ⊢ Gone 2) (sym e) last_one))
+      subst (λ (x : ℕ). ⟦ St (less x) ⟧ ∗ ⟦ Keeps (unmarked k) ⟧ ∗ ⟦ One ⟧ ⊢ Gone x) (sym two) (subst (λ (x : ℕ). ⟦ St 0 ⟧ ∗ ⟦ Keeps
+      (unmarked x) ⟧ ∗ ⟦ One ⟧ ⊢ Gone 2) (sym e) last_one))
       (λ many. let more : 1 < k = omega (arith, h₁, many) in let is : less n ≡ n - 2 = omega (arith, h₀, more, fits) in
       qed 𝓛 (‵ (St (less n)) ∷ ‵ (Keeps (unmarked k)) ∷ ‵ One ∷ []) ∵ move ! (1 ∷ 2 ∷ []) $
       use2 𝓛 (‵ (Keeps (unmarked (k - 1)))) (gives 𝓛 P L b o t k more (omega (arith, h₂, h₃))) $ nothing ! $ nothing ! $ move ! (3 ∷ 2 ∷ 0 ∷ 1 ∷ []) $
-      by ! (keeps 𝓛 P L b o t less Left One ftrue n (unmarked (k - 1)) (subst (λ (x : ℕ). In x (unmarked (k - 1))) (sym is) (omega (arith, h₀, more), omega (arith, more), omega (arith, h₂), h₃)) none
+      by ! (keeps 𝓛 P L b o t less Left One ftrue n (unmarked (k - 1)) (subst (λ (x : ℕ). In x (unmarked (k - 1))) (sym is) (
+        omega (arith, h₀, more),
+        omega
+            (arith, more),
+        omega (arith, h₂),
+        h₃,
+      )) none
       ((λ e. absurd (omega (arith, e, h₀, more))), (λ _. refl))))
   leave n fits (marked m) h = let odd : IsMarked n = h.0 in let h₁ = h.1 in let h₂ = h.2 in let h₃ = h.3 in dite (ℕ_discrete m 0)
       (λ e. subst (λ (x : ℕ). ⟦ St (less n) ⟧ ∗ ⟦ Keeps (marked x) ⟧ ∗ ⟦ One ⟧ ⊢ Gone n) (sym e) (
       qed 𝓛 (‵ (St (less n)) ∷ ‵ (Keeps (marked 0)) ∷ ‵ One ∷ []) ∵ move ! (1 ∷ 2 ∷ []) $
       use2 𝓛 (‵ (flft (t.0 ∷ []) full_share) ⊛ ‵ (some_share t.0)) (too_many 𝓛 P L b o t) $ split ! $
-      suffices ! _ (ending 𝓛 P L b o t less Left One ftrue n t.0) $ frame ! $ assume ! (‵ (fdead (t.0 ∷ []))) $ suffices ! _ (upd_i 𝓤 (Shut 𝓛 P L b o t less Left One ftrue n)) $ keep ! (1 ∷ 0 ∷ []) $ by ! (share_not_alive 𝓛 P L b o t t.0 (Shut 𝓛 P L b o t less Left One ftrue n))))
+      suffices ! _ (ending 𝓛 P L b o t less Left One ftrue n t.0) $ frame ! $ assume ! (‵ (fdead (t.0 ∷ []))) $
+      suffices ! _ (upd_i 𝓤 (Shut 𝓛 P L b o t less Left One ftrue n)) $ keep ! (1 ∷ 0 ∷ []) $
+      by ! (share_not_alive 𝓛 P L b o t t.0 (Shut 𝓛 P L b o t less Left One ftrue n))))
       (λ some. let more : 0 < m = omega (arith, some) in let is : less n ≡ n - 2 = omega (arith, odd, more, h₁, fits) in
       qed 𝓛 (‵ (St (less n)) ∷ ‵ (Keeps (marked m)) ∷ ‵ One ∷ []) ∵ move ! (1 ∷ 2 ∷ []) $
       use2 𝓛 (‵ (Keeps (marked (m - 1)))) (gives_marked 𝓛 P L b o t m more (omega (arith, h₁, h₂, h₃))) $ nothing ! $ nothing ! $ move ! (3 ∷ 2 ∷ 0 ∷ 1 ∷ []) $
-      by ! (keeps 𝓛 P L b o t less Left One ftrue n (marked (m - 1)) (subst (λ (x : ℕ). In x (marked (m - 1))) (sym is) (omega (arith, odd, more, h₁), omega (arith, odd, more, h₁), omega (arith, h₂), h₃)) none
+      by ! (keeps 𝓛 P L b o t less Left One ftrue n (marked (m - 1)) (subst (λ (x : ℕ). In x (marked (m - 1))) (sym is) (
+        omega (arith, odd, more, h₁),
+        omega
+            (arith, odd, more, h₁),
+        omega (arith, h₂),
+        h₃,
+      )) none
       ((λ e. absurd (omega (arith, e, odd))), (λ _. refl))))
 
   pub leaves_it : (B : Fml) (said : ℕ → Fml) → ((n : ℕ) → n < 2 ^ 64 → ⟦ Bk n ⟧ ∗ ⟦ B ⟧ ⊢ upd 𝓤 (⟦ Bk (less n) ⟧ ∗ ⟦ said n ⟧))

@@ -1,5 +1,5 @@
 -- A pointer to a block may cross threads, where its content and its allocator may: no part of what it owns names a thread.
-use Rattle.std.proofs.Common.{ℕ, zero, suc, ◌+◌, Bool, true, false, List, [], ◌∷◌}
+use Rattle.std.proofs.Common.{ℕ, suc, ◌+◌, Bool, true, false, List, [], ◌∷◌, length}
 use mir.Raw.{raw}
 use base.Growing.{latest, at_least}
 use base.Fml.{Lft, GName, Share, Fml}
@@ -8,9 +8,9 @@ use base.Share.{three_quarters}
 use base.Shift.{Keyless}
 use types.Keyed.{entry_keyless, entries_keyless}
 use denote.RattleType.{RattleType}
-use denote.Memory.{lone}
+use denote.Array.{Array}
 use denote.RawPtr.{Ptr, block_of, count_of}
-use denote.Builtin.{RawPtr}
+use denote.Builtin.{RawPtr, u8, usize}
 use denote.Struct.Struct.{exits_of}
 use denote.Struct.Owning.{shape, fields, to}
 use denote.Param.Send.{IsSend, IsSync, Common, AllSend, Frees, owning_send, struct_send, struct_sync, sendable}
@@ -21,9 +21,11 @@ use Rattle.atomic_table.specs.Seated.{halved}
 use Rattle.arcstr_count.specs.declared.steps.Step.{Step}
 use Rattle.arcstr_count.specs.declared.steps.HandleState.{HandleState}
 use Rattle.arcstr_count.specs.declared.steps.HandleState.TheVariants.{Free, Dropping, Owing}
+use Rattle.arcstr_block.specs.Rights.{Right, nothing, counted, uncounted, fixed, dropping, owed}
 use Rattle.arcstr_block.specs.Book.{steps, state_code, reached, seat_share, Book}
-use Rattle.arcstr_block.specs.Ledger.{Id, Names, Phase, unmarked, marked, rest, stated, if_alive, known, right_to, shown, block_owns, block_shares, value_at}
-use Rattle.arcstr_block.specs.contracts.block.Block.{the_row as block_row}
+use Rattle.arcstr_block.specs.Memory.{block_type, length_at, text_at, block_owns, block_shares}
+use Rattle.arcstr_block.specs.Ledger.{Id, Names, Phase, unmarked, marked, rest, stated, if_alive, known, right_to, shown}
+use Rattle.arcstr_block.specs.contracts.block.Sole as S
 use Rattle.arcstr_block.specs.contracts.pointer.Pointer as C
 
 pub reached_keyless : (γ : GName) (history : List Step) → Keyless (reached γ history)
@@ -57,65 +59,101 @@ module _ (P : Fml) (L b o : ℕ) (t : Id) (k : Keyless P) where
   alive_keyless false = tt
 
   module _ (s : Lft → Fml) (common : Common s) (h : ℕ) where
-    right_keyless : (right : ℕ) → Keyless (right_to P L b o t s h right)
-    right_keyless zero = common _
-    right_keyless (suc zero) = λ e. ((λ _. tt), (tt, ((λ _. tt), (common _, seat_keyless t.3 h three_quarters Free))))
-    right_keyless (suc (suc zero)) = λ e. ((λ _. tt), (tt, ((λ _. tt), (common _, seat_keyless t.3 h three_quarters Free))))
-    right_keyless (suc (suc (suc zero))) = (((λ q. tt), tt), common _)
-    right_keyless (suc (suc (suc (suc zero)))) = ((λ e c. tt), (common _, seat_keyless t.3 h three_quarters Dropping))
-    right_keyless (suc (suc (suc (suc (suc m))))) = (stated_keyless 0, (k, seat_keyless t.3 h three_quarters Owing))
+    right_keyless : (right : Right) → Keyless (right_to P L b o t s h right)
+    right_keyless nothing = common _
+    right_keyless counted = λ e. ((λ _. tt), (tt, ((λ _. tt), (common _, seat_keyless t.3 h three_quarters Free))))
+    right_keyless uncounted = λ e. ((λ _. tt), (tt, ((λ _. tt), (common _, seat_keyless t.3 h three_quarters Free))))
+    right_keyless fixed = (((λ q. tt), tt), common _)
+    right_keyless dropping = ((λ e c. tt), (common _, seat_keyless t.3 h three_quarters Dropping))
+    right_keyless owed = (stated_keyless 0, (k, seat_keyless t.3 h three_quarters Owing))
 
-    shown_common : (right : ℕ) → Common (shown P L b o t s h right)
-    shown_common zero κ = tt
-    shown_common (suc zero) κ = ((λ q. tt), ((λ q. seat_keyless t.3 h q Free), ((λ _. tt), (alive_keyless, common _))))
-    shown_common (suc (suc zero)) κ = ((λ q. tt), ((λ q. seat_keyless t.3 h q Free), ((λ _. tt), (alive_keyless, common _))))
-    shown_common (suc (suc (suc zero))) κ = (((λ q. tt), tt), (alive_keyless, common _))
-    shown_common (suc (suc (suc (suc m)))) κ = tt
+    shown_common : (right : Right) → Common (shown P L b o t s h right)
+    shown_common nothing κ = tt
+    shown_common counted κ = ((λ q. tt), ((λ q. seat_keyless t.3 h q Free), ((λ _. tt), (alive_keyless, common _))))
+    shown_common uncounted κ = ((λ q. tt), ((λ q. seat_keyless t.3 h q Free), ((λ _. tt), (alive_keyless, common _))))
+    shown_common fixed κ = (((λ q. tt), tt), (alive_keyless, common _))
+    shown_common dropping κ = tt
+    shown_common owed κ = tt
 
 known_keyless : (t : Id) (block : Names) (history : List Step) → Keyless (known t block history)
 known_keyless t block history = ((λ _. tt), reached_keyless t.2 history)
 
-module _ (T B : RattleType) (g : Ghosts B.Denot) (s : IsSend T) (y : IsSync T) (f : Frees g g.dealloc_token) where
-  block_send : IsSend (block_row T)
-  block_send = search sendable
+byte_send : IsSend u8
+byte_send = search sendable
 
-  owns_keyless : (a : B.Denot) (p : Ptr) (x : T.Denot) → Keyless (block_owns (g.dealloc_token a) T p x)
-  owns_keyless a p x = (lies T s (value_at (g.dealloc_token a) T p x) x, ((λ n. ((tt, lies T s (value_at (g.dealloc_token a) T p x) x), lies (block_row T) block_send p (record { word = n; value = x }))), f.frees a (raw (lone (block_row T).mir)) p))
+bytes_send : (n : ℕ) → IsSend (Array u8 n)
+bytes_send n = search sendable
+
+number_send : IsSend usize
+number_send = search sendable
+
+number_sync : IsSync usize
+number_sync = search sendable
+
+bytes_sync : (n : ℕ) → IsSync (Array u8 n)
+bytes_sync n = search sendable
+
+abbrev common : (p : Ptr) (xs : List ℕ) → Common (block_shares p xs)
+common p xs κ = (lent usize number_sync (length_at p) (length xs) κ, lent (Array u8 (length xs)) (bytes_sync (length xs)) (text_at p) xs κ)
+
+ps : IsSend RawPtr
+ps = search sendable
+
+py : IsSync RawPtr
+py = search sendable
+
+module _ (B : RattleType) (g : Ghosts B.Denot) (f : Frees g g.dealloc_token) where
+  owns_keyless : (a : B.Denot) (p : Ptr) (xs : List ℕ) → Keyless (block_owns (g.dealloc_token a) p xs)
+  owns_keyless a p xs = let n : ℕ = length xs in (
+    lies usize number_send (length_at p) n,
+    (
+      lies (Array u8 n) (bytes_send n) (text_at p) xs,
+      (
+        ((tt, (tt, (tt, tt))), tt),
+        f.frees a (raw
+            (block_type n)) p,
+      ),
+    ),
+  )
 
   module _ (sb : IsSend B) (yb : IsSync B) where
-    common : (a : B.Denot) (p : Ptr) (x : T.Denot) → Common (block_shares (g.dealloc_token a) T p x)
-    common a p x κ = lent T y (value_at (g.dealloc_token a) T p x) x κ
-
-    ps : IsSend RawPtr
-    ps = search sendable
-
-    py : IsSync RawPtr
-    py = search sendable
-
     ms : IsSend (Marker.the_field B).row
     ms = search sendable
 
     my : IsSync (Marker.the_field B).row
     my = search sendable
 
-    pub pointer_send : IsSend (C.the_row T B g)
-    pointer_send = let O = C.the_type T B g in let all : AllSend (fields O) = (ps, (ms, tt)) in owning_send O all
+    pub pointer_send : IsSend (C.the_row B g)
+    pointer_send = let O = C.the_type B g in let all : AllSend (fields O) = (ps, (ms, tt)) in owning_send O all
         (λ d. (
           (λ _. tt),
-          λ t. (
+          λ t. let P = block_owns (g.dealloc_token d.home) d.at d.text in (
             known_keyless t d.block d.history,
             (
-              alive_keyless (block_owns (g.dealloc_token d.home) T d.at d.value) d.limit (block_of d.at) (count_of d.at + 0) t (owns_keyless d.home d.at d.value),
-              right_keyless (block_owns (g.dealloc_token d.home) T d.at d.value) d.limit (block_of d.at) (count_of d.at + 0) t (owns_keyless d.home d.at d.value) (block_shares (g.dealloc_token d.home) T d.at d.value) (common d.home d.at d.value) d.seat d.right,
+              alive_keyless P d.limit (block_of d.at) (count_of d.at + 0) t (owns_keyless d.home d.at d.text),
+              right_keyless P d.limit (block_of d.at) (count_of d.at + 0) t (owns_keyless d.home d.at d.text) (block_shares d.at d.text)
+                  (common d.at d.text) d.seat d.right,
             ),
           ),
         ))
         (λ k. quiet (to O) (exits_of k (fields O)) ((struct_send (shape O) all).leaving k))
 
-    pub pointer_sync : IsSync (C.the_row T B g)
+    pub pointer_sync : IsSync (C.the_row B g)
     pointer_sync = record {
-      shared = λ d b o κ. (
-        (struct_sync (shape (C.the_type T B g)) (py, (my, tt))).shared (to (C.the_type T B g) d) b o κ,
-        ((λ _. tt), λ t. (known_keyless t d.block d.history, shown_common (block_owns (g.dealloc_token d.home) T d.at d.value) d.limit (block_of d.at) (count_of d.at + 0) t (owns_keyless d.home d.at d.value) (block_shares (g.dealloc_token d.home) T d.at d.value) (common d.home d.at d.value) d.seat d.right κ)),
+      shared = λ d b o κ. let P = block_owns (g.dealloc_token d.home) d.at d.text in (
+        (struct_sync (shape (C.the_type B g)) (py, (my, tt))).shared (to (C.the_type B g) d) b o κ,
+        (
+          (λ _. tt),
+          λ t. (
+            known_keyless t d.block d.history,
+            shown_common P d.limit (block_of d.at) (count_of d.at + 0) t (owns_keyless d.home d.at d.text)
+                (block_shares d.at d.text) (common d.at d.text) d.seat d.right κ,
+          ),
+        ),
       );
     }
+
+    pub sole_send : IsSend (S.the_row B g)
+    sole_send = let O = S.the_type B g in let all : AllSend (fields O) = (ps, (ms, tt)) in owning_send O all
+        (λ d. ((λ _. tt), (tt, owns_keyless d.home d.at d.text)))
+        (λ k. quiet (to O) (exits_of k (fields O)) ((struct_send (shape O) all).leaving k))

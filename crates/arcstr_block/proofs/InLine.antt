@@ -34,8 +34,13 @@ module _ {M : Type 1} {𝓤 : Ura M} (𝓛 : Logic 𝓤) where
   ⟦ X ⟧ = sem 𝓛 X
 
   in_line : (γ : GName) (r s : List Step) → ent 𝓤 (sep 𝓤 ⟦ reached γ r ⟧ ⟦ reached γ s ⟧) (fact 𝓤 (InLine r s))
-  in_line γ r s = qed 𝓛 (‵ (reached γ r) ∷ ‵ (reached γ s) ∷ []) ∵ use2 𝓛 (some (λ (c : List Step). given (Least steps.le r s c) (‵ (reached γ c)))) (at_least_join steps 𝓛 γ r s) $
-      pick ! (λ c. learn ! (λ least. by ! (fact_i 𝓤 (InLine r s) ⟦ reached γ c ⟧ ((λ short. shorter r s c least.0 least.1 short), (λ short. shorter s r c least.1 least.0 short)))))
+  in_line γ r s = qed 𝓛 (‵ (reached γ r) ∷ ‵ (reached γ s) ∷ []) ∵ use2 𝓛 (some (λ (c : List Step). given (Least steps.le r s c) (‵ (reached γ c))))
+      (at_least_join steps 𝓛 γ r s) $
+      pick ! (λ c. learn ! (λ least. by ! (fact_i 𝓤 (InLine r s) ⟦ reached γ c ⟧ (
+        (λ short. shorter r s c least.0 least.1 short),
+        (λ short.
+            shorter s r c least.1 least.0 short),
+      ))))
 
   -- what two names of histories say: where they are one, what was reached is in line
   abbrev pub Agrees : GName → GName → List Step → List Step → Type 0

@@ -51,13 +51,15 @@ module _ {M : Type 1} {𝓤 : Ura M} (𝓛 : Logic 𝓤) (P : Fml) (L b o : ℕ)
   -- one more handle
   pub takes : (k : ℕ) → k < 2 ^ 62 → ⟦ Keeps (unmarked k) ⟧ ⊢ ⟦ Keeps (unmarked (k + 1)) ⟧ ∗ ⟦ parts t.0 1 ⟧
   takes k small = qed 𝓛 (‵ (Keeps (unmarked k)) ∷ []) ∵ fsplit3 ! $
-      use1 𝓛 (‵ (parts t.0 (2 ^ 63 - (k + 1))) ⊛ ‵ (parts t.0 1)) (parts_cut 𝓛 t.0 (2 ^ 63 - k) (2 ^ 63 - (k + 1)) 1 (omega arith) (omega arith) (omega arith) (omega arith)) $ split ! $
+      use1 𝓛 (‵ (parts t.0 (2 ^ 63 - (k + 1))) ⊛ ‵ (parts t.0 1)) (parts_cut 𝓛 t.0 (2 ^ 63 - k) (2 ^ 63 - (k + 1)) 1 (omega arith) (omega arith) (omega arith)
+      (omega arith)) $ split ! $
       move ! (0 ∷ 2 ∷ 3 ∷ []) $ fjoin3 ! $ done !
 
   -- one handle less, and not the last
   pub gives : (k : ℕ) → 1 < k → k < 2 ^ 63 → ⟦ Keeps (unmarked k) ⟧ ∗ ⟦ parts t.0 1 ⟧ ⊢ ⟦ Keeps (unmarked (k - 1)) ⟧
   gives k many small = qed 𝓛 (‵ (Keeps (unmarked k)) ∷ ‵ (parts t.0 1) ∷ []) ∵ fsplit3 ! $ move ! (0 ∷ 3 ∷ []) $
-      use2 𝓛 (‵ (parts t.0 (2 ^ 63 - (k - 1)))) (parts_glue 𝓛 t.0 (2 ^ 63 - k) 1 (2 ^ 63 - (k - 1)) (omega arith) (omega arith) (omega arith)) $ fjoin3 ! $ done !
+      use2 𝓛 (‵ (parts t.0 (2 ^ 63 - (k - 1)))) (parts_glue 𝓛 t.0 (2 ^ 63 - k) 1 (2 ^ 63 - (k - 1)) (omega arith) (omega arith) (omega arith)) $ fjoin3 ! $
+      done !
 
   -- the last one has the whole token, and with it what was lent
   pub gives_last : ⟦ Keeps (unmarked 1) ⟧ ∗ ⟦ parts t.0 1 ⟧ ⊢ A.lft (t.0 ∷ []) full_share ∗ A.lent (t.0 ∷ []) P
@@ -67,7 +69,8 @@ module _ {M : Type 1} {𝓤 : Ura M} (𝓛 : Logic 𝓤) (P : Fml) (L b o : ℕ)
   -- a drop that looked before the mark
   pub gives_marked : (m : ℕ) → 0 < m → m < 2 ^ 63 → ⟦ Keeps (marked m) ⟧ ∗ ⟦ parts t.0 1 ⟧ ⊢ ⟦ Keeps (marked (m - 1)) ⟧
   gives_marked m some small = qed 𝓛 (‵ (Keeps (marked m)) ∷ ‵ (parts t.0 1) ∷ []) ∵ fsplit3 ! $ move ! (0 ∷ 3 ∷ []) $
-      use2 𝓛 (‵ (parts t.0 (2 ^ 63 - ((m - 1) + 1)))) (parts_glue 𝓛 t.0 (2 ^ 63 - (m + 1)) 1 (2 ^ 63 - ((m - 1) + 1)) (omega arith) (omega arith) (omega arith)) $ fjoin3 ! $ done !
+      use2 𝓛 (‵ (parts t.0 (2 ^ 63 - ((m - 1) + 1)))) (parts_glue 𝓛 t.0 (2 ^ 63 - (m + 1)) 1 (2 ^ 63 - ((m - 1) + 1)) (omega arith) (omega arith)
+      (omega arith)) $ fjoin3 ! $ done !
 
   -- more parts than were out
   pub too_many : ⟦ Keeps (marked 0) ⟧ ∗ ⟦ parts t.0 1 ⟧ ⊢ A.lft (t.0 ∷ []) full_share ∗ ⟦ some_share t.0 ⟧
@@ -75,9 +78,11 @@ module _ {M : Type 1} {𝓤 : Ura M} (𝓛 : Logic 𝓤) (P : Fml) (L b o : ℕ)
       use2 𝓛 (‵ (flft (t.0 ∷ []) full_share)) (parts_whole 𝓛 t.0) $ keep ! (0 ∷ 1 ∷ []) $ done !
 
   -- the token of c ends with the mark, and one more part is kept, of which the marker has a share
-  pub marks : (k : ℕ) → k < 2 ^ 63 - 1 → ⟦ Keeps (unmarked k) ⟧ ⊢ A.lft (t.1 ∷ []) full_share ∗ ⟦ parts t.0 (2 ^ 63 - (k + 1)) ⟧ ∗ ⟦ some_share t.0 ⟧ ∗ ⟦ some_share t.0 ⟧
+  pub marks : (k : ℕ) → k < 2 ^ 63 - 1
+      → ⟦ Keeps (unmarked k) ⟧ ⊢ A.lft (t.1 ∷ []) full_share ∗ ⟦ parts t.0 (2 ^ 63 - (k + 1)) ⟧ ∗ ⟦ some_share t.0 ⟧ ∗ ⟦ some_share t.0 ⟧
   marks k small = qed 𝓛 (‵ (Keeps (unmarked k)) ∷ []) ∵ fsplit3 ! $
-      use1 𝓛 (‵ (parts t.0 (2 ^ 63 - (k + 1))) ⊛ ‵ (parts t.0 1)) (parts_cut 𝓛 t.0 (2 ^ 63 - k) (2 ^ 63 - (k + 1)) 1 (omega arith) (omega arith) (omega arith) (omega arith)) $ split ! $
+      use1 𝓛 (‵ (parts t.0 (2 ^ 63 - (k + 1))) ⊛ ‵ (parts t.0 1)) (parts_cut 𝓛 t.0 (2 ^ 63 - k) (2 ^ 63 - (k + 1)) 1 (omega arith) (omega arith) (omega arith)
+      (omega arith)) $ split ! $
       move ! (1 ∷ []) $ use1 𝓛 (‵ (some_share t.0)) (part_share 𝓛 t.0 1) $ use1 𝓛 (‵ (some_share t.0) ⊛ ‵ (some_share t.0)) (share_halves 𝓛 t.0) $ split ! $
       keep ! (3 ∷ 2 ∷ 0 ∷ 1 ∷ []) $ done !
 
@@ -86,6 +91,7 @@ module _ {M : Type 1} {𝓤 : Ura M} (𝓛 : Logic 𝓤) (P : Fml) (L b o : ℕ)
 
   -- whoever finds the mark has a share
   pub finds_mark : (m : ℕ) → ⟦ Keeps (marked m) ⟧ ⊢ ⟦ Keeps (marked m) ⟧ ∗ ⟦ some_share t.0 ⟧ ∗ A.dead (t.1 ∷ [])
-  finds_mark m = qed 𝓛 (‵ (Keeps (marked m)) ∷ []) ∵ fsplit3 ! $ move ! (1 ∷ []) $ use1 𝓛 (‵ (some_share t.0) ⊛ ‵ (some_share t.0)) (share_halves 𝓛 t.0) $ split ! $
+  finds_mark m = qed 𝓛 (‵ (Keeps (marked m)) ∷ []) ∵ fsplit3 ! $ move ! (1 ∷ []) $ use1 𝓛 (‵ (some_share t.0) ⊛ ‵ (some_share t.0)) (share_halves 𝓛 t.0) $
+      split ! $
       move ! (3 ∷ []) $ use1 𝓛 (‵ (fdead (t.1 ∷ [])) ⊛ ‵ (fdead (t.1 ∷ []))) (𝓛.lfts.dead_dup (t.1 ∷ [])) $ split ! $
       move ! (4 ∷ 2 ∷ 0 ∷ []) $ fjoin3 ! $ move ! (0 ∷ 2 ∷ 1 ∷ []) $ done !

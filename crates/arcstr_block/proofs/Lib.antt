@@ -1,6 +1,7 @@
 pub mod Parts
 pub mod Apart
 pub mod Alone
+pub mod Beside
 pub mod Unmarked
 pub mod Atomic
 pub mod Lent
@@ -8,14 +9,18 @@ pub mod Words
 pub mod Ledger
 pub mod Steps
 pub mod Changes
+pub mod Decided
 pub mod Rights
+pub mod Loads
 pub mod Turns
 pub mod Begins
 pub mod Fields
+pub mod Framed
 pub mod Seats
 pub mod Book
 pub mod Memory
-pub mod LooseValues
+pub mod Places
+pub mod Copies
 pub mod Crosses
 pub mod Looks
 pub mod Marked

@@ -1,5 +1,6 @@
 -- A history of one block that ends in a mark, or in a look that found one, has marked its block.
-use Rattle.std.proofs.Common.{◌≡◌, ℕ, ◌<◌, Bool, true, false, ◌||◌, ◌==◌, if◌then◌else◌, Option, None, Some, List, [], ◌∷◌, ◌++◌, refl, sym, ap, ◌∙◌, subst, arith}
+use Rattle.std.proofs.Common.{◌≡◌, ℕ, ◌<◌, Bool, true, false, ◌||◌, ◌==◌, if◌then◌else◌, Option, None, Some, List, [], ◌∷◌, ◌++◌, refl, sym, ap, ◌∙◌, subst}
+use Rattle.std.proofs.Common.{arith}
 use Rattle.arcstr_count.specs.declared.steps.Step.{Step}
 use Rattle.arcstr_count.specs.declared.steps.Step.TheVariants.{Look, Leak}
 use Rattle.arcstr_count.specs.declared.steps.Reply.TheVariants.{Count, Static, Marked}
@@ -12,8 +13,7 @@ use Rattle.arcstr_count.specs.Past.{past_of}
 use Rattle.arcstr_count.specs.OneBlock.{IsOneBlock, EndsIn, look_reply}
 use Rattle.arcstr_count.proofs.Pasts.{past_of-step, IsPast-past_of}
 use Rattle.arcstr_count.proofs.LawsOfHandles.{block_made, Look-finds, Leak-finds}
-use Rattle.arcstr_block.specs.Rights.{IsMarked}
-use Rattle.arcstr_block.specs.Book.{word_of}
+use Rattle.arcstr_block.specs.Word.{IsMarked, word_of}
 use Rattle.arcstr_block.specs.Handle.{IsMarkedIn}
 use Rattle.arcstr_block.proofs.Words.{marked_word}
 
@@ -53,7 +53,8 @@ marked_by_look limit history h ends = let p : List Step = past_of limit ends.fro
     record { one_block = ends.one_block; marked = ap (λ q. is_marked limit q 0) past ∙ ap (λ b. is_marked limit p b) (sym on) ∙ there }
 
 -- a look that found the marked word n
-pub marked_by_word : (limit n : ℕ) (history : List Step) (h : ℕ) → EndsIn limit history (Look h) (look_reply (looked_of (word_of n))) → IsMarked n → IsMarkedIn limit history
+pub marked_by_word : (limit n : ℕ) (history : List Step) (h : ℕ) → EndsIn limit history (Look h) (look_reply (looked_of (word_of n))) → IsMarked n
+    → IsMarkedIn limit history
 marked_by_word limit n history h ends odd =
     marked_by_look limit history h (subst (EndsIn limit history (Look h)) (ap (λ (w : FlagAndCount). look_reply (looked_of w)) (marked_word n odd)) ends)
 

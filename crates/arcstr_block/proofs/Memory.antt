@@ -1,93 +1,75 @@
--- The memory of a block, cut into its word and the rest, and joined again. Assumes `Logic`.
-use Rattle.std.proofs.Common.{ℕ, zero, ◌+◌, List, [], ◌∷◌}
+-- The memory of a block: its size, its three rooms, what is lent of it, and the way back to room. Assumes `Logic`.
+use Rattle.std.proofs.Common.{◌≡◌, ℕ, ◌+◌, List, [], ◌∷◌, length, refl, ap, ◌∙◌, arith}
 use seplogic.Ra.Ura.{Ura}
 use base.Fraction.{full_share}
-use base.Logic.{SProp, ent, sep, wand, all, all_e, via, apply∗}
-use base.Fml.{Fml, ftrue, fsep, fwand}
+use base.Logic.{ent, sep, apply∗}
+use base.Fml.{Lft, Fml, fsep, feq, fwand, froom}
+use contract.BorrowLft.{⊑_static}
+use mir.Syntax.{Ty, w8, w64, ty_int, ty_array, tcons, tnil}
+use mir.Raw.{raw as bare}
+use mir.Val.{vint}
+use prog.Memory.{size, align, capped}
+use prog.Capped.{capped_is}
+use prog.RawLaws.{size-raw, align-raw}
 use types.Logic.{Logic, sem}
-use types.Kit.{‵, raw, ◌⊛◌, ◌$◌, ◌∵◌, !, qed, by, move, keep, use1, use2, split, split3, fsplit, fjoin, fjoin3, each, assume, done}
-use denote.RattleType.{RattleType, Denots}
-use denote.Memory.{part_of, part_at}
-use denote.RawPtr.{block_ptr, lies_at}
+use types.Kit.{‵, ◌$◌, ◌∵◌, !, qed, move, drop, use1, use2, fsplit, fsplit3, fjoin, fjoin3, done}
+use denote.Array.{Array, Array-row_laws}
+use denote.Builtin.{u8, usize}
+use denote.Param.Laws.{Laws, of_field}
+use denote.Param.Shared.{copy_shared}
+use denote.RawPtr.{Ptr, block_ptr}
+use denote.RawPtr.Bytes.{bytes, bytes_apart, bytes-room}
 use denote.Steps.{nothing}
-use denote.Param.{param, layout}
-use denote.Param.Laws.{Laws, param_laws}
-use denote.Struct.Struct.{Struct}
-use denote.Struct.Laws.{u64-laws}
-use denote.Struct.Members.{Member, row_of, rows_of, parts_at}
-use denote.Struct.Parts.{PartsBack, Struct-parts, shape_of}
-use Rattle.core.specs.Ptr.{points_to}
+use denote.Shares.{Shares-less, Shares-Array}
+use denote.Sharing.{ShrLaws}
+use denote.SharingLaws.{beside_shr_laws}
+use denote.Struct.Field.{u8-field, u64-field}
+use denote.Struct.Laws.{u8-laws, u8-copy, u64-laws, u64-copy}
+use denote.Struct.Lending.{lent_at, lent_at_shr_laws, Lends, Lends-both, Lends-first, Lends-lies}
 use Rattle.core.specs.Sync.RawAtomic.{word}
-use Rattle.core.proofs.cell.Borrows.{flag}
-use Rattle.core.proofs.tally.Steps.{word_out, word_in}
-use Rattle.arcstr_block.specs.Ledger.{value_at, rejoins}
-use Rattle.arcstr_block.specs.contracts.block.Block.{the_row as block_row}
+use Rattle.core.proofs.tally.Steps.{word_out}
+use Rattle.arcstr_block.specs.Memory.{Fits, block_size, block_type, length_at, text_at, rooms, length_lies, text_lies, rim, block_owns, block_shares}
 
-module _ {M : Type 1} {𝓤 : Ura M} (𝓛 : Logic 𝓤) (X : RattleType) (L : Laws X) (holds : mir.Syntax.Ty → denote.RawPtr.Ptr → Fml) (x : X.Denot) (b o : ℕ) where
+pub block_bytes : (n : ℕ) → Fits n → capped (size (bare (block_type n))) ≡ block_size n
+block_bytes n fits = ap capped (size-raw (block_type n)) ∙ capped_is (size (block_type n)) (omega arith) ∙ omega arith
+
+pub block_align : (n : ℕ) → capped (align (bare (block_type n))) ≡ 8
+block_align n = ap capped (align-raw (block_type n))
+
+abbrev pub byte_laws : Laws u8
+byte_laws = of_field u8-field u8-laws refl (copy_shared u8-field u8-copy)
+
+abbrev pub number_laws : Laws usize
+number_laws = of_field u64-field u64-laws refl (copy_shared u64-field u64-copy)
+
+pub shares_laws : (p : Ptr) (xs : List ℕ) → ShrLaws (block_shares p xs)
+shares_laws p xs = let n : ℕ = length xs in beside_shr_laws (lent_at usize (length_at p) n) (lent_at (Array u8 n) (text_at p) xs)
+    (lent_at_shr_laws usize number_laws.shr_laws (length_at p) n) (lent_at_shr_laws (Array u8 n) (Array-row_laws u8 byte_laws.shr_laws n) (text_at p) xs)
+
+module _ {M : Type 1} {𝓤 : Ura M} (𝓛 : Logic 𝓤) where
   open 𝓛 use {H, A}
 
-  abbrev Pr : Type 2
-  Pr = SProp 𝓤
+  pub lends_block : (holds : Ty → Ptr → Fml) (p : Ptr) (xs : List ℕ) (l : Lft) → Lends 𝓛 (block_owns holds p xs) (block_shares p xs) l
+  lends_block holds p xs l = let n : ℕ = length xs in let s : Lft → Fml = lent_at (Array u8 n) (text_at p) xs in
+      Lends-both 𝓛 (length_lies p n) (fsep (text_lies p xs) (rim holds n p)) (lent_at usize (length_at p) n) s l
+      (Lends-lies 𝓛 usize l (length_at p) n (Shares-less 𝓛 usize [] l (⊑_static l) (number_laws.shares 𝓛) n))
+      (Lends-first 𝓛 (text_lies p xs) (rim holds n p) s l (Lends-lies 𝓛 (Array u8 n) l (text_at p) xs (Shares-Array 𝓛 u8 tt n l (Shares-less 𝓛 u8 [] l
+      (⊑_static l) (byte_laws.shares 𝓛)) xs)))
 
-  abbrev ◌⊢◌ : Pr → Pr → Type 1
-  P ⊢ Q = ent 𝓤 P Q
+  pub spreads : (n b o : ℕ)
+      → ent 𝓤 (H.room (bare (block_type n)) b o) (sep 𝓤 (sem 𝓛 (rooms n b o)) (sem 𝓛 (fwand (rooms n b o) (froom (bare (block_type n)) b o))))
+  spreads n b o = 𝓛.laws.room_fields [] (tcons (ty_int w64) (tcons (ty_int w64) (tcons (ty_array (ty_int w8) n) tnil))) b o
 
-  abbrev ◌∗◌ : Pr → Pr → Pr
-  P ∗ Q = sep 𝓤 P Q
-
-  abbrev ◌-∗◌ : Pr → Pr → Pr
-  P -∗ Q = wand 𝓤 P Q
-
-  abbrev ⟦◌⟧ : Fml → Pr
-  ⟦ P ⟧ = sem 𝓛 P
-
-  infix 26 ◌⊢◌
-  infixr 35 ◌∗◌
-  infixr 30 ◌-∗◌
-  abbrev R : RattleType
-  R = param 0 X
-
-  abbrev ks : List Member
-  ks = flag ∷ record { row = R; ty = layout X } ∷ []
-
-  abbrev Whole : ℕ → Fml
-  Whole n = points_to (block_row R) (block_ptr b o) (record { word = n; value = x })
-
-  abbrev Value : Fml
-  Value = lies_at R full_share (value_at holds R (block_ptr b o) x) x
-
-  abbrev Number : ℕ → Fml
-  Number n = part_at (row_of flag) full_share n b (o + 0)
-
-  abbrev Data : RattleType
-  Data = Struct (shape_of [] ks)
-
-  abbrev Back : Pr
-  Back = PartsBack 𝓛 full_share [] ks b o
-
-  abbrev All : ℕ → Fml
-  All n = part_at Data full_share (n, (x, tt)) b o
-
-  whole_is : (n : ℕ) → ⟦ Whole n ⟧ ⊢ ⟦ All n ⟧
-  unfolding part_of
-  whole_is n = base.Logic.id⊢ 𝓤 _
-
-  is_whole : (n : ℕ) → ⟦ All n ⟧ ⊢ ⟦ Whole n ⟧
-  unfolding part_of
-  is_whole n = base.Logic.id⊢ 𝓤 _
-
-  way_back : Back ⊢ ⟦ rejoins holds R (block_ptr b o) x ⟧
-  way_back = qed 𝓛 (raw Back ∷ []) ∵ each ! (λ (n : ℕ). ⟦ fwand (fsep (word b (o + 0) n) Value) (Whole n) ⟧) (λ n. assume ! (‵ (fsep (word b (o + 0) n) Value)) $ fsplit ! $
-      use1 𝓛 (‵ (Number n)) (word_in 𝓛 b (o + 0) n) $ nothing ! $ move ! (1 ∷ 2 ∷ 0 ∷ []) $ fjoin3 ! $ move ! (1 ∷ []) $
-      use1 𝓛 (raw (⟦ parts_at full_share ks zero (n, (x, tt)) b o ⟧ -∗ ⟦ All n ⟧)) (all_e 𝓤 (λ (a : Denots (rows_of ks)). ⟦ parts_at full_share ks zero a b o ⟧ -∗ ⟦ part_at Data full_share a b o ⟧) (n, (x, tt))) $
-      move ! (1 ∷ 0 ∷ []) $ use2 𝓛 (‵ (All n)) (apply∗ 𝓤 ⟦ parts_at full_share ks zero (n, (x, tt)) b o ⟧ ⟦ All n ⟧) $ by ! (is_whole n))
-
-  pub cuts : (n : ℕ) → ⟦ Whole n ⟧ ⊢ ⟦ word b (o + 0) n ⟧ ∗ ⟦ Value ⟧ ∗ ⟦ rejoins holds R (block_ptr b o) x ⟧
-  cuts n = qed 𝓛 (‵ (Whole n) ∷ []) ∵ use1 𝓛 (‵ (All n)) (whole_is n) $
-      use1 𝓛 ((‵ (Number n) ⊛ ‵ Value ⊛ ‵ ftrue) ⊛ raw Back) (Struct-parts 𝓛 full_share [] ks (u64-laws.lawful 𝓛, ((param_laws 0 X L).lawful 𝓛, tt)) (n, (x, tt)) b o) $ split ! $ split3 ! $
-      use1 𝓛 (‵ (word b (o + 0) n)) (word_out 𝓛 b (o + 0) n) $ move ! (3 ∷ []) $ use1 𝓛 (‵ (rejoins holds R (block_ptr b o) x)) way_back $ keep ! (1 ∷ 2 ∷ 0 ∷ []) $ done !
-
-  pub joins : (n : ℕ) → ⟦ word b (o + 0) n ⟧ ∗ ⟦ Value ⟧ ∗ ⟦ rejoins holds R (block_ptr b o) x ⟧ ⊢ ⟦ Whole n ⟧
-  joins n = qed 𝓛 (‵ (word b (o + 0) n) ∷ ‵ Value ∷ ‵ (rejoins holds R (block_ptr b o) x) ∷ []) ∵ fjoin ! $ move ! (1 ∷ []) $
-      use1 𝓛 (‵ (fwand (fsep (word b (o + 0) n) Value) (Whole n))) (all_e 𝓤 (λ (m : ℕ). ⟦ fwand (fsep (word b (o + 0) m) Value) (Whole m) ⟧) n) $ move ! (1 ∷ 0 ∷ []) $
-      use2 𝓛 (‵ (Whole n)) (apply∗ 𝓤 ⟦ fsep (word b (o + 0) n) Value ⟧ ⟦ Whole n ⟧) $ done !
+  -- a block that one owner has is room again, with the right to give it back
+  pub gathers : (holds : Ty → Ptr → Fml) (b o w : ℕ) (xs : List ℕ)
+      → ent 𝓤 (sep 𝓤 (sem 𝓛 (word b (o + 0) w)) (sem 𝓛 (block_owns holds (block_ptr b o) xs))) (sep 𝓤 (H.room (bare (block_type (length xs))) b o) (sem 𝓛
+      (holds (bare (block_type (length xs))) (block_ptr b o))))
+  gathers holds b o w xs = let n : ℕ = length xs in let τ : Ty = bare (block_type n) in
+      qed 𝓛 (‵ (word b (o + 0) w) ∷ ‵ (block_owns holds (block_ptr b o) xs) ∷ []) ∵
+      use1 𝓛 (‵ (froom (ty_int w64) b (o + 0))) (𝓛.laws.at_room (ty_int w64) b (o + 0) (vint w64 w)) $ move ! (1 ∷ []) $ fsplit3 ! $
+      -- [the length; the bytes; the rim; room for the word]
+      use1 𝓛 (‵ (word b (o + 8) n)) (word_out 𝓛 b (o + 8) n) $ use1 𝓛 (‵ (froom (ty_int w64) b (o + 8))) (𝓛.laws.at_room (ty_int w64) b (o + 8) (vint w64 n)) $
+      move ! (1 ∷ []) $ use1 𝓛 (‵ (fsep (feq ℕ n n) (bytes full_share xs b (o + 16)))) (bytes_apart 𝓛 full_share n xs b (o + 16)) $ fsplit ! $ drop ! $
+      use1 𝓛 (‵ (froom (ty_array (ty_int w8) n) b (o + 16))) (bytes-room 𝓛 xs b (o + 16)) $ nothing ! $ move ! (1 ∷ 0 ∷ []) $ fjoin ! $
+      move ! (3 ∷ 1 ∷ 0 ∷ []) $ fjoin3 ! $ move ! (1 ∷ []) $ fsplit ! $ move ! (2 ∷ 0 ∷ []) $
+      use2 𝓛 (‵ (froom τ b o)) (apply∗ 𝓤 (sem 𝓛 (rooms n b o)) (H.room τ b o)) $ done !

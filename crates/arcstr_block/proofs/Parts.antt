@@ -28,7 +28,8 @@ module _ {M : Type 1} {𝓤 : Ura M} (𝓛 : Logic 𝓤) (a : ℕ) where
   infix 26 ◌⊢◌
   infixr 35 ◌∗◌
   pub parts_in : (k : ℕ) (e : Share) → Counts 63 e k → A.lft (a ∷ []) e ⊢ ⟦ parts a k ⟧
-  parts_in k e c = qed 𝓛 (‵ (flft (a ∷ []) e) ∷ []) ∵ fpack ! (Counts 63 e k) (λ _. flft (a ∷ []) e) c $ fpack ! Share (λ s. fex (Counts 63 s k) (λ _. flft (a ∷ []) s)) e $ done !
+  parts_in k e c = qed 𝓛 (‵ (flft (a ∷ []) e) ∷ []) ∵ fpack ! (Counts 63 e k) (λ _. flft (a ∷ []) e) c $ fpack ! Share (λ s. fex (Counts 63 s k) (λ _.
+      flft (a ∷ []) s)) e $ done !
 
   pub share_in : (e : Share) → A.lft (a ∷ []) e ⊢ ⟦ some_share a ⟧
   share_in e = qed 𝓛 (‵ (flft (a ∷ []) e) ∷ []) ∵ fpack ! Share (λ s. flft (a ∷ []) s) e $ done !
@@ -37,7 +38,8 @@ module _ {M : Type 1} {𝓤 : Ura M} (𝓛 : Logic 𝓤) (a : ℕ) where
   part_share k = qed 𝓛 (‵ (parts a k) ∷ []) ∵ fpick ! (λ e. fpick ! (λ _. by ! (share_in e)))
 
   pub share_halves : ⟦ some_share a ⟧ ⊢ ⟦ some_share a ⟧ ∗ ⟦ some_share a ⟧
-  share_halves = qed 𝓛 (‵ (some_share a) ∷ []) ∵ fpick ! (λ e. use1 𝓛 (‵ (flft (a ∷ []) (Share.left e)) ⊛ ‵ (flft (a ∷ []) (Share.right e))) (𝓛.lfts.lft_split (a ∷ []) e) $ split ! $
+  share_halves = qed 𝓛 (‵ (some_share a) ∷ []) ∵ fpick ! (λ e.
+      use1 𝓛 (‵ (flft (a ∷ []) (Share.left e)) ⊛ ‵ (flft (a ∷ []) (Share.right e))) (𝓛.lfts.lft_split (a ∷ []) e) $ split ! $
       use1 𝓛 (‵ (some_share a)) (share_in (Share.left e)) $ move ! (1 ∷ []) $ use1 𝓛 (‵ (some_share a)) (share_in (Share.right e)) $ done !)
 
   pub parts_cut : (k i j : ℕ) → 0 < i → 0 < j → i + j ≡ k → k ≤ 2 ^ 63 → ⟦ parts a k ⟧ ⊢ ⟦ parts a i ⟧ ∗ ⟦ parts a j ⟧
@@ -52,7 +54,8 @@ module _ {M : Type 1} {𝓤 : Ura M} (𝓛 : Logic 𝓤) (a : ℕ) where
 
   pub parts_glue : (i j k : ℕ) → i + j ≡ k → 0 < k → k ≤ 2 ^ 63 → ⟦ parts a i ⟧ ∗ ⟦ parts a j ⟧ ⊢ ⟦ parts a k ⟧
   parts_glue i j k total some fits = let r = counts_some 63 (i + j) (omega arith) (omega arith) in
-      qed 𝓛 (‵ (parts a i) ∷ ‵ (parts a j) ∷ []) ∵ use2 𝓛 (‵ (flft (a ∷ []) r.0)) (glued i j r.0 r.1) $ by ! (parts_in k r.0 (subst (λ (x : ℕ). Counts 63 r.0 x) total r.1))
+      qed 𝓛 (‵ (parts a i) ∷ ‵ (parts a j) ∷ []) ∵ use2 𝓛 (‵ (flft (a ∷ []) r.0)) (glued i j r.0 r.1) $
+      by ! (parts_in k r.0 (subst (λ (x : ℕ). Counts 63 r.0 x) total r.1))
 
   -- the last part that was out
   pub parts_whole : ⟦ parts a (2 ^ 63 - 1) ⟧ ∗ ⟦ parts a 1 ⟧ ⊢ A.lft (a ∷ []) full_share

@@ -1,7 +1,6 @@
 -- One step on a block's word, and what it gains. Assumes `Logic`.
 use Rattle.std.proofs.Common.{◌≡◌, ℕ, ◌+◌, ◌-◌, ◌^◌, ◌<◌, Bool, true, false, [], ◌∷◌, refl, arith, w64, Some, None}
 use mathlib.Core.Logic.{dite}
-use native.Mathlib.Decide.{ℕ_discrete}
 use seplogic.Ra.Ura.{Ura}
 use mir.Syntax.{ty_int}
 use mir.Val.{vint, has_ty, WT}
@@ -9,11 +8,14 @@ use base.Fraction.{full_share}
 use base.Logic.{SProp, ent, sep, wand, ex, all_e, upd, upd_i, never, never_e, via, ex_i}
 use base.Fml.{Share, Fml, ftrue, fsep, fex, flft, fdead, flent}
 use types.Logic.{Logic, sem}
-use types.Kit.{‵, raw, ◌⊛◌, given, ◌$◌, ◌∵◌, !, qed, by, move, keep, drop, split, split3, fsplit, fsplit3, fjoin, fpick, fpack, learn, show, frame, assume, suffices, settle, use1, use2, use3, done}
+use types.Kit.{‵, raw, ◌⊛◌, given, ◌$◌, ◌∵◌, !, qed, by, move, keep, drop, split, split3, fsplit, fsplit3, fjoin, fpick, fpack, learn, show, frame, assume}
+use types.Kit.{suffices, settle, use1, use2, use3, done}
 use denote.RawPtr.{block_ptr}
 use denote.Steps.{nothing}
 use Rattle.core.specs.Sync.RawAtomic.{asks, always, word}
-use Rattle.arcstr_block.specs.Rights.{IsMarked, IsUnmarked, IsWord, uncounted}
+use Rattle.arcstr_block.proofs.Decided.{uncounted_or_not}
+use Rattle.arcstr_block.specs.Word.{IsMarked, IsUnmarked, IsWord}
+use Rattle.arcstr_block.specs.Rights.{uncounted, Right}
 use Rattle.arcstr_block.specs.Book.{Book}
 use Rattle.arcstr_block.specs.Ledger.{fact, parts, some_share, Id, Phase, unmarked, marked, Fits, rest, counting, if_alive, Inv, knows, stated}
 use Rattle.arcstr_block.proofs.Ledger.{phase_in, not_alive, marks, marked_in, finds_mark}
@@ -25,13 +27,6 @@ pub data Gain : Type 0 where
   part : Gain
   share : Gain
   last : Gain
-
--- The number of a gain, which is not the number of a right (`specs/Rights.antt`). None is turned to nothing (0), a part to counted (1), a share to fixed (3) or, with a new seat, to uncounted (2), and the last to owed (5).
-abbrev pub rank : Gain → ℕ
-rank none = 0
-rank part = 1
-rank share = 2
-rank last = 3
 
 module _ {M : Type 1} {𝓤 : Ura M} (𝓛 : Logic 𝓤) (P : Fml) (L b o : ℕ) (t : Id) where
   open 𝓛 use {H, A}
@@ -76,9 +71,9 @@ module _ {M : Type 1} {𝓤 : Ura M} (𝓛 : Logic 𝓤) (P : Fml) (L b o : ℕ)
   gained last = fsep (St 0) (fsep (fdead (t.0 ∷ [])) (flent (t.0 ∷ []) P))
 
   -- The word n becomes f n. `ok` says which gain goes with n, K is what the step takes, and `kept` what it gives back.
-  module _ (f : ℕ → ℕ) (ok : ℕ → ℕ → Type 0) (K kept : Fml) where
+  module _ (f : ℕ → ℕ) (ok : ℕ → Gain → Type 0) (K kept : Fml) where
     abbrev pub told : ℕ → Gain → Fml
-    told n g = fsep (fact (ok n (rank g))) (gained g)
+    told n g = fsep (fact (ok n g)) (gained g)
 
     abbrev pub after : ℕ → Fml
     after n = fsep kept (fex Gain (told n))
@@ -99,21 +94,25 @@ module _ {M : Type 1} {𝓤 : Ura M} (𝓛 : Logic 𝓤) (P : Fml) (L b o : ℕ)
     pub ending : (n d : ℕ) → A.lft (d ∷ []) full_share ∗ (A.dead (d ∷ []) -∗ upd 𝓤 (Shut n)) ⊢ Stepped n
     ending n d = via 𝓤 (ex 𝓤 (Out 𝓛 I b o f after n)) (ex_i 𝓤 (Out 𝓛 I b o f after n) (Some d)) (upd_i 𝓤 (ex 𝓤 (Out 𝓛 I b o f after n)))
 
-    pub gains : (n : ℕ) (g : Gain) → ok n (rank g) → ⟦ kept ⟧ ∗ ⟦ gained g ⟧ ⊢ ⟦ after n ⟧
-    gains n g h = qed 𝓛 (‵ kept ∷ ‵ (gained g) ∷ []) ∵ move ! (1 ∷ []) $ nothing ! $ fpack ! (ok n (rank g)) (λ _. ftrue) h $ fjoin ! $ fpack ! Gain (told n) g $ move ! (1 ∷ 0 ∷ []) $ fjoin ! $ done !
+    pub gains : (n : ℕ) (g : Gain) → ok n g → ⟦ kept ⟧ ∗ ⟦ gained g ⟧ ⊢ ⟦ after n ⟧
+    gains n g h = qed 𝓛 (‵ kept ∷ ‵ (gained g) ∷ []) ∵ move ! (1 ∷ []) $ nothing ! $ fpack ! (ok n g) (λ _. ftrue) h $ fjoin ! $ fpack ! Gain (told n) g $
+        move ! (1 ∷ 0 ∷ []) $ fjoin ! $ done !
 
-    shuts : (n : ℕ) (s : Phase) → In (f n) s → (g : Gain) → ok n (rank g) → ⟦ St (f n) ⟧ ∗ ⟦ Keeps s ⟧ ∗ ⟦ kept ⟧ ∗ ⟦ gained g ⟧ ⊢ Shut n
-    shuts n s h g y = qed 𝓛 (‵ (St (f n)) ∷ ‵ (Keeps s) ∷ ‵ kept ∷ ‵ (gained g) ∷ []) ∵ move ! (2 ∷ 3 ∷ []) $ use2 𝓛 (‵ (after n)) (gains n g y) $ move ! (2 ∷ []) $
-        use1 𝓛 (‵ _) (phase_in 𝓛 P L b o t (f n) s h) $ move ! (2 ∷ 0 ∷ []) $ fjoin ! $ fpack ! ℕ (counting P L b o t) (f n) $ fpack ! Bool (if_alive P L b o t) true $ done !
+    shuts : (n : ℕ) (s : Phase) → In (f n) s → (g : Gain) → ok n g → ⟦ St (f n) ⟧ ∗ ⟦ Keeps s ⟧ ∗ ⟦ kept ⟧ ∗ ⟦ gained g ⟧ ⊢ Shut n
+    shuts n s h g y = qed 𝓛 (‵ (St (f n)) ∷ ‵ (Keeps s) ∷ ‵ kept ∷ ‵ (gained g) ∷ []) ∵ move ! (2 ∷ 3 ∷ []) $ use2 𝓛 (‵ (after n)) (gains n g y) $
+        move ! (2 ∷ []) $
+        use1 𝓛 (‵ _) (phase_in 𝓛 P L b o t (f n) s h) $ move ! (2 ∷ 0 ∷ []) $ fjoin ! $ fpack ! ℕ (counting P L b o t) (f n) $
+        fpack ! Bool (if_alive P L b o t) true $ done !
 
-    pub keeps : (n : ℕ) (s : Phase) → In (f n) s → (g : Gain) → ok n (rank g) → ⟦ St (f n) ⟧ ∗ ⟦ Keeps s ⟧ ∗ ⟦ kept ⟧ ∗ ⟦ gained g ⟧ ⊢ Stepped n
+    pub keeps : (n : ℕ) (s : Phase) → In (f n) s → (g : Gain) → ok n g → ⟦ St (f n) ⟧ ∗ ⟦ Keeps s ⟧ ∗ ⟦ kept ⟧ ∗ ⟦ gained g ⟧ ⊢ Stepped n
     keeps n s h g y = via 𝓤 (Shut n) (shuts n s h g y) (same n)
 
     -- the mark is set, and c ends
-    pub marking : (n k : ℕ) → k < 2 ^ 63 - 1 → In (f n) (marked k) → ok n 2 → ⟦ St (f n) ⟧ ∗ ⟦ Keeps (unmarked k) ⟧ ∗ ⟦ kept ⟧ ⊢ Stepped n
+    pub marking : (n k : ℕ) → k < 2 ^ 63 - 1 → In (f n) (marked k) → ok n share → ⟦ St (f n) ⟧ ∗ ⟦ Keeps (unmarked k) ⟧ ∗ ⟦ kept ⟧ ⊢ Stepped n
     marking n k small h y =
         qed 𝓛 (‵ (St (f n)) ∷ ‵ (Keeps (unmarked k)) ∷ ‵ kept ∷ []) ∵ move ! (1 ∷ []) $
-        use1 𝓛 (‵ (flft (t.1 ∷ []) full_share) ⊛ ‵ (parts t.0 (2 ^ 63 - (k + 1))) ⊛ ‵ (some_share t.0) ⊛ ‵ (some_share t.0)) (marks 𝓛 P L b o t k small) $ split3 ! $ move ! (2 ∷ []) $ split ! $
+        use1 𝓛 (‵ (flft (t.1 ∷ []) full_share) ⊛ ‵ (parts t.0 (2 ^ 63 - (k + 1))) ⊛ ‵ (some_share t.0) ⊛ ‵ (some_share t.0)) (marks 𝓛 P L b o t k small) $
+        split3 ! $ move ! (2 ∷ []) $ split ! $
         -- [a share; a share; the token of c; the parts; the word; what is given back]
         suffices ! _ (ending n t.1) $ move ! (2 ∷ []) $ frame ! $ assume ! (‵ (fdead (t.1 ∷ []))) $ suffices ! _ (upd_i 𝓤 (Shut n)) $
         use1 𝓛 (‵ (fdead (t.1 ∷ [])) ⊛ ‵ (fdead (t.1 ∷ []))) (𝓛.lfts.dead_dup (t.1 ∷ [])) $ split ! $ move ! (3 ∷ 0 ∷ []) $ fjoin ! $ move ! (3 ∷ 2 ∷ 1 ∷ []) $
@@ -130,11 +129,14 @@ module _ {M : Type 1} {𝓤 : Ura M} (𝓛 : Logic 𝓤) (P : Fml) (L b o : ℕ)
 
       opened : (y : Bool) → ⟦ if_alive P L b o t y ⟧ ∗ ⟦ K ⟧ ∗ ⟦ B ⟧ ⊢ Opened
       opened false = qed 𝓛 (‵ (fdead (t.0 ∷ [])) ∷ ‵ K ∷ ‵ B ∷ []) ∵ keep ! (1 ∷ 0 ∷ []) $ by ! (via 𝓤 (never 𝓤) alive (never_e 𝓤 Opened))
-      opened true = qed 𝓛 (‵ (if_alive P L b o t true) ∷ ‵ K ∷ ‵ B ∷ []) ∵ suffices ! _ (upd_i 𝓤 (ex 𝓤 (Lies 𝓛 I b o f After))) $ fpick ! (λ n. let Z : Pr = ex 𝓤 (Out 𝓛 I b o f After n) in fsplit ! $ fsplit ! $
-          use1 𝓛 (given (lib.Dec.T (has_ty (ty_int w64) (vint w64 n)) × WT (vint w64 n)) (‵ (word b o n))) (𝓛.laws.at_wt full_share (ty_int w64) b o (vint w64 n)) $ learn ! (λ g.
+      opened true = qed 𝓛 (‵ (if_alive P L b o t true) ∷ ‵ K ∷ ‵ B ∷ []) ∵ suffices ! _ (upd_i 𝓤 (ex 𝓤 (Lies 𝓛 I b o f After))) $ fpick ! (λ n.
+          let Z : Pr = ex 𝓤 (Out 𝓛 I b o f After n) in fsplit ! $ fsplit ! $
+          use1 𝓛 (given (lib.Dec.T (has_ty (ty_int w64) (vint w64 n)) ×
+          WT (vint w64 n)) (‵ (word b o n))) (𝓛.laws.at_wt full_share (ty_int w64) b o (vint w64 n)) $ learn ! (λ g.
           -- [the word; the book; the ledger; K; B]
           show ! (Lies 𝓛 I b o f After) n $ frame ! $ assume ! (‵ (word b o (f n))) $ move ! (1 ∷ 4 ∷ []) $
-          use2 𝓛 (raw (upd 𝓤 (⟦ Bk (f n) ⟧ ∗ ⟦ said n ⟧))) (turn n g.1.fits) $ settle 𝓛 Z (‵ (Bk (f n)) ⊛ ‵ (said n)) $ split ! $ move ! (2 ∷ 0 ∷ []) $ fjoin ! $
+          use2 𝓛 (raw (upd 𝓤 (⟦ Bk (f n) ⟧ ∗ ⟦ said n ⟧))) (turn n g.1.fits) $ settle 𝓛 Z (‵ (Bk (f n)) ⊛ ‵ (said n)) $ split ! $ move ! (2 ∷ 0 ∷ []) $
+          fjoin ! $
           -- [the word and the book; what is said; the ledger; K]
           move ! (2 ∷ []) $ fpick ! (λ s. fsplit ! $ fpick ! (λ h. drop ! $ move ! (1 ∷ 0 ∷ 3 ∷ []) $ use3 𝓛 (raw (Stepped n)) (law n g.1.fits s h) $
           settle 𝓛 Z (raw (ex 𝓤 (Out 𝓛 I b o f after n))) $ suffices ! _ (upd_i 𝓤 Z) $ move ! (1 ∷ 0 ∷ []) $ by ! (frames 𝓛 I b o f after said n)))))
@@ -146,25 +148,33 @@ module _ {M : Type 1} {𝓤 : Ura M} (𝓛 : Logic 𝓤) (P : Fml) (L b o : ℕ)
   token_alive q = 𝓛.lfts.lft-dead (t.0 ∷ []) q
 
   -- ---- the load. `right` is what the caller knows
-  module _ (q : Share) (right : ℕ) where
+  module _ (q : Share) (right : Right) where
     abbrev pub Tok : Fml
     Tok = flft (t.0 ∷ []) q
 
-    abbrev pub Told : ℕ → ℕ → Type 0
-    Told n r = IsWord L n × (right ≡ uncounted → IsMarked n) × (IsMarked n → r ≡ 2) × (IsUnmarked n → r ≡ 0)
+    abbrev pub Told : ℕ → Gain → Type 0
+    Told n g = IsWord L n × (right ≡ uncounted → IsMarked n) × (IsMarked n → g ≡ share) × (IsUnmarked n → g ≡ none)
 
     abbrev pub With : Fml
     With = fsep Tok (knows t right)
 
     sees : (n : ℕ) → n < 2 ^ 64 → (s : Phase) → In n s → ⟦ St n ⟧ ∗ ⟦ Keeps s ⟧ ∗ ⟦ With ⟧ ⊢ Stepped (λ m. m) Told With Tok n
     sees n fits (unmarked k) h = let even : IsUnmarked n = omega (arith, h.0) in let h₁ = h.1 in let h₂ = h.2 in let h₀ = h.0 in
-        qed 𝓛 (‵ (St n) ∷ ‵ (Keeps (unmarked k)) ∷ ‵ With ∷ []) ∵ move ! (2 ∷ []) $ fsplit ! $ dite (ℕ_discrete right 2)
-        (λ e. move ! (1 ∷ 3 ∷ []) $ use1 𝓛 (‵ (fdead (t.1 ∷ []))) (all_e 𝓤 (λ (_ : right ≡ uncounted). A.dead (t.1 ∷ [])) e) $ move ! (1 ∷ []) $ fsplit3 ! $ keep ! (1 ∷ 3 ∷ []) $ by ! (not_alive 𝓛 P L b o t full_share t.1 _))
+        qed 𝓛 (‵ (St n) ∷ ‵ (Keeps (unmarked k)) ∷ ‵ With ∷ []) ∵ move ! (2 ∷ []) $ fsplit ! $ dite (uncounted_or_not right)
+        (λ e. move ! (1 ∷ 3 ∷ []) $ use1 𝓛 (‵ (fdead (t.1 ∷ []))) (all_e 𝓤 (λ (_ : right ≡ uncounted). A.dead (t.1 ∷ [])) e) $ move ! (1 ∷ []) $ fsplit3 ! $
+        keep ! (1 ∷ 3 ∷ []) $ by ! (not_alive 𝓛 P L b o t full_share t.1 _))
         (λ ne. move ! (1 ∷ []) $ drop ! $ nothing ! $ move ! (2 ∷ 3 ∷ 1 ∷ 0 ∷ []) $
-        by ! (keeps (λ m. m) Told With Tok n (unmarked k) h none ((λ _. (omega arith, omega arith)), (λ e. absurd (ne e)), (λ odd. absurd (omega arith)), (λ _. refl))))
+        by ! (keeps (λ m. m) Told With Tok n (unmarked k) h none (
+          (λ _. (omega arith, omega arith)),
+          (λ e. absurd (ne e)),
+          (λ odd. absurd (omega arith)),
+          (λ _.
+              refl),
+        )))
     sees n fits (marked m) h = let odd : IsMarked n = h.0 in
         qed 𝓛 (‵ (St n) ∷ ‵ (Keeps (marked m)) ∷ ‵ With ∷ []) ∵ move ! (2 ∷ []) $ fsplit ! $ move ! (3 ∷ []) $
-        use1 𝓛 (‵ (Keeps (marked m)) ⊛ ‵ (some_share t.0) ⊛ ‵ (fdead (t.1 ∷ []))) (finds_mark 𝓛 P L b o t m) $ split3 ! $ move ! (1 ∷ 2 ∷ []) $ fjoin ! $ keep ! (4 ∷ 1 ∷ 2 ∷ 0 ∷ []) $
+        use1 𝓛 (‵ (Keeps (marked m)) ⊛ ‵ (some_share t.0) ⊛ ‵ (fdead (t.1 ∷ []))) (finds_mark 𝓛 P L b o t m) $ split3 ! $ move ! (1 ∷ 2 ∷ []) $ fjoin ! $
+        keep ! (4 ∷ 1 ∷ 2 ∷ 0 ∷ []) $
         by ! (keeps (λ x. x) Told With Tok n (marked m) h share ((λ even. absurd (omega arith)), (λ _. odd), (λ _. refl), (λ even. absurd (omega arith))))
 
     with_alive : ⟦ With ⟧ ∗ A.dead (t.0 ∷ []) ⊢ never 𝓤

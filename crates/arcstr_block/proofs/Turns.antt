@@ -11,7 +11,7 @@ use types.Logic.{Logic, sem}
 use types.Kit.{‵, raw, ◌⊛◌, ◌$◌, ◌∵◌, !, qed, move, split3, use1, use2, suffices, settle, done}
 use denote.Steps.{nothing}
 use Rattle.arcstr_count.specs.declared.steps.HandleState.TheVariants.{Free}
-use Rattle.arcstr_block.specs.Rights.{IsMarked, IsClone}
+use Rattle.arcstr_block.specs.Word.{IsMarked, IsClone}
 use Rattle.arcstr_block.specs.Book.{Book, seat_share}
 use Rattle.arcstr_block.proofs.Words.{odd_or_even, word_kept, word_cloned}
 use Rattle.arcstr_block.proofs.Book.{Born, book_clone}
@@ -43,9 +43,12 @@ module _ {M : Type 1} {𝓤 : Ura M} (𝓛 : Logic 𝓤) (L : ℕ) (γ δ : GNam
   abbrev NewIf : Type 0 → Fml
   NewIf event = fall event (λ _. New)
 
-  clone : (n n' : ℕ) (event : Type 0) → Rattle.arcstr_block.specs.Book.word_of n' ≡ Rattle.arcstr_count.specs.Word.cloned_of L (Rattle.arcstr_block.specs.Book.word_of n) → ⟦ Bk n ⟧ ∗ ⟦ Mine ⟧ ⊢ upd 𝓤 (⟦ Bk n' ⟧ ∗ ⟦ Mine ⟧ ∗ ⟦ NewIf event ⟧)
+  clone : (n n' : ℕ) (event : Type 0)
+      → Rattle.arcstr_block.specs.Word.word_of n' ≡ Rattle.arcstr_count.specs.Word.cloned_of L (Rattle.arcstr_block.specs.Word.word_of n)
+      → ⟦ Bk n ⟧ ∗ ⟦ Mine ⟧ ⊢ upd 𝓤 (⟦ Bk n' ⟧ ∗ ⟦ Mine ⟧ ∗ ⟦ NewIf event ⟧)
   clone n n' event is = let Z : Pr = ⟦ Bk n' ⟧ ∗ ⟦ Mine ⟧ ∗ ⟦ NewIf event ⟧ in qed 𝓛 (‵ (Bk n) ∷ ‵ Mine ∷ []) ∵
-      use2 𝓛 (raw (upd 𝓤 (⟦ Bk n' ⟧ ∗ ⟦ Mine ⟧ ∗ ⟦ New ⟧))) (book_clone 𝓛 L γ δ n n' h q is) $ settle 𝓛 Z (‵ (Bk n') ⊛ ‵ Mine ⊛ ‵ New) $ suffices ! _ (upd_i 𝓤 Z) $ split3 ! $ move ! (2 ∷ []) $
+      use2 𝓛 (raw (upd 𝓤 (⟦ Bk n' ⟧ ∗ ⟦ Mine ⟧ ∗ ⟦ New ⟧))) (book_clone 𝓛 L γ δ n n' h q is) $ settle 𝓛 Z (‵ (Bk n') ⊛ ‵ Mine ⊛ ‵ New) $
+      suffices ! _ (upd_i 𝓤 Z) $ split3 ! $ move ! (2 ∷ []) $
       use1 𝓛 (‵ (NewIf event)) (all_i 𝓤 {P = ⟦ New ⟧} (λ (_ : event). ⟦ New ⟧) (λ _. id⊢ 𝓤 ⟦ New ⟧)) $ move ! (1 ∷ 2 ∷ 0 ∷ []) $ done !
 
   no_clone : (n : ℕ) (event : Type 0) → (event → ⊥) → ⟦ Bk n ⟧ ∗ ⟦ Mine ⟧ ⊢ upd 𝓤 (⟦ Bk n ⟧ ∗ ⟦ Mine ⟧ ∗ ⟦ NewIf event ⟧)

@@ -11,7 +11,6 @@ use types.Kit.{‵, raw, later, ◌$◌, ◌∵◌, !, qed, by, move, keep, fspl
 use types.Tokens.{shr_bor-open}
 use types.Within.{tokens_halve}
 use denote.RattleType.{RattleType}
-use denote.Param.Laws.{Laws}
 use Rattle.core.specs.declared.alloc.Allocator.{Ghosts}
 use Rattle.arcstr_block.specs.Rights.{owed}
 use Rattle.arcstr_block.specs.Book.{Book}
@@ -57,7 +56,8 @@ module _ {M : Type 1} {𝓤 : Ura M} (𝓛 : Logic 𝓤) (P : Fml) (L b o : ℕ)
     -- a block whose content is still shared has its book in its invariant
     inside : (alive : Bool) (u : Share) (Z : Pr) → ⟦ if_alive P L b o t alive ⟧ ∗ A.lft a u ∗ ⟦ Book₀ ⟧ ⊢ Z
     inside false u Z = qed 𝓛 (‵ (fdead a) ∷ ‵ (flft a u) ∷ ‵ Book₀ ∷ []) ∵ keep ! (1 ∷ 0 ∷ []) $ by ! (via 𝓤 (never 𝓤) (𝓛.lfts.lft-dead a u) (never_e 𝓤 Z))
-    inside true u Z = qed 𝓛 (‵ (if_alive P L b o t true) ∷ ‵ (flft a u) ∷ ‵ Book₀ ∷ []) ∵ fpick ! (λ n. fsplit ! $ fsplit ! $ keep ! (1 ∷ 4 ∷ []) $ by ! (one_book 𝓛 L L₀ t.2 t.3 t.3 n 0 Z))
+    inside true u Z = qed 𝓛 (‵ (if_alive P L b o t true) ∷ ‵ (flft a u) ∷ ‵ Book₀ ∷ []) ∵ fpick ! (λ n. fsplit ! $ fsplit ! $ keep ! (1 ∷ 4 ∷ []) $
+        by ! (one_book 𝓛 L L₀ t.2 t.3 t.3 n 0 Z))
 
     opened : (u : Share) (Z : Pr) → A.lft a u ∗ ⟦ Book₀ ⟧ ⊢ ⟦ I ⟧ -∗ upd 𝓤 (⟦ I ⟧ ∗ Z)
     opened u Z = qed 𝓛 (‵ (flft a u) ∷ ‵ Book₀ ∷ []) ∵ assume ! (‵ I) $ fpick ! (λ alive. by ! (inside alive u (upd 𝓤 (⟦ I ⟧ ∗ Z))))
@@ -70,19 +70,22 @@ module _ {M : Type 1} {𝓤 : Ura M} (𝓛 : Logic 𝓤) (P : Fml) (L b o : ℕ)
         keep ! (1 ∷ 3 ∷ 4 ∷ []) $ use2 𝓛 (raw (⟦ I ⟧ -∗ upd 𝓤 (⟦ I ⟧ ∗ Z))) (opened u Z) $ move ! (1 ∷ 0 ∷ []) $
         use2 𝓛 (later (raw Z)) (𝓛.invs.inv_acc I Z) $ await ! tt $ now ! $ done !)
 
-  module _ (R B : RattleType) (g : Ghosts B.Denot) (laws : Laws R) (h : (C.the_row R B g).Denot) (vs : List Val) (block : Names) where
+  module _ (B : RattleType) (g : Ghosts B.Denot) (h : (C.the_row B g).Denot) (vs : List Val) (block : Names) where
     abbrev Own : Fml
-    Own = (C.the_row R B g).own_val h vs
+    Own = (C.the_row B g).own_val h vs
 
     abbrev Away : Pr
     Away = guard 𝓤 (h.block ≢ block) ⟦ Own ⟧
 
     by_names : h.right ≡ owed → names t ≡ block → Dec (h.block.0 ≡ block.0) → Dec (h.block.1 ≡ block.1) → ⟦ Own ⟧ ∗ ⟦ finv I ⟧ ∗ ⟦ Good ⟧ ⊢ H.⇛ Away
-    by_names mine named (no other) d = qed 𝓛 (‵ Own ∷ ‵ (finv I) ∷ ‵ Good ∷ []) ∵ updating ! $ now ! $ keep ! (0 ∷ []) $ check ! (λ e. other (ap (λ (z : Names). z.0) e)) $ done !
-    by_names mine named (yes e) (no other) = qed 𝓛 (‵ Own ∷ ‵ (finv I) ∷ ‵ Good ∷ []) ∵ updating ! $ now ! $ keep ! (0 ∷ []) $ check ! (λ e. other (ap (λ (z : Names). z.1) e)) $ done !
-    by_names mine named (yes e) (yes f) = qed 𝓛 (‵ Own ∷ ‵ (finv I) ∷ ‵ Good ∷ []) ∵ use1 𝓛 (‵ (Book h.limit h.block.0 h.block.1 0)) (book_of 𝓛 R B g laws h vs mine) $
+    by_names mine named (no other) d = qed 𝓛 (‵ Own ∷ ‵ (finv I) ∷ ‵ Good ∷ []) ∵ updating ! $ now ! $ keep ! (0 ∷ []) $ check ! (λ e.
+        other (ap (λ (z : Names). z.0) e)) $ done !
+    by_names mine named (yes e) (no other) = qed 𝓛 (‵ Own ∷ ‵ (finv I) ∷ ‵ Good ∷ []) ∵ updating ! $ now ! $ keep ! (0 ∷ []) $ check ! (λ e.
+        other (ap (λ (z : Names). z.1) e)) $ done !
+    by_names mine named (yes e) (yes f) = qed 𝓛 (‵ Own ∷ ‵ (finv I) ∷ ‵ Good ∷ []) ∵ use1 𝓛 (‵ (Book h.limit h.block.0 h.block.1 0)) (book_of 𝓛 B g h vs mine) $
         let γ : h.block.0 ≡ t.2 = e ∙ sym (ap (λ (z : Names). z.0) named) in let δ : h.block.1 ≡ t.3 = f ∙ sym (ap (λ (z : Names). z.1) named) in
-        rewrite ! 0 (λ (k : ℕ). ‵ (Book h.limit k h.block.1 0)) γ refl $ rewrite ! 0 (λ (k : ℕ). ‵ (Book h.limit t.2 k 0)) δ refl $ by ! (not_marked h.limit Away)
+        rewrite ! 0 (λ (k : ℕ). ‵ (Book h.limit k h.block.1 0)) γ refl $ rewrite ! 0 (λ (k : ℕ). ‵ (Book h.limit t.2 k 0)) δ refl $
+        by ! (not_marked h.limit Away)
 
     -- what is owed is another block than one that is known to be marked
     pub other_block : h.right ≡ owed → names t ≡ block → ⟦ Own ⟧ ∗ ⟦ finv I ⟧ ∗ ⟦ Good ⟧ ⊢ H.⇛ Away

@@ -1,5 +1,6 @@
 -- The words that a step leaves, as numbers.
-use Rattle.std.proofs.Common.{◌≢◌, ◌==◌, eq-eqb, ne_eqb, true, false, if◌then◌else◌, inl, inr, ◌≡◌, ℕ, ◌+◌, ◌-◌, ◌*◌, ◌/◌, ◌%◌, ◌^◌, ◌<◌, ◌≤◌, refl, sym, ap, ◌∙◌, arith, lit<}
+use Rattle.std.proofs.Common.{◌≢◌, ◌==◌, eq-eqb, ne_eqb, true, false, if◌then◌else◌, inl, inr, ◌≡◌, ℕ, ◌+◌, ◌-◌, ◌*◌, ◌/◌, ◌%◌, ◌^◌, ◌<◌, ◌≤◌, refl, sym, ap}
+use Rattle.std.proofs.Common.{◌∙◌, arith, lit<}
 use Rattle.std.specs.Prelude.{bit_or}
 use Rattle.std.specs.Int.Bits.{or_zero_r}
 use Rattle.std.proofs.lemmas.Nat.{or_block}
@@ -8,8 +9,7 @@ use Rattle.std.specs.Prelude.{◌⊎◌}
 use mathlib.Core.Logic.{dite}
 use native.Mathlib.Decide.{ℕ_discrete, dec_le}
 use Rattle.arcstr_count.specs.Word.{marked_of, cloned_of, dropped_of, is_last}
-use Rattle.arcstr_block.specs.Rights.{IsMarked, IsUnmarked, IsClone}
-use Rattle.arcstr_block.specs.Book.{word_of}
+use Rattle.arcstr_block.specs.Word.{IsMarked, IsUnmarked, IsClone, word_of}
 
 or_one : (k r : ℕ) → r < 2 → bit_or r 1 ≡ 1 → bit_or (k * 2 + r) 1 ≡ k * 2 + 1
 or_one k r small one = or_block 1 k 0 r 1 small (lit< tt) ∙ ap (λ x. x * 2 + bit_or r 1) (or_zero_r k) ∙ ap (λ x. k * 2 + x) one
@@ -33,7 +33,8 @@ odd_or_even n = dite (ℕ_discrete (n % 2) 1) (λ e. inl e) (λ ne. inr (omega a
 pub word_marked : (n : ℕ) → word_of (bit_or n 1) ≡ marked_of (word_of n)
 word_marked n = elim (odd_or_even n) [
   | inl odd ↦ ap word_of (or_marked n odd) ∙ marked_word n odd
-  | inr even ↦ ap word_of (or_unmarked n even) ∙ marked_word (n + 1) (omega arith) ∙ ap (λ k. record { flag = true; count = k }) (let same : (n + 1) / 2 ≡ n / 2 = omega arith in same)
+  | inr even ↦ ap word_of (or_unmarked n even) ∙ marked_word (n + 1) (omega arith) ∙ ap (λ k.
+      record { flag = true; count = k }) (let same : (n + 1) / 2 ≡ n / 2 = omega arith in same)
 ]
 
 pub word_kept : (L n : ℕ) → IsMarked n → word_of n ≡ cloned_of L (word_of n)
@@ -42,24 +43,29 @@ word_kept L n odd = marked_word n odd ∙ sym (ap (cloned_of L) (marked_word n o
 -- a clone below the limit counts one more
 cloned_below : (L old new : ℕ) → old / 2 ≤ L → IsUnmarked new → new / 2 ≡ old / 2 + 1 → word_of new ≡ cloned_of L (record { flag = false; count = old / 2 })
 cloned_below L old new room even more =
-    unmarked_word new even ∙ ap (λ c. record { flag = false; count = c }) more ∙ ap (λ b. if b then record { flag = true; count = old / 2 } else record { flag = false; count = old / 2 + 1 }) (sym (le-ltb L (old / 2) room))
+    unmarked_word new even ∙ ap (λ c. record { flag = false; count = c }) more ∙ ap (λ b.
+    if b then record { flag = true; count = old / 2 } else record { flag = false; count = old / 2 + 1 }) (sym (le-ltb L (old / 2) room))
 
 -- a clone above the limit marks
 cloned_above : (L old new : ℕ) → L < old / 2 → IsMarked new → new / 2 ≡ old / 2 → word_of new ≡ cloned_of L (record { flag = false; count = old / 2 })
 cloned_above L old new above odd same =
-    marked_word new odd ∙ ap (λ c. record { flag = true; count = c }) same ∙ ap (λ b. if b then record { flag = true; count = old / 2 } else record { flag = false; count = old / 2 + 1 }) (sym (lt-ltb L (old / 2) above))
+    marked_word new odd ∙ ap (λ c. record { flag = true; count = c }) same ∙ ap (λ b.
+    if b then record { flag = true; count = old / 2 } else record { flag = false; count = old / 2 + 1 }) (sym (lt-ltb L (old / 2) above))
 
 cloned_even : (L old new : ℕ) → IsClone L old new → word_of new ≡ cloned_of L (record { flag = false; count = old / 2 })
 cloned_even L old new asked = let even = asked.0 in dite (dec_le (old / 2) L)
     (λ room. let is : new ≡ old + 2 = asked.2 room in cloned_below L old new room (omega (arith, is, even)) (omega (arith, is)))
-    (λ not_below. let above : L < old / 2 = omega (arith, not_below) in let is : new ≡ old + 1 = asked.1 above in cloned_above L old new above (omega (arith, is, even)) (omega (arith, is, even)))
+    (λ not_below. let above : L < old / 2 = omega (arith, not_below) in
+    let is : new ≡ old + 1 = asked.1 above in cloned_above L old new above (omega (arith, is, even)) (omega (arith, is, even)))
 
 pub word_cloned : (L old new : ℕ) → IsClone L old new → word_of new ≡ cloned_of L (word_of old)
 word_cloned L old new asked = cloned_even L old new asked ∙ sym (ap (cloned_of L) (unmarked_word old asked.0))
 
 pub word_dropped : (n : ℕ) → n < 2 ^ 64 → 0 < n / 2 → word_of ((n + (2 ^ 64 - 2)) % 2 ^ 64) ≡ dropped_of (word_of n)
 word_dropped n fits some = let is : (n + (2 ^ 64 - 2)) % 2 ^ 64 ≡ n - 2 = omega (arith, fits, some) in
-    ap word_of is ∙ ap (λ b. record { flag = b; count = (n - 2) / 2 }) (ap (λ m. m == 1) (let same : (n - 2) % 2 ≡ n % 2 = omega (arith, some) in same)) ∙ ap (λ k. record { flag = n % 2 == 1; count = k }) (let less : (n - 2) / 2 ≡ n / 2 - 1 = omega arith in less)
+    ap word_of is ∙ ap (λ b. record { flag = b; count = (n - 2) / 2 }) (ap (λ m.
+    m == 1) (let same : (n - 2) % 2 ≡ n % 2 = omega (arith, some) in same)) ∙ ap (λ k.
+    record { flag = n % 2 == 1; count = k }) (let less : (n - 2) / 2 ≡ n / 2 - 1 = omega arith in less)
 
 pub last_two : (n : ℕ) → n ≡ 2 → is_last (word_of n) ≡ true
 last_two n e = ap (λ m. is_last (word_of m)) e

@@ -1,5 +1,5 @@
 -- The history of a block, kept beside its word: the steps up to now, which only grow, and a seat for each handle that was ever born.
-use Rattle.std.specs.Prelude.{ℕ, ◌/◌, ◌%◌, ◌==◌, List}
+use Rattle.std.specs.Prelude.{ℕ, List}
 use base.Fraction.{full_share}
 use base.Share.{three_quarters}
 use base.Growing.{Order, prefixes, latest, at_least}
@@ -11,12 +11,8 @@ use Rattle.arcstr_count.specs.declared.steps.HandleState.{HandleState}
 use Rattle.arcstr_count.specs.contracts.steps.Step.{the_row as step_row}
 use Rattle.arcstr_count.specs.contracts.steps.HandleState.{the_row as state_row}
 use Rattle.arcstr_count.specs.declared.steps.Reply.{Reply}
-use Rattle.arcstr_count.specs.Word.{FlagAndCount}
 use Rattle.arcstr_count.specs.OneBlock.{Keeps, EndsIn}
-
--- the word that a number stands for
-abbrev pub word_of : ℕ → FlagAndCount
-word_of n = record { flag = n % 2 == 1; count = n / 2 }
+use Rattle.arcstr_block.specs.Word.{word_of}
 
 abbrev pub steps : Order (List Step)
 steps = prefixes step_row.coded

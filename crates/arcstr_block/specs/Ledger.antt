@@ -2,27 +2,24 @@
 --     a      the lifetime for which the content is shared. Each counted handle has one part in 2 ^ 63 of its token.
 --     c      the lifetime that ends with the mark: its token is beside an unmarked word, and that it has ended is a fact for good.
 --     γ, δ   the names of the block's history and of the seats of its handles, which lie beside the word.
--- An unmarked word 2k has k parts out, one for each counted handle. A marked word has m parts out, and keeps one part for good, of which each who finds the mark has a share.
--- At the mark m is k, and it is one fewer after each later subtraction, of a drop that looked before the mark. A handle whose drop finds the mark lets its part go, and m stays.
-use Rattle.std.specs.Prelude.{◌≡◌, ℕ, zero, suc, ◌+◌, ◌-◌, ◌*◌, ◌/◌, ◌^◌, ◌<◌, ◌≤◌, Bool, true, false, List, [], ◌∷◌}
+-- An unmarked word that counts k has k parts out, one for each counted handle. A marked word has m parts out, and keeps one part for good, of which
+-- each who finds the mark has a share.
+-- At the mark m is k, and it is one fewer after each later subtraction, of a drop that looked before the mark. A handle whose drop finds the mark
+-- lets its part go, and m stays.
+use Rattle.std.specs.Prelude.{◌≡◌, ℕ, ◌+◌, ◌-◌, ◌^◌, ◌<◌, ◌≤◌, Bool, true, false, List, [], ◌∷◌}
 use base.Fraction.{full_share}
 use base.FractionLaws.{Counts}
-use base.Fml.{Lft, GName, Share, Fml, ftrue, fsep, fex, fall, fwand, flft, fdead, flent, fshr_bor, finv}
+use base.Fml.{Lft, GName, Share, Fml, ftrue, fsep, fex, fall, flft, fdead, flent, fshr_bor, finv}
 use mir.Syntax.{Ty}
-use mir.Raw.{raw}
-use prog.Memory.{up, align}
-use denote.RattleType.{RattleType}
-use denote.Memory.{lone}
-use denote.RawPtr.{Ptr, InBlock, block_of, count_of, lies_at, ◌+ₚ◌}
-use denote.Sharing.{said, beside, some, one, held, always, nothing}
-use denote.Struct.Lending.{lent_at}
-use Rattle.core.specs.Ptr.{points_to}
+use denote.RawPtr.{Ptr, block_of, count_of}
+use denote.Sharing.{said, beside, some, one, held, always, nothing as no_part}
 use Rattle.core.specs.Sync.RawAtomic.{word}
 use Rattle.arcstr_count.specs.declared.steps.Step.{Step}
 use Rattle.arcstr_count.specs.declared.steps.HandleState.TheVariants.{Free, Dropping, Owing}
-use Rattle.arcstr_block.specs.Rights.{IsLimit, IsMarked, counted, uncounted}
+use Rattle.arcstr_block.specs.Word.{IsLimit, IsMarked, counting_word, count_in}
+use Rattle.arcstr_block.specs.Rights.{Right, nothing, counted, uncounted, fixed, dropping, owed}
 use Rattle.arcstr_block.specs.Book.{Book, reached, seat, seat_share}
-use Rattle.arcstr_block.specs.contracts.block.Block.{the_row as block_row}
+use Rattle.arcstr_block.specs.Memory.{block_owns, block_shares, placed, IsText}
 
 abbrev pub fact : Type 0 → Fml
 fact φ = fex φ (λ _. ftrue)
@@ -34,12 +31,13 @@ parts a k = fex Share (λ e. fex (Counts 63 e k) (λ _. flft (a ∷ []) e))
 abbrev pub some_share : ℕ → Fml
 some_share a = fex Share (λ s. flft (a ∷ []) s)
 
--- what a block is known by: the lifetime a for which its content is shared, the lifetime c that ends with the mark, the name γ of its history, and the name δ of the seats of its handles
+-- what a block is known by: the lifetime a for which its content is shared, the lifetime c that ends with the mark, the name γ of its history, and
+-- the name δ of the seats of its handles
 abbrev pub Id : Type 0
 Id = ℕ × ℕ × GName × GName
 
 -- an uncounted handle knows that c has ended
-abbrev pub knows : Id → ℕ → Fml
+abbrev pub knows : Id → Right → Fml
 knows t right = fall (right ≡ uncounted) (λ _. fdead (t.1 ∷ []))
 
 -- the block's names: of its history, and of its seats
@@ -60,8 +58,8 @@ pub data Phase : Type 0 where
 -- P is what the block owns, L its limit, and b and o where its word lies.
 module _ (P : Fml) (L b o : ℕ) (t : Id) where
   abbrev pub Fits : ℕ → Phase → Type 0
-  Fits n (unmarked k) = (n ≡ 2 * k) × (0 < k) × (k ≤ L + 1) × IsLimit L
-  Fits n (marked m) = IsMarked n × (m ≤ n / 2) × (n / 2 ≤ L + 1) × IsLimit L
+  Fits n (unmarked k) = (n ≡ counting_word k) × (0 < k) × (k ≤ L + 1) × IsLimit L
+  Fits n (marked m) = IsMarked n × (m ≤ count_in n) × (count_in n ≤ L + 1) × IsLimit L
 
   abbrev pub rest : Phase → Fml
   rest (unmarked k) = fsep (parts t.0 (2 ^ 63 - k)) (fsep (flft (t.1 ∷ []) full_share) (flent (t.0 ∷ []) P))
@@ -95,67 +93,51 @@ module _ (P : Fml) (L b o : ℕ) (t : Id) where
 
   -- s is what is shared, and h the number of the handle
   module _ (s : Lft → Fml) (h : ℕ) where
-    abbrev pub with_share : ℕ → Share → Fml
+    abbrev pub with_share : Right → Share → Fml
     with_share right e = fsep (fact (right ≡ counted → Counts 63 e 1)) (fsep (flft (t.0 ∷ []) e) (fsep (knows t right) (fsep (s (t.0 ∷ [])) (seat t.3 h Free))))
 
     -- a free handle: a share of a's token, which is one part where the handle is counted
-    abbrev pub free : ℕ → Fml
+    abbrev pub free : Right → Fml
     free right = fex Share (with_share right)
 
-    -- what lies in a right, by the numbers of `specs/Rights.antt`: nothing, counted, uncounted, fixed, dropping, owed
-    abbrev pub right_to : ℕ → Fml
-    right_to zero = s (t.0 ∷ [])
-    right_to (suc zero) = free 1
-    right_to (suc (suc zero)) = free 2
-    right_to (suc (suc (suc zero))) = fsep for_good (s (t.0 ∷ []))
-    right_to (suc (suc (suc (suc zero)))) = fsep (parts t.0 1) (fsep (s (t.0 ∷ [])) (seat t.3 h Dropping))
-    right_to (suc (suc (suc (suc (suc _))))) = fsep (stated 0) (fsep P (seat t.3 h Owing))
+    -- what lies in a right
+    abbrev pub right_to : Right → Fml
+    right_to nothing = s (t.0 ∷ [])
+    right_to counted = free counted
+    right_to uncounted = free uncounted
+    right_to fixed = fsep for_good (s (t.0 ∷ []))
+    right_to dropping = fsep (parts t.0 1) (fsep (s (t.0 ∷ [])) (seat t.3 h Dropping))
+    right_to owed = fsep (stated (counting_word 0)) (fsep P (seat t.3 h Owing))
 
-    abbrev pub held_with : ℕ → Fml
+    abbrev pub held_with : Right → Fml
     held_with right = fsep (finv Inv) (right_to right)
 
     -- what a `&` to a pointer holds of a right
     abbrev pub seen : Lft → Fml
     seen = beside (always Inv) (held (t.0 ∷ []) s)
 
-    abbrev pub free_shown : ℕ → Lft → Fml
+    abbrev pub free_shown : Right → Lft → Fml
     free_shown right = beside (one (λ q. flft (t.0 ∷ []) q)) (beside (one (λ q. seat_share t.3 h q Free)) (beside (said (knows t right)) seen))
 
-    abbrev pub shown : ℕ → Lft → Fml
-    shown zero = nothing
-    shown (suc zero) = free_shown 1
-    shown (suc (suc zero)) = free_shown 2
-    shown (suc (suc (suc zero))) = beside (said for_good) seen
-    shown (suc (suc (suc (suc _)))) = nothing
+    abbrev pub shown : Right → Lft → Fml
+    shown nothing = no_part
+    shown counted = free_shown counted
+    shown uncounted = free_shown uncounted
+    shown fixed = beside (said for_good) seen
+    shown dropping = no_part
+    shown owed = no_part
 
-module _ (holds : Ty → Ptr → Fml) (R : RattleType) (p : Ptr) (x : R.Denot) where
-  abbrev pub value_at : Ptr
-  value_at = p +ₚ up (align (lone R.mir)) 8
-
-  -- the word and the value make the block whole
-  abbrev pub rejoins : Fml
-  rejoins = fall ℕ (λ n. fwand (fsep (word (block_of p) (count_of p + 0) n) (lies_at R full_share value_at x)) (points_to (block_row R) p (record { word = n; value = x })))
-
-  -- what the block owns beside its word: the value, the rest of the memory and the right to free it
-  abbrev pub block_owns : Fml
-  block_owns = fsep (lies_at R full_share value_at x) (fsep rejoins (holds (raw (lone (block_row R).mir)) p))
-
-  abbrev pub block_shares : Lft → Fml
-  block_shares = lent_at R value_at x
-
-abbrev pub in_block : Ptr → Fml
-in_block p = fact (InBlock p)
-
--- what a pointer says of itself: its allocator's right to free, its limit, its address, its content, its right, its handle's number, its block's names and a beginning of its history
-module _ (holds : Ty → Ptr → Fml) (R : RattleType) (L : ℕ) (p : Ptr) (x : R.Denot) (right h : ℕ) (block : Names) (history : List Step) where
+-- what a pointer says of itself: its allocator's right to give back, its limit, its address, its text, its right, its handle's number, its block's
+-- names and a beginning of its history
+module _ (holds : Ty → Ptr → Fml) (L : ℕ) (p : Ptr) (text : List ℕ) (right : Right) (h : ℕ) (block : Names) (history : List Step) where
   abbrev pub of_block : Id → Fml
-  of_block t = fsep (known t block history) (held_with (block_owns holds R p x) L (block_of p) (count_of p + 0) t (block_shares holds R p x) h right)
+  of_block t = fsep (known t block history) (held_with (block_owns holds p text) L (block_of p) (count_of p + 0) t (block_shares p text) h right)
 
   abbrev pub pointer_owns : Fml
-  pointer_owns = fsep (in_block p) (fex Id of_block)
+  pointer_owns = fsep (placed p (IsText text)) (fex Id of_block)
 
   abbrev pub of_block_shown : Id → Lft → Fml
-  of_block_shown t = beside (said (known t block history)) (shown (block_owns holds R p x) L (block_of p) (count_of p + 0) t (block_shares holds R p x) h right)
+  of_block_shown t = beside (said (known t block history)) (shown (block_owns holds p text) L (block_of p) (count_of p + 0) t (block_shares p text) h right)
 
   abbrev pub pointer_shares : Lft → Fml
-  pointer_shares = beside (said (in_block p)) (some Id of_block_shown)
+  pointer_shares = beside (said (placed p (IsText text))) (some Id of_block_shown)

@@ -1,4 +1,7 @@
+pub mod Word
 pub mod Rights
+pub mod Memory
+pub mod Lends
 pub mod Ledger
 pub mod Same
 pub mod Book

@@ -1,81 +1,88 @@
 -- The right that a pointer to a block has, and what each step on the word gains.
-use Rattle.std.specs.Prelude.{◌≡◌, ◌≢◌, ℕ, ◌+◌, ◌/◌, ◌%◌, ◌<◌, ◌≤◌}
+use Rattle.std.specs.Prelude.{◌≡◌, ◌≢◌, ℕ, zero, suc, Bool, true, false, refl}
+use Rattle.std.specs.Coded.{Coded, code_by, coded_ℕ}
+use Rattle.arcstr_block.specs.Word.{IsMarked, IsUnmarked, IsLast}
 
--- no right but to know the block
-abbrev pub nothing : ℕ
-nothing = 0
+pub data Right : Type 0 where
+  -- no right but to know the block
+  nothing : Right
+  -- a free handle that the word counts, or counted once
+  counted : Right
+  -- a free handle whose clone found the mark, or whose exchange set it above the limit
+  uncounted : Right
+  -- the block is marked, for good
+  fixed : Right
+  -- a handle whose drop looked at an unmarked block, and has not subtracted
+  dropping : Right
+  -- the last one counted has left, and its memory is owed
+  owed : Right
 
--- a free handle that the word counts, or counted once
-abbrev pub counted : ℕ
-counted = 1
+-- a right is stored as its place in this list
+abbrev pub place_of : Right → ℕ
+place_of nothing = 0
+place_of counted = 1
+place_of uncounted = 2
+place_of fixed = 3
+place_of dropping = 4
+place_of owed = 5
 
--- a free handle whose clone found the mark, or whose exchange set it above the limit
-abbrev pub uncounted : ℕ
-uncounted = 2
+abbrev pub right_at : ℕ → Right
+right_at zero = nothing
+right_at (suc zero) = counted
+right_at (suc (suc zero)) = uncounted
+right_at (suc (suc (suc zero))) = fixed
+right_at (suc (suc (suc (suc zero)))) = dropping
+right_at (suc (suc (suc (suc (suc n))))) = owed
 
--- the block is marked, for good
-abbrev pub fixed : ℕ
-fixed = 3
+pub right_at_place : (right : Right) → right_at (place_of right) ≡ right
+right_at_place nothing = refl
+right_at_place counted = refl
+right_at_place uncounted = refl
+right_at_place fixed = refl
+right_at_place dropping = refl
+right_at_place owed = refl
 
--- a handle whose drop looked at an unmarked block, and has not subtracted
-abbrev pub dropping : ℕ
-dropping = 4
+abbrev pub right_code : Coded Right
+right_code = code_by ℕ coded_ℕ place_of right_at right_at_place
 
--- the last one counted has left, and its memory is owed
-abbrev pub owed : ℕ
-owed = 5
+-- the rights of a free handle, which may step on the block: counted and uncounted
+abbrev pub IsFree : Right → Type 0
+IsFree right = (right ≢ nothing) × (right ≢ fixed) × (right ≢ dropping) × (right ≢ owed)
 
--- the rights of a free handle, which may step on the block
-abbrev pub IsFree : ℕ → Type 0
-IsFree right = (0 < right) × (right < 3)
-
--- the rights by which the block may be read
-abbrev pub MaySee : ℕ → Type 0
-MaySee right = (0 < right) × (right < 4)
+-- the rights by which the block may be read: counted, uncounted and fixed
+abbrev pub MaySee : Right → Type 0
+MaySee right = (right ≢ nothing) × (right ≢ dropping) × (right ≢ owed)
 
 -- the rights by which a pointer has the seat of its handle: all but to know the block, and that it is marked
-abbrev pub HasSeat : ℕ → Type 0
+abbrev pub HasSeat : Right → Type 0
 HasSeat right = (right ≢ nothing) × (right ≢ fixed)
 
--- the rights that stand for nothing in the block's history, and may be let go
-abbrev pub IsIdle : ℕ → Type 0
+-- the rights that stand for nothing in the block's history, and may be let go: nothing and fixed
+abbrev pub IsIdle : Right → Type 0
 IsIdle right = (right ≢ counted) × (right ≢ uncounted) × (right ≢ dropping) × (right ≢ owed)
 
-abbrev pub IsMarked : ℕ → Type 0
-IsMarked word = word % 2 ≡ 1
-
-abbrev pub IsUnmarked : ℕ → Type 0
-IsUnmarked word = word % 2 ≡ 0
-
--- a limit on a count is below 2 ^ 62: it is at most `RC_MAX`
-abbrev pub IsLimit : ℕ → Type 0
-IsLimit limit = limit < 4611686018427387904
-
--- an unmarked word counts from 1 to the limit and one more
-abbrev pub IsWord : ℕ → ℕ → Type 0
-IsWord limit word = IsUnmarked word → (0 < word / 2) × (word / 2 ≤ limit + 1)
-
 -- a look that found the word: whoever finds the mark has the block as a fixed one
-abbrev pub Looks : ℕ → ℕ → Type 0
+abbrev pub Looks : ℕ → Right → Type 0
 Looks word gained = (IsMarked word → gained ≡ fixed) × (IsUnmarked word → gained ≡ nothing)
 
 -- the load of a clone that found the word: where it is marked the clone is had
-abbrev pub Finds : ℕ → ℕ → Type 0
+abbrev pub Finds : ℕ → Right → Type 0
 Finds word gained = (IsMarked word → gained ≡ uncounted) × (IsUnmarked word → gained ≡ nothing)
 
--- a clone of the unmarked word old: the mark above the limit, else one more
-abbrev pub IsClone : ℕ → ℕ → ℕ → Type 0
-IsClone limit old new = IsUnmarked old × (limit < old / 2 → new ≡ old + 1) × (old / 2 ≤ limit → new ≡ old + 2)
+-- a load that found the word: of a clone, or a look
+abbrev pub Loads : Bool → ℕ → Right → Type 0
+Loads true word gained = Finds word gained
+Loads false word gained = Looks word gained
 
 -- a compare-exchange of old to its clone new, which found the word
-abbrev pub Gains : ℕ → ℕ → ℕ → ℕ → Type 0
+abbrev pub Gains : ℕ → ℕ → ℕ → Right → Type 0
 Gains old new word gained = (IsMarked word → gained ≡ uncounted) × (IsUnmarked word → word ≢ old → gained ≡ nothing)
     × (word ≡ old → IsUnmarked new → gained ≡ counted) × (word ≡ old → IsMarked new → gained ≡ uncounted)
 
 -- the look of a drop that found the word: it goes on where the word is unmarked
-abbrev pub Begins : ℕ → ℕ → Type 0
+abbrev pub Begins : ℕ → Right → Type 0
 Begins word gained = (IsMarked word → gained ≡ nothing) × (IsUnmarked word → gained ≡ dropping)
 
--- a subtraction owes the memory exactly where it found 2
-abbrev pub Leaves : ℕ → ℕ → Type 0
-Leaves word gained = (word ≡ 2 → gained ≡ owed) × (word ≢ 2 → gained ≡ nothing)
+-- a subtraction owes the memory exactly where it was the last one
+abbrev pub Leaves : ℕ → Right → Type 0
+Leaves word gained = (IsLast word → gained ≡ owed) × ((¬ IsLast word) → gained ≡ nothing)

@@ -1,36 +1,48 @@
 -- Two pointers to one block, and what a step of one says of the other.
-use Rattle.std.specs.Prelude.{◌≡◌, ℕ}
+use Rattle.std.specs.Prelude.{◌≡◌, ℕ, Bool, true, false, List}
 use Rattle.arcstr_count.specs.declared.steps.Step.{Step}
 use Rattle.arcstr_count.specs.declared.steps.Step.TheVariants.{Look, Begin, Sub, Leak}
 use Rattle.arcstr_count.specs.declared.steps.Reply.{Reply}
 use Rattle.arcstr_count.specs.declared.steps.Reply.TheVariants.{Ended, Looked as LookedReply, Owes, Left, Marked}
 use Rattle.arcstr_count.specs.Word.{looked_of}
 use Rattle.arcstr_count.specs.OneBlock.{EndsIn, look_reply}
-use Rattle.arcstr_block.specs.Rights.{IsMarked, IsUnmarked}
-use Rattle.arcstr_block.specs.Book.{word_of}
+use Rattle.arcstr_block.specs.Word.{word_of, IsMarked, IsUnmarked, IsLast}
 use Rattle.arcstr_block.specs.declared.pointer.Pointer.{Pointer}
 
-module _ {X A : Type 0} where
+-- the history ends in a look of the handle h that found the word; of a clone's load, which gives birth to a handle, nothing is said
+abbrev pub LoadEnds : Bool → ℕ → ℕ → ℕ → List Step → Type 0
+LoadEnds true limit h word history = Unit {0}
+LoadEnds false limit h word history = EndsIn limit history (Look h) (look_reply (looked_of (word_of word)))
+
+module _ {A : Type 0} where
   -- They have one allocator, one content, one limit, and one history.
-  abbrev pub IsSameBlock : Pointer X A → Pointer X A → Type 0
-  IsSameBlock q p = (q.home ≡ p.home) × (q.value ≡ p.value) × (q.limit ≡ p.limit) × (q.block ≡ p.block)
+  abbrev pub IsSameBlock : Pointer A → Pointer A → Type 0
+  IsSameBlock q p = (q.home ≡ p.home) × (q.text ≡ p.text) × (q.limit ≡ p.limit) × (q.block ≡ p.block)
+
+  -- a clone made by p has its text and its block
+  abbrev pub IsCloneOf : Pointer A → Pointer A → Type 0
+  IsCloneOf q p = (q.text ≡ p.text) × (q.block ≡ p.block)
 
   -- what q has seen ends in this step of p's handle, and the core answered so
-  abbrev pub SawStep : Pointer X A → Pointer X A → Step → Reply → Type 0
+  abbrev pub SawStep : Pointer A → Pointer A → Step → Reply → Type 0
   SawStep p q s reply = EndsIn p.limit q.history s reply
 
   -- a look of p that found the word
-  abbrev pub Looked : Pointer X A → ℕ → Pointer X A → Type 0
+  abbrev pub Looked : Pointer A → ℕ → Pointer A → Type 0
   Looked p word q = SawStep p q (Look p.seat) (look_reply (looked_of (word_of word)))
 
+  -- a load of p that found the word, of a clone or a look
+  abbrev pub LoadedAs : Bool → Pointer A → ℕ → Pointer A → Type 0
+  LoadedAs clones p word q = LoadEnds clones p.limit p.seat word q.history
+
   -- the mark by p
-  abbrev pub Leaked : Pointer X A → Pointer X A → Type 0
+  abbrev pub Leaked : Pointer A → Pointer A → Type 0
   Leaked p q = SawStep p q (Leak p.seat) Marked
 
   -- the look of p's drop
-  abbrev pub BegunAs : Pointer X A → ℕ → Pointer X A → Type 0
+  abbrev pub BegunAs : Pointer A → ℕ → Pointer A → Type 0
   BegunAs p word q = (q.seat ≡ p.seat) × (IsMarked word → SawStep p q (Begin p.seat) Ended) × (IsUnmarked word → SawStep p q (Begin p.seat) LookedReply)
 
   -- the subtraction of p's drop
-  abbrev pub SubtractedAs : Pointer X A → ℕ → Pointer X A → Type 0
-  SubtractedAs p word q = (q.seat ≡ p.seat) × (word ≡ 2 → SawStep p q (Sub p.seat) Owes) × ((word ≡ 2 → ⊥) → SawStep p q (Sub p.seat) Left)
+  abbrev pub SubtractedAs : Pointer A → ℕ → Pointer A → Type 0
+  SubtractedAs p word q = (q.seat ≡ p.seat) × (IsLast word → SawStep p q (Sub p.seat) Owes) × ((¬ IsLast word) → SawStep p q (Sub p.seat) Left)

@@ -1,32 +1,128 @@
-//! What lies in the memory of a block.
-ghost use Rattle.std.specs.Prelude.{◌≡◌, IfOk, IfErr};
+//! The memory of a block, in one piece: its word, the length of its text in bytes, and the bytes of the text. Here
+//! one owner has all of it: its maker, or whoever gives it back.
+ghost use Rattle.std.specs.Prelude.{◌≡◌, ℕ, List, length, replicate, IfOk};
+ghost use Rattle.std.specs.Borrow.{sem};
+ghost use Rattle.core.specs.Mem.Slots.{slots_ptr, slots_len, slots_items, slots_filled};
+ghost use Rattle.core.specs.Mem.Slots.Ownership.{Filled};
+ghost use Rattle.arcstr_block.specs.Memory.{Fits, block_size, text_at, blank_owns, sole_owns};
 
-use crate::fault::TextFault;
-use arcstr_count::Word;
-use std::alloc::Allocator;
+use core::slots::Slots;
+use std::alloc::{AllocError, Allocator};
+use std::marker::{Model, PhantomData};
+use std::mem::align_of;
+use std::slice;
 
-/// The word that counts the handles on the block, and what they share.
-#[derive(Drop)]
-pub(crate) struct Block<X> {
+/// What lies at the address of a block. As many bytes as the length says follow it.
+pub(crate) struct Block {
     pub(crate) word: u64,
-    pub(crate) value: X,
+    pub(crate) length: usize,
+    pub(crate) text: [u8; 0],
 }
 
-/// The memory of a new block, whose text is still empty. Its word says one handle.
-pub(crate) fn empty_block<A: Allocator + Copy>(
-    alloc: A,
-) -> Result<Box<Block<String<A>>, A>, TextFault>
-    ensures fresh { IfOk result (λ memory. memory.value.word ≡ 2) }
-    ensures refused { IfErr result (λ fault. fault ≡ TextFault.Memory) }
-{
-    let Ok(memory) = Box::new(
-        alloc,
-        Block {
-            word: Word::one().bits(),
-            value: String::new(alloc),
-        },
-    ) else {
-        return Err(TextFault::Memory);
-    };
-    Ok(memory)
+/// The memory of a new block but for its bytes, which its maker has in a `Slots` beside it.
+pub(crate) struct Blank<A: Allocator> {
+    at: *mut Block,
+    marker: PhantomData<A>,
+    pub ghost home: { A },
+    pub ghost word: { ℕ },
+    pub ghost length: { ℕ },
 }
+
+impl<A: Allocator> Model for Blank<A> {
+    ghost also_owns = { λ b. blank_owns (A.dealloc_token b.home) b.at b.word b.length };
+}
+
+/// The memory of a block whose text is written, and which one owner has alone.
+pub(crate) struct Sole<A: Allocator> {
+    pub(crate) at: *mut Block,
+    pub(crate) marker: PhantomData<A>,
+    pub ghost home: { A },
+    pub ghost word: { ℕ },
+    pub ghost text: { List ℕ },
+}
+
+impl<A: Allocator> Model for Sole<A> {
+    ghost also_owns = { λ s. sole_owns (A.dealloc_token s.home) s.at s.word s.text };
+}
+
+impl<A: Allocator> Blank<A> {
+    /// Asks for the memory of a block, `size` bytes for a text of `len`, and writes the word and the length.
+    pub(crate) fn make(
+        alloc: &A,
+        word: u64,
+        len: usize,
+        size: usize,
+    ) -> Result<(Blank<A>, Slots<u8>), AllocError>
+        requires size { size ≡ block_size len }
+        requires fits { Fits len }
+        ensures home { IfOk result (λ made. made.0.home ≡ alloc.now) }
+        ensures word { IfOk result (λ made. made.0.word ≡ word) }
+        ensures length { IfOk result (λ made. (made.0.length ≡ len) × (slots_len made.1 ≡ len)) }
+        ensures bytes { IfOk result (λ made. slots_ptr made.1 ≡ text_at made.0.at) }
+        ensures empty { IfOk result (λ made. slots_items made.1 ≡ replicate len 0) }
+    {
+        match alloc.allocate(size, align_of::<Block>()) {
+            Ok(room) => {
+                let at = room as *mut Block;
+                unsafe {
+                    (&raw mut (*at).word).write(word);
+                    (&raw mut (*at).length).write(len);
+                    let bytes = Slots::from_raw_parts(&raw mut (*at).text as *mut u8, len);
+                    let blank = Blank {
+                        at,
+                        marker: PhantomData,
+                    };
+                    Ok((blank, bytes))
+                }
+            }
+            Err(refused) => Err(refused),
+        }
+    }
+
+    /// The block, once each of its bytes is written.
+    pub(crate) fn close(self, bytes: Slots<u8>) -> Sole<A>
+        requires here { slots_ptr bytes ≡ text_at self.at }
+        requires long { slots_len bytes ≡ self.length }
+        requires written { Filled (slots_filled bytes) 0 self.length }
+        ensures home { result.home ≡ self.home }
+        ensures word { result.word ≡ self.word }
+        ensures text { result.text ≡ slots_items bytes }
+    {
+        let Blank { at, marker } = self;
+        let _parts = unsafe { bytes.into_raw_parts() };
+        Sole { at, marker }
+    }
+}
+
+impl<A: Allocator> Sole<A> {
+    ghost use Rattle.arcstr_block.specs.Lends.{sole_follows};
+
+    /// Lends the bytes of the text for writing.
+    pub(crate) fn lend(&mut self, len: usize) -> &mut [u8]
+        requires { len ≡ length self.old.text }
+        ensures* follows { sem 𝓛 (sole_follows A.row A.Allocator self.entry result) }
+        ensures text { result.now ≡ self.old.text }
+    {
+        unsafe { slice::from_raw_parts_mut(&raw mut (*self.at).text as *mut u8, len) }
+    }
+
+    /// Gives the memory back.
+    pub(crate) fn give_back(self, alloc: &A, size: usize)
+        requires home { self.home ≡ alloc.now }
+        requires size { size ≡ block_size (length self.text) }
+    {
+        let Sole { at, marker: _ } = self;
+        unsafe { alloc.deallocate(at as *mut u8, size, align_of::<Block>()) }
+    }
+}
+
+/// The bytes of a block for a text of `len` bytes: 16 and the text, rounded up to a multiple of 8.
+pub(crate) fn size_of_block(len: usize) -> usize
+    requires { Fits len }
+    ensures { result ≡ block_size len }
+{
+    (16 + len + 7) / 8 * 8
+}
+
+// The content is plain bytes, and is given back in whichever thread the owner is.
+unsafe impl<A: Allocator + Send> Send for Sole<A> {}

@@ -1,6 +1,5 @@
 //! A block that is known to be marked.
 ghost use Rattle.std.specs.Prelude.{◌≡◌, length};
-ghost use Rattle.std.specs.String.{string_bytes};
 ghost use Rattle.arcstr_block.specs.Rights.{fixed};
 ghost use Rattle.arcstr_block.specs.Handle.{Kept, IsMarkedIn};
 
@@ -12,7 +11,7 @@ use std::marker::Model;
 /// A block that is marked, for good: its text is read as long as its allocator lasts. Contracts see the bytes of
 /// its text, its block's name, the limit on its count, and the beginning of its history in which it was marked.
 pub struct Fixed<A: Allocator + Copy> {
-    pub(crate) pointer: Pointer<String<A>, A>,
+    pub(crate) pointer: Pointer<A>,
     pub(crate) alloc: A,
     ghost right: { pointer.right ≡ fixed },
     ghost marked: { IsMarkedIn pointer.limit pointer.history },
@@ -21,7 +20,7 @@ pub struct Fixed<A: Allocator + Copy> {
 impl<A: Allocator + Copy> Model for Fixed<A> {
     ghost Value = { Kept };
 
-    ghost view = { λ f. record { text = string_bytes f.pointer.value; block = f.pointer.block; limit = f.pointer.limit; history = f.pointer.history } };
+    ghost view = { λ f. record { text = f.pointer.text; block = f.pointer.block; limit = f.pointer.limit; history = f.pointer.history } };
 }
 
 impl<A: Allocator + Copy> Fixed<A> {
@@ -29,14 +28,14 @@ impl<A: Allocator + Copy> Fixed<A> {
     pub fn as_str(&self) -> &str
         ensures { result.now ≡ self.now.text }
     {
-        self.pointer.value().as_str()
+        self.pointer.text()
     }
 
     /// The length of the text, in bytes.
     pub fn len(&self) -> usize
         ensures { result ≡ length self.now.text }
     {
-        self.as_str().len()
+        *self.pointer.length()
     }
 
     /// The same block once more. It takes no step.

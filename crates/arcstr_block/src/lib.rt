@@ -13,7 +13,6 @@ pub use shared::Shared;
 mod block;
 mod fault;
 mod fixed;
-mod loose;
 mod making;
 mod owed;
 mod pointer;

@@ -1,20 +1,40 @@
-//! Blocks that are filled by a closure or with copies of a text.
-ghost use Rattle.std.specs.Prelude.{◌≡◌, ◌↔◌, ◌*◌, ◌≤◌, length, replicate, vec_len, IfOk, IfErr, IsErrOf, IsUtf8};
+//! Making: blocks that hold a copy of a text, what a closure leaves, or copies of a text, each asked for with one request for memory.
+ghost use Rattle.std.specs.Prelude.{◌≡◌, ◌↔◌, ◌*◌, ◌≤◌, length, replicate, IfOk, IfErr, IsErrOf, IsUtf8};
 ghost use Rattle.std.specs.Fn.{FnOnceReturnsAtMut, FnOnceTakesAtMut};
 ghost use Rattle.std.specs.List.{repeat};
-ghost use Rattle.std.specs.String.{string_bytes};
+ghost use Rattle.core.specs.Mem.Slots.{SamePlaces, slots_ptr, slots_len, slots_items, slots_filled};
+ghost use Rattle.core.specs.Mem.Slots.Ownership.{Filled};
+ghost use Rattle.arcstr_count.specs.Word.{bits_of, fresh_word};
+ghost use Rattle.arcstr_block.specs.Memory.{Fits, text_at};
 ghost use Rattle.arcstr_block.specs.Making.{IsTooLong, IsFaultOfMaking, IsFaultOfBytes, IsFaultOfFilling};
 
-use crate::block::empty_block;
+use crate::block::{Blank, size_of_block};
 use crate::fault::{TOO_LONG, TextFault};
 use crate::shared::Shared;
-use arcstr_count::RC_MAX;
-use std::alloc::{AllocError, Allocator};
+use arcstr_count::{RC_MAX, Word};
+use core::slots::Slots;
+use std::alloc::Allocator;
 
 #[cfg(test)]
 mod tests;
 
 impl<const LIMIT: u64, A: Allocator + Copy> Shared<LIMIT, A> {
+    /// The first handle on a new block with this text. A text that is too long is refused first, then
+    /// want of memory. An empty text has a block too.
+    pub fn from_text(alloc: A, text: &str) -> Result<Shared<LIMIT, A>, TextFault>
+        requires limit { LIMIT ≤ RC_MAX }
+        ensures made { IfOk result (λ made. made.text ≡ text.now) }
+        ensures too_long { IsErrOf result TextFault.Length ↔ IsTooLong (length text.now) }
+        ensures refused { IfErr result (IsFaultOfMaking (length text.now)) }
+    {
+        if text.len() >= TOO_LONG {
+            return Err(TextFault::Length);
+        }
+        let (blank, mut bytes) = blank_block(alloc, text.len())?;
+        bytes.copy_in(0, text.as_bytes());
+        Ok(Shared::placed(blank.close(bytes), alloc))
+    }
+
     /// The first handle on a new block with the text that the closure leaves in `n` zero bytes.
     ///
     /// The tests come in this order: a length that is too long; memory; the closure runs, once; what it
@@ -35,78 +55,95 @@ impl<const LIMIT: u64, A: Allocator + Copy> Shared<LIMIT, A> {
         if n >= TOO_LONG {
             return Err(TextFault::Length);
         }
-        let memory = empty_block(alloc)?;
-        let Ok(zeros) = zeros(alloc, n) else {
-            return Err(TextFault::Memory);
-        };
-        let bytes = filled(zeros, fill);
-        match text_of(bytes) {
-            Ok(text) => Ok(Shared::placed(memory, text)),
-            Err(fault) => Err(fault),
+        let (blank, mut bytes) = blank_block(alloc, n)?;
+        zero(&mut bytes);
+        let mut block = blank.close(bytes);
+        match filled(block.lend(n), fill) {
+            Ok(()) => Ok(Shared::placed(block, alloc)),
+            Err(fault) => {
+                block.give_back(&alloc, size_of_block(n));
+                Err(fault)
+            }
         }
     }
 
     /// The first handle on a new block with `n` copies of a text, joined. A length that is too long, or
-    /// past `usize`, is refused first, then whatever there is no memory for.
+    /// past `usize`, is refused first, then want of memory.
     pub fn repeat(alloc: A, text: &str, n: usize) -> Result<Shared<LIMIT, A>, TextFault>
         requires { LIMIT ≤ RC_MAX }
         ensures made { IfOk result (λ made. made.text ≡ repeat n text.now) }
         ensures too_long { IsErrOf result TextFault.Length ↔ IsTooLong (n * length text.now) }
         ensures refused { IfErr result (IsFaultOfMaking (n * length text.now)) }
     {
-        let length = match n.checked_mul(text.len()) {
-            Some(length) if length < TOO_LONG => length,
+        let len = match n.checked_mul(text.len()) {
+            Some(len) if len < TOO_LONG => len,
             _ => return Err(TextFault::Length),
         };
-        let memory = empty_block(alloc)?;
-        let Ok(mut copies) = String::with_capacity(alloc, length) else {
-            return Err(TextFault::Memory);
-        };
-        // Copies of an empty text are not counted out, since there may be `usize::MAX` of them.
-        if text.is_empty() {
-            return Ok(Shared::placed(memory, copies));
-        }
-        for _ in 0..n {
-            let Ok(()) = copies.push_str(text) else {
-                return Err(TextFault::Memory);
-            };
-        }
-        Ok(Shared::placed(memory, copies))
+        let (blank, mut bytes) = blank_block(alloc, len)?;
+        copies(&mut bytes, text.as_bytes(), n);
+        Ok(Shared::placed(blank.close(bytes), alloc))
     }
 }
 
-fn zeros<A: Allocator>(alloc: A, n: usize) -> Result<Vec<u8, A>, AllocError>
-    ensures { IfOk result (λ bytes. bytes.items ≡ replicate n 0) }
+/// The memory of a new block, whose word says one handle, and the places of its bytes.
+fn blank_block<A: Allocator + Copy>(
+    alloc: A,
+    len: usize,
+) -> Result<(Blank<A>, Slots<u8>), TextFault>
+    requires { Fits len }
+    ensures home { IfOk result (λ made. made.0.home ≡ alloc) }
+    ensures word { IfOk result (λ made. made.0.word ≡ bits_of fresh_word) }
+    ensures length { IfOk result (λ made. (made.0.length ≡ len) × (slots_len made.1 ≡ len)) }
+    ensures bytes { IfOk result (λ made. slots_ptr made.1 ≡ text_at made.0.at) }
+    ensures empty { IfOk result (λ made. slots_items made.1 ≡ replicate len 0) }
+    ensures refused { IfErr result (λ fault. fault ≡ TextFault.Memory) }
 {
-    vec![in alloc; 0u8; n]
+    match Blank::make(&alloc, Word::one().bits(), len, size_of_block(len)) {
+        Ok(made) => Ok(made),
+        Err(_) => Err(TextFault::Memory),
+    }
 }
 
-fn filled<A: Allocator, F: FnOnce(&mut [u8])>(mut bytes: Vec<u8, A>, fill: F) -> Vec<u8, A>
-    requires { FnOnceTakesAtMut F.FnOnce fill bytes.items }
-    ensures left { FnOnceReturnsAtMut F.FnOnce fill bytes.items tt result.items }
-    ensures as_long { vec_len result ≡ vec_len bytes }
+/// Writes 0 in each place.
+fn zero(bytes: &mut Slots<u8>)
+    requires { slots_items bytes.old ≡ replicate (slots_len bytes.old) 0 }
+    ensures items { slots_items bytes.new ≡ replicate (slots_len bytes.old) 0 }
+    ensures written { Filled (slots_filled bytes.new) 0 (slots_len bytes.old) }
+    ensures places { SamePlaces bytes.old bytes.new }
 {
-    fill_slice(bytes.as_mut_slice(), fill);
-    bytes
+    for place in 0..bytes.len() {
+        bytes.put(place, 0);
+    }
 }
 
-fn fill_slice<F: FnOnce(&mut [u8])>(bytes: &mut [u8], fill: F)
+/// Writes `n` copies of a text, one behind the other.
+fn copies(bytes: &mut Slots<u8>, text: &[u8], n: usize)
+    requires places { slots_len bytes.old ≡ n * length text.now }
+    requires utf8 { IsUtf8 text.now }
+    ensures items { slots_items bytes.new ≡ repeat n text.now }
+    ensures utf8 { IsUtf8 (slots_items bytes.new) }
+    ensures written { Filled (slots_filled bytes.new) 0 (slots_len bytes.old) }
+    ensures places { SamePlaces bytes.old bytes.new }
+{
+    // Copies of an empty text are not counted out, since there may be `usize::MAX` of them.
+    if text.is_empty() {
+        return;
+    }
+    for copy in 0..n {
+        bytes.copy_in(copy * text.len(), text);
+    }
+}
+
+/// Lets a closure fill the bytes, and tests that it left a text.
+fn filled<F: FnOnce(&mut [u8])>(bytes: &mut [u8], fill: F) -> Result<(), TextFault>
     requires { FnOnceTakesAtMut F.FnOnce fill bytes.old }
-    ensures { FnOnceReturnsAtMut F.FnOnce fill bytes.old tt bytes.new }
+    ensures left { FnOnceReturnsAtMut F.FnOnce fill bytes.old tt bytes.new }
+    ensures text { IfOk result (λ _. IsUtf8 bytes.new) }
+    ensures refused { IfErr result (IsFaultOfBytes bytes.new) }
 {
     fill(bytes);
-}
-
-fn text_of<A: Allocator>(bytes: Vec<u8, A>) -> Result<String<A>, TextFault>
-    ensures made { IfOk result (λ text. (string_bytes text ≡ bytes.items) × IsUtf8 bytes.items) }
-    ensures refused { IfErr result (IsFaultOfBytes bytes.items) }
-{
-    match str::from_utf8(bytes.as_slice()) {
-        Ok(_) => {}
-        Err(error) => return Err(TextFault::Utf8(error.valid_up_to())),
+    match str::from_utf8(bytes) {
+        Ok(_) => Ok(()),
+        Err(error) => Err(TextFault::Utf8(error.valid_up_to())),
     }
-    let Ok(text) = String::from_utf8(bytes) else {
-        unreachable!()
-    };
-    Ok(text)
 }

@@ -3,7 +3,7 @@ ghost use Rattle.std.specs.Prelude.{◌≡◌, ◌≢◌};
 ghost use Rattle.arcstr_block.specs.Rights.{owed};
 ghost use Rattle.arcstr_block.specs.Handle.{Debt};
 
-use crate::block::Block;
+use crate::block::size_of_block;
 use crate::fixed::Fixed;
 use crate::pointer::Pointer;
 use crate::shared::Shared;
@@ -23,7 +23,7 @@ pub enum Down<A: Allocator> {
 /// The memory of a block that nobody else has, to be given back. It cannot be let go otherwise.
 /// Contracts see its block's name, and the number of the handle that was subtracted last.
 pub struct Owed<A: Allocator> {
-    pub(crate) pointer: Pointer<String<A>, A>,
+    pub(crate) pointer: Pointer<A>,
     pub(crate) alloc: A,
     ghost right: { pointer.right ≡ owed },
     ghost home: { alloc ≡ pointer.home },
@@ -40,8 +40,8 @@ impl<A: Allocator> Owed<A> {
     /// That a heap has it again is shown by the test `all_memory_is_given_back`.
     pub fn give_back(self) {
         let Owed { pointer, alloc } = self;
-        let memory = pointer.release(alloc).into_box();
-        drop(memory);
+        let (block, len) = pointer.release();
+        block.give_back(&alloc, size_of_block(len));
     }
 }
 
@@ -55,6 +55,16 @@ impl<A: Allocator + Copy> Owed<A> {
         let Owed { pointer, alloc } = self;
         let (other, pointer) = other.apart_from(pointer);
         (Owed { pointer, alloc }, other)
+    }
+
+    /// The law that a handle that is lent is on another block than what is owed. No step.
+    pub fn alone_beside<const LIMIT: u64>(self, handle: &Shared<LIMIT, A>) -> Owed<A>
+        ensures same { result ≡ self }
+        ensures alone { self.block ≢ handle.now.block }
+    {
+        let Owed { pointer, alloc } = self;
+        let pointer = handle.alone_from(pointer);
+        Owed { pointer, alloc }
     }
 
     /// The law that a block that is owed is not marked. No step.

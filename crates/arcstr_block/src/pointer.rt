@@ -1,98 +1,123 @@
-//! The pointer to a block. Every atomic step is here, and every pointer through which a block is read or stepped on;
-//! `loose.rt` takes the box apart. The word is `2 * count`, or `2 * count + 1` once the block is marked.
+//! The pointer to a block. Every atomic step is here, and every pointer through which a block is read or stepped on.
+//! What a number of the word says is in `word.rt`.
 //!
 //! A `Pointer` is one address when it runs. Its right, seat and history are ghost, and are moved by the proof of each
 //! function (`proofs/pointer/Pointer/NAME/Proof.antt`), so a body shows the machine's step alone. `make` begins the
 //! history with `Make`, and `release` ends it with `Back`; `IntoRaw` and `FromRaw` never occur in it.
-ghost use Rattle.std.specs.Prelude.{◌≡◌, ◌≢◌, ℕ, List};
+ghost use Rattle.std.specs.Prelude.{◌≡◌, ◌≢◌, ℕ, Bool, List, length, IsUtf8};
 ghost use Rattle.std.specs.Coded.{coded_list};
 ghost use Rattle.arcstr_count.specs.declared.steps.Step.{Step};
 ghost use Rattle.arcstr_count.specs.contracts.steps.Step.{the_row as step_row};
-ghost use Rattle.arcstr_block.specs.Rights.{nothing, counted, fixed, dropping, owed, IsFree, HasSeat, MaySee, IsIdle, IsLimit, IsWord, Looks, Finds, IsClone, Gains, Begins, Leaves};
+ghost use Rattle.arcstr_count.specs.Word.{bits_of, fresh_word};
+ghost use Rattle.arcstr_block.specs.Word.{IsLimit, IsWord, IsClone};
+ghost use Rattle.arcstr_block.specs.Rights.{Right, right_code, nothing, counted, fixed, dropping, owed};
+ghost use Rattle.arcstr_block.specs.Rights.{IsFree, HasSeat, MaySee, IsIdle, Looks, Finds, Loads, Gains, Begins, Leaves};
+ghost use Rattle.arcstr_block.specs.Memory.{Fits};
 ghost use Rattle.arcstr_block.specs.Ledger.{pointer_owns, pointer_shares};
 
-use crate::block::Block;
-use crate::loose::Loose;
+use crate::block::{Block, Sole};
 use crate::seen::Seen;
+use crate::word::{MARK, ONE};
 use atomic_table::exchange;
 use std::alloc::Allocator;
 use std::marker::{Brand, Model, PhantomData};
+use std::slice;
 use std::sync::atomic::Ordering::SeqCst;
 use std::sync::atomic::raw;
 
 /// A pointer to a block, with a right, which `specs/Rights.antt` lists, and with a beginning of the block's history.
 /// `seat` is the number of its handle in that history, and `block` the names of the history and of its seats.
-pub(crate) struct Pointer<X, A: Allocator> {
-    at: *const Block<X>,
+pub(crate) struct Pointer<A: Allocator> {
+    at: *const Block,
     marker: PhantomData<A>,
     pub ghost home: { A } by { A.code },
-    pub ghost value: { X } by { X.code },
+    pub ghost text: { List ℕ },
     pub ghost limit: { ℕ },
-    pub ghost right: { ℕ },
+    pub ghost right: { Right } by { right_code },
     pub ghost seat: { ℕ },
     pub ghost block: { ℕ × ℕ },
     pub ghost history: { List Step } by { coded_list step_row.coded },
 }
 
-impl<X, A: Allocator> Model for Pointer<X, A> {
-    ghost also_owns = { λ h. pointer_owns (A.dealloc_token h.home) X.row h.limit h.at h.value h.right h.seat h.block h.history };
+impl<A: Allocator> Model for Pointer<A> {
+    ghost also_owns = { λ h. pointer_owns (A.dealloc_token h.home) h.limit h.at h.text h.right h.seat h.block h.history };
 
-    ghost also_shares = { λ h _ κ. pointer_shares (A.dealloc_token h.home) X.row h.limit h.at h.value h.right h.seat h.block h.history κ };
+    ghost also_shares = { λ h _ κ. pointer_shares (A.dealloc_token h.home) h.limit h.at h.text h.right h.seat h.block h.history κ };
 }
 
-impl<X, A: Allocator> Pointer<X, A> {
-    ghost use Rattle.arcstr_block.specs.Same.{IsSameBlock, Looked, Leaked, BegunAs, SubtractedAs};
+impl<A: Allocator> Pointer<A> {
+    ghost use Rattle.arcstr_block.specs.Same.{IsSameBlock, Looked, LoadedAs, Leaked, BegunAs, SubtractedAs};
 
     /// The first pointer to a block, whose word counts it alone.
-    pub(crate) fn make(memory: Loose<Block<X>, A>) -> (Pointer<X, A>, A)
+    pub(crate) fn make(block: Sole<A>) -> Pointer<A>
         ghost limit: { ℕ }
-        requires word { memory.value.word ≡ 2 }
+        requires word { block.word ≡ bits_of fresh_word }
+        requires text { IsUtf8 block.text }
         requires limit { IsLimit limit }
-        ensures home { (result.0.home ≡ memory.alloc) × (result.1 ≡ memory.alloc) }
-        ensures value { result.0.value ≡ memory.value.value }
-        ensures limit { result.0.limit ≡ limit }
-        ensures right { result.0.right ≡ counted }
+        ensures home { result.home ≡ block.home }
+        ensures text { result.text ≡ block.text }
+        ensures limit { result.limit ≡ limit }
+        ensures right { result.right ≡ counted }
     {
-        let Loose { at, alloc } = memory;
-        let pointer = Pointer {
-            at,
-            marker: PhantomData,
-        };
-        (pointer, alloc)
+        let Sole { at, marker } = block;
+        Pointer { at, marker }
     }
 
-    /// What the block holds.
-    pub(crate) fn value(&self) -> &X
+    /// The length of the text, in bytes.
+    pub(crate) fn length(&self) -> &usize
         requires { MaySee self.now.right }
-        ensures { result.now ≡ self.now.value }
+        ensures { result.now ≡ length self.now.text }
     {
-        unsafe { &(*self.at).value }
+        unsafe { &(*self.at).length }
+    }
+
+    /// The bytes of the text.
+    pub(crate) fn bytes(&self, len: usize) -> &[u8]
+        requires right { MaySee self.now.right }
+        requires length { len ≡ length self.now.text }
+        ensures text { result.now ≡ self.now.text }
+        ensures utf8 { IsUtf8 result.now }
+    {
+        unsafe { slice::from_raw_parts(&raw const (*self.at).text as *const u8, len) }
+    }
+
+    /// The text.
+    pub(crate) fn text(&self) -> &str
+        requires { MaySee self.now.right }
+        ensures { result.now ≡ self.now.text }
+    {
+        let bytes = self.bytes(*self.length());
+        unsafe { str::from_utf8_unchecked(bytes) }
     }
 
     /// The look of a free handle: one load.
-    pub(crate) fn look(&self) -> (u64, Pointer<X, A>)
+    pub(crate) fn look(&self) -> (u64, Pointer<A>)
         requires { IsFree self.now.right }
         ensures word { IsWord self.now.limit result.0 }
         ensures right { Looks result.0 result.1.right }
         ensures history { Looked self.now result.0 result.1 }
         ensures same { IsSameBlock result.1 self.now }
     {
-        let at = self.at;
-        let found = unsafe { raw::load::<Brand>(&raw const (*at).word, SeqCst) };
-        (
-            found,
-            Pointer {
-                at,
-                marker: PhantomData,
-            },
-        )
+        self.load()
     }
 
     /// The load of a clone: where it finds the mark, the clone is had.
-    pub(crate) fn find(&self) -> (u64, Pointer<X, A>)
+    pub(crate) fn find(&self) -> (u64, Pointer<A>)
         requires { IsFree self.now.right }
         ensures word { IsWord self.now.limit result.0 }
         ensures right { Finds result.0 result.1.right }
+        ensures same { IsSameBlock result.1 self.now }
+    {
+        self.load()
+    }
+
+    /// One load, of a clone or as a look.
+    fn load(&self) -> (u64, Pointer<A>)
+        ghost clones: { Bool }
+        requires { IsFree self.now.right }
+        ensures word { IsWord self.now.limit result.0 }
+        ensures right { Loads clones result.0 result.1.right }
+        ensures history { LoadedAs clones self.now result.0 result.1 }
         ensures same { IsSameBlock result.1 self.now }
     {
         let at = self.at;
@@ -107,7 +132,7 @@ impl<X, A: Allocator> Pointer<X, A> {
     }
 
     /// One compare-exchange, from `old` to its clone `new`: where it finds `old` or the mark, the clone is had.
-    pub(crate) fn raise(&self, old: u64, new: u64) -> (u64, Pointer<X, A>)
+    pub(crate) fn raise(&self, old: u64, new: u64) -> (u64, Pointer<A>)
         requires right { IsFree self.now.right }
         requires clone { IsClone self.now.limit old new }
         ensures word { IsWord self.now.limit result.0 }
@@ -126,14 +151,14 @@ impl<X, A: Allocator> Pointer<X, A> {
     }
 
     /// One fetch-or of the mark.
-    pub(crate) fn mark(&self) -> Pointer<X, A>
+    pub(crate) fn mark(&self) -> Pointer<A>
         requires { IsFree self.now.right }
         ensures right { result.right ≡ fixed }
         ensures history { Leaked self.now result }
         ensures same { IsSameBlock result self.now }
     {
         let at = self.at;
-        unsafe { raw::fetch_or::<Brand>(&raw const (*at).word, 1, SeqCst) };
+        unsafe { raw::fetch_or::<Brand>(&raw const (*at).word, MARK, SeqCst) };
         Pointer {
             at,
             marker: PhantomData,
@@ -141,7 +166,7 @@ impl<X, A: Allocator> Pointer<X, A> {
     }
 
     /// The look of a drop: one load.
-    pub(crate) fn begin(self) -> (u64, Pointer<X, A>)
+    pub(crate) fn begin(self) -> (u64, Pointer<A>)
         requires { IsFree self.right }
         ensures right { Begins result.0 result.1.right }
         ensures history { BegunAs self result.0 result.1 }
@@ -153,19 +178,19 @@ impl<X, A: Allocator> Pointer<X, A> {
     }
 
     /// One fetch-sub of a count.
-    pub(crate) fn leave(self) -> (u64, Pointer<X, A>)
+    pub(crate) fn leave(self) -> (u64, Pointer<A>)
         requires { self.right ≡ dropping }
         ensures right { Leaves result.0 result.1.right }
         ensures history { SubtractedAs self result.0 result.1 }
         ensures same { IsSameBlock result.1 self }
     {
         let Pointer { at, marker } = self;
-        let found = unsafe { raw::fetch_sub::<Brand>(&raw const (*at).word, 2, SeqCst) };
+        let found = unsafe { raw::fetch_sub::<Brand>(&raw const (*at).word, ONE, SeqCst) };
         (found, Pointer { at, marker })
     }
 
     /// Another pointer to a fixed block. No step.
-    pub(crate) fn again(&self) -> Pointer<X, A>
+    pub(crate) fn again(&self) -> Pointer<A>
         requires { self.now.right ≡ fixed }
         ensures right { result.right ≡ fixed }
         ensures history { result.history ≡ self.now.history }
@@ -178,18 +203,18 @@ impl<X, A: Allocator> Pointer<X, A> {
         }
     }
 
-    /// The memory, for whoever subtracted last: it is given back.
-    pub(crate) fn release(self, alloc: A) -> Loose<Block<X>, A>
-        requires right { self.right ≡ owed }
-        requires home { alloc ≡ self.home }
-        ensures value { result.value.value ≡ self.value }
-        ensures home { result.alloc ≡ alloc }
+    /// The block, for whoever subtracted last, and the length of its text: it is given back.
+    pub(crate) fn release(self) -> (Sole<A>, usize)
+        requires { self.right ≡ owed }
+        ensures home { result.0.home ≡ self.home }
+        ensures text { result.0.text ≡ self.text }
+        ensures length { result.1 ≡ length self.text }
+        ensures fits { Fits result.1 }
     {
-        let Pointer { at, marker: _ } = self;
-        Loose {
-            at: at.cast_mut(),
-            alloc,
-        }
+        let Pointer { at, marker } = self;
+        let len = unsafe { (*at).length };
+        let at = at.cast_mut();
+        (Sole { at, marker }, len)
     }
 
     /// What the pointer has seen of the block's history.
@@ -203,7 +228,7 @@ impl<X, A: Allocator> Pointer<X, A> {
     }
 
     /// The law of two pointers that have seats: on one block they have two, and a block that is owed has no other. No step.
-    pub(crate) fn apart(self, other: Pointer<X, A>) -> (Pointer<X, A>, Pointer<X, A>)
+    pub(crate) fn apart(self, other: Pointer<A>) -> (Pointer<A>, Pointer<A>)
         requires first { HasSeat self.right }
         requires second { HasSeat other.right }
         ensures first { result.0 ≡ self }
@@ -214,8 +239,18 @@ impl<X, A: Allocator> Pointer<X, A> {
         (self, other)
     }
 
+    /// The law that a block that is owed has no free handle: a free one is on another block. No step.
+    pub(crate) fn alone(self, other: &Pointer<A>) -> Pointer<A>
+        requires owed { self.right ≡ owed }
+        requires free { IsFree other.now.right }
+        ensures same { result ≡ self }
+        ensures alone { self.block ≢ other.now.block }
+    {
+        self
+    }
+
     /// The law that a block that is owed is not marked: a pointer that knows the mark is on another. No step.
-    pub(crate) fn unmarked(self, other: &Pointer<X, A>) -> Pointer<X, A>
+    pub(crate) fn unmarked(self, other: &Pointer<A>) -> Pointer<A>
         requires owed { self.right ≡ owed }
         requires fixed { other.now.right ≡ fixed }
         ensures same { result ≡ self }
@@ -233,6 +268,6 @@ impl<X, A: Allocator> Pointer<X, A> {
 }
 
 // The content is read, and the memory is taken out, in whichever thread the pointer is.
-unsafe impl<X: Send + Sync, A: Allocator + Send + Sync> Send for Pointer<X, A> {}
+unsafe impl<A: Allocator + Send + Sync> Send for Pointer<A> {}
 
-unsafe impl<X: Send + Sync, A: Allocator + Send + Sync> Sync for Pointer<X, A> {}
+unsafe impl<A: Allocator + Send + Sync> Sync for Pointer<A> {}

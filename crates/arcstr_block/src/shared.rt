@@ -1,18 +1,16 @@
 //! One handle on a block.
-ghost use Rattle.std.specs.Prelude.{◌≡◌, ◌≢◌, ◌↔◌, ℕ, length, IsErrOf, ◌<◌, ◌≤◌, ◌+◌, MatchResult, MatchOption, IfOk, IfErr, IfSome};
-ghost use Rattle.std.specs.String.{string_bytes};
-ghost use Rattle.arcstr_block.specs.Making.{IsTooLong, IsFaultOfMaking};
-ghost use Rattle.arcstr_block.specs.Rights.{owed, IsFree, HasSeat, IsLimit, IsUnmarked, IsWord};
+ghost use Rattle.std.specs.Prelude.{◌≡◌, ◌≢◌, ◌↔◌, ℕ, length, IsUtf8, ◌<◌, ◌≤◌, ◌+◌, MatchOption, IfOk, IfErr, IfSome};
+ghost use Rattle.arcstr_count.specs.Word.{bits_of, fresh_word};
+ghost use Rattle.arcstr_block.specs.Word.{IsLimit, IsUnmarked, IsWord, IsOtherWord};
+ghost use Rattle.arcstr_block.specs.Rights.{owed, IsFree, HasSeat};
 ghost use Rattle.arcstr_block.specs.Handle.{Handle, SawCount, SawMark, SawLeak, kept_of};
 
-use crate::block::{Block, empty_block};
-use crate::fault::{TOO_LONG, TextFault};
+use crate::block::Sole;
 use crate::fixed::Fixed;
-use crate::loose::Loose;
 use crate::owed::{Down, Owed};
 use crate::pointer::Pointer;
 use crate::seen::Seen;
-use crate::word::{looked, marked, next};
+use crate::word::{is_last, looked, marked, next};
 use arcstr_count::RC_MAX;
 use std::alloc::Allocator;
 use std::marker::Model;
@@ -20,7 +18,7 @@ use std::sync::Wait;
 
 /// A pointer that may see its block, with the allocator of the block and the limit on its count.
 struct Counted<const LIMIT: u64, A: Allocator + Copy> {
-    pointer: Pointer<String<A>, A>,
+    pointer: Pointer<A>,
     alloc: A,
     ghost free: { IsFree pointer.right },
     ghost home: { alloc ≡ pointer.home },
@@ -37,38 +35,21 @@ pub struct Shared<const LIMIT: u64, A: Allocator + Copy> {
 impl<const LIMIT: u64, A: Allocator + Copy> Model for Shared<LIMIT, A> {
     ghost Value = { Handle };
 
-    ghost view = { λ s. record { text = string_bytes s.handle.pointer.value; block = s.handle.pointer.block; seat = s.handle.pointer.seat } };
+    ghost view = { λ s. record { text = s.handle.pointer.text; block = s.handle.pointer.block; seat = s.handle.pointer.seat } };
 }
 
 impl<const LIMIT: u64, A: Allocator + Copy> Shared<LIMIT, A> {
     ghost use Rattle.arcstr_block.specs.Ending.{EndsAs, OwesAs};
 
-    /// The first handle on a new block with this text. A text that is too long is refused first, then
-    /// whatever there is no memory for: the word, or the text beside it. An empty text has a block too.
-    pub fn from_text(alloc: A, text: &str) -> Result<Shared<LIMIT, A>, TextFault>
+    /// The first handle on a new block, which its maker has alone.
+    pub(crate) fn placed(block: Sole<A>, alloc: A) -> Shared<LIMIT, A>
         requires limit { LIMIT ≤ RC_MAX }
-        ensures made { IfOk result (λ made. made.text ≡ text.now) }
-        ensures too_long { IsErrOf result TextFault.Length ↔ IsTooLong (length text.now) }
-        ensures refused { IfErr result (IsFaultOfMaking (length text.now)) }
+        requires word { block.word ≡ bits_of fresh_word }
+        requires home { block.home ≡ alloc }
+        requires utf8 { IsUtf8 block.text }
+        ensures { result.text ≡ block.text }
     {
-        if text.len() >= TOO_LONG {
-            return Err(TextFault::Length);
-        }
-        let memory = empty_block(alloc)?;
-        let Ok(copy) = String::from_str(alloc, text) else {
-            return Err(TextFault::Memory);
-        };
-        Ok(Shared::placed(memory, copy))
-    }
-
-    /// The first handle on a new block that takes this text over.
-    pub(crate) fn placed(mut memory: Box<Block<String<A>>, A>, text: String<A>) -> Shared<LIMIT, A>
-        requires limit { LIMIT ≤ RC_MAX }
-        requires word { memory.value.word ≡ 2 }
-        ensures { result.text ≡ string_bytes text }
-    {
-        memory.value = text;
-        let (pointer, alloc) = Pointer::make(Loose::of(memory));
+        let pointer = Pointer::make(block);
         Shared {
             handle: Counted { pointer, alloc },
         }
@@ -78,14 +59,14 @@ impl<const LIMIT: u64, A: Allocator + Copy> Shared<LIMIT, A> {
     pub fn as_str(&self) -> &str
         ensures { result.now ≡ self.now.text }
     {
-        self.handle.pointer.value().as_str()
+        self.handle.pointer.text()
     }
 
     /// The length of the text, in bytes.
     pub fn len(&self) -> usize
         ensures { result ≡ length self.now.text }
     {
-        self.as_str().len()
+        *self.handle.pointer.length()
     }
 
     /// One load: the number of living handles, or `None` at a marked block. What was seen of the history ends in this look.
@@ -170,10 +151,7 @@ impl<const LIMIT: u64, A: Allocator + Copy> Shared<LIMIT, A> {
 
     /// The law of this handle and a pointer that has a seat: on one block they have two, and what is owed is another
     /// block. No step.
-    pub(crate) fn apart_from(
-        self,
-        other: Pointer<String<A>, A>,
-    ) -> (Shared<LIMIT, A>, Pointer<String<A>, A>)
+    pub(crate) fn apart_from(self, other: Pointer<A>) -> (Shared<LIMIT, A>, Pointer<A>)
         requires { HasSeat other.right }
         ensures first { result.0 ≡ self }
         ensures second { result.1 ≡ other }
@@ -187,6 +165,15 @@ impl<const LIMIT: u64, A: Allocator + Copy> Shared<LIMIT, A> {
             handle: Counted { pointer, alloc },
         };
         (first, other)
+    }
+
+    /// The law that what is owed is another block than this handle's. No step.
+    pub(crate) fn alone_from(&self, other: Pointer<A>) -> Pointer<A>
+        requires { other.right ≡ owed }
+        ensures same { result ≡ other }
+        ensures alone { other.block ≢ self.now.block }
+    {
+        other.alone(&self.handle.pointer)
     }
 
     /// The end of the handle. A look that finds the mark leaves the word as it is; else the count falls by one.
@@ -205,8 +192,7 @@ impl<const LIMIT: u64, A: Allocator + Copy> Shared<LIMIT, A> {
         }
         let (found, pointer) = pointer.leave();
         let seen = pointer.seen();
-        // 2 is the unmarked word with count 1: this handle was the last one counted.
-        if found == 2 {
+        if is_last(found) {
             return (Down::Owes(Owed { pointer, alloc }), seen);
         }
         pointer.forget();
@@ -215,13 +201,14 @@ impl<const LIMIT: u64, A: Allocator + Copy> Shared<LIMIT, A> {
 }
 
 impl<const LIMIT: u64, A: Allocator + Copy> Counted<LIMIT, A> {
-    ghost use Rattle.arcstr_block.specs.Same.{IsSameBlock};
+    ghost use Rattle.arcstr_block.specs.Same.{IsSameBlock, IsCloneOf};
 
     /// One try of a clone from the unmarked word `old`: another handle, or the unmarked word that was found.
     fn exchange(&self, old: u64) -> Result<Counted<LIMIT, A>, u64>
         requires unmarked { IsUnmarked old }
         requires word { IsWord LIMIT old }
-        ensures { MatchResult result (λ clone. (clone.pointer.value ≡ self.now.pointer.value) × (clone.pointer.block ≡ self.now.pointer.block)) (λ found. IsUnmarked found × IsWord LIMIT found × (found ≢ old)) }
+        ensures clone { IfOk result (λ clone. IsCloneOf clone.pointer self.now.pointer) }
+        ensures found { IfErr result (IsOtherWord LIMIT old) }
     {
         let (found, gained) = self.pointer.raise(old, next(LIMIT, old));
         if found == old || marked(found) {
@@ -233,7 +220,7 @@ impl<const LIMIT: u64, A: Allocator + Copy> Counted<LIMIT, A> {
     }
 
     /// A handle on this block by another pointer to it.
-    fn beside(&self, pointer: Pointer<String<A>, A>) -> Counted<LIMIT, A>
+    fn beside(&self, pointer: Pointer<A>) -> Counted<LIMIT, A>
         requires same { IsSameBlock pointer self.now.pointer }
         requires free { IsFree pointer.right }
         ensures { result.pointer ≡ pointer }

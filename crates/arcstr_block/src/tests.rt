@@ -116,6 +116,30 @@ fn no_handle_is_left_on_what_is_owed(rt: HostRuntime) -> Result<(), Fail> {
     Ok(())
 }
 
+/// Ends a handle, and gives back what it owes: if anything, it was on another block than the one that is lent.
+fn owes_beside_lent(handle: Shared<5, Global>, lent: &Shared<5, Global>) -> bool
+    ensures { IsTrue result → handle.block ≢ lent.now.block }
+{
+    match handle.down().0 {
+        Down::Owes(owed) => {
+            owed.alone_beside(lent).give_back();
+            true
+        }
+        Down::Left | Down::Ended => false,
+    }
+}
+
+#[test]
+fn no_lent_handle_is_on_what_is_owed(rt: HostRuntime) -> Result<(), Fail> {
+    let first = Shared::<5, Global>::from_text(rt.alloc(), "foobar")?;
+    let second = first.up(&rt);
+    let other = Shared::<5, Global>::from_text(rt.alloc(), "foo")?;
+    assert_eq!(rt; owes_beside_lent(first, &second), false);
+    assert_eq!(rt; owes_beside_lent(second, &other), true);
+    assert_eq!(rt; other.look().0, Some(1));
+    Ok(())
+}
+
 /// Ends a handle, and gives back what it owes: if anything, it was on another block than the fixed one.
 fn owes_beside_fixed(handle: Shared<5, Global>, fixed: &Fixed<Global>) -> bool
     ensures { IsTrue result → handle.block ≢ fixed.now.block }
@@ -263,25 +287,6 @@ fn a_limit_marks_the_block(rt: HostRuntime) -> Result<(), Fail> {
 fn a_mark_keeps_the_block(rt: HostRuntime) -> Result<(), Fail> {
     let heap = LocalHeap::new(rt.alloc(), 4096)?;
     assert_eq!(rt; used_after::<5, _>(&rt, &heap, true)? > 0, true);
-    Ok(())
-}
-
-/// Whether making answers Memory on a heap of this size, and leaves nothing used.
-fn is_refused(heap: &LocalHeap, text: &str) -> bool {
-    match Shared::<5, &LocalHeap>::from_text(heap, text) {
-        Ok(_) => false,
-        Err(fault) => fault == TextFault::Memory && heap.used() == 0,
-    }
-}
-
-#[test]
-fn each_request_may_be_refused(rt: HostRuntime) -> Result<(), Fail> {
-    // 80 bytes hold a text of 64, and no word beside it.
-    let heap = LocalHeap::new(rt.alloc(), 80)?;
-    let text = "0123456701234567012345670123456701234567012345670123456701234567";
-    assert_eq!(rt; is_refused(&heap, text), true);
-    let small = LocalHeap::new(rt.alloc(), 32)?;
-    assert_eq!(rt; is_refused(&small, text), true);
     Ok(())
 }
 

@@ -2,10 +2,15 @@
 //! by its number alone.
 ghost use Rattle.std.specs.Prelude.{◌≡◌, ◌≤◌, IsTrue, ◌↔◌};
 ghost use Rattle.arcstr_count.specs.Word.{looked_of};
-ghost use Rattle.arcstr_block.specs.Rights.{IsMarked, IsUnmarked, IsWord, IsClone};
-ghost use Rattle.arcstr_block.specs.Book.{word_of};
+ghost use Rattle.arcstr_block.specs.Word.{IsMarked, IsUnmarked, IsWord, IsClone, IsLast, word_of};
 
 use arcstr_count::{RC_MAX, Word};
+
+/// The number of the mark, which a fetch-or sets.
+pub(crate) const MARK: u64 = 1;
+
+/// The number of a count of one, which a fetch-sub takes away.
+pub(crate) const ONE: u64 = 2;
 
 /// Whether the block is marked.
 pub(crate) fn marked(word: u64) -> bool
@@ -29,4 +34,11 @@ pub(crate) fn next(limit: u64, old: u64) -> u64
     ensures { IsClone limit old result }
 {
     Word::from_bits(old).cloned(limit).bits()
+}
+
+/// Whether a subtraction that found this word was the last one: it is the word of a new block, unmarked with count 1.
+pub(crate) fn is_last(word: u64) -> bool
+    ensures { IsTrue result ↔ IsLast word }
+{
+    Word::from_bits(word) == Word::one()
 }

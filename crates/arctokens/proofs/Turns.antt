@@ -37,7 +37,7 @@ next_row workers number some = add-div_right number some
 pub next_turn : (workers number : ℕ) → (number + workers) % workers ≡ number % workers
 next_turn workers number = add-mod_right number workers
 
--- the first number of a worker is its own, in row 0
+-- the first number of a worker is its own, in the first row
 pub first_turn : (workers worker : ℕ) → worker < workers → worker % workers ≡ worker
 first_turn workers worker low = mod-eq_of_lt low
 

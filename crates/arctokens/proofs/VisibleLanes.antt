@@ -1,9 +1,11 @@
 -- Which of sixteen bytes are visible ASCII characters, by one subtraction and one comparison of each.
-use Rattle.std.proofs.Common.{◌≡◌, ℕ, ◌+◌, ◌-◌, ◌%◌, ◌^◌, ◌<◌, ◌≤◌, Bool, true, false, not, cond, List, [], ◌∷◌, length, get_or, take, drop, map, refl, ap, ◌∙◌, arith, w8, Fits}
+use Rattle.std.proofs.Common.{◌≡◌, ℕ, ◌+◌, ◌-◌, ◌%◌, ◌^◌, ◌<◌, ◌≤◌, Bool, true, false, not, cond, List, [], ◌∷◌, length, get_or, take, drop, map}
+use Rattle.std.proofs.Common.{refl, ap, ◌∙◌, arith, w8, Fits}
 use Rattle.std.specs.Simd.Lanes.{mask_l, zip2}
 use Rattle.std.proofs.lemmas.Bool.Decides.{nat_tests}
 use Rattle.std.proofs.lemmas.List.{length-map}
-use Rattle.std.proofs.lemmas.Simd.{length-chunk, mask_l-mod, tops_compared, zip2_splat, zip2_splat_left, map-map, run_in_chunk_fails, run_in_chunk_le, first_set_mask_l}
+use Rattle.std.proofs.lemmas.Simd.{length-chunk, mask_l-mod, tops_compared, zip2_splat, zip2_splat_left, map-map}
+use Rattle.std.proofs.lemmas.Simd.{run_in_chunk_fails, run_in_chunk_le, first_set_mask_l}
 use lib.Lanes.{Each1, top}
 use lib.ListN.{replicate}
 use lib.Count.{count_trailing_zeros}
@@ -37,7 +39,8 @@ lane_mask-others bytes long fit =
     let few : length (map (λ byte. not (is_visible byte)) bytes) ≤ 64 = omega (arith, length-map bytes (λ byte. not (is_visible byte)), long) in
     ap (λ l. mask_l (map (top (hbits w8)) (zip2 (λ a b. cond (leb a b) (2 ^ 8 - 1) 0) (replicate 16 95) l)) % 2 ^ 64) (zip2_splat lowered bytes 16 33 long)
     ∙ ap (λ ms. mask_l ms % 2 ^ 64)
-    (tops_compared w8 leb (replicate 16 95) low ∙ zip2_splat_left leb 95 16 low long_low ∙ map-map (λ y. leb 95 y) (λ byte. lowered byte 33) bytes ∙ other_lanes bytes fit)
+    (tops_compared w8 leb (replicate 16 95) low ∙ zip2_splat_left leb 95 16 low long_low
+    ∙ map-map (λ y. leb 95 y) (λ byte. lowered byte 33) bytes ∙ other_lanes bytes fit)
     ∙ mask_l-mod (map (λ byte. not (is_visible byte)) bytes) 64 few
 
 visible_from : (byte : ℕ) → not (is_visible byte) ≡ false → IsVisible byte

@@ -70,53 +70,124 @@ fn a_refused_fill_gives_its_memory_back(rt: HostRuntime) -> Result<(), Fail> {
     Ok(())
 }
 
-/// The heaps grow by the least block that they hand out, so each request is once the first that is refused.
+/// The heaps grow by the least block that they hand out, so the request for memory is refused by the first of them, and
+/// the first that grants it has no room for a second.
 const SIZES: usize = 16;
 
 const GRAIN: usize = 16;
 
-/// Whether a block of 40 bytes was made, and whether its closure ran.
-fn made_by_closure(heap: &LocalHeap) -> (bool, bool) {
+/// Whether this block has the text, and the heap that holds it holds no second one.
+fn is_whole_and_alone(heap: &LocalHeap, made: &Shared<5, &LocalHeap>) -> bool {
+    let second = Shared::<5, _>::from_text(heap, "foobar");
+    made.as_str() == "foobar" && matches!(second, Err(TextFault::Memory))
+}
+
+/// What making gave: 0 for want of memory, 1 for the text in a heap that holds no second one, else 2.
+fn outcome(heap: &LocalHeap, made: Result<Shared<5, &LocalHeap>, TextFault>) -> u8 {
+    match made {
+        Err(TextFault::Memory) => 0,
+        Err(_) => 2,
+        Ok(made) => {
+            if is_whole_and_alone(heap, &made) {
+                1
+            } else {
+                2
+            }
+        }
+    }
+}
+
+/// What a closure that writes the text gave, and whether it ran.
+fn filled(heap: &LocalHeap) -> (u8, bool) {
     let mut ran = false;
-    let made = Shared::<5, _>::init(heap, 40, |_| ran = true);
-    (made.is_ok(), ran)
+    let made = Shared::<5, _>::init(heap, 6, |bytes| {
+        ran = true;
+        bytes.copy_from_slice(b"foobar");
+    });
+    (outcome(heap, made), ran)
 }
 
 #[test]
-fn each_request_of_a_fill_is_refused(rt: HostRuntime) -> Result<(), Fail> {
+fn a_text_asks_for_memory_once(rt: HostRuntime) -> Result<(), Fail> {
     let mut refused = 0u64;
     for size in 1..SIZES {
         let heap = LocalHeap::new(rt.alloc(), size * GRAIN)?;
-        let (made, ran) = made_by_closure(&heap);
-        assert_eq!(rt; (made, heap.used()), (ran, 0));
-        if !made {
-            refused = refused.wrapping_add(1);
+        let got = outcome(&heap, Shared::from_text(&heap, "foobar"));
+        assert_eq!(rt; heap.used(), 0);
+        if got != 0 {
+            assert_eq!(rt; (got, 0 < refused), (1, true));
+            return Ok(());
         }
+        refused = refused.wrapping_add(1);
     }
-    assert!(rt; 3 < refused && refused < 15);
-    Ok(())
+    Err(Fail::from("no heap held the text"))
 }
 
-/// Whether a block of 20 copies was made; else the answer is Memory.
-fn made_of_copies(heap: &LocalHeap) -> Option<bool> {
-    match Shared::<5, _>::repeat(heap, "ab", 20) {
-        Ok(made) => Some(made.len() == 40),
-        Err(TextFault::Memory) => Some(false),
-        Err(_) => None,
+/// What three copies of a text gave.
+fn repeated(heap: &LocalHeap) -> u8 {
+    match Shared::<5, _>::repeat(heap, "ab", 3) {
+        Err(TextFault::Memory) => 0,
+        Err(_) => 2,
+        Ok(made) => {
+            let second = Shared::<5, _>::from_text(heap, "foobar");
+            if made.as_str() == "ababab" && matches!(second, Err(TextFault::Memory)) {
+                1
+            } else {
+                2
+            }
+        }
     }
 }
 
 #[test]
-fn each_request_of_copies_is_refused(rt: HostRuntime) -> Result<(), Fail> {
+fn copies_ask_for_memory_once(rt: HostRuntime) -> Result<(), Fail> {
     let mut refused = 0u64;
     for size in 1..SIZES {
         let heap = LocalHeap::new(rt.alloc(), size * GRAIN)?;
-        let made = made_of_copies(&heap);
-        assert_eq!(rt; (made.is_some(), heap.used()), (true, 0));
-        if made == Some(false) {
-            refused = refused.wrapping_add(1);
+        let got = repeated(&heap);
+        assert_eq!(rt; heap.used(), 0);
+        if got != 0 {
+            assert_eq!(rt; (got, 0 < refused), (1, true));
+            return Ok(());
         }
+        refused = refused.wrapping_add(1);
     }
-    assert!(rt; 3 < refused && refused < 15);
+    Err(Fail::from("no heap held the text"))
+}
+
+#[test]
+fn a_fill_asks_for_memory_once_before_its_closure(rt: HostRuntime) -> Result<(), Fail> {
+    let mut refused = 0u64;
+    for size in 1..SIZES {
+        let heap = LocalHeap::new(rt.alloc(), size * GRAIN)?;
+        let got = filled(&heap);
+        assert_eq!(rt; heap.used(), 0);
+        if got != (0, false) {
+            assert_eq!(rt; (got, 0 < refused), ((1, true), true));
+            return Ok(());
+        }
+        refused = refused.wrapping_add(1);
+    }
+    Err(Fail::from("no heap held the text"))
+}
+
+/// Whether a text of this length, from within a longer one, is read back whole.
+fn is_read_back(alloc: Global, long: &str, len: usize) -> Result<bool, TextFault> {
+    let Some(text) = long.get(..len) else {
+        return Ok(false);
+    };
+    let made = Shared::<5, _>::from_text(alloc, text)?;
+    Ok(made.len() == len && made.as_str() == text)
+}
+
+#[test]
+fn texts_of_all_sizes_are_read_back(rt: HostRuntime) -> Result<(), Fail> {
+    let long = Shared::<5, _>::repeat(rt.alloc(), "abcdefghijk", 100_000)?;
+    for len in [0, 1, 7, 8, 9, 64, 4096, 1_000_000] {
+        assert_eq!(rt;
+            (len, is_read_back(rt.alloc(), long.as_str(), len)?),
+            (len, true)
+        );
+    }
     Ok(())
 }

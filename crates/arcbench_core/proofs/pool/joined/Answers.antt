@@ -1,5 +1,5 @@
 -- Each handle keeps the promise of its thread, which is of the worker of its own number.
-use Rattle.std.proofs.Common.{◌≡◌, ◌∙◌, ap}
+use Rattle.std.proofs.Common.{◌∙◌, ap}
 use Rattle.arcbench_core.proofs.pool.joined.Goals as goal
 
 pub returns-in-Ok-clause-all_passed : goal.returns-in-Ok-clause-all_passed

@@ -1,4 +1,3 @@
-use Rattle.std.proofs.Common.{◌≡◌}
 use Rattle.arcbench_core.proofs.Utf8Known.{says_by_status}
 use Rattle.arcbench_core.proofs.program.serve.Goals.{in-None, in-Some-Script, in-Some-Threads, in-Some-Tokens}
 use Rattle.arcbench_core.proofs.program.serve.Goals as goal
@@ -11,5 +10,6 @@ returns-clause-not_utf8 g c no_memory no_io (n, tokens) =
       | in-Some-Script w ↦ absurd (cc)
       | in-Some-Threads w ↦ absurd (cc)
       | in-Some-Tokens w ↦
-          says_by_status _ c.match-command_of.done c.status_after.result c.status_after.ensures.ok c.status_after.ensures.fault (rw w.done-is w.tell_tokens-done.ensures.not_utf8) no_memory no_io
+          says_by_status _ c.match-command_of.done c.status_after.result c.status_after.ensures.ok c.status_after.ensures.fault
+          (rw w.done-is w.tell_tokens-done.ensures.not_utf8) no_memory no_io
     ]

@@ -1,4 +1,4 @@
-use Rattle.std.proofs.Common.{◌≡◌, lit<}
+use Rattle.std.proofs.Common.{lit<}
 use Rattle.std.proofs.lemmas.Str.Pattern.{split_once_first}
 use Rattle.arcbench_core.proofs.Lines.{lines_of-first, lines_of-none}
 use Rattle.arcbench_core.proofs.tokens.first_line.Goals as goal

@@ -17,7 +17,9 @@ pub returns-then-next-white : goal.returns-then-next-white
 returns-then-next-white c =
     let next = c.character_at-next in
     let at = c.loop-at.at + c.passed_at-passed.result in
-    let alike = AreAlike-join c.args.text.now c.args.from c.loop-at.at at c.args.white c.utf8.text c.requires c.loop-at.invariant c.passed_at-passed.ensures.alike in
+    let alike =
+    AreAlike-join c.args.text.now c.args.from c.loop-at.at at c.args.white c.utf8.text c.requires c.loop-at.invariant
+    c.passed_at-passed.ensures.alike in
     IsRun-stopped c.args.text.now c.args.from at (at + next.result.width) c.args.white next.result.white c.utf8.text alike next.ensures c.if-next-white.true
 
 -- or of the run's own
@@ -25,7 +27,9 @@ pub loop-at-preserved : goal.loop-at-preserved
 loop-at-preserved c =
     let next = c.character_at-next in
     let at = c.loop-at.at + c.passed_at-passed.result in
-    let alike = AreAlike-join c.args.text.now c.args.from c.loop-at.at at c.args.white c.utf8.text c.requires c.loop-at.invariant c.passed_at-passed.ensures.alike in
+    let alike =
+    AreAlike-join c.args.text.now c.args.from c.loop-at.at at c.args.white c.utf8.text c.requires c.loop-at.invariant
+    c.passed_at-passed.ensures.alike in
     let P : Bool → Type 0 = IsCharacterBetween c.args.text.now at (at + next.result.width) in
     AreAlike-more c.args.text.now c.args.from at (at + next.result.width) c.args.white c.utf8.text c.requires alike
     (subst P (same_kind next.result.white c.args.white c.if-next-white.false) next.ensures)

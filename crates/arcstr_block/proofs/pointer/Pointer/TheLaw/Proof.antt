@@ -10,26 +10,33 @@ use denote.SharingLaws.{beside_shr_laws, said_shr_laws, some_shr_laws}
 use denote.Model.Laws.{Lends-some}
 use denote.Struct.Field.{RawPtr-field}
 use denote.Struct.Laws.{RawPtr-copy, field_copy}
-use denote.Struct.Lending.{of_Lends, Lends-both, Lends-said, lent_at_shr_laws}
+use denote.Struct.Lending.{of_Lends, Lends-both, Lends-said}
 use Rattle.core.specs.declared.alloc.Allocator.{Ghosts}
 use Rattle.core.specs.contracts.marker.PhantomData as Marker
-use Rattle.arcstr_block.specs.Ledger.{Id, block_owns, block_shares, known, held_with, shown, in_block, value_at, of_block, of_block_shown}
+use Rattle.arcstr_block.specs.Memory.{block_owns, block_shares, placed, IsText}
+use Rattle.arcstr_block.specs.Ledger.{Id, known, held_with, shown, of_block, of_block_shown}
 use Rattle.arcstr_block.specs.contracts.pointer.Pointer as C
+use Rattle.arcstr_block.proofs.Memory.{shares_laws}
 use Rattle.arcstr_block.proofs.Lent.{known_twice, known_laws, shown_laws, Lends-held}
 use Rattle.logbook.proofs.Fields.{lends_twice}
 use Rattle.arcstr_block.proofs.pointer.Pointer.TheLaw.Statement.{statement}
 
-pub shares : (T B : RattleType) (g : Ghosts B.Denot) (L : Laws T) (K : Laws B) → statement T B g L K
-shares T B g L K = of_Lends (C.struct T B g) (C.the_codes T.Denot B.Denot T.coded B.coded (Marker.the_row B).coded) (C.the_heap T B g) (C.the_lent T B g)
-    (λ d p. let holds = g.dealloc_token d.home in let P = block_owns holds T d.at d.value in let s = block_shares holds T d.at d.value in let b = block_of d.at in let o = count_of d.at + 0 in
-    let lent = of_block_shown holds T d.limit d.at d.value d.right d.seat d.block d.history in
-    beside_shr_laws (said (in_block d.at)) (some Id lent) (said_shr_laws (in_block d.at) (λ _. tt))
+pub shares : (B : RattleType) (g : Ghosts B.Denot) (K : Laws B) → statement B g K
+shares B g K = of_Lends (C.struct B g) (C.the_codes B.Denot B.coded (Marker.the_row B).coded) (C.the_heap B g) (C.the_lent B g)
+    (λ d p. let holds = g.dealloc_token d.home in let P = block_owns holds d.at d.text in let s = block_shares d.at d.text in let b = block_of d.at in
+    let o = count_of d.at + 0 in
+    let lent = of_block_shown holds d.limit d.at d.text d.right d.seat d.block d.history in
+    beside_shr_laws (said (placed d.at (IsText d.text))) (some Id lent) (said_shr_laws (placed d.at (IsText d.text)) (λ _. tt))
     (some_shr_laws Id lent (λ t. beside_shr_laws (said (known t d.block d.history)) (shown P d.limit b o t s d.seat d.right) (known_laws t d.block d.history)
-    (shown_laws P d.limit b o s (lent_at_shr_laws T L.shr_laws (value_at holds T d.at d.value) d.value) d.seat t d.right))))
+    (shown_laws P d.limit b o s (shares_laws d.at d.text) d.seat t d.right))))
     (copy_shared RawPtr-field RawPtr-copy, (copy_shared (Marker.the_field B) (field_copy (Marker.the_type B) tt), tt))
-    (λ M 𝓤 𝓛 d p. let holds = g.dealloc_token d.home in let P = block_owns holds T d.at d.value in let s = block_shares holds T d.at d.value in let l = (C.the_row T B g).lives in
-    let b = block_of d.at in let o = count_of d.at + 0 in let owns = of_block holds T d.limit d.at d.value d.right d.seat d.block d.history in let lent = of_block_shown holds T d.limit d.at d.value d.right d.seat d.block d.history in
-    Lends-both 𝓛 (in_block d.at) (fex Id owns) (said (in_block d.at)) (some Id lent) l (Lends-said 𝓛 (in_block d.at) (λ _. tt) l)
-    (Lends-some 𝓛 Id owns lent l (λ t. Lends-both 𝓛 (known t d.block d.history) (held_with P d.limit b o t s d.seat d.right) (said (known t d.block d.history)) (shown P d.limit b o t s d.seat d.right) l
+    (λ M 𝓤 𝓛 d p. let holds = g.dealloc_token d.home in let P = block_owns holds d.at d.text in let s = block_shares d.at d.text in
+    let l = (C.the_row B g).lives in
+    let b = block_of d.at in let o = count_of d.at + 0 in let owns = of_block holds d.limit d.at d.text d.right d.seat d.block d.history in
+    let lent = of_block_shown holds d.limit d.at d.text d.right d.seat d.block d.history in
+    Lends-both 𝓛 (placed d.at (IsText d.text)) (fex Id owns) (said (placed d.at (IsText d.text))) (some Id lent) l (Lends-said 𝓛 (placed d.at (IsText d.text))
+    (λ _. tt) l)
+    (Lends-some 𝓛 Id owns lent l (λ t. Lends-both 𝓛 (known t d.block d.history) (held_with P d.limit b o t s d.seat d.right) (said (known t d.block d.history))
+    (shown P d.limit b o t s d.seat d.right) l
     (lends_twice 𝓛 (known t d.block d.history) (known_twice 𝓛 t d.block d.history) l)
-    (Lends-held P d.limit b o s (lent_at_shr_laws T L.shr_laws (value_at holds T d.at d.value) d.value) d.seat 𝓛 t d.right l))))
+    (Lends-held P d.limit b o s (shares_laws d.at d.text) d.seat 𝓛 t d.right l))))

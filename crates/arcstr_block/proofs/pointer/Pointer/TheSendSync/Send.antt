@@ -4,5 +4,5 @@ use Rattle.core.specs.declared.alloc.Allocator.{Ghosts}
 use Rattle.arcstr_block.specs.contracts.pointer.Pointer.{the_row}
 use Rattle.arcstr_block.proofs.Crosses.{pointer_send}
 
-pub send : (X A : RattleType) (g : Ghosts A.Denot) → IsSend X → IsSend A → IsSync X → IsSync A → Frees g g.dealloc_token → IsSend (the_row X A g)
-send X A g s sa y ya f = pointer_send X A g s y f sa ya
+pub send : (A : RattleType) (g : Ghosts A.Denot) → IsSend A → IsSync A → Frees g g.dealloc_token → IsSend (the_row A g)
+send A g sa ya f = pointer_send A g f sa ya

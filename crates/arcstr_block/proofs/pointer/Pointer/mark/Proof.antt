@@ -3,43 +3,42 @@ use Rattle.std.proofs.Common.{◌≡◌, ℕ, ◌+◌, List, [], ◌∷◌, sym,
 use mir.Syntax.{dcons, dnil, a_type, named}
 use mir.Val.{Val, vint, vptr}
 use mir.MapTy.{inst_fn}
-use base.Logic.{SProp, emp, via}
-use base.Fml.{Lft, Share, Fml, ftrue, fsep, flft, fhide, finv, fshr_bor}
-use types.Kit.{‵, raw, ◌⊛◌, later, mean, at_ret, ◌$◌, ◌∵◌, !, qed, by, move, keep, drop, split, split3, join, fsplit, fsplit3, fjoin, fpick, fpack, use0, use1, use2, use3, await, rewrite}
+use base.Logic.{SProp, via}
+use base.Fml.{Lft, Share, Fml, ftrue, fsep, flft, fhide, finv, fshr_bor, fex}
+use types.Kit.{‵, raw, ◌⊛◌, later, mean, at_ret, ◌$◌, ◌∵◌, !, qed, by, move, keep, drop, split, split3, join, fsplit, fsplit3, fjoin, fpick, use0, use1}
+use types.Kit.{use2, use3, await, rewrite}
 use types.Run.{stop, fld, load, addr, lit, of_opd, no_more, and_then, first, blocks, exec, Calls-last, returns, enter}
 use types.ByLocal.{alloc_all, pass_all, free_all, look_at, get, through, sets, lands_last, is, env}
 use types.Part.{agg, sub, whole, look_in}
-use types.Tokens.{shr_bor-open, obor_close}
-use types.Within.{tokens_halve}
 use contract.Running.{tables}
-use contract.Monad.{fact, fact_i}
+use contract.Monad.{fact}
 use denote.Exit.{yes}
 use denote.RattleType.{RattleType, owns}
 use denote.Signature.{types_at, plain}
-use denote.RawPtr.{Ptr, InBlock, block_ptr, block_of, count_of, at_block}
+use denote.RawPtr.{Ptr, block_ptr, block_of, count_of, at_block}
 use denote.Steps.{nothing, peeks, heard, looks, shuts}
 use denote.Opens.{unhide}
 use denote.Laws.{Is, shows}
 use denote.Memory.{cell_at, hidden_shr}
 use denote.Param.{param, bounded}
-use denote.Param.Laws.{param_laws}
 use denote.Builtin.{RefOf}
 use denote.Ref.{shr_vals, shr_Tells}
-use denote.Struct.Lending.{lent_out, lent_at_shr_laws}
+use denote.Struct.Lending.{lent_out}
 use denote.Triple.Walked.{Stays, stay_dropped, walk_of, Goes-dropped}
 use Rattle.core.proofs.atomic.Steps.{tail}
 use Rattle.core.specs.contracts.marker.PhantomData as Marker
 use Rattle.atomic_table.proofs.Walks.{proved, leaves}
 use Rattle.atomic_table.proofs.Calls.{fm, seq_cst, found, finds, ors}
-use Rattle.arcstr_block.specs.Rights.{IsFree, fixed}
-use Rattle.arcstr_block.specs.Ledger.{Id, names, Inv, block_owns, block_shares, value_at, knows, right_to, of_block, pointer_shares}
+use Rattle.arcstr_block.specs.Rights.{IsFree, fixed, Right}
+use Rattle.arcstr_block.specs.Memory.{block_owns, block_shares}
+use Rattle.arcstr_block.specs.Ledger.{Inv, knows, right_to, pointer_shares}
+use Rattle.arcstr_block.proofs.Memory.{shares_laws}
 use Rattle.arcstr_block.specs.contracts.pointer.Pointer as C
-use Rattle.arcstr_block.proofs.Fields.{pointer_val, typed, Words, told, made, opened}
-use base.Share
+use Rattle.arcstr_block.proofs.Fields.{pointer_val, typed, Words, told, opened}
+use Rattle.arcstr_block.proofs.Framed as framed
 use Rattle.arcstr_count.specs.declared.steps.HandleState.TheVariants.{Free}
 use Rattle.arcstr_count.specs.OneBlock.{EndsIn}
 use Rattle.arcstr_block.specs.Book.{seat_share, Ends}
-use Rattle.arcstr_block.proofs.Seats.{seat_halves}
 use Rattle.arcstr_count.specs.declared.steps.Step.TheVariants.{Leak}
 use Rattle.arcstr_count.specs.declared.steps.Reply.TheVariants.{Marked}
 use Rattle.arcstr_block.proofs.Book.{book_mark}
@@ -52,57 +51,73 @@ use Rattle.arcstr_block.proofs.pointer.Pointer.mark.Statement.{statement}
 use Rattle.arcstr_block.proofs.pointer.Pointer.mark.Code as code
 
 pub mark_spec : {M : Type 1} → statement M
-mark_spec 𝓤 𝓛 𝓜 𝓡 wired X Y L K g d dd met md =
-    let H = 𝓛.H in let 𝓣 = tables 𝓤 H 𝓜 𝓡 𝓡.env in let R : RattleType = param 0 X in let B : RattleType = param 1 Y in let En = ended X Y g d dd in let c = clauses X Y g d dd 𝓛 𝓜.mem 𝓡.returns in
-    let inst = bounded (a_type ∷ a_type ∷ []) (X, (Y, tt)) (dcons d (dcons dd dnil)) in let fn = inst_fn inst code.function in let closed = code.unfolded 𝓤 H 𝓜 𝓡 wired (X, (Y, tt)) d dd in
-    let Row : RattleType = C.the_row R B g in let D : RattleType = Words R B g in let self = RefOf (0 ∷ []) tt (plain (λ _. Row)) (λ _. tt) in let hs : Stays En.signature.params En.kept = (stay_dropped self yes, tt) in
-    proved 𝓛 En hs c 𝓜 𝓡 (Goes-dropped 𝓛 3 self yes (λ κs x f. refl), tt) (#self inst) fn closed
+mark_spec 𝓤 𝓛 𝓜 𝓡 wired Y K g d dd met md =
+    let H = 𝓛.H in let 𝓣 = tables 𝓤 H 𝓜 𝓡 𝓡.env in let B : RattleType = param 0 Y in let En = ended Y g d dd in let c = clauses Y g d dd 𝓛 𝓜.mem 𝓡.returns in
+    let inst = bounded (a_type ∷ []) (Y, tt) (dcons d (dcons dd dnil)) in let fn = inst_fn inst code.function in
+    let closed = code.unfolded 𝓤 H 𝓜 𝓡 wired (Y, tt) d dd in
+    let Row : RattleType = C.the_row B g in let D : RattleType = Words B g in let self = RefOf (0 ∷ []) tt (plain (λ _. Row)) (λ _. tt) in
+    let hs : Stays En.signature.params En.kept = (stay_dropped self yes, tt) in
+    proved 𝓛 En hs c 𝓜 𝓡 (Goes-dropped 𝓛 2 self yes (λ κs x f. refl), tt) (#self inst) fn closed
     (λ κs. (shr_vals, tt)) (λ κs. (shr_Tells (named 0) κs.0 Row, tt)) (λ κs qs bounds a gh are.
-    let b : ℕ = a.0.ref_ptr.0 in let o : ℕ = a.0.ref_ptr.1 in let κ : Lft = κs.0 in let q : Share = qs.0 in let others : Fml = fsep (flft κs.1.0 qs.1.0) (fsep (flft κs.1.1.0 qs.1.1.0) ftrue) in
-    let h : Row.Denot = a.0.now in let p : Ptr = h.at in let right : ℕ = h.right in let lim : ℕ = h.limit in let holds = g.dealloc_token h.home in let P : Fml = block_owns holds R p h.value in let s : Lft → Fml = block_shares holds R p h.value in
-    let sl = lent_at_shr_laws R (param_laws 0 X L).shr_laws (value_at holds R p h.value) h.value in
+    let b : ℕ = a.0.ref_ptr.0 in let o : ℕ = a.0.ref_ptr.1 in let κ : Lft = κs.0 in let q : Share = qs.0 in
+    let others : Fml = fsep (flft κs.1.0 qs.1.0) ftrue in
+    let h : Row.Denot = a.0.now in let p : Ptr = h.at in let right : Right = h.right in let lim : ℕ = h.limit in let holds = g.dealloc_token h.home in
+    let P : Fml = block_owns holds p h.text in let s : Lft → Fml = block_shares p h.text in
+    let sl = shares_laws p h.text in
     let pb : ℕ = block_of p in let po : ℕ = count_of p + 0 in
     let y : (walk_of 𝓛 En hs c).Ghost = ((κs, qs, bounds, a, (vptr b o ∷ [], tt)), gh) in let Post : Val → SProp 𝓤 = (walk_of 𝓛 En hs c).post y in
-    qed 𝓛 (((‵ (flft κ q) ⊛ ‵ others) ⊛ ‵ (owns (types_at En.signature.params κs) a y.0.4)) ∷ raw (fact 𝓤 _) ∷ raw (fact 𝓤 _) ∷ raw (fact 𝓤 (IsFree right)) ∷ []) ∵
-    keep ! (3 ∷ 0 ∷ []) $ heard ! (IsFree right) (λ may. split ! $ split ! $ move ! (2 ∷ []) $ fsplit ! $ fsplit ! $ keep ! (1 ∷ 3 ∷ 4 ∷ []) $
+    qed 𝓛 (((‵ (flft κ q) ⊛ ‵ others) ⊛ ‵ (owns (types_at En.signature.params κs) a y.0.4)) ∷ raw (fact 𝓤 _) ∷ raw (fact 𝓤 (IsFree right)) ∷ []) ∵
+    keep ! (2 ∷ 0 ∷ []) $ heard ! (IsFree right) (λ may. split ! $ split ! $ move ! (2 ∷ []) $ fsplit ! $ fsplit ! $ keep ! (1 ∷ 3 ∷ 4 ∷ []) $
     enter ! 𝓣.C 𝓣.Λ fn (vptr b o ∷ []) Post $ alloc_all ! (λ l. pass_all ! refl ((tt, tt), tt) $ let Ev = env fn.locals l in
-    use1 𝓛 (‵ (hidden_shr D κ (p, (tt, tt)) b o) ⊛ ‵ (fhide (pointer_shares holds R lim p h.value right h.seat h.block h.history κ)))
-    (lent_out 𝓛 (C.struct R B g) (C.the_codes X.Denot Y.Denot R.coded B.coded (Marker.the_row B).coded) (C.the_heap R B g) (C.the_lent R B g) κ h b o) $
-    split ! $ move ! (1 ∷ []) $ unhide ! $ fsplit ! $ fpick ! (λ inb. drop ! $ let at : p ≡ block_ptr pb (count_of p) = at_block p inb in fpick ! (λ t. let I : Fml = Inv P lim pb po t in let af : Lft = t.0 ∷ [] in
-    fsplit ! $ move ! (1 ∷ []) $ use1 𝓛 (‵ (fshr_bor κ (λ r. flft af r)) ⊛ ‵ (fshr_bor κ (λ r. seat_share t.3 h.seat r Free)) ⊛ ‵ (knows t right) ⊛ ‵ (finv I) ⊛ ‵ (s af)) (rights.may_step 𝓛 P lim pb po t s sl h.seat right may κ) $
+    use1 𝓛 (‵ (hidden_shr D κ (p, (tt, tt)) b o) ⊛ ‵ (fhide (pointer_shares holds lim p h.text right h.seat h.block h.history κ)))
+    (lent_out 𝓛 (C.struct B g) (C.the_codes Y.Denot B.coded (Marker.the_row B).coded) (C.the_heap B g) (C.the_lent B g) κ h b o) $
+    split ! $ move ! (1 ∷ []) $ unhide ! $ fsplit ! $ fpick ! (λ inb. drop ! $ let at : p ≡ block_ptr pb (count_of p) = at_block p inb.0 in fpick ! (λ t.
+    let I : Fml = Inv P lim pb po t in let af : Lft = t.0 ∷ [] in
+    fsplit ! $ move ! (1 ∷ []) $ use1 𝓛 (‵ (fshr_bor κ (λ r. flft af r)) ⊛ ‵ (fshr_bor κ (λ r.
+    seat_share t.3 h.seat r Free)) ⊛ ‵ (knows t right) ⊛ ‵ (finv I) ⊛ ‵ (s af)) (rights.may_step 𝓛 P lim pb po t s sl h.seat right may κ) $
     split3 ! $ move ! (2 ∷ []) $ split3 ! $
     -- [what is known; the invariant; what is shared; the share; the seat; the beginning; the fields; κ; the others]
-    move ! (6 ∷ 7 ∷ []) $ looks ! tt D (opened R B g 𝓛) (p, (tt, tt)) b o (λ e vs. move ! (1 ∷ []) $ peeks ! D (Is D) (shows 𝓛 D) (p, (tt, tt)) vs (λ so.
-    let ev : vs ≡ pointer_val (block_ptr pb (count_of p)) ∷ [] = told R B g p vs so ∙ ap (λ (r : Ptr). pointer_val r ∷ []) at in
+    move ! (6 ∷ 7 ∷ []) $ looks ! tt D (opened B g 𝓛) (p, (tt, tt)) b o (λ e vs. move ! (1 ∷ []) $ peeks ! D (Is D) (shows 𝓛 D) (p, (tt, tt)) vs (λ so.
+    let ev : vs ≡ pointer_val (block_ptr pb (count_of p)) ∷ [] = told B g p vs so ∙ ap (λ (r : Ptr). pointer_val r ∷ []) at in
     rewrite ! 1 (λ (ws : List Val). ‵ (cell_at e D.mir ws b o)) ev refl $
     sets ! (of_opd ! (load ! (through ! refl (fld ! refl (stop !))) (look_in ! 1 (sub ! 0 refl (whole !))))) refl (tt, tt) $
     rewrite ! 1 (λ (ws : List Val). ‵ (cell_at e D.mir ws b o)) (sym ev) refl $ move ! (1 ∷ 0 ∷ 2 ∷ []) $ shuts ! tt D e (p, (tt, tt)) vs b o $
-    move ! (1 ∷ []) $ drop ! $ use1 𝓛 (‵ (flft κ (Share.left q)) ⊛ ‵ (flft κ (Share.right q))) (𝓛.lfts.lft_split κ q) $ split ! $
-    -- [κ, in halves; what is known; the invariant; what is shared; the share; the seat; the beginning; the others]
-    move ! (5 ∷ 0 ∷ []) $ shr_bor-open ! tt (tokens_halve 𝓛 af) (λ u. move ! (6 ∷ 2 ∷ []) $ shr_bor-open ! tt (seat_halves 𝓛 t.3 h.seat Free) (λ v. let Mine : Fml = seat_share t.3 h.seat v Free in
-    -- [the open seat; its share; the open share; its token; what is known; the invariant; what is shared; the beginning; the others]
-    move ! (5 ∷ []) $ use1 𝓛 (‵ (finv I) ⊛ ‵ (finv I)) (𝓛.invs.inv_dup I) $ split ! $
+    move ! (1 ∷ []) $ drop ! $ move ! (4 ∷ 5 ∷ 0 ∷ []) $
+    -- [the share; the seat; κ; what is known; the invariant; what is shared; the beginning; the others]
+    use3 𝓛 (later (‵ (fex (Share × Share) (framed.lent_for 𝓛 t.0 t.3 h.seat κ q)))) (framed.borrows 𝓛 t.0 t.3 h.seat κ q) $ await ! tt $ fpick ! (λ out.
+    let u : Share = out.0 in let v : Share = out.1 in let Mine : Fml = seat_share t.3 h.seat v Free in
+    fsplit ! $ move ! (1 ∷ []) $ fsplit ! $
+    -- [the token; the seat; the open borrows; what is known; the invariant; what is shared; the beginning; the others]
+    move ! (4 ∷ []) $ use1 𝓛 (‵ (finv I) ⊛ ‵ (finv I)) (𝓛.invs.inv_dup I) $ split ! $
     let said : ℕ → Fml = λ n. fsep Mine (Ends lim t.2 t.3 (Leak h.seat) Marked) in
-    -- [the invariant, twice; the open seat; its share; the open share; its token; what is known; what is shared; the beginning; the others]
-    move ! (0 ∷ 5 ∷ 3 ∷ []) $ let after : ℕ → Fml = steps.all_after 𝓛 P lim pb po t (changes.with_mark 𝓛 P lim pb po t u) (changes.Fixed 𝓛 P lim pb po t u) (changes.Tok 𝓛 P lim pb po t u) (flft af u) said in
+    -- [the invariant, twice; the token; the seat; the open borrows; what is known; what is shared; the beginning; the others]
+    move ! (0 ∷ 2 ∷ 3 ∷ []) $ let after : ℕ → Fml = steps.all_after 𝓛 P lim pb po t (changes.with_mark 𝓛 P lim pb po t u) (changes.Fixed 𝓛 P lim pb po t u)
+    (changes.Tok 𝓛 P lim pb po t u) (flft af u) said in
     use3 𝓛 (raw (𝓣.C _ (vptr pb po ∷ vint w64 1 ∷ seq_cst ∷ []) (λ r. mean 𝓛 (found after r))))
-    (via 𝓤 _ (changes.marks_it 𝓛 P lim pb po t u Mine said (λ n _. book_mark 𝓛 lim t.2 t.3 n h.seat v)) (ors 𝓛 𝓜 𝓡 (code.calls-core::raw_atomic::fetch_or 𝓡.env wired) (block_ptr pb po) 1 (lit< tt) after)) $
-    first ! $ blocks ! $ sets ! (addr ! (through ! refl (fld ! refl (stop !)))) refl (tt, tt) $ sets ! (agg ! (and_then ! (lit ! tt) (no_more !))) refl (tt, (record { fits = lit< tt }, tt)) $
+    (via 𝓤 _ (changes.marks_it 𝓛 P lim pb po t u Mine said (λ n _.
+    book_mark 𝓛 lim t.2 t.3 n h.seat v)) (ors 𝓛 𝓜 𝓡 (code.calls-core::raw_atomic::fetch_or 𝓡.env wired) (block_ptr pb po) 1 (lit< tt) after)) $
+    first ! $ blocks ! $ sets ! (addr ! (through ! refl (fld ! refl (stop !)))) refl (tt, tt) $
+    sets ! (agg ! (and_then ! (lit ! tt) (no_more !))) refl (tt, (record { fits = lit< tt }, tt)) $
     Calls-last ! (fm 𝓛 𝓜 𝓡) (found after) (and_then ! (get ! refl) (and_then ! (lit ! tt) (and_then ! (get ! refl) (no_more !)))) (λ r. finds ! after (λ n fits.
     lands_last ! refl (tt, record { fits = fits }) $ exec ! 𝓣.C 𝓣.Λ Ev (tail (tail fn.body)) (at_ret Ev Post) $
-    sets ! (agg ! (no_more !)) refl (tt, tt) $ sets ! (is ! (agg ! (and_then ! (get ! refl) (and_then ! (get ! refl) (no_more !)))) (ap pointer_val (sym at))) refl (typed p) $
-    move ! (4 ∷ []) $ drop ! $
-    -- [what is said; the token; the gain; the invariant; the open seat; the open share; what is shared; the beginning; the others]
-    fsplit3 ! $ fsplit ! $ move ! (5 ∷ 0 ∷ []) $ obor_close ! tt $ drop ! $ move ! (5 ∷ 2 ∷ []) $ obor_close ! tt $ drop ! $ move ! (0 ∷ 1 ∷ []) $ use2 𝓛 (‵ (flft κ q)) (𝓛.lfts.lft_join κ q) $
+    sets ! (agg ! (no_more !)) refl (tt, tt) $ sets ! (is ! (agg ! (and_then ! (get ! refl) (and_then ! (get ! refl) (no_more !)))) (ap pointer_val
+    (sym at))) refl (typed p) $
+    move ! (3 ∷ []) $ drop ! $
+    -- [the seat and what is said; the token; the gain; the invariant; the open borrows; what is shared; the beginning; the others]
+    fsplit3 ! $ fsplit ! $ move ! (2 ∷ 0 ∷ []) $ fjoin ! $ move ! (4 ∷ 0 ∷ []) $ fjoin ! $
+    use1 𝓛 (later (‵ (flft κ q))) (framed.restores 𝓛 t.0 t.3 h.seat κ q out) $ await ! tt $
     -- [κ; what is said; the gain; the invariant; what is shared; the beginning; the others]
     move ! (0 ∷ 6 ∷ []) $ join ! $ move ! (2 ∷ []) $ fpick ! (λ w. fsplit ! $ fpick ! (λ ok. drop ! $
     -- [the gain; the tokens; what is said; the invariant; what is shared; the beginning]
-    let got = rights.marked 𝓛 P lim pb po t s sl w ok in let k : ℕ = got.right in
-    move ! (0 ∷ 4 ∷ []) $ use2 𝓛 (later (‵ (right_to P lim pb po t s 0 k))) got.turns $ await ! tt $ move ! (3 ∷ 0 ∷ []) $ fjoin ! $
-    -- [the right; the tokens; what is said; the beginning]
-    move ! (2 ∷ []) $ fpick ! (λ r'. fsplit ! $ fpick ! (λ ends. drop ! $ move ! (3 ∷ []) $ fsplit ! $ fpick ! (λ named. drop ! $ drop ! $ nothing ! $ fpack ! (names t ≡ h.block) (λ _. ftrue) named $ fjoin ! $ fjoin ! $
-    fpack ! Id (of_block holds R lim p h.value k 0 h.block r') t $ nothing ! $ fpack ! (InBlock p) (λ _. ftrue) inb $ fjoin ! $ let h' : Row.Denot = record h { right = k; seat = 0; history = r' } in let r : Val = pointer_val p in
-    use0 𝓛 (‵ (D.own_val (p, (tt, tt)) (pointer_val p ∷ []))) (made R B g 𝓛 p) $ fjoin ! $
-    let Same : Type 0 = (h.home ≡ h.home) × (h.value ≡ h.value) × (lim ≡ lim) × (h.block ≡ h.block) in let Saw : Type 0 = EndsIn lim r' (Leak h.seat) Marked in
-    use0 𝓛 (raw (fact 𝓤 Same)) (fact_i 𝓤 Same (emp 𝓤) (refl, refl, refl, refl)) $ use0 𝓛 (raw (fact 𝓤 Saw)) (fact_i 𝓤 Saw (emp 𝓤) ends) $ join ! $ use0 𝓛 (raw (fact 𝓤 (k ≡ fixed))) (fact_i 𝓤 (k ≡ fixed) (emp 𝓤) got.said) $ join ! $
-    nothing ! $ nothing ! $ fjoin ! $ returns ! (look_at ! 0 refl) $ free_all ! refl $ keep ! (3 ∷ 0 ∷ 2 ∷ 1 ∷ []) $ by ! (leaves 𝓛 En hs c y r h' (tt, tt) (tt, tt))))))))))))))))))
+    let got = rights.marked 𝓛 P lim pb po t s sl w ok in let k : Right = got.right in
+    move ! (0 ∷ 4 ∷ []) $ use2 𝓛 (later (‵ (right_to P lim pb po t s 0 k))) got.turns $ await ! tt $
+    -- [the right; the tokens; what is said; the invariant; the beginning]
+    move ! (2 ∷ []) $ fpick ! (λ r'. fsplit ! $ fpick ! (λ ends. drop ! $ move ! (4 ∷ []) $ fsplit ! $ fpick ! (λ named. drop ! $ drop ! $
+    -- [the beginning; the right; the tokens; the invariant]
+    let h' : Row.Denot = record h { right = k; seat = 0; history = r' } in let r : Val = pointer_val p in
+    move ! (1 ∷ 3 ∷ 0 ∷ []) $ use3 𝓛 (‵ (Row.own_val h' (pointer_val p ∷ []))) (framed.pointer_in 𝓛 B g h' t named inb) $
+    let Same : Type 0 = (h.home ≡ h.home) × (h.text ≡ h.text) × (lim ≡ lim) × (h.block ≡ h.block) in let Saw : Type 0 = EndsIn lim r' (Leak h.seat) Marked in
+    use0 𝓛 (raw (fact 𝓤 (k ≡ fixed)) ⊛ raw (fact 𝓤 Saw) ⊛ raw (fact 𝓤 Same))
+    (framed.three 𝓛 got.said ends (refl, refl, refl, refl)) $
+    nothing ! $ nothing ! $ fjoin ! $ returns ! (look_at ! 0 refl) $ free_all ! refl $ keep ! (3 ∷ 0 ∷ 2 ∷ 1 ∷ []) $
+    by ! (leaves 𝓛 En hs c y r h' (tt, tt) (tt, tt)))))))))))))))))

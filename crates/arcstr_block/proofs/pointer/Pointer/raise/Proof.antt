@@ -1,45 +1,45 @@
 -- `raise` is one compare-exchange. Where it finds the old word or the mark, a clone is had.
-use Rattle.std.proofs.Common.{◌≡◌, ℕ, ◌+◌, ◌^◌, List, [], ◌∷◌, ◌++◌, sym, refl, ap, ◌∙◌, w64}
+use Rattle.std.proofs.Common.{◌≡◌, ℕ, ◌+◌, List, [], ◌∷◌, sym, refl, ap, ◌∙◌, w64}
 use mir.Syntax.{dcons, dnil, a_type, named}
-use mir.Val.{Val, vint, vptr, vstruct, of_list}
+use mir.Val.{Val, vint, vptr}
 use mir.MapTy.{inst_fn}
 use base.Logic.{SProp, emp, via}
-use base.Fml.{Lft, Share, Fml, ftrue, fsep, fex, feq, flft, fhide, finv, fshr_bor}
-use types.Kit.{‵, raw, ◌⊛◌, later, mean, at_ret, ◌$◌, ◌∵◌, !, qed, by, move, keep, drop, split, split3, join, fsplit, fsplit3, fjoin, fjoin3, fpick, fpack, use0, use1, use2, use3, await, rewrite, feq_i, flt_i}
+use base.Fml.{Lft, Share, Fml, ftrue, fsep, fex, flft, fhide, finv, fshr_bor}
+use types.Kit.{‵, raw, ◌⊛◌, later, mean, at_ret, ◌$◌, ◌∵◌, !, qed, by, move, keep, drop, split, split3, join, fsplit, fsplit3, fjoin, fpick}
+use types.Kit.{use0, use1, use3, await, rewrite}
 use types.Run.{stop, fld, load, addr, of_opd, no_more, and_then, first, blocks, exec, Calls-last, returns, enter}
 use types.ByLocal.{alloc_all, pass_all, free_all, look_at, get, through, sets, lands_last, is, env}
 use types.Part.{agg, sub, whole, look_in}
-use types.Tokens.{shr_bor-open, obor_close}
-use types.Within.{tokens_halve}
 use contract.Running.{tables}
 use contract.Monad.{fact, fact_i}
 use denote.Exit.{yes}
 use denote.RattleType.{RattleType, Valss, owns}
 use denote.Signature.{types_at, plain}
-use denote.RawPtr.{Ptr, InBlock, block_ptr, block_of, count_of, at_block}
+use denote.RawPtr.{Ptr, block_ptr, block_of, count_of, at_block}
 use denote.Steps.{nothing, peeks, heard, looks, shuts}
 use denote.Opens.{unhide}
 use denote.Laws.{Is, shows}
 use denote.Memory.{cell_at, hidden_shr}
 use denote.Param.{param, bounded}
-use denote.Param.Laws.{param_laws}
 use denote.Builtin.{RefOf, u64}
 use denote.Ref.{shr_vals, shr_Tells}
 use denote.Plain.{uint_vals, uint_Tells}
-use denote.Struct.Lending.{lent_out, lent_at_shr_laws}
+use denote.Struct.Lending.{lent_out}
 use denote.Triple.Walked.{Stays, stay_dropped, walk_of, Goes-dropped}
 use Rattle.core.proofs.atomic.Steps.{tail}
 use Rattle.core.specs.contracts.marker.PhantomData as Marker
 use Rattle.atomic_table.proofs.Walks.{proved, leaves}
 use Rattle.atomic_table.proofs.Calls.{fm, found, finds, exchanges}
-use Rattle.arcstr_block.specs.Rights.{IsFree, IsWord, IsClone, Gains}
-use Rattle.arcstr_block.specs.Ledger.{Id, Inv, block_owns, block_shares, value_at, knows, right_to, of_block, pointer_shares}
+use Rattle.arcstr_block.specs.Word.{IsWord, IsClone}
+use Rattle.arcstr_block.specs.Rights.{IsFree, Gains, Right}
+use Rattle.arcstr_block.specs.Memory.{block_owns, block_shares}
+use Rattle.arcstr_block.specs.Ledger.{Inv, knows, right_to, pointer_shares}
+use Rattle.arcstr_block.proofs.Memory.{shares_laws}
 use Rattle.arcstr_block.specs.contracts.pointer.Pointer as C
-use Rattle.arcstr_block.proofs.Fields.{pointer_val, typed, found_val, found_typed, Words, told, made, opened}
-use base.Share
+use Rattle.arcstr_block.proofs.Fields.{pointer_val, typed, found_val, found_typed, Words, told, opened}
+use Rattle.arcstr_block.proofs.Framed as framed
 use Rattle.arcstr_count.specs.declared.steps.HandleState.TheVariants.{Free}
 use Rattle.arcstr_block.specs.Book.{seat_share}
-use Rattle.arcstr_block.proofs.Seats.{seat_halves}
 use Rattle.arcstr_block.proofs.Turns.{raises as turn_raises}
 use Rattle.arcstr_block.proofs.Rights as rights
 use Rattle.arcstr_block.proofs.Steps as steps
@@ -50,60 +50,100 @@ use Rattle.arcstr_block.proofs.pointer.Pointer.raise.Statement.{statement}
 use Rattle.arcstr_block.proofs.pointer.Pointer.raise.Code as code
 
 pub raise_spec : {M : Type 1} → statement M
-raise_spec 𝓤 𝓛 𝓜 𝓡 wired X Y L K g d dd met md =
-    let H = 𝓛.H in let 𝓣 = tables 𝓤 H 𝓜 𝓡 𝓡.env in let R : RattleType = param 0 X in let B : RattleType = param 1 Y in let En = ended X Y g d dd in let c = clauses X Y g d dd 𝓛 𝓜.mem 𝓡.returns in
-    let inst = bounded (a_type ∷ a_type ∷ []) (X, (Y, tt)) (dcons d (dcons dd dnil)) in let fn = inst_fn inst code.function in let closed = code.unfolded 𝓤 H 𝓜 𝓡 wired (X, (Y, tt)) d dd in
-    let Row : RattleType = C.the_row R B g in let D : RattleType = Words R B g in let self = RefOf (0 ∷ []) tt (plain (λ _. Row)) (λ _. tt) in let number = plain (λ _. u64) in let hs : Stays En.signature.params En.kept = (stay_dropped self yes, (stay_dropped number yes, (stay_dropped number yes, tt))) in
-    proved 𝓛 En hs c 𝓜 𝓡 (Goes-dropped 𝓛 3 self yes (λ κs x f. refl), (Goes-dropped 𝓛 3 number yes (λ κs x f. refl), (Goes-dropped 𝓛 3 number yes (λ κs x f. refl), tt))) (#self inst) fn closed
-    (λ κs. (shr_vals, (uint_vals w64, (uint_vals w64, tt)))) (λ κs. (shr_Tells (named 0) κs.0 Row, (uint_Tells w64, (uint_Tells w64, tt)))) (λ κs qs bounds a gh are.
-    let b : ℕ = a.0.ref_ptr.0 in let o : ℕ = a.0.ref_ptr.1 in let κ : Lft = κs.0 in let q : Share = qs.0 in let others : Fml = fsep (flft κs.1.0 qs.1.0) (fsep (flft κs.1.1.0 qs.1.1.0) ftrue) in
-    let h : Row.Denot = a.0.now in let p : Ptr = h.at in let right : ℕ = h.right in let lim : ℕ = h.limit in let holds = g.dealloc_token h.home in let P : Fml = block_owns holds R p h.value in let s : Lft → Fml = block_shares holds R p h.value in
-    let sl = lent_at_shr_laws R (param_laws 0 X L).shr_laws (value_at holds R p h.value) h.value in
-    let old : ℕ = a.1.0 in let new : ℕ = a.1.1.0 in let us : List Val = vptr b o ∷ vint w64 old ∷ vint w64 new ∷ [] in let pb : ℕ = block_of p in let po : ℕ = count_of p + 0 in
-    let y : (walk_of 𝓛 En hs c).Ghost = ((κs, qs, bounds, a, (vptr b o ∷ [], (vint w64 old ∷ [], (vint w64 new ∷ [], tt)))), gh) in let Post : Val → SProp 𝓤 = (walk_of 𝓛 En hs c).post y in
-    qed 𝓛 (((‵ (flft κ q) ⊛ ‵ others) ⊛ ‵ (owns (types_at En.signature.params κs) a y.0.4)) ∷ raw (fact 𝓤 _) ∷ raw (fact 𝓤 _) ∷ raw (fact 𝓤 (IsFree right)) ∷ raw (fact 𝓤 (IsClone lim old new)) ∷ []) ∵
-    keep ! (3 ∷ 4 ∷ 0 ∷ []) $ heard ! (IsFree right) (λ may. heard ! (IsClone lim old new) (λ asked. split ! $ split ! $ move ! (2 ∷ []) $ fsplit ! $ fsplit ! $ keep ! (1 ∷ 3 ∷ 4 ∷ []) $
-    enter ! 𝓣.C 𝓣.Λ fn us Post $ alloc_all ! (λ l. pass_all ! refl ((tt, tt), ((tt, record { fits = are.1.0.1 }), ((tt, record { fits = are.1.1.0.1 }), tt))) $ let Ev = env fn.locals l in
-    use1 𝓛 (‵ (hidden_shr D κ (p, (tt, tt)) b o) ⊛ ‵ (fhide (pointer_shares holds R lim p h.value right h.seat h.block h.history κ)))
-    (lent_out 𝓛 (C.struct R B g) (C.the_codes X.Denot Y.Denot R.coded B.coded (Marker.the_row B).coded) (C.the_heap R B g) (C.the_lent R B g) κ h b o) $
-    split ! $ move ! (1 ∷ []) $ unhide ! $ fsplit ! $ fpick ! (λ inb. drop ! $ let at : p ≡ block_ptr pb (count_of p) = at_block p inb in fpick ! (λ t. let I : Fml = Inv P lim pb po t in let af : Lft = t.0 ∷ [] in
-    fsplit ! $ move ! (1 ∷ []) $ use1 𝓛 (‵ (fshr_bor κ (λ r. flft af r)) ⊛ ‵ (fshr_bor κ (λ r. seat_share t.3 h.seat r Free)) ⊛ ‵ (knows t right) ⊛ ‵ (finv I) ⊛ ‵ (s af)) (rights.may_step 𝓛 P lim pb po t s sl h.seat right may κ) $
+raise_spec 𝓤 𝓛 𝓜 𝓡 wired Y K g d dd met md =
+    let H = 𝓛.H in let 𝓣 = tables 𝓤 H 𝓜 𝓡 𝓡.env in let B : RattleType = param 0 Y in let En = ended Y g d dd in let c = clauses Y g d dd 𝓛 𝓜.mem 𝓡.returns in
+    let inst = bounded (a_type ∷ []) (Y, tt) (dcons d (dcons dd dnil)) in let fn = inst_fn inst code.function in
+    let closed = code.unfolded 𝓤 H 𝓜 𝓡 wired (Y, tt) d dd in
+    let Row : RattleType = C.the_row B g in let D : RattleType = Words B g in let self = RefOf (0 ∷ []) tt (plain (λ _. Row)) (λ _. tt) in
+    let number = plain (λ _. u64) in let hs : Stays En.signature.params En.kept = (
+      stay_dropped self yes,
+      (
+        stay_dropped number yes,
+        (stay_dropped number yes, tt),
+      ),
+    ) in
+    proved 𝓛 En hs c 𝓜 𝓡 (
+      Goes-dropped 𝓛 2 self yes (λ κs x f. refl),
+      (
+        Goes-dropped 𝓛 2 number yes (λ κs x f. refl),
+        (
+          Goes-dropped 𝓛 2 number yes (λ κs x f.
+              refl),
+          tt,
+        ),
+      ),
+    ) (#self inst) fn closed
+    (λ κs. (shr_vals, (uint_vals w64, (uint_vals w64, tt)))) (λ κs.
+    (shr_Tells (named 0) κs.0 Row, (uint_Tells w64, (uint_Tells w64, tt)))) (λ κs qs bounds a gh are.
+    let b : ℕ = a.0.ref_ptr.0 in let o : ℕ = a.0.ref_ptr.1 in let κ : Lft = κs.0 in let q : Share = qs.0 in
+    let others : Fml = fsep (flft κs.1.0 qs.1.0) ftrue in
+    let h : Row.Denot = a.0.now in let p : Ptr = h.at in let right : Right = h.right in let lim : ℕ = h.limit in let holds = g.dealloc_token h.home in
+    let P : Fml = block_owns holds p h.text in let s : Lft → Fml = block_shares p h.text in
+    let sl = shares_laws p h.text in
+    let old : ℕ = a.1.0 in let new : ℕ = a.1.1.0 in let us : List Val = vptr b o ∷ vint w64 old ∷ vint w64 new ∷ [] in let pb : ℕ = block_of p in
+    let po : ℕ = count_of p + 0 in
+    let y : (walk_of 𝓛 En hs c).Ghost = ((κs, qs, bounds, a, (vptr b o ∷ [], (vint w64 old ∷ [], (vint w64 new ∷ [], tt)))), gh) in
+    let Post : Val → SProp 𝓤 = (walk_of 𝓛 En hs c).post y in
+    qed 𝓛 (((‵ (flft κ q) ⊛ ‵ others) ⊛ ‵ (owns (types_at En.signature.params κs) a y.0.4)) ∷ raw (fact 𝓤 _) ∷ raw (fact 𝓤 (IsFree right)) ∷ raw (fact 𝓤
+    (IsClone lim old new)) ∷ []) ∵
+    keep ! (2 ∷ 3 ∷ 0 ∷ []) $ heard ! (IsFree right) (λ may. heard ! (IsClone lim old new) (λ asked. split ! $ split ! $ move ! (2 ∷ []) $ fsplit ! $ fsplit ! $
+    keep ! (1 ∷ 3 ∷ 4 ∷ []) $
+    enter ! 𝓣.C 𝓣.Λ fn us Post $ alloc_all ! (λ l. pass_all ! refl ((tt, tt), ((tt, record { fits = are.1.0.1 }), ((tt, record { fits = are.1.1.0.1 }), tt))) $
+    let Ev = env fn.locals l in
+    use1 𝓛 (‵ (hidden_shr D κ (p, (tt, tt)) b o) ⊛ ‵ (fhide (pointer_shares holds lim p h.text right h.seat h.block h.history κ)))
+    (lent_out 𝓛 (C.struct B g) (C.the_codes Y.Denot B.coded (Marker.the_row B).coded) (C.the_heap B g) (C.the_lent B g) κ h b o) $
+    split ! $ move ! (1 ∷ []) $ unhide ! $ fsplit ! $ fpick ! (λ inb. drop ! $ let at : p ≡ block_ptr pb (count_of p) = at_block p inb.0 in fpick ! (λ t.
+    let I : Fml = Inv P lim pb po t in let af : Lft = t.0 ∷ [] in
+    fsplit ! $ move ! (1 ∷ []) $ use1 𝓛 (‵ (fshr_bor κ (λ r. flft af r)) ⊛ ‵ (fshr_bor κ (λ r.
+    seat_share t.3 h.seat r Free)) ⊛ ‵ (knows t right) ⊛ ‵ (finv I) ⊛ ‵ (s af)) (rights.may_step 𝓛 P lim pb po t s sl h.seat right may κ) $
     split3 ! $ move ! (2 ∷ []) $ split3 ! $
     -- [what is known; the invariant; what is shared; the share; the seat; the beginning; the fields; κ; the others]
-    move ! (6 ∷ 7 ∷ []) $ looks ! tt D (opened R B g 𝓛) (p, (tt, tt)) b o (λ e vs. move ! (1 ∷ []) $ peeks ! D (Is D) (shows 𝓛 D) (p, (tt, tt)) vs (λ so.
-    let ev : vs ≡ pointer_val (block_ptr pb (count_of p)) ∷ [] = told R B g p vs so ∙ ap (λ (r : Ptr). pointer_val r ∷ []) at in
+    move ! (6 ∷ 7 ∷ []) $ looks ! tt D (opened B g 𝓛) (p, (tt, tt)) b o (λ e vs. move ! (1 ∷ []) $ peeks ! D (Is D) (shows 𝓛 D) (p, (tt, tt)) vs (λ so.
+    let ev : vs ≡ pointer_val (block_ptr pb (count_of p)) ∷ [] = told B g p vs so ∙ ap (λ (r : Ptr). pointer_val r ∷ []) at in
     rewrite ! 1 (λ (ws : List Val). ‵ (cell_at e D.mir ws b o)) ev refl $
     sets ! (of_opd ! (load ! (through ! refl (fld ! refl (stop !))) (look_in ! 1 (sub ! 0 refl (whole !))))) refl (tt, tt) $
     rewrite ! 1 (λ (ws : List Val). ‵ (cell_at e D.mir ws b o)) (sym ev) refl $ move ! (1 ∷ 0 ∷ 2 ∷ []) $ shuts ! tt D e (p, (tt, tt)) vs b o $
-    move ! (1 ∷ []) $ drop ! $ use1 𝓛 (‵ (flft κ (Share.left q)) ⊛ ‵ (flft κ (Share.right q))) (𝓛.lfts.lft_split κ q) $ split ! $
-    -- [κ, in halves; what is known; the invariant; what is shared; the share; the seat; the beginning; the others]
-    move ! (5 ∷ 0 ∷ []) $ shr_bor-open ! tt (tokens_halve 𝓛 af) (λ u. move ! (6 ∷ 2 ∷ []) $ shr_bor-open ! tt (seat_halves 𝓛 t.3 h.seat Free) (λ v. let Mine : Fml = seat_share t.3 h.seat v Free in
-    -- [the open seat; its share; the open share; its token; what is known; the invariant; what is shared; the beginning; the others]
-    move ! (5 ∷ []) $ use1 𝓛 (‵ (finv I) ⊛ ‵ (finv I)) (𝓛.invs.inv_dup I) $ split ! $
+    move ! (1 ∷ []) $ drop ! $ move ! (4 ∷ 5 ∷ 0 ∷ []) $
+    -- [the share; the seat; κ; what is known; the invariant; what is shared; the beginning; the others]
+    use3 𝓛 (later (‵ (fex (Share × Share) (framed.lent_for 𝓛 t.0 t.3 h.seat κ q)))) (framed.borrows 𝓛 t.0 t.3 h.seat κ q) $ await ! tt $ fpick ! (λ out.
+    let u : Share = out.0 in let v : Share = out.1 in let Mine : Fml = seat_share t.3 h.seat v Free in
+    fsplit ! $ move ! (1 ∷ []) $ fsplit ! $
+    -- [the token; the seat; the open borrows; what is known; the invariant; what is shared; the beginning; the others]
+    move ! (4 ∷ []) $ use1 𝓛 (‵ (finv I) ⊛ ‵ (finv I)) (𝓛.invs.inv_dup I) $ split ! $
     let said : ℕ → Fml = λ n. fsep Mine (rights.newborn 𝓛 P lim pb po t s sl (rights.Event 𝓛 P lim pb po t s sl old new n)) in
-    -- [the invariant, twice; the open seat; its share; the open share; its token; what is known; what is shared; the beginning; the others]
-    move ! (0 ∷ 5 ∷ 3 ∷ []) $ let after : ℕ → Fml = steps.all_after 𝓛 P lim pb po t (changes.exchanged 𝓛 P lim pb po t u old new asked) (changes.Raised 𝓛 P lim pb po t u old new asked) (changes.Tok 𝓛 P lim pb po t u) (flft af u) said in
+    -- [the invariant, twice; the token; the seat; the open borrows; what is known; what is shared; the beginning; the others]
+    move ! (0 ∷ 2 ∷ 3 ∷ []) $ let after : ℕ → Fml = steps.all_after 𝓛 P lim pb po t (changes.exchanged 𝓛 P lim pb po t u old new asked)
+    (changes.Raised 𝓛 P lim pb po t u old new asked) (changes.Tok 𝓛 P lim pb po t u) (flft af u) said in
     use3 𝓛 (raw (𝓣.C _ (vptr pb po ∷ vint w64 old ∷ vint w64 new ∷ []) (λ r. mean 𝓛 (found after r))))
-    (via 𝓤 _ (changes.raises 𝓛 P lim pb po t u old new asked Mine said (λ n _. turn_raises 𝓛 lim t.2 t.3 h.seat v old new asked n)) (exchanges 𝓛 𝓜 𝓡 (code.calls-atomic_table::exchange 𝓡.env wired) (block_ptr pb po) old new are.1.0.1 are.1.1.0.1 after)) $
+    (via 𝓤 _ (changes.raises 𝓛 P lim pb po t u old new asked Mine said (λ n _.
+    turn_raises 𝓛 lim t.2 t.3 h.seat v old new asked n)) (exchanges 𝓛 𝓜 𝓡 (code.calls-atomic_table::exchange 𝓡.env wired)
+    (block_ptr pb po) old new are.1.0.1 are.1.1.0.1 after)) $
     first ! $ blocks ! $ sets ! (addr ! (through ! refl (fld ! refl (stop !)))) refl (tt, tt) $
-    Calls-last ! (fm 𝓛 𝓜 𝓡) (found after) (and_then ! (get ! refl) (and_then ! (get ! refl) (and_then ! (get ! refl) (no_more !)))) (λ r. finds ! after (λ n fits.
-    lands_last ! refl (tt, record { fits = fits }) $ exec ! 𝓣.C 𝓣.Λ Ev (tail (tail fn.body)) (at_ret Ev Post) $ sets ! (of_opd ! (get ! refl)) refl (tt, record { fits = fits }) $
-    sets ! (agg ! (no_more !)) refl (tt, tt) $ sets ! (is ! (agg ! (and_then ! (get ! refl) (and_then ! (get ! refl) (no_more !)))) (ap pointer_val (sym at))) refl (typed p) $
+    Calls-last ! (fm 𝓛 𝓜 𝓡) (found after) (and_then ! (get ! refl) (and_then ! (get ! refl) (and_then ! (get ! refl) (no_more !)))) (λ r.
+    finds ! after (λ n fits.
+    lands_last ! refl (tt, record { fits = fits }) $ exec ! 𝓣.C 𝓣.Λ Ev (tail (tail fn.body)) (at_ret Ev Post) $
+    sets ! (of_opd ! (get ! refl)) refl (tt, record { fits = fits }) $
+    sets ! (agg ! (no_more !)) refl (tt, tt) $ sets ! (is ! (agg ! (and_then ! (get ! refl) (and_then ! (get ! refl) (no_more !)))) (ap pointer_val
+    (sym at))) refl (typed p) $
     sets ! (agg ! (and_then ! (get ! refl) (and_then ! (get ! refl) (no_more !)))) refl (found_typed n fits p) $
-    -- [what is said; the token; the gain; the invariant; the open seat; the open share; what is known; what is shared; the beginning; the others]
-    move ! (4 ∷ []) $ drop ! $
-    fsplit3 ! $ fsplit ! $ move ! (5 ∷ 0 ∷ []) $ obor_close ! tt $ drop ! $ move ! (5 ∷ 2 ∷ []) $ obor_close ! tt $ drop ! $ move ! (0 ∷ 1 ∷ []) $ use2 𝓛 (‵ (flft κ q)) (𝓛.lfts.lft_join κ q) $
+    -- [what is said; the token; the gain; the invariant; the open borrows; what is known; what is shared; the beginning; the others]
+    move ! (3 ∷ []) $ drop ! $
+    fsplit3 ! $ fsplit ! $ move ! (2 ∷ 0 ∷ []) $ fjoin ! $ move ! (4 ∷ 0 ∷ []) $ fjoin ! $
+    use1 𝓛 (later (‵ (flft κ q))) (framed.restores 𝓛 t.0 t.3 h.seat κ q out) $ await ! tt $
     -- [κ; what is said; the gain; the invariant; what is shared; the beginning; the others]
     move ! (0 ∷ 6 ∷ []) $ join ! $ move ! (2 ∷ []) $ fpick ! (λ w. fsplit ! $ fpick ! (λ ok. drop ! $
     -- [the gain; the tokens; what is said; the invariant; what is shared; the beginning]
-    let got = rights.raised 𝓛 P lim pb po t s sl old new n w (ok.1, ok.2, ok.3, ok.4) in let k : ℕ = got.right in
+    let got = rights.raised 𝓛 P lim pb po t s sl old new n w (ok.1, ok.2, ok.3, ok.4) in let k : Right = got.right in
     move ! (0 ∷ 4 ∷ 2 ∷ []) $ use3 𝓛 (later (‵ (fex ℕ (λ j. right_to P lim pb po t s j k)))) got.turns $ await ! tt $ fpick ! (λ j.
     -- [the right; the tokens; the invariant; the beginning]
-    move ! (2 ∷ 0 ∷ []) $ fjoin ! $ move ! (2 ∷ 0 ∷ []) $ fjoin ! $
-    fpack ! Id (of_block holds R lim p h.value k j h.block h.history) t $ nothing ! $ fpack ! (InBlock p) (λ _. ftrue) inb $ fjoin ! $ let h' : Row.Denot = record h { right = k; seat = j } in let r : Val = found_val n p in
-    use0 𝓛 (‵ (D.own_val (p, (tt, tt)) (pointer_val p ∷ []))) (made R B g 𝓛 p) $ fjoin ! $ nothing ! $ flt_i ! n (2 ^ 64) fits $ feq_i ! (List Val) (vint w64 n ∷ []) (vint w64 n ∷ []) refl $ fjoin ! $
-    move ! (0 ∷ 2 ∷ 1 ∷ []) $ fjoin3 ! $ feq_i ! (List Val) (r ∷ []) (r ∷ []) refl $ fjoin ! $
-    fpack ! (Valss (u64 ∷ Row ∷ [])) (λ uss. fsep (feq (List Val) (r ∷ []) (vstruct (of_list (uss.0 ++ (uss.1.0 ++ []))) ∷ [])) (owns (u64 ∷ Row ∷ []) (n, (h', tt)) uss)) (vint w64 n ∷ [], (pointer_val p ∷ [], tt)) $
-    let Same : Type 0 = (h.home ≡ h.home) × (h.value ≡ h.value) × (lim ≡ lim) × (h.block ≡ h.block) in
-    use0 𝓛 (raw (fact 𝓤 Same)) (fact_i 𝓤 Same (emp 𝓤) (refl, refl, refl, refl)) $ use0 𝓛 (raw (fact 𝓤 (Gains old new n k))) (fact_i 𝓤 (Gains old new n k) (emp 𝓤) got.said) $ join ! $ use0 𝓛 (raw (fact 𝓤 (IsWord lim n))) (fact_i 𝓤 (IsWord lim n) (emp 𝓤) ok.0) $ join ! $
-    nothing ! $ nothing ! $ fjoin ! $ nothing ! $ fjoin ! $ nothing ! $ fjoin ! $ returns ! (look_at ! 0 refl) $ free_all ! refl $ keep ! (3 ∷ 0 ∷ 2 ∷ 1 ∷ []) $ by ! (leaves 𝓛 En hs c y r (n, h') (tt, (tt, (tt, tt))) (tt, (tt, (tt, tt)))))))))))))))))))
+    move ! (3 ∷ []) $ fsplit ! $ fpick ! (λ named. drop ! $
+    -- [the beginning; the right; the tokens; the invariant]
+    let h' : Row.Denot = record h { right = k; seat = j } in let r : Val = found_val n p in
+    move ! (1 ∷ 3 ∷ 0 ∷ []) $ use3 𝓛 (‵ (Row.own_val h' (pointer_val p ∷ []))) (framed.pointer_in 𝓛 B g h' t named inb) $
+    use1 𝓛 (‵ (fex (Valss (u64 ∷ Row ∷ [])) (framed.found_as 𝓛 B g h' n))) (framed.found_in 𝓛 B g h' n fits) $
+    let Same : Type 0 = (h.home ≡ h.home) × (h.text ≡ h.text) × (lim ≡ lim) × (h.block ≡ h.block) in
+    use0 𝓛 (raw (fact 𝓤 Same)) (fact_i 𝓤 Same (emp 𝓤) (refl, refl, refl, refl)) $
+    use0 𝓛 (raw (fact 𝓤 (Gains old new n k))) (fact_i 𝓤 (Gains old new n k) (emp 𝓤) got.said) $ join ! $
+    use0 𝓛 (raw (fact 𝓤 (IsWord lim n))) (fact_i 𝓤 (IsWord lim n) (emp 𝓤) ok.0) $ join ! $
+    nothing ! $ nothing ! $ fjoin ! $ nothing ! $ fjoin ! $ nothing ! $ fjoin ! $ returns ! (look_at ! 0 refl) $ free_all ! refl $ keep ! (3 ∷ 0 ∷ 2 ∷ 1 ∷ []) $
+    by ! (leaves 𝓛 En hs c y r (n, h') (tt, (tt, (tt, tt))) (tt, (tt, (tt, tt)))))))))))))))))))

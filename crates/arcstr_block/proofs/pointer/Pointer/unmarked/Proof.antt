@@ -5,7 +5,8 @@ use mir.Val.{Val, vptr}
 use mir.MapTy.{inst_fn}
 use base.Logic.{SProp, emp}
 use base.Fml.{Lft, Fml, fhide}
-use types.Kit.{‵, raw, ◌⊛◌, later, given, ◌$◌, ◌∵◌, !, qed, by, move, keep, drop, split, join, learn, await, rewrite, fsplit, fsplit3, fjoin, fpick, use0, use1, use3}
+use types.Kit.{‵, raw, ◌⊛◌, later, given, ◌$◌, ◌∵◌, !, qed, by, move, keep, drop, split, join, learn, await, rewrite, fsplit, fsplit3, fjoin, fpick, use0}
+use types.Kit.{use1, use3}
 use types.Run.{of_opd, returns, enter}
 use types.ByLocal.{alloc_all, pass_all, free_all, look_at, get, sets}
 use contract.Running.{tables}
@@ -18,7 +19,6 @@ use denote.Steps.{nothing, heard}
 use denote.Opens.{unhide}
 use denote.Memory.{hidden_shr}
 use denote.Param.{param, bounded}
-use denote.Param.Laws.{param_laws}
 use denote.Builtin.{RefOf}
 use denote.Ref.{shr_vals, shr_Tells}
 use denote.Struct.Lending.{lent_out}
@@ -26,8 +26,9 @@ use denote.Triple.Entry.{alive}
 use denote.Triple.Walked.{Stays, stay_dropped, walk_of, Goes-dropped}
 use Rattle.core.specs.contracts.marker.PhantomData as Marker
 use Rattle.atomic_table.proofs.Walks.{proved, leaves}
-use Rattle.arcstr_block.specs.Rights.{owed, fixed}
-use Rattle.arcstr_block.specs.Ledger.{block_owns, block_shares, shown, pointer_shares}
+use Rattle.arcstr_block.specs.Rights.{owed, fixed, Right}
+use Rattle.arcstr_block.specs.Memory.{block_owns, block_shares}
+use Rattle.arcstr_block.specs.Ledger.{shown, pointer_shares}
 use Rattle.arcstr_block.specs.contracts.pointer.Pointer as C
 use Rattle.arcstr_block.proofs.Fields.{pointer_val, typed, Words, told}
 use Rattle.arcstr_block.proofs.Unmarked.{other_block}
@@ -37,28 +38,39 @@ use Rattle.arcstr_block.proofs.pointer.Pointer.unmarked.Statement.{statement}
 use Rattle.arcstr_block.proofs.pointer.Pointer.unmarked.Code as code
 
 pub unmarked_spec : {M : Type 1} → statement M
-unmarked_spec 𝓤 𝓛 𝓜 𝓡 wired X Y L K g d dd met md =
-    let H = 𝓛.H in let 𝓣 = tables 𝓤 H 𝓜 𝓡 𝓡.env in let R : RattleType = param 0 X in let B : RattleType = param 1 Y in let En = ended X Y g d dd in let c = clauses X Y g d dd 𝓛 𝓜.mem 𝓡.returns in
-    let inst = bounded (a_type ∷ a_type ∷ []) (X, (Y, tt)) (dcons d (dcons dd dnil)) in let fn = inst_fn inst code.function in let closed = code.unfolded 𝓤 H 𝓜 𝓡 wired (X, (Y, tt)) d dd in
-    let Row : RattleType = C.the_row R B g in let D : RattleType = Words R B g in let self = plain (λ _. Row) in let other = RefOf (0 ∷ []) tt (plain (λ _. Row)) (λ _. tt) in
+unmarked_spec 𝓤 𝓛 𝓜 𝓡 wired Y K g d dd met md =
+    let H = 𝓛.H in let 𝓣 = tables 𝓤 H 𝓜 𝓡 𝓡.env in let B : RattleType = param 0 Y in let En = ended Y g d dd in let c = clauses Y g d dd 𝓛 𝓜.mem 𝓡.returns in
+    let inst = bounded (a_type ∷ []) (Y, tt) (dcons d (dcons dd dnil)) in let fn = inst_fn inst code.function in
+    let closed = code.unfolded 𝓤 H 𝓜 𝓡 wired (Y, tt) d dd in
+    let Row : RattleType = C.the_row B g in let D : RattleType = Words B g in let self = plain (λ _. Row) in let other = RefOf (0 ∷ []) tt (plain (λ _.
+    Row)) (λ _. tt) in
     let hs : Stays En.signature.params En.kept = (stay_dropped self no, (stay_dropped other yes, tt)) in
-    proved 𝓛 En hs c 𝓜 𝓡 (Goes-dropped 𝓛 3 self no (λ κs x f. refl), (Goes-dropped 𝓛 3 other yes (λ κs x f. refl), tt)) (#self inst) fn closed
-    (λ κs. ((λ x. pointer_val x.at ∷ []), (shr_vals, tt))) (λ κs. ((λ x vs so. told R B g x.at vs so.0), (shr_Tells (named 0) κs.0 Row, tt))) (λ κs qs bounds a gh are.
+    proved 𝓛 En hs c 𝓜 𝓡 (Goes-dropped 𝓛 2 self no (λ κs x f. refl), (Goes-dropped 𝓛 2 other yes (λ κs x f. refl), tt)) (#self inst) fn closed
+    (λ κs. ((λ x. pointer_val x.at ∷ []), (shr_vals, tt))) (λ κs. (
+      (λ x vs so.
+          told B g x.at vs so.0),
+      (shr_Tells (named 0) κs.0 Row, tt),
+    )) (λ κs qs bounds a gh are.
     let h : Row.Denot = a.0 in let p : Ptr = h.at in let vs : List Val = pointer_val p ∷ [] in let κ : Lft = κs.0 in
     let b : ℕ = a.1.0.ref_ptr.0 in let o : ℕ = a.1.0.ref_ptr.1 in let j : Row.Denot = a.1.0.now in let q : Ptr = j.at in let lim : ℕ = j.limit in
-    let holds = g.dealloc_token j.home in let P : Fml = block_owns holds R q j.value in let s : Lft → Fml = block_shares holds R q j.value in let qb : ℕ = block_of q in let qo : ℕ = count_of q + 0 in
+    let holds = g.dealloc_token j.home in let P : Fml = block_owns holds q j.text in let s : Lft → Fml = block_shares q j.text in let qb : ℕ = block_of q in
+    let qo : ℕ = count_of q + 0 in
     let y : (walk_of 𝓛 En hs c).Ghost = ((κs, qs, bounds, a, (vs, (vptr b o ∷ [], tt))), gh) in let Post : Val → SProp 𝓤 = (walk_of 𝓛 En hs c).post y in
-    qed 𝓛 ((raw (alive 𝓛 En.signature κs qs) ⊛ ‵ (owns (types_at En.signature.params κs) a y.0.4)) ∷ raw (fact 𝓤 _) ∷ raw (fact 𝓤 _) ∷ raw (fact 𝓤 (h.right ≡ owed)) ∷ raw (fact 𝓤 (j.right ≡ fixed)) ∷ []) ∵
-    keep ! (3 ∷ 4 ∷ 0 ∷ []) $ heard ! (h.right ≡ owed) (λ mine. heard ! (j.right ≡ fixed) (λ marked. split ! $ move ! (1 ∷ []) $ fsplit3 ! $ move ! (1 ∷ []) $ fsplit ! $ keep ! (1 ∷ 2 ∷ 4 ∷ []) $
+    qed 𝓛 ((raw (alive 𝓛 En.signature κs qs) ⊛ ‵ (owns (types_at En.signature.params κs) a y.0.4)) ∷ raw (fact 𝓤 _) ∷ raw (fact 𝓤 (h.right ≡ owed)) ∷ raw
+    (fact 𝓤 (j.right ≡ fixed)) ∷ []) ∵
+    keep ! (2 ∷ 3 ∷ 0 ∷ []) $ heard ! (h.right ≡ owed) (λ mine. heard ! (j.right ≡ fixed) (λ marked. split ! $ move ! (1 ∷ []) $ fsplit3 ! $ move ! (1 ∷ []) $
+    fsplit ! $ keep ! (1 ∷ 2 ∷ 4 ∷ []) $
     -- [what the `&` shows; the owed pointer; the tokens]
     enter ! 𝓣.C 𝓣.Λ fn (pointer_val p ∷ vptr b o ∷ []) Post $ alloc_all ! (λ l. pass_all ! refl (typed p, ((tt, tt), tt)) $
-    use1 𝓛 (‵ (hidden_shr D κ (q, (tt, tt)) b o) ⊛ ‵ (fhide (pointer_shares holds R lim q j.value j.right j.seat j.block j.history κ)))
-    (lent_out 𝓛 (C.struct R B g) (C.the_codes X.Denot Y.Denot R.coded B.coded (Marker.the_row B).coded) (C.the_heap R B g) (C.the_lent R B g) κ j b o) $
+    use1 𝓛 (‵ (hidden_shr D κ (q, (tt, tt)) b o) ⊛ ‵ (fhide (pointer_shares holds lim q j.text j.right j.seat j.block j.history κ)))
+    (lent_out 𝓛 (C.struct B g) (C.the_codes Y.Denot B.coded (Marker.the_row B).coded) (C.the_heap B g) (C.the_lent B g) κ j b o) $
     split ! $ drop ! $ unhide ! $ fsplit ! $ drop ! $ fpick ! (λ t. fsplit ! $ fsplit ! $ fpick ! (λ is. drop ! $ drop ! $
-    rewrite ! 0 (λ (right : ℕ). ‵ (shown P lim qb qo t s j.seat right κ)) marked refl $ fsplit3 ! $
+    rewrite ! 0 (λ (right : Right). ‵ (shown P lim qb qo t s j.seat right κ)) marked refl $ fsplit3 ! $
     -- [that it is marked; the invariant; what is shared; the owed pointer; the tokens]
-    move ! (2 ∷ []) $ drop ! $ move ! (2 ∷ 1 ∷ 0 ∷ []) $ use3 𝓛 (later (given (h.block ≢ j.block) (‵ (Row.own_val h vs)))) (other_block 𝓛 P lim qb qo t R B g (param_laws 0 X L) h vs j.block mine is) $ await ! tt $ learn ! (λ away.
+    move ! (2 ∷ []) $ drop ! $ move ! (2 ∷ 1 ∷ 0 ∷ []) $
+    use3 𝓛 (later (given (h.block ≢ j.block) (‵ (Row.own_val h vs)))) (other_block 𝓛 P lim qb qo t B g h vs j.block mine is) $ await ! tt $ learn ! (λ away.
     sets ! (of_opd ! (get ! refl)) refl (typed p) $
-    let Differ : Type 0 = h.block ≢ j.block in use0 𝓛 (raw (fact 𝓤 Differ)) (fact_i 𝓤 Differ (emp 𝓤) away) $ use0 𝓛 (raw (fact 𝓤 (h ≡ h))) (fact_i 𝓤 (h ≡ h) (emp 𝓤) refl) $ join ! $
+    let Differ : Type 0 = h.block ≢ j.block in use0 𝓛 (raw (fact 𝓤 Differ)) (fact_i 𝓤 Differ (emp 𝓤) away) $
+    use0 𝓛 (raw (fact 𝓤 (h ≡ h))) (fact_i 𝓤 (h ≡ h) (emp 𝓤) refl) $ join ! $
     nothing ! $ nothing ! $ fjoin ! $ nothing ! $ fjoin ! $ returns ! (look_at ! 0 refl) $ free_all ! refl $ keep ! (3 ∷ 0 ∷ 2 ∷ 1 ∷ []) $
     by ! (leaves 𝓛 En hs c y (pointer_val p) h (tt, (tt, tt)) (tt, (tt, tt))))))))))

@@ -34,21 +34,30 @@ use Rattle.arcstr_block.proofs.seen.Seen.agree.Code as code
 
 pub agree_spec : {M : Type 1} → statement M
 agree_spec 𝓤 𝓛 𝓜 𝓡 wired =
-    let H = 𝓛.H in let 𝓣 = tables 𝓤 H 𝓜 𝓡 𝓡.env in let En = ended in let c = clauses 𝓛 𝓜.mem 𝓡.returns in let fn = code.function in let S : RattleType = C.the_row in
-    let self = RefOf (0 ∷ []) tt (plain (λ _. S)) (λ _. tt) in let other = RefOf (1 ∷ []) tt (plain (λ _. S)) (λ _. tt) in let hs : Stays En.signature.params En.kept = (stay_dropped self yes, (stay_dropped other yes, tt)) in
+    let H = 𝓛.H in let 𝓣 = tables 𝓤 H 𝓜 𝓡 𝓡.env in let En = ended in let c = clauses 𝓛 𝓜.mem 𝓡.returns in let fn = code.function in
+    let S : RattleType = C.the_row in
+    let self = RefOf (0 ∷ []) tt (plain (λ _. S)) (λ _. tt) in let other = RefOf (1 ∷ []) tt (plain (λ _. S)) (λ _. tt) in
+    let hs : Stays En.signature.params En.kept = (stay_dropped self yes, (stay_dropped other yes, tt)) in
     proved 𝓛 En hs c 𝓜 𝓡 (Goes-dropped 𝓛 2 self yes (λ κs x f. refl), (Goes-dropped 𝓛 2 other yes (λ κs x f. refl), tt)) #self fn (code.unfolded 𝓤 H 𝓜 𝓡 wired)
     (λ κs. (shr_vals, (shr_vals, tt))) (λ κs. (shr_Tells (named 0) κs.0 S, (shr_Tells (named 1) κs.1.0 S, tt))) (λ κs qs bounds a gh are.
-    let b : ℕ = a.0.ref_ptr.0 in let o : ℕ = a.0.ref_ptr.1 in let b' : ℕ = a.1.0.ref_ptr.0 in let o' : ℕ = a.1.0.ref_ptr.1 in let h : S.Denot = a.0.now in let j : S.Denot = a.1.0.now in
-    let y : (walk_of 𝓛 En hs c).Ghost = ((κs, qs, bounds, a, (vptr b o ∷ [], (vptr b' o' ∷ [], tt))), gh) in let Post : Val → SProp 𝓤 = (walk_of 𝓛 En hs c).post y in
+    let b : ℕ = a.0.ref_ptr.0 in let o : ℕ = a.0.ref_ptr.1 in let b' : ℕ = a.1.0.ref_ptr.0 in let o' : ℕ = a.1.0.ref_ptr.1 in let h : S.Denot = a.0.now in
+    let j : S.Denot = a.1.0.now in
+    let y : (walk_of 𝓛 En hs c).Ghost = ((κs, qs, bounds, a, (vptr b o ∷ [], (vptr b' o' ∷ [], tt))), gh) in
+    let Post : Val → SProp 𝓤 = (walk_of 𝓛 En hs c).post y in
     let γ : GName = h.block.0 in let δ : GName = j.block.0 in let codes = C.the_codes (Marker.the_row unit).coded in
     qed 𝓛 ((raw (alive 𝓛 En.signature κs qs) ⊛ ‵ (owns (types_at En.signature.params κs) a y.0.4)) ∷ raw ((c κs a).requires gh) ∷ []) ∵ keep ! (0 ∷ []) $
     split ! $ move ! (1 ∷ []) $ fsplit3 ! $ fsplit ! $ move ! (2 ∷ []) $ fsplit ! $ keep ! (3 ∷ 1 ∷ 5 ∷ []) $
-    use1 𝓛 (‵ (hidden_shr (Token unit) κs.0 (record {}, tt) b o) ⊛ ‵ (fhide (reached γ h.history))) (lent_out 𝓛 C.struct codes C.the_heap C.the_lent κs.0 h b o) $ split ! $ drop ! $ unhide ! $ move ! (1 ∷ []) $
-    use1 𝓛 (‵ (hidden_shr (Token unit) κs.1.0 (record {}, tt) b' o') ⊛ ‵ (fhide (reached δ j.history))) (lent_out 𝓛 C.struct codes C.the_heap C.the_lent κs.1.0 j b' o') $ split ! $ drop ! $ unhide ! $ move ! (1 ∷ 0 ∷ []) $
+    use1 𝓛 (‵ (hidden_shr (Token unit) κs.0 (record {}, tt) b o) ⊛ ‵ (fhide (reached γ h.history)))
+    (lent_out 𝓛 C.struct codes C.the_heap C.the_lent κs.0 h b o) $ split ! $ drop ! $ unhide ! $ move ! (1 ∷ []) $
+    use1 𝓛 (‵ (hidden_shr (Token unit) κs.1.0 (record {}, tt) b' o') ⊛ ‵ (fhide (reached δ j.history)))
+    (lent_out 𝓛 C.struct codes C.the_heap C.the_lent κs.1.0 j b' o') $ split ! $ drop ! $ unhide ! $ move ! (1 ∷ 0 ∷ []) $
     use2 𝓛 (raw (fact 𝓤 (Agrees 𝓛 γ δ h.history j.history))) (agree 𝓛 γ δ h.history j.history) $ heard ! (Agrees 𝓛 γ δ h.history j.history) (λ told.
     -- [the tokens]
-    enter ! 𝓣.C 𝓣.Λ fn (vptr b o ∷ vptr b' o' ∷ []) Post $ alloc_all ! (λ l. pass_all ! refl ((tt, tt), ((tt, tt), tt)) $ sets ! (of_opd ! (unit_lit !)) refl (tt, tt) $
-    let Front : Type 0 = h.block ≡ j.block → length h.history ≤ length j.history → IsFront h.history j.history in let Longer : Type 0 = h.block ≡ j.block → length j.history ≤ length h.history → IsFront j.history h.history in
-    use0 𝓛 (raw (fact 𝓤 Longer)) (fact_i 𝓤 Longer (emp 𝓤) (λ same. (told (ap (λ (z : ℕ × ℕ). z.0) same)).1)) $ use0 𝓛 (raw (fact 𝓤 Front)) (fact_i 𝓤 Front (emp 𝓤) (λ same. (told (ap (λ (z : ℕ × ℕ). z.0) same)).0)) $ join ! $
+    enter ! 𝓣.C 𝓣.Λ fn (vptr b o ∷ vptr b' o' ∷ []) Post $ alloc_all ! (λ l. pass_all ! refl ((tt, tt), ((tt, tt), tt)) $
+    sets ! (of_opd ! (unit_lit !)) refl (tt, tt) $
+    let Front : Type 0 = h.block ≡ j.block → length h.history ≤ length j.history → IsFront h.history j.history in
+    let Longer : Type 0 = h.block ≡ j.block → length j.history ≤ length h.history → IsFront j.history h.history in
+    use0 𝓛 (raw (fact 𝓤 Longer)) (fact_i 𝓤 Longer (emp 𝓤) (λ same. (told (ap (λ (z : ℕ × ℕ). z.0) same)).1)) $
+    use0 𝓛 (raw (fact 𝓤 Front)) (fact_i 𝓤 Front (emp 𝓤) (λ same. (told (ap (λ (z : ℕ × ℕ). z.0) same)).0)) $ join ! $
     feq_i ! (List Val) (vunit ∷ []) (vunit ∷ []) refl $ nothing ! $ nothing ! $ fjoin ! $ nothing ! $ fjoin ! $
     returns ! (look_at ! 0 refl) $ free_all ! refl $ keep ! (3 ∷ 0 ∷ 1 ∷ 2 ∷ []) $ by ! (leaves 𝓛 En hs c y vunit tt (tt, (tt, tt)) (tt, (tt, tt))))))

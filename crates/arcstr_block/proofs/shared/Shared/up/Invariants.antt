@@ -1,4 +1,4 @@
-use Rattle.arcstr_block.specs.Rights.{IsUnmarked, IsWord}
+use Rattle.arcstr_block.specs.Word.{IsUnmarked, IsWord}
 use Rattle.arcstr_block.proofs.shared.Shared.up.Given as goal
 
 -- the word that is tried next was found unmarked

@@ -4,7 +4,8 @@ use Rattle.std.specs.Prelude.{IfOk, OnOk}
 use Rattle.std.proofs.lemmas.Result.{IfOk-at_ok}
 use Rattle.arcbench_core.proofs.pool.fn.callers.scope.Goals as goal
 
-handed_out : {X E F : Type 0} (joined : Result (Vec X Global) E) (result : Result (Vec X Global) F) (started workers : ℕ) (Same : X → Type 0) (Passed : ℕ → Type 0)
+handed_out : {X E F : Type 0} (joined : Result (Vec X Global) E) (result : Result (Vec X Global) F)
+    → (started workers : ℕ) (Same : X → Type 0) (Passed : ℕ → Type 0)
     → IfOk result (λ all. (joined ≡ Ok all) × (vec_len all ≡ workers))
     → IfOk joined (λ all. vec_len all ≡ started)
     → IfOk joined (λ all. (worker : ℕ) (d : X) → worker < started → Same (get_or (vec_items all) worker d))
@@ -24,5 +25,9 @@ handed_out joined (Err fault) started workers Same Passed from count texts passe
 
 pub returns : goal.returns
 returns g c =
-    let found = handed_out c.joined.result c.complete.result _ c.captures.workers (λ handle. handle ≡ c.captures.text.now) (g.G.Gate.passed c.captures.gate.now) c.complete.ensures.ok c.joined.ensures.one_each c.joined.ensures.same_text c.joined.ensures.all_passed in
+    let Same : _ → Type 0 = λ handle. handle ≡ c.captures.text.now in
+    let Passed = g.G.Gate.passed c.captures.gate.now in
+    let from = c.complete.ensures.ok in
+    let known = c.joined.ensures in
+    let found = handed_out c.joined.result c.complete.result _ c.captures.workers Same Passed from known.one_each known.same_text known.all_passed in
     record { one_each = found.0; same_text = found.1; all_passed = found.2 }

@@ -1,0 +1,111 @@
+-- What the steps of a pointer have in common: the share and the seat that a step through `&` borrows, and the pointer that a step hands out. Assumes `Logic`.
+use Rattle.std.proofs.Common.{◌≡◌, ℕ, ◌+◌, ◌^◌, ◌<◌, List, [], ◌∷◌, ◌++◌, refl, w64}
+use mir.Val.{Val, vint, vstruct, of_list}
+use seplogic.Ra.Ura.{Ura}
+use base.Share
+use base.Logic.{SProp, ent, sep, emp}
+use base.Fml.{Lft, Share, Fml, ftrue, fsep, fex, feq, flft, finv, fobor, fshr_bor}
+use types.Logic.{Logic, sem}
+use types.Kit.{‵, raw, join, ◌⊛◌, ◌$◌, ◌∵◌, !, qed, move, drop, split, fsplit, fjoin, fjoin3, fpack, use0, use1, use2, now, updating, feq_i}
+use types.Kit.{flt_i, done}
+use types.Tokens.{shr_bor-open, obor_close}
+use types.Within.{tokens_halve}
+use contract.Monad.{fact as said, fact_i}
+use denote.RattleType.{RattleType, Valss, owns}
+use denote.RawPtr.{InBlock, block_of, count_of}
+use denote.Builtin.{u64}
+use denote.Steps.{nothing}
+use Rattle.core.specs.declared.alloc.Allocator.{Ghosts}
+use Rattle.arcstr_count.specs.declared.steps.HandleState.TheVariants.{Free}
+use Rattle.arcstr_block.specs.Book.{reached, seat_share}
+use Rattle.arcstr_block.specs.Memory.{IsText, block_owns, block_shares}
+use Rattle.arcstr_block.specs.Ledger.{Id, names, Inv, right_to, of_block}
+use Rattle.arcstr_block.specs.contracts.pointer.Pointer as C
+use Rattle.arcstr_block.proofs.Fields.{pointer_val, found_val, Words, made}
+use Rattle.arcstr_block.proofs.Seats.{seat_halves}
+
+module _ {M : Type 1} {𝓤 : Ura M} (𝓛 : Logic 𝓤) where
+  open 𝓛 use {H, A}
+
+  abbrev Pr : Type 2
+  Pr = SProp 𝓤
+
+  abbrev ◌⊢◌ : Pr → Pr → Type 1
+  X ⊢ Y = ent 𝓤 X Y
+
+  abbrev ◌∗◌ : Pr → Pr → Pr
+  X ∗ Y = sep 𝓤 X Y
+
+  abbrev ⟦◌⟧ : Fml → Pr
+  ⟦ X ⟧ = sem 𝓛 X
+
+  infix 26 ◌⊢◌
+  infixr 35 ◌∗◌
+  -- three clauses that hold
+  pub three : {X Y Z : Type 0} → X → Y → Z → emp 𝓤 ⊢ said 𝓤 X ∗ said 𝓤 Y ∗ said 𝓤 Z
+  three {X = X} {Y = Y} {Z = Z} x y z = qed 𝓛 [] ∵ use0 𝓛 (raw (said 𝓤 Z)) (fact_i 𝓤 Z (emp 𝓤) z) $
+      use0 𝓛 (raw (said 𝓤 Y)) (fact_i 𝓤 Y (emp 𝓤) y) $ join ! $ use0 𝓛 (raw (said 𝓤 X)) (fact_i 𝓤 X (emp 𝓤) x) $ join ! $ done !
+
+  -- ---- a step through `&`, by a share of the token of a and a share of the seat h
+  module _ (a : ℕ) (δ h : ℕ) (κ : Lft) (q : Share) where
+    abbrev Token : Share → Fml
+    Token u = flft (a ∷ []) u
+
+    abbrev Seat : Share → Fml
+    Seat v = seat_share δ h v Free
+
+    -- both borrows are open, each by one half of κ
+    abbrev pub lent_for : Share × Share → Fml
+    lent_for x = fsep (fsep (fobor κ (Share.left q) (Token x.0)) (fobor κ (Share.right q) (Seat x.1))) (fsep (Token x.0) (Seat x.1))
+
+    pub borrows : ⟦ fshr_bor κ (λ r. Token r) ⟧ ∗ ⟦ fshr_bor κ (λ r. Seat r) ⟧ ∗ A.lft κ q ⊢ H.⇛ ⟦ fex (Share × Share) lent_for ⟧
+    borrows = qed 𝓛 (‵ (fshr_bor κ (λ r. Token r)) ∷ ‵ (fshr_bor κ (λ r. Seat r)) ∷ ‵ (flft κ q) ∷ []) ∵ updating ! $ move ! (2 ∷ []) $
+        use1 𝓛 (‵ (flft κ (Share.left q)) ⊛ ‵ (flft κ (Share.right q))) (𝓛.lfts.lft_split κ q) $ split ! $
+        move ! (2 ∷ 0 ∷ []) $ shr_bor-open ! tt (tokens_halve 𝓛 (a ∷ [])) (λ u. move ! (3 ∷ 2 ∷ []) $ shr_bor-open ! tt (seat_halves 𝓛 δ h Free) (λ v.
+        -- [the open seat; its share; the open token; its share]
+        move ! (3 ∷ 1 ∷ []) $ fjoin ! $ move ! (2 ∷ 1 ∷ []) $ fjoin ! $ fjoin ! $ fpack ! (Share × Share) lent_for (u, v) $ now ! $ done !))
+
+    pub restores : (x : Share × Share) → ⟦ lent_for x ⟧ ⊢ H.⇛ (A.lft κ q)
+    restores x = qed 𝓛 (‵ (lent_for x) ∷ []) ∵ updating ! $ fsplit ! $ fsplit ! $ move ! (2 ∷ []) $ fsplit ! $
+        -- [the share; the seat; the open token; the open seat]
+        move ! (2 ∷ 0 ∷ []) $ obor_close ! tt $ drop ! $ move ! (2 ∷ 1 ∷ []) $ obor_close ! tt $ drop ! $ move ! (1 ∷ 0 ∷ []) $
+        use2 𝓛 (‵ (flft κ q)) (𝓛.lfts.lft_join κ q) $ now ! $ done !
+
+  -- ---- the pointer that a step hands out
+  module _ (B : RattleType) (g : Ghosts B.Denot) where
+    abbrev Row : RattleType
+    Row = C.the_row B g
+
+    module _ (h : Row.Denot) where
+      abbrev P : Fml
+      P = block_owns (g.dealloc_token h.home) h.at h.text
+
+      abbrev pb : ℕ
+      pb = block_of h.at
+
+      abbrev po : ℕ
+      po = count_of h.at + 0
+
+      -- a right, with the names of the block and a beginning of its history
+      pub pointer_in : (t : Id) → names t ≡ h.block → InBlock h.at × IsText h.text
+          → ⟦ right_to P h.limit pb po t (block_shares h.at h.text) h.seat h.right ⟧ ∗ ⟦ finv (Inv P h.limit pb po t) ⟧ ∗ ⟦ reached t.2 h.history ⟧
+          ⊢ ⟦ Row.own_val h (pointer_val h.at ∷ []) ⟧
+      pointer_in t named inb =
+          qed 𝓛 (‵ (right_to P h.limit pb po t (block_shares h.at h.text) h.seat h.right) ∷ ‵ (finv (Inv P h.limit pb po t)) ∷ ‵ (reached t.2 h.history) ∷ []) ∵
+          move ! (1 ∷ 0 ∷ []) $ fjoin ! $ move ! (1 ∷ []) $ nothing ! $ fpack ! (names t ≡ h.block) (λ _. ftrue) named $ fjoin ! $ fjoin ! $
+          fpack ! Id (of_block (g.dealloc_token h.home) h.limit h.at h.text h.right h.seat h.block h.history) t $
+          nothing ! $ fpack ! (InBlock h.at × IsText h.text) (λ _. ftrue) inb $ fjoin ! $
+          use0 𝓛 (‵ ((Words B g).own_val (h.at, (tt, tt)) (pointer_val h.at ∷ []))) (made B g 𝓛 h.at) $ fjoin ! $ done !
+
+      -- beside the word n that the step found
+      abbrev pub found_as : ℕ → Valss (u64 ∷ Row ∷ []) → Fml
+      found_as n uss = fsep (feq (List Val) (found_val n h.at ∷ []) (vstruct (of_list (uss.0 ++ (uss.1.0 ++ []))) ∷ [])) (owns (u64 ∷ Row ∷ []) (
+        n,
+        (h, tt),
+      ) uss)
+
+      pub found_in : (n : ℕ) → n < 2 ^ 64 → ⟦ Row.own_val h (pointer_val h.at ∷ []) ⟧ ⊢ ⟦ fex (Valss (u64 ∷ Row ∷ [])) (found_as n) ⟧
+      found_in n fits = let r : Val = found_val n h.at in qed 𝓛 (‵ (Row.own_val h (pointer_val h.at ∷ [])) ∷ []) ∵
+          nothing ! $ flt_i ! n (2 ^ 64) fits $ feq_i ! (List Val) (vint w64 n ∷ []) (vint w64 n ∷ []) refl $ fjoin ! $
+          move ! (0 ∷ 2 ∷ 1 ∷ []) $ fjoin3 ! $ feq_i ! (List Val) (r ∷ []) (r ∷ []) refl $ fjoin ! $
+          fpack ! (Valss (u64 ∷ Row ∷ [])) (found_as n) (vint w64 n ∷ [], (pointer_val h.at ∷ [], tt)) $ done !

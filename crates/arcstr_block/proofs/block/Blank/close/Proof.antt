@@ -1,0 +1,105 @@
+-- `close` takes the bytes from their `Slots`, once each is written.
+use Rattle.std.proofs.Common.{◌≡◌, ℕ, ◌+◌, ◌^◌, ◌<◌, Bool, List, [], ◌∷◌, length, sym, refl, ap, ◌∙◌, subst, arith, w64}
+use mir.Syntax.{dcons, dnil, a_type, ty_int, ty_ptr, ty_struct, tcons, tnil}
+use mir.Val.{Val, has_ty, WT}
+use mir.MapTy.{inst_fn}
+use lib.Dec.{T}
+use base.Fraction.{full_share}
+use base.Logic.{SProp, emp}
+use base.Fml.{Fml, fsep, feq}
+use contract.Running.{tables}
+use contract.Monad.{fact, fact_i}
+use types.Kit.{‵, raw, ◌⊛◌, given, later, at_ret, ◌$◌, ◌∵◌, !, qed, by, move, keep, drop, use0, use1, split, join, fsplit, fsplit3, fjoin, fjoin3, fpick}
+use types.Kit.{fpack, learn, await, rewrite, feq_i}
+use types.Run.{stop, fld, of_opd, no_more, and_then, first, blocks, exec, returns, enter}
+use types.ByLocal.{alloc_all, pass_all, free_all, look_at, get, get_in, sets, lands_last, is, env}
+use types.Part.{agg, sub, whole}
+use denote.Array.{Array}
+use denote.Builtin.{u8}
+use denote.Exit.{yes, no}
+use denote.Memory.{part_at}
+use denote.RattleType.{RattleType, owns}
+use denote.RawPtr.{Ptr, InBlock, block_ptr, ptr_val, block_of, count_of, at_block, in_block}
+use denote.RawPtr.Bytes.{bytes, bytes_whole}
+use denote.Signature.{types_at, plain}
+use denote.Steps.{nothing, heard}
+use denote.Param.{param, bounded}
+use denote.Triple.Call.{calls_at_last}
+use denote.Triple.Entry.{alive}
+use denote.Triple.Walked.{Stays, stay_dropped, walk_of, Goes-dropped}
+use Rattle.core.specs.Mem.Slots.Ownership.{Filled, slots, owned}
+use Rattle.core.proofs.atomic.Steps.{tail}
+use Rattle.core.proofs.slots.Opens.{words_val}
+use Rattle.core.proofs.slots.Slots.into_raw_parts.Met as callee
+use Rattle.atomic_table.proofs.Calls.{fm}
+use Rattle.atomic_table.proofs.Walks.{proved, leaves}
+use Rattle.arcstr_block.specs.Memory.{Fits, text_at, length_lies, text_lies, rim}
+use Rattle.arcstr_block.specs.contracts.block.Blank as N
+use Rattle.arcstr_block.specs.contracts.block.Sole as S
+use Rattle.arcstr_block.proofs.Fields.{pointer_val, typed, Words, told, made}
+use Rattle.arcstr_block.proofs.Memory.{byte_laws}
+use Rattle.arcstr_block.proofs.Places.{Bytes, R, to_bytes, Ends, at_ends, ends_goes, ends_gives, words_typed, words_told}
+use Rattle.arcstr_block.specs.contracts.block.Blank.close.{ended, clauses}
+use Rattle.arcstr_block.specs.contracts.block.Blank.close.Key.{name as #self}
+use Rattle.arcstr_block.proofs.block.Blank.close.Statement.{statement}
+use Rattle.arcstr_block.proofs.block.Blank.close.Code as code
+
+pub close_spec : {M : Type 1} → statement M
+close_spec 𝓤 𝓛 𝓜 𝓡 wired Y K g d dd met md =
+    let H = 𝓛.H in let 𝓣 = tables 𝓤 H 𝓜 𝓡 𝓡.env in let B : RattleType = param 0 Y in let En = ended Y g d dd in let c = clauses Y g d dd 𝓛 𝓜.mem 𝓡.returns in
+    let inst = bounded (a_type ∷ []) (Y, tt) (dcons d (dcons dd dnil)) in let fn = inst_fn inst code.function in
+    let closed = code.unfolded 𝓤 H 𝓜 𝓡 wired (Y, tt) d dd in
+    let Open : RattleType = N.the_row B g in let Alone : RattleType = S.the_row B g in let self = plain (λ _. Open) in let row = plain (λ _. Bytes) in
+    let hs : Stays En.signature.params En.kept = (stay_dropped self no, (stay_dropped row yes, tt)) in
+    proved 𝓛 En hs c 𝓜 𝓡 (Goes-dropped 𝓛 1 self no (λ κs x f. refl), (Goes-dropped 𝓛 1 row yes (λ κs x f. refl), tt)) (#self inst) fn closed
+    (λ κs. ((λ x. pointer_val x.at ∷ []), ((λ x. words_val x.ptr x.len ∷ []), tt))) (λ κs. (
+      (λ x vs so. told B g x.at vs so.0),
+      (
+        (λ x vs so.
+            (words_told x.ptr x.len vs so.0).0),
+        tt,
+      ),
+    )) (λ κs qs bounds a gh are.
+    let h : Open.Denot = a.0 in let p : Ptr = h.at in let row : Bytes.Denot = a.1.0 in let xs : List ℕ = row.items in let fs : List Bool = row.filled in
+    let n : ℕ = length xs in let b : ℕ = block_of p in let o : ℕ = count_of p in
+    let holds = g.dealloc_token h.home in let u : Val = words_val row.ptr row.len in let small : row.len < 2 ^ 64 = row.small in
+    let y : (walk_of 𝓛 En hs c).Ghost = ((κs, qs, bounds, a, (pointer_val p ∷ [], (u ∷ [], tt))), gh) in
+    let Post : Val → SProp 𝓤 = (walk_of 𝓛 En hs c).post y in
+    let Written : Type 0 = Filled fs 0 h.length in
+    qed 𝓛 ((raw (alive 𝓛 En.signature κs qs) ⊛ ‵ (owns (types_at En.signature.params κs) a y.0.4)) ∷ raw (fact 𝓤 _) ∷ raw (fact 𝓤 (row.ptr ≡ text_at p)) ∷ raw
+    (fact 𝓤 (row.len ≡ h.length)) ∷ raw (fact 𝓤 Written) ∷ []) ∵
+    keep ! (2 ∷ 3 ∷ 4 ∷ 0 ∷ []) $ heard ! (row.ptr ≡ text_at p) (λ here. heard ! (row.len ≡ h.length) (λ long. heard ! Written (λ full. split ! $
+    move ! (1 ∷ []) $ fsplit3 ! $ keep ! (0 ∷ 1 ∷ 3 ∷ []) $ fsplit ! $ drop ! $
+    fsplit3 ! $ fpick ! (λ inb. drop ! $ let at : p ≡ block_ptr b o = at_block p inb.0 in let counts : h.length ≡ n = sym long ∙ row.ok.0 in
+    -- [the word; the length and the rim; the bytes' places; the tokens]
+    enter ! 𝓣.C 𝓣.Λ fn (pointer_val p ∷ u ∷ []) Post $ alloc_all ! (λ l. pass_all ! refl (typed p, (words_typed row.ptr row.len small, tt)) $
+    let Ev = env fn.locals l in
+    sets ! (is ! (of_opd ! (get_in ! (fld ! refl (stop !)) (sub ! 0 refl (whole !)))) (ap ptr_val at)) refl (tt, tt) $
+    sets ! (of_opd ! (get_in ! (fld ! refl (stop !)) (sub ! 1 refl (whole !)))) refl (tt, tt) $
+    first ! $ blocks ! $ sets ! (of_opd ! (get ! refl)) refl (words_typed row.ptr row.len small) $ move ! (2 ∷ []) $
+    let Asked = Ends 𝓛 𝓜.mem 𝓡.returns in let w : Asked.Ghost = at_ends 𝓛 𝓜.mem 𝓡.returns row u in
+    use1 𝓛 (raw (Asked.pre w)) (ends_goes 𝓛 𝓜.mem 𝓡.returns row u) $
+    calls_at_last ! (fm 𝓛 𝓜 𝓡) Asked (callee.met 𝓤 𝓛 𝓜 𝓡 (code.calls-core::slots::Slots::into_raw_parts 𝓡.env wired) u8 byte_laws) w (and_then ! (get ! refl)
+    (no_more !)) (λ v.
+    use1 𝓛 (later (given ((v ≡ u) × (row.len < 2 ^ 64)) (‵ (owned R row.ptr row.len xs fs)))) (ends_gives 𝓛 𝓜.mem 𝓡.returns row u v) $ await ! tt $
+    learn ! (λ got.
+    let good = subst (λ (z : Val). T (has_ty (ty_struct [] (tcons ty_ptr (tcons (ty_int w64) tnil))) z) ×
+    WT z) (sym got.0) (words_typed row.ptr row.len small) in
+    lands_last ! refl good $ exec ! 𝓣.C 𝓣.Λ Ev (tail (tail (tail fn.body))) (at_ret Ev Post) $ sets ! (of_opd ! (get ! refl)) refl good $
+    sets ! (is ! (agg ! (and_then ! (get ! refl) (and_then ! (get ! refl) (no_more !)))) (ap pointer_val (sym at))) refl (typed p) $
+    fsplit ! $ drop ! $ rewrite ! 0 (λ (r : Ptr). ‵ (in_block r (slots R r xs fs))) (here ∙ ap text_at at) refl $
+    use1 𝓛 (‵ (bytes full_share xs b (o + 16))) (to_bytes 𝓛 b xs fs (o + 16) (sym row.ok.1 ∙ row.ok.0) (λ k lt.
+    full k (omega arith) (omega (arith, lt, row.ok.1, long)))) $
+    feq_i ! ℕ n n refl $ fjoin ! $ use1 𝓛 (‵ (part_at (Array u8 n) full_share xs b (o + 16))) (bytes_whole 𝓛 full_share n xs b (o + 16)) $
+    rewrite ! 0 (λ (r : Ptr). ‵ (text_lies r xs)) (sym at) refl $
+    -- [the bytes; the word; the length and the rim; the tokens]
+    move ! (2 ∷ []) $ rewrite ! 0 (λ (m : ℕ). ‵ (fsep (length_lies p m) (rim holds m p))) counts refl $ fsplit ! $ move ! (0 ∷ 2 ∷ 1 ∷ []) $ fjoin3 ! $
+    move ! (1 ∷ 0 ∷ []) $ fjoin ! $
+    nothing ! $ fpack ! (InBlock p × Fits n) (λ _. base.Fml.ftrue) (inb.0, subst Fits counts inb.1) $ fjoin ! $
+    use0 𝓛 (‵ ((Words B g).own_val (p, (tt, tt)) (pointer_val p ∷ []))) (made B g 𝓛 p) $ fjoin ! $
+    let r : Alone.Denot = record { at = p; marker = record {}; home = h.home; word = h.word; text = xs } in
+    use0 𝓛 (raw (fact 𝓤 (xs ≡ xs))) (fact_i 𝓤 (xs ≡ xs) (emp 𝓤) refl) $ use0 𝓛 (raw (fact 𝓤 (h.word ≡ h.word))) (fact_i 𝓤 (h.word ≡ h.word) (emp 𝓤) refl) $
+    join ! $
+    use0 𝓛 (raw (fact 𝓤 (h.home ≡ h.home))) (fact_i 𝓤 (h.home ≡ h.home) (emp 𝓤) refl) $ join ! $ nothing ! $ nothing ! $ fjoin ! $ nothing ! $ fjoin ! $
+    returns ! (look_at ! 0 refl) $ free_all ! refl $ keep ! (3 ∷ 0 ∷ 2 ∷ 1 ∷ []) $
+    by ! (leaves 𝓛 En hs c y (pointer_val p) r (tt, (tt, tt)) (tt, (tt, tt)))))))))))

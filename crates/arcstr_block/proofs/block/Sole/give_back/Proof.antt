@@ -1,0 +1,102 @@
+-- `give_back` makes room of the block, and hands it to the allocator.
+use Rattle.std.proofs.Common.{◌≡◌, ℕ, ◌^◌, ◌<◌, List, [], ◌∷◌, length, sym, refl, ◌∙◌, subst, lit<, w64}
+use mir.Syntax.{Ty, dcons, dnil, a_type, named, ty_unit}
+use mir.Raw.{raw as bare}
+use mir.Val.{Val, vunit, vint, vptr, has_ty, WT}
+use mir.MapTy.{inst_fn}
+use lib.Dec.{T}
+use base.Logic.{SProp, ent, id⊢}
+use base.Fml.{Lft, Share, Fml, ftrue, fsep, froom, flft, Incl-trans}
+use prog.Wp.{WpFn}
+use contract.BorrowLft.{◌⊑◌}
+use contract.Running.{tables}
+use contract.Monad.{fact}
+use types.Kit.{‵, raw, ◌⊛◌, given, later, at_ret, ◌$◌, ◌∵◌, !, qed, by, move, keep, drop, use1, use2, use3, split, join, fsplit, fsplit3, fjoin, fpick, learn}
+use types.Kit.{suffices, await, rewrite, feq_i}
+use types.Run.{stop, fld, lit, unit_lit, of_opd, no_more, and_then, first, blocks, exec, returns, enter}
+use types.ByLocal.{alloc_all, pass_all, free_all, look_at, get, get_in, sets, lands_last, env}
+use types.Part.{sub, whole}
+use denote.Exit.{yes, no}
+use denote.RattleType.{RattleType, owns}
+use denote.Builtin.{RefOf, usize}
+use denote.Plain.{uint_vals, uint_Tells}
+use denote.RawPtr.{Ptr, block_ptr, block_of, count_of, at_block}
+use denote.Ref.{shr_vals, shr_Tells}
+use denote.Signature.{types_at, plain}
+use denote.Steps.{nothing, heard}
+use denote.Param.{param, bounded}
+use denote.Triple.Call.{calls_at_last}
+use denote.Triple.Walked.{Stays, stay_dropped, walk_of, Goes-dropped}
+use Rattle.core.proofs.alloc.Calls.{Al, Gives, at_gives, Gives-goes, Gives-Gives}
+use Rattle.core.proofs.atomic.Steps.{tail}
+use Rattle.atomic_table.proofs.Calls.{fm}
+use Rattle.atomic_table.proofs.Walks.{proved, leaves}
+use Rattle.arcstr_block.specs.Memory.{block_size, block_type, block_owns, sole_owns}
+use Rattle.arcstr_block.specs.contracts.block.Sole as S
+use Rattle.arcstr_block.proofs.Fields.{pointer_val, typed, told}
+use Rattle.arcstr_block.proofs.Memory.{block_bytes, block_align, gathers}
+use Rattle.arcstr_block.specs.contracts.block.Sole.give_back.{ended, clauses}
+use Rattle.arcstr_block.specs.contracts.block.Sole.give_back.Key.{name as #self}
+use Rattle.arcstr_block.proofs.block.Sole.give_back.Statement.{statement}
+use Rattle.arcstr_block.proofs.block.Sole.give_back.Code as code
+
+pub give_back_spec : {M : Type 1} → statement M
+give_back_spec 𝓤 𝓛 𝓜 𝓡 wired Y K g d dd met md =
+    let H = 𝓛.H in let 𝓣 = tables 𝓤 H 𝓜 𝓡 𝓡.env in let B : RattleType = param 0 Y in let En = ended Y g d dd in let c = clauses Y g d dd 𝓛 𝓜.mem 𝓡.returns in
+    let inst = bounded (a_type ∷ []) (Y, tt) (dcons d (dcons dd dnil)) in let fn = inst_fn inst code.function in
+    let closed = code.unfolded 𝓤 H 𝓜 𝓡 wired (Y, tt) d dd in
+    let Alone : RattleType = S.the_row B g in let self = plain (λ _. Alone) in let handle = RefOf (0 ∷ []) tt (plain (λ _. B)) (λ _. tt) in
+    let number = plain (λ _. usize) in
+    let Z : Al = record { row = Y; laws = K; g = g; d = d; drops = dd } in
+    let hs : Stays En.signature.params En.kept = (stay_dropped self no, (stay_dropped handle yes, (stay_dropped number yes, tt))) in
+    proved 𝓛 En hs c 𝓜 𝓡 (
+      Goes-dropped 𝓛 2 self no (λ κs x f. refl),
+      (
+        Goes-dropped 𝓛 2 handle yes (λ κs x f. refl),
+        (
+          Goes-dropped 𝓛 2 number yes (λ κs x f.
+              refl),
+          tt,
+        ),
+      ),
+    ) (#self inst) fn closed
+    (λ κs. ((λ x. pointer_val x.at ∷ []), (shr_vals, (uint_vals w64, tt)))) (λ κs. (
+      (λ x vs so.
+          told B g x.at vs so.0),
+      (shr_Tells (named 0) κs.0 B, (uint_Tells w64, tt)),
+    )) (λ κs qs bounds a gh are.
+    let v : Alone.Denot = a.0 in let p : Ptr = v.at in let xs : List ℕ = v.text in let n : ℕ = length xs in let hp : ℕ × ℕ = a.1.0.ref_ptr in
+    let heap : Y.Denot = a.1.0.now in let size : ℕ = a.1.1.0 in
+    let κ : Lft = κs.0 in let q : Share = qs.0 in let token : Ty → Ptr → Fml = g.dealloc_token heap in let τ : Ty = bare (block_type n) in
+    let small : size < 2 ^ 64 = are.1.1.0.1 in
+    let y : (walk_of 𝓛 En hs c).Ghost = ((κs, qs, bounds, a, (pointer_val p ∷ [], (vptr hp.0 hp.1 ∷ [], (vint w64 size ∷ [], tt)))), gh) in
+    let Post : Val → SProp 𝓤 = (walk_of 𝓛 En hs c).post y in
+    let others : Fml = fsep (flft κs.1.0 qs.1.0) ftrue in let b : ℕ = block_of p in let o : ℕ = count_of p in let p' : Ptr = block_ptr b o in
+    let us : Ptr → List Val = λ u. pointer_val u ∷ vptr hp.0 hp.1 ∷ vint w64 size ∷ [] in let Run : List Val → SProp 𝓤 = λ ws. WpFn 𝓤 H 𝓣.C 𝓣.Λ fn ws Post in
+    qed 𝓛 (((‵ (flft κ q) ⊛ ‵ others) ⊛ ‵ (owns (types_at En.signature.params κs) a y.0.4)) ∷ raw (fact 𝓤 (κs.1.0 ⊑ Y.lives)) ∷ raw (fact 𝓤
+    (v.home ≡ heap)) ∷ raw (fact 𝓤 (size ≡ block_size n)) ∷ []) ∵
+    keep ! (1 ∷ 2 ∷ 3 ∷ 0 ∷ []) $ heard ! (κs.1.0 ⊑ Y.lives) (λ inside. heard ! (v.home ≡ heap) (λ home. heard ! (size ≡ block_size n) (λ sized. split ! $
+    split ! $
+    move ! (2 ∷ []) $ fsplit3 ! $ fsplit ! $ move ! (2 ∷ []) $ fsplit ! $ keep ! (3 ∷ 1 ∷ 5 ∷ 6 ∷ []) $
+    -- [the block; the `&`; κ; the others]
+    rewrite ! 0 (λ (u : Y.Denot). ‵ (sole_owns (g.dealloc_token u) p v.word xs)) home refl $ fsplit3 ! $ fpick ! (λ inb. drop ! $
+    let at : p ≡ p' = at_block p inb.0 in
+    rewrite ! 1 (λ (r : Ptr). ‵ (block_owns token r xs)) at refl $ use2 𝓛 (‵ (froom τ b o) ⊛ ‵ (token τ p')) (gathers 𝓛 token b o v.word xs) $ split ! $
+    suffices ! (Run (us p')) (subst (λ (u : Ptr). ent 𝓤 (Run (us p')) (Run (us u))) (sym at) (id⊢ 𝓤 (Run (us p')))) $
+    enter ! 𝓣.C 𝓣.Λ fn (us p') Post $ alloc_all ! (λ l. pass_all ! refl (typed p', ((tt, tt), ((tt, record { fits = small }), tt))) $
+    let Ev = env fn.locals l in
+    sets ! (of_opd ! (get_in ! (fld ! refl (stop !)) (sub ! 0 refl (whole !)))) refl (tt, tt) $ first ! $ blocks ! $
+    sets ! (of_opd ! (get ! refl)) refl (tt, tt) $
+    move ! (2 ∷ 3 ∷ []) $ join ! $ move ! (1 ∷ 2 ∷ 0 ∷ []) $ let Asks = Gives Z 𝓛 𝓜.mem 𝓡.returns in
+    let w : Asks.Ghost = at_gives Z 𝓛 𝓜.mem 𝓡.returns κ q hp heap b o size 8 τ in
+    use3 𝓛 (raw (Asks.pre w)) (Gives-goes Z 𝓛 𝓜.mem 𝓡.returns κ q hp heap (Incl-trans bounds.0 inside) b o size 8 τ (block_bytes n inb.1 ∙ sym sized)
+    (block_align n) small (lit< tt)) $
+    calls_at_last ! (fm 𝓛 𝓜 𝓡) Asks (met.deallocate dd) w (and_then ! (get ! refl) (and_then ! (get ! refl) (and_then ! (get ! refl) (and_then ! (lit ! tt)
+    (no_more !))))) (λ u.
+    use1 𝓛 (later (given (u ≡ vunit) (‵ (flft κ q)))) (Gives-Gives Z 𝓛 𝓜.mem 𝓡.returns κ q hp heap b o size 8 τ u) $ await ! tt $ learn ! (λ e.
+    lands_last ! refl (subst (λ (z : Val). T (has_ty ty_unit z) × WT z) (sym e) (tt, tt)) $
+    exec ! 𝓣.C 𝓣.Λ Ev (tail (tail fn.body)) (at_ret Ev Post) $ sets ! (of_opd ! (unit_lit !)) refl (tt, tt) $ join ! $ nothing ! $
+    feq_i ! (List Val) (vunit ∷ []) (vunit ∷ []) refl $
+    nothing ! $ nothing ! $ fjoin ! $ nothing ! $ fjoin ! $ nothing ! $ fjoin ! $
+    returns ! (look_at ! 0 refl) $ free_all ! refl $ keep ! (3 ∷ 0 ∷ 1 ∷ 2 ∷ []) $
+    by ! (leaves 𝓛 En hs c y vunit tt (tt, (tt, (tt, tt))) (tt, (tt, (tt, tt))))))))))))

@@ -1,0 +1,84 @@
+-- `alone` opens what a `&` shows of a free handle's seat, which cannot be on a block that is owed.
+use Rattle.std.proofs.Common.{◌≡◌, ◌≢◌, ℕ, ◌+◌, List, [], ◌∷◌, refl, sym, ◌∙◌}
+use mir.Syntax.{dcons, dnil, a_type, named}
+use mir.Val.{Val, vptr}
+use mir.MapTy.{inst_fn}
+use base.Logic.{SProp, emp}
+use base.Fml.{Lft, Share, Fml, ftrue, fsep, flft, fhide, finv, fshr_bor}
+use types.Kit.{‵, raw, ◌⊛◌, given, ◌$◌, ◌∵◌, !, qed, by, move, keep, drop, split, split3, join, fsplit, fsplit3, fjoin, fpick, use0, use1, use2, learn}
+use types.Run.{of_opd, returns, enter}
+use types.ByLocal.{alloc_all, pass_all, free_all, look_at, get, sets}
+use types.Tokens.{shr_bor-open, obor_close}
+use contract.Running.{tables}
+use contract.Monad.{fact, fact_i}
+use denote.Builtin.{RefOf}
+use denote.Exit.{yes, no}
+use denote.Memory.{hidden_shr}
+use denote.Opens.{unhide}
+use denote.Param.{param, bounded}
+use denote.RattleType.{RattleType, owns}
+use denote.RawPtr.{Ptr, block_of, count_of}
+use denote.Ref.{shr_vals, shr_Tells}
+use denote.Signature.{types_at, plain}
+use denote.Steps.{nothing, heard}
+use denote.Struct.Lending.{lent_out}
+use denote.Triple.Walked.{Stays, stay_dropped, walk_of, Goes-dropped}
+use Rattle.core.specs.contracts.marker.PhantomData as Marker
+use Rattle.atomic_table.proofs.Walks.{proved, leaves}
+use Rattle.arcstr_count.specs.declared.steps.HandleState.TheVariants.{Free}
+use Rattle.arcstr_block.specs.Rights.{Right, IsFree, owed}
+use Rattle.arcstr_block.specs.Book.{seat_share}
+use Rattle.arcstr_block.specs.Memory.{block_owns, block_shares}
+use Rattle.arcstr_block.specs.Ledger.{Inv, knows, names, pointer_shares}
+use Rattle.arcstr_block.specs.contracts.pointer.Pointer as C
+use Rattle.arcstr_block.proofs.Beside.{other_block}
+use Rattle.arcstr_block.proofs.Fields.{pointer_val, typed, Words, told}
+use Rattle.arcstr_block.proofs.Memory.{shares_laws}
+use Rattle.arcstr_block.proofs.Rights as rights
+use Rattle.arcstr_block.proofs.Seats.{seat_halves}
+use Rattle.arcstr_block.specs.contracts.pointer.Pointer.alone.{ended, clauses}
+use Rattle.arcstr_block.specs.contracts.pointer.Pointer.alone.Key.{name as #self}
+use Rattle.arcstr_block.proofs.pointer.Pointer.alone.Statement.{statement}
+use Rattle.arcstr_block.proofs.pointer.Pointer.alone.Code as code
+
+pub alone_spec : {M : Type 1} → statement M
+alone_spec 𝓤 𝓛 𝓜 𝓡 wired Y K g d dd met md =
+    let H = 𝓛.H in let 𝓣 = tables 𝓤 H 𝓜 𝓡 𝓡.env in let B : RattleType = param 0 Y in let En = ended Y g d dd in let c = clauses Y g d dd 𝓛 𝓜.mem 𝓡.returns in
+    let inst = bounded (a_type ∷ []) (Y, tt) (dcons d (dcons dd dnil)) in let fn = inst_fn inst code.function in
+    let closed = code.unfolded 𝓤 H 𝓜 𝓡 wired (Y, tt) d dd in
+    let Row : RattleType = C.the_row B g in let D : RattleType = Words B g in let self = plain (λ _. Row) in let other = RefOf (0 ∷ []) tt (plain (λ _. Row))
+    (λ _. tt) in
+    let hs : Stays En.signature.params En.kept = (stay_dropped self no, (stay_dropped other yes, tt)) in
+    proved 𝓛 En hs c 𝓜 𝓡 (Goes-dropped 𝓛 2 self no (λ κs x f. refl), (Goes-dropped 𝓛 2 other yes (λ κs x f. refl), tt)) (#self inst) fn closed
+    (λ κs. ((λ x. pointer_val x.at ∷ []), (shr_vals, tt))) (λ κs.
+    ((λ x vs so. told B g x.at vs so.0), (shr_Tells (named 0) κs.0 Row, tt))) (λ κs qs bounds a gh are.
+    let h : Row.Denot = a.0 in let p : Ptr = h.at in let vs : List Val = pointer_val p ∷ [] in let κ : Lft = κs.0 in let q : Share = qs.0 in
+    let others : Fml = fsep (flft κs.1.0 qs.1.0) ftrue in
+    let b : ℕ = a.1.0.ref_ptr.0 in let o : ℕ = a.1.0.ref_ptr.1 in let j : Row.Denot = a.1.0.now in let r : Ptr = j.at in let lim : ℕ = j.limit in
+    let right : Right = j.right in
+    let holds = g.dealloc_token j.home in let P : Fml = block_owns holds r j.text in let s : Lft → Fml = block_shares r j.text in
+    let rb : ℕ = block_of r in let ro : ℕ = count_of r + 0 in
+    let y : (walk_of 𝓛 En hs c).Ghost = ((κs, qs, bounds, a, (vs, (vptr b o ∷ [], tt))), gh) in let Post : Val → SProp 𝓤 = (walk_of 𝓛 En hs c).post y in
+    qed 𝓛 (((‵ (flft κ q) ⊛ ‵ others) ⊛ ‵ (owns (types_at En.signature.params κs) a y.0.4)) ∷ raw (fact 𝓤 _) ∷
+    raw (fact 𝓤 (h.right ≡ owed)) ∷ raw (fact 𝓤 (IsFree right)) ∷ []) ∵
+    keep ! (2 ∷ 3 ∷ 0 ∷ []) $ heard ! (h.right ≡ owed) (λ mine. heard ! (IsFree right) (λ may. split ! $ split ! $ move ! (2 ∷ []) $ fsplit3 ! $
+    move ! (1 ∷ []) $ fsplit ! $ keep ! (1 ∷ 2 ∷ 4 ∷ 5 ∷ []) $
+    -- [what the `&` shows; the owed pointer; κ; the others]
+    enter ! 𝓣.C 𝓣.Λ fn (pointer_val p ∷ vptr b o ∷ []) Post $ alloc_all ! (λ l. pass_all ! refl (typed p, ((tt, tt), tt)) $
+    use1 𝓛 (‵ (hidden_shr D κ (r, (tt, tt)) b o) ⊛ ‵ (fhide (pointer_shares holds lim r j.text right j.seat j.block j.history κ)))
+    (lent_out 𝓛 (C.struct B g) (C.the_codes Y.Denot B.coded (Marker.the_row B).coded) (C.the_heap B g) (C.the_lent B g) κ j b o) $
+    split ! $ drop ! $ unhide ! $ fsplit ! $ drop ! $ fpick ! (λ t. let I : Fml = Inv P lim rb ro t in let af : Lft = t.0 ∷ [] in fsplit ! $ fsplit ! $
+    fpick ! (λ is. drop ! $ drop ! $
+    use1 𝓛 (‵ (fshr_bor κ (λ u. flft af u)) ⊛
+    ‵ (fshr_bor κ (λ u. seat_share t.3 j.seat u Free)) ⊛ ‵ (knows t right) ⊛ ‵ (finv I) ⊛ ‵ (s af))
+    (rights.may_step 𝓛 P lim rb ro t s (shares_laws r j.text) j.seat right may κ) $
+    split3 ! $ drop ! $ move ! (1 ∷ []) $ drop ! $ move ! (0 ∷ 2 ∷ []) $ shr_bor-open ! tt (seat_halves 𝓛 t.3 j.seat Free) (λ u.
+    -- [the open seat; its share; the owed pointer; the others]
+    move ! (2 ∷ 1 ∷ []) $ use2 𝓛 (given (h.block ≢ names t) (‵ (Row.own_val h vs) ⊛ ‵ (seat_share t.3 j.seat u Free)))
+    (other_block 𝓛 B g h vs (names t) j.seat u mine) $ learn ! (λ away. split ! $
+    move ! (2 ∷ 1 ∷ []) $ obor_close ! tt $ drop ! $ move ! (0 ∷ 2 ∷ []) $ join ! $ move ! (1 ∷ 0 ∷ []) $
+    sets ! (of_opd ! (get ! refl)) refl (typed p) $
+    let Differ : Type 0 = h.block ≢ j.block in use0 𝓛 (raw (fact 𝓤 Differ)) (fact_i 𝓤 Differ (emp 𝓤) (λ e. away (e ∙ sym is))) $
+    use0 𝓛 (raw (fact 𝓤 (h ≡ h))) (fact_i 𝓤 (h ≡ h) (emp 𝓤) refl) $ join ! $
+    nothing ! $ nothing ! $ fjoin ! $ nothing ! $ fjoin ! $ returns ! (look_at ! 0 refl) $ free_all ! refl $ keep ! (3 ∷ 0 ∷ 2 ∷ 1 ∷ []) $
+    by ! (leaves 𝓛 En hs c y (pointer_val p) h (tt, (tt, tt)) (tt, (tt, tt)))))))))))

@@ -1,0 +1,98 @@
+-- `bytes` shows the bytes of the text, for as long as the pointer is borrowed.
+use Rattle.std.proofs.Common.{◌≡◌, ℕ, ◌+◌, ◌*◌, ◌^◌, ◌<◌, List, [], ◌∷◌, length, w64, arith, sym, refl, ap, ◌∙◌}
+use mir.Syntax.{dcons, dnil, a_type, named}
+use mir.Val.{Val, vint, vptr, WT}
+use mir.MapTy.{inst_fn}
+use base.Logic.{SProp, emp}
+use base.Fml.{Lft, Share, Fml, ftrue, fsep, flft, fhide, finv, fshr_bor}
+use types.Kit.{‵, raw, ◌⊛◌, at_ret, ◌$◌, ◌∵◌, !, qed, by, move, keep, drop, split, split3, join, fsplit, fjoin, fpick, use0, use1, use2, rewrite, feq_i, flt_i}
+use types.Run.{stop, fld, hop, addr, of_opd, no_more, and_then, first, blocks, exec, returns, enter}
+use types.ByLocal.{alloc_all, pass_all, free_all, look_at, get, through, sets, sets_last, env}
+use types.Part.{agg, sub, whole, look_in}
+use contract.Running.{tables}
+use contract.Monad.{fact, fact_i}
+use denote.Exit.{yes}
+use denote.RattleType.{RattleType, owns}
+use denote.Signature.{types_at, plain}
+use denote.RawPtr.{Ptr, block_ptr, block_of, count_of, at_block}
+use denote.Steps.{nothing, peeks, heard, looks, shuts}
+use denote.Opens.{unhide, hide}
+use denote.Moves.{moves_from}
+use contract.BorrowLft.{meet_⊑_left}
+use denote.Laws.{Is, shows}
+use denote.Memory.{cell_at, hidden_shr}
+use denote.Param.{param, bounded}
+use denote.Array.{Array}
+use denote.Builtin.{RefOf, u8, usize}
+use denote.Plain.{uint_vals, uint_Tells}
+use denote.Slice.{slice_val}
+use denote.Ref.{shr_vals, shr_Tells}
+use denote.Struct.Lending.{lent_at, lent_out}
+use denote.Triple.Walked.{Stays, stay_dropped, walk_of, Goes-dropped}
+use Rattle.core.proofs.atomic.Steps.{tail}
+use Rattle.core.specs.contracts.marker.PhantomData as Marker
+use Rattle.atomic_table.proofs.Walks.{proved, leaves}
+use Rattle.std.specs.Prelude.{IsUtf8}
+use Rattle.arcstr_block.specs.Rights.{MaySee, Right}
+use Rattle.arcstr_block.specs.Memory.{text_at, block_owns, block_shares}
+use Rattle.arcstr_block.specs.Ledger.{Inv, pointer_shares}
+use Rattle.arcstr_block.proofs.Memory.{shares_laws}
+use Rattle.arcstr_block.proofs.Rights as rights
+use Rattle.arcstr_block.specs.contracts.pointer.Pointer as C
+use Rattle.arcstr_block.proofs.Fields.{pointer_val, Words, told, opened}
+use Rattle.arcstr_block.specs.contracts.pointer.Pointer.bytes.{ended, clauses}
+use Rattle.arcstr_block.specs.contracts.pointer.Pointer.bytes.Key.{name as #self}
+use Rattle.arcstr_block.proofs.pointer.Pointer.bytes.Statement.{statement}
+use Rattle.arcstr_block.proofs.pointer.Pointer.bytes.Code as code
+
+pub bytes_spec : {M : Type 1} → statement M
+bytes_spec 𝓤 𝓛 𝓜 𝓡 wired Y K g d dd met md =
+    let H = 𝓛.H in let 𝓣 = tables 𝓤 H 𝓜 𝓡 𝓡.env in let B : RattleType = param 0 Y in let En = ended Y g d dd in let c = clauses Y g d dd 𝓛 𝓜.mem 𝓡.returns in
+    let inst = bounded (a_type ∷ []) (Y, tt) (dcons d (dcons dd dnil)) in let fn = inst_fn inst code.function in
+    let closed = code.unfolded 𝓤 H 𝓜 𝓡 wired (Y, tt) d dd in
+    let Row : RattleType = C.the_row B g in let D : RattleType = Words B g in let self = RefOf (0 ∷ []) tt (plain (λ _. Row)) (λ _. tt) in
+    let number = plain (λ _. usize) in
+    let hs : Stays En.signature.params En.kept = (stay_dropped self yes, (stay_dropped number yes, tt)) in
+    proved 𝓛 En hs c 𝓜 𝓡 (Goes-dropped 𝓛 2 self yes (λ κs x f. refl), (Goes-dropped 𝓛 2 number yes (λ κs x f. refl), tt)) (#self inst) fn closed
+    (λ κs. (shr_vals, (uint_vals w64, tt))) (λ κs. (shr_Tells (named 0) κs.0 Row, (uint_Tells w64, tt))) (λ κs qs bounds a gh are.
+    let b : ℕ = a.0.ref_ptr.0 in let o : ℕ = a.0.ref_ptr.1 in let κ : Lft = κs.0 in let q : Share = qs.0 in
+    let others : Fml = fsep (flft κs.1.0 qs.1.0) ftrue in
+    let h : Row.Denot = a.0.now in let p : Ptr = h.at in let right : Right = h.right in let lim : ℕ = h.limit in let holds = g.dealloc_token h.home in
+    let P : Fml = block_owns holds p h.text in let s : Lft → Fml = block_shares p h.text in
+    let sl = shares_laws p h.text in
+    let len : ℕ = a.1.0 in let xs : List ℕ = h.text in let n : ℕ = length xs in let fits : len < 2 ^ 64 = are.1.0.1 in let pb : ℕ = block_of p in
+    let po : ℕ = count_of p + 0 in
+    let y : (walk_of 𝓛 En hs c).Ghost = ((κs, qs, bounds, a, (vptr b o ∷ [], (vint w64 len ∷ [], tt))), gh) in
+    let Post : Val → SProp 𝓤 = (walk_of 𝓛 En hs c).post y in
+    qed 𝓛 (((‵ (flft κ q) ⊛ ‵ others) ⊛ ‵ (owns (types_at En.signature.params κs) a y.0.4)) ∷ raw (fact 𝓤 _) ∷ raw (fact 𝓤 (MaySee right)) ∷ raw (fact 𝓤
+    (len ≡ n)) ∷ []) ∵
+    keep ! (2 ∷ 3 ∷ 0 ∷ []) $ heard ! (MaySee right) (λ may. heard ! (len ≡ n) (λ long. split ! $ split ! $ move ! (2 ∷ []) $ fsplit ! $ fsplit ! $
+    keep ! (1 ∷ 3 ∷ 4 ∷ []) $
+    enter ! 𝓣.C 𝓣.Λ fn (vptr b o ∷ vint w64 len ∷ []) Post $ alloc_all ! (λ l. pass_all ! refl ((tt, tt), ((tt, record { fits = fits }), tt)) $
+    let Ev = env fn.locals l in
+    use1 𝓛 (‵ (hidden_shr D κ (p, (tt, tt)) b o) ⊛ ‵ (fhide (pointer_shares holds lim p h.text right h.seat h.block h.history κ)))
+    (lent_out 𝓛 (C.struct B g) (C.the_codes Y.Denot B.coded (Marker.the_row B).coded) (C.the_heap B g) (C.the_lent B g) κ h b o) $
+    split ! $ move ! (1 ∷ []) $ unhide ! $ fsplit ! $ fpick ! (λ inb. drop ! $ let at : p ≡ block_ptr pb (count_of p) = at_block p inb.0 in fpick ! (λ t.
+    let I : Fml = Inv P lim pb po t in let af : Lft = t.0 ∷ [] in
+    fsplit ! $ drop ! $ use1 𝓛 (‵ (fshr_bor κ (λ r. flft af r)) ⊛ ‵ (finv I) ⊛ ‵ (s af)) (rights.may_see 𝓛 P lim pb po t s sl h.seat right may κ) $ split3 ! $
+    -- [the share; the invariant; what is shared; the fields; κ; the others]
+    move ! (0 ∷ 2 ∷ []) $ use2 𝓛 (‵ (s κ)) (moves_from 𝓛 s sl κ af af (meet_⊑_left af κ)) $ fsplit ! $ drop ! $
+    rewrite ! 0 (λ (r : Ptr). ‵ (lent_at (Array u8 n) (text_at r) xs κ)) at refl $ fsplit ! $ drop ! $ fsplit ! $ drop ! $ hide ! $
+    -- [what is shown; the invariant; the fields; κ; the others]
+    move ! (2 ∷ 3 ∷ []) $ looks ! tt D (opened B g 𝓛) (p, (tt, tt)) b o (λ e vs. move ! (1 ∷ []) $ peeks ! D (Is D) (shows 𝓛 D) (p, (tt, tt)) vs (λ so.
+    let ev : vs ≡ pointer_val (block_ptr pb (count_of p)) ∷ [] = told B g p vs so ∙ ap (λ (r : Ptr). pointer_val r ∷ []) at in
+    let there : ℕ = count_of p + 16 in let whole_len : WT (vint w64 len) = record { fits = fits } in
+    rewrite ! 1 (λ (ws : List Val). ‵ (cell_at e D.mir ws b o)) ev refl $ first ! $ blocks ! $
+    sets ! (addr ! (through ! refl (fld ! refl (hop ! (look_in ! 1 (sub ! 0 refl (whole !))) (fld ! refl (stop !)))))) refl (tt, tt) $
+    sets_last ! (agg ! (and_then ! (get ! refl) (and_then ! (get ! refl) (no_more !)))) refl (tt, (tt, (whole_len, tt))) $
+    exec ! 𝓣.C 𝓣.Λ Ev (tail fn.body) (at_ret Ev Post) $
+    sets ! (of_opd ! (get ! refl)) refl (tt, (tt, (whole_len, tt))) $ rewrite ! 1 (λ (ws : List Val). ‵ (cell_at e D.mir ws b o)) (sym ev) refl $
+    move ! (1 ∷ 0 ∷ 2 ∷ []) $ shuts ! tt D e (p, (tt, tt)) vs b o $
+    -- [κ; the fields; what is shown; the invariant; the others]
+    move ! (0 ∷ 4 ∷ []) $ join ! $ move ! (2 ∷ []) $ flt_i ! (n * 1) (2 ^ 63) (let x = inb.1.0 in omega arith) $
+    flt_i ! n (2 ^ 64) (let x = inb.1.0 in omega arith) $ fjoin ! $
+    feq_i ! (List Val) (slice_val (pb, there) len ∷ []) (slice_val (pb, there) n ∷ []) (ap (λ k. slice_val (pb, there) k ∷ []) long) $ fjoin ! $ fjoin ! $
+    use0 𝓛 (raw (fact 𝓤 (IsUtf8 xs))) (fact_i 𝓤 (IsUtf8 xs) (emp 𝓤) inb.1.1) $ use0 𝓛 (raw (fact 𝓤 (xs ≡ xs))) (fact_i 𝓤 (xs ≡ xs) (emp 𝓤) refl) $ join ! $
+    nothing ! $ nothing ! $ fjoin ! $ nothing ! $ fjoin ! $
+    returns ! (look_at ! 0 refl) $ free_all ! refl $ keep ! (3 ∷ 0 ∷ 2 ∷ 1 ∷ []) $
+    by ! (leaves 𝓛 En hs c y (slice_val (pb, there) len) (record { ref_ptr = (pb, there); now = xs }) (tt, (tt, tt)) (tt, (tt, tt)))))))))))

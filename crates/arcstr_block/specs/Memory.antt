@@ -1,0 +1,74 @@
+-- The memory of a block: one piece, with the word at its address, the length of the text 8 bytes on, and the bytes of the text 16 bytes on.
+use Rattle.std.specs.Prelude.{ℕ, ◌+◌, ◌*◌, ◌/◌, ◌<◌, List, [], length, IsUtf8}
+use base.Fraction.{full_share}
+use base.Fml.{Lft, Fml, ftrue, fsep, fex, fwand, froom}
+use mir.Syntax.{Ty, w8, w64, ty_int, ty_array, ty_struct, tcons, tnil}
+use mir.Raw.{raw}
+use denote.RawPtr.{Ptr, InBlock, block_of, count_of, lies_at, ◌+ₚ◌}
+use denote.Builtin.{u8, usize}
+use denote.Array.{Array}
+use denote.Sharing.{beside}
+use denote.Struct.Lending.{lent_at}
+use Rattle.core.specs.Sync.RawAtomic.{word}
+
+-- a text of n bytes may lie in a block: it has fewer than 2 ^ 63 - 25 bytes
+abbrev pub Fits : ℕ → Type 0
+Fits n = n < 9223372036854775783
+
+-- the bytes are a text, in UTF-8, that may lie in a block
+abbrev pub IsText : List ℕ → Type 0
+IsText xs = Fits (length xs) × IsUtf8 xs
+
+-- the bytes of a block for a text of n bytes: 16 and the text, rounded up to a multiple of 8
+abbrev pub block_size : ℕ → ℕ
+block_size n = (16 + n + 7) / 8 * 8
+
+-- the type that the machine has for such a block
+abbrev pub block_type : ℕ → Ty
+block_type n = ty_struct [] (tcons (ty_int w64) (tcons (ty_int w64) (tcons (ty_array (ty_int w8) n) tnil)))
+
+abbrev pub length_at : Ptr → Ptr
+length_at p = p +ₚ 8
+
+abbrev pub text_at : Ptr → Ptr
+text_at p = p +ₚ 16
+
+-- room for the word, the length and the bytes, o bytes into the memory b
+abbrev pub rooms : ℕ → ℕ → ℕ → Fml
+rooms n b o = fsep (froom (ty_int w64) b (o + 0)) (fsep (froom (ty_int w64) b (o + 8)) (fsep (froom (ty_array (ty_int w8) n) b (o + 16)) ftrue))
+
+-- the word
+abbrev pub word_lies : Ptr → ℕ → Fml
+word_lies p n = word (block_of p) (count_of p + 0) n
+
+-- the length, which says n, and the bytes xs
+abbrev pub length_lies : Ptr → ℕ → Fml
+length_lies p n = lies_at usize full_share (length_at p) n
+
+abbrev pub text_lies : Ptr → List ℕ → Fml
+text_lies p xs = lies_at (Array u8 (length xs)) full_share (text_at p) xs
+
+-- the address is one in memory, and what is said of the text there
+abbrev pub placed : Ptr → Type 0 → Fml
+placed p said = fex (InBlock p × said) (λ _. ftrue)
+
+module _ (holds : Ty → Ptr → Fml) where
+  -- what is left of a block for n bytes: the way back from its three rooms to the whole, and the right to give it back
+  abbrev pub rim : ℕ → Ptr → Fml
+  rim n p = fsep (fwand (rooms n (block_of p) (count_of p)) (froom (raw (block_type n)) (block_of p) (count_of p))) (holds (raw (block_type n)) p)
+
+  -- what a block owns beside its word: the length, the bytes and the rim
+  abbrev pub block_owns : Ptr → List ℕ → Fml
+  block_owns p xs = fsep (length_lies p (length xs)) (fsep (text_lies p xs) (rim (length xs) p))
+
+  -- a block whose bytes are elsewhere
+  abbrev pub blank_owns : Ptr → ℕ → ℕ → Fml
+  blank_owns p w n = fsep (placed p (Fits n)) (fsep (word_lies p w) (fsep (length_lies p n) (rim n p)))
+
+  -- a block that one owner has alone
+  abbrev pub sole_owns : Ptr → ℕ → List ℕ → Fml
+  sole_owns p w xs = fsep (placed p (Fits (length xs))) (fsep (word_lies p w) (block_owns p xs))
+
+-- what is shared of a block: the length and the bytes
+abbrev pub block_shares : Ptr → List ℕ → Lft → Fml
+block_shares p xs = beside (lent_at usize (length_at p) (length xs)) (lent_at (Array u8 (length xs)) (text_at p) xs)
