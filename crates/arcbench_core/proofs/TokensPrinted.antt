@@ -11,7 +11,8 @@ use Rattle.arcbench_core.specs.Line.{lines_of}
 use Rattle.arcbench_core.specs.TokenLines.{IsTokenAnswer, word_line, word_lines, lines_from, texts_of, slice_line, slice_lines, lines_of_lists}
 
 -- one slice more
-slice_lines-push : (number : ℕ) (slices : List SubstrView) (slice : SubstrView) → slice_lines number (slices ++ slice ∷ []) ≡ slice_lines number slices ++ slice_line number slice
+slice_lines-push : (number : ℕ) (slices : List SubstrView) (slice : SubstrView)
+    → slice_lines number (slices ++ slice ∷ []) ≡ slice_lines number slices ++ slice_line number slice
 slice_lines-push number slices slice =
     let line : SubstrView → List ℕ = slice_line number in
     ap concat (map-append line slices (slice ∷ [])) ∙ concat-append (map line slices) (line slice ∷ [])
@@ -24,7 +25,8 @@ slice_lines-more number slices k slice within read =
     ∙ ap (λ s. slice_lines number (take k slices) ++ slice_line number s) (sym read)
 
 -- what is appended after what was appended before
-pub appended-more : (start before after passed line all : List ℕ) → after ≡ before ++ line → before ≡ start ++ passed → all ≡ passed ++ line → after ≡ start ++ all
+pub appended-more : (start before after passed line all : List ℕ) → after ≡ before ++ line
+    → before ≡ start ++ passed → all ≡ passed ++ line → after ≡ start ++ all
 appended-more start before after passed line all grown so_far more =
     grown ∙ ap (λ front. front ++ line) so_far ∙ append_assoc start passed line ∙ ap (λ lines. start ++ lines) (sym more)
 

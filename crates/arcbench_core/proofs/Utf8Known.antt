@@ -23,7 +23,8 @@ says_of_input None read P same says = tt
 says_of_input (Some bytes) read P same says = subst (λ (b : List ℕ). P ↔ ¬ (IsUtf8 b)) same says
 
 -- the status 6 stands for the fault
-pub says_by_status : (known : Option (List ℕ)) (done : Result (Unit {0}) Fault) (status : ℕ) → OnOk done (status ≡ 0) → IfErr done (λ fault. status ≡ status_of fault)
+pub says_by_status : (known : Option (List ℕ)) (done : Result (Unit {0}) Fault) (status : ℕ) → OnOk done (status ≡ 0)
+    → IfErr done (λ fault. status ≡ status_of fault)
     → (done ≢ Err (Copy Memory) → done ≢ Err (Copy Io) → SaysNotUtf8 known (done ≡ Err NotUtf8))
     → status ≢ 3 → status ≢ 4 → SaysNotUtf8 known (status ≡ 6)
 says_by_status known (Ok u) status ok err says no_memory no_io =

@@ -6,7 +6,8 @@ use Rattle.std.specs.Str.{chars, all_scalars, IsUtf8, IsAscii, IsCharBoundary}
 use Rattle.std.proofs.lemmas.Bool.{and_parts}
 use Rattle.std.proofs.lemmas.List.{append-nil, drop_more, take_at}
 use lib.Utf8.{scalar}
-use Rattle.std.proofs.lemmas.Str.{cons_from_encodes, IsUtf8-encode, IsUtf8-drop, IsCharBoundary-after_ascii, IsCharBoundary-past_char, chars-IsAscii, chars-nil, chars_past_char, len_utf8_bounds, length-encode}
+use Rattle.std.proofs.lemmas.Str.{IsUtf8-encode, IsUtf8-drop, IsCharBoundary-after_ascii, IsCharBoundary-past_char, cons_from_encodes}
+use Rattle.std.proofs.lemmas.Str.{chars-IsAscii, chars-nil, chars_past_char, len_utf8_bounds, length-encode}
 use Rattle.arcstr_range.specs.Text.{cut}
 use Rattle.arctokens.specs.Runs.{IsCharacterBetween}
 
@@ -19,7 +20,8 @@ pub ascii_between : (text : List ℕ) (place : ℕ) → IsUtf8 text → place < 
     → IsCharacterBetween text place (place + 1) (is_whitespace (get_or text place 0))
 ascii_between text place utf8 inside low =
     let width : place + 1 - place ≡ 1 = omega arith in
-    let one : cut text place (place + 1) ≡ get_or text place 0 ∷ [] = ap (λ n. take n (drop place text)) width ∙ ap (λ rest. take 1 rest) (drop_more text place 0 inside) in
+    let one : cut text place (place + 1) ≡ get_or text place 0 ∷ [] =
+    ap (λ n. take n (drop place text)) width ∙ ap (λ rest. take 1 rest) (drop_more text place 0 inside) in
     record {
       in_order = omega arith;
       at_end = IsCharBoundary-after_ascii text place utf8 inside low;

@@ -9,3 +9,4 @@ pub mod TokensBefore
 pub mod Turns
 pub mod PieceSteps
 pub mod ListsTaken
+pub mod VisibleLanes

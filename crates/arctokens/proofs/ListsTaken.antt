@@ -1,5 +1,6 @@
 -- How the lists of all pieces are put into the order of the texts.
-use Rattle.std.proofs.Common.{◌≡◌, ◌≢◌, ◌⊎◌, inl, inr, ℕ, ◌+◌, ◌/◌, ◌%◌, ◌<◌, ◌≤◌, List, [], ◌∷◌, ◌++◌, length, get_or, set, take, refl, sym, ap, subst, ◌∙◌, arith}
+use Rattle.std.proofs.Common.{◌≡◌, ◌≢◌, ◌⊎◌, inl, inr, ℕ, ◌+◌, ◌/◌, ◌%◌, ◌<◌, ◌≤◌, List, [], ◌∷◌, ◌++◌, length, get_or, set, take}
+use Rattle.std.proofs.Common.{refl, sym, ap, subst, ◌∙◌, arith}
 use Rattle.std.specs.Prelude.{Vec}
 use Rattle.std.specs.declared.alloc.Global.{Global}
 use Rattle.std.proofs.lemmas.Bool.{cases_eq}
@@ -18,7 +19,8 @@ pub record AreLeft (texts : List TextView) (workers number : ℕ) (pieces : List
       → HasTokensOf texts other (get_or pieces (other % workers) d).items (other / workers)
 
 -- at first all are left
-pub AreLeft-all : (texts : List TextView) (workers : ℕ) (pieces : List (Vec TokenList Global)) → 0 < workers → ArePieces texts workers pieces → AreLeft texts workers 0 pieces
+pub AreLeft-all : (texts : List TextView) (workers : ℕ) (pieces : List (Vec TokenList Global)) → 0 < workers
+    → ArePieces texts workers pieces → AreLeft texts workers 0 pieces
 AreLeft-all texts workers pieces some are =
     record {
       one_each = are.one_each;
@@ -67,7 +69,9 @@ pub taken_tokens : (texts : List TextView) (workers number : ℕ) (pieces : List
     → AreLeft texts workers number pieces → number < length texts → piece ≡ get_or pieces (number % workers) piece
     → found ≡ get_or piece.items (number / workers) found → list ≡ found → (text : TextView) → AreTokens (get_or texts number text) list.items
 taken_tokens texts workers number pieces piece found list are within read_piece read_list same text =
-    let has = subst (λ (v : Vec TokenList Global). HasTokensOf texts number v.items (number / workers)) (sym read_piece) (are.left number piece (omega arith) within) in
+    let has =
+    subst (λ (v : Vec TokenList Global). HasTokensOf texts number v.items (number / workers)) (sym read_piece)
+    (are.left number piece (omega arith) within) in
     subst (λ (l : TokenList). AreTokens (get_or texts number text) l.items) (sym (same ∙ read_list)) (has.tokens text found)
 
 -- one more text and its list

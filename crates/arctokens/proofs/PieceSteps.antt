@@ -82,7 +82,8 @@ ArePiecesOfFirst-more texts workers count pieces pushed piece are next grown =
         → IsPiece texts workers worker (get_or (pieces ++ piece ∷ []) worker d).items
     by_place worker d (inl early) below =
         let within : worker < length pieces = omega (arith, are.one_each) in
-        subst (λ (v : Vec TokenList Global). IsPiece texts workers worker v.items) (sym (get_or_append_left pieces (piece ∷ []) d worker within)) (are.piece worker d early)
+        subst (λ (v : Vec TokenList Global). IsPiece texts workers worker v.items) (sym (get_or_append_left pieces (piece ∷ []) d worker within))
+        (are.piece worker d early)
     by_place worker d (inr late) below =
         let here : worker ≡ count = omega arith in
         subst (λ (v : Vec TokenList Global). IsPiece texts workers worker v.items) (sym (get_or_push pieces piece d worker (are.one_each ∙ sym here)))

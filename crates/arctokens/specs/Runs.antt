@@ -1,5 +1,5 @@
 -- Runs of a text: characters that are all white space, or of which none is.
-use Rattle.std.specs.Prelude.{◌≡◌, ◌⊎◌, ℕ, ◌<◌, ◌≤◌, List, [], ◌∷◌, ◌++◌, length, Bool, not, All}
+use Rattle.std.specs.Prelude.{◌≡◌, ◌⊎◌, ℕ, ◌<◌, ◌≤◌, List, [], ◌∷◌, ◌++◌, length, Bool, not, ◌&&◌, nat_lt, IsTrue, All}
 use Rattle.std.specs.Char.{is_whitespace}
 use Rattle.std.specs.Str.{IsCharBoundary, chars}
 use Rattle.arcstr_range.specs.Text.{cut}
@@ -12,6 +12,13 @@ pub record IsCharacterBetween (text : List ℕ) (start end : ℕ) (white : Bool)
   pub character : ℕ
   pub alone : chars (cut text start end) ≡ character ∷ []
   pub kind : is_whitespace character ≡ white
+
+-- a byte is a visible ASCII character, or the one after them
+abbrev pub is_visible : ℕ → Bool
+is_visible byte = nat_lt 32 byte && nat_lt byte 128
+
+abbrev pub IsVisible : ℕ → Type 0
+IsVisible byte = IsTrue (is_visible byte)
 
 -- the first character after the place is white space or is not
 pub record IsFirstAfter (text : List ℕ) (place : ℕ) (white : Bool) : Type 0 where

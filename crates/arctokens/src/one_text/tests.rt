@@ -2,6 +2,7 @@ use super::tokens;
 use crate::test_steps::{Wanted, check_count, check_tokens, made};
 use arcstr::ArcStr;
 use std::alloc::AllocGlobal;
+use std::ops::Range;
 use std::process::Abort;
 use std::sync::Wait;
 use std::test::Fail;
@@ -77,6 +78,53 @@ fn each_white_space_is_a_separator(rt: HostRuntime) -> Result<(), Fail> {
 fn other_characters_are_no_separators(rt: HostRuntime) -> Result<(), Fail> {
     for between in OTHERS {
         assert_eq!(rt; count_across(&rt, between)?, 1);
+    }
+    Ok(())
+}
+
+/// The places of the tokens of a text of 40 letters with one character in place of one of them.
+fn places_with<R: Abort + AllocGlobal + Wait>(
+    rt: &R,
+    place: usize,
+    other: char,
+) -> Result<Vec<Range<usize>>, Fail> {
+    let mut text = String::new(rt.alloc());
+    for at in 0..40 {
+        text.push(if at == place { other } else { 'x' })?;
+    }
+    let mut places = Vec::new(rt.alloc());
+    for token in tokens(rt, rt.alloc(), &made(rt, text.as_str()))? {
+        places.push(token.range())?;
+    }
+    Ok(places)
+}
+
+#[test]
+fn white_space_at_each_place_of_a_long_word(rt: HostRuntime) -> Result<(), Fail> {
+    for place in 1..39 {
+        let ascii = places_with(&rt, place, '\u{b}')?;
+        assert!(rt;
+            ascii.as_slice() == [0..place, place + 1..40].as_slice(),
+            "{place}"
+        );
+        let wide = places_with(&rt, place, '\u{3000}')?;
+        assert!(rt;
+            wide.as_slice() == [0..place, place + 3..42].as_slice(),
+            "{place}"
+        );
+    }
+    Ok(())
+}
+
+#[test]
+fn other_characters_at_each_place_of_a_long_word(rt: HostRuntime) -> Result<(), Fail> {
+    for place in 0..40 {
+        let control = places_with(&rt, place, '\u{1f}')?;
+        assert!(rt; control.as_slice() == [0..40].as_slice(), "{place}");
+        let deleted = places_with(&rt, place, '\u{7f}')?;
+        assert!(rt; deleted.as_slice() == [0..40].as_slice(), "{place}");
+        let wide = places_with(&rt, place, 'é')?;
+        assert!(rt; wide.as_slice() == [0..41].as_slice(), "{place}");
     }
     Ok(())
 }

@@ -10,5 +10,6 @@ returns-clause-not_utf8 g c no_memory no_io (n, tokens) =
       | in-Some-Script w ↦ absurd (cc)
       | in-Some-Threads w ↦ absurd (cc)
       | in-Some-Tokens w ↦
-          says_by_status _ c.match-command_of.done c.status_after.result c.status_after.ensures.ok c.status_after.ensures.fault (rw w.done-is w.tell_tokens-done.ensures.not_utf8) no_memory no_io
+          says_by_status _ c.match-command_of.done c.status_after.result c.status_after.ensures.ok c.status_after.ensures.fault
+          (rw w.done-is w.tell_tokens-done.ensures.not_utf8) no_memory no_io
     ]

@@ -15,7 +15,7 @@ loop-thread-preserved g c =
     record {
       shares =
           subst (λ n. AreSharesOfFirst c.args.texts.now c.args.workers n c.push_reserved.new.self.items) (sym grown)
-          (AreSharesOfFirst-more c.args.texts.now c.args.workers count c.loop-thread.shares.items c.push_reserved.new.self.items c.share_of.result before.shares share
-          c.push_reserved.ensures.items);
+          (AreSharesOfFirst-more c.args.texts.now c.args.workers count c.loop-thread.shares.items c.push_reserved.new.self.items
+          c.share_of.result before.shares share c.push_reserved.ensures.items);
       room = omega (arith, c.push_reserved.ensures.capacity, before.room);
     }

@@ -1,0 +1,12 @@
+use Rattle.arctokens.proofs.RunSteps.{AreAlike-passed_none, AreAlike-visible}
+use Rattle.arctokens.proofs.words.passed_at.Goals as goal
+
+pub returns-then-white-clause-alike : goal.returns-then-white-clause-alike
+returns-then-white-clause-alike c = AreAlike-passed_none c.args.text.now c.args.place c.args.white c.requires.boundary
+
+pub returns-else-white-clause-alike : goal.returns-else-white-clause-alike
+returns-else-white-clause-alike c =
+    let text = c.args.text.now in
+    let front = rw c.as_bytes.ensures.value at c.visible_front.ensures in
+    rw c.if-white.false
+    (AreAlike-visible text c.args.place c.visible_front.result c.utf8.text c.requires.boundary front.inside front.visible)
