@@ -3,7 +3,7 @@ use Rattle.std.proofs.Common.{◌≡◌, ◌⊎◌, inl, inr, ℕ, ◌+◌, ◌/
 use Rattle.std.specs.Prelude.{Vec}
 use Rattle.std.specs.declared.alloc.Global.{Global}
 use Rattle.std.proofs.lemmas.Bool.{cases_lt}
-use Rattle.std.proofs.lemmas.List.{get_or_read, get_or_append_left, get_or_push, length_push}
+use Rattle.std.proofs.lemmas.List.{get_or_append_left, get_or_push, length_push}
 use Rattle.arcstr.specs.TextView.{TextView}
 use Rattle.arctokens.specs.Tokens.{AreTokens, TokenList}
 use Rattle.arctokens.specs.Pieces.{HasTokensOf, IsPiece, ArePiecesOfFirst}
@@ -46,10 +46,10 @@ added texts number lists list are =
     }
 
 -- the tokens of the worker's next text
-pub IsPieceBefore-more : (texts : List TextView) (workers worker number : ℕ) (lists pushed : List TokenList) (text : TextView) (list : TokenList)
-    → 0 < workers → IsPieceBefore texts workers worker number lists → number < length texts → text ≡ get_or texts number text
-    → AreTokens text list.items → pushed ≡ lists ++ list ∷ [] → IsPieceBefore texts workers worker (number + workers) pushed
-IsPieceBefore-more texts workers worker number lists pushed text list some piece within read are grown =
+pub IsPieceBefore-more : (texts : List TextView) (workers worker number : ℕ) (lists pushed : List TokenList) (list : TokenList)
+    → 0 < workers → IsPieceBefore texts workers worker number lists → ((text : TextView) → AreTokens (get_or texts number text) list.items)
+    → pushed ≡ lists ++ list ∷ [] → IsPieceBefore texts workers worker (number + workers) pushed
+IsPieceBefore-more texts workers worker number lists pushed list some piece are grown =
     subst (IsPieceBefore texts workers worker (number + workers)) (sym grown) (record {
       turn = next_turn workers number ∙ piece.turn;
       row = omega (arith, next_row workers number some, piece.row, length_push lists list);
@@ -60,7 +60,7 @@ IsPieceBefore-more texts workers worker number lists pushed text list some piece
     by_case other turn (inl same) =
         subst (λ n. HasTokensOf texts n (lists ++ list ∷ []) (n / workers)) (sym same)
         (subst (λ r. HasTokensOf texts number (lists ++ list ∷ []) r) (sym piece.row)
-        (added texts number lists list (λ d. subst (λ (t : TextView). AreTokens t list.items) (get_or_read texts number text within read d) are)))
+        (added texts number lists list are))
     by_case other turn (inr early) = kept texts other (other / workers) lists list (piece.before other early turn)
 
 -- all its texts

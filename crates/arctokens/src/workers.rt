@@ -1,7 +1,8 @@
 //! Workers that find the tokens of many texts, each in a thread of its own.
-ghost use Rattle.std.specs.Prelude.{◌≡◌, ◌≤◌, ◌<◌, ℕ, List, IfOk, IfSome, vec_len, vec_capacity, slice_index_or};
+ghost use Rattle.std.specs.Prelude.{◌≡◌, ◌≤◌, ◌<◌, ℕ, List, length, IfOk, IfSome, vec_len, vec_capacity, slice_index_or};
 ghost use Rattle.arcstr.specs.TextView.{TextView};
 ghost use Rattle.arctokens.specs.Pieces.{ArePieces, IsPieceOf};
+ghost use Rattle.arctokens.specs.Tokens.{AreTokens};
 ghost use Rattle.arctokens.specs.Shares.{AreSharesOfFirst, IsPromiseOf, IsShare};
 
 use crate::many_texts::Gate;
@@ -156,10 +157,23 @@ fn piece_of<R: Wait, G: Gate>(
     let mut lists = Vec::new(alloc);
     let mut number = worker;
     while number < texts.len() {
-        lists.push(tokens(rt, alloc, &texts[number])?)?;
+        lists.push(tokens_of_one(rt, alloc, texts, number)?)?;
         number += workers;
     }
     Ok(lists)
+}
+
+/// The tokens of the text with this number.
+fn tokens_of_one<R: Wait>(
+    rt: &R,
+    alloc: Global,
+    texts: &[ArcStr],
+    number: usize,
+) -> Result<Vec<Substr>, AllocError>
+    requires { number < length texts.now }
+    ensures { IfOk result (λ tokens. (d : TextView) → AreTokens (slice_index_or texts.now number d) tokens.items) }
+{
+    tokens(rt, alloc, &texts[number])
 }
 
 /// Joins each thread, and only then tells whether memory was refused to any worker.
