@@ -7,6 +7,7 @@ use Rattle.arcstr_count.specs.declared.steps.Reply.TheVariants.{Ended, Looked as
 use Rattle.arcstr_count.specs.Word.{looked_of}
 use Rattle.arcstr_count.specs.OneBlock.{EndsIn, look_reply}
 use Rattle.arcstr_block.specs.Word.{word_of, IsMarked, IsUnmarked, IsLast}
+use Rattle.arcstr_block.specs.Handle.{IsMarkedIn}
 use Rattle.arcstr_block.specs.declared.pointer.Pointer.{Pointer}
 
 -- the history ends in a look of the handle h that found the word; of a clone's load, which gives birth to a handle, nothing is said
@@ -35,9 +36,9 @@ module _ {A : Type 0} where
   abbrev pub LoadedAs : Bool → Pointer A → ℕ → Pointer A → Type 0
   LoadedAs clones p word q = LoadEnds clones p.limit p.seat word q.history
 
-  -- the mark by p
+  -- the mark by p, by which the block is marked
   abbrev pub Leaked : Pointer A → Pointer A → Type 0
-  Leaked p q = SawStep p q (Leak p.seat) Marked
+  Leaked p q = SawStep p q (Leak p.seat) Marked × IsMarkedIn q.limit q.history
 
   -- the look of p's drop
   abbrev pub BegunAs : Pointer A → ℕ → Pointer A → Type 0

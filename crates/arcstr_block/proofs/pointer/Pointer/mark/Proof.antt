@@ -42,6 +42,8 @@ use Rattle.arcstr_block.specs.Book.{seat_share, Ends}
 use Rattle.arcstr_count.specs.declared.steps.Step.TheVariants.{Leak}
 use Rattle.arcstr_count.specs.declared.steps.Reply.TheVariants.{Marked}
 use Rattle.arcstr_block.proofs.Book.{book_mark}
+use Rattle.arcstr_block.specs.Handle.{IsMarkedIn}
+use Rattle.arcstr_block.proofs.Marked.{marked_by_leak}
 use Rattle.arcstr_block.proofs.Rights as rights
 use Rattle.arcstr_block.proofs.Steps as steps
 use Rattle.arcstr_block.proofs.Changes as changes
@@ -116,8 +118,8 @@ mark_spec 𝓤 𝓛 𝓜 𝓡 wired Y K g d dd met md =
     -- [the beginning; the right; the tokens; the invariant]
     let h' : Row.Denot = record h { right = k; seat = 0; history = r' } in let r : Val = pointer_val p in
     move ! (1 ∷ 3 ∷ 0 ∷ []) $ use3 𝓛 (‵ (Row.own_val h' (pointer_val p ∷ []))) (framed.pointer_in 𝓛 B g h' t named inb) $
-    let Same : Type 0 = (h.home ≡ h.home) × (h.text ≡ h.text) × (lim ≡ lim) × (h.block ≡ h.block) in let Saw : Type 0 = EndsIn lim r' (Leak h.seat) Marked in
+    let Same : Type 0 = (h.home ≡ h.home) × (h.text ≡ h.text) × (lim ≡ lim) × (h.block ≡ h.block) in let Saw : Type 0 = EndsIn lim r' (Leak h.seat) Marked × IsMarkedIn lim r' in
     use0 𝓛 (raw (fact 𝓤 (k ≡ fixed)) ⊛ raw (fact 𝓤 Saw) ⊛ raw (fact 𝓤 Same))
-    (framed.three 𝓛 got.said ends (refl, refl, refl, refl)) $
+    (framed.three 𝓛 got.said (ends, marked_by_leak lim r' h.seat ends) (refl, refl, refl, refl)) $
     nothing ! $ nothing ! $ fjoin ! $ returns ! (look_at ! 0 refl) $ free_all ! refl $ keep ! (3 ∷ 0 ∷ 2 ∷ 1 ∷ []) $
     by ! (leaves 𝓛 En hs c y r h' (tt, tt) (tt, tt)))))))))))))))))
