@@ -18,6 +18,7 @@ use Rattle.arcstr_block.specs.Rights.{Right, Loads}
 use Rattle.arcstr_block.specs.Book.{Book, reached, seat_share, Ends}
 use Rattle.arcstr_block.specs.Ledger.{Id, fact, right_to}
 use Rattle.arcstr_block.proofs.Book.{book_look}
+use Rattle.arcstr_block.proofs.Marked.{marked_by_word}
 use Rattle.arcstr_block.proofs.Turns.{finds}
 use Rattle.arcstr_block.proofs.Steps.{Gain, none, share, gained}
 use Rattle.arcstr_block.proofs.Rights.{Becomes, newborn, looked, found}
@@ -77,6 +78,6 @@ module _ {M : Type 1} {𝓤 : Ura M} (𝓛 : Logic 𝓤) (P : Fml) (L b o : ℕ)
     turns = qed 𝓛 (‵ (gained 𝓛 P L b o t g) ∷ ‵ (s (t.0 ∷ [])) ∷ ‵ (entered false n) ∷ ‵ (reached t.2 r) ∷ []) ∵ updating ! $
         use2 𝓛 (later (‵ (right_to P L b o t s 0 got.right))) got.turns $ await ! tt $ move ! (1 ∷ []) $ fpick ! (λ r'. fsplit ! $ fpick ! (λ ends. drop ! $
         fjoin ! $
-        nothing ! $ fpack ! (LoadEnds false L h n r') (λ _. ftrue) ends $ fjoin ! $ fpack ! (ℕ × List Step) (right_after false n got.right) (0, r') $ now ! $
+        nothing ! $ fpack ! (LoadEnds false L h n r') (λ _. ftrue) (ends, marked_by_word L n r' h ends) $ fjoin ! $ fpack ! (ℕ × List Step) (right_after false n got.right) (0, r') $ now ! $
         keep ! (0 ∷ []) $ done !));
   }

@@ -57,6 +57,3 @@ pub marked_by_word : (limit n : ℕ) (history : List Step) (h : ℕ) → EndsIn 
     → IsMarkedIn limit history
 marked_by_word limit n history h ends odd =
     marked_by_look limit history h (subst (EndsIn limit history (Look h)) (ap (λ (w : FlagAndCount). look_reply (looked_of w)) (marked_word n odd)) ends)
-
-pub at_same_limit : (limit limit' : ℕ) (history : List Step) → limit' ≡ limit → IsMarkedIn limit history → IsMarkedIn limit' history
-at_same_limit limit limit' history same = subst (λ l. IsMarkedIn l history) (sym same)

@@ -10,10 +10,11 @@ use Rattle.arcstr_block.specs.Word.{word_of, IsMarked, IsUnmarked, IsLast}
 use Rattle.arcstr_block.specs.Handle.{IsMarkedIn}
 use Rattle.arcstr_block.specs.declared.pointer.Pointer.{Pointer}
 
--- the history ends in a look of the handle h that found the word; of a clone's load, which gives birth to a handle, nothing is said
+-- the history ends in a look of the handle h that found the word, and has marked its block where that is marked; of a clone's load,
+-- which gives birth to a handle, nothing is said
 abbrev pub LoadEnds : Bool → ℕ → ℕ → ℕ → List Step → Type 0
 LoadEnds true limit h word history = Unit {0}
-LoadEnds false limit h word history = EndsIn limit history (Look h) (look_reply (looked_of (word_of word)))
+LoadEnds false limit h word history = EndsIn limit history (Look h) (look_reply (looked_of (word_of word))) × (IsMarked word → IsMarkedIn limit history)
 
 module _ {A : Type 0} where
   -- They have one allocator, one content, one limit, and one history.
@@ -28,9 +29,9 @@ module _ {A : Type 0} where
   abbrev pub SawStep : Pointer A → Pointer A → Step → Reply → Type 0
   SawStep p q s reply = EndsIn p.limit q.history s reply
 
-  -- a look of p that found the word
+  -- a look of p that found the word: a marked one tells that the block is marked
   abbrev pub Looked : Pointer A → ℕ → Pointer A → Type 0
-  Looked p word q = SawStep p q (Look p.seat) (look_reply (looked_of (word_of word)))
+  Looked p word q = SawStep p q (Look p.seat) (look_reply (looked_of (word_of word))) × (IsMarked word → IsMarkedIn q.limit q.history)
 
   -- a load of p that found the word, of a clone or a look
   abbrev pub LoadedAs : Bool → Pointer A → ℕ → Pointer A → Type 0
