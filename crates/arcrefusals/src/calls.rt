@@ -1,5 +1,5 @@
 //! The calls that are made, and the line of each.
-use crate::stop::Stop;
+use crate::stop::{Stop, is_refused};
 use crate::{copies, making, sharing};
 use std::alloc::Global;
 use std::io;
@@ -112,9 +112,9 @@ impl Call {
     /// Makes the call until it is not refused, and answers how it ended.
     pub(crate) fn again<R: Sync + Threads + Wait>(self, rt: &R, alloc: Global) -> Result<(), Stop> {
         for _ in 0..TRIES {
-            match self.once(rt, alloc) {
-                Err(Stop::Refused) => {}
-                ended => return ended,
+            let ended = self.once(rt, alloc);
+            if !is_refused(ended) {
+                return ended;
             }
         }
         Err(Stop::Refused)
@@ -125,7 +125,7 @@ impl Call {
         let line = self.line();
         match ended {
             Ok(()) => println!(rt; "{line}"),
-            Err(stop) => println!(rt; "{line}: NOT SO: {stop}"),
+            Err(stop) => println!(rt; "{line}: not so: {stop}"),
         }
     }
 }

@@ -1,21 +1,21 @@
 //! Calls that copy a shared text or a JSON value. What they copy stands after each refusal, and is copied
 //! again.
 use crate::calls::TRIES;
-use crate::making::check_text;
-use crate::stop::{Part, Stop, check};
+use crate::making::{check_made, check_slice_made, check_text};
+use crate::stop::{Part, Stop, check, is_refused};
 use arcstr::{ArcStr, Substr};
 use serde_json::Value;
-use std::alloc::Global;
+use std::alloc::{AllocError, Global};
 use std::borrow::CowStr;
 use std::sync::Wait;
 
 pub(crate) fn text_to_string(alloc: Global) -> Result<(), Stop> {
     let text = ArcStr::from_str(alloc, "foobar")?;
     for _ in 0..TRIES {
-        let copy = text.to_string(alloc);
+        let ended = check_copy(text.to_string(alloc), "foobar");
         check_text(&text, "foobar", 1)?;
-        if let Ok(copy) = copy {
-            return check(Part::Copy, copy.as_str() == "foobar");
+        if !is_refused(ended) {
+            return ended;
         }
     }
     Err(Stop::Refused)
@@ -24,10 +24,10 @@ pub(crate) fn text_to_string(alloc: Global) -> Result<(), Stop> {
 pub(crate) fn text_to_json(alloc: Global) -> Result<(), Stop> {
     let text = ArcStr::from_str(alloc, "foobar")?;
     for _ in 0..TRIES {
-        let value = text.to_json(alloc);
+        let ended = check_written(text.to_json(alloc), "foobar");
         check_text(&text, "foobar", 1)?;
-        if let Ok(value) = value {
-            return check_value(&value, "foobar");
+        if !is_refused(ended) {
+            return ended;
         }
     }
     Err(Stop::Refused)
@@ -40,14 +40,12 @@ pub(crate) fn text_into_cow(rt: &impl Wait, alloc: Global) -> Result<(), Stop> {
     for _ in 0..TRIES {
         match text.into_cow(alloc) {
             Ok(cow) => {
-                check_owned(cow, "foobar")?;
-                return check_text(&other, "foobar", 1);
+                check_text(&other, "foobar", 1)?;
+                return check_owned(cow, "foobar");
             }
-            Err(back) => {
-                check_text(&back, "foobar", 2)?;
-                text = back;
-            }
+            Err(back) => text = back,
         }
+        check_text(&text, "foobar", 2)?;
     }
     Err(Stop::Refused)
 }
@@ -55,10 +53,10 @@ pub(crate) fn text_into_cow(rt: &impl Wait, alloc: Global) -> Result<(), Stop> {
 pub(crate) fn text_from_json(alloc: Global) -> Result<(), Stop> {
     let value = Value::try_from_str(alloc, "foobar")?;
     for _ in 0..TRIES {
-        let text = ArcStr::from_json(alloc, &value);
+        let ended = check_made(ArcStr::from_json(alloc, &value), "foobar");
         check_value(&value, "foobar")?;
-        if let Ok(text) = text {
-            return check_text(&text, "foobar", 1);
+        if !is_refused(ended) {
+            return ended;
         }
     }
     Err(Stop::Refused)
@@ -67,10 +65,10 @@ pub(crate) fn text_from_json(alloc: Global) -> Result<(), Stop> {
 pub(crate) fn slice_to_string(alloc: Global) -> Result<(), Stop> {
     let slice = bar_of_foobar(alloc)?;
     for _ in 0..TRIES {
-        let copy = slice.to_string(alloc);
+        let ended = check_copy(slice.to_string(alloc), "bar");
         check_bar(&slice, 1)?;
-        if let Ok(copy) = copy {
-            return check(Part::Copy, copy.as_str() == "bar");
+        if !is_refused(ended) {
+            return ended;
         }
     }
     Err(Stop::Refused)
@@ -79,10 +77,10 @@ pub(crate) fn slice_to_string(alloc: Global) -> Result<(), Stop> {
 pub(crate) fn slice_to_json(alloc: Global) -> Result<(), Stop> {
     let slice = bar_of_foobar(alloc)?;
     for _ in 0..TRIES {
-        let value = slice.to_json(alloc);
+        let ended = check_written(slice.to_json(alloc), "bar");
         check_bar(&slice, 1)?;
-        if let Ok(value) = value {
-            return check_value(&value, "bar");
+        if !is_refused(ended) {
+            return ended;
         }
     }
     Err(Stop::Refused)
@@ -95,14 +93,12 @@ pub(crate) fn slice_into_cow(rt: &impl Wait, alloc: Global) -> Result<(), Stop> 
     for _ in 0..TRIES {
         match slice.into_cow(alloc) {
             Ok(cow) => {
-                check_owned(cow, "bar")?;
-                return check_bar(&other, 1);
+                check_bar(&other, 1)?;
+                return check_owned(cow, "bar");
             }
-            Err(back) => {
-                check_bar(&back, 2)?;
-                slice = back;
-            }
+            Err(back) => slice = back,
         }
+        check_bar(&slice, 2)?;
     }
     Err(Stop::Refused)
 }
@@ -110,11 +106,10 @@ pub(crate) fn slice_into_cow(rt: &impl Wait, alloc: Global) -> Result<(), Stop> 
 pub(crate) fn slice_from_json(alloc: Global) -> Result<(), Stop> {
     let value = Value::try_from_str(alloc, "foobar")?;
     for _ in 0..TRIES {
-        let slice = Substr::from_json(alloc, &value);
+        let ended = check_slice_made(Substr::from_json(alloc, &value), "foobar");
         check_value(&value, "foobar")?;
-        if let Ok(slice) = slice {
-            check(Part::Range, slice.range() == (0..6))?;
-            return check_text(slice.parent(), "foobar", 1);
+        if !is_refused(ended) {
+            return ended;
         }
     }
     Err(Stop::Refused)
@@ -131,6 +126,16 @@ fn check_bar(slice: &Substr, handles: usize) -> Result<(), Stop> {
     check(Part::Text, slice.as_str() == "bar")?;
     check(Part::Range, slice.range() == (3..6))?;
     check_text(slice.parent(), "foobar", handles)
+}
+
+/// Compares a copy with this text, where there is one.
+fn check_copy(copy: Result<String, AllocError>, wanted: &str) -> Result<(), Stop> {
+    check(Part::Copy, copy?.as_str() == wanted)
+}
+
+/// Compares a value with this JSON string, where there is one.
+fn check_written(value: Result<Value, AllocError>, wanted: &str) -> Result<(), Stop> {
+    check_value(&value?, wanted)
 }
 
 /// Compares a value with this JSON string.

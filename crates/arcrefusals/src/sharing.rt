@@ -2,11 +2,11 @@
 //! and once all that was handed out is dropped, each text has the handle of its owner alone.
 use crate::calls::TRIES;
 use crate::making::{check_count, check_text};
-use crate::stop::{Part, Stop, check};
-use arcbench_core::pool::{Gate, callers};
+use crate::stop::{Part, Stop, check, is_refused};
+use arcbench_core::pool::{Gate, PoolFault, callers};
 use arcstr::{ArcStr, Substr};
 use arctokens::{tokens, tokens_all};
-use std::alloc::Global;
+use std::alloc::{AllocError, Global};
 use std::sync::Wait;
 use std::thread::Threads;
 
@@ -20,61 +20,62 @@ impl Gate for OpenGate {
 pub(crate) fn two_callers<R: Sync + Threads + Wait>(rt: &R, alloc: Global) -> Result<(), Stop> {
     let text = ArcStr::from_str(alloc, "foobar")?;
     for _ in 0..TRIES {
-        if let Ok(handles) = callers(rt, alloc, &text, 2, &OpenGate) {
-            check_handles(&handles)?;
-            drop(handles);
-            return check_count(&text, 1);
-        }
+        let ended = check_handles(callers(rt, alloc, &text, 2, &OpenGate));
         check_count(&text, 1)?;
+        if !is_refused(ended) {
+            return ended;
+        }
     }
     Err(Stop::Refused)
-}
-
-/// Compares two handles on a text that their owner has too.
-fn check_handles(handles: &[ArcStr]) -> Result<(), Stop> {
-    check(Part::Length, handles.len() == 2)?;
-    for handle in handles {
-        check_text(handle, "foobar", 3)?;
-    }
-    Ok(())
 }
 
 /// Finds more words than a list has room for at first.
 pub(crate) fn words_of_one(rt: &impl Wait, alloc: Global) -> Result<(), Stop> {
     let text = ArcStr::from_str(alloc, "a b c d e")?;
     for _ in 0..TRIES {
-        if let Ok(words) = tokens(rt, alloc, &text) {
-            check_words(&words, 5)?;
-            drop(words);
-            return check_count(&text, 1);
-        }
+        let ended = check_found(tokens(rt, alloc, &text));
         check_count(&text, 1)?;
+        if !is_refused(ended) {
+            return ended;
+        }
     }
     Err(Stop::Refused)
 }
 
 pub(crate) fn words_of_two<R: Sync + Threads + Wait>(rt: &R, alloc: Global) -> Result<(), Stop> {
-    let texts = [
-        ArcStr::from_str(alloc, "a b")?,
-        ArcStr::from_str(alloc, "a b c d e")?,
-    ];
+    let one = ArcStr::from_str(alloc, "a b")?;
+    let texts = [one, ArcStr::from_str(alloc, "a b c d e")?];
     for _ in 0..TRIES {
-        if let Ok(lists) = tokens_all(rt, alloc, &texts, 2) {
-            check_lists(&lists)?;
-            drop(lists);
-            return check_owners(&texts);
-        }
+        let ended = check_lists(tokens_all(rt, alloc, &texts, 2));
         check_owners(&texts)?;
+        if !is_refused(ended) {
+            return ended;
+        }
     }
     Err(Stop::Refused)
 }
 
-fn check_lists(lists: &[Vec<Substr>]) -> Result<(), Stop> {
-    check(Part::Length, lists.len() == 2)?;
-    for (list, length) in lists.iter().zip([2, 5]) {
-        check_words(list, length)?;
+/// Compares two handles on a text that its owner has too, where they were not refused, and drops them.
+fn check_handles(handles: Result<Vec<ArcStr>, PoolFault>) -> Result<(), Stop> {
+    let handles = handles?;
+    check(Part::Length, handles.len() == 2)?;
+    for handle in handles.iter() {
+        check_text(handle, "foobar", 3)?;
     }
     Ok(())
+}
+
+/// Compares the five words of a text, where they were not refused, and drops them.
+fn check_found(words: Result<Vec<Substr>, AllocError>) -> Result<(), Stop> {
+    check_words(&words?, 5)
+}
+
+/// Compares the words of a text of two and of one of five, where they were not refused, and drops them.
+fn check_lists(lists: Result<Vec<Vec<Substr>>, AllocError>) -> Result<(), Stop> {
+    let lists = lists?;
+    check(Part::Length, lists.len() == 2)?;
+    check_words(&lists[0], 2)?;
+    check_words(&lists[1], 5)
 }
 
 /// Compares the words of a text with so many of the letters from `a` on, each at an even place, and the

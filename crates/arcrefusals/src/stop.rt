@@ -1,4 +1,6 @@
 //! Why a call was not made and compared to its end.
+ghost use Rattle.std.specs.Prelude.{◌↔◌, IsOk, IsTrue};
+
 use arcbench_core::pool::PoolFault;
 use arcstr::{JsonFault, TextFault};
 use std::alloc::AllocError;
@@ -51,12 +53,19 @@ impl fmt::Display for Stop {
 }
 
 /// Stops where this part is not as it should be.
-pub(crate) fn check(part: Part, as_it_should_be: bool) -> Result<(), Stop> {
+pub(crate) fn check(part: Part, as_it_should_be: bool) -> Result<(), Stop>
+    ensures { IsOk result ↔ IsTrue as_it_should_be }
+{
     if as_it_should_be {
         Ok(())
     } else {
         Err(Stop::Differs(part))
     }
+}
+
+/// Whether a call was refused.
+pub(crate) fn is_refused(ended: Result<(), Stop>) -> bool {
+    matches!(ended, Err(Stop::Refused))
 }
 
 impl From<AllocError> for Stop {
