@@ -396,7 +396,7 @@ fn bear<A: Allocator>(handles: &mut Vec<HandleSummary, A>, block: u64) -> u64
     ensures number { result ≡ length handles.old.items }
     ensures born { handles.new.items ≡ handles.old.items ++ record { block = block; state = HandleState.Free } ∷ [] }
 {
-    let born = handles.len() as u64;
+    let number = handles.len() as u64;
     put(
         handles,
         HandleSummary {
@@ -404,7 +404,7 @@ fn bear<A: Allocator>(handles: &mut Vec<HandleSummary, A>, block: u64) -> u64
             state: HandleState::Free,
         },
     );
-    born
+    number
 }
 
 /// The entry of a table at a number, and nothing past its end.
