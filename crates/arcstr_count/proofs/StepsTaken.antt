@@ -1,5 +1,6 @@
 -- Each accepted step: what the world's tables become when it is taken.
-use Rattle.std.proofs.Common.{◌≡◌, ℕ, ◌<◌, Bool, true, false, not, ◌&&◌, if◌then◌else◌, None, Some, List, [], ◌∷◌, ◌++◌, length, get_or, set, map, is_none, refl, sym, ◌∙◌, ap, ap₂, subst}
+use Rattle.std.proofs.Common.{◌≡◌, ℕ, ◌<◌, Bool, true, false, not, ◌&&◌, if◌then◌else◌, None, Some, List, [], ◌∷◌, ◌++◌, length, get_or, set, map}
+use Rattle.std.proofs.Common.{is_none, refl, sym, ◌∙◌, ap, ap₂, subst}
 use Rattle.std.proofs.Math.Logic.{∥∥₁_elim}
 use Rattle.std.proofs.Props.{props}
 use Rattle.arcstr_count.specs.declared.steps.Step.{Step}
@@ -21,8 +22,10 @@ use Rattle.arcstr_count.specs.Kept.{word_in, view_of, IsWorld}
 use Rattle.arcstr_count.specs.Taken.{IsRefusal, Takes}
 use Rattle.arcstr_count.specs.Looked.{IsAt}
 use Rattle.arcstr_count.proofs.Pasts.{IsPast-past_of}
-use Rattle.arcstr_count.proofs.Tables.{handle_is, length-handles_of, handles-Make, handles-Clone, handles-Begin, handles-Sub, handles-Back, handles-IntoRaw, handles-FromRaw}
-use Rattle.arcstr_count.proofs.Entries.{AreTablesOf, entry_of, entries_of, entry_with, with_word, tables_from_view, length-entries_of, entries-Make, entries-Clone, entries-Sub, entries-Leak, entries-Back, words_of-entries}
+use Rattle.arcstr_count.proofs.Tables.{handle_is, length-handles_of, handles-Make, handles-Clone, handles-Begin, handles-Sub, handles-Back}
+use Rattle.arcstr_count.proofs.Tables.{handles-IntoRaw, handles-FromRaw}
+use Rattle.arcstr_count.proofs.Entries.{AreTablesOf, entry_of, entries_of, entry_with, with_word, tables_from_view, length-entries_of, entries-Make}
+use Rattle.arcstr_count.proofs.Entries.{entries-Clone, entries-Sub, entries-Leak, entries-Back, words_of-entries}
 use Rattle.arcstr_count.proofs.LawsOfPasts.{word_stands, Sub_counted, Sub_last}
 use Rattle.arcstr_count.proofs.Taking.{FoundIn, found_in_past, handle_state-found, entry_read, Changes, takes_accepted}
 
