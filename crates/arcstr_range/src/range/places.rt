@@ -40,6 +40,7 @@ pub fn checked_ends(text: &str, range: StrRange) -> Result<(usize, usize), Range
 ///
 /// The range is measured in the substring's own text, and refused as `checked_ends` of that text
 /// refuses it. The ends that are found are lawful in the parent, and cut the same text from it.
+#[tactic(auto, using(crate::proofs::Boundaries::cuts_of_cuts))]
 pub fn inner_ends(
     parent: &str,
     outer: Range<usize>,
