@@ -331,9 +331,7 @@ fn up_together<const LIMIT: u64, R: Wait>(
     handle: &Shared<LIMIT, Global>,
     gate: &TwoFlags,
     thread: usize,
-) -> Shared<LIMIT, Global>
-    requires { LIMIT ≤ RC_MAX }
-{
+) -> Shared<LIMIT, Global> {
     gate.pass(thread);
     handle.up(rt)
 }
