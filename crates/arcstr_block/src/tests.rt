@@ -7,6 +7,7 @@ use linked_list_allocator::LocalHeap;
 use std::alloc::Global;
 use std::process::Abort;
 use std::sync::Wait;
+use std::sync::atomic::{AtomicBool, AtomicU64, Ordering};
 use std::test::Fail;
 use std::thread;
 use std::thread::Threads;
@@ -290,25 +291,76 @@ fn a_mark_keeps_the_block(rt: HostRuntime) -> Result<(), Fail> {
     Ok(())
 }
 
-/// What two threads leave that take a clone each, before any drop.
+/// How often a thread looks for the others.
+const LOOKS: u32 = 100_000_000;
+
+/// Two threads that look for each other: each sets its flag and notes whether it saw the other's.
+#[derive(Drop)]
+struct TwoFlags {
+    flags: [AtomicBool; 2],
+    seen: [AtomicBool; 2],
+}
+
+impl TwoFlags {
+    fn new() -> TwoFlags {
+        TwoFlags {
+            flags: [AtomicBool::new(false), AtomicBool::new(false)],
+            seen: [AtomicBool::new(false), AtomicBool::new(false)],
+        }
+    }
+
+    fn pass(&self, thread: usize) {
+        let own = thread % 2;
+        self.flags[own].store(true, Ordering::SeqCst);
+        for _ in 0..LOOKS {
+            if self.flags[1 - own].load(Ordering::SeqCst) {
+                self.seen[own].store(true, Ordering::SeqCst);
+                break;
+            }
+        }
+    }
+
+    fn both_seen(&self) -> bool {
+        self.seen[0].load(Ordering::SeqCst) && self.seen[1].load(Ordering::SeqCst)
+    }
+}
+
+/// The clone of a thread that looked for the other one first.
+fn up_together<const LIMIT: u64, R: Wait>(
+    rt: &R,
+    handle: &Shared<LIMIT, Global>,
+    gate: &TwoFlags,
+    thread: usize,
+) -> Shared<LIMIT, Global> {
+    gate.pass(thread);
+    handle.up(rt)
+}
+
+/// What two threads leave that take a clone each, before any drop; whether both clones read the text, and whether the
+/// two threads ran at once.
 fn look_after_two<const LIMIT: u64, R: Threads + Wait + Sync>(
     rt: &R,
     alloc: Global,
-) -> Result<(Option<u64>, bool), TextFault>
+) -> Result<(Option<u64>, bool, bool), TextFault>
     requires { LIMIT ≤ RC_MAX }
 {
     let first = Shared::<LIMIT, Global>::from_text(alloc, "foobar")?;
-    let lent = &first;
-    let (second, third) = thread::join(rt, || lent.up(rt), || lent.up(rt));
+    let gate = TwoFlags::new();
+    let (lent, flags) = (&first, &gate);
+    let (second, third) = thread::join(
+        rt,
+        || up_together(rt, lent, flags, 0),
+        || up_together(rt, lent, flags, 1),
+    );
     let read = second.as_str() == "foobar" && third.as_str() == "foobar";
-    Ok((first.look().0, read))
+    Ok((first.look().0, read, gate.both_seen()))
 }
 
 #[test]
 fn limits_are_crossed_by_threads(rt: HostRuntime) -> Result<(), Fail> {
-    assert_eq!(rt; look_after_two::<0, _>(&rt, rt.alloc())?, (None, true));
-    assert_eq!(rt; look_after_two::<1, _>(&rt, rt.alloc())?, (None, true));
-    assert_eq!(rt; look_after_two::<2, _>(&rt, rt.alloc())?, (Some(3), true));
+    assert_eq!(rt; look_after_two::<0, _>(&rt, rt.alloc())?, (None, true, true));
+    assert_eq!(rt; look_after_two::<1, _>(&rt, rt.alloc())?, (None, true, true));
+    assert_eq!(rt; look_after_two::<2, _>(&rt, rt.alloc())?, (Some(3), true, true));
     Ok(())
 }
 
@@ -350,30 +402,41 @@ fn a_fixed_block_outlives_two_threads(rt: HostRuntime) -> Result<(), Fail> {
     Ok(())
 }
 
-/// Clones and drops, 100,000 times.
-fn clones<R: Wait>(rt: &R, handle: &Shared<1000, Global>) {
+/// Clones and drops, 100,000 times, once four threads have come; whether they came, and the look after it has a count.
+fn clones<R: Wait>(rt: &R, handle: &Shared<1000, Global>, came: &AtomicU64) -> bool {
+    came.fetch_add(1, Ordering::SeqCst);
+    let mut together = false;
+    for _ in 0..LOOKS {
+        if came.load(Ordering::SeqCst) == 4 {
+            together = true;
+            break;
+        }
+    }
     for _ in 0..100000 {
         drop(handle.up(rt));
     }
+    together && handle.look().0.is_some()
 }
 
-/// What four threads leave that clone and drop.
+/// What four threads leave that clone and drop at once, and whether each found a count.
 fn look_after_four<R: Threads + Wait + Sync>(
     rt: &R,
     alloc: Global,
-) -> Result<Option<u64>, TextFault> {
+) -> Result<(Option<u64>, bool), TextFault> {
     let first = Shared::<1000, Global>::from_text(alloc, "foobar")?;
-    let lent = &first;
-    thread::join(
+    let came = AtomicU64::new(0);
+    let (lent, gate) = (&first, &came);
+    let ((one, two), (three, four)) = thread::join(
         rt,
-        || thread::join(rt, || clones(rt, lent), || clones(rt, lent)),
-        || thread::join(rt, || clones(rt, lent), || clones(rt, lent)),
+        || thread::join(rt, || clones(rt, lent, gate), || clones(rt, lent, gate)),
+        || thread::join(rt, || clones(rt, lent, gate), || clones(rt, lent, gate)),
     );
-    Ok(first.look().0)
+    Ok((first.look().0, one && two && three && four))
 }
 
+/// A compare-exchange that another thread's step makes fail is tried again, and marks nothing.
 #[test]
 fn four_threads_leave_one(rt: HostRuntime) -> Result<(), Fail> {
-    assert_eq!(rt; look_after_four(&rt, rt.alloc())?, Some(1));
+    assert_eq!(rt; look_after_four(&rt, rt.alloc())?, (Some(1), true));
     Ok(())
 }

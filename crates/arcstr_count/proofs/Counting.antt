@@ -1,5 +1,6 @@
 -- Counts of the handles on a block by their states: what one step does to them.
-use Rattle.std.proofs.Common.{◌≡◌, ◌≢◌, ℕ, zero, suc, ◌+◌, ◌<◌, ◌≤◌, Bool, true, false, ◌&&◌, ◌==◌, if◌then◌else◌, List, [], ◌∷◌, ◌++◌, get_or, length, filter, refl, sym, ◌∙◌, ap, ap₂, ◌⊎◌, inl, inr, arith, ne_eqb, eq-eqb, Contains}
+use Rattle.std.proofs.Common.{◌≡◌, ◌≢◌, ℕ, zero, suc, ◌+◌, ◌<◌, ◌≤◌, Bool, true, false, ◌&&◌, ◌==◌, if◌then◌else◌, List, [], ◌∷◌, ◌++◌, get_or}
+use Rattle.std.proofs.Common.{length, filter, refl, sym, ◌∙◌, ap, ap₂, ◌⊎◌, inl, inr, arith, ne_eqb, eq-eqb, Contains}
 use Rattle.std.proofs.lemmas.List.{length-append}
 use Rattle.std.proofs.lemmas.List.Elements.{filter-append, Contains-append_left, Contains-push}
 use Rattle.std.proofs.lemmas.Bool.{cases_eq}
@@ -11,7 +12,8 @@ use Rattle.arcstr_count.specs.History.{makes, births, block_of, lives, numbers_b
 use Rattle.arcstr_count.specs.Marks.{state_of, living, is_only}
 use Rattle.arcstr_count.specs.Past.{IsPast}
 use Rattle.arcstr_count.specs.Left.{is_dropping, is_owing, dropping, owing}
-use Rattle.arcstr_count.proofs.LawsOfHandles.{same_test, other_test, IsIn, ChangesOne, state-born, block-Make, block-Make_other, block-Clone, block-Clone_other, block_made}
+use Rattle.arcstr_count.proofs.LawsOfHandles.{same_test, other_test, IsIn, ChangesOne, state-born, block-Make, block-Make_other, block-Clone}
+use Rattle.arcstr_count.proofs.LawsOfHandles.{block-Clone_other, block_made}
 
 -- ---- how many numbers below n pass a test
 

@@ -1,5 +1,6 @@
 -- The entries of a world's table of blocks, against the past that it stands for.
-use Rattle.std.proofs.Common.{◌≡◌, ◌≢◌, ℕ, zero, suc, ◌<◌, ◌≤◌, Bool, true, false, nat_lt, if◌then◌else◌, List, [], ◌∷◌, ◌++◌, map, length, get_or, set, refl, sym, ◌∙◌, ap, ap₂, arith, lt-ltb}
+use Rattle.std.proofs.Common.{◌≡◌, ◌≢◌, ℕ, zero, suc, ◌<◌, ◌≤◌, Bool, true, false, nat_lt, if◌then◌else◌, List, [], ◌∷◌, ◌++◌, map, length, get_or}
+use Rattle.std.proofs.Common.{set, refl, sym, ◌∙◌, ap, ap₂, arith, lt-ltb}
 use Rattle.std.proofs.lemmas.List.{length-map, same_lists, get_or-map}
 use Rattle.std.proofs.lemmas.Simd.{map-map}
 use Rattle.arcstr_count.specs.declared.steps.Step.{Step}
@@ -14,7 +15,8 @@ use Rattle.arcstr_count.specs.Summary.{BlockSummary, Summary, StandsFor, block_s
 use Rattle.arcstr_count.specs.Kept.{summary_in, word_in, view_of}
 use Rattle.arcstr_count.proofs.Pasts.{IsPast-past_of}
 use Rattle.arcstr_count.proofs.LawsOfPasts.{word_stands, given_once}
-use Rattle.arcstr_count.proofs.Tables.{length-table, table-at, table-same, table-more, table-set, same_test, other_test, length-words_left, word_at, block_at, unmade_block}
+use Rattle.arcstr_count.proofs.Tables.{length-table, table-at, table-same, table-more, table-set, same_test, other_test, length-words_left, word_at}
+use Rattle.arcstr_count.proofs.Tables.{block_at, unmade_block}
 
 -- a list with the values of a function is the function's table
 pub table_from_values : {X : Type 0} (xs : List X) (f : ℕ → X) (n : ℕ) → length xs ≡ n

@@ -1,5 +1,6 @@
 -- How often a block was given back, as a world's table of blocks says it.
-use Rattle.std.proofs.Common.{◌≡◌, ℕ, ◌<◌, ◌≤◌, Bool, true, false, nat_lt, if◌then◌else◌, None, Some, List, length, get_or, refl, sym, ◌∙◌, ap, subst, arith, ltb-true, ltb-false}
+use Rattle.std.proofs.Common.{◌≡◌, ℕ, ◌<◌, ◌≤◌, Bool, true, false, nat_lt, if◌then◌else◌, Option, None, Some, IfSome, IsNone, List, length, get_or}
+use Rattle.std.proofs.Common.{refl, sym, ◌∙◌, ap, subst, arith, ltb-true, ltb-false}
 use Rattle.std.specs.List.{slice_get}
 use Rattle.std.proofs.lemmas.Option.{slice_get_within, get_or_from_slice_get, slice_get-get_or}
 use Rattle.arcstr_count.specs.declared.steps.Step.{Step}
@@ -22,7 +23,7 @@ SaysGiven w b n = (history : List Step) → StandsFor w history → n ≡ given_
 
 module _ (limit : ℕ) (handles : List HandleSummary) (blocks : List BlockEntry) (w : WorldView)
     (view_is : view_of limit handles blocks ≡ w) (b : ℕ) where
-  pub given_of_made : (e : BlockEntry) → slice_get blocks b ≡ Some e → SaysGiven w b (if e.given then 1 else 0)
+  given_of_made : (e : BlockEntry) → slice_get blocks b ≡ Some e → SaysGiven w b (if e.given then 1 else 0)
   given_of_made e found = subst (λ v. SaysGiven v b (if e.given then 1 else 0)) view_is says
     where
       says : SaysGiven (view_of limit handles blocks) b (if e.given then 1 else 0)
@@ -36,7 +37,7 @@ module _ (limit : ℕ) (handles : List HandleSummary) (blocks : List BlockEntry)
           ap (λ (x : BlockEntry). if x.given then 1 else 0) is
           ∙ once_as_mark (times_given (past_of limit history) b) (given_once limit (past_of limit history) b (IsPast-past_of limit history) made)
 
-  pub given_of_unmade : slice_get blocks b ≡ None → SaysGiven w b 0
+  given_of_unmade : slice_get blocks b ≡ None → SaysGiven w b 0
   given_of_unmade absent = subst (λ v. SaysGiven v b 0) view_is says
     where
       any : BlockEntry
@@ -52,3 +53,9 @@ module _ (limit : ℕ) (handles : List HandleSummary) (blocks : List BlockEntry)
           let outside = past_end (nat_lt b (length blocks)) refl in
           let unmade : makes (past_of limit history) ≤ b = let long = ap length are ∙ length-entries_of limit (past_of limit history) in omega arith in
           sym (unmade_block limit (past_of limit history) b (IsPast-past_of limit history) unmade).1
+
+  -- the number says of the entry that was found how often it was given, and nothing of no entry
+  pub given_of_entry : (known : Option BlockEntry) (n : ℕ) → known ≡ slice_get blocks b
+      → IfSome known (λ e. n ≡ (if e.given then 1 else 0)) → (IsNone known → n ≡ 0) → SaysGiven w b n
+  given_of_entry None n is made unmade = subst (λ k. SaysGiven w b k) (sym (unmade refl)) (given_of_unmade (sym is))
+  given_of_entry (Some e) n is made unmade = subst (λ k. SaysGiven w b k) (sym made) (given_of_made e (sym is))

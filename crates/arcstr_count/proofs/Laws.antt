@@ -4,7 +4,8 @@ use Rattle.arcstr_count.specs.declared.steps.Step.{Step}
 use Rattle.arcstr_count.specs.Past.{past_of}
 use Rattle.arcstr_count.specs.Laws.{WordsStand, LooksAreExact, MarksStay, AtMostOneOwes, GivenAtMostOnce, GivenExactlyIfUnmarked}
 use Rattle.arcstr_count.proofs.Pasts.{IsPast-past_of, past_of-append}
-use Rattle.arcstr_count.proofs.LawsOfPasts.{word_stands, unmarked_bounded, look_exact, mark_stays_from, one_owes, owes_alone, given_once, given_alone, given_for_good, given_exactly}
+use Rattle.arcstr_count.proofs.LawsOfPasts.{word_stands, unmarked_bounded, look_exact, mark_stays_from, one_owes, owes_alone, given_once, given_alone}
+use Rattle.arcstr_count.proofs.LawsOfPasts.{given_for_good, given_exactly}
 
 pub words_stand : (limit : ℕ) (steps : List Step) → WordsStand limit steps
 words_stand limit steps front later b _ made = word_stands limit (past_of limit front) b (IsPast-past_of limit front) made

@@ -1,5 +1,6 @@
 -- What each past leaves of a block that was made: its word and its mark, against the counts of its handles.
-use Rattle.std.proofs.Common.{◌≡◌, ◌≢◌, ℕ, ◌+◌, ◌<◌, ◌≤◌, Bool, true, false, not, ◌&&◌, ◌||◌, ◌==◌, nat_lt, if◌then◌else◌, List, [], ◌∷◌, refl, sym, subst, subst₂, ◌⊎◌, inl, inr, arith, ne_eqb, eqb-true, ltb-true, ltb-false}
+use Rattle.std.proofs.Common.{◌≡◌, ◌≢◌, ℕ, ◌+◌, ◌<◌, ◌≤◌, Bool, true, false, not, ◌&&◌, ◌||◌, ◌==◌, nat_lt, if◌then◌else◌, List, [], ◌∷◌, refl, sym}
+use Rattle.std.proofs.Common.{subst, subst₂, ◌⊎◌, inl, inr, arith, ne_eqb, eqb-true, ltb-true, ltb-false}
 use Rattle.std.proofs.lemmas.Bool.{cases_eq, eqb-false}
 use Rattle.arcstr_count.specs.declared.steps.Step.{Step}
 use Rattle.arcstr_count.specs.declared.steps.Step.TheVariants.{Make, Look, Clone, Begin, Sub, Back, Leak, IntoRaw, FromRaw}
@@ -11,8 +12,10 @@ use Rattle.arcstr_count.specs.Marks.{is_marked, living, is_only}
 use Rattle.arcstr_count.specs.Answer.{is_accepted}
 use Rattle.arcstr_count.specs.Past.{IsPast, times_given}
 use Rattle.arcstr_count.specs.Left.{word_left, is_dropping, is_owing}
-use Rattle.arcstr_count.proofs.Counting.{one, held, Make_here, Make_elsewhere, Clone_here, Clone_elsewhere, changed_here, changed_elsewhere, dropping-le-living, some_held, is_only-living}
-use Rattle.arcstr_count.proofs.LawsOfHandles.{same_test, other_test, Clone-finds, Sub-finds, Leak-finds, Begin-changes, Sub-changes, Back-changes, IntoRaw-changes, FromRaw-changes}
+use Rattle.arcstr_count.proofs.Counting.{one, held, Make_here, Make_elsewhere, Clone_here, Clone_elsewhere, changed_here, changed_elsewhere}
+use Rattle.arcstr_count.proofs.Counting.{dropping-le-living, some_held, is_only-living}
+use Rattle.arcstr_count.proofs.LawsOfHandles.{same_test, other_test, Clone-finds, Sub-finds, Leak-finds, Begin-changes, Sub-changes, Back-changes}
+use Rattle.arcstr_count.proofs.LawsOfHandles.{IntoRaw-changes, FromRaw-changes}
 use Rattle.arcstr_count.proofs.Tables.{unmade_block, marked-Clone_other, given-Back, given-Back_other, marked-Leak_other}
 
 -- ---- the word, the mark and the counts of one block

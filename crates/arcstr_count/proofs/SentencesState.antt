@@ -13,7 +13,8 @@ use Rattle.arcstr_count.specs.Sentences.{births_after, state_after, LastIsIntoRa
 use Rattle.arcstr_count.proofs.Pasts.{IsPast-past_of}
 use Rattle.arcstr_count.proofs.SentencesBirths.{Born-more}
 use Rattle.arcstr_count.proofs.SentencesRaw.{is_raw-latest, raw_sentence}
-use Rattle.arcstr_count.proofs.SentencesDone.{has_begun-kept, has_subtracted-latest, begins_once, was_last-subtracted, begun_sentence, began_unmarked_sentence, subtracted_sentence, owes_test, not_sentence, and_not_sentence}
+use Rattle.arcstr_count.proofs.SentencesDone.{has_begun-kept, has_subtracted-latest, begins_once, was_last-subtracted, begun_sentence}
+use Rattle.arcstr_count.proofs.SentencesDone.{began_unmarked_sentence, subtracted_sentence, owes_test, not_sentence, and_not_sentence}
 use Rattle.arcstr_count.proofs.SentencesFirst.{tests_free, tests_dropping, tests_owing, state_of_test}
 use Rattle.arcstr_count.proofs.SentencesTable.{dropping_passes, handle_state_sentence}
 

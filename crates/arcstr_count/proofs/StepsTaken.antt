@@ -1,5 +1,6 @@
 -- Each accepted step: what the world's tables become when it is taken.
-use Rattle.std.proofs.Common.{◌≡◌, ℕ, ◌<◌, Bool, true, false, not, ◌&&◌, if◌then◌else◌, None, Some, List, [], ◌∷◌, ◌++◌, length, get_or, set, map, is_none, refl, sym, ◌∙◌, ap, subst}
+use Rattle.std.proofs.Common.{◌≡◌, ℕ, ◌<◌, Bool, true, false, not, ◌&&◌, if◌then◌else◌, None, Some, List, [], ◌∷◌, ◌++◌, length, get_or, set, map}
+use Rattle.std.proofs.Common.{is_none, refl, sym, ◌∙◌, ap, ap₂, subst}
 use Rattle.std.proofs.Math.Logic.{∥∥₁_elim}
 use Rattle.std.proofs.Props.{props}
 use Rattle.arcstr_count.specs.declared.steps.Step.{Step}
@@ -7,6 +8,7 @@ use Rattle.arcstr_count.specs.declared.steps.Step.TheVariants.{Make, Look, Clone
 use Rattle.arcstr_count.specs.declared.steps.HandleState.{HandleState}
 use Rattle.arcstr_count.specs.declared.steps.HandleState.TheVariants.{Free, Raw, Dropping, Owing, Gone}
 use Rattle.arcstr_count.specs.declared.steps.HandleSummary.{HandleSummary}
+use Rattle.arcstr_count.specs.declared.steps.Reply.{Reply}
 use Rattle.arcstr_count.specs.declared.steps.Reply.TheVariants.{Made, Count, Static, Handle, Looked, Ended, Left, Owes, Given, Marked, Raw as RawReply, Unraw}
 use Rattle.arcstr_count.specs.declared.worlds.BlockEntry.{BlockEntry}
 use Rattle.arcstr_count.specs.Word.{FlagAndCount, fresh_word, looked_of, cloned_of, dropped_of, marked_of, is_last}
@@ -20,8 +22,10 @@ use Rattle.arcstr_count.specs.Kept.{word_in, view_of, IsWorld}
 use Rattle.arcstr_count.specs.Taken.{IsRefusal, Takes}
 use Rattle.arcstr_count.specs.Looked.{IsAt}
 use Rattle.arcstr_count.proofs.Pasts.{IsPast-past_of}
-use Rattle.arcstr_count.proofs.Tables.{handle_is, length-handles_of, handles-Make, handles-Clone, handles-Begin, handles-Sub, handles-Back, handles-IntoRaw, handles-FromRaw}
-use Rattle.arcstr_count.proofs.Entries.{AreTablesOf, entry_of, entries_of, entry_with, with_word, tables_from_view, length-entries_of, entries-Make, entries-Clone, entries-Sub, entries-Leak, entries-Back, words_of-entries}
+use Rattle.arcstr_count.proofs.Tables.{handle_is, length-handles_of, handles-Make, handles-Clone, handles-Begin, handles-Sub, handles-Back}
+use Rattle.arcstr_count.proofs.Tables.{handles-IntoRaw, handles-FromRaw}
+use Rattle.arcstr_count.proofs.Entries.{AreTablesOf, entry_of, entries_of, entry_with, with_word, tables_from_view, length-entries_of, entries-Make}
+use Rattle.arcstr_count.proofs.Entries.{entries-Clone, entries-Sub, entries-Leak, entries-Back, words_of-entries}
 use Rattle.arcstr_count.proofs.LawsOfPasts.{word_stands, Sub_counted, Sub_last}
 use Rattle.arcstr_count.proofs.Taking.{FoundIn, found_in_past, handle_state-found, entry_read, Changes, takes_accepted}
 
@@ -168,10 +172,10 @@ module _ (limit : ℕ) (handles : List HandleSummary) (blocks : List BlockEntry)
 
     -- ---- `Begin`
 
-    pub takes_begin : (m : Bool) → IsAt old h b Free → e.word.flag ≡ m
+    takes_begin_by : (m : Bool) → IsAt old h b Free → e.word.flag ≡ m
         → Takes old (Begin h) (if m then Ended else Looked)
         (view_of limit (set handles h (record { block = b; state = if m then Gone else Dropping })) blocks)
-    takes_begin m at flag = takes_accepted limit handles blocks old (Begin h) _ _ blocks view_is (unrefused_by m) change
+    takes_begin_by m at flag = takes_accepted limit handles blocks old (Begin h) _ _ blocks view_is (unrefused_by m) change
       where
         unrefused_by : (m : Bool) → IsRefusal (if m then Ended else Looked) → ⊥
         unrefused_by true refusal = refusal
@@ -198,6 +202,11 @@ module _ (limit : ℕ) (handles : List HandleSummary) (blocks : List BlockEntry)
             mark : is_marked limit p (block_of p h) ≡ m
             mark = mark_is Free p past tables f ∙ flag
 
+    pub takes_begin : (state : HandleState) (reply : Reply) → IsAt old h b Free
+        → state ≡ (if e.word.flag then Gone else Dropping) → reply ≡ (if e.word.flag then Ended else Looked)
+        → Takes old (Begin h) reply (view_of limit (set handles h (record { block = b; state = state })) blocks)
+    takes_begin state reply at state_is reply_is = rw (state_is, reply_is) (takes_begin_by e.word.flag at refl)
+
     -- ---- `Sub`
 
     -- the word of a dropping handle's block counts that handle
@@ -213,11 +222,11 @@ module _ (limit : ℕ) (handles : List HandleSummary) (blocks : List BlockEntry)
             (Sub_counted limit (past_of limit known.0) h past
             (ap is_none (ap unless_dropping (handle_state-found limit (past_of limit known.0) h b Dropping f))))
 
-    pub takes_sub : (last : Bool) (w : FlagAndCount) → IsAt old h b Dropping → w ≡ dropped_of e.word → is_last e.word ≡ last
+    takes_sub_by : (last : Bool) (w : FlagAndCount) → IsAt old h b Dropping → w ≡ dropped_of e.word → is_last e.word ≡ last
         → Takes old (Sub h) (if last then Owes else Left)
         (view_of limit (set handles h (record { block = b; state = if last then Owing else Gone }))
         (set blocks b (record { word = w; given = e.given })))
-    takes_sub last w at word is = takes_accepted limit handles blocks old (Sub h) _ _ _ view_is (unrefused_by last) change
+    takes_sub_by last w at word is = takes_accepted limit handles blocks old (Sub h) _ _ _ view_is (unrefused_by last) change
       where
         unrefused_by : (t : Bool) → IsRefusal (if t then Owes else Left) → ⊥
         unrefused_by true refusal = refusal
@@ -251,6 +260,13 @@ module _ (limit : ℕ) (handles : List HandleSummary) (blocks : List BlockEntry)
                 ∙ sym (ap (λ (x : BlockEntry). is_last x.word) (entry_is p tables f.made))
                 ∙ is
 
+    pub takes_sub : (last : Bool) (w : FlagAndCount) → IsAt old h b Dropping → w ≡ dropped_of e.word → last ≡ is_last e.word
+        → (state : HandleState) (reply : Reply)
+        → state ≡ (if last then Owing else Gone) → reply ≡ (if last then Owes else Left)
+        → Takes old (Sub h) reply
+        (view_of limit (set handles h (record { block = b; state = state })) (set blocks b (record { word = w; given = e.given })))
+    takes_sub last w at word is state reply state_is reply_is = rw (state_is, reply_is) (takes_sub_by last w at word (sym is))
+
     -- ---- `Back`
 
     pub takes_back : IsAt old h b Owing
@@ -280,19 +296,19 @@ module _ (limit : ℕ) (handles : List HandleSummary) (blocks : List BlockEntry)
 
     -- ---- `Leak`
 
-    pub takes_leak : (w : FlagAndCount) → IsAt old h b Free → w ≡ marked_of e.word
-        → Takes old (Leak h) Marked (view_of limit handles (set blocks b (record { word = w; given = e.given })))
-    takes_leak w at word = takes_accepted limit handles blocks old (Leak h) Marked handles _ view_is (λ refusal. refusal) change
+    pub takes_leak : (x : BlockEntry) → IsAt old h b Free → x.word ≡ marked_of e.word → x.given ≡ e.given
+        → Takes old (Leak h) Marked (view_of limit handles (set blocks b x))
+    takes_leak x at word given = takes_accepted limit handles blocks old (Leak h) Marked handles _ view_is (λ refusal. refusal) change
       where
         change : (p : List Step) → IsPast limit p → AreTablesOf limit p handles blocks
-            → Changes limit p (Leak h) Marked handles (set blocks b (record { word = w; given = e.given }))
+            → Changes limit p (Leak h) Marked handles (set blocks b x)
         change p past tables = record {
           unrefused = ap unless_free (handle_state-found limit p h b Free f);
           answer = refl;
           tables = record {
             handles_are = tables.handles_are;
-            blocks_are = ap (λ v. set blocks b (with_word e v)) word
-                ∙ entry_changed (λ x. with_word x (marked_of x.word)) p e tables f.block (entry_is p tables f.made)
+            blocks_are = ap (λ v. set blocks b v) (ap₂ entry_with word given)
+                ∙ entry_changed (λ y. with_word y (marked_of y.word)) p e tables f.block (entry_is p tables f.made)
                 ∙ sym (entries-Leak limit p h (rw f.block f.made));
           };
         }

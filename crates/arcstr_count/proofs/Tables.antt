@@ -1,5 +1,6 @@
 -- How the tables of a past, of its handles, blocks and words, follow from those of the steps before.
-use Rattle.std.proofs.Common.{◌≡◌, ◌≢◌, ℕ, zero, suc, ◌+◌, ◌<◌, ◌≤◌, Bool, true, false, not, ◌&&◌, ◌||◌, ◌==◌, nat_lt, if◌then◌else◌, List, [], ◌∷◌, ◌++◌, map, length, get_or, set, refl, sym, ◌∙◌, ap, ◌⊎◌, inl, inr, arith, ne_eqb}
+use Rattle.std.proofs.Common.{◌≡◌, ◌≢◌, ℕ, zero, suc, ◌+◌, ◌<◌, ◌≤◌, Bool, true, false, not, ◌&&◌, ◌||◌, ◌==◌, nat_lt, if◌then◌else◌, List, [], ◌∷◌}
+use Rattle.std.proofs.Common.{◌++◌, map, length, get_or, set, refl, sym, ◌∙◌, ap, ◌⊎◌, inl, inr, arith, ne_eqb}
 use Rattle.std.proofs.lemmas.List.{map_push, length-map, length_push, set_at, set-append_left, get_or_push, get_or_append_left}
 use Rattle.std.proofs.lemmas.Bool.{cases_eq}
 use Rattle.arcstr_count.specs.declared.steps.Step.{Step}
@@ -15,7 +16,9 @@ use Rattle.arcstr_count.specs.Past.{IsPast, times_given}
 use Rattle.arcstr_count.specs.Left.{word_left}
 use Rattle.arcstr_count.specs.Summary.{BlockSummary, handle_summary, block_summary, handles_of, blocks_of, words_left}
 pub use Rattle.arcstr_count.proofs.LawsOfHandles.{same_test, other_test}
-use Rattle.arcstr_count.proofs.LawsOfHandles.{ChangesOne, Begin-changes, Sub-changes, Back-changes, IntoRaw-changes, FromRaw-changes, Clone-finds, Sub-finds, Back-finds, Leak-finds, state-born, block-Make, block-Make_other, block-Clone, block-Clone_other, block_made}
+use Rattle.arcstr_count.proofs.LawsOfHandles.{ChangesOne, Begin-changes, Sub-changes, Back-changes, IntoRaw-changes, FromRaw-changes, Clone-finds}
+use Rattle.arcstr_count.proofs.LawsOfHandles.{Sub-finds, Back-finds, Leak-finds, state-born, block-Make, block-Make_other, block-Clone}
+use Rattle.arcstr_count.proofs.LawsOfHandles.{block-Clone_other, block_made}
 
 -- ---- tables of a function of the numbers below n
 

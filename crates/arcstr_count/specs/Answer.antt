@@ -5,7 +5,8 @@ use Rattle.arcstr_count.specs.declared.steps.Step.TheVariants.{Make, Look, Clone
 use Rattle.arcstr_count.specs.declared.steps.HandleState.{HandleState}
 use Rattle.arcstr_count.specs.declared.steps.HandleState.TheVariants.{Free, Raw, Dropping, Owing, Gone}
 use Rattle.arcstr_count.specs.declared.steps.Reply.{Reply}
-use Rattle.arcstr_count.specs.declared.steps.Reply.TheVariants.{Made, Count, Static, Handle, Looked, Ended, Left, Owes, Given, Marked, Raw as RawReply, Unraw, Refused}
+use Rattle.arcstr_count.specs.declared.steps.Reply.TheVariants.{Made, Count, Static, Handle, Looked, Ended, Left, Owes}
+use Rattle.arcstr_count.specs.declared.steps.Reply.TheVariants.{Given, Marked, Raw as RawReply, Unraw, Refused}
 use Rattle.arcstr_count.specs.declared.faults.StepFault.{StepFault}
 use Rattle.arcstr_count.specs.declared.faults.StepFault.TheVariants.{NoHandle, InDrop, NotInDrop, NotOwing, IsRaw, NotRaw}
 use Rattle.arcstr_count.specs.History.{births, block_of}

@@ -1,6 +1,7 @@
 //! The replies to a whole list of steps.
 
-ghost use Rattle.std.specs.Prelude.{◌≡◌, ◌<◌, ◌↔◌, IfOk};
+ghost use Rattle.std.specs.Prelude.{◌≡◌, ◌<◌, ◌↔◌, [], IfOk, IfErr};
+ghost use Rattle.arcstr_count.specs.Summary.{StandsFor};
 ghost use Rattle.arcstr_count.specs.After.{AnswersEach};
 ghost use Rattle.arcstr_count.specs.Laws.{WordsStand, LooksAreExact, MarksStay, AtMostOneOwes, GivenAtMostOnce, GivenExactlyIfUnmarked};
 
@@ -33,7 +34,20 @@ pub fn run<A: Allocator + Copy>(
     ensures given_exactly { GivenExactlyIfUnmarked limit steps.now }
 {
     every_interleaving(limit, steps);
-    let mut world = World::new(alloc, limit)?;
+    let world = World::new(alloc, limit)?;
+    replies_of(alloc, world, steps)
+}
+
+/// The reply of a world of the empty history to each step of a list.
+fn replies_of<A: Allocator + Copy>(
+    alloc: A,
+    mut world: World<A>,
+    steps: &[Step],
+) -> Result<Vec<Reply, A>, RunFault>
+    requires { StandsFor world [] }
+    ensures memory { IfErr result (λ fault. fault ≡ RunFault.Memory) }
+    ensures replies { IfOk result (λ replies. AnswersEach world.summary.limit steps.now replies.items) }
+{
     let mut replies = Vec::new(alloc);
     for step in steps {
         let reply = world.step(*step)?;

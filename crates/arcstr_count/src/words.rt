@@ -81,9 +81,7 @@ impl Word {
         requires { limit ≤ RC_MAX }
         ensures { result ≡ cloned_of limit self }
     {
-        if self.marked() {
-            self
-        } else if self.count() > limit {
+        if self.marked() || self.count() > limit {
             self.with_mark()
         } else {
             Word {

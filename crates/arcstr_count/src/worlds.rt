@@ -1,8 +1,10 @@
 //! The world of counted blocks, which answers one step at a time by the meaning of its history.
 
-ghost use Rattle.std.specs.Prelude.{◌≡◌, ◌<◌, ◌≤◌, ◌↔◌, ◌+◌, ◌++◌, [], ◌∷◌, List, IfOk, IfErr, OnOk, OnErr, IsOk, IfSome, Some, slice_get, vec_len, vec_capacity};
+ghost use Rattle.std.specs.Prelude.{◌≡◌, ◌<◌, ◌≤◌, ◌↔◌, ◌+◌, ◌++◌, if◌then◌else◌, [], ◌∷◌, List, length};
+ghost use Rattle.std.specs.Prelude.{IfOk, IfErr, OnOk, OnErr, IsOk, IfSome, IsNone, Some, slice_get, vec_len, vec_capacity};
 ghost use Rattle.arcstr_count.specs.declared.steps.Step.{Step};
 ghost use Rattle.arcstr_count.specs.Summary.{StandsFor};
+ghost use Rattle.arcstr_count.specs.Word.{marked_of};
 ghost use Rattle.arcstr_count.specs.After.{given_after};
 ghost use Rattle.arcstr_count.specs.Answer.{unless_free, unless_dropping, unless_owing, unless_raw};
 ghost use Rattle.arcstr_count.specs.Taken.{GivesBirth, IsRefusal, IsAcceptedBy, Answers, Follows, Takes, HasHistory};
@@ -31,6 +33,19 @@ pub struct World<A: Allocator> {
 struct BlockEntry {
     word: Word,
     given: bool,
+}
+
+impl BlockEntry {
+    /// The entry after a leak: its word has the mark.
+    fn leaked(self) -> BlockEntry
+        ensures word { result.word ≡ marked_of self.word }
+        ensures given { result.given ≡ self.given }
+    {
+        BlockEntry {
+            word: self.word.with_mark(),
+            given: self.given,
+        }
+    }
 }
 
 impl<A: Allocator> Model for World<A> {
@@ -92,10 +107,7 @@ impl<A: Allocator + Copy> World<A> {
             → result ≡ given_after self.now.summary.limit history block }
         ensures at_most_once { result ≤ 1 }
     {
-        match entry_at(&self.blocks, block) {
-            Some(entry) if entry.given => 1,
-            _ => 0,
-        }
+        times_given(entry_at(&self.blocks, block))
     }
 
     /// The law that each world stands for at least one history, and the laws of every interleaving for
@@ -190,19 +202,9 @@ impl<A: Allocator + Copy> World<A> {
         ensures takes { IfOk result (λ reply. Takes self.old Step.Make reply self.new) }
         ensures memory { IfErr result (λ fault. (fault ≡ RunFault.Memory) × (self.new ≡ self.old)) }
     {
-        // Both tables grow before either changes, so that a refusal leaves the world as it was.
-        if self.handles.reserve(1).is_err() || self.blocks.reserve(1).is_err() {
-            return Err(RunFault::Memory);
-        }
-        let handle = self.handles.len() as u64;
+        make_room(&mut self.handles, &mut self.blocks)?;
         let block = self.blocks.len() as u64;
-        put(
-            &mut self.handles,
-            HandleSummary {
-                block,
-                state: HandleState::Free,
-            },
-        );
+        let handle = bear(&mut self.handles, block);
         put(
             &mut self.blocks,
             BlockEntry {
@@ -242,15 +244,7 @@ impl<A: Allocator + Copy> World<A> {
             word: entry.word.cloned(self.limit),
             given: entry.given,
         };
-        let born = self.handles.len() as u64;
-        put(
-            &mut self.handles,
-            HandleSummary {
-                block,
-                state: HandleState::Free,
-            },
-        );
-        Ok(Reply::Handle(born))
+        Ok(Reply::Handle(bear(&mut self.handles, block)))
     }
 
     fn begin(&mut self, handle: u64) -> Reply
@@ -260,19 +254,9 @@ impl<A: Allocator + Copy> World<A> {
             Ok(block) => block,
             Err(fault) => return Reply::Refused(fault),
         };
-        if self.blocks[block as usize].word.marked() {
-            self.handles[handle as usize] = HandleSummary {
-                block,
-                state: HandleState::Gone,
-            };
-            Reply::Ended
-        } else {
-            self.handles[handle as usize] = HandleSummary {
-                block,
-                state: HandleState::Dropping,
-            };
-            Reply::Looked
-        }
+        let (state, reply) = begun(self.blocks[block as usize].word);
+        self.handles[handle as usize] = HandleSummary { block, state };
+        reply
     }
 
     fn subtract(&mut self, handle: u64) -> Reply
@@ -284,23 +268,13 @@ impl<A: Allocator + Copy> World<A> {
         };
         let entry = self.blocks[block as usize];
         let (word, last) = entry.word.dropped();
+        let (state, reply) = subtracted(last);
         self.blocks[block as usize] = BlockEntry {
             word,
             given: entry.given,
         };
-        if last {
-            self.handles[handle as usize] = HandleSummary {
-                block,
-                state: HandleState::Owing,
-            };
-            Reply::Owes
-        } else {
-            self.handles[handle as usize] = HandleSummary {
-                block,
-                state: HandleState::Gone,
-            };
-            Reply::Left
-        }
+        self.handles[handle as usize] = HandleSummary { block, state };
+        reply
     }
 
     fn give_back(&mut self, handle: u64) -> Reply
@@ -330,10 +304,7 @@ impl<A: Allocator + Copy> World<A> {
             Err(fault) => return Reply::Refused(fault),
         };
         let entry = self.blocks[block as usize];
-        self.blocks[block as usize] = BlockEntry {
-            word: entry.word.with_mark(),
-            given: entry.given,
-        };
+        self.blocks[block as usize] = entry.leaked();
         Reply::Marked
     }
 
@@ -364,6 +335,76 @@ impl<A: Allocator + Copy> World<A> {
         };
         Reply::Unraw
     }
+}
+
+/// How often a block was given back by what its entry says, and 0 times where it has none.
+fn times_given(entry: Option<BlockEntry>) -> u64
+    ensures made { IfSome entry (λ found. result ≡ (if found.given then 1 else 0)) }
+    ensures unmade { IsNone entry → result ≡ 0 }
+{
+    match entry {
+        Some(entry) if entry.given => 1,
+        _ => 0,
+    }
+}
+
+/// What becomes of a free handle whose drop looks at this word, and the reply: it ends at a mark.
+fn begun(word: Word) -> (HandleState, Reply)
+    ensures state { result.0 ≡ (if word.flag then HandleState.Gone else HandleState.Dropping) }
+    ensures reply { result.1 ≡ (if word.flag then Reply.Ended else Reply.Looked) }
+{
+    if word.marked() {
+        (HandleState::Gone, Reply::Ended)
+    } else {
+        (HandleState::Dropping, Reply::Looked)
+    }
+}
+
+/// What becomes of a dropping handle that subtracts, and the reply: it owes its block where its
+/// subtraction was the last one.
+fn subtracted(last: bool) -> (HandleState, Reply)
+    ensures state { result.0 ≡ (if last then HandleState.Owing else HandleState.Gone) }
+    ensures reply { result.1 ≡ (if last then Reply.Owes else Reply.Left) }
+{
+    if last {
+        (HandleState::Owing, Reply::Owes)
+    } else {
+        (HandleState::Gone, Reply::Left)
+    }
+}
+
+/// Room for one more entry in each of the two tables. A refusal comes before either changes.
+fn make_room<A: Allocator>(
+    handles: &mut Vec<HandleSummary, A>,
+    blocks: &mut Vec<BlockEntry, A>,
+) -> Result<(), RunFault>
+    ensures handles { handles.new.items ≡ handles.old.items }
+    ensures blocks { blocks.new.items ≡ blocks.old.items }
+    ensures room_for_handle { IsOk result → vec_len handles.new < vec_capacity handles.new }
+    ensures room_for_block { IsOk result → vec_len blocks.new < vec_capacity blocks.new }
+    ensures memory { IfErr result (λ fault. fault ≡ RunFault.Memory) }
+{
+    if handles.reserve(1).is_err() || blocks.reserve(1).is_err() {
+        return Err(RunFault::Memory);
+    }
+    Ok(())
+}
+
+/// Puts a free handle of this block at the end of the table, and answers its number.
+fn bear<A: Allocator>(handles: &mut Vec<HandleSummary, A>, block: u64) -> u64
+    requires { vec_len handles.old < vec_capacity handles.old }
+    ensures number { result ≡ length handles.old.items }
+    ensures born { handles.new.items ≡ handles.old.items ++ record { block = block; state = HandleState.Free } ∷ [] }
+{
+    let number = handles.len() as u64;
+    put(
+        handles,
+        HandleSummary {
+            block,
+            state: HandleState::Free,
+        },
+    );
+    number
 }
 
 /// The entry of a table at a number, and nothing past its end.

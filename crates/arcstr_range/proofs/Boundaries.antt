@@ -68,3 +68,8 @@ cut-cut text start end from to in_order within =
     ∙ between_is (drop start text) from to
     ∙ ap (λ front. drop from front) (sym (take-take to (end - start) (drop start text) short))
     ∙ sym (between_is (cut text start end) from to)
+
+-- named at the functions whose proofs use them
+pub ruleset fronts_at_boundaries = (IsFrontLength-from_boundary, IsCharBoundary-from_front)
+pub ruleset slices_by_characters = (SpellsBetween-cut)
+pub ruleset cuts_of_cuts = (cut-cut)

@@ -1,5 +1,6 @@
 -- What std's words on white space leave out is the longest front, or the longest end, that is white space alone.
-use Rattle.std.proofs.Common.{◌≡◌, ℕ, zero, suc, ◌+◌, ◌<◌, ◌≤◌, ◌⊎◌, inl, inr, Bool, true, false, cond, ◌&&◌, nat_eq, List, [], ◌∷◌, ◌++◌, length, refl, ap, arith, length-append}
+use Rattle.std.proofs.Common.{◌≡◌, ℕ, zero, suc, ◌+◌, ◌<◌, ◌≤◌, ◌⊎◌, inl, inr, Bool, true, false, cond, ◌&&◌, nat_eq, List, [], ◌∷◌, ◌++◌, length}
+use Rattle.std.proofs.Common.{refl, ap, arith, length-append}
 use Rattle.std.specs.Char.{is_whitespace}
 use Rattle.std.specs.List.{AllPass}
 use Rattle.std.specs.Str.{skip_leading_whitespace, drop_trailing_whitespace}

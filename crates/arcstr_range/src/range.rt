@@ -38,6 +38,7 @@ impl StrRange {
     /// Refuses the first that fails: the start is at most the end (`OutOfOrder`), and the end at most
     /// `len` (`PastEnd`). An inclusive end of `usize::MAX` counts as one place more, and so is past the
     /// end.
+    #[tactic(auto, using(crate::proofs::Faults::refused_with))]
     pub fn ends(self, len: usize) -> Result<(usize, usize), RangeFault>
         ensures value { IfOk result (λ ends. ends ≡ ends_of self len) }
         ensures fits { let ends = ends_of self len in IsOk result ↔ FitsLength len ends.0 ends.1 }

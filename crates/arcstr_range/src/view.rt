@@ -86,6 +86,7 @@ impl<'a> StrView<'a> {
     }
 
     /// The view without the white space in front. Its place moves by the bytes of that.
+    #[tactic(auto, using(crate::proofs::Trims::trims_of_starts))]
     pub fn trim_start(&self) -> StrView<'a>
         ensures longest { TrimsStart self.now result }
         ensures text { result.text ≡ trim_start self.now.text }
@@ -99,6 +100,7 @@ impl<'a> StrView<'a> {
     }
 
     /// The view without the white space behind. Its place stays.
+    #[tactic(auto, using(crate::proofs::Trims::trims_of_ends))]
     pub fn trim_end(&self) -> StrView<'a>
         ensures longest { TrimsEnd self.now result }
         ensures text { result.text ≡ trim_end self.now.text }

@@ -55,6 +55,13 @@ pub fn number_of(text: &[u8]) -> Option<u64>
     ensures written { IfSome result (λ n. text.now ≡ decimal n) }
     ensures read { (n : ℕ) → n < 2 ^ 64 → text.now ≡ decimal n → result ≡ Some n }
 {
+    read_number(text)
+}
+
+/// The number that is read, whatever it means in decimal.
+fn read_number(text: &[u8]) -> Option<u64>
+    ensures { result ≡ number_of text.now }
+{
     match text {
         [b'+', ..] | [b'0', _, ..] => None,
         _ => decimal_of(text),
@@ -98,6 +105,13 @@ pub fn step_of(line: &[u8]) -> Option<Step>
     ensures value { result ≡ step_of line.now }
     ensures written { IfSome result (λ step. line.now ≡ line_text step) }
     ensures read { (step : Step) → HasHandle step → line.now ≡ line_text step → result ≡ Some step }
+{
+    read_step(line)
+}
+
+/// The step that is read, whatever lines there are for it.
+fn read_step(line: &[u8]) -> Option<Step>
+    ensures { result ≡ step_of line.now }
 {
     if is_text(line, "make") {
         return Some(Step::Make);

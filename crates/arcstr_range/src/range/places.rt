@@ -11,6 +11,7 @@ use std::ops::Range;
 
 /// Whether the text may be cut at the place: exactly if the place is the byte length of a front of
 /// the text's characters.
+#[tactic(auto, using(crate::proofs::Boundaries::fronts_at_boundaries))]
 pub fn is_boundary(text: &str, place: usize) -> bool
     ensures boundary { IsTrue result ↔ IsCharBoundary text.now place }
     ensures front { IsTrue result ↔ IsFrontLength text.now place }
@@ -39,6 +40,7 @@ pub fn checked_ends(text: &str, range: StrRange) -> Result<(usize, usize), Range
 ///
 /// The range is measured in the substring's own text, and refused as `checked_ends` of that text
 /// refuses it. The ends that are found are lawful in the parent, and cut the same text from it.
+#[tactic(auto, using(crate::proofs::Boundaries::cuts_of_cuts))]
 pub fn inner_ends(
     parent: &str,
     outer: Range<usize>,
@@ -66,6 +68,7 @@ pub fn inner_ends(
 
 /// The slice of the text between the ends of the range, as Rust's `str::get`: `None` exactly where
 /// the ends are out of order, past the text or inside a character.
+#[tactic(auto, using(crate::proofs::Boundaries::slices_by_characters))]
 pub fn slice(text: &str, range: StrRange) -> Option<&str>
     ensures some { IsSome result ↔ IsSliceRange text.now range }
     ensures value { IfSome result (λ part. part.now ≡ cut_by text.now range) }

@@ -20,8 +20,8 @@ returns-clause-takes g c =
     takes_clone c.self.inside.limit c.self.inside.handles.items c.self.inside.blocks.items c.args.self.now
     c.args.handle c.in-Ok.block c.self.view_is c.index-entry.result.now c.index-entry.ensures
     _ _ _ c.in-Ok.ensures.found
-    (c.len-born.ensures ∙ c.reserve.new.self.ok.0 ∙ ap length c.reserve.ensures.items)
-    (c.put.ensures ∙ push_with c.reserve.ensures.items refl)
+    (c.bear.ensures.number ∙ ap length c.reserve.ensures.items)
+    (c.bear.ensures.born ∙ push_with c.reserve.ensures.items refl)
     c.cloned.ensures
 
 pub invariant_of-self-2 : goal.invariant_of-self-2

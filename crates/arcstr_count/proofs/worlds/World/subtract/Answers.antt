@@ -1,4 +1,4 @@
-use Rattle.std.proofs.Common.{refl, true, false, ◌∙◌, sym}
+use Rattle.std.proofs.Common.{refl}
 use Rattle.arcstr_count.specs.declared.steps.Step.TheVariants.{Sub}
 use Rattle.arcstr_count.specs.Answer.{unless_dropping}
 use Rattle.arcstr_count.proofs.Taking.{takes_refused_by, world_kept}
@@ -15,20 +15,12 @@ dropped-word-requires g c =
     c.args.handle c.in-Ok.block c.self.view_is c.index-entry.result.now c.index-entry.ensures
     c.self.invariant c.in-Ok.ensures.found
 
-pub returns-then-last : goal.returns-then-last
-returns-then-last g c =
+pub returns : goal.returns
+returns g c =
     takes_sub c.self.inside.limit c.self.inside.handles.items c.self.inside.blocks.items c.args.self.now
     c.args.handle c.in-Ok.block c.self.view_is c.index-entry.result.now c.index-entry.ensures
-    true _ c.in-Ok.ensures.found c.dropped-word.ensures.word (sym c.dropped-word.ensures.last ∙ c.if-last.true)
-
-pub returns-else-last : goal.returns-else-last
-returns-else-last g c =
-    takes_sub c.self.inside.limit c.self.inside.handles.items c.self.inside.blocks.items c.args.self.now
-    c.args.handle c.in-Ok.block c.self.view_is c.index-entry.result.now c.index-entry.ensures
-    false _ c.in-Ok.ensures.found c.dropped-word.ensures.word (sym c.dropped-word.ensures.last ∙ c.if-last.false)
+    c.dropped-word.result.1 _ c.in-Ok.ensures.found c.dropped-word.ensures.word c.dropped-word.ensures.last
+    _ _ c.subtracted-state.ensures.state c.subtracted-state.ensures.reply
 
 pub invariant_of-self : goal.invariant_of-self
-invariant_of-self g c = world_kept _ _ _ _ _ _ _ _ c.self.invariant c.self.view_is (returns-then-last g c)
-
-pub invariant_of-self-else-last : goal.invariant_of-self-else-last
-invariant_of-self-else-last g c = world_kept _ _ _ _ _ _ _ _ c.self.invariant c.self.view_is (returns-else-last g c)
+invariant_of-self g c = world_kept _ _ _ _ _ _ _ _ c.self.invariant c.self.view_is (returns g c)
