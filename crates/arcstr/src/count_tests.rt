@@ -32,6 +32,7 @@ fn a_found_slice_holds_its_text_once(rt: HostRuntime) {
     let whole = StrView::whole(text.as_str());
     check_held_once(&rt, &text, text.try_substr_from(&rt, whole));
     let whole = StrView::whole(text.as_str());
+    assert!(rt; whole.is_found_in(text.as_str()));
     check_held_once(&rt, &text, Some(text.substr_from(&rt, whole)));
 }
 

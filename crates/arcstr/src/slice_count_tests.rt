@@ -36,6 +36,7 @@ fn a_found_slice_of_a_slice_holds_the_parent_once(rt: HostRuntime) {
     let whole = StrView::whole(slice.as_str());
     check_held_once(&rt, &slice, slice.try_substr_from(&rt, whole));
     let whole = StrView::whole(slice.as_str());
+    assert!(rt; whole.is_found_in(slice.as_str()));
     check_held_once(&rt, &slice, Some(slice.substr_from(&rt, whole)));
 }
 
