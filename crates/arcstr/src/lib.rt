@@ -11,10 +11,14 @@ pub use static_str::StaticStr;
 pub use substr::Substr;
 
 mod arc_str;
+#[cfg(test)]
+mod count_tests;
 mod json;
 mod mac;
 #[cfg(test)]
 mod refusal_tests;
+#[cfg(test)]
+mod slice_count_tests;
 mod static_str;
 mod substr;
 #[cfg(test)]

@@ -61,6 +61,9 @@ impl ArcStr {
     /// The text that `fill` leaves in `n` zero bytes. Refused: a length that is too long (`Length`), then want
     /// of memory (`Memory`), and the closure is not run after either; then bytes that are not UTF-8 (`Utf8`), as
     /// in `from_utf8`. For no bytes the closure runs on an empty slice.
+    ///
+    /// That the closure was not run no clause says: the tests `a_closure_is_not_run_for_a_length_that_is_too_long`,
+    /// `a_closure_is_not_run_without_memory` and `a_closure_is_run_only_where_the_memory_is_there` do.
     pub fn init_with<F: FnOnce(&mut [u8])>(
         alloc: Global,
         n: usize,

@@ -23,6 +23,7 @@ fn debug_escapes_as_a_str_does(rt: HostRuntime) {
         ("a\"b", "\"a\\\"b\""),
         ("\\ \n\t\0\u{7f}", "\"\\\\ \\n\\t\\0\\u{7f}\""),
         ("é\u{200b}\u{10ffff}", "\"é\\u{200b}\\u{10ffff}\""),
+        ("é\"ü\n→\r'€", "\"é\\\"ü\\n→\\r'€\""),
     ] {
         check_copied(&rt, format!(in rt.alloc(); "{:?}", literal!(text)), wanted);
     }

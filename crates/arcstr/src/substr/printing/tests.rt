@@ -10,8 +10,12 @@ fn a_slice_is_padded_as_a_str_is(rt: HostRuntime) {
 
 #[test]
 fn debug_of_a_slice_escapes_its_own_text(rt: HostRuntime) {
-    let parent = made(&rt, "\"a\"b\"é");
-    for (start, end, wanted) in [(1, 4, "\"a\\\"b\""), (5, 7, "\"é\"")] {
+    let parent = made(&rt, "\"a\"b\"é\"\n→\r");
+    for (start, end, wanted) in [
+        (1, 4, "\"a\\\"b\""),
+        (5, 7, "\"é\""),
+        (5, 13, "\"é\\\"\\n→\\r\""),
+    ] {
         let slice = part(&rt, &parent, start..end);
         check_copied(&rt, format!(in rt.alloc(); "{slice:?}"), wanted);
     }
