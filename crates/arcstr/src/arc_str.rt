@@ -9,6 +9,7 @@ use std::alloc::Global;
 use std::marker::Model;
 use std::sync::Wait;
 
+mod conversions;
 mod cow;
 mod json;
 mod making;

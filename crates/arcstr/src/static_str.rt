@@ -7,6 +7,8 @@ use arcstr_block::Fixed;
 use std::alloc::Global;
 use std::marker::Model;
 
+mod conversions;
+
 /// A text that is never given back: a literal, or a block that is marked for good. A contract sees
 /// its text and its kind, which is never that of an unmarked block.
 #[derive(Drop)]

@@ -13,6 +13,7 @@ use std::marker::Model;
 use std::ops::Range;
 use std::sync::Wait;
 
+mod conversions;
 mod cow;
 mod json;
 mod order;
