@@ -4,6 +4,7 @@ pub mod StaticForms
 pub mod Making
 pub mod Substr
 pub mod Slicing
+pub mod Splitting
 pub mod TextOrder
 pub mod JsonFault
 pub mod Json

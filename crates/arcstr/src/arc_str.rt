@@ -16,6 +16,7 @@ mod making;
 mod order;
 mod printing;
 mod slices;
+mod splitting;
 #[cfg(test)]
 mod tests;
 #[cfg(test)]

@@ -13,6 +13,7 @@ pub use static_str::StaticStr;
 pub use substr::Substr;
 
 mod arc_str;
+mod first_place;
 mod json;
 mod mac;
 #[cfg(test)]

@@ -19,6 +19,7 @@ mod json;
 mod order;
 mod printing;
 mod slices;
+mod splitting;
 #[cfg(test)]
 mod tests;
 #[cfg(test)]

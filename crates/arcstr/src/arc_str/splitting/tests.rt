@@ -1,0 +1,3 @@
+use super::*;
+use crate::literal;
+use crate::test_steps::{check_count, check_slice, made};
