@@ -1,5 +1,5 @@
 pub mod Copies
-pub mod FirstPlaces
+pub mod Finding
 pub mod Places
 pub mod SubstrExamples
 pub mod TextOrders

@@ -13,6 +13,8 @@ pub use static_str::StaticStr;
 pub use substr::Substr;
 
 mod arc_str;
+#[cfg(test)]
+mod conversion_tests;
 mod first_place;
 mod json;
 mod mac;

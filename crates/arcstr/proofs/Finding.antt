@@ -36,26 +36,26 @@ first_at text character place utf8 at =
       measured = ap length (encodes-chars (take place text) front_utf8) ∙ length-take-le place text at.3.0;
     }
 
-pub IsFirstPlace-find : (text : List ℕ) (character : ℕ) (answer : Option ℕ) → IsUtf8 text
+pub first_where_found : (text : List ℕ) (character : ℕ) (answer : Option ℕ) → IsUtf8 text
     → MatchOption answer (FindsChar character text None) (MatchBeginsAt (FindsChar character) text) → IfSome answer (IsFirstPlace text character)
-IsFirstPlace-find text character None utf8 cases = tt
-IsFirstPlace-find text character (Some place) utf8 cases = first_at text character place utf8 cases
+first_where_found text character None utf8 cases = tt
+first_where_found text character (Some place) utf8 cases = first_at text character place utf8 cases
 
 has_first : (text : List ℕ) (character place : ℕ) → IsFirstPlace text character place → Contains (chars text) character
 has_first text character place first =
     subst (λ cs. Contains cs character) (sym first.split) (Contains-append_right first.before (character ∷ first.after) character (0, omega arith, refl))
 
 -- `find` answers a place exactly where the text has the character
-pub Contains-find : (text : List ℕ) (character : ℕ) (answer : Option ℕ) → IsUtf8 text
+pub found_where_contained : (text : List ℕ) (character : ℕ) (answer : Option ℕ) → IsUtf8 text
     → MatchOption answer (FindsChar character text None) (MatchBeginsAt (FindsChar character) text) → IsSome answer ↔ Contains (chars text) character
-Contains-find text character None utf8 cases = ((λ some. absurd (grind (arith, some))), λ among. absurd (not_among character text utf8 cases among))
-Contains-find text character (Some place) utf8 cases = ((λ some. has_first text character place (first_at text character place utf8 cases)), λ among. refl)
+found_where_contained text character None utf8 cases = ((λ some. absurd (grind (arith, some))), λ among. absurd (not_among character text utf8 cases among))
+found_where_contained text character (Some place) utf8 cases = ((λ some. has_first text character place (first_at text character place utf8 cases)), λ among. refl)
 
 -- what lies before the place that `find` answers is a lawful slice
-pub IsLawful-before_find : (text : List ℕ) (character : ℕ) (answer : Option ℕ) → IsUtf8 text
+pub lawful_where_found : (text : List ℕ) (character : ℕ) (answer : Option ℕ) → IsUtf8 text
     → MatchOption answer (FindsChar character text None) (MatchBeginsAt (FindsChar character) text) → IfSome answer (IsLawful text 0)
-IsLawful-before_find text character None utf8 cases = tt
-IsLawful-before_find text character (Some place) utf8 cases = record {
+lawful_where_found text character None utf8 cases = tt
+lawful_where_found text character (Some place) utf8 cases = record {
   fits = record { in_order = omega arith; within = cases.3.0 };
   at_boundaries = (IsCharBoundary-start text utf8, cases.3);
 }
