@@ -1,6 +1,6 @@
 -- Where a character first stands in a text.
-use Rattle.std.proofs.Common.{◌≡◌, ◌↔◌, ℕ, ◌==◌, Option, None, Some, true, false, List, [], ◌∷◌, ◌++◌, length, take, drop, All, Contains, IsSome, IfSome, refl, sym, ap, subst, ◌∙◌, arith}
-use Rattle.std.specs.Prelude.{encode_utf8_all, MatchOption}
+use Rattle.std.proofs.Common.{◌≡◌, ◌↔◌, ℕ, ◌==◌, Option, None, Some, false, List, [], ◌∷◌, ◌++◌, length, take, drop, All, Contains, IsSome, IfSome, refl, sym, ap, subst, ◌∙◌, arith}
+use Rattle.std.specs.Prelude.{MatchOption}
 use Rattle.std.specs.Str.{chars, IsUtf8, NoCharPasses, NonePass}
 use Rattle.std.specs.Str.Pattern.{FindsChar, MatchBeginsAt}
 use Rattle.std.proofs.lemmas.List.{take-append-drop, length-take-le}
