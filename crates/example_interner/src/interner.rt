@@ -25,12 +25,7 @@ impl Interner {
     }
 
     /// The one text of this word, which is made where it is asked for the first time, and kept.
-    pub fn intern(
-        &mut self,
-        rt: &impl Wait,
-        alloc: Global,
-        word: &str,
-    ) -> Result<ArcStr, TextFault>
+    pub fn intern(&mut self, rt: &impl Wait, alloc: Global, word: &str) -> Result<ArcStr, TextFault>
         ensures word { IfOk result (λ text. text.text ≡ word.now) }
         ensures kept { IfOk result (λ text. Contains self.new.texts.items text) }
     {

@@ -30,10 +30,7 @@ fn main(rt: HostRuntime) -> io::Result<()> {
 }
 
 /// The texts and their counts, the greatest count first, and equal counts in the order of their texts.
-fn by_count(
-    alloc: Global,
-    counts: HashMap<ArcStr, u64>,
-) -> Result<Vec<(ArcStr, u64)>, AllocError> {
+fn by_count(alloc: Global, counts: HashMap<ArcStr, u64>) -> Result<Vec<(ArcStr, u64)>, AllocError> {
     let mut list: Vec<(ArcStr, u64)> = counts.into_iter().collect(alloc)?;
     list.sort_by(|one, other| other.1.cmp(&one.1).then(one.0.cmp(&other.0)))?;
     Ok(list)
