@@ -7,10 +7,9 @@ mod message;
 use crate::message::Message;
 use arcstr::ArcStr;
 use std::alloc::Global;
-use std::io;
 use std::sync::Wait;
-use std::thread;
 use std::thread::Threads;
+use std::{array, io, thread};
 
 /// How many threads there are.
 const CLERKS: usize = 4;
@@ -18,10 +17,7 @@ const CLERKS: usize = 4;
 fn main(rt: HostRuntime) -> io::Result<()> {
     let alloc = rt.alloc();
     let input = io::read_to_string(alloc, rt.stdin())?;
-    let mut piles = Vec::new(alloc);
-    for _ in 0..CLERKS {
-        piles.push(Vec::new(alloc))?;
-    }
+    let mut piles: [Vec<Message>; CLERKS] = array::from_fn(|_| Vec::new(alloc));
     for (number, line) in input.lines().enumerate() {
         let text = ArcStr::from_str(alloc, line)?;
         match Message::read(&rt, &text) {
@@ -31,7 +27,10 @@ fn main(rt: HostRuntime) -> io::Result<()> {
     }
     for pile in answered(&rt, alloc, piles)? {
         for message in &pile {
-            println!(rt; "{} on {}: {}", message.sender, message.subject, message.body)?;
+            println!(rt;
+                "{} on {}: {}",
+                message.sender, message.subject, message.body
+            )?;
         }
     }
     Ok(())
@@ -41,19 +40,23 @@ fn main(rt: HostRuntime) -> io::Result<()> {
 fn answered<R: Threads + Wait + Sync>(
     rt: &R,
     alloc: Global,
-    piles: Vec<Vec<Message>>,
+    piles: [Vec<Message>; CLERKS],
 ) -> io::Result<Vec<Vec<Message>>> {
-    thread::scope(thread::scope_env(), rt, |scope| -> io::Result<Vec<Vec<Message>>> {
-        let mut clerks = Vec::with_capacity(alloc, piles.len())?;
-        for pile in piles {
-            clerks.push(scope.spawn(move || shortened(rt, pile))?)?;
-        }
-        let mut answers = Vec::with_capacity(alloc, clerks.len())?;
-        for clerk in clerks {
-            answers.push(clerk.join(rt))?;
-        }
-        Ok(answers)
-    })
+    thread::scope(
+        thread::scope_env(),
+        rt,
+        |scope| -> io::Result<Vec<Vec<Message>>> {
+            let mut clerks = Vec::with_capacity(alloc, piles.len())?;
+            for pile in piles {
+                clerks.push(scope.spawn(move || shortened(rt, pile))?)?;
+            }
+            let mut answers = Vec::with_capacity(alloc, clerks.len())?;
+            for clerk in clerks {
+                answers.push(clerk.join(rt))?;
+            }
+            Ok(answers)
+        },
+    )
 }
 
 /// What a clerk does with a pile.
