@@ -50,7 +50,7 @@ impl StaticStr {
         }
     }
 
-    /// The text.
+    /// The text. No step is taken.
     pub fn as_str(&self) -> &str
         ensures { result.now ≡ self.now.text }
     {
@@ -60,7 +60,7 @@ impl StaticStr {
         }
     }
 
-    /// The number of bytes of the text.
+    /// The number of bytes of the text. No step is taken.
     pub fn len(&self) -> usize
         ensures { result ≡ length self.now.text }
     {
@@ -88,7 +88,8 @@ impl StaticStr {
         }
     }
 
-    /// The same text as an `ArcStr`: a literal of a literal, else a fixed block. No step is taken.
+    /// The same text as an `ArcStr`: a literal of a literal, else a fixed block. Takes no memory, and no step is
+    /// taken.
     pub fn to_arc_str(&self) -> ArcStr
         ensures same { result ≡ self.now }
         ensures kind { IsStatic result.kind }
