@@ -1,4 +1,5 @@
 pub mod Copies
+pub mod Finding
 pub mod Places
 pub mod SubstrExamples
 pub mod TextOrders

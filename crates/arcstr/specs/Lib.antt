@@ -5,6 +5,7 @@ pub mod Making
 pub mod Printing
 pub mod Substr
 pub mod Slicing
+pub mod Splitting
 pub mod TextOrder
 pub mod JsonFault
 pub mod Json

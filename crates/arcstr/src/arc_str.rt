@@ -9,12 +9,14 @@ use std::alloc::Global;
 use std::marker::Model;
 use std::sync::Wait;
 
+mod conversions;
 mod cow;
 mod json;
 mod making;
 mod order;
 mod printing;
 mod slices;
+mod splitting;
 #[cfg(test)]
 mod tests;
 #[cfg(test)]
@@ -22,6 +24,9 @@ mod thread_tests;
 
 /// A text that threads share. A contract sees its text and its kind: a literal, a handle on a
 /// counted block, or a block that is marked for good.
+///
+/// The drop of a handle on a block takes one load of its word, and where that found no mark a fetch-sub. The
+/// last one of an unmarked block gives its memory back. No drop waits.
 #[derive(Drop)]
 pub struct ArcStr {
     form: Form,
@@ -82,9 +87,10 @@ impl ArcStr {
         }
     }
 
-    /// Another handle on the same text. Of a block one load of its word, and where that found no mark a
-    /// compare-exchange that counts the handle, or sets the mark where the count is past its limit; it is
-    /// tried again where the word changed between. Of a literal or a fixed block no step is taken.
+    /// Another handle on the same text. Takes no memory. Of a block one load of its word, and where that found
+    /// no mark a compare-exchange that counts the handle, or sets the mark where the count is past its limit; it
+    /// is tried again where the word changed between, and so may wait. Of a literal or a fixed block no step is
+    /// taken.
     pub fn clone(&self, rt: &impl Wait) -> ArcStr
         ensures { result ≡ self.now }
     {
@@ -96,7 +102,7 @@ impl ArcStr {
         ArcStr { form }
     }
 
-    /// The text.
+    /// The text. No step is taken.
     pub fn as_str(&self) -> &str
         ensures { result.now ≡ self.now.text }
     {
@@ -107,21 +113,21 @@ impl ArcStr {
         }
     }
 
-    /// The number of bytes of the text.
+    /// The number of bytes of the text. No step is taken, and the bytes are not read.
     pub fn len(&self) -> usize
         ensures { result ≡ length self.now.text }
     {
         self.as_str().len()
     }
 
-    /// Whether the text has no bytes.
+    /// Whether the text has no bytes. No step is taken.
     pub fn is_empty(&self) -> bool
         ensures { IsTrue result ↔ (self.now.text ≡ []) }
     {
         self.as_str().is_empty()
     }
 
-    /// The bytes of the text.
+    /// The bytes of the text. No step is taken.
     pub fn as_bytes(&self) -> &[u8]
         ensures { result.now ≡ self.now.text }
     {
@@ -129,7 +135,7 @@ impl ArcStr {
     }
 
     /// The number of handles on the text's block at the moment of one load of its word, where the
-    /// block was not marked. None for a literal and for a fixed block.
+    /// block was not marked. `None` where it was, and without a step for a literal and a fixed block.
     pub fn strong_count(this: &ArcStr) -> Option<usize>
         ensures counted { IfSome result (λ count. (1 ≤ count) × (count ≤ RC_MAX + 1)) }
         ensures never_static { IsStatic this.now.kind → IsNone result }
@@ -151,8 +157,8 @@ impl ArcStr {
         }
     }
 
-    /// The same text for good. Of a block one fetch-or sets the mark in its word; of a literal or a
-    /// fixed block no step is taken.
+    /// The same text for good: its memory is never given back. Of a block one fetch-or sets the mark in its
+    /// word; of a literal or a fixed block no step is taken. Takes no memory.
     pub fn leak(&self) -> StaticStr
         ensures { result ≡ leaked self.now }
     {
@@ -176,7 +182,7 @@ impl ArcStr {
         }
     }
 
-    /// The handle as a raw value, which lives on. No step is taken.
+    /// The handle as a raw value, in which it lives on until `from_raw`. No step is taken.
     pub fn into_raw(this: ArcStr) -> RawArcStr
         ensures { result ≡ this }
     {
@@ -214,6 +220,7 @@ impl Default for ArcStr {
 
     ghost is_default = { λ text. text ≡ literal_of [] };
 
+    /// The empty literal, as `ArcStr::new()`. Takes no memory.
     fn default() -> ArcStr {
         ArcStr::new()
     }

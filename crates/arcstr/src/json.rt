@@ -4,6 +4,7 @@ ghost use Rattle.std.specs.Prelude.{◌≡◌, Some};
 use std::error::Error;
 use std::fmt;
 
+mod from_memory;
 #[cfg(test)]
 mod tests;
 
@@ -21,7 +22,7 @@ pub enum JsonFault {
 impl JsonFault {
     ghost use Rattle.arcstr.specs.JsonFault.{number_of};
 
-    /// The number of the fault.
+    /// The number of the fault, from 1 on in the order of the tests.
     pub fn number(&self) -> u8
         ensures { result ≡ number_of self.now }
     {

@@ -5,6 +5,8 @@ pub use arc_str::{ArcStr, RawArcStr};
 pub use arcstr_block as block;
 pub use arcstr_block::TextFault;
 pub use arcstr_count as count;
+pub use arcstr_range::range::{RangeFault, StrRange};
+pub use arcstr_range::view::StrView;
 pub use arcstr_range::{range, view};
 pub use json::JsonFault;
 pub use static_str::StaticStr;
@@ -12,7 +14,10 @@ pub use substr::Substr;
 
 mod arc_str;
 #[cfg(test)]
+mod conversion_tests;
+#[cfg(test)]
 mod count_tests;
+mod first_place;
 mod json;
 mod mac;
 #[cfg(test)]

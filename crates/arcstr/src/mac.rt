@@ -12,7 +12,9 @@ macro_rules! literal {
 }
 
 /// What `format!` prints, as an `ArcStr`: `format_arcstr!(alloc; "cool {}", 123)`.
-/// Refused: want of memory while the text is built; then as `ArcStr::from_str`.
+/// The text is built in memory of its own, and copied into its block. Refused, in this order: want of memory
+/// while it is built (`Memory`), a text of `2^63 - 25` bytes or more (`Length`), and want of memory for the block
+/// (`Memory`).
 #[macro_export]
 macro_rules! format_arcstr {
     ($alloc:expr; $($arguments:tt)+) => {{

@@ -7,6 +7,8 @@ use arcstr_block::Fixed;
 use std::alloc::Global;
 use std::marker::Model;
 
+mod conversions;
+
 /// A text that is never given back: a literal, or a block that is marked for good. A contract sees
 /// its text and its kind, which is never that of an unmarked block.
 #[derive(Drop)]
@@ -48,7 +50,7 @@ impl StaticStr {
         }
     }
 
-    /// The text.
+    /// The text. No step is taken.
     pub fn as_str(&self) -> &str
         ensures { result.now ≡ self.now.text }
     {
@@ -58,7 +60,7 @@ impl StaticStr {
         }
     }
 
-    /// The number of bytes of the text.
+    /// The number of bytes of the text. No step is taken.
     pub fn len(&self) -> usize
         ensures { result ≡ length self.now.text }
     {
@@ -86,7 +88,8 @@ impl StaticStr {
         }
     }
 
-    /// The same text as an `ArcStr`: a literal of a literal, else a fixed block. No step is taken.
+    /// The same text as an `ArcStr`: a literal of a literal, else a fixed block. Takes no memory, and no step is
+    /// taken.
     pub fn to_arc_str(&self) -> ArcStr
         ensures same { result ≡ self.now }
         ensures kind { IsStatic result.kind }

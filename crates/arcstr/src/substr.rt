@@ -13,11 +13,13 @@ use std::marker::Model;
 use std::ops::Range;
 use std::sync::Wait;
 
+mod conversions;
 mod cow;
 mod json;
 mod order;
 mod printing;
 mod slices;
+mod splitting;
 #[cfg(test)]
 mod tests;
 #[cfg(test)]
@@ -25,7 +27,7 @@ mod thread_tests;
 
 /// A slice of a shared text. It keeps its parent, and so the parent's text, as long as it lives. A
 /// contract sees the parent, and the two places in bytes of the parent's text between which the slice
-/// lies. These are in order, at most the parent's length, and at boundaries.
+/// lies. These are in order, at most the parent's length, and at boundaries. Its drop is that of its parent.
 #[derive(Drop)]
 pub struct Substr {
     parent: ArcStr,
@@ -51,9 +53,9 @@ impl Substr {
         Substr::from_static("")
     }
 
-    /// A copy of this text in a block, as a slice of the whole of it; of the empty literal where the
-    /// text is empty. Refused, in this order: a text that is too long for a block (`Length`), and want of
-    /// memory (`Memory`).
+    /// A copy of this text in a block, as a slice of the whole of it, with one request for memory; of the empty
+    /// literal where the text is empty. Refused, in this order: a text of `2^63 - 25` bytes or more (`Length`),
+    /// and want of memory (`Memory`).
     pub fn from_str(alloc: Global, text: &str) -> Result<Substr, TextFault>
         ensures made { IfOk result (λ slice. slice ≡ whole_of (made_of text.now)) }
         ensures empty { text.now ≡ [] → result ≡ Ok empty_slice }
@@ -91,14 +93,14 @@ impl Substr {
         }
     }
 
-    /// The text that the slice keeps.
+    /// The text that the slice keeps. No step is taken.
     pub fn parent(&self) -> &ArcStr
         ensures { result.now ≡ self.now.parent }
     {
         &self.parent
     }
 
-    /// The places of the slice, in bytes of its parent's text.
+    /// The places of the slice, in bytes of its parent's text. No step is taken.
     pub fn range(&self) -> Range<usize>
         ensures start { result.start ≡ self.now.start }
         ensures end { result.end ≡ self.now.end }
@@ -107,7 +109,8 @@ impl Substr {
         self.start..self.end
     }
 
-    /// Another slice at the same places of the same parent, whose handle is cloned.
+    /// Another slice at the same places of the same parent, whose handle is cloned, and so it may wait. Takes no
+    /// memory.
     pub fn clone(&self, rt: &impl Wait) -> Substr
         ensures { result ≡ self.now }
     {
@@ -118,7 +121,7 @@ impl Substr {
         }
     }
 
-    /// The slice's own text: the parent's characters between the two places.
+    /// The slice's own text: the parent's characters between the two places. No step is taken.
     pub fn as_str(&self) -> &str
         ensures text { result.now ≡ text_of self.now }
         ensures characters { SpellsBetween self.now.parent.text self.now.start self.now.end result.now }
@@ -127,21 +130,21 @@ impl Substr {
         &self.parent.as_str()[range.start..range.end]
     }
 
-    /// The number of bytes of the slice's own text.
+    /// The number of bytes of the slice's own text. No step is taken.
     pub fn len(&self) -> usize
         ensures { result ≡ length (text_of self.now) }
     {
         self.end - self.start
     }
 
-    /// Whether the slice's own text has no bytes.
+    /// Whether the slice's own text has no bytes. No step is taken.
     pub fn is_empty(&self) -> bool
         ensures { IsTrue result ↔ (text_of self.now ≡ []) }
     {
         self.start == self.end
     }
 
-    /// The bytes of the slice's own text.
+    /// The bytes of the slice's own text. No step is taken.
     pub fn as_bytes(&self) -> &[u8]
         ensures { result.now ≡ text_of self.now }
     {
@@ -154,6 +157,7 @@ impl Default for Substr {
 
     ghost is_default = { λ slice. slice ≡ empty_slice };
 
+    /// The slice of nothing, as `Substr::new()`. Takes no memory.
     fn default() -> Substr {
         Substr::new()
     }

@@ -5,6 +5,9 @@ ghost use Rattle.arcstr_block.specs.Fault.{text_fault_number, text_fault_text};
 use std::error::Error;
 use std::fmt;
 
+mod from_memory;
+mod to_io;
+
 /// The least number of bytes that is too long for a block: `2^63 - 25`.
 pub const TOO_LONG: usize = 9_223_372_036_854_775_783;
 

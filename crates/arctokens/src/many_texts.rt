@@ -23,8 +23,8 @@ impl Gate for OpenGate {
 }
 
 /// The tokens of each text, in the order of the texts: one list for each, as `tokens` answers it. They
-/// are found by so many workers, from 1 to 64, as `tokens_all_with` says, behind a gate at which none
-/// waits.
+/// are found by so many workers, each in a thread of its own, as `tokens_all_with` says, behind a gate at which
+/// none waits. That there are 1 to 64 workers is the caller's condition. Refused for want of memory alone.
 pub fn tokens_all<R: Threads + Wait + Sync>(
     rt: &R,
     alloc: Global,
@@ -42,6 +42,9 @@ pub fn tokens_all<R: Threads + Wait + Sync>(
 /// Text `i` falls to worker `i % workers`. Each worker has a thread of its own, in which it passes the
 /// gate once and then finds the tokens of its texts. Where its thread cannot be started, the calling
 /// thread passes the gate for it and does its texts, after all other threads have been started.
+///
+/// That there are 1 to 64 workers is the caller's condition. It joins all threads, and so it may wait. Refused
+/// for want of memory alone: that a thread could not be started is no fault.
 ///
 /// After a refusal every thread that was started has been joined, and no slice that was made is left.
 /// That threads run at once, that each passes the gate once, and that a call succeeds where memory is

@@ -10,8 +10,9 @@ use std::sync::Wait;
 /// The words of a text in rising order, each as a slice of it: the longest runs of characters that are
 /// not white space (`char::is_whitespace`).
 ///
-/// Takes one clone of the text for each word, and memory for the list alone. That a call succeeds where
-/// memory is there, no clause can say: a body that always refuses is caught by the tests.
+/// Takes one clone of the text for each word, and so it may wait; and memory for the list alone, for want of
+/// which alone it is refused. No slice is then left. That a call succeeds where memory is there, no clause can
+/// say: a body that always refuses is caught by the tests.
 pub fn tokens<R: Wait>(rt: &R, alloc: Global, text: &ArcStr) -> Result<Vec<Substr>, AllocError>
     ensures { IfOk result (λ tokens. AreTokens text.now tokens.items) }
 {

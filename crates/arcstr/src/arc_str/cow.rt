@@ -11,7 +11,7 @@ use std::borrow::CowStr;
 mod tests;
 
 impl ArcStr {
-    /// The text, borrowed.
+    /// The text, borrowed. Takes no memory, and no step is taken.
     pub fn to_cow(&self) -> CowStr<'_>
         ensures text { cow_str_bytes result ≡ self.now.text }
         ensures borrowed { IsBorrowedStr result }
@@ -20,7 +20,7 @@ impl ArcStr {
     }
 
     /// The text without its handle: a literal's is borrowed, any other is copied, with one request for
-    /// memory. For want of memory the text itself comes back.
+    /// memory where it is not empty, and its handle is dropped. For want of memory the text itself comes back.
     pub fn into_cow(self, alloc: Global) -> Result<CowStr<'static>, ArcStr>
         ensures text { IfOk result (λ cow. cow_str_bytes cow ≡ self.text) }
         ensures borrowed { IfOk result (λ cow. IsBorrowedStr cow ↔ (self.kind ≡ literal)) }

@@ -9,7 +9,7 @@ use serde_json::Value;
 use std::alloc::{AllocError, Global};
 
 impl ArcStr {
-    /// The text as a JSON string.
+    /// A copy of the text, as a JSON string. Refused for want of memory alone. No step is taken.
     pub fn to_json(&self, alloc: Global) -> Result<Value, AllocError>
         ensures { IfOk result (λ value. text_in value ≡ Some self.now.text) }
     {

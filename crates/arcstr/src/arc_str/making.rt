@@ -18,8 +18,8 @@ mod tests;
 mod utf8_tests;
 
 impl ArcStr {
-    /// A copy of this text. Refused, in this order: a text of `2^63 - 25` bytes or more (`Length`), and want
-    /// of memory (`Memory`).
+    /// A copy of this text: one request for memory, and none where it is empty. Refused, in this order: a text
+    /// of `2^63 - 25` bytes or more (`Length`), and want of memory (`Memory`).
     pub fn from_str(alloc: Global, text: &str) -> Result<ArcStr, TextFault>
         ensures made { IfOk result (λ made. made ≡ made_of text.now) }
         ensures empty { text.now ≡ [] → result ≡ Ok (literal_of []) }
@@ -32,7 +32,8 @@ impl ArcStr {
         Ok(ArcStr::from_shared(Shared::from_text(alloc, text)?))
     }
 
-    /// As `from_str`.
+    /// A copy of this text, as `from_str` makes it: one request for memory, and none where it is empty.
+    /// Refused, in this order: a text of `2^63 - 25` bytes or more (`Length`), and want of memory (`Memory`).
     pub fn try_alloc(alloc: Global, text: &str) -> Result<ArcStr, TextFault>
         ensures made { IfOk result (λ made. made ≡ made_of text.now) }
         ensures empty { text.now ≡ [] → result ≡ Ok (literal_of []) }
@@ -42,8 +43,9 @@ impl ArcStr {
         ArcStr::from_str(alloc, text)
     }
 
-    /// The text of these bytes. Refused: bytes that are not UTF-8 (`Utf8`, with the length in bytes of their
-    /// longest front that is); then as `from_str`.
+    /// The text of these bytes: one request for memory, and none where there are none. Refused, in this order:
+    /// bytes that are not UTF-8 (`Utf8`, with the length in bytes of their longest front that is), `2^63 - 25`
+    /// bytes or more (`Length`), and want of memory (`Memory`).
     pub fn from_utf8(alloc: Global, bytes: &[u8]) -> Result<ArcStr, TextFault>
         ensures made { IfOk result (λ made. made ≡ made_of bytes.now) }
         ensures empty { bytes.now ≡ [] → result ≡ Ok (literal_of []) }
@@ -58,9 +60,12 @@ impl ArcStr {
         }
     }
 
-    /// The text that `fill` leaves in `n` zero bytes. Refused: a length that is too long (`Length`), then want
-    /// of memory (`Memory`), and the closure is not run after either; then bytes that are not UTF-8 (`Utf8`), as
-    /// in `from_utf8`. For no bytes the closure runs on an empty slice.
+    /// The text that `fill` leaves in `n` zero bytes: one request for memory, before the closure runs, and none
+    /// for no bytes, where it runs on an empty slice. That it takes `n` zero bytes is the caller's condition.
+    ///
+    /// Refused, in this order: a length of `2^63 - 25` bytes or more (`Length`) and want of memory (`Memory`),
+    /// after which the closure is not run, and bytes that are not UTF-8 once it has run (`Utf8`, with the length
+    /// in bytes of their longest front that is).
     ///
     /// That the closure was not run no clause says: the tests `a_closure_is_not_run_for_a_length_that_is_too_long`,
     /// `a_closure_is_not_run_without_memory` and `a_closure_is_run_only_where_the_memory_is_there` do.
@@ -88,8 +93,9 @@ impl ArcStr {
         }
     }
 
-    /// `n` copies of the text, joined. Nothing is refused for an empty text or no copies; else a length of all
-    /// copies that is too long (`Length`), and then want of memory (`Memory`).
+    /// `n` copies of the text, joined: one request for memory. An empty text or no copies take none, and are
+    /// never refused. Else refused, in this order: `2^63 - 25` bytes or more in all copies (`Length`), and want of
+    /// memory (`Memory`).
     #[tactic(auto, using(crate::proofs::Copies::copies_of_nothing))]
     pub fn try_repeat(alloc: Global, text: &str, n: usize) -> Result<ArcStr, TextFault>
         ensures made { IfOk result (λ made. made ≡ made_of (repeat n text.now)) }
@@ -107,7 +113,9 @@ impl ArcStr {
         }
     }
 
-    /// As `try_repeat`.
+    /// `n` copies of the text, joined, as `try_repeat` makes them: one request for memory. An empty text or no
+    /// copies take none, and are never refused. Else refused, in this order: `2^63 - 25` bytes or more in all
+    /// copies (`Length`), and want of memory (`Memory`).
     pub fn repeat(alloc: Global, text: &str, n: usize) -> Result<ArcStr, TextFault>
         ensures made { IfOk result (λ made. made ≡ made_of (repeat n text.now)) }
         ensures no_copies { n ≡ 0 → result ≡ Ok (literal_of []) }

@@ -17,7 +17,7 @@ use std::hash::{Hash, Hasher};
 mod tests;
 
 impl ArcStr {
-    /// Whether the text is this one.
+    /// Whether the text is this one, byte by byte. No step is taken.
     pub fn eq_str(&self, other: &str) -> bool
         ensures { IsTrue result ↔ (self.now.text ≡ other.now) }
     {

@@ -17,7 +17,7 @@ use std::sync::Wait;
 
 impl ArcStr {
     /// The part of the text in the range, as Rust's `str::get`: `None` where the ends are out of order,
-    /// past the text or inside a character.
+    /// past the text or inside a character. Takes no memory, and no step is taken.
     pub fn get<R: Into<StrRange>>(&self, range: R) -> Option<&str>
         ensures { (given : StrRange) × R.converts range given
             × AnswersGet self.now.text given (option_copied result) }
@@ -25,7 +25,8 @@ impl ArcStr {
         slice(self.as_str(), range.into())
     }
 
-    /// The slice of this text in the range, also where it is empty. Takes no memory; the handle is cloned.
+    /// The slice of this text in the range, also where it is empty. Takes no memory; the handle is cloned, and so
+    /// it may wait.
     ///
     /// Refuses the first that fails: the start is at most the end (`OutOfOrder`), the end at most the
     /// length (`PastEnd`), and both are boundaries (`OffBoundary`).
@@ -38,7 +39,8 @@ impl ArcStr {
     }
 
     /// The slice of this text that a view of it shows. `None` exactly where the text doesn't have the
-    /// view's text at the view's place. An empty view is found everywhere, and gives `Substr::new()`.
+    /// view's text at the view's place. An empty view is found everywhere, and gives `Substr::new()`. Takes no
+    /// memory; the handle is cloned where a view that is not empty is found, and so it may wait.
     pub fn try_substr_from(&self, rt: &impl Wait, view: StrView<'_>) -> Option<Substr>
         ensures found { IsSome result ↔ IsFoundAt self.now.text view.entry.text view.entry.place }
         ensures value { IfSome result (IsSliceOfView (slice_of self.now) view.entry) }
@@ -49,7 +51,9 @@ impl ArcStr {
         Some(self.substr_from(rt, view))
     }
 
-    /// The slice of this text that a view of it shows, where `try_substr_from` has one.
+    /// The slice of this text that a view of it shows; of an empty view `Substr::new()`. That the text has the
+    /// view's text at the view's place is the caller's condition. Takes no memory; the handle is cloned where the
+    /// view is not empty, and so it may wait.
     pub fn substr_from(&self, rt: &impl Wait, view: StrView<'_>) -> Substr
         requires { IsFoundAt self.now.text view.text view.place }
         ensures { IsSliceOfView (slice_of self.now) view.entry result }
@@ -61,7 +65,11 @@ impl ArcStr {
     }
 
     /// The slice of this text between the places that the closure finds in it. The closure is called once,
-    /// first. Equal places give `Substr::new()` wherever they lie, and others what `substr` answers.
+    /// first; that it takes the text is the caller's condition. Equal places give `Substr::new()` wherever they
+    /// lie. Takes no memory; for other places the handle is cloned, and so it may wait.
+    ///
+    /// Of other places it refuses the first that fails: the start is at most the end (`OutOfOrder`), the end at
+    /// most the length (`PastEnd`), and both are boundaries (`OffBoundary`).
     pub fn substr_using<F: FnOnce(&str) -> Range<usize>>(
         &self,
         rt: &impl Wait,
@@ -78,7 +86,12 @@ impl ArcStr {
         self.substr(rt, found)
     }
 
-    /// The same as `substr_using`.
+    /// The slice of this text between the places that the closure finds in it, as `substr_using` answers it. The
+    /// closure is called once, first; that it takes the text is the caller's condition. Equal places give `Substr::new()`
+    /// wherever they lie. Takes no memory; for other places the handle is cloned, and so it may wait.
+    ///
+    /// Of other places it refuses the first that fails: the start is at most the end (`OutOfOrder`), the end at
+    /// most the length (`PastEnd`), and both are boundaries (`OffBoundary`).
     pub fn try_substr_using<F: FnOnce(&str) -> Range<usize>>(
         &self,
         rt: &impl Wait,

@@ -13,7 +13,7 @@ use std::borrow::CowStr;
 mod tests;
 
 impl Substr {
-    /// The slice's own text, borrowed.
+    /// The slice's own text, borrowed. Takes no memory, and no step is taken.
     pub fn to_cow(&self) -> CowStr<'_>
         ensures text { cow_str_bytes result ≡ text_of self.now }
         ensures borrowed { IsBorrowedStr result }

@@ -10,7 +10,7 @@ use serde_json::Value;
 use std::alloc::{AllocError, Global};
 
 impl Substr {
-    /// The slice's own text as a JSON string.
+    /// A copy of the slice's own text, as a JSON string. Refused for want of memory alone. No step is taken.
     pub fn to_json(&self, alloc: Global) -> Result<Value, AllocError>
         ensures { IfOk result (λ value. text_in value ≡ Some (text_of self.now)) }
     {

@@ -18,7 +18,7 @@ use std::hash::{Hash, Hasher};
 mod tests;
 
 impl Substr {
-    /// Whether the slice's own text is this one.
+    /// Whether the slice's own text is this one, byte by byte. No step is taken.
     pub fn eq_str(&self, other: &str) -> bool
         ensures { IsTrue result ↔ (text_of self.now ≡ other.now) }
     {

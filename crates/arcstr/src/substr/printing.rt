@@ -11,7 +11,8 @@ use std::fmt;
 mod tests;
 
 impl Substr {
-    /// A copy of the slice's own text, with one request for memory where it is not empty.
+    /// A copy of the slice's own text, with one request for memory where it is not empty. Refused for want of memory
+    /// alone. No step is taken.
     pub fn to_string(&self, alloc: Global) -> Result<String, AllocError>
         ensures { IfOk result (λ copy. string_bytes copy ≡ text_of self.now) }
     {

@@ -16,7 +16,7 @@ use std::sync::Wait;
 
 impl Substr {
     /// The part of the slice's own text in the range, as Rust's `str::get`: `None` where the ends are out
-    /// of order, past that text or inside a character.
+    /// of order, past that text or inside a character. Takes no memory, and no step is taken.
     pub fn get<R: Into<StrRange>>(&self, range: R) -> Option<&str>
         ensures { (given : StrRange) × R.converts range given
             × AnswersGet (text_of self.now) given (option_copied result) }
@@ -25,7 +25,7 @@ impl Substr {
     }
 
     /// The slice of the same parent in the range, which is measured in the slice's own text, also where it
-    /// is empty. Takes no memory; the parent's handle is cloned.
+    /// is empty. Takes no memory; the parent's handle is cloned, and so it may wait.
     ///
     /// Refuses the first that fails: the start is at most the end (`OutOfOrder`), the end at most the
     /// length of the slice's own text (`PastEnd`), and both are boundaries of it (`OffBoundary`).
@@ -45,7 +45,8 @@ impl Substr {
 
     /// The slice of the same parent that a view of the slice's own text shows. `None` exactly where that
     /// text doesn't have the view's text at the view's place. An empty view is found everywhere, and
-    /// gives `Substr::new()`.
+    /// gives `Substr::new()`. Takes no memory; the parent's handle is cloned where a view that is not empty is
+    /// found, and so it may wait.
     pub fn try_substr_from(&self, rt: &impl Wait, view: StrView<'_>) -> Option<Substr>
         ensures found { IsSome result ↔ IsFoundAt (text_of self.now) view.entry.text view.entry.place }
         ensures value { IfSome result (IsSliceOfView (slice_within self.now) view.entry) }
@@ -56,8 +57,9 @@ impl Substr {
         Some(self.substr_from(rt, view))
     }
 
-    /// The slice of the same parent that a view of the slice's own text shows, where `try_substr_from` has
-    /// one.
+    /// The slice of the same parent that a view of the slice's own text shows; of an empty view `Substr::new()`.
+    /// That the slice's own text has the view's text at the view's place is the caller's condition. Takes no
+    /// memory; the parent's handle is cloned where the view is not empty, and so it may wait.
     pub fn substr_from(&self, rt: &impl Wait, view: StrView<'_>) -> Substr
         requires { IsFoundAt (text_of self.now) view.text view.place }
         ensures { IsSliceOfView (slice_within self.now) view.entry result }
@@ -74,8 +76,12 @@ impl Substr {
     }
 
     /// The slice of the same parent between the places that the closure finds in the slice's own text. The
-    /// closure is called once, first. Equal places give `Substr::new()` wherever they lie, and others
-    /// what `substr` answers.
+    /// closure is called once, first; that it takes that text is the caller's condition. Equal places give
+    /// `Substr::new()` wherever they lie. Takes no memory; for other places the parent's handle is cloned, and so
+    /// it may wait.
+    ///
+    /// Of other places it refuses the first that fails: the start is at most the end (`OutOfOrder`), the end at
+    /// most the length of the slice's own text (`PastEnd`), and both are boundaries of it (`OffBoundary`).
     pub fn substr_using<F: FnOnce(&str) -> Range<usize>>(
         &self,
         rt: &impl Wait,
@@ -92,7 +98,13 @@ impl Substr {
         self.substr(rt, found)
     }
 
-    /// The same as `substr_using`.
+    /// The slice of the same parent between the places that the closure finds in the slice's own text, as
+    /// `substr_using` answers it. The closure is called once, first; that it takes that text is the caller's
+    /// condition. Equal places give `Substr::new()` wherever they lie. Takes no memory; for other places the
+    /// parent's handle is cloned, and so it may wait.
+    ///
+    /// Of other places it refuses the first that fails: the start is at most the end (`OutOfOrder`), the end at
+    /// most the length of the slice's own text (`PastEnd`), and both are boundaries of it (`OffBoundary`).
     pub fn try_substr_using<F: FnOnce(&str) -> Range<usize>>(
         &self,
         rt: &impl Wait,

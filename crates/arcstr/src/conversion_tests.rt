@@ -1,0 +1,72 @@
+//! Calls that ask for a text, for bytes or for a fault by its trait, and are given those of this crate.
+use crate::test_steps::{check_bytes, check_text, made, part};
+use crate::{ArcStr, JsonFault, RangeFault, StrRange, StrView, TextFault, literal};
+use std::alloc::{AllocError, Global};
+use std::convert::{AsSlice, AsStr};
+use std::io;
+use std::process::Abort;
+
+/// Asserts what the value lends as a text, and as bytes.
+fn check_lent<T: AsStr + AsSlice<u8>>(rt: &impl Abort, value: &T, wanted: &str) {
+    check_text(rt, AsStr::as_str(value), wanted);
+    check_bytes(rt, AsSlice::as_slice(value), wanted.as_bytes());
+}
+
+#[test]
+fn a_text_lends_its_text(rt: HostRuntime) {
+    check_lent(&rt, &literal!("foobar"), "foobar");
+}
+
+#[test]
+fn a_static_text_lends_its_text(rt: HostRuntime) {
+    check_lent(&rt, &made(&rt, "foobar").leak(), "foobar");
+}
+
+#[test]
+fn a_slice_lends_its_own_text(rt: HostRuntime) {
+    check_lent(&rt, &part(&rt, &literal!("foobar"), 3..), "bar");
+}
+
+/// The texts of a list, which both ask for memory.
+fn listed(alloc: Global, one: &str, other: &str) -> Result<Vec<ArcStr>, TextFault> {
+    let mut texts = Vec::with_capacity(alloc, 1)?;
+    texts.push(ArcStr::from_str(alloc, one)?)?;
+    texts.push(ArcStr::from_str(alloc, other)?)?;
+    Ok(texts)
+}
+
+#[test]
+fn a_list_and_its_texts_have_one_fault(rt: HostRuntime) {
+    let texts = listed(rt.alloc(), "foo", "bar").expect(&rt, "no memory");
+    let last = texts.last().expect(&rt, "no text");
+    check_text(&rt, last.as_str(), "bar");
+}
+
+#[test]
+fn want_of_memory_is_a_fault_of_each_kind(rt: HostRuntime) {
+    assert_eq!(rt; TextFault::from(AllocError), TextFault::Memory);
+    assert_eq!(rt; JsonFault::from(AllocError), JsonFault::Memory);
+}
+
+/// What a fault is as one of reading and writing.
+fn kind_of(fault: TextFault) -> io::ErrorKind {
+    io::Error::from(fault).kind()
+}
+
+#[test]
+fn faults_of_a_text_have_kinds(rt: HostRuntime) {
+    assert_eq!(rt; kind_of(TextFault::Length), io::ErrorKind::InvalidInput);
+    assert_eq!(rt; kind_of(TextFault::Memory), io::ErrorKind::OutOfMemory);
+    assert_eq!(rt; kind_of(TextFault::Utf8(3)), io::ErrorKind::InvalidData);
+}
+
+#[test]
+fn ranges_and_views_stand_at_the_root(rt: HostRuntime) {
+    let range = StrRange::Between(3, 9);
+    assert!(rt;
+        literal!("foobar")
+            .substr(&rt, range)
+            .is_err_and(|fault| fault == RangeFault::PastEnd)
+    );
+    check_text(&rt, StrView::whole("foo ").trim_end().text(), "foo");
+}

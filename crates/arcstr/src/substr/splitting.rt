@@ -1,0 +1,37 @@
+//! A `Substr` split in two at a character.
+ghost use Rattle.std.specs.Prelude.{◌≡◌};
+ghost use Rattle.arcstr_range.specs.Ends.{IsLawful};
+ghost use Rattle.arcstr.specs.Splitting.{AnswersSplit};
+ghost use Rattle.arcstr.specs.Substr.{slice_within, text_of};
+
+use crate::first_place::first_place;
+use crate::substr::Substr;
+use std::ops::Range;
+use std::sync::Wait;
+
+impl Substr {
+    /// The slices of the same parent before and after the first place of the character in the slice's own
+    /// text, as Rust's `str::split_once`. `None` exactly where that text doesn't have the character. Takes no
+    /// memory; the parent's handle is cloned once for each slice, which also where it is empty keeps it.
+    pub fn split_once(&self, rt: &impl Wait, character: char) -> Option<(Substr, Substr)>
+        ensures { AnswersSplit (text_of self.now) (slice_within self.now) character result }
+    {
+        let place = first_place(self.as_str(), character)?;
+        let before = self.between(rt, 0..place);
+        let after = self.between(rt, place + character.len_utf8()..self.len());
+        Some((before, after))
+    }
+
+    /// The slice of the same parent between two places of the slice's own text.
+    fn between(&self, rt: &impl Wait, range: Range<usize>) -> Substr
+        requires { IsLawful (text_of self.now) range.start range.end }
+        ensures { result ≡ slice_within self.now range.start range.end }
+    {
+        let start = self.range().start;
+        let places = start + range.start..start + range.end;
+        Substr::from_parts_unchecked(self.parent().clone(rt), places)
+    }
+}
+
+#[cfg(test)]
+mod tests;

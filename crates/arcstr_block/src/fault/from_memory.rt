@@ -1,0 +1,26 @@
+//! Want of memory as a fault of a text, so that `?` serves in one function for texts and for vectors.
+use crate::fault::TextFault;
+use std::alloc::{AllocError, AllocFailed};
+
+impl From<AllocError> for TextFault {
+    ghost use Rattle.std.specs.Prelude.{◌≡◌};
+    ghost use Rattle.arcstr_block.specs.declared.fault.TextFault.TheVariants.{Memory};
+
+    ghost from_gives = { λ _ fault. fault ≡ Memory };
+
+    fn from(_refused: AllocError) -> TextFault {
+        TextFault::Memory
+    }
+}
+
+/// What could not be stored is dropped.
+impl<T: Drop> From<AllocFailed<T>> for TextFault {
+    ghost use Rattle.std.specs.Prelude.{◌≡◌};
+    ghost use Rattle.arcstr_block.specs.declared.fault.TextFault.TheVariants.{Memory};
+
+    ghost from_gives = { λ _ fault. fault ≡ Memory };
+
+    fn from(refused: AllocFailed<T>) -> TextFault {
+        TextFault::from(AllocError::from(refused))
+    }
+}

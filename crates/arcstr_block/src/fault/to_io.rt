@@ -1,0 +1,21 @@
+//! A fault of a text as one of reading and writing, so that `?` serves in a function that does both.
+use crate::fault::TextFault;
+use std::io;
+use std::io::ErrorKind;
+
+impl From<TextFault> for io::Error {
+    ghost use Rattle.std.specs.Prelude.{◌≡◌};
+    ghost use Rattle.std.specs.IoError.{error_kind};
+    ghost use Rattle.arcstr_block.specs.Fault.{text_fault_kind};
+
+    ghost from_gives = { λ fault error. error_kind error ≡ text_fault_kind fault };
+
+    /// `InvalidInput` of a text that is too long, `OutOfMemory`, and `InvalidData` of bytes that are not UTF-8.
+    fn from(fault: TextFault) -> io::Error {
+        match fault {
+            TextFault::Length => io::Error::new(ErrorKind::InvalidInput, "text is too long"),
+            TextFault::Memory => io::Error::from(ErrorKind::OutOfMemory),
+            TextFault::Utf8(_) => io::Error::new(ErrorKind::InvalidData, "bytes are not UTF-8"),
+        }
+    }
+}

@@ -1,0 +1,42 @@
+//! Messages, whose fields are slices of one text.
+ghost use Rattle.std.specs.Prelude.{◌≡◌, IfSome};
+
+use arcstr::{ArcStr, Substr};
+use std::sync::Wait;
+
+/// A message, written as its sender, its subject and its body with a semicolon after each of the first two.
+/// Its fields share one text, which is kept while one of them is.
+#[derive(Drop)]
+pub struct Message {
+    pub sender: Substr,
+    pub subject: Substr,
+    pub body: Substr,
+}
+
+impl Message {
+    /// The message that the text is. `None` where it has less than two semicolons. No field is copied.
+    pub fn read(rt: &impl Wait, text: &ArcStr) -> Option<Message>
+        ensures sender { IfSome result (λ message. message.sender.parent ≡ text.now) }
+        ensures subject { IfSome result (λ message. message.subject.parent ≡ text.now) }
+        ensures body { IfSome result (λ message. message.body.parent ≡ text.now) }
+    {
+        let (sender, rest) = text.split_once(rt, ';')?;
+        let (subject, body) = rest.split_once(rt, ';')?;
+        Some(Message {
+            sender,
+            subject,
+            body,
+        })
+    }
+
+    /// Cuts the body to its first sentence, without the full stop. No text is copied.
+    pub fn shorten(&mut self, rt: &impl Wait)
+        ensures sender { self.new.sender ≡ self.old.sender }
+        ensures subject { self.new.subject ≡ self.old.subject }
+        ensures same_text { self.new.body.parent ≡ self.old.body.parent }
+    {
+        if let Some((first, _)) = self.body.split_once(rt, '.') {
+            self.body = first;
+        }
+    }
+}
