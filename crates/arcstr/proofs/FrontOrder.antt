@@ -1,12 +1,12 @@
 -- The order of two lists by their fronts: where fronts differ they decide, and where they are alike the rest does.
-use Rattle.std.proofs.Common.{◌≡◌, ℕ, zero, suc, ◌+◌, ◌≤◌, ◌<◌, List, [], ◌∷◌, Bool, true, false, length, min, nat_eq, take, drop, length-take-le, length-take, take-add, take-take, refl, sym, ap, ◌∙◌, subst, arith}
+use Rattle.std.proofs.Common.{◌≡◌, ℕ, zero, suc, ◌+◌, ◌≤◌, ◌<◌, List, [], ◌∷◌, Bool, true, false, length, min, take, drop, length-take-le, length-take, take-add, take-take, refl, sym, ap, ◌∙◌, subst, arith}
 use Rattle.std.specs.declared.cmp.Ordering.{Ordering}
 use Rattle.std.specs.declared.cmp.Ordering.TheVariants.{Less, Equal, Greater}
-use Rattle.std.specs.Cmp.Lexicographic.{bytes_decides, slice_cmp}
-use Rattle.std.specs.List.{starts_with}
+use Rattle.std.specs.Cmp.Lexicographic.{slice_cmp}
 use Rattle.std.specs.Ordering.{nat_cmp, ordering_then, is_ne}
 use Rattle.std.proofs.lemmas.Bool.Decides.{nat_tests}
 use Rattle.std.proofs.lemmas.Cmp.{nat_list_cmp_total, tied_itself}
+use Rattle.std.proofs.lemmas.List.{take_all}
 use Rattle.arcstr.proofs.TextOrders.{equal-of_Equal, nat_cmp-below, nat_cmp-itself, slice_cmp-front}
 
 pub nat_cmp-above : (x y : ℕ) → y < x → nat_cmp x y ≡ Greater
@@ -89,11 +89,6 @@ by_fronts-within n m xs ys answer shorter in_xs in_ys is differ =
     by_fronts n (take m xs) (take m ys) answer (omega (arith, length-take m xs)) (omega (arith, length-take m ys))
     (rw (take-take n m xs shorter) (rw (take-take n m ys shorter) is)) differ
 
--- fronts are alike of which one starts with the other
-pub alike-starts : (m : ℕ) (us vs : List ℕ) (answer : Bool) → m ≡ 64 → 64 ≤ length vs →
-    answer ≡ starts_with nat_eq (take m us) (take m vs) → answer ≡ true → take 64 us ≡ take 64 vs
-alike-starts m us vs answer is_64 in_vs is starts =
-    let whole : length (take m vs) ≡ m = length-take-le m vs (omega arith) in
-    let found : take m vs ≡ take (length (take m vs)) (take m us) = (bytes_decides (take m vs) (take (length (take m vs)) (take m us))).0 (sym is ∙ starts) in
-    let same : take m vs ≡ take m us = found ∙ ap (λ (n : ℕ). take n (take m us)) whole ∙ take-take m m us (omega arith) in
-    subst (λ (n : ℕ). take n us ≡ take n vs) is_64 (sym same)
+-- fronts that are alike are all, where they go as far as both lists
+pub alike-whole : (n : ℕ) (xs ys : List ℕ) → length xs ≤ n → length ys ≤ n → take n xs ≡ take n ys → xs ≡ ys
+alike-whole n xs ys in_xs in_ys same = sym (take_all n xs in_xs) ∙ same ∙ take_all n ys in_ys

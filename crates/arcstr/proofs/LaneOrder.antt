@@ -1,5 +1,5 @@
 -- The order of two runs of bytes by a mask of the places where they differ: the lowest bit names the first such place, whose bytes decide.
-use Rattle.std.proofs.Common.{◌≡◌, ℕ, zero, suc, ◌+◌, ◌*◌, ◌/◌, ◌%◌, ◌≤◌, ◌<◌, List, [], ◌∷◌, Bool, true, false, not, ◌==◌, length, get_or, take, drop, refl, sym, ◌∙◌, subst, arith}
+use Rattle.std.proofs.Common.{◌≡◌, ℕ, zero, suc, ◌+◌, ◌*◌, ◌/◌, ◌%◌, ◌≤◌, ◌<◌, List, [], ◌∷◌, Bool, true, false, not, ◌==◌, length, nat_eq, get_or, take, drop, refl, sym, ap, ◌∙◌, subst, arith}
 use Rattle.std.specs.declared.cmp.Ordering.{Ordering}
 use Rattle.std.specs.declared.cmp.Ordering.TheVariants.{Less, Greater}
 use Rattle.std.specs.Cmp.Lexicographic.{slice_cmp}
@@ -33,6 +33,24 @@ none_differs (u ∷ us) (v ∷ vs) same none = by_lane (not (u == v)) refl none 
         (mask_l (differing us vs) ≡ 0 → us ≡ vs) → u ∷ us ≡ v ∷ vs
     by_lane true is empty later = absurd (omega arith)
     by_lane false is empty later = λ i. alike-lane u v is i ∷ later (omega arith) i
+
+same-lane : (u : ℕ) → not (u == u) ≡ false
+same-lane u = grind (arith, nat_tests)
+
+-- runs that are alike differ in no lane
+pub alike-none : (us vs : List ℕ) → us ≡ vs → mask_l (differing us vs) ≡ 0
+alike-none us vs same = ap (λ (l : List ℕ). mask_l (differing us l)) (sym same) ∙ itself us
+  where
+    itself : (us : List ℕ) → mask_l (differing us us) ≡ 0
+    itself [] = refl
+    itself (u ∷ us) = rw (same-lane u) (omega (arith, itself us))
+
+-- what a test of a mask says
+pub zero-of_test : (mask : ℕ) → nat_eq mask 0 ≡ true → mask ≡ 0
+zero-of_test mask is = grind (arith, nat_tests)
+
+pub test-of_zero : (mask : ℕ) → mask ≡ 0 → nat_eq mask 0 ≡ true
+test-of_zero mask is = grind (arith, nat_tests)
 
 -- the two differ at the place `at`, and compare as the bytes there do
 pub record Decides (us vs : List ℕ) (at : ℕ) : Type 0 where

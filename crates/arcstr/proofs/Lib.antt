@@ -4,6 +4,5 @@ pub mod Places
 pub mod SubstrExamples
 pub mod TextOrders
 pub mod OrderExamples
-pub mod BigEndianOrder
 pub mod FrontOrder
 pub mod LaneOrder

@@ -1,13 +1,45 @@
-//! Order of texts, for both types. Texts of 16 bytes and more are compared eight bytes at a time; of texts of 64 bytes and more
-//! the first 64 are compared sixteen at a time, and then 64 at a time are passed while they are alike.
-ghost use Rattle.std.specs.Prelude.{◌≡◌, ◌+◌, ◌≤◌, ◌==◌, ℕ, drop, length, not, take};
+//! Equality and order of texts, for both types, by vectors of bytes: 16 at a time, or 32 or 64 whose differences are joined before one test.
+ghost use Rattle.std.specs.Prelude.{◌≡◌, ◌↔◌, ◌+◌, ◌≤◌, ◌<◌, ◌==◌, ℕ, IsTrue, drop, length, not, take};
 ghost use Rattle.std.specs.Cmp.Lexicographic.{slice_cmp};
-ghost use Rattle.std.specs.Int.{from_be_bytes, w64};
 ghost use Rattle.std.specs.Ordering.{nat_cmp};
 ghost use Rattle.std.specs.Simd.Lanes.{mask_l, zip2};
 
 use std::cmp::Ordering;
 use std::simd::prelude::*;
+
+/// Whether two texts are the same, by their bytes. Most of those that differ do so in their first 16 bytes, which are tried before the rest.
+pub(crate) fn is_same(one: &str, other: &str) -> bool
+    ensures { IsTrue result ↔ (one.now ≡ other.now) }
+{
+    if one.len() != other.len() {
+        return false;
+    }
+    match (one.as_bytes(), other.as_bytes()) {
+        (one_bytes, _) if one_bytes.len() < 16 => one == other,
+        (one_bytes, other_bytes) if one_bytes.len() < 64 => is_same_by::<16>(one_bytes, other_bytes),
+        (one_bytes, other_bytes) => {
+            is_alike_at::<16>(one_bytes, other_bytes, 0) && is_same_by::<64>(one_bytes, other_bytes)
+        }
+    }
+}
+
+/// Whether two runs of N bytes or more, of which both have as many, are alike.
+fn is_same_by<const N: usize>(one: &[u8], other: &[u8]) -> bool
+    requires lanes { (0 < N) × (N ≤ 64) }
+    requires long { N ≤ length one.now }
+    requires as_long { length one.now ≡ length other.now }
+    ensures { IsTrue result ↔ (one.now ≡ other.now) }
+{
+    let mut from = 0;
+    while N < one.len() - from {
+        if !is_alike_at::<N>(one, other, from) {
+            return false;
+        }
+        from += N;
+    }
+    // The last N bytes, of which some were compared already.
+    is_alike_at::<N>(one, other, one.len() - N)
+}
 
 /// How two texts compare, by their bytes. The length that is tested first is one that few texts reach: among short texts of
 /// mixed lengths the test always goes the same way, and costs little.
@@ -58,7 +90,7 @@ fn compare_far(one: &[u8], other: &[u8]) -> Ordering
 {
     let both = one.len().min(other.len());
     let mut from = 64;
-    while 64 <= both - from && one[from..from + 64].starts_with(&other[from..from + 64]) {
+    while 64 <= both - from && is_alike_at::<64>(one, other, from) {
         from += 64;
     }
     compare_from(one, other, from)
@@ -67,63 +99,51 @@ fn compare_far(one: &[u8], other: &[u8]) -> Ordering
 /// How two runs of bytes compare of which the first `start` bytes are alike.
 fn compare_from(one: &[u8], other: &[u8], start: usize) -> Ordering
     requires within { (start ≤ length one.now) × (start ≤ length other.now) }
-    requires a_word { (8 ≤ length one.now) × (8 ≤ length other.now) }
+    requires a_vector { (16 ≤ length one.now) × (16 ≤ length other.now) }
     requires alike { take start one.now ≡ take start other.now }
     ensures { result ≡ slice_cmp nat_cmp one.now other.now }
 {
     let both = one.len().min(other.len());
     let mut from = start;
-    while 8 < both - from {
-        let found = order_of_word(one, other, from);
+    while 16 < both - from {
+        let found = order_of_lanes::<16>(one, other, from);
         if found.is_ne() {
             return found;
         }
-        from += 8;
+        from += 16;
     }
-    // The last eight bytes, of which some were compared already.
-    let found = order_of_word(one, other, both - 8);
+    // The last 16 bytes, of which some were compared already.
+    let found = order_of_lanes::<16>(one, other, both - 16);
     if found.is_ne() {
         return found;
     }
     one.len().cmp(&other.len())
 }
 
-/// How the first 64 bytes compare.
+/// How the first 64 bytes compare: the first 16, then 32 whose differences are joined, then the last 16.
 fn order_of_block(one: &[u8], other: &[u8]) -> Ordering
     requires { (64 ≤ length one.now) × (64 ≤ length other.now) }
     ensures { result ≡ slice_cmp nat_cmp (take 64 one.now) (take 64 other.now) }
 {
-    let found = order_of_lanes(one, other, 0);
+    let found = order_of_lanes::<16>(one, other, 0);
     if found.is_ne() {
         return found;
     }
-    let found = order_of_lanes(one, other, 16);
+    let found = order_of_lanes::<32>(one, other, 16);
     if found.is_ne() {
         return found;
     }
-    let found = order_of_lanes(one, other, 32);
-    if found.is_ne() {
-        return found;
-    }
-    order_of_lanes(one, other, 48)
+    order_of_lanes::<16>(one, other, 48)
 }
 
-/// How the first `from + 8` bytes compare, of which the first `from` are alike: as the next eight compare as numbers.
-fn order_of_word(one: &[u8], other: &[u8], from: usize) -> Ordering
-    requires within { (from + 8 ≤ length one.now) × (from + 8 ≤ length other.now) }
+/// How the first `from + N` bytes compare, of which the first `from` are alike: as the first pair of the next N that differs.
+fn order_of_lanes<const N: usize>(one: &[u8], other: &[u8], from: usize) -> Ordering
+    requires lanes { N ≤ 64 }
+    requires within { (from + N ≤ length one.now) × (from + N ≤ length other.now) }
     requires alike { take from one.now ≡ take from other.now }
-    ensures { result ≡ slice_cmp nat_cmp (take (from + 8) one.now) (take (from + 8) other.now) }
+    ensures { result ≡ slice_cmp nat_cmp (take (from + N) one.now) (take (from + N) other.now) }
 {
-    word_at(one, from).cmp(&word_at(other, from))
-}
-
-/// How the first `from + 16` bytes compare, of which the first `from` are alike: as the first pair of the next 16 that differs.
-fn order_of_lanes(one: &[u8], other: &[u8], from: usize) -> Ordering
-    requires within { (from + 16 ≤ length one.now) × (from + 16 ≤ length other.now) }
-    requires alike { take from one.now ≡ take from other.now }
-    ensures { result ≡ slice_cmp nat_cmp (take (from + 16) one.now) (take (from + 16) other.now) }
-{
-    let differ = lanes_that_differ(one, other, from);
+    let differ = lanes_that_differ::<N>(one, other, from);
     if differ == 0 {
         return Ordering::Equal;
     }
@@ -135,29 +155,22 @@ fn order_of_lanes(one: &[u8], other: &[u8], from: usize) -> Ordering
     }
 }
 
-/// A bit for each of the 16 bytes from `from` on, set where the two differ. The first byte's bit is the lowest.
-fn lanes_that_differ(one: &[u8], other: &[u8], from: usize) -> u64
-    requires { (from + 16 ≤ length one.now) × (from + 16 ≤ length other.now) }
-    ensures { result ≡ mask_l (zip2 (λ (u v : ℕ). not (u == v)) (take 16 (drop from one.now)) (take 16 (drop from other.now))) }
+/// Whether the N bytes from `from` on are alike.
+fn is_alike_at<const N: usize>(one: &[u8], other: &[u8], from: usize) -> bool
+    requires lanes { N ≤ 64 }
+    requires within { (from + N ≤ length one.now) × (from + N ≤ length other.now) }
+    ensures { IsTrue result ↔ (take N (drop from one.now) ≡ take N (drop from other.now)) }
 {
-    u8x16::from_slice(&one[from..])
-        .simd_ne(u8x16::from_slice(&other[from..]))
-        .to_bitmask()
+    lanes_that_differ::<N>(one, other, from) == 0
 }
 
-/// The number that the eight bytes from `at` on spell, the greatest first.
-fn word_at(bytes: &[u8], at: usize) -> u64
-    requires { at + 8 ≤ length bytes.now }
-    ensures { result ≡ from_be_bytes w64 (take 8 (drop at bytes.now)) }
+/// A bit for each of the N bytes from `from` on, set where the two differ. The first byte's bit is the lowest.
+fn lanes_that_differ<const N: usize>(one: &[u8], other: &[u8], from: usize) -> u64
+    requires lanes { N ≤ 64 }
+    requires within { (from + N ≤ length one.now) × (from + N ≤ length other.now) }
+    ensures { result ≡ mask_l (zip2 (λ (u v : ℕ). not (u == v)) (take N (drop from one.now)) (take N (drop from other.now))) }
 {
-    u64::from_be_bytes([
-        bytes[at],
-        bytes[at + 1],
-        bytes[at + 2],
-        bytes[at + 3],
-        bytes[at + 4],
-        bytes[at + 5],
-        bytes[at + 6],
-        bytes[at + 7],
-    ])
+    Simd::<u8, N>::from_slice(&one[from..])
+        .simd_ne(Simd::<u8, N>::from_slice(&other[from..]))
+        .to_bitmask()
 }

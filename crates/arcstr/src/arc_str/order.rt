@@ -9,7 +9,7 @@ ghost use Rattle.std.specs.Ordering.{nat_cmp};
 ghost use Rattle.arcstr.specs.TextOrder.{IsTextOrder};
 
 use crate::arc_str::ArcStr;
-use crate::text_order::compare;
+use crate::text_order::{compare, is_same};
 use std::cmp::Ordering;
 use std::hash::{Hash, Hasher};
 
@@ -21,7 +21,7 @@ impl ArcStr {
     pub fn eq_str(&self, other: &str) -> bool
         ensures { IsTrue result ↔ (self.now.text ≡ other.now) }
     {
-        self.as_str() == other
+        is_same(self.as_str(), other)
     }
 }
 

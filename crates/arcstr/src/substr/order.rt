@@ -10,7 +10,7 @@ ghost use Rattle.arcstr.specs.Substr.{text_of};
 ghost use Rattle.arcstr.specs.TextOrder.{IsTextOrder};
 
 use crate::substr::Substr;
-use crate::text_order::compare;
+use crate::text_order::{compare, is_same};
 use std::cmp::Ordering;
 use std::hash::{Hash, Hasher};
 
@@ -22,7 +22,7 @@ impl Substr {
     pub fn eq_str(&self, other: &str) -> bool
         ensures { IsTrue result ↔ (text_of self.now ≡ other.now) }
     {
-        self.as_str() == other
+        is_same(self.as_str(), other)
     }
 }
 

@@ -1,30 +1,30 @@
--- The first word that differs decides, and else the lengths do.
+-- The first run of lanes that differs decides, and else the lengths do.
 use Rattle.std.proofs.Common.{◌≡◌, ℕ, ◌+◌, ◌-◌, take, sym, ◌∙◌, subst, arith}
 use Rattle.arcstr.proofs.FrontOrder.{alike, alike-front, by_fronts, by_length}
 use Rattle.arcstr.proofs.text_order.compare_from.Goals as goal
 
 pub returns-then-is_ne : goal.returns-then-is_ne
 returns-then-is_ne c =
-    by_fronts (c.loop-from.from + 8) c.args.one.now c.args.other.now _ (omega arith) (omega arith) c.order_of_word-found.ensures (sym c.is_ne.ensures ∙ c.if-is_ne.true)
+    by_fronts (c.loop-from.from + 16) c.args.one.now c.args.other.now _ (omega arith) (omega arith) c.order_of_lanes-found.ensures (sym c.is_ne.ensures ∙ c.if-is_ne.true)
 
 pub loop-from-preserved : goal.loop-from-preserved
 loop-from-preserved c = record {
   within = omega arith;
-  alike = alike _ _ _ c.order_of_word-found.ensures (sym c.is_ne.ensures ∙ c.if-is_ne.false);
+  alike = alike _ _ _ c.order_of_lanes-found.ensures (sym c.is_ne.ensures ∙ c.if-is_ne.false);
 }
 
-pub order_of_word-found-requires-2-clause-alike : goal.order_of_word-found-requires-2-clause-alike
-order_of_word-found-requires-2-clause-alike c =
-    alike-front (c.min-both.result - 8) c.loop-from.from c.args.one.now c.args.other.now (omega arith) c.loop-from.invariant.alike
+pub order_of_lanes-found-requires-2-clause-alike : goal.order_of_lanes-found-requires-2-clause-alike
+order_of_lanes-found-requires-2-clause-alike c =
+    alike-front (c.min-both.result - 16) c.loop-from.from c.args.one.now c.args.other.now (omega arith) c.loop-from.invariant.alike
 
 pub returns-then-is_ne-2 : goal.returns-then-is_ne-2
 returns-then-is_ne-2 c =
-    by_fronts (c.min-both.result - 8 + 8) c.args.one.now c.args.other.now _ (omega arith) (omega arith) c.order_of_word-found-2.ensures (sym c.is_ne-2.ensures ∙ c.if-is_ne-2.true)
+    by_fronts (c.min-both.result - 16 + 16) c.args.one.now c.args.other.now _ (omega arith) (omega arith) c.order_of_lanes-found-2.ensures (sym c.is_ne-2.ensures ∙ c.if-is_ne-2.true)
 
 pub returns : goal.returns
 returns c =
-    let all : c.min-both.result - 8 + 8 ≡ c.min-both.result = omega arith in
-    let same = alike _ _ _ c.order_of_word-found-2.ensures (sym c.is_ne-2.ensures ∙ c.if-is_ne-2.false) in
+    let all : c.min-both.result - 16 + 16 ≡ c.min-both.result = omega arith in
+    let same = alike _ _ _ c.order_of_lanes-found-2.ensures (sym c.is_ne-2.ensures ∙ c.if-is_ne-2.false) in
     c.cmp.ensures
     ∙ by_length c.min-both.result c.args.one.now c.args.other.now c.min-both.ensures
     (subst (λ (n : ℕ). take n c.args.one.now ≡ take n c.args.other.now) all same)

@@ -12,14 +12,7 @@ order_of_lanes-found-requires-2-clause-alike c = alike _ _ _ c.order_of_lanes-fo
 
 pub returns-then-is_ne-2 : goal.returns-then-is_ne-2
 returns-then-is_ne-2 c =
-    by_fronts-within 32 64 c.args.one.now c.args.other.now _ (omega arith) (omega arith) (omega arith) c.order_of_lanes-found-2.ensures (sym c.is_ne-2.ensures ∙ c.if-is_ne-2.true)
-
-pub order_of_lanes-found-requires-3-clause-alike : goal.order_of_lanes-found-requires-3-clause-alike
-order_of_lanes-found-requires-3-clause-alike c = alike _ _ _ c.order_of_lanes-found-2.ensures (sym c.is_ne-2.ensures ∙ c.if-is_ne-2.false)
-
-pub returns-then-is_ne-3 : goal.returns-then-is_ne-3
-returns-then-is_ne-3 c =
-    by_fronts-within 48 64 c.args.one.now c.args.other.now _ (omega arith) (omega arith) (omega arith) c.order_of_lanes-found-3.ensures (sym c.is_ne-3.ensures ∙ c.if-is_ne-3.true)
+    by_fronts-within 48 64 c.args.one.now c.args.other.now _ (omega arith) (omega arith) (omega arith) c.order_of_lanes-found-2.ensures (sym c.is_ne-2.ensures ∙ c.if-is_ne-2.true)
 
 pub order_of_lanes-requires-clause-alike : goal.order_of_lanes-requires-clause-alike
-order_of_lanes-requires-clause-alike c = alike _ _ _ c.order_of_lanes-found-3.ensures (sym c.is_ne-3.ensures ∙ c.if-is_ne-3.false)
+order_of_lanes-requires-clause-alike c = alike _ _ _ c.order_of_lanes-found-2.ensures (sym c.is_ne-2.ensures ∙ c.if-is_ne-2.false)

@@ -1,0 +1,17 @@
+-- The mask is 0 exactly where no lane differs.
+use Rattle.std.proofs.Common.{sym, ◌∙◌, arith}
+use Rattle.std.proofs.lemmas.Simd.{length-chunk}
+use Rattle.arcstr.proofs.LaneOrder.{alike-none, none_differs, test-of_zero, zero-of_test}
+use Rattle.arcstr.proofs.text_order.is_alike_at.Goals as goal
+
+pub returns : goal.returns
+returns g c =
+    let one = c.args.one.now in
+    let other = c.args.other.now in
+    let from = c.args.from in
+    let lanes = g.row.N in
+    let same = length-chunk from lanes one (omega arith) ∙ sym (length-chunk from lanes other (omega arith)) in
+    (
+      λ test. none_differs _ _ same (sym c.lanes_that_differ.ensures ∙ zero-of_test _ test),
+      λ alike. test-of_zero _ (c.lanes_that_differ.ensures ∙ alike-none _ _ alike),
+    )

@@ -1,0 +1,72 @@
+//! What is asked of the program: a figure, and how much of it.
+
+use anyhow::{Context, Result};
+
+/// How the rounds of a figure are told.
+#[derive(Clone, Copy, PartialEq, Eq)]
+pub enum Form {
+    /// A line on standard output for each round, with all numbers.
+    Lines,
+    /// The name and the sum on standard output, and the time on standard error.
+    Table,
+}
+
+/// A figure by its name, and how much of it is done.
+#[derive(Clone, Copy)]
+pub struct Request<'a> {
+    pub figure: &'a str,
+    /// How many operations a round has (N).
+    pub operations: usize,
+    pub rounds: usize,
+    pub threads: usize,
+    /// The length of a text, in bytes.
+    pub size: usize,
+    /// The place of the byte in which two texts differ (AT); none where it is the size.
+    pub place: usize,
+    /// How many texts there are, for figures of reads.
+    pub count: usize,
+    pub form: Form,
+}
+
+impl<'a> Request<'a> {
+    /// A thousand operations in three rounds, of one thread on a text of 64 bytes.
+    pub fn of(figure: &'a str) -> Request<'a> {
+        Request {
+            figure,
+            operations: 1000,
+            rounds: 3,
+            threads: 1,
+            size: 64,
+            place: 64,
+            count: 1,
+            form: Form::Lines,
+        }
+    }
+
+    /// The request that the words spell, in the order FIGURE N ROUNDS THREADS SIZE AT COUNT.
+    pub fn from_words(words: &'a [String]) -> Result<Request<'a>> {
+        let figure = words.first().map_or("", |word| word.as_str());
+        let usual = Request::of(figure);
+        let size = number(words, 4, usual.size)?;
+        Ok(Request {
+            figure,
+            operations: number(words, 1, usual.operations)?,
+            rounds: number(words, 2, usual.rounds)?,
+            threads: number(words, 3, usual.threads)?.max(1),
+            size,
+            place: number(words, 5, size)?,
+            count: number(words, 6, usual.count)?.max(1),
+            form: usual.form,
+        })
+    }
+}
+
+/// The number at a place of the words, or the usual one where there is no such word.
+fn number(words: &[String], place: usize, usual: usize) -> Result<usize> {
+    match words.get(place) {
+        None => Ok(usual),
+        Some(word) => word
+            .parse::<usize>()
+            .context(format_args!("reading the number {word:?}")),
+    }
+}

@@ -1,0 +1,52 @@
+//! The texts that figures are measured on.
+
+use arcstr::{ArcStr, TextFault};
+use std::alloc::{AllocError, Global};
+use std::sync::Wait;
+
+/// So many letters `x`, of which the one at the place, if there is one, is `y`.
+pub fn letters(alloc: Global, size: usize, place: usize) -> Result<String, AllocError> {
+    let mut text = String::with_capacity(alloc, size)?;
+    for at in 0..size {
+        text.push(if at == place { 'y' } else { 'x' })?;
+    }
+    Ok(text)
+}
+
+/// So many texts that are alike, each in a block of its own.
+pub fn many(alloc: Global, text: &str, count: usize) -> Result<Vec<ArcStr>, TextFault> {
+    let mut texts = Vec::new(alloc);
+    for _ in 0..count {
+        texts
+            .push(ArcStr::from_str(alloc, text)?)
+            .map_err(|_| TextFault::Memory)?;
+    }
+    Ok(texts)
+}
+
+/// So many handles on one text.
+pub fn handles<R: Wait>(
+    rt: &R,
+    alloc: Global,
+    text: &ArcStr,
+    count: usize,
+) -> Result<Vec<ArcStr>, AllocError> {
+    let mut handles = Vec::new(alloc);
+    for _ in 0..count {
+        handles.push(text.clone(rt))?;
+    }
+    Ok(handles)
+}
+
+/// How far the next text lies from the one before it.
+const STEP: usize = 7919;
+
+/// Handles on the same texts in steps of 7919, so that neighbours in the list are none in memory.
+pub fn mixed<R: Wait>(rt: &R, alloc: Global, texts: &[ArcStr]) -> Result<Vec<ArcStr>, AllocError> {
+    let mut handles = Vec::new(alloc);
+    for turn in 0..texts.len() {
+        let place = turn.wrapping_mul(STEP) % texts.len();
+        handles.push(texts[place].clone(rt))?;
+    }
+    Ok(handles)
+}
