@@ -1,4 +1,4 @@
-use Rattle.std.proofs.Common.{ap, refl, sym, true≢false}
+use Rattle.std.proofs.Common.{◌∙◌, ap, length, refl, sym, true≢false}
 use Rattle.arcstr_block.specs.Word.{IsMarked}
 use Rattle.arcstr_block.proofs.Looks.{counted_look}
 use Rattle.arcstr_block.proofs.Marked.{at_same_limit, marked_by_word}
@@ -15,4 +15,4 @@ returns-clause-seen g c = counted_look c.self.inside.handle.pointer.limit g.row.
 pub invariant_of-fixed-inside : goal.invariant_of-fixed-inside
 invariant_of-fixed-inside g c =
     let odd : IsMarked c.look-found.result.0 = c.if-marked.ensures.0 refl in
-    (c.look-found.ensures.right.0 odd, (at_same_limit _ _ _ c.look-found.ensures.same.2 (marked_by_word _ _ _ _ c.look-found.ensures.history odd), tt))
+    (c.look-found.ensures.right.0 odd, (c.self.inside.handle.measured ∙ sym (ap length c.look-found.ensures.same.1), (at_same_limit _ _ _ c.look-found.ensures.same.2 (marked_by_word _ _ _ _ c.look-found.ensures.history odd), tt)))
