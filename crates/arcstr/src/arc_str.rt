@@ -32,17 +32,11 @@ pub struct ArcStr {
     form: Form,
 }
 
-/// Where the bytes of a text lie.
+/// Where the bytes of a text lie: in the program, or in a block that is held as one of its counted handles or for
+/// good. Each kind has an address and then the length of the text, so that a length is read with no test of the kind.
 #[derive(Drop)]
 enum Form {
     Literal(&'static str),
-    Block(Hold),
-}
-
-/// A text's hold on its block: as one of its counted handles, or for good. Both are read alike, so that a
-/// text costs one test, of whether it is a literal.
-#[derive(Drop)]
-enum Hold {
     Counted(Shared<RC_MAX, Global>),
     Fixed(Fixed<Global>),
 }
@@ -96,8 +90,8 @@ impl ArcStr {
     {
         let form = match &self.form {
             Form::Literal(text) => Form::Literal(text),
-            Form::Block(Hold::Counted(shared)) => Form::Block(Hold::Counted(shared.up(rt))),
-            Form::Block(Hold::Fixed(fixed)) => Form::Block(Hold::Fixed(fixed.again())),
+            Form::Counted(shared) => Form::Counted(shared.up(rt)),
+            Form::Fixed(fixed) => Form::Fixed(fixed.again()),
         };
         ArcStr { form }
     }
@@ -108,8 +102,8 @@ impl ArcStr {
     {
         match &self.form {
             Form::Literal(text) => text,
-            Form::Block(Hold::Counted(shared)) => shared.as_str(),
-            Form::Block(Hold::Fixed(fixed)) => fixed.as_str(),
+            Form::Counted(shared) => shared.as_str(),
+            Form::Fixed(fixed) => fixed.as_str(),
         }
     }
 
@@ -141,8 +135,8 @@ impl ArcStr {
         ensures never_static { IsStatic this.now.kind → IsNone result }
     {
         match &this.form {
-            Form::Block(Hold::Counted(shared)) => shared.look().0.map(|count| count as usize),
-            Form::Literal(_) | Form::Block(Hold::Fixed(_)) => None,
+            Form::Counted(shared) => shared.look().0.map(|count| count as usize),
+            Form::Literal(_) | Form::Fixed(_) => None,
         }
     }
 
@@ -152,8 +146,8 @@ impl ArcStr {
         ensures { IsStatic this.now.kind → IsTrue result }
     {
         match &this.form {
-            Form::Block(Hold::Counted(shared)) => shared.fixed().0.is_some(),
-            Form::Literal(_) | Form::Block(Hold::Fixed(_)) => true,
+            Form::Counted(shared) => shared.fixed().0.is_some(),
+            Form::Literal(_) | Form::Fixed(_) => true,
         }
     }
 
@@ -164,8 +158,8 @@ impl ArcStr {
     {
         match &self.form {
             Form::Literal(text) => StaticStr::from_literal(text),
-            Form::Block(Hold::Counted(shared)) => StaticStr::from_fixed(shared.mark()),
-            Form::Block(Hold::Fixed(fixed)) => StaticStr::from_fixed(fixed.again()),
+            Form::Counted(shared) => StaticStr::from_fixed(shared.mark()),
+            Form::Fixed(fixed) => StaticStr::from_fixed(fixed.again()),
         }
     }
 
@@ -177,8 +171,8 @@ impl ArcStr {
     {
         match &this.form {
             Form::Literal(text) => Some(StaticStr::from_literal(text)),
-            Form::Block(Hold::Counted(shared)) => shared.fixed().0.map(StaticStr::from_fixed),
-            Form::Block(Hold::Fixed(fixed)) => Some(StaticStr::from_fixed(fixed.again())),
+            Form::Counted(shared) => shared.fixed().0.map(StaticStr::from_fixed),
+            Form::Fixed(fixed) => Some(StaticStr::from_fixed(fixed.again())),
         }
     }
 
@@ -201,7 +195,7 @@ impl ArcStr {
         ensures { result ≡ block_of shared.text }
     {
         ArcStr {
-            form: Form::Block(Hold::Counted(shared)),
+            form: Form::Counted(shared),
         }
     }
 
@@ -209,7 +203,7 @@ impl ArcStr {
         ensures { result ≡ fixed_of fixed.text }
     {
         ArcStr {
-            form: Form::Block(Hold::Fixed(fixed)),
+            form: Form::Fixed(fixed),
         }
     }
 }

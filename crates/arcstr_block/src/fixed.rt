@@ -12,8 +12,11 @@ use std::marker::Model;
 /// its text, its block's name, the limit on its count, and the beginning of its history in which it was marked.
 pub struct Fixed<A: Allocator + Copy> {
     pub(crate) pointer: Pointer<A>,
+    /// The length of the text in bytes, by which the text is read without a load from the block.
+    pub(crate) len: usize,
     pub(crate) alloc: A,
     ghost right: { pointer.right ≡ fixed },
+    ghost measured: { len ≡ length pointer.text },
     ghost marked: { IsMarkedIn pointer.limit pointer.history },
 }
 
@@ -28,14 +31,14 @@ impl<A: Allocator + Copy> Fixed<A> {
     pub fn as_str(&self) -> &str
         ensures { result.now ≡ self.now.text }
     {
-        self.pointer.text()
+        self.pointer.text(self.len)
     }
 
     /// The length of the text, in bytes.
     pub fn len(&self) -> usize
         ensures { result ≡ length self.now.text }
     {
-        *self.pointer.length()
+        self.len
     }
 
     /// The same block once more. It takes no step.
@@ -44,6 +47,7 @@ impl<A: Allocator + Copy> Fixed<A> {
     {
         Fixed {
             pointer: self.pointer.again(),
+            len: self.len,
             alloc: self.alloc,
         }
     }
@@ -60,7 +64,11 @@ impl<A: Allocator + Copy> Fixed<A> {
 
 impl<A: Allocator + Copy> Drop for Fixed<A> {
     fn drop(self) {
-        let Fixed { pointer, alloc: _ } = self;
+        let Fixed {
+            pointer,
+            len: _,
+            alloc: _,
+        } = self;
         pointer.forget();
     }
 }

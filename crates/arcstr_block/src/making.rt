@@ -32,7 +32,7 @@ impl<const LIMIT: u64, A: Allocator + Copy> Shared<LIMIT, A> {
         }
         let (blank, mut bytes) = blank_block(alloc, text.len())?;
         bytes.copy_in(0, text.as_bytes());
-        Ok(Shared::placed(blank.close(bytes), alloc))
+        Ok(Shared::placed(blank.close(bytes), text.len(), alloc))
     }
 
     /// The first handle on a new block with the text that the closure leaves in `n` zero bytes.
@@ -59,7 +59,7 @@ impl<const LIMIT: u64, A: Allocator + Copy> Shared<LIMIT, A> {
         zero(&mut bytes);
         let mut block = blank.close(bytes);
         match filled(block.lend(n), fill) {
-            Ok(()) => Ok(Shared::placed(block, alloc)),
+            Ok(()) => Ok(Shared::placed(block, n, alloc)),
             Err(fault) => {
                 block.give_back(&alloc, size_of_block(n));
                 Err(fault)
@@ -81,7 +81,7 @@ impl<const LIMIT: u64, A: Allocator + Copy> Shared<LIMIT, A> {
         };
         let (blank, mut bytes) = blank_block(alloc, len)?;
         copies(&mut bytes, text.as_bytes(), n);
-        Ok(Shared::placed(blank.close(bytes), alloc))
+        Ok(Shared::placed(blank.close(bytes), len, alloc))
     }
 }
 

@@ -63,16 +63,8 @@ impl<A: Allocator> Pointer<A> {
         Pointer { at, marker }
     }
 
-    /// The length of the text, in bytes.
-    pub(crate) fn length(&self) -> &usize
-        requires { MaySee self.now.right }
-        ensures { result.now ≡ length self.now.text }
-    {
-        unsafe { &(*self.at).length }
-    }
-
-    /// The bytes of the text.
-    pub(crate) fn bytes(&self, len: usize) -> &[u8]
+    /// The bytes of the text, `len` of them. They lie 16 bytes on, and nothing is loaded.
+    fn bytes(&self, len: usize) -> &[u8]
         requires right { MaySee self.now.right }
         requires length { len ≡ length self.now.text }
         ensures text { result.now ≡ self.now.text }
@@ -81,12 +73,13 @@ impl<A: Allocator> Pointer<A> {
         unsafe { slice::from_raw_parts(&raw const (*self.at).text as *const u8, len) }
     }
 
-    /// The text.
-    pub(crate) fn text(&self) -> &str
-        requires { MaySee self.now.right }
+    /// The text, of `len` bytes.
+    pub(crate) fn text(&self, len: usize) -> &str
+        requires right { MaySee self.now.right }
+        requires length { len ≡ length self.now.text }
         ensures { result.now ≡ self.now.text }
     {
-        let bytes = self.bytes(*self.length());
+        let bytes = self.bytes(len);
         unsafe { str::from_utf8_unchecked(bytes) }
     }
 

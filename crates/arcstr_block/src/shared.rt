@@ -16,11 +16,14 @@ use std::alloc::Allocator;
 use std::marker::Model;
 use std::sync::Wait;
 
-/// A pointer that may see its block, with the allocator of the block and the limit on its count.
+/// A pointer that may see its block, with the length of the text in bytes, by which the text is read without a load
+/// from the block, with the allocator of the block and the limit on its count.
 struct Counted<const LIMIT: u64, A: Allocator + Copy> {
     pointer: Pointer<A>,
+    len: usize,
     alloc: A,
     ghost free: { IsFree pointer.right },
+    ghost measured: { len ≡ length pointer.text },
     ghost home: { alloc ≡ pointer.home },
     ghost limit: { pointer.limit ≡ LIMIT },
     ghost low: { IsLimit LIMIT },
@@ -41,17 +44,22 @@ impl<const LIMIT: u64, A: Allocator + Copy> Model for Shared<LIMIT, A> {
 impl<const LIMIT: u64, A: Allocator + Copy> Shared<LIMIT, A> {
     ghost use Rattle.arcstr_block.specs.Ending.{EndsAs, OwesAs};
 
-    /// The first handle on a new block, which its maker has alone.
-    pub(crate) fn placed(block: Sole<A>, alloc: A) -> Shared<LIMIT, A>
+    /// The first handle on a new block, which its maker has alone, with a text of `len` bytes.
+    pub(crate) fn placed(block: Sole<A>, len: usize, alloc: A) -> Shared<LIMIT, A>
         requires limit { LIMIT ≤ RC_MAX }
         requires word { block.word ≡ bits_of fresh_word }
         requires home { block.home ≡ alloc }
         requires utf8 { IsUtf8 block.text }
+        requires length { len ≡ length block.text }
         ensures { result.text ≡ block.text }
     {
         let pointer = Pointer::make(block);
         Shared {
-            handle: Counted { pointer, alloc },
+            handle: Counted {
+                pointer,
+                len,
+                alloc,
+            },
         }
     }
 
@@ -59,14 +67,14 @@ impl<const LIMIT: u64, A: Allocator + Copy> Shared<LIMIT, A> {
     pub fn as_str(&self) -> &str
         ensures { result.now ≡ self.now.text }
     {
-        self.handle.pointer.text()
+        self.handle.pointer.text(self.handle.len)
     }
 
     /// The length of the text, in bytes.
     pub fn len(&self) -> usize
         ensures { result ≡ length self.now.text }
     {
-        *self.handle.pointer.length()
+        self.handle.len
     }
 
     /// One load: the number of living handles, or `None` at a marked block. What was seen of the history ends in this look.
@@ -92,6 +100,7 @@ impl<const LIMIT: u64, A: Allocator + Copy> Shared<LIMIT, A> {
         if marked(found) {
             let fixed = Fixed {
                 pointer: gained,
+                len: self.handle.len,
                 alloc: self.handle.alloc,
             };
             return (Some(fixed), seen);
@@ -107,6 +116,7 @@ impl<const LIMIT: u64, A: Allocator + Copy> Shared<LIMIT, A> {
     {
         Fixed {
             pointer: self.handle.pointer.mark(),
+            len: self.handle.len,
             alloc: self.handle.alloc,
         }
     }
@@ -141,10 +151,18 @@ impl<const LIMIT: u64, A: Allocator + Copy> Shared<LIMIT, A> {
         ensures apart { self.block ≡ other.block → self.seat ≢ other.seat }
     {
         let Shared { handle } = other;
-        let Counted { pointer, alloc } = handle;
+        let Counted {
+            pointer,
+            len,
+            alloc,
+        } = handle;
         let (first, pointer) = self.apart_from(pointer);
         let second = Shared {
-            handle: Counted { pointer, alloc },
+            handle: Counted {
+                pointer,
+                len,
+                alloc,
+            },
         };
         (first, second)
     }
@@ -159,10 +177,18 @@ impl<const LIMIT: u64, A: Allocator + Copy> Shared<LIMIT, A> {
         ensures alone { other.right ≡ owed → other.block ≢ self.block }
     {
         let Shared { handle } = self;
-        let Counted { pointer, alloc } = handle;
+        let Counted {
+            pointer,
+            len,
+            alloc,
+        } = handle;
         let (other, pointer) = other.apart(pointer);
         let first = Shared {
-            handle: Counted { pointer, alloc },
+            handle: Counted {
+                pointer,
+                len,
+                alloc,
+            },
         };
         (first, other)
     }
@@ -183,7 +209,11 @@ impl<const LIMIT: u64, A: Allocator + Copy> Shared<LIMIT, A> {
         ensures block { result.1.block ≡ self.block }
     {
         let Shared { handle } = self;
-        let Counted { pointer, alloc } = handle;
+        let Counted {
+            pointer,
+            len: _,
+            alloc,
+        } = handle;
         let (found, pointer) = pointer.begin();
         if marked(found) {
             let seen = pointer.seen();
@@ -227,6 +257,7 @@ impl<const LIMIT: u64, A: Allocator + Copy> Counted<LIMIT, A> {
     {
         Counted {
             pointer,
+            len: self.len,
             alloc: self.alloc,
         }
     }

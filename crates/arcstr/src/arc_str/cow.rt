@@ -43,7 +43,7 @@ impl ArcStr {
     {
         match &self.form {
             Form::Literal(text) => Some(text),
-            Form::Block(_) => None,
+            Form::Counted(_) | Form::Fixed(_) => None,
         }
     }
 }

@@ -30,6 +30,7 @@ impl ArcStr {
     ///
     /// Refuses the first that fails: the start is at most the end (`OutOfOrder`), the end at most the
     /// length (`PastEnd`), and both are boundaries (`OffBoundary`).
+    #[inline]
     pub fn substr<R: Into<StrRange>>(&self, rt: &impl Wait, range: R) -> Result<Substr, RangeFault>
         ensures { (given : StrRange) × R.converts range given
             × AnswersRange self.now.text (slice_of self.now) given result }

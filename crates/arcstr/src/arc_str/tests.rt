@@ -1,7 +1,17 @@
 use super::ArcStr;
 use crate::literal;
+use crate::static_str::StaticStr;
+use crate::substr::Substr;
 use crate::test_steps::{check_bytes, check_count, check_empty, check_part, check_text, made};
+use std::mem::size_of;
 use std::process::Abort;
+
+#[test]
+fn a_text_is_three_words_and_a_slice_five(rt: HostRuntime) {
+    assert_eq!(rt; size_of::<ArcStr>(), 24);
+    assert_eq!(rt; size_of::<StaticStr>(), 24);
+    assert_eq!(rt; size_of::<Substr>(), 40);
+}
 
 #[test]
 fn a_made_text_has_its_length_and_is_counted_once(rt: HostRuntime) {
