@@ -1,6 +1,6 @@
 /* Loaded before the C library, it refuses one request for memory (the REFUSED_REQUESTth call of malloc, calloc or
-   realloc) or one start of a thread (the REFUSED_THREADth), and then writes a line to file descriptor 9. It takes
-   no header, so that the kit's own compiler builds it. */
+   realloc) or one start of a thread (the REFUSED_THREADth), and all later ones too where REFUSED_REST is set. Of
+   each it writes a line to file descriptor 9. It takes no header, so that the kit's own compiler builds it. */
 
 enum { FD = 9, TRY_AGAIN = 11, NO_MEMORY = 12 };
 
@@ -15,10 +15,11 @@ extern int *__errno_location(void);
 
 static long requests, threads;
 
-/* Whether this call, the next of those that are counted, is the one to refuse. */
+/* Whether this call, the next of those that are counted, is refused. */
 static int is_refused(long *calls, const char *which) {
-    const char *refused = getenv(which);
-    if (__atomic_add_fetch(calls, 1, __ATOMIC_SEQ_CST) != (refused ? atol(refused) : 0))
+    const char *first = getenv(which);
+    long call = __atomic_add_fetch(calls, 1, __ATOMIC_SEQ_CST);
+    if (!first || call < atol(first) || (call > atol(first) && !getenv("REFUSED_REST")))
         return 0;
     write(FD, "refused\n", 8);
     return 1;
