@@ -1,7 +1,8 @@
 //! Calls that ask for a text, for bytes or for a fault by its trait, and are given those of this crate.
 use crate::test_steps::{check_bytes, check_text, made, part};
 use crate::{ArcStr, JsonFault, RangeFault, StrRange, StrView, TextFault, literal};
-use std::alloc::{AllocError, Global};
+use serde_json::Value;
+use std::alloc::{AllocError, AllocGlobal, Global};
 use std::convert::{AsSlice, AsStr};
 use std::io;
 use std::process::Abort;
@@ -40,6 +41,25 @@ fn a_list_and_its_texts_have_one_fault(rt: HostRuntime) {
     let texts = listed(rt.alloc(), "foo", "bar").expect(&rt, "no memory");
     let last = texts.last().expect(&rt, "no text");
     check_text(&rt, last.as_str(), "bar");
+}
+
+/// A list of the text of a JSON value, which both ask for memory.
+fn read(alloc: Global, value: &Value) -> Result<Vec<ArcStr>, JsonFault> {
+    let mut texts = Vec::with_capacity(alloc, 1)?;
+    texts.push(ArcStr::from_json(alloc, value)?)?;
+    Ok(texts)
+}
+
+#[test]
+fn a_list_and_its_json_text_have_one_fault(rt: HostRuntime) {
+    let texts = read(rt.alloc(), &json_text(&rt)).expect(&rt, "no memory");
+    check_text(&rt, texts.last().expect(&rt, "no text").as_str(), "foo");
+    assert!(rt; read(rt.alloc(), &Value::Null).is_err_and(|fault| fault == JsonFault::NotText));
+}
+
+/// The JSON string `foo`.
+fn json_text(rt: &(impl Abort + AllocGlobal)) -> Value {
+    Value::try_from_str(rt.alloc(), "foo").expect(rt, "no memory")
 }
 
 #[test]
