@@ -67,14 +67,15 @@ impl ArcStr {
     /// after which the closure is not run, and bytes that are not UTF-8 once it has run (`Utf8`, with the length
     /// in bytes of their longest front that is).
     ///
-    /// That the closure was not run no clause says: the tests `a_closure_is_not_run_for_a_length_that_is_too_long`,
-    /// `a_closure_is_not_run_without_memory` and `a_closure_is_run_only_where_the_memory_is_there` do.
+    /// The `requires` lets the closure run only on a length that is not too long. That it is not run without memory
+    /// no clause says: the tests `a_closure_is_not_run_without_memory` and
+    /// `a_closure_is_run_only_where_the_memory_is_there` do.
     pub fn init_with<F: FnOnce(&mut [u8])>(
         alloc: Global,
         n: usize,
         fill: F,
     ) -> Result<ArcStr, TextFault>
-        requires { FnOnceTakesAtMut F.FnOnce fill (replicate n 0) }
+        requires callable { (¬ IsTooLong n) → FnOnceTakesAtMut F.FnOnce fill (replicate n 0) }
         ensures left { IfOk result (λ made. FnOnceReturnsAtMut F.FnOnce fill (replicate n 0) tt made.text) }
         ensures text { IfOk result (λ made. IsUtf8 made.text) }
         ensures as_long { IfOk result (λ made. length made.text ≡ n) }
