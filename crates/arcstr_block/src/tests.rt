@@ -358,9 +358,18 @@ fn look_after_two<const LIMIT: u64, R: Threads + Wait + Sync>(
 
 #[test]
 fn limits_are_crossed_by_threads(rt: HostRuntime) -> Result<(), Fail> {
-    assert_eq!(rt; look_after_two::<0, _>(&rt, rt.alloc())?, (None, true, true));
-    assert_eq!(rt; look_after_two::<1, _>(&rt, rt.alloc())?, (None, true, true));
-    assert_eq!(rt; look_after_two::<2, _>(&rt, rt.alloc())?, (Some(3), true, true));
+    assert_eq!(rt;
+        look_after_two::<0, _>(&rt, rt.alloc())?,
+        (None, true, true)
+    );
+    assert_eq!(rt;
+        look_after_two::<1, _>(&rt, rt.alloc())?,
+        (None, true, true)
+    );
+    assert_eq!(rt;
+        look_after_two::<2, _>(&rt, rt.alloc())?,
+        (Some(3), true, true)
+    );
     Ok(())
 }
 

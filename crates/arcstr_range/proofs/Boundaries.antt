@@ -71,5 +71,7 @@ cut-cut text start end from to in_order within =
 
 -- named at the functions whose proofs use them
 pub ruleset fronts_at_boundaries = (IsFrontLength-from_boundary, IsCharBoundary-from_front)
+
 pub ruleset slices_by_characters = (SpellsBetween-cut)
+
 pub ruleset cuts_of_cuts = (cut-cut)

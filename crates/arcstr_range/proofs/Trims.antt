@@ -38,4 +38,5 @@ TrimsEnd-trim_end old new text place =
 
 -- named at the functions whose proofs use them
 pub ruleset trims_of_starts = (TrimsStart-trim_start)
+
 pub ruleset trims_of_ends = (TrimsEnd-trim_end)
