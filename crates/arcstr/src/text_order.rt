@@ -14,12 +14,14 @@ pub(crate) fn is_same(one: &str, other: &str) -> bool
     if one.len() != other.len() {
         return false;
     }
-    match (one.as_bytes(), other.as_bytes()) {
-        (one_bytes, _) if one_bytes.len() < 16 => one == other,
-        (one_bytes, other_bytes) if one_bytes.len() < 64 => is_same_by::<16>(one_bytes, other_bytes),
-        (one_bytes, other_bytes) => {
-            is_alike_at::<16>(one_bytes, other_bytes, 0) && is_same_by::<64>(one_bytes, other_bytes)
-        }
+    if one.len() < 16 {
+        return one == other;
+    }
+    let (one, other) = (one.as_bytes(), other.as_bytes());
+    if one.len() < 64 {
+        is_same_by::<16>(one, other)
+    } else {
+        is_alike_at::<16>(one, other, 0) && is_same_by::<64>(one, other)
     }
 }
 
@@ -30,15 +32,16 @@ fn is_same_by<const N: usize>(one: &[u8], other: &[u8]) -> bool
     requires as_long { length one.now ≡ length other.now }
     ensures { IsTrue result ↔ (one.now ≡ other.now) }
 {
+    let last = one.len() - N;
     let mut from = 0;
-    while N < one.len() - from {
+    while from < last {
         if !is_alike_at::<N>(one, other, from) {
             return false;
         }
         from += N;
     }
     // The last N bytes, of which some were compared already.
-    is_alike_at::<N>(one, other, one.len() - N)
+    is_alike_at::<N>(one, other, last)
 }
 
 /// How two texts compare, by their bytes. The length that is tested first is one that few texts reach: among short texts of
@@ -88,9 +91,9 @@ fn compare_far(one: &[u8], other: &[u8]) -> Ordering
     requires alike { take 64 one.now ≡ take 64 other.now }
     ensures { result ≡ slice_cmp nat_cmp one.now other.now }
 {
-    let both = one.len().min(other.len());
+    let last = one.len().min(other.len()) - 64;
     let mut from = 64;
-    while 64 <= both - from && is_alike_at::<64>(one, other, from) {
+    while from <= last && is_alike_at::<64>(one, other, from) {
         from += 64;
     }
     compare_from(one, other, from)
@@ -103,9 +106,9 @@ fn compare_from(one: &[u8], other: &[u8], start: usize) -> Ordering
     requires alike { take start one.now ≡ take start other.now }
     ensures { result ≡ slice_cmp nat_cmp one.now other.now }
 {
-    let both = one.len().min(other.len());
+    let last = one.len().min(other.len()) - 16;
     let mut from = start;
-    while 16 < both - from {
+    while from < last {
         let found = order_of_lanes::<16>(one, other, from);
         if found.is_ne() {
             return found;
@@ -113,7 +116,7 @@ fn compare_from(one: &[u8], other: &[u8], start: usize) -> Ordering
         from += 16;
     }
     // The last 16 bytes, of which some were compared already.
-    let found = order_of_lanes::<16>(one, other, both - 16);
+    let found = order_of_lanes::<16>(one, other, last);
     if found.is_ne() {
         return found;
     }

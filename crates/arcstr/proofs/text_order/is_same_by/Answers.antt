@@ -16,8 +16,7 @@ returns g c =
     let other = c.args.other.now in
     let lanes = g.row.N in
     let last = length one - lanes in
-    let front = alike-front last c.loop-from.from one other (omega arith) c.loop-from.invariant.alike in
-    (
+    let front = alike-front last c.loop-from.from one other (omega arith) c.loop-from.invariant.alike in (
       λ test. alike-whole (last + lanes) one other (omega arith) (omega arith)
           (alike-next last lanes one other front (c.is_alike_at-2.ensures.0 test)),
       λ same. c.is_alike_at-2.ensures.1 (ap (λ (l : List ℕ). take lanes (drop last l)) same),
