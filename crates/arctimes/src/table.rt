@@ -52,13 +52,31 @@ pub fn run<M: Machine>(rt: &M) -> Result<()> {
         run_figure(rt, &short(figure))?;
     }
     for figure in OF_LONG_TEXTS {
-        run_figure(rt, &Request { size: 4096, ..short(figure) })?;
+        run_figure(
+            rt,
+            &Request {
+                size: 4096,
+                ..short(figure)
+            },
+        )?;
     }
     for figure in OF_TWO_THREADS {
-        run_figure(rt, &Request { threads: 2, ..short(figure) })?;
+        run_figure(
+            rt,
+            &Request {
+                threads: 2,
+                ..short(figure)
+            },
+        )?;
     }
     for figure in OF_MANY_TEXTS {
-        run_figure(rt, &Request { count: 1000, ..short(figure) })?;
+        run_figure(
+            rt,
+            &Request {
+                count: 1000,
+                ..short(figure)
+            },
+        )?;
     }
     Ok(())
 }

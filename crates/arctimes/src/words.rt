@@ -8,12 +8,12 @@ use anyhow::Result;
 use arcstr::ArcStr;
 use arctokens::tokens;
 use std::alloc::{AllocError, Global};
-use std::io;
 use std::sync::Wait;
-use std::thread;
+use std::{io, thread};
 
 /// The texts of a table, which reads no input.
-const FEW_WORDS: &str = "the words of a text, \u{e4}\u{df}\u{4e2d} and\u{a0}spaces \u{1} of  two\ttexts\n";
+const FEW_WORDS: &str =
+    "the words of a text, \u{e4}\u{df}\u{4e2d} and\u{a0}spaces \u{1} of  two\ttexts\n";
 
 /// What is found of a text's words.
 #[derive(Clone, Copy)]
@@ -40,9 +40,12 @@ pub fn run<M: Machine>(rt: &M, request: &Request) -> Result<bool> {
 fn find<M: Machine>(rt: &M, request: &Request, found: Found) -> Result<()> {
     let texts = texts_of(rt, request)?;
     rounds::run(rt, request, Unit::Sum, || {
-        let counts = thread::map_indices(rt, rt.alloc(), request.threads, &|worker| {
-            words_of_share(rt, rt.alloc(), &texts, found, worker, request.threads)
-        })?;
+        let counts = thread::map_indices(
+            rt,
+            rt.alloc(),
+            request.threads,
+            &|worker| { words_of_share(rt, rt.alloc(), &texts, found, worker, request.threads) },
+        )?;
         let mut sum = 0usize;
         for count in counts {
             sum = sum.wrapping_add(count?);

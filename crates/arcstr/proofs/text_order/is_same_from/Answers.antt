@@ -1,7 +1,7 @@
 -- What is alike goes on alike, and the last run of lanes is the rest.
-use Rattle.std.proofs.Common.{◌≡◌, ◌+◌, ◌-◌, List, ℕ, length, take, drop, ap, arith}
+use Rattle.std.proofs.Common.{◌+◌, ◌-◌, List, ℕ, length, take, drop, ap, arith}
 use Rattle.arcstr.proofs.FrontOrder.{alike-front, alike-next, alike-whole}
-use Rattle.arcstr.proofs.text_order.is_same_by.Goals as goal
+use Rattle.arcstr.proofs.text_order.is_same_from.Goals as goal
 
 pub loop-from-preserved : goal.loop-from-preserved
 loop-from-preserved g c = record {
