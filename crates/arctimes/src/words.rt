@@ -6,7 +6,7 @@ use crate::rounds;
 use crate::rounds::Unit;
 use anyhow::Result;
 use arcstr::ArcStr;
-use arctokens::tokens;
+use arctokens::{tokens, tokens_all};
 use std::alloc::{AllocError, Global};
 use std::sync::Wait;
 use std::{io, thread};
@@ -32,6 +32,7 @@ pub fn run<M: Machine>(rt: &M, request: &Request) -> Result<bool> {
         "count" => find(rt, request, Found::Count)?,
         "ranges" => find(rt, request, Found::Places)?,
         "words" => find(rt, request, Found::Slices)?,
+        "tokens_all" => find_all(rt, request)?,
         _ => return Ok(false),
     }
     Ok(true)
@@ -52,6 +53,30 @@ fn find<M: Machine>(rt: &M, request: &Request, found: Found) -> Result<()> {
         }
         Ok(sum)
     })
+}
+
+/// All lists at once, in the order of the texts, by workers in threads of their own.
+fn find_all<M: Machine>(rt: &M, request: &Request) -> Result<()> {
+    let texts = texts_of(rt, request)?;
+    rounds::run(rt, request, Unit::Sum, || {
+        words_of_all(rt, rt.alloc(), &texts, request.threads)
+    })
+}
+
+/// The number of words in all lists of `tokens_all`, found by so many workers, at most 64.
+fn words_of_all<M: Machine>(
+    rt: &M,
+    alloc: Global,
+    texts: &[ArcStr],
+    threads: usize,
+) -> Result<usize, AllocError> {
+    let workers = threads.min(64).max(1);
+    let lists = tokens_all(rt, alloc, texts, workers)?;
+    let mut sum = 0usize;
+    for list in &lists {
+        sum = sum.wrapping_add(list.len());
+    }
+    Ok(sum)
 }
 
 fn texts_of<M: Machine>(rt: &M, request: &Request) -> Result<Vec<ArcStr>> {
