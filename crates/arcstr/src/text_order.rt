@@ -20,9 +20,12 @@ pub(crate) fn is_same(one: &str, other: &str) -> bool
     let (one, other) = (one.as_bytes(), other.as_bytes());
     if one.len() < 64 {
         is_same_from::<16>(one, other, 0)
+    } else if !is_alike_at::<16>(one, other, 0) {
+        false
+    } else if one.len() < 256 {
+        is_same_from::<64>(one, other, 0)
     } else {
-        is_alike_at::<16>(one, other, 0)
-            && is_same_from::<64>(one, other, pass_alike(one, other, 0))
+        is_same_from::<64>(one, other, pass_alike(one, other, 0))
     }
 }
 
