@@ -1,5 +1,5 @@
 -- The order of two lists by their fronts: where fronts differ they decide, and where they are alike the rest does.
-use Rattle.std.proofs.Common.{◌≡◌, ℕ, zero, suc, ◌+◌, ◌≤◌, ◌<◌, List, [], ◌∷◌, Bool, true, false, length, min, take, drop, length-take-le, length-take, take-add, take-take, refl, sym, ap, ◌∙◌, subst, arith}
+use Rattle.std.proofs.Common.{◌≡◌, ℕ, zero, suc, ◌+◌, ◌≤◌, ◌<◌, List, [], ◌∷◌, Bool, true, false, ◌&&◌, length, min, take, drop, length-take, take-add, take-take, refl, sym, ap, ◌∙◌, arith}
 use Rattle.std.specs.declared.cmp.Ordering.{Ordering}
 use Rattle.std.specs.declared.cmp.Ordering.TheVariants.{Less, Equal, Greater}
 use Rattle.std.specs.Cmp.Lexicographic.{slice_cmp}
@@ -92,3 +92,9 @@ by_fronts-within n m xs ys answer shorter in_xs in_ys is differ =
 -- fronts that are alike are all, where they go as far as both lists
 pub alike-whole : (n : ℕ) (xs ys : List ℕ) → length xs ≤ n → length ys ≤ n → take n xs ≡ take n ys → xs ≡ ys
 alike-whole n xs ys in_xs in_ys same = sym (take_all n xs in_xs) ∙ same ∙ take_all n ys in_ys
+
+-- what a test of both says
+pub both-true : (a b : Bool) → a && b ≡ true → (a ≡ true) × (b ≡ true)
+both-true true true is = (refl, refl)
+both-true true false is = cc
+both-true false b is = cc

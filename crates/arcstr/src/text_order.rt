@@ -14,31 +14,58 @@ pub(crate) fn is_same(one: &str, other: &str) -> bool
     if one.len() != other.len() {
         return false;
     }
-    match (one.as_bytes(), other.as_bytes()) {
-        (one_bytes, _) if one_bytes.len() < 16 => one == other,
-        (one_bytes, other_bytes) if one_bytes.len() < 64 => is_same_by::<16>(one_bytes, other_bytes),
-        (one_bytes, other_bytes) => {
-            is_alike_at::<16>(one_bytes, other_bytes, 0) && is_same_by::<64>(one_bytes, other_bytes)
-        }
+    if one.len() < 16 {
+        return one == other;
+    }
+    let (one, other) = (one.as_bytes(), other.as_bytes());
+    if one.len() < 64 {
+        is_same_from::<16>(one, other, 0)
+    } else if !is_alike_at::<16>(one, other, 0) {
+        false
+    } else if one.len() < 256 {
+        is_same_from::<64>(one, other, 0)
+    } else {
+        is_same_from::<64>(one, other, pass_alike(one, other, 0))
     }
 }
 
-/// Whether two runs of N bytes or more, of which both have as many, are alike.
-fn is_same_by<const N: usize>(one: &[u8], other: &[u8]) -> bool
+/// Whether two runs of N bytes or more are alike that are as long as each other, and of which the first `start` bytes are alike.
+fn is_same_from<const N: usize>(one: &[u8], other: &[u8], start: usize) -> bool
     requires lanes { (0 < N) × (N ≤ 64) }
     requires long { N ≤ length one.now }
     requires as_long { length one.now ≡ length other.now }
+    requires within { start ≤ length one.now }
+    requires alike { take start one.now ≡ take start other.now }
     ensures { IsTrue result ↔ (one.now ≡ other.now) }
 {
-    let mut from = 0;
-    while N < one.len() - from {
+    let last = one.len() - N;
+    let mut from = start;
+    while from < last {
         if !is_alike_at::<N>(one, other, from) {
             return false;
         }
         from += N;
     }
     // The last N bytes, of which some were compared already.
-    is_alike_at::<N>(one, other, one.len() - N)
+    is_alike_at::<N>(one, other, last)
+}
+
+/// How far two runs of bytes go on alike of which the first `start` bytes are alike: 128 bytes a turn, with one test for all of them.
+fn pass_alike(one: &[u8], other: &[u8], start: usize) -> usize
+    requires within { (start ≤ length one.now) × (start ≤ length other.now) }
+    requires alike { take start one.now ≡ take start other.now }
+    ensures within { (result ≤ length one.now) × (result ≤ length other.now) }
+    ensures on { start ≤ result }
+    ensures alike { take result one.now ≡ take result other.now }
+{
+    let both = one.len().min(other.len());
+    let mut from = start;
+    while 128 <= both - from
+        && is_alike_at::<64>(one, other, from) & is_alike_at::<64>(one, other, from + 64)
+    {
+        from += 128;
+    }
+    from
 }
 
 /// How two texts compare, by their bytes. The length that is tested first is one that few texts reach: among short texts of
@@ -88,9 +115,9 @@ fn compare_far(one: &[u8], other: &[u8]) -> Ordering
     requires alike { take 64 one.now ≡ take 64 other.now }
     ensures { result ≡ slice_cmp nat_cmp one.now other.now }
 {
-    let both = one.len().min(other.len());
-    let mut from = 64;
-    while 64 <= both - from && is_alike_at::<64>(one, other, from) {
+    let last = one.len().min(other.len()) - 64;
+    let mut from = pass_alike(one, other, 64);
+    while from <= last && is_alike_at::<64>(one, other, from) {
         from += 64;
     }
     compare_from(one, other, from)
@@ -103,9 +130,9 @@ fn compare_from(one: &[u8], other: &[u8], start: usize) -> Ordering
     requires alike { take start one.now ≡ take start other.now }
     ensures { result ≡ slice_cmp nat_cmp one.now other.now }
 {
-    let both = one.len().min(other.len());
+    let last = one.len().min(other.len()) - 16;
     let mut from = start;
-    while 16 < both - from {
+    while from < last {
         let found = order_of_lanes::<16>(one, other, from);
         if found.is_ne() {
             return found;
@@ -113,7 +140,7 @@ fn compare_from(one: &[u8], other: &[u8], start: usize) -> Ordering
         from += 16;
     }
     // The last 16 bytes, of which some were compared already.
-    let found = order_of_lanes::<16>(one, other, both - 16);
+    let found = order_of_lanes::<16>(one, other, last);
     if found.is_ne() {
         return found;
     }

@@ -19,7 +19,11 @@ pub fn run<M: Machine>(rt: &M, request: &Request) -> Result<bool> {
         "clone_drop_contended" => in_threads(rt, request)?,
         "clone_drop_contended_bare" => in_threads_unread(rt, request)?,
         "clone_drop_literal" => {
-            of_handles(rt, request, &literal!("a literal text, in read-only memory"))?;
+            of_handles(
+                rt,
+                request,
+                &literal!("a literal text, in read-only memory"),
+            )?;
         }
         "clone_drop_empty" => of_handles(rt, request, &ArcStr::new())?,
         "clone_drop_fixed" => of_fixed_handles(rt, request)?,
@@ -36,25 +40,43 @@ fn text_of<M: Machine>(rt: &M, request: &Request) -> Result<ArcStr> {
 
 fn of_one_text<M: Machine>(rt: &M, request: &Request) -> Result<()> {
     let text = text_of(rt, request)?;
-    rounds::run(rt, request, Unit::Operation, || Ok(clones(rt, &text, request.operations)))
+    rounds::run(
+        rt,
+        request,
+        Unit::Operation,
+        || Ok(clones(rt, &text, request.operations)),
+    )
 }
 
 fn of_one_text_unread<M: Machine>(rt: &M, request: &Request) -> Result<()> {
     let text = text_of(rt, request)?;
-    rounds::run(rt, request, Unit::Operation, || Ok(unread_clones(rt, &text, request.operations)))
+    rounds::run(
+        rt,
+        request,
+        Unit::Operation,
+        || Ok(unread_clones(rt, &text, request.operations)),
+    )
 }
 
 fn of_a_slice<M: Machine>(rt: &M, request: &Request) -> Result<()> {
     let slice = Substr::full(text_of(rt, request)?);
-    rounds::run(rt, request, Unit::Operation, || Ok(slice_clones(rt, &slice, request.operations)))
+    rounds::run(
+        rt,
+        request,
+        Unit::Operation,
+        || Ok(slice_clones(rt, &slice, request.operations)),
+    )
 }
 
 fn in_threads<M: Machine>(rt: &M, request: &Request) -> Result<()> {
     let text = text_of(rt, request)?;
     rounds::run(rt, request, Unit::Operation, || {
-        let sums = thread::map_indices(rt, rt.alloc(), request.threads, &|_| {
-            clones(rt, &text, request.operations)
-        })?;
+        let sums = thread::map_indices(
+            rt,
+            rt.alloc(),
+            request.threads,
+            &|_| { clones(rt, &text, request.operations) },
+        )?;
         Ok(sums.iter().fold(0, |sum: usize, it| sum.wrapping_add(*it)))
     })
 }
@@ -62,9 +84,12 @@ fn in_threads<M: Machine>(rt: &M, request: &Request) -> Result<()> {
 fn in_threads_unread<M: Machine>(rt: &M, request: &Request) -> Result<()> {
     let text = text_of(rt, request)?;
     rounds::run(rt, request, Unit::Operation, || {
-        let sums = thread::map_indices(rt, rt.alloc(), request.threads, &|_| {
-            unread_clones(rt, &text, request.operations)
-        })?;
+        let sums = thread::map_indices(
+            rt,
+            rt.alloc(),
+            request.threads,
+            &|_| { unread_clones(rt, &text, request.operations) },
+        )?;
         Ok(sums.iter().fold(0, |sum: usize, it| sum.wrapping_add(*it)))
     })
 }
@@ -72,7 +97,12 @@ fn in_threads_unread<M: Machine>(rt: &M, request: &Request) -> Result<()> {
 /// Clones of 8 handles on one text, in turn.
 fn of_handles<M: Machine>(rt: &M, request: &Request, text: &ArcStr) -> Result<()> {
     let all = handles(rt, rt.alloc(), text, 8)?;
-    rounds::run(rt, request, Unit::Operation, || Ok(clones_of(rt, &all, request.operations / 8)))
+    rounds::run(
+        rt,
+        request,
+        Unit::Operation,
+        || Ok(clones_of(rt, &all, request.operations / 8)),
+    )
 }
 
 fn of_fixed_handles<M: Machine>(rt: &M, request: &Request) -> Result<()> {
@@ -85,7 +115,12 @@ fn of_marked_handles<M: Machine>(rt: &M, request: &Request) -> Result<()> {
     let text = text_of(rt, request)?;
     let all = handles(rt, rt.alloc(), &text, 8)?;
     let _ = text.leak();
-    rounds::run(rt, request, Unit::Operation, || Ok(clones_of(rt, &all, request.operations / 8)))
+    rounds::run(
+        rt,
+        request,
+        Unit::Operation,
+        || Ok(clones_of(rt, &all, request.operations / 8)),
+    )
 }
 
 /// Clones a text so many times, reads the length of each clone, and drops it.

@@ -18,8 +18,18 @@ pub fn run<M: Machine>(rt: &M, request: &Request) -> Result<bool> {
     let all = many(rt.alloc(), others.as_str(), 8)?;
     let times = request.operations / 8;
     match request.figure {
-        "eq" => rounds::run(rt, request, Unit::Operation, || Ok(equal(&all, &one, times)))?,
-        "cmp" => rounds::run(rt, request, Unit::Operation, || Ok(compared(&all, &one, times)))?,
+        "eq" => rounds::run(
+            rt,
+            request,
+            Unit::Operation,
+            || Ok(equal(&all, &one, times)),
+        )?,
+        "cmp" => rounds::run(
+            rt,
+            request,
+            Unit::Operation,
+            || Ok(compared(&all, &one, times)),
+        )?,
         "hash" => rounds::run(rt, request, Unit::Operation, || Ok(hashes(&all, times)))?,
         _ => return Ok(false),
     }

@@ -21,7 +21,12 @@ pub fn run<M: Machine>(rt: &M, request: &Request) -> Result<bool> {
         })?,
         "from_json" => {
             let values = values_of(rt.alloc(), &all)?;
-            rounds::run(rt, request, Unit::Operation, || Ok(read(rt.alloc(), &values, times)))?;
+            rounds::run(
+                rt,
+                request,
+                Unit::Operation,
+                || Ok(read(rt.alloc(), &values, times)),
+            )?;
         }
         _ => return Ok(false),
     }

@@ -16,14 +16,29 @@ pub fn run<M: Machine>(rt: &M, request: &Request) -> Result<bool> {
     let text = text.as_str();
     let count = request.operations;
     match request.figure {
-        "keep" => rounds::run(rt, request, Unit::Operation, || texts(rt.alloc(), text, count))?,
+        "keep" => rounds::run(
+            rt,
+            request,
+            Unit::Operation,
+            || texts(rt.alloc(), text, count),
+        )?,
         "keep_clones" => {
             let one = ArcStr::from_str(rt.alloc(), text)?;
-            rounds::run(rt, request, Unit::Operation, || clones(rt, rt.alloc(), &one, count))?;
+            rounds::run(
+                rt,
+                request,
+                Unit::Operation,
+                || clones(rt, rt.alloc(), &one, count),
+            )?;
         }
         "keep_slices" => {
             let whole = Substr::full(ArcStr::from_str(rt.alloc(), text)?);
-            rounds::run(rt, request, Unit::Operation, || slices(rt, rt.alloc(), &whole, count))?;
+            rounds::run(
+                rt,
+                request,
+                Unit::Operation,
+                || slices(rt, rt.alloc(), &whole, count),
+            )?;
         }
         _ => return Ok(false),
     }

@@ -12,6 +12,7 @@ mod clones;
 mod comparisons;
 mod json;
 mod kept;
+mod looks;
 mod machine;
 mod makings;
 mod reads;
@@ -42,6 +43,7 @@ fn run<M: Machine>(rt: &M, request: &Request) -> Result<()> {
         || makings::run(rt, request)?
         || slices::run(rt, request)?
         || comparisons::run(rt, request)?
+        || looks::run(rt, request)?
         || reads::run(rt, request)?
         || json::run(rt, request)?
         || words::run(rt, request)?

@@ -26,7 +26,12 @@ pub fn run<M: Machine>(rt: &M, request: &Request) -> Result<bool> {
         }
         "read_slice" => {
             let all = slices_of(rt, &texts_of(rt, request)?)?;
-            rounds::run(rt, request, Unit::Read, || Ok(last_bytes_of_slices(&all, times)))?;
+            rounds::run(
+                rt,
+                request,
+                Unit::Read,
+                || Ok(last_bytes_of_slices(&all, times)),
+            )?;
         }
         _ => return Ok(false),
     }

@@ -11,6 +11,7 @@ use std::sync::Wait;
 
 /// Where the slices start and end.
 const START: usize = 1000;
+
 const END: usize = 3000;
 
 /// Times the figure if it is one of these, and says whether it is.
@@ -26,13 +27,23 @@ pub fn run<M: Machine>(rt: &M, request: &Request) -> Result<bool> {
 fn of_a_text<M: Machine>(rt: &M, request: &Request) -> Result<()> {
     let text = letters(rt.alloc(), request.size, request.size)?;
     let text = ArcStr::from_str(rt.alloc(), text.as_str())?;
-    rounds::run(rt, request, Unit::Operation, || Ok(slices(rt, &text, request.operations)))
+    rounds::run(
+        rt,
+        request,
+        Unit::Operation,
+        || Ok(slices(rt, &text, request.operations)),
+    )
 }
 
 fn of_a_slice<M: Machine>(rt: &M, request: &Request) -> Result<()> {
     let text = letters(rt.alloc(), request.size, request.size)?;
     let whole = Substr::full(ArcStr::from_str(rt.alloc(), text.as_str())?);
-    rounds::run(rt, request, Unit::Operation, || Ok(slices_of_slice(rt, &whole, request.operations)))
+    rounds::run(
+        rt,
+        request,
+        Unit::Operation,
+        || Ok(slices_of_slice(rt, &whole, request.operations)),
+    )
 }
 
 /// Takes the slice of a text so many times, reads its length, and drops it.

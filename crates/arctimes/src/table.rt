@@ -6,7 +6,7 @@ use crate::run as run_figure;
 use anyhow::Result;
 
 /// The figures that take a text of 64 bytes, or none.
-const USUAL: [&str; 17] = [
+const USUAL: [&str; 22] = [
     "clone_drop",
     "clone_drop_bare",
     "clone_drop_slice",
@@ -15,6 +15,10 @@ const USUAL: [&str; 17] = [
     "clone_drop_fixed",
     "clone_drop_marked",
     "make_drop",
+    "from_utf8",
+    "repeat",
+    "strong_count",
+    "is_static",
     "eq",
     "cmp",
     "hash",
@@ -23,6 +27,7 @@ const USUAL: [&str; 17] = [
     "count",
     "ranges",
     "words",
+    "tokens_all",
     "script",
 ];
 
@@ -52,13 +57,31 @@ pub fn run<M: Machine>(rt: &M) -> Result<()> {
         run_figure(rt, &short(figure))?;
     }
     for figure in OF_LONG_TEXTS {
-        run_figure(rt, &Request { size: 4096, ..short(figure) })?;
+        run_figure(
+            rt,
+            &Request {
+                size: 4096,
+                ..short(figure)
+            },
+        )?;
     }
     for figure in OF_TWO_THREADS {
-        run_figure(rt, &Request { threads: 2, ..short(figure) })?;
+        run_figure(
+            rt,
+            &Request {
+                threads: 2,
+                ..short(figure)
+            },
+        )?;
     }
     for figure in OF_MANY_TEXTS {
-        run_figure(rt, &Request { count: 1000, ..short(figure) })?;
+        run_figure(
+            rt,
+            &Request {
+                count: 1000,
+                ..short(figure)
+            },
+        )?;
     }
     Ok(())
 }

@@ -6,14 +6,14 @@ use crate::rounds;
 use crate::rounds::Unit;
 use anyhow::Result;
 use arcstr::ArcStr;
-use arctokens::tokens;
+use arctokens::{tokens, tokens_all};
 use std::alloc::{AllocError, Global};
-use std::io;
 use std::sync::Wait;
-use std::thread;
+use std::{io, thread};
 
 /// The texts of a table, which reads no input.
-const FEW_WORDS: &str = "the words of a text, \u{e4}\u{df}\u{4e2d} and\u{a0}spaces \u{1} of  two\ttexts\n";
+const FEW_WORDS: &str =
+    "the words of a text, \u{e4}\u{df}\u{4e2d} and\u{a0}spaces \u{1} of  two\ttexts\n";
 
 /// What is found of a text's words.
 #[derive(Clone, Copy)]
@@ -32,6 +32,7 @@ pub fn run<M: Machine>(rt: &M, request: &Request) -> Result<bool> {
         "count" => find(rt, request, Found::Count)?,
         "ranges" => find(rt, request, Found::Places)?,
         "words" => find(rt, request, Found::Slices)?,
+        "tokens_all" => find_all(rt, request)?,
         _ => return Ok(false),
     }
     Ok(true)
@@ -40,15 +41,42 @@ pub fn run<M: Machine>(rt: &M, request: &Request) -> Result<bool> {
 fn find<M: Machine>(rt: &M, request: &Request, found: Found) -> Result<()> {
     let texts = texts_of(rt, request)?;
     rounds::run(rt, request, Unit::Sum, || {
-        let counts = thread::map_indices(rt, rt.alloc(), request.threads, &|worker| {
-            words_of_share(rt, rt.alloc(), &texts, found, worker, request.threads)
-        })?;
+        let counts = thread::map_indices(
+            rt,
+            rt.alloc(),
+            request.threads,
+            &|worker| { words_of_share(rt, rt.alloc(), &texts, found, worker, request.threads) },
+        )?;
         let mut sum = 0usize;
         for count in counts {
             sum = sum.wrapping_add(count?);
         }
         Ok(sum)
     })
+}
+
+/// All lists at once, in the order of the texts, by workers in threads of their own.
+fn find_all<M: Machine>(rt: &M, request: &Request) -> Result<()> {
+    let texts = texts_of(rt, request)?;
+    rounds::run(rt, request, Unit::Sum, || {
+        words_of_all(rt, rt.alloc(), &texts, request.threads)
+    })
+}
+
+/// The number of words in all lists of `tokens_all`, found by so many workers, at most 64.
+fn words_of_all<M: Machine>(
+    rt: &M,
+    alloc: Global,
+    texts: &[ArcStr],
+    threads: usize,
+) -> Result<usize, AllocError> {
+    let workers = threads.min(64).max(1);
+    let lists = tokens_all(rt, alloc, texts, workers)?;
+    let mut sum = 0usize;
+    for list in &lists {
+        sum = sum.wrapping_add(list.len());
+    }
+    Ok(sum)
 }
 
 fn texts_of<M: Machine>(rt: &M, request: &Request) -> Result<Vec<ArcStr>> {

@@ -1,9 +1,9 @@
-use Rattle.std.proofs.Common.{◌≡◌, ◌≤◌, ◌-◌, take}
+use Rattle.std.proofs.Common.{◌≡◌, ◌≤◌, ◌+◌, ◌-◌, take}
 use Rattle.arcstr.proofs.text_order.compare_far.Given as goal
 
 -- what was passed is alike
 abbrev pub invariant-loop-from : goal.invariant-loop-from
-invariant-loop-from l = record { within : l.from ≤ l.both; alike : take l.from l.one ≡ take l.from l.other }
+invariant-loop-from l = record { within : l.from ≤ l.last + 64; alike : take l.from l.one ≡ take l.from l.other }
 
 abbrev pub decreases-loop-from : goal.decreases-loop-from
-decreases-loop-from l = l.both - l.from
+decreases-loop-from l = l.last + 64 - l.from

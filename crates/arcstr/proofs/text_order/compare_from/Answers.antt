@@ -15,16 +15,16 @@ loop-from-preserved c = record {
 
 pub order_of_lanes-found-requires-2-clause-alike : goal.order_of_lanes-found-requires-2-clause-alike
 order_of_lanes-found-requires-2-clause-alike c =
-    alike-front (c.min-both.result - 16) c.loop-from.from c.args.one.now c.args.other.now (omega arith) c.loop-from.invariant.alike
+    alike-front (c.min-last.result - 16) c.loop-from.from c.args.one.now c.args.other.now (omega arith) c.loop-from.invariant.alike
 
 pub returns-then-is_ne-2 : goal.returns-then-is_ne-2
 returns-then-is_ne-2 c =
-    by_fronts (c.min-both.result - 16 + 16) c.args.one.now c.args.other.now _ (omega arith) (omega arith) c.order_of_lanes-found-2.ensures (sym c.is_ne-2.ensures ∙ c.if-is_ne-2.true)
+    by_fronts (c.min-last.result - 16 + 16) c.args.one.now c.args.other.now _ (omega arith) (omega arith) c.order_of_lanes-found-2.ensures (sym c.is_ne-2.ensures ∙ c.if-is_ne-2.true)
 
 pub returns : goal.returns
 returns c =
-    let all : c.min-both.result - 16 + 16 ≡ c.min-both.result = omega arith in
+    let all : c.min-last.result - 16 + 16 ≡ c.min-last.result = omega arith in
     let same = alike _ _ _ c.order_of_lanes-found-2.ensures (sym c.is_ne-2.ensures ∙ c.if-is_ne-2.false) in
     c.cmp.ensures
-    ∙ by_length c.min-both.result c.args.one.now c.args.other.now c.min-both.ensures
+    ∙ by_length c.min-last.result c.args.one.now c.args.other.now c.min-last.ensures
     (subst (λ (n : ℕ). take n c.args.one.now ≡ take n c.args.other.now) all same)

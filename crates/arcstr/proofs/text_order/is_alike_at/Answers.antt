@@ -10,8 +10,7 @@ returns g c =
     let other = c.args.other.now in
     let from = c.args.from in
     let lanes = g.row.N in
-    let same = length-chunk from lanes one (omega arith) ∙ sym (length-chunk from lanes other (omega arith)) in
-    (
+    let same = length-chunk from lanes one (omega arith) ∙ sym (length-chunk from lanes other (omega arith)) in (
       λ test. none_differs _ _ same (sym c.lanes_that_differ.ensures ∙ zero-of_test _ test),
       λ alike. test-of_zero _ (c.lanes_that_differ.ensures ∙ alike-none _ _ alike),
     )

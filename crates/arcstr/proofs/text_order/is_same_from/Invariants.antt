@@ -1,5 +1,5 @@
 use Rattle.std.proofs.Common.{◌≡◌, ◌≤◌, ◌-◌, length, take}
-use Rattle.arcstr.proofs.text_order.is_same_by.Given as goal
+use Rattle.arcstr.proofs.text_order.is_same_from.Given as goal
 
 -- what was passed is alike
 abbrev pub invariant-loop-from : goal.invariant-loop-from
