@@ -1,6 +1,6 @@
 -- Two pointers that have the seats of their handles: on one block they have two, for a seat has one owner, and beside one that is owed there is none.
 -- Assumes `Logic`.
-use Rattle.std.proofs.Common.{◌≡◌, ◌≢◌, ℕ, ◌+◌, List, [], ◌∷◌, sym, refl, ap, ◌∙◌}
+use Rattle.std.proofs.Common.{◌≡◌, ◌≢◌, ℕ, ◌+◌, List, [], ◌∷◌, sym, refl, ap, ◌∙◌, length}
 use native.Mathlib.Decide.{ℕ_discrete}
 use seplogic.Ra.Ura.{Ura}
 use mir.Val.{Val}
@@ -14,7 +14,7 @@ use Rattle.core.specs.declared.alloc.Allocator.{Ghosts}
 use Rattle.arcstr_block.proofs.Decided.{owed_or_not}
 use Rattle.arcstr_block.specs.Rights.{HasSeat, owed, Right}
 use Rattle.arcstr_block.specs.Book.{seat, Book}
-use Rattle.arcstr_block.specs.Memory.{block_owns, block_shares}
+use Rattle.arcstr_block.specs.Memory.{block_owns, block_shares, word_at}
 use Rattle.arcstr_block.proofs.Memory.{shares_laws}
 use Rattle.arcstr_block.specs.Ledger.{Id, Names, names, fact, right_to}
 use Rattle.arcstr_block.specs.contracts.pointer.Pointer as C
@@ -49,7 +49,7 @@ module _ {M : Type 1} {𝓤 : Ura M} (𝓛 : Logic 𝓤) (B : RattleType) (g : G
     s = block_shares h.at h.text
 
     abbrev Held : Id → Right → Fml
-    Held t right = right_to P h.limit (block_of h.at) (count_of h.at + 0) t s h.seat right
+    Held t right = right_to P h.limit (block_of h.at) (word_at h.at (length h.text)) t s h.seat right
 
     abbrev named_right : Id → Fml
     named_right t = fsep (fact (names t ≡ h.block)) (Held t h.right)
@@ -65,7 +65,7 @@ module _ {M : Type 1} {𝓤 : Ura M} (𝓛 : Logic 𝓤) (B : RattleType) (g : G
   seat_of : (h : Row.Denot) (vs : List Val) → HasSeat h.right → ⟦ Row.own_val h vs ⟧ ⊢ ⟦ seat h.block.1 h.seat (seat_state h.right) ⟧
   seat_of h vs may = qed 𝓛 (‵ (Row.own_val h vs) ∷ []) ∵ use1 𝓛 (‵ (fex Id (named_right h))) (right_of h vs) $ fpick ! (λ t. fsplit ! $ fpick ! (λ named.
       drop ! $
-      use1 𝓛 (‵ (seat t.3 h.seat (seat_state h.right))) (has_seat 𝓛 (P h) h.limit (block_of h.at) (count_of h.at + 0) t (s h) (sl h) h.seat h.right may) $
+      use1 𝓛 (‵ (seat t.3 h.seat (seat_state h.right))) (has_seat 𝓛 (P h) h.limit (block_of h.at) (word_at h.at (length h.text)) t (s h) (sl h) h.seat h.right may) $
       rewrite ! 0 (λ (z : Names). ‵ (seat z.1 h.seat (seat_state h.right))) named refl $ done !))
 
   -- what is owed has the book of the word 0
@@ -102,7 +102,7 @@ module _ {M : Type 1} {𝓤 : Ura M} (𝓛 : Logic 𝓤) (B : RattleType) (g : G
         move ! (1 ∷ []) $ use1 𝓛 (‵ (fex Id (named_right j))) (right_of j ws) $ fpick ! (λ t. fsplit ! $ fpick ! (λ named. drop ! $
         let γ : h.block.0 ≡ t.2 = e ∙ sym (ap (λ (z : Names). z.0) named) in let δ : h.block.1 ≡ t.3 = f ∙ sym (ap (λ (z : Names). z.1) named) in
         rewrite ! 1 (λ (k : ℕ). ‵ (Book h.limit k h.block.1 0)) γ refl $ rewrite ! 1 (λ (k : ℕ). ‵ (Book h.limit t.2 k 0)) δ refl $ move ! (1 ∷ 0 ∷ []) $
-        by ! (no_other 𝓛 (P j) j.limit (block_of j.at) (count_of j.at + 0) t (s j) (sl j) h.limit j.seat (guard 𝓤 (h.block ≢ j.block) Two) j.right may)))
+        by ! (no_other 𝓛 (P j) j.limit (block_of j.at) (word_at j.at (length j.text)) t (s j) (sl j) h.limit j.seat (guard 𝓤 (h.block ≢ j.block) Two) j.right may)))
 
     are_alone : HasSeat j.right → Dec (h.right ≡ owed) → Two ⊢ guard 𝓤 Alone Two
     are_alone may (no other) = guard_i 𝓤 Alone Two (λ mine. absurd (other mine))

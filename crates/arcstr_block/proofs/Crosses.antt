@@ -23,7 +23,7 @@ use Rattle.arcstr_count.specs.declared.steps.HandleState.{HandleState}
 use Rattle.arcstr_count.specs.declared.steps.HandleState.TheVariants.{Free, Dropping, Owing}
 use Rattle.arcstr_block.specs.Rights.{Right, nothing, counted, uncounted, fixed, dropping, owed}
 use Rattle.arcstr_block.specs.Book.{steps, state_code, reached, seat_share, Book}
-use Rattle.arcstr_block.specs.Memory.{block_type, length_at, text_at, block_owns, block_shares}
+use Rattle.arcstr_block.specs.Memory.{block_type, length_at, block_owns, block_shares, word_at}
 use Rattle.arcstr_block.specs.Ledger.{Id, Names, Phase, unmarked, marked, rest, stated, if_alive, known, right_to, shown}
 use Rattle.arcstr_block.specs.contracts.block.Sole as S
 use Rattle.arcstr_block.specs.contracts.pointer.Pointer as C
@@ -94,7 +94,7 @@ bytes_sync : (n : ℕ) → IsSync (Array u8 n)
 bytes_sync n = search sendable
 
 abbrev common : (p : Ptr) (xs : List ℕ) → Common (block_shares p xs)
-common p xs κ = (lent usize number_sync (length_at p) (length xs) κ, lent (Array u8 (length xs)) (bytes_sync (length xs)) (text_at p) xs κ)
+common p xs κ = (lent usize number_sync (length_at p (length xs)) (length xs) κ, lent (Array u8 (length xs)) (bytes_sync (length xs)) p xs κ)
 
 ps : IsSend RawPtr
 ps = search sendable
@@ -105,9 +105,9 @@ py = search sendable
 module _ (B : RattleType) (g : Ghosts B.Denot) (f : Frees g g.dealloc_token) where
   owns_keyless : (a : B.Denot) (p : Ptr) (xs : List ℕ) → Keyless (block_owns (g.dealloc_token a) p xs)
   owns_keyless a p xs = let n : ℕ = length xs in (
-    lies usize number_send (length_at p) n,
+    lies usize number_send (length_at p n) n,
     (
-      lies (Array u8 n) (bytes_send n) (text_at p) xs,
+      lies (Array u8 n) (bytes_send n) p xs,
       (
         ((tt, (tt, (tt, tt))), tt),
         f.frees a (raw
@@ -130,8 +130,8 @@ module _ (B : RattleType) (g : Ghosts B.Denot) (f : Frees g g.dealloc_token) whe
           λ t. let P = block_owns (g.dealloc_token d.home) d.at d.text in (
             known_keyless t d.block d.history,
             (
-              alive_keyless P d.limit (block_of d.at) (count_of d.at + 0) t (owns_keyless d.home d.at d.text),
-              right_keyless P d.limit (block_of d.at) (count_of d.at + 0) t (owns_keyless d.home d.at d.text) (block_shares d.at d.text)
+              alive_keyless P d.limit (block_of d.at) (word_at d.at (length d.text)) t (owns_keyless d.home d.at d.text),
+              right_keyless P d.limit (block_of d.at) (word_at d.at (length d.text)) t (owns_keyless d.home d.at d.text) (block_shares d.at d.text)
                   (common d.at d.text) d.seat d.right,
             ),
           ),
@@ -146,7 +146,7 @@ module _ (B : RattleType) (g : Ghosts B.Denot) (f : Frees g g.dealloc_token) whe
           (λ _. tt),
           λ t. (
             known_keyless t d.block d.history,
-            shown_common P d.limit (block_of d.at) (count_of d.at + 0) t (owns_keyless d.home d.at d.text)
+            shown_common P d.limit (block_of d.at) (word_at d.at (length d.text)) t (owns_keyless d.home d.at d.text)
                 (block_shares d.at d.text) (common d.at d.text) d.seat d.right κ,
           ),
         ),

@@ -1,5 +1,5 @@
 -- What the steps of a pointer have in common: the share and the seat that a step through `&` borrows, and the pointer that a step hands out. Assumes `Logic`.
-use Rattle.std.proofs.Common.{◌≡◌, ℕ, ◌+◌, ◌^◌, ◌<◌, List, [], ◌∷◌, ◌++◌, refl, w64}
+use Rattle.std.proofs.Common.{◌≡◌, ℕ, ◌+◌, ◌^◌, ◌<◌, List, [], ◌∷◌, ◌++◌, refl, w64, length}
 use mir.Val.{Val, vint, vstruct, of_list}
 use seplogic.Ra.Ura.{Ura}
 use base.Share
@@ -18,7 +18,7 @@ use denote.Steps.{nothing}
 use Rattle.core.specs.declared.alloc.Allocator.{Ghosts}
 use Rattle.arcstr_count.specs.declared.steps.HandleState.TheVariants.{Free}
 use Rattle.arcstr_block.specs.Book.{reached, seat_share}
-use Rattle.arcstr_block.specs.Memory.{IsText, block_owns, block_shares}
+use Rattle.arcstr_block.specs.Memory.{IsText, block_owns, block_shares, word_at}
 use Rattle.arcstr_block.specs.Ledger.{Id, names, Inv, right_to, of_block}
 use Rattle.arcstr_block.specs.contracts.pointer.Pointer as C
 use Rattle.arcstr_block.proofs.Fields.{pointer_val, found_val, Words, made}
@@ -84,7 +84,7 @@ module _ {M : Type 1} {𝓤 : Ura M} (𝓛 : Logic 𝓤) where
       pb = block_of h.at
 
       abbrev po : ℕ
-      po = count_of h.at + 0
+      po = word_at h.at (length h.text)
 
       -- a right, with the names of the block and a beginning of its history
       pub pointer_in : (t : Id) → names t ≡ h.block → InBlock h.at × IsText h.text

@@ -6,12 +6,12 @@
 -- each who finds the mark has a share.
 -- At the mark m is k, and it is one fewer after each later subtraction, of a drop that looked before the mark. A handle whose drop finds the mark
 -- lets its part go, and m stays.
-use Rattle.std.specs.Prelude.{◌≡◌, ℕ, ◌+◌, ◌-◌, ◌^◌, ◌<◌, ◌≤◌, Bool, true, false, List, [], ◌∷◌}
+use Rattle.std.specs.Prelude.{◌≡◌, ℕ, ◌+◌, ◌-◌, ◌^◌, ◌<◌, ◌≤◌, Bool, true, false, List, [], ◌∷◌, length}
 use base.Fraction.{full_share}
 use base.FractionLaws.{Counts}
 use base.Fml.{Lft, GName, Share, Fml, ftrue, fsep, fex, fall, flft, fdead, flent, fshr_bor, finv}
 use mir.Syntax.{Ty}
-use denote.RawPtr.{Ptr, block_of, count_of}
+use denote.RawPtr.{Ptr, block_of}
 use denote.Sharing.{said, beside, some, one, held, always, nothing as no_part}
 use Rattle.core.specs.Sync.RawAtomic.{word}
 use Rattle.arcstr_count.specs.declared.steps.Step.{Step}
@@ -19,7 +19,7 @@ use Rattle.arcstr_count.specs.declared.steps.HandleState.TheVariants.{Free, Drop
 use Rattle.arcstr_block.specs.Word.{IsLimit, IsMarked, counting_word, count_in}
 use Rattle.arcstr_block.specs.Rights.{Right, nothing, counted, uncounted, fixed, dropping, owed}
 use Rattle.arcstr_block.specs.Book.{Book, reached, seat, seat_share}
-use Rattle.arcstr_block.specs.Memory.{block_owns, block_shares, placed, IsText}
+use Rattle.arcstr_block.specs.Memory.{block_owns, block_shares, placed, word_at, IsText}
 
 abbrev pub fact : Type 0 → Fml
 fact φ = fex φ (λ _. ftrue)
@@ -131,13 +131,13 @@ module _ (P : Fml) (L b o : ℕ) (t : Id) where
 -- names and a beginning of its history
 module _ (holds : Ty → Ptr → Fml) (L : ℕ) (p : Ptr) (text : List ℕ) (right : Right) (h : ℕ) (block : Names) (history : List Step) where
   abbrev pub of_block : Id → Fml
-  of_block t = fsep (known t block history) (held_with (block_owns holds p text) L (block_of p) (count_of p + 0) t (block_shares p text) h right)
+  of_block t = fsep (known t block history) (held_with (block_owns holds p text) L (block_of p) (word_at p (length text)) t (block_shares p text) h right)
 
   abbrev pub pointer_owns : Fml
   pointer_owns = fsep (placed p (IsText text)) (fex Id of_block)
 
   abbrev pub of_block_shown : Id → Lft → Fml
-  of_block_shown t = beside (said (known t block history)) (shown (block_owns holds p text) L (block_of p) (count_of p + 0) t (block_shares p text) h right)
+  of_block_shown t = beside (said (known t block history)) (shown (block_owns holds p text) L (block_of p) (word_at p (length text)) t (block_shares p text) h right)
 
   abbrev pub pointer_shares : Lft → Fml
   pointer_shares = beside (said (placed p (IsText text))) (some Id of_block_shown)

@@ -1,4 +1,5 @@
--- The memory of a block: one piece, with the word at its address, the length of the text 8 bytes on, and the bytes of the text 16 bytes on.
+-- The memory of a block: one piece, with the bytes of the text at its address, the word at the first multiple of 8 past them, and the length of the
+-- text 8 bytes on.
 use Rattle.std.specs.Prelude.{ℕ, ◌+◌, ◌*◌, ◌/◌, ◌<◌, List, [], length, IsUtf8}
 use base.Fraction.{full_share}
 use base.Fml.{Lft, Fml, ftrue, fsep, fex, fwand, froom}
@@ -19,34 +20,45 @@ Fits n = n < 9223372036854775783
 abbrev pub IsText : List ℕ → Type 0
 IsText xs = Fits (length xs) × IsUtf8 xs
 
+-- how many bytes past the address of a block its word lies, behind a text of n bytes
+abbrev pub word_place : ℕ → ℕ
+word_place n = (n + 7) / 8 * 8
+
 -- the bytes of a block for a text of n bytes: 16 and the text, rounded up to a multiple of 8
 abbrev pub block_size : ℕ → ℕ
 block_size n = (16 + n + 7) / 8 * 8
 
 -- the type that the machine has for such a block
 abbrev pub block_type : ℕ → Ty
-block_type n = ty_struct [] (tcons (ty_int w64) (tcons (ty_int w64) (tcons (ty_array (ty_int w8) n) tnil)))
+block_type n = ty_struct [] (tcons (ty_array (ty_int w8) n) (tcons (ty_int w64) (tcons (ty_int w64) tnil)))
 
-abbrev pub length_at : Ptr → Ptr
-length_at p = p +ₚ 8
+-- where the word and the length lie behind a text of n bytes
+abbrev pub tail_at : Ptr → ℕ → Ptr
+tail_at p n = p +ₚ word_place n
 
-abbrev pub text_at : Ptr → Ptr
-text_at p = p +ₚ 16
+abbrev pub word_at : Ptr → ℕ → ℕ
+word_at p n = count_of p + word_place n + 0
 
--- room for the word, the length and the bytes, o bytes into the memory b
+abbrev pub length_at : Ptr → ℕ → Ptr
+length_at p n = tail_at p n +ₚ 8
+
+-- room for the bytes, the word and the length, o bytes into the memory b, and the latter two u bytes into it
+abbrev pub rooms_with : ℕ → ℕ → ℕ → ℕ → Fml
+rooms_with n b o u = fsep (froom (ty_array (ty_int w8) n) b o) (fsep (froom (ty_int w64) b (u + 0)) (fsep (froom (ty_int w64) b (u + 8)) ftrue))
+
 abbrev pub rooms : ℕ → ℕ → ℕ → Fml
-rooms n b o = fsep (froom (ty_int w64) b (o + 0)) (fsep (froom (ty_int w64) b (o + 8)) (fsep (froom (ty_array (ty_int w8) n) b (o + 16)) ftrue))
+rooms n b o = rooms_with n b o (o + word_place n)
 
--- the word
-abbrev pub word_lies : Ptr → ℕ → Fml
-word_lies p n = word (block_of p) (count_of p + 0) n
+-- the word w behind a text of n bytes
+abbrev pub word_lies : Ptr → ℕ → ℕ → Fml
+word_lies p n w = word (block_of p) (word_at p n) w
 
 -- the length, which says n, and the bytes xs
 abbrev pub length_lies : Ptr → ℕ → Fml
-length_lies p n = lies_at usize full_share (length_at p) n
+length_lies p n = lies_at usize full_share (length_at p n) n
 
 abbrev pub text_lies : Ptr → List ℕ → Fml
-text_lies p xs = lies_at (Array u8 (length xs)) full_share (text_at p) xs
+text_lies p xs = lies_at (Array u8 (length xs)) full_share p xs
 
 -- the address is one in memory, and what is said of the text there
 abbrev pub placed : Ptr → Type 0 → Fml
@@ -63,12 +75,12 @@ module _ (holds : Ty → Ptr → Fml) where
 
   -- a block whose bytes are elsewhere
   abbrev pub blank_owns : Ptr → ℕ → ℕ → Fml
-  blank_owns p w n = fsep (placed p (Fits n)) (fsep (word_lies p w) (fsep (length_lies p n) (rim n p)))
+  blank_owns p w n = fsep (placed p (Fits n)) (fsep (word_lies p n w) (fsep (length_lies p n) (rim n p)))
 
   -- a block that one owner has alone
   abbrev pub sole_owns : Ptr → ℕ → List ℕ → Fml
-  sole_owns p w xs = fsep (placed p (Fits (length xs))) (fsep (word_lies p w) (block_owns p xs))
+  sole_owns p w xs = fsep (placed p (Fits (length xs))) (fsep (word_lies p (length xs) w) (block_owns p xs))
 
 -- what is shared of a block: the length and the bytes
 abbrev pub block_shares : Ptr → List ℕ → Lft → Fml
-block_shares p xs = beside (lent_at usize (length_at p) (length xs)) (lent_at (Array u8 (length xs)) (text_at p) xs)
+block_shares p xs = beside (lent_at usize (length_at p (length xs)) (length xs)) (lent_at (Array u8 (length xs)) p xs)

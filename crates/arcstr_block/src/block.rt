@@ -1,10 +1,10 @@
-//! The memory of a block, in one piece: its word, the length of its text in bytes, and the bytes of the text. Here
-//! one owner has all of it: its maker, or whoever gives it back.
+//! The memory of a block, in one piece: the bytes of its text, and behind them its word and the length of the text in
+//! bytes. Here one owner has all of it: its maker, or whoever gives it back.
 ghost use Rattle.std.specs.Prelude.{◌≡◌, ℕ, List, length, replicate, IfOk};
 ghost use Rattle.std.specs.Borrow.{sem};
 ghost use Rattle.core.specs.Mem.Slots.{slots_ptr, slots_len, slots_items, slots_filled};
 ghost use Rattle.core.specs.Mem.Slots.Ownership.{Filled};
-ghost use Rattle.arcstr_block.specs.Memory.{Fits, block_size, text_at, blank_owns, sole_owns};
+ghost use Rattle.arcstr_block.specs.Memory.{Fits, word_place, block_size, blank_owns, sole_owns};
 
 use core::slots::Slots;
 use std::alloc::{AllocError, Allocator};
@@ -12,16 +12,15 @@ use std::marker::{Model, PhantomData};
 use std::mem::align_of;
 use std::slice;
 
-/// What lies at the address of a block. As many bytes as the length says follow it.
-pub(crate) struct Block {
+/// What lies behind the bytes of a text, at the first multiple of 8 past them.
+pub(crate) struct Tail {
     pub(crate) word: u64,
     pub(crate) length: usize,
-    pub(crate) text: [u8; 0],
 }
 
 /// The memory of a new block but for its bytes, which its maker has in a `Slots` beside it.
 pub(crate) struct Blank<A: Allocator> {
-    at: *mut Block,
+    at: *mut u8,
     marker: PhantomData<A>,
     pub ghost home: { A },
     pub ghost word: { ℕ },
@@ -34,7 +33,7 @@ impl<A: Allocator> Model for Blank<A> {
 
 /// The memory of a block whose text is written, and which one owner has alone.
 pub(crate) struct Sole<A: Allocator> {
-    pub(crate) at: *mut Block,
+    pub(crate) at: *mut u8,
     pub(crate) marker: PhantomData<A>,
     pub ghost home: { A },
     pub ghost word: { ℕ },
@@ -46,42 +45,42 @@ impl<A: Allocator> Model for Sole<A> {
 }
 
 impl<A: Allocator> Blank<A> {
-    /// Asks for the memory of a block, `size` bytes for a text of `len`, and writes the word and the length.
+    /// Asks for the memory of a block, `size` bytes for a text of `len`, and writes the word at `place` and the length.
     pub(crate) fn make(
         alloc: &A,
         word: u64,
         len: usize,
+        place: usize,
         size: usize,
     ) -> Result<(Blank<A>, Slots<u8>), AllocError>
+        requires place { place ≡ word_place len }
         requires size { size ≡ block_size len }
         requires fits { Fits len }
         ensures home { IfOk result (λ made. made.0.home ≡ alloc.now) }
         ensures word { IfOk result (λ made. made.0.word ≡ word) }
         ensures length { IfOk result (λ made. (made.0.length ≡ len) × (slots_len made.1 ≡ len)) }
-        ensures bytes { IfOk result (λ made. slots_ptr made.1 ≡ text_at made.0.at) }
+        ensures bytes { IfOk result (λ made. slots_ptr made.1 ≡ made.0.at) }
         ensures empty { IfOk result (λ made. slots_items made.1 ≡ replicate len 0) }
     {
-        match alloc.allocate(size, align_of::<Block>()) {
-            Ok(room) => {
-                let at = room as *mut Block;
-                unsafe {
-                    (&raw mut (*at).word).write(word);
-                    (&raw mut (*at).length).write(len);
-                    let bytes = Slots::from_raw_parts(&raw mut (*at).text as *mut u8, len);
-                    let blank = Blank {
-                        at,
-                        marker: PhantomData,
-                    };
-                    Ok((blank, bytes))
-                }
-            }
+        match alloc.allocate(size, align_of::<Tail>()) {
+            Ok(at) => unsafe {
+                let tail = at.add(place) as *mut Tail;
+                (&raw mut (*tail).word).write(word);
+                (&raw mut (*tail).length).write(len);
+                let bytes = Slots::from_raw_parts(at, len);
+                let blank = Blank {
+                    at,
+                    marker: PhantomData,
+                };
+                Ok((blank, bytes))
+            },
             Err(refused) => Err(refused),
         }
     }
 
     /// The block, once each of its bytes is written.
     pub(crate) fn close(self, bytes: Slots<u8>) -> Sole<A>
-        requires here { slots_ptr bytes ≡ text_at self.at }
+        requires here { slots_ptr bytes ≡ self.at }
         requires long { slots_len bytes ≡ self.length }
         requires written { Filled (slots_filled bytes) 0 self.length }
         ensures home { result.home ≡ self.home }
@@ -103,7 +102,7 @@ impl<A: Allocator> Sole<A> {
         ensures* follows { sem 𝓛 (sole_follows A.row A.Allocator self.entry result) }
         ensures text { result.now ≡ self.old.text }
     {
-        unsafe { slice::from_raw_parts_mut(&raw mut (*self.at).text as *mut u8, len) }
+        unsafe { slice::from_raw_parts_mut(self.at, len) }
     }
 
     /// Gives the memory back.
@@ -112,8 +111,16 @@ impl<A: Allocator> Sole<A> {
         requires size { size ≡ block_size (length self.text) }
     {
         let Sole { at, marker: _ } = self;
-        unsafe { alloc.deallocate(at as *mut u8, size, align_of::<Block>()) }
+        unsafe { alloc.deallocate(at, size, align_of::<Tail>()) }
     }
+}
+
+/// How many bytes past the address of a block its word lies, behind a text of `len` bytes: the first multiple of 8 there.
+pub(crate) fn place_of_word(len: usize) -> usize
+    requires { Fits len }
+    ensures { result ≡ word_place len }
+{
+    (len + 7) / 8 * 8
 }
 
 /// The bytes of a block for a text of `len` bytes: 16 and the text, rounded up to a multiple of 8.

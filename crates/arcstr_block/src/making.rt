@@ -5,10 +5,10 @@ ghost use Rattle.std.specs.List.{repeat};
 ghost use Rattle.core.specs.Mem.Slots.{SamePlaces, slots_ptr, slots_len, slots_items, slots_filled};
 ghost use Rattle.core.specs.Mem.Slots.Ownership.{Filled};
 ghost use Rattle.arcstr_count.specs.Word.{bits_of, fresh_word};
-ghost use Rattle.arcstr_block.specs.Memory.{Fits, text_at};
+ghost use Rattle.arcstr_block.specs.Memory.{Fits};
 ghost use Rattle.arcstr_block.specs.Making.{IsTooLong, IsFaultOfMaking, IsFaultOfBytes, IsFaultOfFilling};
 
-use crate::block::{Blank, size_of_block};
+use crate::block::{Blank, place_of_word, size_of_block};
 use crate::fault::{TOO_LONG, TextFault};
 use crate::shared::Shared;
 use arcstr_count::{RC_MAX, Word};
@@ -94,11 +94,12 @@ fn blank_block<A: Allocator + Copy>(
     ensures home { IfOk result (λ made. made.0.home ≡ alloc) }
     ensures word { IfOk result (λ made. made.0.word ≡ bits_of fresh_word) }
     ensures length { IfOk result (λ made. (made.0.length ≡ len) × (slots_len made.1 ≡ len)) }
-    ensures bytes { IfOk result (λ made. slots_ptr made.1 ≡ text_at made.0.at) }
+    ensures bytes { IfOk result (λ made. slots_ptr made.1 ≡ made.0.at) }
     ensures empty { IfOk result (λ made. slots_items made.1 ≡ replicate len 0) }
     ensures refused { IfErr result (λ fault. fault ≡ TextFault.Memory) }
 {
-    match Blank::make(&alloc, Word::one().bits(), len, size_of_block(len)) {
+    let place = place_of_word(len);
+    match Blank::make(&alloc, Word::one().bits(), len, place, size_of_block(len)) {
         Ok(made) => Ok(made),
         Err(_) => Err(TextFault::Memory),
     }

@@ -1,7 +1,8 @@
 //! What the end of a handle leaves.
-ghost use Rattle.std.specs.Prelude.{◌≡◌, ◌≢◌};
+ghost use Rattle.std.specs.Prelude.{◌≡◌, ◌≢◌, length};
 ghost use Rattle.arcstr_block.specs.Rights.{owed};
 ghost use Rattle.arcstr_block.specs.Handle.{Debt};
+ghost use Rattle.arcstr_block.specs.Memory.{word_place};
 
 use crate::block::size_of_block;
 use crate::fixed::Fixed;
@@ -24,8 +25,11 @@ pub enum Down<A: Allocator> {
 /// Contracts see its block's name, and the number of the handle that was subtracted last.
 pub struct Owed<A: Allocator> {
     pub(crate) pointer: Pointer<A>,
+    /// How many bytes past the address of the block its word and the length of its text lie.
+    pub(crate) place: usize,
     pub(crate) alloc: A,
     ghost right: { pointer.right ≡ owed },
+    ghost placed: { place ≡ word_place (length pointer.text) },
     ghost home: { alloc ≡ pointer.home },
 }
 
@@ -39,8 +43,12 @@ impl<A: Allocator> Owed<A> {
     /// Gives the memory of the block, and of its text, back to the allocator.
     /// That a heap has it again is shown by the test `all_memory_is_given_back`.
     pub fn give_back(self) {
-        let Owed { pointer, alloc } = self;
-        let (block, len) = pointer.release();
+        let Owed {
+            pointer,
+            place,
+            alloc,
+        } = self;
+        let (block, len) = pointer.release(place);
         block.give_back(&alloc, size_of_block(len));
     }
 }
@@ -52,9 +60,18 @@ impl<A: Allocator + Copy> Owed<A> {
         ensures second { result.1 ≡ other }
         ensures alone { self.block ≢ other.block }
     {
-        let Owed { pointer, alloc } = self;
+        let Owed {
+            pointer,
+            place,
+            alloc,
+        } = self;
         let (other, pointer) = other.apart_from(pointer);
-        (Owed { pointer, alloc }, other)
+        let owed = Owed {
+            pointer,
+            place,
+            alloc,
+        };
+        (owed, other)
     }
 
     /// The law that a handle that is lent is on another block than what is owed. No step.
@@ -62,9 +79,17 @@ impl<A: Allocator + Copy> Owed<A> {
         ensures same { result ≡ self }
         ensures alone { self.block ≢ handle.now.block }
     {
-        let Owed { pointer, alloc } = self;
+        let Owed {
+            pointer,
+            place,
+            alloc,
+        } = self;
         let pointer = handle.alone_from(pointer);
-        Owed { pointer, alloc }
+        Owed {
+            pointer,
+            place,
+            alloc,
+        }
     }
 
     /// The law that a block that is owed is not marked. No step.
@@ -72,9 +97,17 @@ impl<A: Allocator + Copy> Owed<A> {
         ensures same { result ≡ self }
         ensures unmarked { self.block ≢ fixed.now.block }
     {
-        let Owed { pointer, alloc } = self;
+        let Owed {
+            pointer,
+            place,
+            alloc,
+        } = self;
         let pointer = pointer.unmarked(&fixed.pointer);
-        Owed { pointer, alloc }
+        Owed {
+            pointer,
+            place,
+            alloc,
+        }
     }
 }
 
@@ -86,21 +119,25 @@ impl<A: Allocator> Owed<A> {
         ensures apart { self.block ≢ other.block }
     {
         let Owed {
-            pointer: first,
-            alloc: home,
+            pointer,
+            place,
+            alloc,
         } = self;
         let Owed {
-            pointer: second,
-            alloc,
-        } = other;
-        let (first, second) = first.apart(second);
-        let first = Owed {
-            pointer: first,
+            pointer: beside,
+            place: there,
             alloc: home,
+        } = other;
+        let (pointer, beside) = pointer.apart(beside);
+        let first = Owed {
+            pointer,
+            place,
+            alloc,
         };
         let second = Owed {
-            pointer: second,
-            alloc,
+            pointer: beside,
+            place: there,
+            alloc: home,
         };
         (first, second)
     }

@@ -12,10 +12,10 @@ ghost use Rattle.arcstr_count.specs.Word.{bits_of, fresh_word};
 ghost use Rattle.arcstr_block.specs.Word.{IsLimit, IsWord, IsClone};
 ghost use Rattle.arcstr_block.specs.Rights.{Right, right_code, nothing, counted, fixed, dropping, owed};
 ghost use Rattle.arcstr_block.specs.Rights.{IsFree, HasSeat, MaySee, IsIdle, Looks, Finds, Loads, Gains, Begins, Leaves};
-ghost use Rattle.arcstr_block.specs.Memory.{Fits};
+ghost use Rattle.arcstr_block.specs.Memory.{Fits, word_place};
 ghost use Rattle.arcstr_block.specs.Ledger.{pointer_owns, pointer_shares};
 
-use crate::block::{Block, Sole};
+use crate::block::{Sole, Tail};
 use crate::seen::Seen;
 use crate::word::{MARK, ONE};
 use atomic_table::exchange;
@@ -28,7 +28,7 @@ use std::sync::atomic::raw;
 /// A pointer to a block, with a right, which `specs/Rights.antt` lists, and with a beginning of the block's history.
 /// `seat` is the number of its handle in that history, and `block` the names of the history and of its seats.
 pub(crate) struct Pointer<A: Allocator> {
-    at: *const Block,
+    at: *const u8,
     marker: PhantomData<A>,
     pub ghost home: { A } by { A.code },
     pub ghost text: { List ℕ },
@@ -63,14 +63,14 @@ impl<A: Allocator> Pointer<A> {
         Pointer { at, marker }
     }
 
-    /// The bytes of the text, `len` of them. They lie 16 bytes on, and nothing is loaded.
+    /// The bytes of the text, `len` of them. They lie at the address, and nothing is loaded.
     fn bytes(&self, len: usize) -> &[u8]
         requires right { MaySee self.now.right }
         requires length { len ≡ length self.now.text }
         ensures text { result.now ≡ self.now.text }
         ensures utf8 { IsUtf8 result.now }
     {
-        unsafe { slice::from_raw_parts(&raw const (*self.at).text as *const u8, len) }
+        unsafe { slice::from_raw_parts(self.at, len) }
     }
 
     /// The text, of `len` bytes.
@@ -84,37 +84,43 @@ impl<A: Allocator> Pointer<A> {
     }
 
     /// The look of a free handle: one load.
-    pub(crate) fn look(&self) -> (u64, Pointer<A>)
-        requires { IsFree self.now.right }
+    pub(crate) fn look(&self, place: usize) -> (u64, Pointer<A>)
+        requires right { IsFree self.now.right }
+        requires place { place ≡ word_place (length self.now.text) }
         ensures word { IsWord self.now.limit result.0 }
         ensures right { Looks result.0 result.1.right }
         ensures history { Looked self.now result.0 result.1 }
         ensures same { IsSameBlock result.1 self.now }
     {
-        self.load()
+        self.load(place)
     }
 
     /// The load of a clone: where it finds the mark, the clone is had.
-    pub(crate) fn find(&self) -> (u64, Pointer<A>)
-        requires { IsFree self.now.right }
+    pub(crate) fn find(&self, place: usize) -> (u64, Pointer<A>)
+        requires right { IsFree self.now.right }
+        requires place { place ≡ word_place (length self.now.text) }
         ensures word { IsWord self.now.limit result.0 }
         ensures right { Finds result.0 result.1.right }
         ensures same { IsSameBlock result.1 self.now }
     {
-        self.load()
+        self.load(place)
     }
 
     /// One load, of a clone or as a look.
-    fn load(&self) -> (u64, Pointer<A>)
+    fn load(&self, place: usize) -> (u64, Pointer<A>)
         ghost clones: { Bool }
-        requires { IsFree self.now.right }
+        requires right { IsFree self.now.right }
+        requires place { place ≡ word_place (length self.now.text) }
         ensures word { IsWord self.now.limit result.0 }
         ensures right { Loads clones result.0 result.1.right }
         ensures history { LoadedAs clones self.now result.0 result.1 }
         ensures same { IsSameBlock result.1 self.now }
     {
         let at = self.at;
-        let found = unsafe { raw::load::<Brand>(&raw const (*at).word, SeqCst) };
+        let found = unsafe {
+            let tail = at.add(place) as *const Tail;
+            raw::load::<Brand>(&raw const (*tail).word, SeqCst)
+        };
         (
             found,
             Pointer {
@@ -125,15 +131,19 @@ impl<A: Allocator> Pointer<A> {
     }
 
     /// One compare-exchange, from `old` to its clone `new`: where it finds `old` or the mark, the clone is had.
-    pub(crate) fn raise(&self, old: u64, new: u64) -> (u64, Pointer<A>)
+    pub(crate) fn raise(&self, place: usize, old: u64, new: u64) -> (u64, Pointer<A>)
         requires right { IsFree self.now.right }
+        requires place { place ≡ word_place (length self.now.text) }
         requires clone { IsClone self.now.limit old new }
         ensures word { IsWord self.now.limit result.0 }
         ensures right { Gains old new result.0 result.1.right }
         ensures same { IsSameBlock result.1 self.now }
     {
         let at = self.at;
-        let found = unsafe { exchange::<Brand>(&raw const (*at).word, old, new) };
+        let found = unsafe {
+            let tail = at.add(place) as *const Tail;
+            exchange::<Brand>(&raw const (*tail).word, old, new)
+        };
         (
             found,
             Pointer {
@@ -144,14 +154,18 @@ impl<A: Allocator> Pointer<A> {
     }
 
     /// One fetch-or of the mark.
-    pub(crate) fn mark(&self) -> Pointer<A>
-        requires { IsFree self.now.right }
+    pub(crate) fn mark(&self, place: usize) -> Pointer<A>
+        requires right { IsFree self.now.right }
+        requires place { place ≡ word_place (length self.now.text) }
         ensures right { result.right ≡ fixed }
         ensures history { Leaked self.now result }
         ensures same { IsSameBlock result self.now }
     {
         let at = self.at;
-        unsafe { raw::fetch_or::<Brand>(&raw const (*at).word, MARK, SeqCst) };
+        unsafe {
+            let tail = at.add(place) as *const Tail;
+            raw::fetch_or::<Brand>(&raw const (*tail).word, MARK, SeqCst);
+        }
         Pointer {
             at,
             marker: PhantomData,
@@ -159,26 +173,34 @@ impl<A: Allocator> Pointer<A> {
     }
 
     /// The look of a drop: one load.
-    pub(crate) fn begin(self) -> (u64, Pointer<A>)
-        requires { IsFree self.right }
+    pub(crate) fn begin(self, place: usize) -> (u64, Pointer<A>)
+        requires right { IsFree self.right }
+        requires place { place ≡ word_place (length self.text) }
         ensures right { Begins result.0 result.1.right }
         ensures history { BegunAs self result.0 result.1 }
         ensures same { IsSameBlock result.1 self }
     {
         let Pointer { at, marker } = self;
-        let found = unsafe { raw::load::<Brand>(&raw const (*at).word, SeqCst) };
+        let found = unsafe {
+            let tail = at.add(place) as *const Tail;
+            raw::load::<Brand>(&raw const (*tail).word, SeqCst)
+        };
         (found, Pointer { at, marker })
     }
 
     /// One fetch-sub of a count.
-    pub(crate) fn leave(self) -> (u64, Pointer<A>)
-        requires { self.right ≡ dropping }
+    pub(crate) fn leave(self, place: usize) -> (u64, Pointer<A>)
+        requires right { self.right ≡ dropping }
+        requires place { place ≡ word_place (length self.text) }
         ensures right { Leaves result.0 result.1.right }
         ensures history { SubtractedAs self result.0 result.1 }
         ensures same { IsSameBlock result.1 self }
     {
         let Pointer { at, marker } = self;
-        let found = unsafe { raw::fetch_sub::<Brand>(&raw const (*at).word, ONE, SeqCst) };
+        let found = unsafe {
+            let tail = at.add(place) as *const Tail;
+            raw::fetch_sub::<Brand>(&raw const (*tail).word, ONE, SeqCst)
+        };
         (found, Pointer { at, marker })
     }
 
@@ -197,15 +219,19 @@ impl<A: Allocator> Pointer<A> {
     }
 
     /// The block, for whoever subtracted last, and the length of its text: it is given back.
-    pub(crate) fn release(self) -> (Sole<A>, usize)
-        requires { self.right ≡ owed }
+    pub(crate) fn release(self, place: usize) -> (Sole<A>, usize)
+        requires right { self.right ≡ owed }
+        requires place { place ≡ word_place (length self.text) }
         ensures home { result.0.home ≡ self.home }
         ensures text { result.0.text ≡ self.text }
         ensures length { result.1 ≡ length self.text }
         ensures fits { Fits result.1 }
     {
         let Pointer { at, marker } = self;
-        let len = unsafe { (*at).length };
+        let len = unsafe {
+            let tail = at.add(place) as *const Tail;
+            (*tail).length
+        };
         let at = at.cast_mut();
         (Sole { at, marker }, len)
     }

@@ -1,11 +1,12 @@
 //! One handle on a block.
 ghost use Rattle.std.specs.Prelude.{◌≡◌, ◌≢◌, ◌↔◌, ℕ, length, IsUtf8, ◌<◌, ◌≤◌, ◌+◌, MatchOption, IfOk, IfErr, IfSome};
 ghost use Rattle.arcstr_count.specs.Word.{bits_of, fresh_word};
+ghost use Rattle.arcstr_block.specs.Memory.{Fits};
 ghost use Rattle.arcstr_block.specs.Word.{IsLimit, IsUnmarked, IsWord, IsOtherWord};
 ghost use Rattle.arcstr_block.specs.Rights.{owed, IsFree, HasSeat};
 ghost use Rattle.arcstr_block.specs.Handle.{Handle, SawCount, SawMark, SawLeak, kept_of};
 
-use crate::block::Sole;
+use crate::block::{Sole, place_of_word};
 use crate::fixed::Fixed;
 use crate::owed::{Down, Owed};
 use crate::pointer::Pointer;
@@ -24,6 +25,7 @@ struct Counted<const LIMIT: u64, A: Allocator + Copy> {
     alloc: A,
     ghost free: { IsFree pointer.right },
     ghost measured: { len ≡ length pointer.text },
+    ghost fits: { Fits len },
     ghost home: { alloc ≡ pointer.home },
     ghost limit: { pointer.limit ≡ LIMIT },
     ghost low: { IsLimit LIMIT },
@@ -51,6 +53,7 @@ impl<const LIMIT: u64, A: Allocator + Copy> Shared<LIMIT, A> {
         requires home { block.home ≡ alloc }
         requires utf8 { IsUtf8 block.text }
         requires length { len ≡ length block.text }
+        requires fits { Fits len }
         ensures { result.text ≡ block.text }
     {
         let pointer = Pointer::make(block);
@@ -83,7 +86,7 @@ impl<const LIMIT: u64, A: Allocator + Copy> Shared<LIMIT, A> {
         ensures seen { MatchOption result.0 (SawMark LIMIT result.1.history self.now.seat) (λ count. SawCount LIMIT result.1.history self.now.seat count) }
         ensures block { result.1.block ≡ self.now.block }
     {
-        let (found, gained) = self.handle.pointer.look();
+        let (found, gained) = self.handle.pointer.look(place_of_word(self.handle.len));
         let seen = gained.seen();
         gained.forget();
         (looked(found), seen)
@@ -95,7 +98,7 @@ impl<const LIMIT: u64, A: Allocator + Copy> Shared<LIMIT, A> {
         ensures seen { MatchOption result.0 ((n : ℕ) × SawCount LIMIT result.1.history self.now.seat n) (λ _. SawMark LIMIT result.1.history self.now.seat) }
         ensures block { result.1.block ≡ self.now.block }
     {
-        let (found, gained) = self.handle.pointer.look();
+        let (found, gained) = self.handle.pointer.look(place_of_word(self.handle.len));
         let seen = gained.seen();
         if marked(found) {
             let fixed = Fixed {
@@ -115,7 +118,7 @@ impl<const LIMIT: u64, A: Allocator + Copy> Shared<LIMIT, A> {
         ensures step { SawLeak LIMIT result.history self.now.seat }
     {
         Fixed {
-            pointer: self.handle.pointer.mark(),
+            pointer: self.handle.pointer.mark(place_of_word(self.handle.len)),
             len: self.handle.len,
             alloc: self.handle.alloc,
         }
@@ -127,7 +130,7 @@ impl<const LIMIT: u64, A: Allocator + Copy> Shared<LIMIT, A> {
         ensures text { result.text ≡ self.now.text }
         ensures block { result.block ≡ self.now.block }
     {
-        let (found, gained) = self.handle.pointer.find();
+        let (found, gained) = self.handle.pointer.find(place_of_word(self.handle.len));
         if marked(found) {
             return Shared {
                 handle: self.handle.beside(gained),
@@ -211,19 +214,25 @@ impl<const LIMIT: u64, A: Allocator + Copy> Shared<LIMIT, A> {
         let Shared { handle } = self;
         let Counted {
             pointer,
-            len: _,
+            len,
             alloc,
         } = handle;
-        let (found, pointer) = pointer.begin();
+        let place = place_of_word(len);
+        let (found, pointer) = pointer.begin(place);
         if marked(found) {
             let seen = pointer.seen();
             pointer.forget();
             return (Down::Ended, seen);
         }
-        let (found, pointer) = pointer.leave();
+        let (found, pointer) = pointer.leave(place);
         let seen = pointer.seen();
         if is_last(found) {
-            return (Down::Owes(Owed { pointer, alloc }), seen);
+            let owed = Owed {
+                pointer,
+                place,
+                alloc,
+            };
+            return (Down::Owes(owed), seen);
         }
         pointer.forget();
         (Down::Left, seen)
@@ -240,7 +249,7 @@ impl<const LIMIT: u64, A: Allocator + Copy> Counted<LIMIT, A> {
         ensures clone { IfOk result (λ clone. IsCloneOf clone.pointer self.now.pointer) }
         ensures found { IfErr result (IsOtherWord LIMIT old) }
     {
-        let (found, gained) = self.pointer.raise(old, next(LIMIT, old));
+        let (found, gained) = self.pointer.raise(place_of_word(self.len), old, next(LIMIT, old));
         if found == old || marked(found) {
             Ok(self.beside(gained))
         } else {

@@ -33,7 +33,7 @@ use Rattle.core.proofs.slots.Opens.{words_val}
 use Rattle.core.proofs.slots.Slots.into_raw_parts.Met as callee
 use Rattle.atomic_table.proofs.Calls.{fm}
 use Rattle.atomic_table.proofs.Walks.{proved, leaves}
-use Rattle.arcstr_block.specs.Memory.{Fits, text_at, length_lies, text_lies, rim}
+use Rattle.arcstr_block.specs.Memory.{Fits, word_lies, length_lies, text_lies, rim}
 use Rattle.arcstr_block.specs.contracts.block.Blank as N
 use Rattle.arcstr_block.specs.contracts.block.Sole as S
 use Rattle.arcstr_block.proofs.Fields.{pointer_val, typed, Words, told, made}
@@ -66,9 +66,9 @@ close_spec 𝓤 𝓛 𝓜 𝓡 wired Y K g d dd met md =
     let y : (walk_of 𝓛 En hs c).Ghost = ((κs, qs, bounds, a, (pointer_val p ∷ [], (u ∷ [], tt))), gh) in
     let Post : Val → SProp 𝓤 = (walk_of 𝓛 En hs c).post y in
     let Written : Type 0 = Filled fs 0 h.length in
-    qed 𝓛 ((raw (alive 𝓛 En.signature κs qs) ⊛ ‵ (owns (types_at En.signature.params κs) a y.0.4)) ∷ raw (fact 𝓤 _) ∷ raw (fact 𝓤 (row.ptr ≡ text_at p)) ∷ raw
+    qed 𝓛 ((raw (alive 𝓛 En.signature κs qs) ⊛ ‵ (owns (types_at En.signature.params κs) a y.0.4)) ∷ raw (fact 𝓤 _) ∷ raw (fact 𝓤 (row.ptr ≡ p)) ∷ raw
     (fact 𝓤 (row.len ≡ h.length)) ∷ raw (fact 𝓤 Written) ∷ []) ∵
-    keep ! (2 ∷ 3 ∷ 4 ∷ 0 ∷ []) $ heard ! (row.ptr ≡ text_at p) (λ here. heard ! (row.len ≡ h.length) (λ long. heard ! Written (λ full. split ! $
+    keep ! (2 ∷ 3 ∷ 4 ∷ 0 ∷ []) $ heard ! (row.ptr ≡ p) (λ here. heard ! (row.len ≡ h.length) (λ long. heard ! Written (λ full. split ! $
     move ! (1 ∷ []) $ fsplit3 ! $ keep ! (0 ∷ 1 ∷ 3 ∷ []) $ fsplit ! $ drop ! $
     fsplit3 ! $ fpick ! (λ inb. drop ! $ let at : p ≡ block_ptr b o = at_block p inb.0 in let counts : h.length ≡ n = sym long ∙ row.ok.0 in
     -- [the word; the length and the rim; the bytes' places; the tokens]
@@ -87,13 +87,14 @@ close_spec 𝓤 𝓛 𝓜 𝓡 wired Y K g d dd met md =
     WT z) (sym got.0) (words_typed row.ptr row.len small) in
     lands_last ! refl good $ exec ! 𝓣.C 𝓣.Λ Ev (tail (tail (tail fn.body))) (at_ret Ev Post) $ sets ! (of_opd ! (get ! refl)) refl good $
     sets ! (is ! (agg ! (and_then ! (get ! refl) (and_then ! (get ! refl) (no_more !)))) (ap pointer_val (sym at))) refl (typed p) $
-    fsplit ! $ drop ! $ rewrite ! 0 (λ (r : Ptr). ‵ (in_block r (slots R r xs fs))) (here ∙ ap text_at at) refl $
-    use1 𝓛 (‵ (bytes full_share xs b (o + 16))) (to_bytes 𝓛 b xs fs (o + 16) (sym row.ok.1 ∙ row.ok.0) (λ k lt.
+    fsplit ! $ drop ! $ rewrite ! 0 (λ (r : Ptr). ‵ (in_block r (slots R r xs fs))) (here ∙ at) refl $
+    use1 𝓛 (‵ (bytes full_share xs b o)) (to_bytes 𝓛 b xs fs o (sym row.ok.1 ∙ row.ok.0) (λ k lt.
     full k (omega arith) (omega (arith, lt, row.ok.1, long)))) $
-    feq_i ! ℕ n n refl $ fjoin ! $ use1 𝓛 (‵ (part_at (Array u8 n) full_share xs b (o + 16))) (bytes_whole 𝓛 full_share n xs b (o + 16)) $
+    feq_i ! ℕ n n refl $ fjoin ! $ use1 𝓛 (‵ (part_at (Array u8 n) full_share xs b o)) (bytes_whole 𝓛 full_share n xs b o) $
     rewrite ! 0 (λ (r : Ptr). ‵ (text_lies r xs)) (sym at) refl $
     -- [the bytes; the word; the length and the rim; the tokens]
-    move ! (2 ∷ []) $ rewrite ! 0 (λ (m : ℕ). ‵ (fsep (length_lies p m) (rim holds m p))) counts refl $ fsplit ! $ move ! (0 ∷ 2 ∷ 1 ∷ []) $ fjoin3 ! $
+    rewrite ! 1 (λ (m : ℕ). ‵ (word_lies p m h.word)) counts refl $ move ! (2 ∷ []) $
+    rewrite ! 0 (λ (m : ℕ). ‵ (fsep (length_lies p m) (rim holds m p))) counts refl $ fsplit ! $ move ! (0 ∷ 2 ∷ 1 ∷ []) $ fjoin3 ! $
     move ! (1 ∷ 0 ∷ []) $ fjoin ! $
     nothing ! $ fpack ! (InBlock p × Fits n) (λ _. base.Fml.ftrue) (inb.0, subst Fits counts inb.1) $ fjoin ! $
     use0 𝓛 (‵ ((Words B g).own_val (p, (tt, tt)) (pointer_val p ∷ []))) (made B g 𝓛 p) $ fjoin ! $

@@ -1,5 +1,5 @@
--- `make` asks the allocator for a block's room, cuts it in three, writes the word and the length, and makes places of the rest.
-use Rattle.std.proofs.Common.{◌≡◌, ℕ, ◌+◌, ◌^◌, ◌<◌, Bool, true, false, List, [], ◌∷◌, length, replicate, sym, refl, ◌∙◌, arith, lit<, w64}
+-- `make` asks the allocator for a block's room, cuts it in three, writes the word and the length, and makes places of the bytes.
+use Rattle.std.proofs.Common.{◌≡◌, ℕ, ◌+◌, ◌*◌, ◌^◌, ◌<◌, Bool, true, false, List, [], ◌∷◌, length, replicate, sym, refl, ap, ◌∙◌, arith, lit<, w64}
 use lib.ListN.{length-replicate}
 use mir.Syntax.{Ty, Body, dcons, dnil, a_type, named, w8, ty_int, ty_array}
 use mir.Raw.{raw as bare}
@@ -15,8 +15,8 @@ use contract.Monad.{fact, fact_i}
 use types.Kit.{‵, raw, ◌⊛◌, any_q, some, given, later, at_ret, ◌$◌, ◌∵◌, !, qed, by, move, keep, use0, use1, use2, split, join, fsplit, fsplit3, fjoin, fjoin3}
 use types.Kit.{fpack, pick, learn, await, rewrite, feq_i}
 use types.Match.{live, vrt, in_variant}
-use types.Run.{stop, fld, addr, lit, of_opd, no_more, and_then, first, blocks, switches_on, init, assigns, exec, returns, enter}
-use types.ByLocal.{alloc_all, pass_all, free_all, look_at, get, get_in, get_tag, through, sets, sets_last, lands_as, env}
+use types.Run.{stop, fld, addr, lit, bin, size_lit, of_opd, no_more, and_then, first, blocks, switches_on, init, assigns, exec, returns, enter}
+use types.ByLocal.{alloc_all, pass_all, free_all, look_at, get, get_in, get_tag, through, is, sets, sets_last, lands_as, env}
 use types.Part.{agg, whole as all_of_it}
 use denote.Builtin.{RefOf, u8, u64, usize}
 use denote.Exit.{yes}
@@ -48,7 +48,7 @@ use Rattle.core.proofs.slots.Slots.from_raw_parts.Met as callee
 use Rattle.core.proofs.tally.Steps.{word_in}
 use Rattle.atomic_table.proofs.Calls.{fm}
 use Rattle.atomic_table.proofs.Walks.{proved, leaves}
-use Rattle.arcstr_block.specs.Memory.{Fits, block_size, block_type, rooms, text_at}
+use Rattle.arcstr_block.specs.Memory.{Fits, block_size, block_type, rooms, word_place}
 use Rattle.arcstr_block.specs.contracts.block.Blank as N
 use Rattle.arcstr_block.proofs.Fields.{pointer_val, typed, Words, made}
 use Rattle.arcstr_block.proofs.Memory.{byte_laws, block_bytes, block_align, spreads}
@@ -72,7 +72,10 @@ make_spec 𝓤 𝓛 𝓜 𝓡 wired Y K g d dd met md =
         stay_dropped number yes,
         (
           stay_dropped number yes,
-          (stay_dropped number yes, tt),
+          (
+            stay_dropped number yes,
+            (stay_dropped number yes, tt),
+          ),
         ),
       ),
     ) in
@@ -83,25 +86,30 @@ make_spec 𝓤 𝓛 𝓜 𝓡 wired Y K g d dd met md =
         (
           Goes-dropped 𝓛 2 number yes (λ κs x f.
               refl),
-          (Goes-dropped 𝓛 2 number yes (λ κs x f. refl), tt),
+          (
+            Goes-dropped 𝓛 2 number yes (λ κs x f. refl),
+            (Goes-dropped 𝓛 2 number yes (λ κs x f. refl), tt),
+          ),
         ),
       ),
     ) (#self inst) fn closed
-    (λ κs. (shr_vals, (uint_vals w64, (uint_vals w64, (uint_vals w64, tt))))) (λ κs.
-    (shr_Tells (named 0) κs.0 B, (uint_Tells w64, (uint_Tells w64, (uint_Tells w64, tt))))) (λ κs qs bounds a gh are.
-    let hp : ℕ × ℕ = a.0.ref_ptr in let heap : Y.Denot = a.0.now in let w : ℕ = a.1.0 in let n : ℕ = a.1.1.0 in let size : ℕ = a.1.1.1.0 in
+    (λ κs. (shr_vals, (uint_vals w64, (uint_vals w64, (uint_vals w64, (uint_vals w64, tt)))))) (λ κs.
+    (shr_Tells (named 0) κs.0 B, (uint_Tells w64, (uint_Tells w64, (uint_Tells w64, (uint_Tells w64, tt)))))) (λ κs qs bounds a gh are.
+    let hp : ℕ × ℕ = a.0.ref_ptr in let heap : Y.Denot = a.0.now in let w : ℕ = a.1.0 in let n : ℕ = a.1.1.0 in let place : ℕ = a.1.1.1.0 in
+    let size : ℕ = a.1.1.1.1.0 in
     let κ : Lft = κs.0 in let q : Share = qs.0 in
     let token : Ty → Ptr → Fml = g.dealloc_token heap in let τ : Ty = bare (block_type n) in let fit_w : WT (vint w64 w) = record { fits = are.1.0.1 } in
-    let fit_n : WT (vint w64 n) = record { fits = are.1.1.0.1 } in let small : size < 2 ^ 64 = are.1.1.1.0.1 in
-    let us : List Val = vptr hp.0 hp.1 ∷ vint w64 w ∷ vint w64 n ∷ vint w64 size ∷ [] in
-    let y : (walk_of 𝓛 En hs c).Ghost = ((κs, qs, bounds, a, (vptr hp.0 hp.1 ∷ [], (vint w64 w ∷ [], (vint w64 n ∷ [], (vint w64 size ∷ [], tt))))), gh) in
+    let fit_n : WT (vint w64 n) = record { fits = are.1.1.0.1 } in let fit_place : WT (vint w64 place) = record { fits = are.1.1.1.0.1 } in let small : size < 2 ^ 64 = are.1.1.1.1.0.1 in
+    let us : List Val = vptr hp.0 hp.1 ∷ vint w64 w ∷ vint w64 n ∷ vint w64 place ∷ vint w64 size ∷ [] in
+    let y : (walk_of 𝓛 En hs c).Ghost = ((κs, qs, bounds, a, (vptr hp.0 hp.1 ∷ [], (vint w64 w ∷ [], (vint w64 n ∷ [], (vint w64 place ∷ [],
+    (vint w64 size ∷ [], tt)))))), gh) in
     let Post : Val → SProp 𝓤 = (walk_of 𝓛 En hs c).post y in
     let others : Fml = fsep (flft κs.1.0 qs.1.0) ftrue in
     qed 𝓛 (((‵ (flft κ q) ⊛ ‵ others) ⊛ ‵ (owns (types_at En.signature.params κs) a y.0.4)) ∷ raw (fact 𝓤 (κs.1.0 ⊑ Y.lives)) ∷ raw (fact 𝓤
-    (size ≡ block_size n)) ∷ raw (fact 𝓤 (Fits n)) ∷ []) ∵
-    keep ! (1 ∷ 2 ∷ 3 ∷ 0 ∷ []) $ heard ! (κs.1.0 ⊑ Y.lives) (λ inside. heard ! (size ≡ block_size n) (λ sized. heard ! (Fits n) (λ fits. split ! $ split ! $
+    (place ≡ word_place n)) ∷ raw (fact 𝓤 (size ≡ block_size n)) ∷ raw (fact 𝓤 (Fits n)) ∷ []) ∵
+    keep ! (1 ∷ 2 ∷ 3 ∷ 4 ∷ 0 ∷ []) $ heard ! (κs.1.0 ⊑ Y.lives) (λ inside. heard ! (place ≡ word_place n) (λ placed. heard ! (size ≡ block_size n) (λ sized. heard ! (Fits n) (λ fits. split ! $ split ! $
     move ! (2 ∷ []) $ fsplit ! $ fsplit ! $ keep ! (1 ∷ 3 ∷ 4 ∷ []) $
-    enter ! 𝓣.C 𝓣.Λ fn us Post $ alloc_all ! (λ l. pass_all ! refl ((tt, tt), ((tt, fit_w), ((tt, fit_n), ((tt, record { fits = small }), tt)))) $
+    enter ! 𝓣.C 𝓣.Λ fn us Post $ alloc_all ! (λ l. pass_all ! refl ((tt, tt), ((tt, fit_w), ((tt, fit_n), ((tt, fit_place), ((tt, record { fits = small }), tt))))) $
     let Ev = env fn.locals l in let both : Body = head (after 1 fn.body) in
     let Then = any_q (after_seq 𝓤 H (Wp 𝓤 H 𝓣.C 𝓣.Λ Ev (after 2 fn.body) (at_return 𝓤 H Ev Post)) (at_return 𝓤 H Ev Post)) in
     let Asked = Takes Z 𝓛 𝓜.mem 𝓡.returns in let z : Asked.Ghost = at_takes Z 𝓛 𝓜.mem 𝓡.returns κ q hp heap size 8 τ in
@@ -111,29 +119,30 @@ make_spec 𝓤 𝓛 𝓜 𝓡 wired Y K g d dd met md =
     use1 𝓛 (later (raw (Answered Z 𝓛 𝓜.mem 𝓡.returns heap τ u) ⊛ ‵ (flft κ q))) (Takes-gives Z 𝓛 𝓜.mem 𝓡.returns κ q hp heap size 8 τ u) $ await ! tt $
     split ! $ move ! (1 ∷ 2 ∷ []) $ join ! $ move ! (1 ∷ []) $
     answers Z ! 𝓜.mem 𝓡.returns heap τ u
-    (λ b o e. let p : Ptr = block_ptr b o in let zs : List ℕ = replicate n 0 in let fs : List Bool = replicate (length zs) false in
+    (λ b o e. let p : Ptr = block_ptr b o in let t : ℕ = o + word_place n in let zs : List ℕ = replicate n 0 in let fs : List Bool = replicate (length zs) false in
     let long : n ≡ length zs = sym (length-replicate n 0) in
     use1 𝓛 (‵ (rooms n b o) ⊛ ‵ (fwand (rooms n b o) (froom τ b o))) (spreads 𝓛 n b o) $ split ! $ move ! (1 ∷ 2 ∷ []) $ fjoin ! $ move ! (1 ∷ []) $ fsplit3 ! $
-    -- [room for the word, for the length, and for the bytes; the rim; the tokens]
+    move ! (2 ∷ []) $ fsplit ! $
+    -- [room for the length; nothing; room for the bytes, and for the word; the rim; the tokens]
     lands_as ! e refl (Answer-typed true b o) $ first ! $ switches_on ! (get_tag ! (vrt ! refl (fld ! refl (stop !))) (all_of_it !)) $
     exec ! 𝓣.C 𝓣.Λ Ev (arm_body 0 both) Then $
     sets ! (of_opd ! (get_in ! (vrt ! refl (fld ! refl (stop !))) (in_variant ! 0 0 refl refl (all_of_it !)))) refl (tt, tt) $
-    sets ! (of_opd ! (get ! refl)) refl (tt, tt) $ first ! $ blocks ! $
+    sets ! (is ! (bin ! (get ! refl) (get ! refl) tt) (ap (vptr b) (let x : place + o ≡ t = omega (arith, placed) in x))) refl (tt, tt) $
+    sets ! (of_opd ! (get ! refl)) refl (tt, tt) $
     sets ! (addr ! (through ! refl (fld ! refl (stop !)))) refl (tt, tt) $
-    assigns ! (of_opd ! (get ! refl)) (through ! refl (stop !)) (init ! 0 refl (tt, fit_w)) $
+    assigns ! (of_opd ! (get ! refl)) (through ! refl (stop !)) (init ! 3 refl (tt, fit_w)) $
     sets ! (addr ! (through ! refl (fld ! refl (stop !)))) refl (tt, tt) $
-    assigns ! (of_opd ! (get ! refl)) (through ! refl (stop !)) (init ! 1 refl (tt, fit_n)) $
-    sets ! (addr ! (through ! refl (fld ! refl (stop !)))) refl (tt, tt) $ move ! (2 ∷ []) $ fsplit ! $
-    rewrite ! 0 (λ (m : ℕ). ‵ (froom (ty_array (ty_int w8) m) b (o + 16))) long refl $
-    use1 𝓛 (‵ (slots R (block_ptr b (o + 16)) zs fs)) (of_room byte 𝓛 b zs (o + 16)) $
-    let Row = Makes 𝓛 𝓜.mem 𝓡.returns in let x : Row.Ghost = at_makes 𝓛 𝓜.mem 𝓡.returns b (o + 16) n zs fs in
-    use1 𝓛 (raw (Row.pre x)) (makes_goes 𝓛 𝓜.mem 𝓡.returns b (o + 16) n zs fs long (long ∙ sym (length-replicate (length zs) false)) (omega arith)) $
+    assigns ! (of_opd ! (get ! refl)) (through ! refl (stop !)) (init ! 0 refl (tt, fit_n)) $ move ! (2 ∷ []) $
+    rewrite ! 0 (λ (m : ℕ). ‵ (froom (ty_array (ty_int w8) m) b o)) long refl $
+    use1 𝓛 (‵ (slots R (block_ptr b o) zs fs)) (of_room byte 𝓛 b zs o) $
+    let Row = Makes 𝓛 𝓜.mem 𝓡.returns in let x : Row.Ghost = at_makes 𝓛 𝓜.mem 𝓡.returns b o n zs fs in
+    use1 𝓛 (raw (Row.pre x)) (makes_goes 𝓛 𝓜.mem 𝓡.returns b o n zs fs long (long ∙ sym (length-replicate (length zs) false)) (omega arith)) $
     calls_at ! (fm 𝓛 𝓜 𝓡) Row (callee.met 𝓤 𝓛 𝓜 𝓡 (code.calls-core::slots::Slots::from_raw_parts 𝓡.env wired) u8 byte_laws) x (and_then ! (get ! refl)
     (and_then ! (get ! refl) (no_more !))) (λ v.
-    use1 𝓛 (later (some (λ (r : Slots ℕ). given (IsMade 𝓛 𝓜.mem 𝓡.returns b (o + 16) n zs fs r ×
-    (v ≡ words_val (block_ptr b (o + 16)) n)) (‵ (Bytes.own_val r (v ∷ [])))))) (makes_gives 𝓛 𝓜.mem 𝓡.returns b (o + 16) n zs fs v) $ await ! tt $ pick ! (λ r.
+    use1 𝓛 (later (some (λ (r : Slots ℕ). given (IsMade 𝓛 𝓜.mem 𝓡.returns b o n zs fs r ×
+    (v ≡ words_val (block_ptr b o) n)) (‵ (Bytes.own_val r (v ∷ [])))))) (makes_gives 𝓛 𝓜.mem 𝓡.returns b o n zs fs v) $ await ! tt $ pick ! (λ r.
     learn ! (λ is.
-    let wv : Val = words_val (block_ptr b (o + 16)) n in let wt = words_typed (block_ptr b (o + 16)) n fit_n.fits in
+    let wv : Val = words_val (block_ptr b o) n in let wt = words_typed (block_ptr b o) n fit_n.fits in
     let pair : Val = vstruct (vcons (pointer_val p) (vcons wv vnil)) in let val : Val = live 0 (vcons pair vnil) in
     let good : WT val = (record { fits = lit< tt }, (((tt, (tt, tt)), (wt.1, tt)), tt)) in
     rewrite ! 0 (λ (t : Val). ‵ (Bytes.own_val r (t ∷ []))) is.1 refl $ lands_as ! is.1 refl wt $
@@ -141,10 +150,9 @@ make_spec 𝓤 𝓛 𝓜 𝓡 wired Y K g d dd met md =
     sets ! (of_opd ! (get ! refl)) refl (typed p) $ sets ! (of_opd ! (get ! refl)) refl wt $
     sets ! (agg ! (and_then ! (get ! refl) (and_then ! (get ! refl) (no_more !)))) refl (tt, ((tt, (tt, tt)), (wt.1, tt))) $
     sets_last ! (agg ! (and_then ! (lit ! tt) (and_then ! (get ! refl) (no_more !)))) refl (tt, good) $
-    exec ! 𝓣.C 𝓣.Λ Ev (after 3 (arm_body 0 both)) Then $ sets_last ! (of_opd ! (get ! refl)) refl (tt, good) $
     exec ! 𝓣.C 𝓣.Λ Ev (after 2 fn.body) (at_ret Ev Post) $ sets ! (of_opd ! (get ! refl)) refl (tt, good) $
-    -- [the places; nothing; the word; the length; the rim; the tokens]
-    move ! (3 ∷ []) $ use1 𝓛 (‵ (part_at usize full_share n b (o + 8))) (word_in 𝓛 b (o + 8) n) $ move ! (3 ∷ 0 ∷ 4 ∷ []) $ fjoin3 ! $ nothing ! $
+    -- [the places; the length; nothing; the word; the rim; the tokens]
+    move ! (1 ∷ []) $ use1 𝓛 (‵ (part_at usize full_share n b (t + 8))) (word_in 𝓛 b (t + 8) n) $ move ! (3 ∷ 0 ∷ 4 ∷ []) $ fjoin3 ! $ nothing ! $
     fpack ! (InBlock p × Fits n) (λ _. ftrue) (tt, fits) $ fjoin ! $
     use0 𝓛 (‵ ((Words B g).own_val (p, (tt, tt)) (pointer_val p ∷ []))) (made B g 𝓛 p) $ fjoin ! $ move ! (0 ∷ 1 ∷ 2 ∷ []) $ fjoin3 ! $
     feq_i ! (List Val) (pair ∷ []) (pair ∷ []) refl $ fjoin ! $
@@ -155,13 +163,13 @@ make_spec 𝓤 𝓛 𝓜 𝓡 wired Y K g d dd met md =
     ) $
     use1 𝓛 (‵ (Out.own_val (Ok (h, r)) (val ∷ []))) (ok_of 𝓛 Two refusal.the_row (h, r) pair) $
     use0 𝓛 (raw (fact 𝓤 (r.items ≡ zs))) (fact_i 𝓤 (r.items ≡ zs) (emp 𝓤) is.0.2) $
-    use0 𝓛 (raw (fact 𝓤 (r.ptr ≡ text_at p))) (fact_i 𝓤 (r.ptr ≡ text_at p) (emp 𝓤) is.0.0) $ join ! $
+    use0 𝓛 (raw (fact 𝓤 (r.ptr ≡ p))) (fact_i 𝓤 (r.ptr ≡ p) (emp 𝓤) is.0.0) $ join ! $
     use0 𝓛 (raw (fact 𝓤 ((n ≡ n) × (r.len ≡ n)))) (fact_i 𝓤 ((n ≡ n) × (r.len ≡ n)) (emp 𝓤) (refl, is.0.1)) $ join ! $
     use0 𝓛 (raw (fact 𝓤 (w ≡ w))) (fact_i 𝓤 (w ≡ w) (emp 𝓤) refl) $ join ! $
     use0 𝓛 (raw (fact 𝓤 (heap ≡ heap))) (fact_i 𝓤 (heap ≡ heap) (emp 𝓤) refl) $ join ! $ nothing ! $ nothing ! $ fjoin ! $ nothing ! $ fjoin ! $ nothing ! $
-    fjoin ! $ nothing ! $ fjoin ! $
+    fjoin ! $ nothing ! $ fjoin ! $ nothing ! $ fjoin ! $
     returns ! (look_at ! 0 refl) $ free_all ! refl $ keep ! (3 ∷ 0 ∷ 2 ∷ 1 ∷ []) $
-    by ! (leaves 𝓛 En hs c y val (Ok (h, r)) (tt, (tt, (tt, (tt, tt)))) (tt, (tt, (tt, (tt, tt)))))))))
+    by ! (leaves 𝓛 En hs c y val (Ok (h, r)) (tt, (tt, (tt, (tt, (tt, tt))))) (tt, (tt, (tt, (tt, (tt, tt))))))))))
     (λ e. let val : Val = live 1 (vcons (vstruct vnil) vnil) in let good : WT val = (record { fits = lit< tt }, (tt, tt)) in
     let F : Fml = refusal.the_row.own_val (record {}) (vstruct vnil ∷ []) in let Said = fact 𝓤 (Unit {0}) in
     lands_as ! e refl (Answer-typed false 0 0) $ first ! $ switches_on ! (get_tag ! (vrt ! refl (fld ! refl (stop !))) (all_of_it !)) $
@@ -174,6 +182,6 @@ make_spec 𝓤 𝓛 𝓜 𝓡 wired Y K g d dd met md =
     use0 𝓛 (raw Said) (fact_i 𝓤 (Unit {0}) (emp 𝓤) tt) $ use0 𝓛 (raw Said) (fact_i 𝓤 (Unit {0}) (emp 𝓤) tt) $ join ! $
     use0 𝓛 (raw Said) (fact_i 𝓤 (Unit {0}) (emp 𝓤) tt) $ join ! $
     use0 𝓛 (raw Said) (fact_i 𝓤 (Unit {0}) (emp 𝓤) tt) $ join ! $ use0 𝓛 (raw Said) (fact_i 𝓤 (Unit {0}) (emp 𝓤) tt) $ join ! $ nothing ! $ nothing ! $
-    fjoin ! $ nothing ! $ fjoin ! $ nothing ! $ fjoin ! $ nothing ! $ fjoin ! $
+    fjoin ! $ nothing ! $ fjoin ! $ nothing ! $ fjoin ! $ nothing ! $ fjoin ! $ nothing ! $ fjoin ! $
     returns ! (look_at ! 0 refl) $ free_all ! refl $ keep ! (3 ∷ 0 ∷ 2 ∷ 1 ∷ []) $
-    by ! (leaves 𝓛 En hs c y val (Err (record {})) (tt, (tt, (tt, (tt, tt)))) (tt, (tt, (tt, (tt, tt))))))))))))
+    by ! (leaves 𝓛 En hs c y val (Err (record {})) (tt, (tt, (tt, (tt, (tt, tt))))) (tt, (tt, (tt, (tt, (tt, tt))))))))))))))

@@ -86,7 +86,6 @@ give_back_spec 𝓤 𝓛 𝓜 𝓡 wired Y K g d dd met md =
     enter ! 𝓣.C 𝓣.Λ fn (us p') Post $ alloc_all ! (λ l. pass_all ! refl (typed p', ((tt, tt), ((tt, record { fits = small }), tt))) $
     let Ev = env fn.locals l in
     sets ! (of_opd ! (get_in ! (fld ! refl (stop !)) (sub ! 0 refl (whole !)))) refl (tt, tt) $ first ! $ blocks ! $
-    sets ! (of_opd ! (get ! refl)) refl (tt, tt) $
     move ! (2 ∷ 3 ∷ []) $ join ! $ move ! (1 ∷ 2 ∷ 0 ∷ []) $ let Asks = Gives Z 𝓛 𝓜.mem 𝓡.returns in
     let w : Asks.Ghost = at_gives Z 𝓛 𝓜.mem 𝓡.returns κ q hp heap b o size 8 τ in
     use3 𝓛 (raw (Asks.pre w)) (Gives-goes Z 𝓛 𝓜.mem 𝓡.returns κ q hp heap (Incl-trans bounds.0 inside) b o size 8 τ (block_bytes n inb.1 ∙ sym sized)

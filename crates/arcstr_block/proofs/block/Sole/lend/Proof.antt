@@ -19,7 +19,7 @@ use sound.WpLaws.{WpFn-mono}
 use types.Kit.{Item, ⋆, ‵, raw, ◌⊛◌, some, later, await, pick, at_ret, ◌$◌, ◌∵◌, !, qed, by, move, keep, drop, use1, split, join, group, rewrite, fsplit}
 use types.Kit.{fsplit3, fjoin, fjoin3, fpick, fpack, feq_i, feq_l, flt_l, suffices, frame, done}
 use types.Part.{whole, sub, agg, look_in}
-use types.Run.{stop, fld, hop, addr, of_opd, and_then, no_more, first, blocks, exec, returns, enter}
+use types.Run.{stop, fld, hop, addr, of_opd, and_then, no_more, first, blocks, exec, returns, enter, load}
 use types.ByLocal.{alloc_all, pass_all, free_all, look_at, get, through, sets, sets_last, env}
 use types.SemTy.{Body as Borrowed, cells}
 use denote.Array.{Array}
@@ -47,7 +47,7 @@ use Rattle.core.specs.declared.alloc.Allocator.{Ghosts}
 use Rattle.core.specs.Sync.RawAtomic.{word}
 use Rattle.core.proofs.atomic.Steps.{tail}
 use Rattle.arcstr_block.specs.Lends.{with_text}
-use Rattle.arcstr_block.specs.Memory.{Fits, length_lies, text_lies, rim}
+use Rattle.arcstr_block.specs.Memory.{Fits, length_lies, text_lies, rim, word_place, word_lies}
 use Rattle.arcstr_block.specs.contracts.block.Sole as S
 use Rattle.arcstr_block.proofs.Fields.{pointer_val, Words, told}
 use Rattle.arcstr_block.specs.contracts.block.Sole.lend.Key.{name as #self}
@@ -129,18 +129,19 @@ module _ (Y : RattleType) (g : Ghosts Y.Denot) (d dd : Dict) where
     module _ (vs : List Val) (b o : ℕ) where
       -- all but the bytes
       abbrev Rest : Fml
-      Rest = fsep (word b (o + 0) s.word) (fsep (fsep (length_lies p n) (rim holds n p)) (fsep (D.own_val (p, (tt, tt)) vs)
+      Rest = fsep (word b (o + word_place n + 0) s.word) (fsep (fsep (length_lies p n) (rim holds n p)) (fsep (D.own_val (p, (tt, tt)) vs)
           (cell_at full_share Alone.mir vs rb ro)))
 
       back : p ≡ block_ptr b o → Fits n → (ws : List ℕ) → length ws ≡ n
-          → ent 𝓤 (sep 𝓤 (sem 𝓛 (cells (mem u8) ws b (o + 16))) (sem 𝓛 Rest)) (sem 𝓛 ((mem Alone).own_at (with_text s ws) rb ro))
+          → ent 𝓤 (sep 𝓤 (sem 𝓛 (cells (mem u8) ws b o)) (sem 𝓛 Rest)) (sem 𝓛 ((mem Alone).own_at (with_text s ws) rb ro))
       unfolding part_of
       back at fits ws same = let m : ℕ = length ws in
-          qed 𝓛 (‵ (cells (mem u8) ws b (o + 16)) ∷ ‵ Rest ∷ []) ∵ use1 𝓛 (‵ (bytes full_share ws b (o + 16))) (of_cells 𝓛 b ws (o + 16)) $ feq_i ! ℕ m m refl $
+          qed 𝓛 (‵ (cells (mem u8) ws b o) ∷ ‵ Rest ∷ []) ∵ use1 𝓛 (‵ (bytes full_share ws b o)) (of_cells 𝓛 b ws o) $ feq_i ! ℕ m m refl $
           fjoin ! $
-          use1 𝓛 (‵ (part_at (Array u8 m) full_share ws b (o + 16))) (bytes_whole 𝓛 full_share m ws b (o + 16)) $
+          use1 𝓛 (‵ (part_at (Array u8 m) full_share ws b o)) (bytes_whole 𝓛 full_share m ws b o) $
           rewrite ! 0 (λ (r : Ptr). ‵ (text_lies r ws)) (sym at) refl $
-          move ! (1 ∷ []) $ fsplit3 ! $ rewrite ! 0 (λ (r : Ptr). ‵ (word (block_of r) (count_of r + 0) s.word)) (sym at) refl $ move ! (1 ∷ []) $
+          move ! (1 ∷ []) $ fsplit3 ! $ rewrite ! 0 (λ (r : Ptr). ‵ (word_lies r n s.word)) (sym at) refl $
+          rewrite ! 0 (λ (k : ℕ). ‵ (word_lies p k s.word)) (sym same) refl $ move ! (1 ∷ []) $
           rewrite ! 0 (λ (k : ℕ). ‵ (fsep (length_lies p k) (rim holds k p))) (sym same) refl $ fsplit ! $
           -- [the length; the rim; the word; the fields; the bytes]
           move ! (0 ∷ 4 ∷ 1 ∷ []) $ fjoin3 ! $ move ! (1 ∷ 0 ∷ []) $ fjoin ! $ nothing ! $ fpack ! (InBlock p × Fits m) (λ _.
@@ -160,7 +161,7 @@ module _ (Y : RattleType) (g : Ghosts Y.Denot) (d dd : Dict) where
     Had = ‵ (fobs γ (Alone.coded.code s)) ∷ ‵ (fbor κ (Borrowed (mem Alone) rb ro γ)) ∷ ‵ (flft κ q) ∷ []
 
     walk : len ≡ n → len < 2 ^ 64 → ent 𝓤 (⋆ 𝓛 Had) (WpFn 𝓤 H C Λ function (vptr rb ro ∷ vint w64 len ∷ []) Post)
-    walk long fits_len = let stored = Alone.coded.code s in let b : ℕ = block_of p in let o : ℕ = count_of p in let at : ℕ = o + 16 in
+    walk long fits_len = let stored = Alone.coded.code s in let b : ℕ = block_of p in let o : ℕ = count_of p in let at : ℕ = o in
         qed 𝓛 Had ∵ enter ! C Λ function (vptr rb ro ∷ vint w64 len ∷ []) _ $ alloc_all ! (λ l.
         pass_all ! refl ((tt, tt), ((tt, record { fits = fits_len }), tt)) $
         let Ev : Env 𝓤 H = env function.locals l in
@@ -171,7 +172,7 @@ module _ (Y : RattleType) (g : Ghosts Y.Denot) (d dd : Dict) where
         let ev : vs ≡ pointer_val (block_ptr b o) ∷ [] = told B g p vs so ∙ ap (λ (r : Ptr). pointer_val r ∷ []) is in
         move ! (1 ∷ []) $ fsplit3 ! $ move ! (5 ∷ []) $ rewrite ! 0 (λ (ws : List Val). ‵ (cell_at full_share Alone.mir ws rb ro)) ev refl $ first ! $
         blocks ! $
-        sets ! (addr ! (through ! refl (fld ! refl (hop ! (look_in ! 0 (sub ! 0 refl (whole !))) (fld ! refl (stop !)))))) refl (tt, tt) $
+        sets ! (of_opd ! (load ! (through ! refl (fld ! refl (stop !))) (look_in ! 0 (sub ! 0 refl (whole !))))) refl (tt, tt) $
         sets_last ! (agg ! (and_then ! (get ! refl) (and_then ! (get ! refl) (no_more !)))) refl (tt, (tt, (record { fits = fits_len }, tt))) $
         exec ! C Λ Ev (tail function.body) (at_ret Ev Post) $ sets ! (of_opd ! (get ! refl)) refl (tt, (tt, (record { fits = fits_len }, tt))) $
         rewrite ! 0 (λ (ws : List Val). ‵ (cell_at full_share Alone.mir ws rb ro)) (sym ev) refl $

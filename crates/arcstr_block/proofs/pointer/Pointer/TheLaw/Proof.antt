@@ -1,5 +1,5 @@
 -- A `&` to a pointer holds a share of its token. Assumes `Logic`.
-use Prim.Native.Nat.{◌+◌}
+use Rattle.std.proofs.Common.{length}
 use base.Fml.{fex}
 use denote.RattleType.{RattleType}
 use denote.Param.Laws.{Laws}
@@ -13,7 +13,7 @@ use denote.Struct.Laws.{RawPtr-copy, field_copy}
 use denote.Struct.Lending.{of_Lends, Lends-both, Lends-said}
 use Rattle.core.specs.declared.alloc.Allocator.{Ghosts}
 use Rattle.core.specs.contracts.marker.PhantomData as Marker
-use Rattle.arcstr_block.specs.Memory.{block_owns, block_shares, placed, IsText}
+use Rattle.arcstr_block.specs.Memory.{block_owns, block_shares, placed, IsText, word_at}
 use Rattle.arcstr_block.specs.Ledger.{Id, known, held_with, shown, of_block, of_block_shown}
 use Rattle.arcstr_block.specs.contracts.pointer.Pointer as C
 use Rattle.arcstr_block.proofs.Memory.{shares_laws}
@@ -24,7 +24,7 @@ use Rattle.arcstr_block.proofs.pointer.Pointer.TheLaw.Statement.{statement}
 pub shares : (B : RattleType) (g : Ghosts B.Denot) (K : Laws B) → statement B g K
 shares B g K = of_Lends (C.struct B g) (C.the_codes B.Denot B.coded (Marker.the_row B).coded) (C.the_heap B g) (C.the_lent B g)
     (λ d p. let holds = g.dealloc_token d.home in let P = block_owns holds d.at d.text in let s = block_shares d.at d.text in let b = block_of d.at in
-    let o = count_of d.at + 0 in
+    let o = word_at d.at (length d.text) in
     let lent = of_block_shown holds d.limit d.at d.text d.right d.seat d.block d.history in
     beside_shr_laws (said (placed d.at (IsText d.text))) (some Id lent) (said_shr_laws (placed d.at (IsText d.text)) (λ _. tt))
     (some_shr_laws Id lent (λ t. beside_shr_laws (said (known t d.block d.history)) (shown P d.limit b o t s d.seat d.right) (known_laws t d.block d.history)
@@ -32,7 +32,7 @@ shares B g K = of_Lends (C.struct B g) (C.the_codes B.Denot B.coded (Marker.the_
     (copy_shared RawPtr-field RawPtr-copy, (copy_shared (Marker.the_field B) (field_copy (Marker.the_type B) tt), tt))
     (λ M 𝓤 𝓛 d p. let holds = g.dealloc_token d.home in let P = block_owns holds d.at d.text in let s = block_shares d.at d.text in
     let l = (C.the_row B g).lives in
-    let b = block_of d.at in let o = count_of d.at + 0 in let owns = of_block holds d.limit d.at d.text d.right d.seat d.block d.history in
+    let b = block_of d.at in let o = word_at d.at (length d.text) in let owns = of_block holds d.limit d.at d.text d.right d.seat d.block d.history in
     let lent = of_block_shown holds d.limit d.at d.text d.right d.seat d.block d.history in
     Lends-both 𝓛 (placed d.at (IsText d.text)) (fex Id owns) (said (placed d.at (IsText d.text))) (some Id lent) l (Lends-said 𝓛 (placed d.at (IsText d.text))
     (λ _. tt) l)

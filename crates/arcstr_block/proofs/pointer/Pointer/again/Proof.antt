@@ -1,5 +1,5 @@
 -- `again` takes no step: what is had for good may be had twice.
-use Rattle.std.proofs.Common.{◌≡◌, ℕ, ◌+◌, List, [], ◌∷◌, sym, refl, ap, ◌∙◌}
+use Rattle.std.proofs.Common.{◌≡◌, ℕ, ◌+◌, List, [], ◌∷◌, sym, refl, ap, ◌∙◌, length}
 use mir.Syntax.{dcons, dnil, a_type, named}
 use mir.Val.{Val, vptr}
 use mir.MapTy.{inst_fn}
@@ -27,7 +27,7 @@ use denote.Triple.Walked.{Stays, stay_dropped, walk_of, Goes-dropped}
 use Rattle.core.specs.contracts.marker.PhantomData as Marker
 use Rattle.atomic_table.proofs.Walks.{proved, leaves}
 use Rattle.arcstr_block.specs.Rights.{fixed, Right}
-use Rattle.arcstr_block.specs.Memory.{block_owns, block_shares}
+use Rattle.arcstr_block.specs.Memory.{block_owns, block_shares, word_at}
 use Rattle.arcstr_block.specs.Ledger.{Inv, shown, pointer_shares}
 use Rattle.arcstr_block.proofs.Memory.{shares_laws}
 use Rattle.arcstr_block.specs.contracts.pointer.Pointer as C
@@ -52,7 +52,7 @@ again_spec 𝓤 𝓛 𝓜 𝓡 wired Y K g d dd met md =
     let h : Row.Denot = a.0.now in let p : Ptr = h.at in let right : Right = h.right in let lim : ℕ = h.limit in let holds = g.dealloc_token h.home in
     let P : Fml = block_owns holds p h.text in let s : Lft → Fml = block_shares p h.text in
     let sl = shares_laws p h.text in
-    let pb : ℕ = block_of p in let po : ℕ = count_of p + 0 in
+    let pb : ℕ = block_of p in let po : ℕ = word_at p (length h.text) in
     let y : (walk_of 𝓛 En hs c).Ghost = ((κs, qs, bounds, a, (vptr b o ∷ [], tt)), gh) in let Post : Val → SProp 𝓤 = (walk_of 𝓛 En hs c).post y in
     qed 𝓛 (((‵ (flft κ q) ⊛ ‵ others) ⊛ ‵ (owns (types_at En.signature.params κs) a y.0.4)) ∷ raw (fact 𝓤 _) ∷ raw (fact 𝓤 (right ≡ fixed)) ∷ []) ∵
     keep ! (2 ∷ 0 ∷ []) $ heard ! (right ≡ fixed) (λ same_right. split ! $ split ! $ move ! (2 ∷ []) $ fsplit ! $ fsplit ! $ keep ! (1 ∷ 3 ∷ 4 ∷ []) $

@@ -1,5 +1,5 @@
 -- `alone` opens what a `&` shows of a free handle's seat, which cannot be on a block that is owed.
-use Rattle.std.proofs.Common.{◌≡◌, ◌≢◌, ℕ, ◌+◌, List, [], ◌∷◌, refl, sym, ◌∙◌}
+use Rattle.std.proofs.Common.{◌≡◌, ◌≢◌, ℕ, ◌+◌, List, [], ◌∷◌, refl, sym, ◌∙◌, length}
 use mir.Syntax.{dcons, dnil, a_type, named}
 use mir.Val.{Val, vptr}
 use mir.MapTy.{inst_fn}
@@ -28,7 +28,7 @@ use Rattle.atomic_table.proofs.Walks.{proved, leaves}
 use Rattle.arcstr_count.specs.declared.steps.HandleState.TheVariants.{Free}
 use Rattle.arcstr_block.specs.Rights.{Right, IsFree, owed}
 use Rattle.arcstr_block.specs.Book.{seat_share}
-use Rattle.arcstr_block.specs.Memory.{block_owns, block_shares}
+use Rattle.arcstr_block.specs.Memory.{block_owns, block_shares, word_at}
 use Rattle.arcstr_block.specs.Ledger.{Inv, knows, names, pointer_shares}
 use Rattle.arcstr_block.specs.contracts.pointer.Pointer as C
 use Rattle.arcstr_block.proofs.Beside.{other_block}
@@ -57,7 +57,7 @@ alone_spec 𝓤 𝓛 𝓜 𝓡 wired Y K g d dd met md =
     let b : ℕ = a.1.0.ref_ptr.0 in let o : ℕ = a.1.0.ref_ptr.1 in let j : Row.Denot = a.1.0.now in let r : Ptr = j.at in let lim : ℕ = j.limit in
     let right : Right = j.right in
     let holds = g.dealloc_token j.home in let P : Fml = block_owns holds r j.text in let s : Lft → Fml = block_shares r j.text in
-    let rb : ℕ = block_of r in let ro : ℕ = count_of r + 0 in
+    let rb : ℕ = block_of r in let ro : ℕ = word_at r (length j.text) in
     let y : (walk_of 𝓛 En hs c).Ghost = ((κs, qs, bounds, a, (vs, (vptr b o ∷ [], tt))), gh) in let Post : Val → SProp 𝓤 = (walk_of 𝓛 En hs c).post y in
     qed 𝓛 (((‵ (flft κ q) ⊛ ‵ others) ⊛ ‵ (owns (types_at En.signature.params κs) a y.0.4)) ∷ raw (fact 𝓤 _) ∷
     raw (fact 𝓤 (h.right ≡ owed)) ∷ raw (fact 𝓤 (IsFree right)) ∷ []) ∵

@@ -1,24 +1,25 @@
 -- `leave` is one fetch-sub. The last one has the word and what the block owns.
-use Rattle.std.proofs.Common.{◌≡◌, ℕ, ◌+◌, [], ◌∷◌, sym, refl, ap, subst, if◌then◌else◌, lit<, w64}
+use Rattle.std.proofs.Common.{◌≡◌, ℕ, ◌+◌, [], ◌∷◌, sym, refl, ap, subst, if◌then◌else◌, lit<, w64, length, arith, ◌^◌, ◌<◌}
 use mir.Syntax.{dcons, dnil, a_type}
-use mir.Val.{Val, vint, vptr}
+use mir.Val.{Val, vint, vptr, WT}
 use mir.MapTy.{inst_fn}
 use base.Logic.{SProp, via}
 use base.Fml.{Lft, Fml, ftrue, fsep, finv, fex}
 use types.Kit.{‵, raw, ◌⊛◌, later, mean, at_ret, ◌$◌, ◌∵◌, !, qed, by, move, keep, drop, split, fsplit, fsplit3, fjoin, fpick, use0, use1}
 use types.Kit.{use3, await, rewrite}
-use types.Run.{stop, fld, addr, lit, of_opd, no_more, and_then, first, blocks, exec, Calls-last, returns, enter}
+use types.Run.{stop, fld, addr, lit, of_opd, no_more, and_then, first, blocks, exec, Calls-last, returns, enter, bin}
 use types.ByLocal.{alloc_all, pass_all, free_all, look_at, get, get_in, through, sets, lands_last, is, env}
 use types.Part.{agg, sub, whole}
 use contract.Running.{tables}
 use contract.Monad.{fact}
-use denote.Exit.{no}
+use denote.Exit.{yes, no}
+use denote.Plain.{uint_vals, uint_Tells}
 use denote.RattleType.{RattleType, Valss, owns}
 use denote.Signature.{types_at, plain}
 use denote.RawPtr.{Ptr, block_ptr, ptr_val, block_of, count_of, at_block}
 use denote.Steps.{nothing, heard}
 use denote.Param.{param, bounded}
-use denote.Builtin.{u64}
+use denote.Builtin.{u64, usize}
 use denote.Triple.Entry.{alive}
 use denote.Triple.Walked.{Stays, stay_dropped, walk_of, Goes-dropped}
 use Rattle.core.proofs.atomic.Steps.{tail}
@@ -26,7 +27,7 @@ use Rattle.atomic_table.proofs.Walks.{proved, leaves}
 use Rattle.atomic_table.proofs.Calls.{fm, seq_cst, found, finds, subs}
 use Rattle.arcstr_block.specs.Rights.{dropping, Leaves, Right}
 use Rattle.std.specs.Prelude.{◌≢◌}
-use Rattle.arcstr_block.specs.Memory.{block_owns, block_shares}
+use Rattle.arcstr_block.specs.Memory.{block_owns, block_shares, word_at, word_place}
 use Rattle.arcstr_block.specs.Ledger.{Inv, held_with, right_to}
 use Rattle.arcstr_block.proofs.Memory.{shares_laws}
 use Rattle.arcstr_block.specs.contracts.pointer.Pointer as C
@@ -53,23 +54,28 @@ leave_spec 𝓤 𝓛 𝓜 𝓡 wired Y K g d dd met md =
     let inst = bounded (a_type ∷ []) (Y, tt) (dcons d (dcons dd dnil)) in let fn = inst_fn inst code.function in
     let closed = code.unfolded 𝓤 H 𝓜 𝓡 wired (Y, tt) d dd in
     let Row : RattleType = C.the_row B g in let D : RattleType = Words B g in let self = plain (λ _. Row) in
-    let hs : Stays En.signature.params En.kept = (stay_dropped self no, tt) in
-    proved 𝓛 En hs c 𝓜 𝓡 (Goes-dropped 𝓛 1 self no (λ κs x f. refl), tt) (#self inst) fn closed
-    (λ κs. ((λ x. pointer_val x.at ∷ []), tt)) (λ κs. ((λ x vs so. told B g x.at vs so.0), tt)) (λ κs qs bounds a gh are.
+    let number = plain (λ _. usize) in
+    let hs : Stays En.signature.params En.kept = (stay_dropped self no, (stay_dropped number yes, tt)) in
+    proved 𝓛 En hs c 𝓜 𝓡 (Goes-dropped 𝓛 1 self no (λ κs x f. refl), (Goes-dropped 𝓛 1 number yes (λ κs x f. refl), tt)) (#self inst) fn closed
+    (λ κs. ((λ x. pointer_val x.at ∷ []), (uint_vals w64, tt))) (λ κs. ((λ x vs so. told B g x.at vs so.0), (uint_Tells w64, tt))) (λ κs qs bounds a gh are.
     let h : Row.Denot = a.0 in let p : Ptr = h.at in let lim : ℕ = h.limit in let holds = g.dealloc_token h.home in
     let P : Fml = block_owns holds p h.text in let s : Lft → Fml = block_shares p h.text in
     let right : Right = h.right in let sl = shares_laws p h.text in
-    let pb : ℕ = block_of p in let po : ℕ = count_of p + 0 in
-    let y : (walk_of 𝓛 En hs c).Ghost = ((κs, qs, bounds, a, (pointer_val p ∷ [], tt)), gh) in let Post : Val → SProp 𝓤 = (walk_of 𝓛 En hs c).post y in
-    qed 𝓛 ((raw (alive 𝓛 En.signature κs qs) ⊛ ‵ (owns (types_at En.signature.params κs) a y.0.4)) ∷ raw (fact 𝓤 _) ∷ raw (fact 𝓤 (h.right ≡ dropping)) ∷ []) ∵
-    keep ! (2 ∷ 0 ∷ []) $ heard ! (h.right ≡ dropping) (λ mine. split ! $ move ! (1 ∷ []) $ fsplit ! $ fsplit ! $ keep ! (1 ∷ 3 ∷ []) $ fsplit ! $
+    let pb : ℕ = block_of p in let po : ℕ = word_at p (length h.text) in
+    let place : ℕ = a.1.0 in let fits_place : place < 2 ^ 64 = are.1.0.1 in
+    let y : (walk_of 𝓛 En hs c).Ghost = ((κs, qs, bounds, a, (pointer_val p ∷ [], (vint w64 place ∷ [], tt))), gh) in let Post : Val → SProp 𝓤 = (walk_of 𝓛 En hs c).post y in
+    qed 𝓛 ((raw (alive 𝓛 En.signature κs qs) ⊛ ‵ (owns (types_at En.signature.params κs) a y.0.4)) ∷ raw (fact 𝓤 _) ∷ raw (fact 𝓤 (h.right ≡ dropping)) ∷ raw (fact 𝓤 (place ≡ word_place (length h.text))) ∷ []) ∵
+    keep ! (2 ∷ 3 ∷ 0 ∷ []) $ heard ! (h.right ≡ dropping) (λ mine. heard ! (place ≡ word_place (length h.text)) (λ placed.
+    let there : place + count_of p ≡ count_of p + word_place (length h.text) = omega (arith, placed) in
+    split ! $ move ! (1 ∷ []) $ fsplit ! $ fsplit ! $ keep ! (1 ∷ 3 ∷ []) $ fsplit ! $
     fpick ! (λ inb. drop ! $ let at : p ≡ block_ptr pb (count_of p) = at_block p inb.0 in
     fpick ! (λ t. let I : Fml = Inv P lim pb po t in let af : Lft = t.0 ∷ [] in fsplit ! $ move ! (1 ∷ []) $
     rewrite ! 0 (λ (k : Right). ‵ (held_with P lim pb po t s h.seat k)) mine refl $ fsplit ! $ use1 𝓛 (‵ (finv I) ⊛ ‵ (finv I)) (𝓛.invs.inv_dup I) $ split ! $
     move ! (2 ∷ []) $ fsplit3 ! $
     -- [the part; what is shared; the seat; the invariant, twice; what is known; the tokens]
     move ! (3 ∷ 0 ∷ 2 ∷ []) $
-    enter ! 𝓣.C 𝓣.Λ fn (pointer_val p ∷ []) Post $ alloc_all ! (λ l. pass_all ! refl (typed p, tt) $ let Ev = env fn.locals l in
+    enter ! 𝓣.C 𝓣.Λ fn (pointer_val p ∷ vint w64 place ∷ []) Post $
+    alloc_all ! (λ l. pass_all ! refl (typed p, ((tt, record { fits = fits_place }), tt)) $ let Ev = env fn.locals l in
     sets ! (is ! (of_opd ! (get_in ! (fld ! refl (stop !)) (sub ! 0 refl (whole !)))) (ap ptr_val at)) refl (tt, tt) $
     sets ! (of_opd ! (get_in ! (fld ! refl (stop !)) (sub ! 1 refl (whole !)))) refl (tt, tt) $
     let said : ℕ → Fml = λ n. fsep (seat t.3 h.seat (left_in 𝓛 lim t.2 t.3 n)) (Ends lim t.2 t.3 (Sub h.seat) (sub_reply 𝓛 lim t.2 t.3 n)) in
@@ -78,7 +84,8 @@ leave_spec 𝓤 𝓛 𝓜 𝓡 wired Y K g d dd met md =
     use3 𝓛 (raw (𝓣.C _ (vptr pb po ∷ vint w64 2 ∷ seq_cst ∷ []) (λ r. mean 𝓛 (found after r))))
     (via 𝓤 _ (changes.leaves_it 𝓛 P lim pb po t (seat t.3 h.seat Dropping) said (λ n fits.
     book_sub 𝓛 lim t.2 t.3 n h.seat fits)) (subs 𝓛 𝓜 𝓡 (code.calls-core::raw_atomic::fetch_sub 𝓡.env wired) (block_ptr pb po) 2 (lit< tt) after)) $
-    first ! $ blocks ! $ sets ! (addr ! (through ! refl (fld ! refl (stop !)))) refl (tt, tt) $
+    first ! $ blocks ! $ sets ! (is ! (bin ! (get ! refl) (get ! refl) tt) (ap (vptr pb) there)) refl (tt, tt) $
+    sets ! (of_opd ! (get ! refl)) refl (tt, tt) $ sets ! (addr ! (through ! refl (fld ! refl (stop !)))) refl (tt, tt) $
     sets ! (agg ! (and_then ! (lit ! tt) (no_more !))) refl (tt, (record { fits = lit< tt }, tt)) $
     Calls-last ! (fm 𝓛 𝓜 𝓡) (found after) (and_then ! (get ! refl) (and_then ! (lit ! tt) (and_then ! (get ! refl) (no_more !)))) (λ r. finds ! after (λ n fits.
     lands_last ! refl (tt, record { fits = fits }) $ exec ! 𝓣.C 𝓣.Λ Ev (tail (tail (tail fn.body))) (at_ret Ev Post) $
@@ -105,5 +112,5 @@ leave_spec 𝓤 𝓛 𝓜 𝓡 wired Y K g d dd met md =
       (λ ne.
           subst (EndsIn lim r' (Sub h.seat)) (ap (λ y. if y then Owes else Left) (not_last n ne)) ends),
     ) (refl, refl, refl, refl)) $
-    nothing ! $ nothing ! $ fjoin ! $ returns ! (look_at ! 0 refl) $ free_all ! refl $ keep ! (3 ∷ 0 ∷ 2 ∷ 1 ∷ []) $
-    by ! (leaves 𝓛 En hs c y r (n, h') (tt, tt) (tt, tt))))))))))))))
+    nothing ! $ nothing ! $ fjoin ! $ nothing ! $ fjoin ! $ returns ! (look_at ! 0 refl) $ free_all ! refl $ keep ! (3 ∷ 0 ∷ 2 ∷ 1 ∷ []) $
+    by ! (leaves 𝓛 En hs c y r (n, h') (tt, (tt, tt)) (tt, (tt, tt))))))))))))))))

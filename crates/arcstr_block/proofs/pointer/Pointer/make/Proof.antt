@@ -1,5 +1,5 @@
 -- `make` puts the word under the ledger's invariant, and lends what the block owns.
-use Rattle.std.proofs.Common.{◌≡◌, ℕ, ◌+◌, List, [], ◌∷◌, sym, refl, ap}
+use Rattle.std.proofs.Common.{◌≡◌, ℕ, ◌+◌, List, [], ◌∷◌, sym, refl, ap, length}
 use mir.Syntax.{dcons, dnil, a_type}
 use mir.Val.{Val}
 use mir.MapTy.{inst_fn}
@@ -26,7 +26,7 @@ use Rattle.arcstr_count.specs.declared.steps.Step.TheVariants.{Make}
 use Rattle.arcstr_block.specs.Word.{IsLimit}
 use Rattle.arcstr_block.specs.Rights.{counted}
 use Rattle.arcstr_block.specs.Book.{reached}
-use Rattle.arcstr_block.specs.Memory.{block_owns, block_shares}
+use Rattle.arcstr_block.specs.Memory.{block_owns, block_shares, word_place}
 use Rattle.arcstr_block.specs.Ledger.{Id, names, held_with}
 use Rattle.arcstr_block.specs.contracts.block.Sole as S
 use Rattle.arcstr_block.specs.contracts.pointer.Pointer as C
@@ -59,9 +59,9 @@ make_spec 𝓤 𝓛 𝓜 𝓡 wired Y K g d dd met md =
     fsplit3 ! $ fpick ! (λ inb. drop ! $ let at : p ≡ block_ptr b o = at_block p inb.0 in
     -- [the word; what the block owns; the tokens]
     enter ! 𝓣.C 𝓣.Λ fn (pointer_val p ∷ []) Post $ alloc_all ! (λ l. pass_all ! refl (typed p, tt) $
-    rewrite ! 0 (λ (n : ℕ). ‵ (word b (o + 0) n)) fresh refl $ fjoin ! $ move ! (1 ∷ []) $ split ! $ move ! (2 ∷ 0 ∷ []) $
-    use2 𝓛 (later (‵ (fex Id (λ t. fsep (reached t.2 (Make ∷ [])) (held_with P lim b (o + 0) t s 0 counted))) ⊛ t₁))
-    (begins 𝓛 P lim b (o + 0) s (shares_laws p xs) small κs.0 (lends_block 𝓛 holds p xs κs.0) κs.0 qs.0 (Incl-refl κs.0)) $ await ! tt $ split ! $
+    rewrite ! 0 (λ (n : ℕ). ‵ (word b (o + word_place (length xs) + 0) n)) fresh refl $ fjoin ! $ move ! (1 ∷ []) $ split ! $ move ! (2 ∷ 0 ∷ []) $
+    use2 𝓛 (later (‵ (fex Id (λ t. fsep (reached t.2 (Make ∷ [])) (held_with P lim b (o + word_place (length xs) + 0) t s 0 counted))) ⊛ t₁))
+    (begins 𝓛 P lim b (o + word_place (length xs) + 0) s (shares_laws p xs) small κs.0 (lends_block 𝓛 holds p xs κs.0) κs.0 qs.0 (Incl-refl κs.0)) $ await ! tt $ split ! $
     fpick ! (λ t. fsplit ! $ move ! (1 ∷ []) $ fsplit ! $
     -- [the invariant; the right; the beginning; the tokens]
     let h' : Row.Denot = record {

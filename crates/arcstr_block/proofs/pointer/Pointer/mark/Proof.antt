@@ -1,18 +1,19 @@
 -- `mark` is one fetch-or. Whoever sets or finds the mark has a share for good.
-use Rattle.std.proofs.Common.{◌≡◌, ℕ, ◌+◌, List, [], ◌∷◌, sym, refl, ap, ◌∙◌, lit<, w64}
+use Rattle.std.proofs.Common.{◌≡◌, ℕ, ◌+◌, List, [], ◌∷◌, sym, refl, ap, ◌∙◌, lit<, w64, length, arith, ◌^◌, ◌<◌}
 use mir.Syntax.{dcons, dnil, a_type, named}
-use mir.Val.{Val, vint, vptr}
+use mir.Val.{Val, vint, vptr, WT}
 use mir.MapTy.{inst_fn}
 use base.Logic.{SProp, via}
 use base.Fml.{Lft, Share, Fml, ftrue, fsep, flft, fhide, finv, fshr_bor, fex}
 use types.Kit.{‵, raw, ◌⊛◌, later, mean, at_ret, ◌$◌, ◌∵◌, !, qed, by, move, keep, drop, split, split3, join, fsplit, fsplit3, fjoin, fpick, use0, use1}
 use types.Kit.{use2, use3, await, rewrite}
-use types.Run.{stop, fld, load, addr, lit, of_opd, no_more, and_then, first, blocks, exec, Calls-last, returns, enter}
+use types.Run.{stop, fld, load, addr, lit, of_opd, no_more, and_then, first, blocks, exec, Calls-last, returns, enter, bin}
 use types.ByLocal.{alloc_all, pass_all, free_all, look_at, get, through, sets, lands_last, is, env}
 use types.Part.{agg, sub, whole, look_in}
 use contract.Running.{tables}
 use contract.Monad.{fact}
 use denote.Exit.{yes}
+use denote.Plain.{uint_vals, uint_Tells}
 use denote.RattleType.{RattleType, owns}
 use denote.Signature.{types_at, plain}
 use denote.RawPtr.{Ptr, block_ptr, block_of, count_of, at_block}
@@ -21,7 +22,7 @@ use denote.Opens.{unhide}
 use denote.Laws.{Is, shows}
 use denote.Memory.{cell_at, hidden_shr}
 use denote.Param.{param, bounded}
-use denote.Builtin.{RefOf}
+use denote.Builtin.{RefOf, usize}
 use denote.Ref.{shr_vals, shr_Tells}
 use denote.Struct.Lending.{lent_out}
 use denote.Triple.Walked.{Stays, stay_dropped, walk_of, Goes-dropped}
@@ -30,7 +31,7 @@ use Rattle.core.specs.contracts.marker.PhantomData as Marker
 use Rattle.atomic_table.proofs.Walks.{proved, leaves}
 use Rattle.atomic_table.proofs.Calls.{fm, seq_cst, found, finds, ors}
 use Rattle.arcstr_block.specs.Rights.{IsFree, fixed, Right}
-use Rattle.arcstr_block.specs.Memory.{block_owns, block_shares}
+use Rattle.arcstr_block.specs.Memory.{block_owns, block_shares, word_at, word_place}
 use Rattle.arcstr_block.specs.Ledger.{Inv, knows, right_to, pointer_shares}
 use Rattle.arcstr_block.proofs.Memory.{shares_laws}
 use Rattle.arcstr_block.specs.contracts.pointer.Pointer as C
@@ -58,19 +59,24 @@ mark_spec 𝓤 𝓛 𝓜 𝓡 wired Y K g d dd met md =
     let inst = bounded (a_type ∷ []) (Y, tt) (dcons d (dcons dd dnil)) in let fn = inst_fn inst code.function in
     let closed = code.unfolded 𝓤 H 𝓜 𝓡 wired (Y, tt) d dd in
     let Row : RattleType = C.the_row B g in let D : RattleType = Words B g in let self = RefOf (0 ∷ []) tt (plain (λ _. Row)) (λ _. tt) in
-    let hs : Stays En.signature.params En.kept = (stay_dropped self yes, tt) in
-    proved 𝓛 En hs c 𝓜 𝓡 (Goes-dropped 𝓛 2 self yes (λ κs x f. refl), tt) (#self inst) fn closed
-    (λ κs. (shr_vals, tt)) (λ κs. (shr_Tells (named 0) κs.0 Row, tt)) (λ κs qs bounds a gh are.
+    let number = plain (λ _. usize) in
+    let hs : Stays En.signature.params En.kept = (stay_dropped self yes, (stay_dropped number yes, tt)) in
+    proved 𝓛 En hs c 𝓜 𝓡 (Goes-dropped 𝓛 2 self yes (λ κs x f. refl), (Goes-dropped 𝓛 2 number yes (λ κs x f. refl), tt)) (#self inst) fn closed
+    (λ κs. (shr_vals, (uint_vals w64, tt))) (λ κs. (shr_Tells (named 0) κs.0 Row, (uint_Tells w64, tt))) (λ κs qs bounds a gh are.
     let b : ℕ = a.0.ref_ptr.0 in let o : ℕ = a.0.ref_ptr.1 in let κ : Lft = κs.0 in let q : Share = qs.0 in
     let others : Fml = fsep (flft κs.1.0 qs.1.0) ftrue in
     let h : Row.Denot = a.0.now in let p : Ptr = h.at in let right : Right = h.right in let lim : ℕ = h.limit in let holds = g.dealloc_token h.home in
     let P : Fml = block_owns holds p h.text in let s : Lft → Fml = block_shares p h.text in
     let sl = shares_laws p h.text in
-    let pb : ℕ = block_of p in let po : ℕ = count_of p + 0 in
-    let y : (walk_of 𝓛 En hs c).Ghost = ((κs, qs, bounds, a, (vptr b o ∷ [], tt)), gh) in let Post : Val → SProp 𝓤 = (walk_of 𝓛 En hs c).post y in
-    qed 𝓛 (((‵ (flft κ q) ⊛ ‵ others) ⊛ ‵ (owns (types_at En.signature.params κs) a y.0.4)) ∷ raw (fact 𝓤 _) ∷ raw (fact 𝓤 (IsFree right)) ∷ []) ∵
-    keep ! (2 ∷ 0 ∷ []) $ heard ! (IsFree right) (λ may. split ! $ split ! $ move ! (2 ∷ []) $ fsplit ! $ fsplit ! $ keep ! (1 ∷ 3 ∷ 4 ∷ []) $
-    enter ! 𝓣.C 𝓣.Λ fn (vptr b o ∷ []) Post $ alloc_all ! (λ l. pass_all ! refl ((tt, tt), tt) $ let Ev = env fn.locals l in
+    let pb : ℕ = block_of p in let po : ℕ = word_at p (length h.text) in
+    let place : ℕ = a.1.0 in let fits_place : place < 2 ^ 64 = are.1.0.1 in
+    let y : (walk_of 𝓛 En hs c).Ghost = ((κs, qs, bounds, a, (vptr b o ∷ [], (vint w64 place ∷ [], tt))), gh) in let Post : Val → SProp 𝓤 = (walk_of 𝓛 En hs c).post y in
+    qed 𝓛 (((‵ (flft κ q) ⊛ ‵ others) ⊛ ‵ (owns (types_at En.signature.params κs) a y.0.4)) ∷ raw (fact 𝓤 _) ∷ raw (fact 𝓤 (IsFree right)) ∷ raw (fact 𝓤 (place ≡ word_place (length h.text))) ∷ []) ∵
+    keep ! (2 ∷ 3 ∷ 0 ∷ []) $ heard ! (IsFree right) (λ may. heard ! (place ≡ word_place (length h.text)) (λ placed.
+    let there : place + count_of p ≡ count_of p + word_place (length h.text) = omega (arith, placed) in
+    split ! $ split ! $ move ! (2 ∷ []) $ fsplit ! $ fsplit ! $ keep ! (1 ∷ 3 ∷ 4 ∷ []) $
+    enter ! 𝓣.C 𝓣.Λ fn (vptr b o ∷ vint w64 place ∷ []) Post $
+    alloc_all ! (λ l. pass_all ! refl ((tt, tt), ((tt, record { fits = fits_place }), tt)) $ let Ev = env fn.locals l in
     use1 𝓛 (‵ (hidden_shr D κ (p, (tt, tt)) b o) ⊛ ‵ (fhide (pointer_shares holds lim p h.text right h.seat h.block h.history κ)))
     (lent_out 𝓛 (C.struct B g) (C.the_codes Y.Denot B.coded (Marker.the_row B).coded) (C.the_heap B g) (C.the_lent B g) κ h b o) $
     split ! $ move ! (1 ∷ []) $ unhide ! $ fsplit ! $ fpick ! (λ inb. drop ! $ let at : p ≡ block_ptr pb (count_of p) = at_block p inb.0 in fpick ! (λ t.
@@ -98,7 +104,8 @@ mark_spec 𝓤 𝓛 𝓜 𝓡 wired Y K g d dd met md =
     use3 𝓛 (raw (𝓣.C _ (vptr pb po ∷ vint w64 1 ∷ seq_cst ∷ []) (λ r. mean 𝓛 (found after r))))
     (via 𝓤 _ (changes.marks_it 𝓛 P lim pb po t u Mine said (λ n _.
     book_mark 𝓛 lim t.2 t.3 n h.seat v)) (ors 𝓛 𝓜 𝓡 (code.calls-core::raw_atomic::fetch_or 𝓡.env wired) (block_ptr pb po) 1 (lit< tt) after)) $
-    first ! $ blocks ! $ sets ! (addr ! (through ! refl (fld ! refl (stop !)))) refl (tt, tt) $
+    first ! $ blocks ! $ sets ! (is ! (bin ! (get ! refl) (get ! refl) tt) (ap (vptr pb) there)) refl (tt, tt) $
+    sets ! (of_opd ! (get ! refl)) refl (tt, tt) $ sets ! (addr ! (through ! refl (fld ! refl (stop !)))) refl (tt, tt) $
     sets ! (agg ! (and_then ! (lit ! tt) (no_more !))) refl (tt, (record { fits = lit< tt }, tt)) $
     Calls-last ! (fm 𝓛 𝓜 𝓡) (found after) (and_then ! (get ! refl) (and_then ! (lit ! tt) (and_then ! (get ! refl) (no_more !)))) (λ r. finds ! after (λ n fits.
     lands_last ! refl (tt, record { fits = fits }) $ exec ! 𝓣.C 𝓣.Λ Ev (tail (tail fn.body)) (at_ret Ev Post) $
@@ -121,5 +128,5 @@ mark_spec 𝓤 𝓛 𝓜 𝓡 wired Y K g d dd met md =
     let Same : Type 0 = (h.home ≡ h.home) × (h.text ≡ h.text) × (lim ≡ lim) × (h.block ≡ h.block) in let Saw : Type 0 = EndsIn lim r' (Leak h.seat) Marked × IsMarkedIn lim r' in
     use0 𝓛 (raw (fact 𝓤 (k ≡ fixed)) ⊛ raw (fact 𝓤 Saw) ⊛ raw (fact 𝓤 Same))
     (framed.three 𝓛 got.said (ends, marked_by_leak lim r' h.seat ends) (refl, refl, refl, refl)) $
-    nothing ! $ nothing ! $ fjoin ! $ returns ! (look_at ! 0 refl) $ free_all ! refl $ keep ! (3 ∷ 0 ∷ 2 ∷ 1 ∷ []) $
-    by ! (leaves 𝓛 En hs c y r h' (tt, tt) (tt, tt)))))))))))))))))
+    nothing ! $ nothing ! $ fjoin ! $ nothing ! $ fjoin ! $ returns ! (look_at ! 0 refl) $ free_all ! refl $ keep ! (3 ∷ 0 ∷ 2 ∷ 1 ∷ []) $
+    by ! (leaves 𝓛 En hs c y r h' (tt, (tt, tt)) (tt, (tt, tt)))))))))))))))))))

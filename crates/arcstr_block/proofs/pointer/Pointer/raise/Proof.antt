@@ -1,13 +1,13 @@
 -- `raise` is one compare-exchange. Where it finds the old word or the mark, a clone is had.
-use Rattle.std.proofs.Common.{◌≡◌, ℕ, ◌+◌, List, [], ◌∷◌, sym, refl, ap, ◌∙◌, w64}
+use Rattle.std.proofs.Common.{◌≡◌, ℕ, ◌+◌, List, [], ◌∷◌, sym, refl, ap, ◌∙◌, w64, length, arith, ◌^◌, ◌<◌}
 use mir.Syntax.{dcons, dnil, a_type, named}
-use mir.Val.{Val, vint, vptr}
+use mir.Val.{Val, vint, vptr, WT}
 use mir.MapTy.{inst_fn}
 use base.Logic.{SProp, emp, via}
 use base.Fml.{Lft, Share, Fml, ftrue, fsep, fex, flft, fhide, finv, fshr_bor}
 use types.Kit.{‵, raw, ◌⊛◌, later, mean, at_ret, ◌$◌, ◌∵◌, !, qed, by, move, keep, drop, split, split3, join, fsplit, fsplit3, fjoin, fpick}
 use types.Kit.{use0, use1, use3, await, rewrite}
-use types.Run.{stop, fld, load, addr, of_opd, no_more, and_then, first, blocks, exec, Calls-last, returns, enter}
+use types.Run.{stop, fld, load, addr, of_opd, no_more, and_then, first, blocks, exec, Calls-last, returns, enter, bin}
 use types.ByLocal.{alloc_all, pass_all, free_all, look_at, get, through, sets, lands_last, is, env}
 use types.Part.{agg, sub, whole, look_in}
 use contract.Running.{tables}
@@ -21,7 +21,7 @@ use denote.Opens.{unhide}
 use denote.Laws.{Is, shows}
 use denote.Memory.{cell_at, hidden_shr}
 use denote.Param.{param, bounded}
-use denote.Builtin.{RefOf, u64}
+use denote.Builtin.{RefOf, u64, usize}
 use denote.Ref.{shr_vals, shr_Tells}
 use denote.Plain.{uint_vals, uint_Tells}
 use denote.Struct.Lending.{lent_out}
@@ -32,7 +32,7 @@ use Rattle.atomic_table.proofs.Walks.{proved, leaves}
 use Rattle.atomic_table.proofs.Calls.{fm, found, finds, exchanges}
 use Rattle.arcstr_block.specs.Word.{IsWord, IsClone}
 use Rattle.arcstr_block.specs.Rights.{IsFree, Gains, Right}
-use Rattle.arcstr_block.specs.Memory.{block_owns, block_shares}
+use Rattle.arcstr_block.specs.Memory.{block_owns, block_shares, word_at, word_place}
 use Rattle.arcstr_block.specs.Ledger.{Inv, knows, right_to, pointer_shares}
 use Rattle.arcstr_block.proofs.Memory.{shares_laws}
 use Rattle.arcstr_block.specs.contracts.pointer.Pointer as C
@@ -59,7 +59,10 @@ raise_spec 𝓤 𝓛 𝓜 𝓡 wired Y K g d dd met md =
       stay_dropped self yes,
       (
         stay_dropped number yes,
-        (stay_dropped number yes, tt),
+        (
+          stay_dropped number yes,
+          (stay_dropped number yes, tt),
+        ),
       ),
     ) in
     proved 𝓛 En hs c 𝓜 𝓡 (
@@ -69,26 +72,31 @@ raise_spec 𝓤 𝓛 𝓜 𝓡 wired Y K g d dd met md =
         (
           Goes-dropped 𝓛 2 number yes (λ κs x f.
               refl),
-          tt,
+          (Goes-dropped 𝓛 2 number yes (λ κs x f. refl), tt),
         ),
       ),
     ) (#self inst) fn closed
-    (λ κs. (shr_vals, (uint_vals w64, (uint_vals w64, tt)))) (λ κs.
-    (shr_Tells (named 0) κs.0 Row, (uint_Tells w64, (uint_Tells w64, tt)))) (λ κs qs bounds a gh are.
+    (λ κs. (shr_vals, (uint_vals w64, (uint_vals w64, (uint_vals w64, tt))))) (λ κs.
+    (shr_Tells (named 0) κs.0 Row, (uint_Tells w64, (uint_Tells w64, (uint_Tells w64, tt))))) (λ κs qs bounds a gh are.
     let b : ℕ = a.0.ref_ptr.0 in let o : ℕ = a.0.ref_ptr.1 in let κ : Lft = κs.0 in let q : Share = qs.0 in
     let others : Fml = fsep (flft κs.1.0 qs.1.0) ftrue in
     let h : Row.Denot = a.0.now in let p : Ptr = h.at in let right : Right = h.right in let lim : ℕ = h.limit in let holds = g.dealloc_token h.home in
     let P : Fml = block_owns holds p h.text in let s : Lft → Fml = block_shares p h.text in
     let sl = shares_laws p h.text in
-    let old : ℕ = a.1.0 in let new : ℕ = a.1.1.0 in let us : List Val = vptr b o ∷ vint w64 old ∷ vint w64 new ∷ [] in let pb : ℕ = block_of p in
-    let po : ℕ = count_of p + 0 in
-    let y : (walk_of 𝓛 En hs c).Ghost = ((κs, qs, bounds, a, (vptr b o ∷ [], (vint w64 old ∷ [], (vint w64 new ∷ [], tt)))), gh) in
+    let place : ℕ = a.1.0 in let old : ℕ = a.1.1.0 in let new : ℕ = a.1.1.1.0 in let us : List Val = vptr b o ∷ vint w64 place ∷ vint w64 old ∷ vint w64 new ∷ [] in
+    let pb : ℕ = block_of p in
+    let po : ℕ = word_at p (length h.text) in
+    let y : (walk_of 𝓛 En hs c).Ghost = ((κs, qs, bounds, a, (vptr b o ∷ [], (vint w64 place ∷ [], (vint w64 old ∷ [],
+    (vint w64 new ∷ [], tt))))), gh) in
     let Post : Val → SProp 𝓤 = (walk_of 𝓛 En hs c).post y in
     qed 𝓛 (((‵ (flft κ q) ⊛ ‵ others) ⊛ ‵ (owns (types_at En.signature.params κs) a y.0.4)) ∷ raw (fact 𝓤 _) ∷ raw (fact 𝓤 (IsFree right)) ∷ raw (fact 𝓤
-    (IsClone lim old new)) ∷ []) ∵
-    keep ! (2 ∷ 3 ∷ 0 ∷ []) $ heard ! (IsFree right) (λ may. heard ! (IsClone lim old new) (λ asked. split ! $ split ! $ move ! (2 ∷ []) $ fsplit ! $ fsplit ! $
+    (place ≡ word_place (length h.text))) ∷ raw (fact 𝓤 (IsClone lim old new)) ∷ []) ∵
+    keep ! (2 ∷ 3 ∷ 4 ∷ 0 ∷ []) $ heard ! (IsFree right) (λ may. heard ! (place ≡ word_place (length h.text)) (λ placed.
+    let there : place + count_of p ≡ count_of p + word_place (length h.text) = omega (arith, placed) in
+    heard ! (IsClone lim old new) (λ asked. split ! $ split ! $ move ! (2 ∷ []) $ fsplit ! $ fsplit ! $
     keep ! (1 ∷ 3 ∷ 4 ∷ []) $
-    enter ! 𝓣.C 𝓣.Λ fn us Post $ alloc_all ! (λ l. pass_all ! refl ((tt, tt), ((tt, record { fits = are.1.0.1 }), ((tt, record { fits = are.1.1.0.1 }), tt))) $
+    enter ! 𝓣.C 𝓣.Λ fn us Post $ alloc_all ! (λ l. pass_all ! refl ((tt, tt), ((tt, record { fits = are.1.0.1 }), ((tt, record { fits = are.1.1.0.1 }),
+    ((tt, record { fits = are.1.1.1.0.1 }), tt)))) $
     let Ev = env fn.locals l in
     use1 𝓛 (‵ (hidden_shr D κ (p, (tt, tt)) b o) ⊛ ‵ (fhide (pointer_shares holds lim p h.text right h.seat h.block h.history κ)))
     (lent_out 𝓛 (C.struct B g) (C.the_codes Y.Denot B.coded (Marker.the_row B).coded) (C.the_heap B g) (C.the_lent B g) κ h b o) $
@@ -117,8 +125,9 @@ raise_spec 𝓤 𝓛 𝓜 𝓡 wired Y K g d dd met md =
     use3 𝓛 (raw (𝓣.C _ (vptr pb po ∷ vint w64 old ∷ vint w64 new ∷ []) (λ r. mean 𝓛 (found after r))))
     (via 𝓤 _ (changes.raises 𝓛 P lim pb po t u old new asked Mine said (λ n _.
     turn_raises 𝓛 lim t.2 t.3 h.seat v old new asked n)) (exchanges 𝓛 𝓜 𝓡 (code.calls-atomic_table::exchange 𝓡.env wired)
-    (block_ptr pb po) old new are.1.0.1 are.1.1.0.1 after)) $
-    first ! $ blocks ! $ sets ! (addr ! (through ! refl (fld ! refl (stop !)))) refl (tt, tt) $
+    (block_ptr pb po) old new are.1.1.0.1 are.1.1.1.0.1 after)) $
+    first ! $ blocks ! $ sets ! (is ! (bin ! (get ! refl) (get ! refl) tt) (ap (vptr pb) there)) refl (tt, tt) $
+    sets ! (of_opd ! (get ! refl)) refl (tt, tt) $ sets ! (addr ! (through ! refl (fld ! refl (stop !)))) refl (tt, tt) $
     Calls-last ! (fm 𝓛 𝓜 𝓡) (found after) (and_then ! (get ! refl) (and_then ! (get ! refl) (and_then ! (get ! refl) (no_more !)))) (λ r.
     finds ! after (λ n fits.
     lands_last ! refl (tt, record { fits = fits }) $ exec ! 𝓣.C 𝓣.Λ Ev (tail (tail fn.body)) (at_ret Ev Post) $
@@ -145,5 +154,5 @@ raise_spec 𝓤 𝓛 𝓜 𝓡 wired Y K g d dd met md =
     use0 𝓛 (raw (fact 𝓤 Same)) (fact_i 𝓤 Same (emp 𝓤) (refl, refl, refl, refl)) $
     use0 𝓛 (raw (fact 𝓤 (Gains old new n k))) (fact_i 𝓤 (Gains old new n k) (emp 𝓤) got.said) $ join ! $
     use0 𝓛 (raw (fact 𝓤 (IsWord lim n))) (fact_i 𝓤 (IsWord lim n) (emp 𝓤) ok.0) $ join ! $
-    nothing ! $ nothing ! $ fjoin ! $ nothing ! $ fjoin ! $ nothing ! $ fjoin ! $ returns ! (look_at ! 0 refl) $ free_all ! refl $ keep ! (3 ∷ 0 ∷ 2 ∷ 1 ∷ []) $
-    by ! (leaves 𝓛 En hs c y r (n, h') (tt, (tt, (tt, tt))) (tt, (tt, (tt, tt)))))))))))))))))))
+    nothing ! $ nothing ! $ fjoin ! $ nothing ! $ fjoin ! $ nothing ! $ fjoin ! $ nothing ! $ fjoin ! $ returns ! (look_at ! 0 refl) $ free_all ! refl $ keep ! (3 ∷ 0 ∷ 2 ∷ 1 ∷ []) $
+    by ! (leaves 𝓛 En hs c y r (n, h') (tt, (tt, (tt, (tt, tt)))) (tt, (tt, (tt, (tt, tt)))))))))))))))))))))

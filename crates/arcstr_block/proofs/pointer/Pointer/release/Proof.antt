@@ -1,7 +1,7 @@
 -- `release` takes the block out whole, with its length, and ends its history.
 use Rattle.std.proofs.Common.{◌≡◌, ℕ, ◌+◌, ◌^◌, ◌<◌, List, [], ◌∷◌, ◌++◌, length, sym, refl, ap, arith}
 use mir.Syntax.{dcons, dnil, a_type, w64}
-use mir.Val.{Val, vint, vstruct, of_list}
+use mir.Val.{Val, vint, vstruct, of_list, vptr}
 use mir.MapTy.{inst_fn}
 use base.Fraction.{full_share}
 use base.Logic.{SProp, emp, via}
@@ -9,12 +9,13 @@ use base.Fml.{Fml, ftrue, fsep, feq}
 use types.Owned.{basic}
 use types.Kit.{‵, raw, ◌⊛◌, later, ◌$◌, ◌∵◌, !, qed, by, move, keep, drop, split, split3, join, fsplit, fsplit3, fjoin, fjoin3, fpick, fpack, use0, use1, use2}
 use types.Kit.{await, rewrite, feq_i, flt_i, at_ret}
-use types.Run.{stop, fld, load, of_opd, no_more, and_then, first, blocks, exec, returns, enter}
+use types.Run.{stop, fld, load, of_opd, no_more, and_then, first, blocks, exec, returns, enter, bin}
 use types.ByLocal.{alloc_all, pass_all, free_all, look_at, get, get_in, through, sets, sets_last, is, env}
 use types.Part.{agg, sub, whole, look_in}
 use contract.Running.{tables}
 use contract.Monad.{fact, fact_i}
-use denote.Exit.{no}
+use denote.Exit.{no, yes}
+use denote.Plain.{uint_vals, uint_Tells}
 use denote.RattleType.{RattleType, Valss, owns}
 use denote.Builtin.{usize}
 use denote.Memory.{part_at}
@@ -33,7 +34,7 @@ use Rattle.arcstr_count.specs.declared.steps.HandleState.TheVariants.{Gone}
 use Rattle.arcstr_count.specs.declared.steps.Reply.TheVariants.{Given}
 use Rattle.arcstr_block.specs.Rights.{owed, Right}
 use Rattle.arcstr_block.specs.Book.{Book, seat, Ends}
-use Rattle.arcstr_block.specs.Memory.{Fits, length_lies, block_owns, block_shares}
+use Rattle.arcstr_block.specs.Memory.{Fits, length_lies, block_owns, block_shares, word_place}
 use Rattle.arcstr_block.specs.Ledger.{held_with}
 use Rattle.arcstr_block.specs.contracts.block.Sole as S
 use Rattle.arcstr_block.specs.contracts.pointer.Pointer as C
@@ -50,33 +51,38 @@ release_spec 𝓤 𝓛 𝓜 𝓡 wired Y K g d dd met md =
     let inst = bounded (a_type ∷ []) (Y, tt) (dcons d (dcons dd dnil)) in let fn = inst_fn inst code.function in
     let closed = code.unfolded 𝓤 H 𝓜 𝓡 wired (Y, tt) d dd in
     let Row : RattleType = C.the_row B g in let Alone : RattleType = S.the_row B g in let self = plain (λ _. Row) in
-    let hs : Stays En.signature.params En.kept = (stay_dropped self no, tt) in
-    proved 𝓛 En hs c 𝓜 𝓡 (Goes-dropped 𝓛 1 self no (λ κs x f. refl), tt) (#self inst) fn closed
-    (λ κs. ((λ x. pointer_val x.at ∷ []), tt)) (λ κs. ((λ x vs so. told B g x.at vs so.0), tt)) (λ κs qs bounds a gh are.
+    let number = plain (λ _. usize) in
+    let hs : Stays En.signature.params En.kept = (stay_dropped self no, (stay_dropped number yes, tt)) in
+    proved 𝓛 En hs c 𝓜 𝓡 (Goes-dropped 𝓛 1 self no (λ κs x f. refl), (Goes-dropped 𝓛 1 number yes (λ κs x f. refl), tt)) (#self inst) fn closed
+    (λ κs. ((λ x. pointer_val x.at ∷ []), (uint_vals w64, tt))) (λ κs. ((λ x vs so. told B g x.at vs so.0), (uint_Tells w64, tt))) (λ κs qs bounds a gh are.
     let h : Row.Denot = a.0 in let p : Ptr = h.at in let xs : List ℕ = h.text in let n : ℕ = length xs in let lim : ℕ = h.limit in
     let holds = g.dealloc_token h.home in let P : Fml = block_owns holds p xs in let s = block_shares p xs in
     let b : ℕ = block_of p in let o : ℕ = count_of p in
-    let y : (walk_of 𝓛 En hs c).Ghost = ((κs, qs, bounds, a, (pointer_val p ∷ [], tt)), gh) in let Post : Val → SProp 𝓤 = (walk_of 𝓛 En hs c).post y in
-    qed 𝓛 ((raw (alive 𝓛 En.signature κs qs) ⊛ ‵ (owns (types_at En.signature.params κs) a y.0.4)) ∷ raw (fact 𝓤 _) ∷ raw (fact 𝓤 (h.right ≡ owed)) ∷ []) ∵
-    keep ! (2 ∷ 0 ∷ []) $ heard ! (h.right ≡ owed) (λ mine. split ! $ move ! (1 ∷ []) $ fsplit ! $ fsplit ! $ keep ! (1 ∷ 3 ∷ []) $ fsplit ! $ fpick ! (λ inb.
+    let place : ℕ = a.1.0 in let fits_place : place < 2 ^ 64 = are.1.0.1 in let u : ℕ = o + word_place n in
+    let y : (walk_of 𝓛 En hs c).Ghost = ((κs, qs, bounds, a, (pointer_val p ∷ [], (vint w64 place ∷ [], tt))), gh) in let Post : Val → SProp 𝓤 = (walk_of 𝓛 En hs c).post y in
+    qed 𝓛 ((raw (alive 𝓛 En.signature κs qs) ⊛ ‵ (owns (types_at En.signature.params κs) a y.0.4)) ∷ raw (fact 𝓤 _) ∷ raw (fact 𝓤 (h.right ≡ owed)) ∷ raw (fact 𝓤 (place ≡ word_place n)) ∷ []) ∵
+    keep ! (2 ∷ 3 ∷ 0 ∷ []) $ heard ! (h.right ≡ owed) (λ mine. heard ! (place ≡ word_place n) (λ placed.
+    let there : place + o ≡ u = omega (arith, placed) in split ! $ move ! (1 ∷ []) $ fsplit ! $ fsplit ! $ keep ! (1 ∷ 3 ∷ []) $ fsplit ! $ fpick ! (λ inb.
     drop ! $ let at : p ≡ block_ptr b o = at_block p inb.0 in
     let small : n < 2 ^ 64 = (let x = inb.1.0 in omega arith) in fpick ! (λ t. fsplit ! $ drop ! $
-    rewrite ! 0 (λ (k : Right). ‵ (held_with P lim b (o + 0) t s h.seat k)) mine refl $ fsplit ! $ drop ! $ fsplit3 ! $ fsplit ! $
-    enter ! 𝓣.C 𝓣.Λ fn (pointer_val p ∷ []) Post $ alloc_all ! (λ l. pass_all ! refl (typed p, tt) $ let Ev = env fn.locals l in
+    rewrite ! 0 (λ (k : Right). ‵ (held_with P lim b (u + 0) t s h.seat k)) mine refl $ fsplit ! $ drop ! $ fsplit3 ! $ fsplit ! $
+    enter ! 𝓣.C 𝓣.Λ fn (pointer_val p ∷ vint w64 place ∷ []) Post $
+    alloc_all ! (λ l. pass_all ! refl (typed p, ((tt, record { fits = fits_place }), tt)) $ let Ev = env fn.locals l in
     -- [the word; the book; what the block owns; the seat; the tokens]
     move ! (1 ∷ 3 ∷ []) $ use2 𝓛 (later (‵ (Book lim t.2 t.3 0) ⊛ ‵ (seat t.3 h.seat Gone) ⊛ ‵ (Ends lim t.2 t.3 (Back h.seat) Given))) (via 𝓤 _
     (book_back 𝓛 lim t.2 t.3 0 h.seat) (basic 𝓛 _)) $ await ! tt $ split3 ! $ drop ! $ drop ! $ drop ! $
     -- [the word; what the block owns; the tokens]
-    move ! (1 ∷ []) $ fsplit ! $ rewrite ! 0 (λ (r : Ptr). ‵ (length_lies r n)) at refl $ use1 𝓛 (‵ (word b (o + 8) n)) (word_out 𝓛 b (o + 8) n) $
+    move ! (1 ∷ []) $ fsplit ! $ rewrite ! 0 (λ (r : Ptr). ‵ (length_lies r n)) at refl $ use1 𝓛 (‵ (word b (u + 8) n)) (word_out 𝓛 b (u + 8) n) $
     -- [the length; the bytes and the rim; the word; the tokens]
     sets ! (is ! (of_opd ! (get_in ! (fld ! refl (stop !)) (sub ! 0 refl (whole !)))) (ap ptr_val at)) refl (tt, tt) $
     sets ! (of_opd ! (get_in ! (fld ! refl (stop !)) (sub ! 1 refl (whole !)))) refl (tt, tt) $
-    first ! $ blocks ! $ sets_last ! (of_opd ! (load ! (through ! refl (fld ! refl (stop !))) (look_in ! 0 (whole !)))) refl (tt, record { fits = small }) $
+    first ! $ blocks ! $ sets ! (is ! (bin ! (get ! refl) (get ! refl) tt) (ap (vptr b) there)) refl (tt, tt) $
+    sets ! (of_opd ! (get ! refl)) refl (tt, tt) $ sets_last ! (of_opd ! (load ! (through ! refl (fld ! refl (stop !))) (look_in ! 0 (whole !)))) refl (tt, record { fits = small }) $
     exec ! 𝓣.C 𝓣.Λ Ev (tail (tail (tail fn.body))) (at_ret Ev Post) $ sets ! (of_opd ! (get ! refl)) refl (tt, record { fits = small }) $
     sets ! (of_opd ! (get ! refl)) refl (tt, tt) $
     sets ! (is ! (agg ! (and_then ! (get ! refl) (and_then ! (get ! refl) (no_more !)))) (ap pointer_val (sym at))) refl (typed p) $
     sets ! (agg ! (and_then ! (get ! refl) (and_then ! (get ! refl) (no_more !)))) refl (measured_typed p n small) $
-    use1 𝓛 (‵ (part_at usize full_share n b (o + 8))) (word_in 𝓛 b (o + 8) n) $ rewrite ! 0 (λ (r : Ptr). ‵ (length_lies r n)) (sym at) refl $ fjoin ! $
+    use1 𝓛 (‵ (part_at usize full_share n b (u + 8))) (word_in 𝓛 b (u + 8) n) $ rewrite ! 0 (λ (r : Ptr). ‵ (length_lies r n)) (sym at) refl $ fjoin ! $
     move ! (1 ∷ 0 ∷ []) $ fjoin ! $
     nothing ! $ fpack ! (InBlock p × Fits n) (λ _. ftrue) (inb.0, inb.1.0) $ fjoin ! $
     use0 𝓛 (‵ ((Words B g).own_val (p, (tt, tt)) (pointer_val p ∷ []))) (made B g 𝓛 p) $ fjoin ! $
@@ -88,5 +94,5 @@ release_spec 𝓤 𝓛 𝓜 𝓡 wired Y K g d dd met md =
     (v, (n, tt)) uss)) (pointer_val p ∷ [], (vint w64 n ∷ [], tt)) $
     use0 𝓛 (raw (fact 𝓤 (Fits n))) (fact_i 𝓤 (Fits n) (emp 𝓤) inb.1.0) $ use0 𝓛 (raw (fact 𝓤 (n ≡ n))) (fact_i 𝓤 (n ≡ n) (emp 𝓤) refl) $ join ! $
     use0 𝓛 (raw (fact 𝓤 (xs ≡ xs))) (fact_i 𝓤 (xs ≡ xs) (emp 𝓤) refl) $ join ! $
-    use0 𝓛 (raw (fact 𝓤 (h.home ≡ h.home))) (fact_i 𝓤 (h.home ≡ h.home) (emp 𝓤) refl) $ join ! $ nothing ! $ nothing ! $ fjoin ! $
-    returns ! (look_at ! 0 refl) $ free_all ! refl $ keep ! (3 ∷ 0 ∷ 2 ∷ 1 ∷ []) $ by ! (leaves 𝓛 En hs c y r (v, n) (tt, tt) (tt, tt)))))))
+    use0 𝓛 (raw (fact 𝓤 (h.home ≡ h.home))) (fact_i 𝓤 (h.home ≡ h.home) (emp 𝓤) refl) $ join ! $ nothing ! $ nothing ! $ fjoin ! $ nothing ! $ fjoin ! $
+    returns ! (look_at ! 0 refl) $ free_all ! refl $ keep ! (3 ∷ 0 ∷ 2 ∷ 1 ∷ []) $ by ! (leaves 𝓛 En hs c y r (v, n) (tt, (tt, tt)) (tt, (tt, tt)))))))))

@@ -1,5 +1,5 @@
 -- `seen` hands out what the pointer knows of the history, which is for good.
-use Rattle.std.proofs.Common.{◌≡◌, ℕ, ◌+◌, [], ◌∷◌, refl}
+use Rattle.std.proofs.Common.{◌≡◌, ℕ, ◌+◌, [], ◌∷◌, refl, length}
 use mir.Syntax.{dcons, dnil, a_type, named}
 use mir.Val.{Val, vptr}
 use mir.MapTy.{inst_fn}
@@ -26,7 +26,7 @@ use denote.Triple.Walked.{Stays, stay_dropped, walk_of, Goes-dropped}
 use Rattle.core.specs.contracts.marker.PhantomData as Marker
 use Rattle.atomic_table.proofs.Walks.{proved, leaves}
 use Rattle.arcstr_block.specs.Rights.{Right}
-use Rattle.arcstr_block.specs.Memory.{block_owns, block_shares}
+use Rattle.arcstr_block.specs.Memory.{block_owns, block_shares, word_at}
 use Rattle.arcstr_block.specs.Ledger.{Names, pointer_shares}
 use Rattle.arcstr_block.proofs.Memory.{shares_laws}
 use Rattle.arcstr_block.specs.contracts.pointer.Pointer as C
@@ -53,7 +53,7 @@ seen_spec 𝓤 𝓛 𝓜 𝓡 wired Y K g d dd met md =
     let h : Row.Denot = a.0.now in let p : Ptr = h.at in let right : Right = h.right in let lim : ℕ = h.limit in let holds = g.dealloc_token h.home in
     let P : Fml = block_owns holds p h.text in let s : Lft → Fml = block_shares p h.text in
     let sl = shares_laws p h.text in
-    let pb : ℕ = block_of p in let po : ℕ = count_of p + 0 in
+    let pb : ℕ = block_of p in let po : ℕ = word_at p (length h.text) in
     let y : (walk_of 𝓛 En hs c).Ghost = ((κs, qs, bounds, a, (vptr b o ∷ [], tt)), gh) in let Post : Val → SProp 𝓤 = (walk_of 𝓛 En hs c).post y in
     let D' : RattleType = Token unit in let S : RattleType = Seen.the_row in
     qed 𝓛 (((‵ (flft κ q) ⊛ ‵ others) ⊛ ‵ (owns (types_at En.signature.params κs) a y.0.4)) ∷ raw ((c κs a).requires gh) ∷ []) ∵
