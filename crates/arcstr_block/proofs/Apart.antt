@@ -1,6 +1,6 @@
 -- Two pointers that have the seats of their handles: on one block they have two, for a seat has one owner, and beside one that is owed there is none.
 -- Assumes `Logic`.
-use Rattle.std.proofs.Common.{◌≡◌, ◌≢◌, ℕ, ◌+◌, List, [], ◌∷◌, sym, refl, ap, ◌∙◌, length}
+use Rattle.std.proofs.Common.{◌≡◌, ◌≢◌, ℕ, List, [], ◌∷◌, sym, refl, ap, ◌∙◌, length}
 use native.Mathlib.Decide.{ℕ_discrete}
 use seplogic.Ra.Ura.{Ura}
 use mir.Val.{Val}
@@ -9,7 +9,7 @@ use base.Fml.{Lft, Fml, fsep, fex}
 use types.Logic.{Logic, sem}
 use types.Kit.{‵, ◌⊛◌, given, ◌$◌, ◌∵◌, !, qed, by, move, keep, drop, split, fsplit, fjoin, fpick, fpack, use1, use2, learn, check, rewrite, done}
 use denote.RattleType.{RattleType}
-use denote.RawPtr.{block_of, count_of}
+use denote.RawPtr.{block_of}
 use Rattle.core.specs.declared.alloc.Allocator.{Ghosts}
 use Rattle.arcstr_block.proofs.Decided.{owed_or_not}
 use Rattle.arcstr_block.specs.Rights.{HasSeat, owed, Right}

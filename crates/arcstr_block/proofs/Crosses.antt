@@ -1,5 +1,5 @@
 -- A pointer to a block may cross threads, where its content and its allocator may: no part of what it owns names a thread.
-use Rattle.std.proofs.Common.{ℕ, suc, ◌+◌, Bool, true, false, List, [], ◌∷◌, length}
+use Rattle.std.proofs.Common.{ℕ, suc, Bool, true, false, List, [], ◌∷◌, length}
 use mir.Raw.{raw}
 use base.Growing.{latest, at_least}
 use base.Fml.{Lft, GName, Share, Fml}
@@ -9,7 +9,7 @@ use base.Shift.{Keyless}
 use types.Keyed.{entry_keyless, entries_keyless}
 use denote.RattleType.{RattleType}
 use denote.Array.{Array}
-use denote.RawPtr.{Ptr, block_of, count_of}
+use denote.RawPtr.{Ptr, block_of}
 use denote.Builtin.{RawPtr, u8, usize}
 use denote.Struct.Struct.{exits_of}
 use denote.Struct.Owning.{shape, fields, to}

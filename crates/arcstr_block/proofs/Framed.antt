@@ -1,5 +1,5 @@
 -- What the steps of a pointer have in common: the share and the seat that a step through `&` borrows, and the pointer that a step hands out. Assumes `Logic`.
-use Rattle.std.proofs.Common.{◌≡◌, ℕ, ◌+◌, ◌^◌, ◌<◌, List, [], ◌∷◌, ◌++◌, refl, w64, length}
+use Rattle.std.proofs.Common.{◌≡◌, ℕ, ◌^◌, ◌<◌, List, [], ◌∷◌, ◌++◌, refl, w64, length}
 use mir.Val.{Val, vint, vstruct, of_list}
 use seplogic.Ra.Ura.{Ura}
 use base.Share
@@ -12,7 +12,7 @@ use types.Tokens.{shr_bor-open, obor_close}
 use types.Within.{tokens_halve}
 use contract.Monad.{fact as said, fact_i}
 use denote.RattleType.{RattleType, Valss, owns}
-use denote.RawPtr.{InBlock, block_of, count_of}
+use denote.RawPtr.{InBlock, block_of}
 use denote.Builtin.{u64}
 use denote.Steps.{nothing}
 use Rattle.core.specs.declared.alloc.Allocator.{Ghosts}

@@ -12,7 +12,7 @@ use prog.Memory.{size, align, up, capped}
 use prog.Capped.{capped_is}
 use prog.RawLaws.{size-raw, align-raw}
 use types.Logic.{Logic, sem}
-use types.Kit.{‵, ◌$◌, ◌∵◌, !, qed, move, drop, use1, use2, fsplit, fsplit3, fjoin, fjoin3, done}
+use types.Kit.{‵, ◌$◌, ◌∵◌, !, qed, move, drop, use1, use2, fsplit, fsplit3, fjoin, done}
 use denote.Array.{Array, Array-row_laws}
 use denote.Builtin.{u8, usize}
 use denote.Param.Laws.{Laws, of_field}

@@ -249,7 +249,9 @@ impl<const LIMIT: u64, A: Allocator + Copy> Counted<LIMIT, A> {
         ensures clone { IfOk result (λ clone. IsCloneOf clone.pointer self.now.pointer) }
         ensures found { IfErr result (IsOtherWord LIMIT old) }
     {
-        let (found, gained) = self.pointer.raise(place_of_word(self.len), old, next(LIMIT, old));
+        let (found, gained) = self
+            .pointer
+            .raise(place_of_word(self.len), old, next(LIMIT, old));
         if found == old || marked(found) {
             Ok(self.beside(gained))
         } else {

@@ -1,5 +1,5 @@
 -- `close` takes the bytes from their `Slots`, once each is written.
-use Rattle.std.proofs.Common.{◌≡◌, ℕ, ◌+◌, ◌^◌, ◌<◌, Bool, List, [], ◌∷◌, length, sym, refl, ap, ◌∙◌, subst, arith, w64}
+use Rattle.std.proofs.Common.{◌≡◌, ℕ, ◌^◌, ◌<◌, Bool, List, [], ◌∷◌, length, sym, refl, ap, ◌∙◌, subst, arith, w64}
 use mir.Syntax.{dcons, dnil, a_type, ty_int, ty_ptr, ty_struct, tcons, tnil}
 use mir.Val.{Val, has_ty, WT}
 use mir.MapTy.{inst_fn}

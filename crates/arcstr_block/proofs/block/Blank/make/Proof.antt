@@ -1,5 +1,5 @@
 -- `make` asks the allocator for a block's room, cuts it in three, writes the word and the length, and makes places of the bytes.
-use Rattle.std.proofs.Common.{◌≡◌, ℕ, ◌+◌, ◌*◌, ◌^◌, ◌<◌, Bool, true, false, List, [], ◌∷◌, length, replicate, sym, refl, ap, ◌∙◌, arith, lit<, w64}
+use Rattle.std.proofs.Common.{◌≡◌, ℕ, ◌+◌, ◌^◌, ◌<◌, Bool, true, false, List, [], ◌∷◌, length, replicate, sym, refl, ap, ◌∙◌, arith, lit<, w64}
 use lib.ListN.{length-replicate}
 use mir.Syntax.{Ty, Body, dcons, dnil, a_type, named, w8, ty_int, ty_array}
 use mir.Raw.{raw as bare}
@@ -15,7 +15,7 @@ use contract.Monad.{fact, fact_i}
 use types.Kit.{‵, raw, ◌⊛◌, any_q, some, given, later, at_ret, ◌$◌, ◌∵◌, !, qed, by, move, keep, use0, use1, use2, split, join, fsplit, fsplit3, fjoin, fjoin3}
 use types.Kit.{fpack, pick, learn, await, rewrite, feq_i}
 use types.Match.{live, vrt, in_variant}
-use types.Run.{stop, fld, addr, lit, bin, size_lit, of_opd, no_more, and_then, first, blocks, switches_on, init, assigns, exec, returns, enter}
+use types.Run.{stop, fld, addr, lit, bin, of_opd, no_more, and_then, first, switches_on, init, assigns, exec, returns, enter}
 use types.ByLocal.{alloc_all, pass_all, free_all, look_at, get, get_in, get_tag, through, is, sets, sets_last, lands_as, env}
 use types.Part.{agg, whole as all_of_it}
 use denote.Builtin.{RefOf, u8, u64, usize}
@@ -101,8 +101,28 @@ make_spec 𝓤 𝓛 𝓜 𝓡 wired Y K g d dd met md =
     let token : Ty → Ptr → Fml = g.dealloc_token heap in let τ : Ty = bare (block_type n) in let fit_w : WT (vint w64 w) = record { fits = are.1.0.1 } in
     let fit_n : WT (vint w64 n) = record { fits = are.1.1.0.1 } in let fit_place : WT (vint w64 place) = record { fits = are.1.1.1.0.1 } in let small : size < 2 ^ 64 = are.1.1.1.1.0.1 in
     let us : List Val = vptr hp.0 hp.1 ∷ vint w64 w ∷ vint w64 n ∷ vint w64 place ∷ vint w64 size ∷ [] in
-    let y : (walk_of 𝓛 En hs c).Ghost = ((κs, qs, bounds, a, (vptr hp.0 hp.1 ∷ [], (vint w64 w ∷ [], (vint w64 n ∷ [], (vint w64 place ∷ [],
-    (vint w64 size ∷ [], tt)))))), gh) in
+    let y : (walk_of 𝓛 En hs c).Ghost = (
+      (
+        κs,
+        qs,
+        bounds,
+        a,
+        (
+          vptr hp.0 hp.1 ∷ [],
+          (
+            vint w64 w ∷ [],
+            (
+              vint w64 n ∷ [],
+              (
+                vint w64 place ∷ [],
+                (vint w64 size ∷ [], tt),
+              ),
+            ),
+          ),
+        ),
+      ),
+      gh,
+    ) in
     let Post : Val → SProp 𝓤 = (walk_of 𝓛 En hs c).post y in
     let others : Fml = fsep (flft κs.1.0 qs.1.0) ftrue in
     qed 𝓛 (((‵ (flft κ q) ⊛ ‵ others) ⊛ ‵ (owns (types_at En.signature.params κs) a y.0.4)) ∷ raw (fact 𝓤 (κs.1.0 ⊑ Y.lives)) ∷ raw (fact 𝓤

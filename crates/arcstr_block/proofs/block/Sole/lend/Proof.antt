@@ -19,7 +19,7 @@ use sound.WpLaws.{WpFn-mono}
 use types.Kit.{Item, ⋆, ‵, raw, ◌⊛◌, some, later, await, pick, at_ret, ◌$◌, ◌∵◌, !, qed, by, move, keep, drop, use1, split, join, group, rewrite, fsplit}
 use types.Kit.{fsplit3, fjoin, fjoin3, fpick, fpack, feq_i, feq_l, flt_l, suffices, frame, done}
 use types.Part.{whole, sub, agg, look_in}
-use types.Run.{stop, fld, hop, addr, of_opd, and_then, no_more, first, blocks, exec, returns, enter, load}
+use types.Run.{stop, fld, of_opd, and_then, no_more, first, blocks, exec, returns, enter, load}
 use types.ByLocal.{alloc_all, pass_all, free_all, look_at, get, through, sets, sets_last, env}
 use types.SemTy.{Body as Borrowed, cells}
 use denote.Array.{Array}

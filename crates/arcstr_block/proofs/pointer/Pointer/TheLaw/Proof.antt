@@ -4,7 +4,7 @@ use base.Fml.{fex}
 use denote.RattleType.{RattleType}
 use denote.Param.Laws.{Laws}
 use denote.Param.Shared.{copy_shared}
-use denote.RawPtr.{block_of, count_of}
+use denote.RawPtr.{block_of}
 use denote.Sharing.{said, some}
 use denote.SharingLaws.{beside_shr_laws, said_shr_laws, some_shr_laws}
 use denote.Model.Laws.{Lends-some}

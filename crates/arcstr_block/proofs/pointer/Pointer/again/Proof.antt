@@ -1,5 +1,5 @@
 -- `again` takes no step: what is had for good may be had twice.
-use Rattle.std.proofs.Common.{◌≡◌, ℕ, ◌+◌, List, [], ◌∷◌, sym, refl, ap, ◌∙◌, length}
+use Rattle.std.proofs.Common.{◌≡◌, ℕ, List, [], ◌∷◌, sym, refl, ap, ◌∙◌, length}
 use mir.Syntax.{dcons, dnil, a_type, named}
 use mir.Val.{Val, vptr}
 use mir.MapTy.{inst_fn}

@@ -1,5 +1,5 @@
 -- `alone` opens what a `&` shows of a free handle's seat, which cannot be on a block that is owed.
-use Rattle.std.proofs.Common.{◌≡◌, ◌≢◌, ℕ, ◌+◌, List, [], ◌∷◌, refl, sym, ◌∙◌, length}
+use Rattle.std.proofs.Common.{◌≡◌, ◌≢◌, ℕ, List, [], ◌∷◌, refl, sym, ◌∙◌, length}
 use mir.Syntax.{dcons, dnil, a_type, named}
 use mir.Val.{Val, vptr}
 use mir.MapTy.{inst_fn}
@@ -17,7 +17,7 @@ use denote.Memory.{hidden_shr}
 use denote.Opens.{unhide}
 use denote.Param.{param, bounded}
 use denote.RattleType.{RattleType, owns}
-use denote.RawPtr.{Ptr, block_of, count_of}
+use denote.RawPtr.{Ptr, block_of}
 use denote.Ref.{shr_vals, shr_Tells}
 use denote.Signature.{types_at, plain}
 use denote.Steps.{nothing, heard}

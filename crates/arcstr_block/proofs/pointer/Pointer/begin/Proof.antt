@@ -1,7 +1,7 @@
 -- `begin` is one load. A drop goes on where it finds no mark.
 use Rattle.std.proofs.Common.{◌≡◌, ℕ, ◌+◌, [], ◌∷◌, sym, refl, ap, subst, if◌then◌else◌, lit<, length, arith, w64, ◌^◌, ◌<◌}
 use mir.Syntax.{dcons, dnil, a_type}
-use mir.Val.{Val, vptr, vint, WT}
+use mir.Val.{Val, vptr, vint}
 use mir.MapTy.{inst_fn}
 use base.Logic.{SProp, via}
 use base.Fml.{Lft, Fml, fsep, flft, finv, fex}

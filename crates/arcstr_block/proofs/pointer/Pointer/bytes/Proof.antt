@@ -1,12 +1,12 @@
 -- `bytes` shows the bytes of the text, for as long as the pointer is borrowed.
-use Rattle.std.proofs.Common.{◌≡◌, ℕ, ◌+◌, ◌*◌, ◌^◌, ◌<◌, List, [], ◌∷◌, length, w64, arith, sym, refl, ap, ◌∙◌}
+use Rattle.std.proofs.Common.{◌≡◌, ℕ, ◌*◌, ◌^◌, ◌<◌, List, [], ◌∷◌, length, w64, arith, sym, refl, ap, ◌∙◌}
 use mir.Syntax.{dcons, dnil, a_type, named}
 use mir.Val.{Val, vint, vptr, WT}
 use mir.MapTy.{inst_fn}
 use base.Logic.{SProp, emp}
 use base.Fml.{Lft, Share, Fml, ftrue, fsep, flft, fhide, finv, fshr_bor}
 use types.Kit.{‵, raw, ◌⊛◌, at_ret, ◌$◌, ◌∵◌, !, qed, by, move, keep, drop, split, split3, join, fsplit, fjoin, fpick, use0, use1, use2, rewrite, feq_i, flt_i}
-use types.Run.{stop, fld, hop, addr, of_opd, no_more, and_then, first, blocks, exec, returns, enter, load}
+use types.Run.{stop, fld, of_opd, no_more, and_then, first, blocks, exec, returns, enter, load}
 use types.ByLocal.{alloc_all, pass_all, free_all, look_at, get, through, sets, sets_last, env}
 use types.Part.{agg, sub, whole, look_in}
 use contract.Running.{tables}

@@ -1,7 +1,7 @@
 -- `leave` is one fetch-sub. The last one has the word and what the block owns.
 use Rattle.std.proofs.Common.{◌≡◌, ℕ, ◌+◌, [], ◌∷◌, sym, refl, ap, subst, if◌then◌else◌, lit<, w64, length, arith, ◌^◌, ◌<◌}
 use mir.Syntax.{dcons, dnil, a_type}
-use mir.Val.{Val, vint, vptr, WT}
+use mir.Val.{Val, vint, vptr}
 use mir.MapTy.{inst_fn}
 use base.Logic.{SProp, via}
 use base.Fml.{Lft, Fml, ftrue, fsep, finv, fex}

@@ -1,7 +1,7 @@
 -- `load` is one load. A look that finds the mark has a share for good, and a clone that finds it is had.
 use Rattle.std.proofs.Common.{◌≡◌, ℕ, Bool, ◌+◌, List, [], ◌∷◌, sym, refl, ap, ◌∙◌, lit<, length, arith, w64, ◌^◌, ◌<◌}
 use mir.Syntax.{dcons, dnil, a_type, named}
-use mir.Val.{Val, vptr, vint, WT}
+use mir.Val.{Val, vptr, vint}
 use mir.MapTy.{inst_fn}
 use base.Logic.{SProp, emp, via}
 use base.Fml.{Lft, Share, Fml, ftrue, fsep, flft, fhide, finv, fshr_bor, fex}

@@ -1,7 +1,7 @@
 -- `raise` is one compare-exchange. Where it finds the old word or the mark, a clone is had.
-use Rattle.std.proofs.Common.{◌≡◌, ℕ, ◌+◌, List, [], ◌∷◌, sym, refl, ap, ◌∙◌, w64, length, arith, ◌^◌, ◌<◌}
+use Rattle.std.proofs.Common.{◌≡◌, ℕ, ◌+◌, List, [], ◌∷◌, sym, refl, ap, ◌∙◌, w64, length, arith}
 use mir.Syntax.{dcons, dnil, a_type, named}
-use mir.Val.{Val, vint, vptr, WT}
+use mir.Val.{Val, vint, vptr}
 use mir.MapTy.{inst_fn}
 use base.Logic.{SProp, emp, via}
 use base.Fml.{Lft, Share, Fml, ftrue, fsep, fex, flft, fhide, finv, fshr_bor}
@@ -21,7 +21,7 @@ use denote.Opens.{unhide}
 use denote.Laws.{Is, shows}
 use denote.Memory.{cell_at, hidden_shr}
 use denote.Param.{param, bounded}
-use denote.Builtin.{RefOf, u64, usize}
+use denote.Builtin.{RefOf, u64}
 use denote.Ref.{shr_vals, shr_Tells}
 use denote.Plain.{uint_vals, uint_Tells}
 use denote.Struct.Lending.{lent_out}
@@ -86,8 +86,25 @@ raise_spec 𝓤 𝓛 𝓜 𝓡 wired Y K g d dd met md =
     let place : ℕ = a.1.0 in let old : ℕ = a.1.1.0 in let new : ℕ = a.1.1.1.0 in let us : List Val = vptr b o ∷ vint w64 place ∷ vint w64 old ∷ vint w64 new ∷ [] in
     let pb : ℕ = block_of p in
     let po : ℕ = word_at p (length h.text) in
-    let y : (walk_of 𝓛 En hs c).Ghost = ((κs, qs, bounds, a, (vptr b o ∷ [], (vint w64 place ∷ [], (vint w64 old ∷ [],
-    (vint w64 new ∷ [], tt))))), gh) in
+    let y : (walk_of 𝓛 En hs c).Ghost = (
+      (
+        κs,
+        qs,
+        bounds,
+        a,
+        (
+          vptr b o ∷ [],
+          (
+            vint w64 place ∷ [],
+            (
+              vint w64 old ∷ [],
+              (vint w64 new ∷ [], tt),
+            ),
+          ),
+        ),
+      ),
+      gh,
+    ) in
     let Post : Val → SProp 𝓤 = (walk_of 𝓛 En hs c).post y in
     qed 𝓛 (((‵ (flft κ q) ⊛ ‵ others) ⊛ ‵ (owns (types_at En.signature.params κs) a y.0.4)) ∷ raw (fact 𝓤 _) ∷ raw (fact 𝓤 (IsFree right)) ∷ raw (fact 𝓤
     (place ≡ word_place (length h.text))) ∷ raw (fact 𝓤 (IsClone lim old new)) ∷ []) ∵
@@ -95,8 +112,16 @@ raise_spec 𝓤 𝓛 𝓜 𝓡 wired Y K g d dd met md =
     let there : place + count_of p ≡ count_of p + word_place (length h.text) = omega (arith, placed) in
     heard ! (IsClone lim old new) (λ asked. split ! $ split ! $ move ! (2 ∷ []) $ fsplit ! $ fsplit ! $
     keep ! (1 ∷ 3 ∷ 4 ∷ []) $
-    enter ! 𝓣.C 𝓣.Λ fn us Post $ alloc_all ! (λ l. pass_all ! refl ((tt, tt), ((tt, record { fits = are.1.0.1 }), ((tt, record { fits = are.1.1.0.1 }),
-    ((tt, record { fits = are.1.1.1.0.1 }), tt)))) $
+    enter ! 𝓣.C 𝓣.Λ fn us Post $ alloc_all ! (λ l. pass_all ! refl (
+      (tt, tt),
+      (
+        (tt, record { fits = are.1.0.1 }),
+        (
+          (tt, record { fits = are.1.1.0.1 }),
+          ((tt, record { fits = are.1.1.1.0.1 }), tt),
+        ),
+      ),
+    ) $
     let Ev = env fn.locals l in
     use1 𝓛 (‵ (hidden_shr D κ (p, (tt, tt)) b o) ⊛ ‵ (fhide (pointer_shares holds lim p h.text right h.seat h.block h.history κ)))
     (lent_out 𝓛 (C.struct B g) (C.the_codes Y.Denot B.coded (Marker.the_row B).coded) (C.the_heap B g) (C.the_lent B g) κ h b o) $
