@@ -8,8 +8,8 @@ use std::fmt;
 mod from_memory;
 mod to_io;
 
-/// The least number of bytes that is too long for a block: `2^63 - 25`.
-pub const TOO_LONG: usize = 9_223_372_036_854_775_783;
+/// The least number of bytes that is too long for a block.
+pub(crate) const TOO_LONG: usize = (1 << 63) - 25;
 
 /// Why a text cannot be had.
 #[derive(Clone, Copy, Debug, PartialEq, Eq)]
