@@ -97,16 +97,20 @@ impl<const LIMIT: u64, A: Allocator + Copy> Shared<LIMIT, A> {
     {
         let (found, gained) = self.handle.pointer.look();
         let seen = gained.seen();
-        if marked(found) {
-            let fixed = Fixed {
-                pointer: gained,
-                len: self.handle.len,
-                alloc: self.handle.alloc,
-            };
-            return (Some(fixed), seen);
+        match looked(found) {
+            None => {
+                let fixed = Fixed {
+                    pointer: gained,
+                    len: self.handle.len,
+                    alloc: self.handle.alloc,
+                };
+                (Some(fixed), seen)
+            }
+            Some(_) => {
+                gained.forget();
+                (None, seen)
+            }
         }
-        gained.forget();
-        (None, seen)
     }
 
     /// One fetch-or: the block is marked, and stays for good. What was seen of the history ends in this mark.
