@@ -11,6 +11,8 @@ pub use seen::Seen;
 pub use shared::Shared;
 
 mod block;
+#[cfg(test)]
+mod examples;
 mod fault;
 mod fixed;
 mod making;
