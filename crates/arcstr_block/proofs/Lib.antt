@@ -22,6 +22,5 @@ pub mod Memory
 pub mod Places
 pub mod Copies
 pub mod Crosses
-pub mod Looks
 pub mod Marked
 pub mod InLine

@@ -2,12 +2,13 @@
 use Rattle.std.specs.Prelude.{◌≡◌, ◌≤◌, ◌⊎◌, ℕ, List, length, IsUtf8}
 use Rattle.std.specs.Str.{IsValidUpTo}
 use Rattle.std.specs.Str.Lossy.{utf8_valid_len}
+use Rattle.arcstr_block.specs.Memory.{least_too_long}
 use Rattle.arcstr_block.specs.declared.fault.TextFault.{TextFault}
 use Rattle.arcstr_block.specs.declared.fault.TextFault.TheVariants.{Length, Memory, Utf8}
 
--- a text of n bytes is too long for a block: it has 2^63 - 25 bytes or more
+-- a text of n bytes is too long for a block
 abbrev pub IsTooLong : ℕ → Type 0
-IsTooLong n = 9223372036854775783 ≤ n
+IsTooLong n = least_too_long ≤ n
 
 -- a text of n bytes is refused for its length where it is too long, and else for want of memory alone
 abbrev pub IsFaultOfMaking : ℕ → TextFault → Type 0

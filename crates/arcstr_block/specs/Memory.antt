@@ -1,6 +1,6 @@
 -- The memory of a block: one piece, with the bytes of the text at its address, the word at the first multiple of 8 past them, and the length of the
 -- text 8 bytes on.
-use Rattle.std.specs.Prelude.{ℕ, ◌+◌, ◌*◌, ◌/◌, ◌<◌, List, [], length, IsUtf8}
+use Rattle.std.specs.Prelude.{ℕ, ◌+◌, ◌-◌, ◌*◌, ◌/◌, ◌^◌, ◌<◌, List, [], length, IsUtf8}
 use base.Fraction.{full_share}
 use base.Fml.{Lft, Fml, ftrue, fsep, fex, fwand, froom}
 use mir.Syntax.{Ty, w8, w64, ty_int, ty_array, ty_struct, tcons, tnil}
@@ -12,9 +12,13 @@ use denote.Sharing.{beside}
 use denote.Struct.Lending.{lent_at}
 use Rattle.core.specs.Sync.RawAtomic.{word}
 
--- a text of n bytes may lie in a block: it has fewer than 2 ^ 63 - 25 bytes
+-- the least number of bytes that is too long for a block
+abbrev pub least_too_long : ℕ
+least_too_long = 2 ^ 63 - 25
+
+-- a text of n bytes may lie in a block
 abbrev pub Fits : ℕ → Type 0
-Fits n = n < 9223372036854775783
+Fits n = n < least_too_long
 
 -- the bytes are a text, in UTF-8, that may lie in a block
 abbrev pub IsText : List ℕ → Type 0

@@ -8,10 +8,17 @@ use std::fmt;
 mod from_memory;
 mod to_io;
 
-/// The least number of bytes that is too long for a block: `2^63 - 25`.
-pub const TOO_LONG: usize = 9_223_372_036_854_775_783;
+/// The least number of bytes that is too long for a block.
+pub(crate) const TOO_LONG: usize = (1 << 63) - 25;
 
-/// Why a text cannot be had.
+/// Why a text cannot be had. It is plain data of 16 bytes, and prints what is wrong.
+///
+/// ```
+/// let made = Shared::<5, _>::init(rt.alloc(), 3, |bytes| bytes[2] = 255);
+/// assert!(rt; matches!(made, Err(TextFault::Utf8(2))));
+/// let printed = format!(in rt.alloc(); "{}", TextFault::Utf8(2))?;
+/// assert_eq!(rt; printed.as_str(), "bytes are not UTF-8 from place 2");
+/// ```
 #[derive(Clone, Copy, Debug, PartialEq, Eq)]
 pub enum TextFault {
     /// The text is too long: it has `2^63 - 25` bytes or more.
@@ -23,7 +30,12 @@ pub enum TextFault {
 }
 
 impl TextFault {
-    /// The number of the fault, from 1.
+    /// The number of the fault, from 1 on in the order of the variants. It serves tests alone.
+    ///
+    /// ```
+    /// assert_eq!(rt; TextFault::Length.number(), 1);
+    /// assert_eq!(rt; TextFault::Utf8(2).number(), 3);
+    /// ```
     pub fn number(&self) -> u8
         ensures { result ≡ text_fault_number self.now }
     {

@@ -10,6 +10,16 @@ use std::marker::Model;
 
 /// A block that is marked, for good: its text is read as long as its allocator lasts. Contracts see the bytes of
 /// its text, its block's name, the limit on its count, and the beginning of its history in which it was marked.
+///
+/// It has 16 bytes where its allocator has none, and may be sent and shared where its allocator may. Its drop does
+/// nothing: the block stays.
+///
+/// ```
+/// let text = Shared::<5, _>::from_text(rt.alloc(), "aé")?;
+/// let fixed: Fixed<Global> = text.mark();
+/// drop(text);
+/// assert_eq!(rt; fixed.as_str(), "aé");
+/// ```
 pub struct Fixed<A: Allocator + Copy> {
     pub(crate) pointer: Pointer<A>,
     /// The length of the text in bytes, by which the text is read without a load from the block.
@@ -27,21 +37,38 @@ impl<A: Allocator + Copy> Model for Fixed<A> {
 }
 
 impl<A: Allocator + Copy> Fixed<A> {
-    /// The text.
+    /// The text. It takes no step, and loads nothing from the block.
+    ///
+    /// ```
+    /// let fixed = Shared::<5, _>::from_text(rt.alloc(), "aé")?.mark();
+    /// assert_eq!(rt; fixed.as_str(), "aé");
+    /// ```
     pub fn as_str(&self) -> &str
         ensures { result.now ≡ self.now.text }
     {
         self.pointer.text(self.len)
     }
 
-    /// The length of the text, in bytes.
+    /// The length of the text, in bytes. It takes no step.
+    ///
+    /// ```
+    /// let fixed = Shared::<5, _>::from_text(rt.alloc(), "aé")?.mark();
+    /// assert_eq!(rt; fixed.len(), 3);
+    /// ```
     pub fn len(&self) -> usize
         ensures { result ≡ length self.now.text }
     {
         self.len
     }
 
-    /// The same block once more. It takes no step.
+    /// The same block once more. It takes no step and no memory.
+    ///
+    /// ```
+    /// let fixed = Shared::<5, _>::from_text(rt.alloc(), "aé")?.mark();
+    /// let again = fixed.again();
+    /// drop(fixed);
+    /// assert_eq!(rt; again.as_str(), "aé");
+    /// ```
     pub fn again(&self) -> Fixed<A>
         ensures { result ≡ self.now }
     {
@@ -52,7 +79,14 @@ impl<A: Allocator + Copy> Fixed<A> {
         }
     }
 
-    /// What was seen of the block's history when it was found or made marked: the mark is in it. No step.
+    /// What was seen of the block's history when it was found or made marked: the mark is in it. It takes no step.
+    ///
+    /// ```
+    /// let text = Shared::<5, _>::from_text(rt.alloc(), "aé")?;
+    /// let fixed = text.mark();
+    /// let (_, later) = text.look();
+    /// fixed.seen().agree(&later);
+    /// ```
     pub fn seen(&self) -> Seen
         ensures block { result.block ≡ self.now.block }
         ensures history { result.history ≡ self.now.history }

@@ -4,13 +4,15 @@
 //! a fetch-or, makes the block stay for good. Whoever subtracts last takes the memory out whole, as `Owed`.
 #![tactic(auto)]
 
-pub use fault::{TOO_LONG, TextFault};
+pub use fault::TextFault;
 pub use fixed::Fixed;
 pub use owed::{Down, Owed};
 pub use seen::Seen;
 pub use shared::Shared;
 
 mod block;
+#[cfg(test)]
+mod examples;
 mod fault;
 mod fixed;
 mod making;

@@ -19,8 +19,14 @@ use std::alloc::Allocator;
 mod tests;
 
 impl<const LIMIT: u64, A: Allocator + Copy> Shared<LIMIT, A> {
-    /// The first handle on a new block with this text. A text that is too long is refused first, then
-    /// want of memory. An empty text has a block too.
+    /// The first handle on a new block with a copy of this text: one request for memory, of 16 bytes and the text, rounded
+    /// up to a multiple of 8. An empty text has a block too. Refused, in this order: a text of `2^63 - 25` bytes or more
+    /// (`Length`), and want of memory (`Memory`). That `LIMIT` is at most `RC_MAX` is the caller's condition.
+    ///
+    /// ```
+    /// let text = Shared::<5, _>::from_text(rt.alloc(), "aé")?;
+    /// assert_eq!(rt; (text.as_str(), text.look().0), ("aé", Some(1)));
+    /// ```
     pub fn from_text(alloc: A, text: &str) -> Result<Shared<LIMIT, A>, TextFault>
         requires limit { LIMIT ≤ RC_MAX }
         ensures made { IfOk result (λ made. made.text ≡ text.now) }
@@ -35,10 +41,20 @@ impl<const LIMIT: u64, A: Allocator + Copy> Shared<LIMIT, A> {
         Ok(Shared::placed(blank.close(bytes), text.len(), alloc))
     }
 
-    /// The first handle on a new block with the text that the closure leaves in `n` zero bytes.
+    /// The first handle on a new block with the text that `fill` leaves in `n` zero bytes: one request for memory, before
+    /// the closure runs. That `LIMIT` is at most `RC_MAX`, and that the closure takes `n` zero bytes, are the caller's
+    /// conditions.
     ///
-    /// The tests come in this order: a length that is too long; memory; the closure runs, once; what it
-    /// left is no UTF-8. Where length or memory is refused before, the closure does not run.
+    /// Refused, in this order: a length of `2^63 - 25` bytes or more (`Length`) and want of memory (`Memory`), after which
+    /// the closure is not run, and bytes that are not UTF-8 once it has run (`Utf8`, with the length in bytes of their longest
+    /// front that is), after which the memory is given back.
+    ///
+    /// ```
+    /// let text = Shared::<5, _>::init(rt.alloc(), 2, |bytes| bytes.fill(b'a'))?;
+    /// assert_eq!(rt; text.as_str(), "aa");
+    /// let made = Shared::<5, _>::init(rt.alloc(), 2, |bytes| bytes[1] = 255);
+    /// assert!(rt; matches!(made, Err(TextFault::Utf8(1))));
+    /// ```
     pub fn init<F: FnOnce(&mut [u8])>(
         alloc: A,
         n: usize,
@@ -67,8 +83,14 @@ impl<const LIMIT: u64, A: Allocator + Copy> Shared<LIMIT, A> {
         }
     }
 
-    /// The first handle on a new block with `n` copies of a text, joined. A length that is too long, or
-    /// past `usize`, is refused first, then want of memory.
+    /// The first handle on a new block with `n` copies of a text, joined: one request for memory. No copies, and copies of an
+    /// empty text, have a block too. Refused, in this order: `2^63 - 25` bytes or more in all copies (`Length`), and want of
+    /// memory (`Memory`). That `LIMIT` is at most `RC_MAX` is the caller's condition.
+    ///
+    /// ```
+    /// let text = Shared::<5, _>::repeat(rt.alloc(), "ab", 3)?;
+    /// assert_eq!(rt; text.as_str(), "ababab");
+    /// ```
     pub fn repeat(alloc: A, text: &str, n: usize) -> Result<Shared<LIMIT, A>, TextFault>
         requires { LIMIT ≤ RC_MAX }
         ensures made { IfOk result (λ made. made.text ≡ repeat n text.now) }

@@ -11,7 +11,16 @@ use crate::shared::Shared;
 use std::alloc::Allocator;
 use std::marker::Model;
 
-/// How a handle ended.
+/// How a handle ended. It has 16 bytes where its allocator has none, and may be sent and shared where its allocator may.
+/// It has no drop: what is owed has to be given back by hand.
+///
+/// ```
+/// let text = Shared::<5, _>::from_text(rt.alloc(), "aé")?;
+/// match text.up(&rt).down().0 {
+///     Down::Owes(owed) => owed.give_back(),
+///     Down::Left | Down::Ended => assert_eq!(rt; text.look().0, Some(1)),
+/// }
+/// ```
 pub enum Down<A: Allocator> {
     /// Its look found the mark: the word is left as it is.
     Ended,
@@ -21,8 +30,18 @@ pub enum Down<A: Allocator> {
     Owes(Owed<A>),
 }
 
-/// The memory of a block that nobody else has, to be given back. It cannot be let go otherwise.
+/// The memory of a block that nobody else has, to be given back. It has no drop, and cannot be let go otherwise.
 /// Contracts see its block's name, and the number of the handle that was subtracted last.
+///
+/// It has 8 bytes where its allocator has none, and may be sent and shared where its allocator may.
+///
+/// ```
+/// let text = Shared::<5, _>::from_text(rt.alloc(), "aé")?;
+/// match text.down().0 {
+///     Down::Owes(owed) => owed.give_back(),
+///     Down::Left | Down::Ended => {}
+/// }
+/// ```
 pub struct Owed<A: Allocator> {
     pub(crate) pointer: Pointer<A>,
     /// How many bytes past the address of the block its word and the length of its text lie.
@@ -40,8 +59,16 @@ impl<A: Allocator> Model for Owed<A> {
 }
 
 impl<A: Allocator> Owed<A> {
-    /// Gives the memory of the block, and of its text, back to the allocator.
+    /// Gives the memory of the block, and of its text, back to the allocator, in one call of it.
     /// That a heap has it again is shown by the test `all_memory_is_given_back`.
+    ///
+    /// ```
+    /// let heap = LocalHeap::new(rt.alloc(), 4096)?;
+    /// match Shared::<5, _>::from_text(&heap, "aé")?.down().0 {
+    ///     Down::Owes(owed) => assert_eq!(rt; (owed.give_back(), heap.used()), ((), 0)),
+    ///     Down::Left | Down::Ended => {}
+    /// }
+    /// ```
     pub fn give_back(self) {
         let Owed {
             pointer,
@@ -54,7 +81,15 @@ impl<A: Allocator> Owed<A> {
 }
 
 impl<A: Allocator + Copy> Owed<A> {
-    /// The law that no handle is left on a block that is owed. No step.
+    /// The law that no handle is left on a block that is owed. It hands both back, and takes no step.
+    ///
+    /// ```
+    /// let other = Shared::<5, _>::from_text(rt.alloc(), "b")?;
+    /// match Shared::<5, _>::from_text(rt.alloc(), "a")?.down().0 {
+    ///     Down::Owes(owed) => owed.alone(other).0.give_back(),
+    ///     Down::Left | Down::Ended => {}
+    /// }
+    /// ```
     pub fn alone<const LIMIT: u64>(self, other: Shared<LIMIT, A>) -> (Owed<A>, Shared<LIMIT, A>)
         ensures first { result.0 ≡ self }
         ensures second { result.1 ≡ other }
@@ -74,7 +109,16 @@ impl<A: Allocator + Copy> Owed<A> {
         (owed, other)
     }
 
-    /// The law that a handle that is lent is on another block than what is owed. No step.
+    /// The law that a handle that is lent is on another block than what is owed. It hands back what is owed, and takes no
+    /// step.
+    ///
+    /// ```
+    /// let other = Shared::<5, _>::from_text(rt.alloc(), "b")?;
+    /// match Shared::<5, _>::from_text(rt.alloc(), "a")?.down().0 {
+    ///     Down::Owes(owed) => owed.alone_beside(&other).give_back(),
+    ///     Down::Left | Down::Ended => {}
+    /// }
+    /// ```
     pub fn alone_beside<const LIMIT: u64>(self, handle: &Shared<LIMIT, A>) -> Owed<A>
         ensures same { result ≡ self }
         ensures alone { self.block ≢ handle.now.block }
@@ -92,7 +136,15 @@ impl<A: Allocator + Copy> Owed<A> {
         }
     }
 
-    /// The law that a block that is owed is not marked. No step.
+    /// The law that a block that is owed is not marked. It hands back what is owed, and takes no step.
+    ///
+    /// ```
+    /// let fixed = Shared::<5, _>::from_text(rt.alloc(), "b")?.mark();
+    /// match Shared::<5, _>::from_text(rt.alloc(), "a")?.down().0 {
+    ///     Down::Owes(owed) => owed.unmarked(&fixed).give_back(),
+    ///     Down::Left | Down::Ended => {}
+    /// }
+    /// ```
     pub fn unmarked(self, fixed: &Fixed<A>) -> Owed<A>
         ensures same { result ≡ self }
         ensures unmarked { self.block ≢ fixed.now.block }
@@ -112,7 +164,15 @@ impl<A: Allocator + Copy> Owed<A> {
 }
 
 impl<A: Allocator> Owed<A> {
-    /// The law that a block is owed once. No step.
+    /// The law that a block is owed once. It hands both back, in their order, and takes no step.
+    ///
+    /// ```
+    /// let give_both_back = |owed: Owed<Global>, other: Owed<Global>| {
+    ///     let (owed, other) = owed.apart(other);
+    ///     owed.give_back();
+    ///     other.give_back();
+    /// };
+    /// ```
     pub fn apart(self, other: Owed<A>) -> (Owed<A>, Owed<A>)
         ensures first { result.0 ≡ self }
         ensures second { result.1 ≡ other }

@@ -8,9 +8,15 @@ ghost use Rattle.arcstr_block.specs.Handle.{IsFront};
 
 use std::marker::{Model, PhantomData};
 
-/// A beginning of the history of a block, for good. It takes no memory.
+/// A beginning of the history of a block, for good. It has no bytes, may be sent and shared, and its drop does nothing.
 ///
 /// `history` lists the steps in their order, and `block` names the block: its history, and the seats of its handles.
+///
+/// ```
+/// let text = Shared::<5, _>::from_text(rt.alloc(), "aé")?;
+/// let (count, seen) = text.look();
+/// assert_eq!(rt; (count, size_of_val(&seen)), (Some(1), 0));
+/// ```
 #[derive(Drop)]
 pub struct Seen {
     pub(crate) marker: PhantomData<()>,
@@ -25,7 +31,14 @@ impl Model for Seen {
 }
 
 impl Seen {
-    /// The law that a block has one history: of two beginnings of it, the longer goes on from the other. No step.
+    /// The law that a block has one history: of two beginnings of it, the longer goes on from the other. It takes no step.
+    ///
+    /// ```
+    /// let text = Shared::<5, _>::from_text(rt.alloc(), "aé")?;
+    /// let (_, first) = text.look();
+    /// let (_, second) = text.look();
+    /// first.agree(&second);
+    /// ```
     pub fn agree(&self, other: &Seen)
         ensures front { self.now.block ≡ other.now.block → length self.now.history ≤ length other.now.history → IsFront self.now.history other.now.history }
         ensures longer { self.now.block ≡ other.now.block → length other.now.history ≤ length self.now.history → IsFront other.now.history self.now.history }

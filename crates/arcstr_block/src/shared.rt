@@ -31,8 +31,20 @@ struct Counted<const LIMIT: u64, A: Allocator + Copy> {
     ghost low: { IsLimit LIMIT },
 }
 
-/// One handle on a block whose count has the limit `LIMIT`. Contracts see the bytes of its text,
-/// its block's name, and its own number in the block's history.
+/// One handle on a block, by which its text is read; the block stays while a handle on it is left. Contracts see the
+/// bytes of its text, its block's name, and its own number in the block's history.
+///
+/// A clone at a count above `LIMIT` marks the block, which then stays for good. A handle has 16 bytes where its allocator
+/// has none, and may be sent and shared where its allocator may. Its drop is `down`, and gives back what is then owed:
+/// it does not wait.
+///
+/// ```
+/// let text = Shared::<5, _>::from_text(rt.alloc(), "aé")?;
+/// let clone = text.up(&rt);
+/// assert_eq!(rt; (clone.as_str(), text.look().0), ("aé", Some(2)));
+/// drop(text);
+/// assert_eq!(rt; (clone.as_str(), clone.look().0), ("aé", Some(1)));
+/// ```
 pub struct Shared<const LIMIT: u64, A: Allocator + Copy> {
     handle: Counted<LIMIT, A>,
 }
@@ -66,21 +78,39 @@ impl<const LIMIT: u64, A: Allocator + Copy> Shared<LIMIT, A> {
         }
     }
 
-    /// The text.
+    /// The text. It takes no step, and loads nothing from the block.
+    ///
+    /// ```
+    /// let text = Shared::<5, _>::from_text(rt.alloc(), "aé")?;
+    /// assert_eq!(rt; text.as_str(), "aé");
+    /// ```
     pub fn as_str(&self) -> &str
         ensures { result.now ≡ self.now.text }
     {
         self.handle.pointer.text(self.handle.len)
     }
 
-    /// The length of the text, in bytes.
+    /// The length of the text, in bytes. It takes no step.
+    ///
+    /// ```
+    /// let text = Shared::<5, _>::from_text(rt.alloc(), "aé")?;
+    /// assert_eq!(rt; text.len(), 3);
+    /// ```
     pub fn len(&self) -> usize
         ensures { result ≡ length self.now.text }
     {
         self.handle.len
     }
 
-    /// One load: the number of living handles, or `None` at a marked block. What was seen of the history ends in this look.
+    /// One load: the number of living handles, from 1 to `LIMIT + 1`, or `None` at a marked block. What was seen of the
+    /// history ends in this look.
+    ///
+    /// ```
+    /// let text = Shared::<5, _>::from_text(rt.alloc(), "aé")?;
+    /// assert_eq!(rt; text.look().0, Some(1));
+    /// drop(text.mark());
+    /// assert_eq!(rt; text.look().0, None);
+    /// ```
     pub fn look(&self) -> (Option<u64>, Seen)
         ensures count { IfSome result.0 (λ count. (0 < count) × (count ≤ LIMIT + 1)) }
         ensures seen { MatchOption result.0 (SawMark LIMIT result.1.history self.now.seat) (λ count. SawCount LIMIT result.1.history self.now.seat count) }
@@ -92,7 +122,15 @@ impl<const LIMIT: u64, A: Allocator + Copy> Shared<LIMIT, A> {
         (looked(found), seen)
     }
 
-    /// One load: the block as a fixed one, where it is found marked. What was seen of the history ends in this look.
+    /// One load: the block as a fixed one, where it is found marked, else `None`. What was seen of the history ends in this
+    /// look.
+    ///
+    /// ```
+    /// let text = Shared::<5, _>::from_text(rt.alloc(), "aé")?;
+    /// assert!(rt; text.fixed().0.is_none());
+    /// drop(text.mark());
+    /// assert!(rt; text.fixed().0.is_some());
+    /// ```
     pub fn fixed(&self) -> (Option<Fixed<A>>, Seen)
         ensures kept { IfSome result.0 (λ fixed. fixed ≡ kept_of LIMIT self.now result.1.history) }
         ensures seen { MatchOption result.0 ((n : ℕ) × SawCount LIMIT result.1.history self.now.seat n) (λ _. SawMark LIMIT result.1.history self.now.seat) }
@@ -100,19 +138,31 @@ impl<const LIMIT: u64, A: Allocator + Copy> Shared<LIMIT, A> {
     {
         let (found, gained) = self.handle.pointer.look(place_of_word(self.handle.len));
         let seen = gained.seen();
-        if marked(found) {
-            let fixed = Fixed {
-                pointer: gained,
-                len: self.handle.len,
-                alloc: self.handle.alloc,
-            };
-            return (Some(fixed), seen);
+        match looked(found) {
+            None => {
+                let fixed = Fixed {
+                    pointer: gained,
+                    len: self.handle.len,
+                    alloc: self.handle.alloc,
+                };
+                (Some(fixed), seen)
+            }
+            Some(_) => {
+                gained.forget();
+                (None, seen)
+            }
         }
-        gained.forget();
-        (None, seen)
     }
 
-    /// One fetch-or: the block is marked, and stays for good. What was seen of the history ends in this mark.
+    /// One fetch-or: the block is marked, and stays for good. It takes no memory, and the handle stays as it is. What was
+    /// seen of the history ends in this mark.
+    ///
+    /// ```
+    /// let text = Shared::<5, _>::from_text(rt.alloc(), "aé")?;
+    /// let fixed = text.mark();
+    /// drop(text);
+    /// assert_eq!(rt; fixed.as_str(), "aé");
+    /// ```
     pub fn mark(&self) -> Fixed<A>
         ensures kept { result ≡ kept_of LIMIT self.now result.history }
         ensures step { SawLeak LIMIT result.history self.now.seat }
@@ -124,8 +174,15 @@ impl<const LIMIT: u64, A: Allocator + Copy> Shared<LIMIT, A> {
         }
     }
 
-    /// Another handle. A load, and a compare-exchange that is tried again where the word changed between: an unmarked
-    /// count above the limit gets the mark, any other grows by one, and a marked word is left as it is.
+    /// Another handle; it takes no memory. A load, and where it finds no mark a compare-exchange, which is tried again where
+    /// the word changed between, so that the call may wait. An unmarked count above the limit gets the mark, any other grows
+    /// by one, and a marked word is left as it is.
+    ///
+    /// ```
+    /// let text = Shared::<5, _>::from_text(rt.alloc(), "aé")?;
+    /// let clone = text.up(&rt);
+    /// assert_eq!(rt; (clone.as_str(), clone.look().0), ("aé", Some(2)));
+    /// ```
     pub fn up<R: Wait>(&self, rt: &R) -> Shared<LIMIT, A>
         ensures text { result.text ≡ self.now.text }
         ensures block { result.block ≡ self.now.block }
@@ -147,7 +204,15 @@ impl<const LIMIT: u64, A: Allocator + Copy> Shared<LIMIT, A> {
         unreachable!()
     }
 
-    /// The law that two handles on one block have two seats in its history. No step.
+    /// The law that two handles on one block have two seats in its history. It hands both back, in their order, and takes no
+    /// step.
+    ///
+    /// ```
+    /// let text = Shared::<5, _>::from_text(rt.alloc(), "aé")?;
+    /// let clone = text.up(&rt);
+    /// let (text, clone) = text.apart(clone);
+    /// assert_eq!(rt; (text.as_str(), clone.as_str()), ("aé", "aé"));
+    /// ```
     pub fn apart(self, other: Shared<LIMIT, A>) -> (Shared<LIMIT, A>, Shared<LIMIT, A>)
         ensures first { result.0 ≡ self }
         ensures second { result.1 ≡ other }
@@ -205,7 +270,17 @@ impl<const LIMIT: u64, A: Allocator + Copy> Shared<LIMIT, A> {
         other.alone(&self.handle.pointer)
     }
 
-    /// The end of the handle. A look that finds the mark leaves the word as it is; else the count falls by one.
+    /// The end of the handle, as its drop begins: a load, and where it finds no mark a fetch-sub, by which the count falls by
+    /// one. It answers how the handle ended, with what is owed where it was the last, which has to be given back by hand; and
+    /// what was seen of the history, which ends in that load or in that fetch-sub. It does not wait.
+    ///
+    /// ```
+    /// let text = Shared::<5, _>::from_text(rt.alloc(), "aé")?;
+    /// match text.down().0 {
+    ///     Down::Owes(owed) => owed.give_back(),
+    ///     Down::Left | Down::Ended => return Err(Fail::from("another handle is left")),
+    /// }
+    /// ```
     pub fn down(self) -> (Down<A>, Seen)
         ensures seen { EndsAs LIMIT result.1.history self.seat result.0 }
         ensures owes { OwesAs self result.0 }

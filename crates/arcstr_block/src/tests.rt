@@ -2,9 +2,10 @@ ghost use Rattle.std.specs.Prelude.{◌≡◌, ◌≢◌, ◌≤◌, IsTrue, IfS
 ghost use Rattle.arcstr_count.specs.declared.words.TheConstants.{RC_MAX};
 ghost use Rattle.arcstr_block.specs.Handle.{IsFront, IsMarkedIn};
 
-use crate::{Down, Fixed, Seen, Shared, TextFault};
+use crate::{Down, Fixed, Owed, Seen, Shared, TextFault};
 use linked_list_allocator::LocalHeap;
 use std::alloc::Global;
+use std::mem::size_of;
 use std::process::Abort;
 use std::sync::Wait;
 use std::sync::atomic::{AtomicBool, AtomicU64, Ordering};
@@ -13,14 +14,14 @@ use std::thread;
 use std::thread::Threads;
 
 #[test]
-fn two_handles_are_counted(rt: HostRuntime) -> Result<(), Fail> {
-    let first = Shared::<5, Global>::from_text(rt.alloc(), "foobar")?;
-    assert_eq!(rt; first.as_str(), "foobar");
-    assert_eq!(rt; first.look().0, Some(1));
-    let second = first.up(&rt);
-    assert_eq!(rt; (first.look().0, second.look().0), (Some(2), Some(2)));
-    assert_eq!(rt; second.len(), 6);
-    Ok(())
+fn the_types_have_their_sizes(rt: HostRuntime) {
+    assert_eq!(rt; size_of::<Shared<5, Global>>(), 16);
+    assert_eq!(rt; size_of::<Fixed<Global>>(), 16);
+    assert_eq!(rt;
+        (size_of::<Owed<Global>>(), size_of::<Down<Global>>()),
+        (8, 16)
+    );
+    assert_eq!(rt; (size_of::<Seen>(), size_of::<TextFault>()), (0, 16));
 }
 
 /// A handle and its clone, which have two seats in the history of one block.
@@ -204,6 +205,14 @@ fn a_block_is_owed_once(rt: HostRuntime) -> Result<(), Fail> {
 /// A value that threads may hand to one another, and share.
 fn crossing<T: Send + Sync>(value: T) -> T {
     value
+}
+
+#[test]
+fn handles_may_cross_threads(rt: HostRuntime) -> Result<(), Fail> {
+    let text = crossing(Shared::<5, Global>::from_text(rt.alloc(), "foobar")?);
+    let (fixed, _) = crossing((text.mark(), text.look().1));
+    assert_eq!(rt; fixed.as_str(), text.as_str());
+    Ok(())
 }
 
 #[test]

@@ -1,6 +1,6 @@
 //! What a step's number says, and what a clone makes of it: the operations of `arcstr_count::Word`, which a step knows
 //! by its number alone.
-ghost use Rattle.std.specs.Prelude.{◌≡◌, ◌≤◌, IsTrue, ◌↔◌};
+ghost use Rattle.std.specs.Prelude.{◌≡◌, ◌≤◌, IsTrue, ◌↔◌, MatchOption};
 ghost use Rattle.arcstr_count.specs.Word.{looked_of};
 ghost use Rattle.arcstr_block.specs.Word.{IsMarked, IsUnmarked, IsWord, IsClone, IsLast, word_of};
 
@@ -21,7 +21,8 @@ pub(crate) fn marked(word: u64) -> bool
 
 /// What a look finds: nothing at a marked word, else the count.
 pub(crate) fn looked(word: u64) -> Option<u64>
-    ensures { result ≡ looked_of (word_of word) }
+    ensures value { result ≡ looked_of (word_of word) }
+    ensures marked { MatchOption result (IsMarked word) (λ _. IsUnmarked word) }
 {
     Word::from_bits(word).looked()
 }

@@ -7,7 +7,7 @@ ghost use Rattle.arcstr_count.specs.declared.words.TheConstants.{RC_MAX};
 use std::marker::Model;
 
 /// The greatest limit on the count of a block: `2^62 - 1`.
-pub const RC_MAX: u64 = 4_611_686_018_427_387_903;
+pub const RC_MAX: u64 = (1 << 62) - 1;
 
 /// The word of a block: a flag, which says that the block is marked static, and a count.
 ///

@@ -85,7 +85,7 @@ impl ArcStr {
         ensures refused { IfErr result (IsFaultOfFilling (λ bytes. FnOnceReturnsAtMut F.FnOnce fill (replicate n 0) tt bytes) n) }
     {
         if n == 0 {
-            fill_nothing(fill);
+            fill_slice(&mut [], fill);
             return Ok(ArcStr::new());
         }
         match Shared::init(alloc, n, fill) {
@@ -128,15 +128,7 @@ impl ArcStr {
     }
 }
 
-/// Runs the closure on an empty slice.
-fn fill_nothing<F: FnOnce(&mut [u8])>(fill: F)
-    requires { FnOnceTakesAtMut F.FnOnce fill [] }
-    ensures { FnOnceReturnsAtMut F.FnOnce fill [] tt [] }
-{
-    let mut nothing = [];
-    fill_slice(&mut nothing, fill);
-}
-
+/// Runs the closure on these bytes.
 fn fill_slice<F: FnOnce(&mut [u8])>(bytes: &mut [u8], fill: F)
     requires { FnOnceTakesAtMut F.FnOnce fill bytes.old }
     ensures { FnOnceReturnsAtMut F.FnOnce fill bytes.old tt bytes.new }

@@ -16,40 +16,11 @@ fn a_block_is_filled_by_a_closure(rt: HostRuntime) -> Result<(), Fail> {
     Ok(())
 }
 
-#[test]
-fn a_block_is_filled_with_copies(rt: HostRuntime) -> Result<(), Fail> {
-    assert_eq!(rt;
-        Shared::<5, _>::repeat(rt.alloc(), "ab", 2)?.as_str(),
-        "abab"
-    );
-    assert_eq!(rt;
-        Shared::<5, _>::repeat(rt.alloc(), "", 2)?.look().0,
-        Some(1)
-    );
-    Ok(())
-}
-
-/// The place of the first byte that is no text, if one was refused. Want of memory is handed on.
-fn refused_place(made: Result<Shared<5, Global>, TextFault>) -> Result<Option<usize>, TextFault> {
-    match made {
-        Ok(_) => Ok(None),
-        Err(TextFault::Utf8(place)) => Ok(Some(place)),
-        Err(fault) => Err(fault),
-    }
-}
-
-#[test]
-fn bytes_that_are_no_text_are_refused(rt: HostRuntime) -> Result<(), Fail> {
-    let made = Shared::<5, _>::init(rt.alloc(), 3, |bytes| bytes[2] = 255);
-    assert_eq!(rt; refused_place(made)?, Some(2));
-    Ok(())
-}
-
 /// There may be `usize::MAX` copies of nothing, and none of them is counted out.
 #[test]
 fn copies_of_nothing_are_made_at_once(rt: HostRuntime) -> Result<(), Fail> {
     let made = Shared::<5, _>::repeat(rt.alloc(), "", usize::MAX)?;
-    assert_eq!(rt; made.len(), 0);
+    assert_eq!(rt; (made.len(), made.look().0), (0, Some(1)));
     Ok(())
 }
 
