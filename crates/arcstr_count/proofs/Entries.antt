@@ -12,7 +12,7 @@ use Rattle.arcstr_count.specs.History.{makes, block_of, numbers_below}
 use Rattle.arcstr_count.specs.Past.{IsPast, past_of, times_given}
 use Rattle.arcstr_count.specs.Left.{word_left}
 use Rattle.arcstr_count.specs.Summary.{BlockSummary, Summary, StandsFor, block_summary, handles_of, blocks_of, words_left}
-use Rattle.arcstr_count.specs.Kept.{summary_in, word_in, view_of}
+use Rattle.arcstr_count.specs.Tables.{summary_in, word_in, view_of}
 use Rattle.arcstr_count.proofs.Pasts.{IsPast-past_of}
 use Rattle.arcstr_count.proofs.LawsOfPasts.{word_stands, given_once}
 use Rattle.arcstr_count.proofs.Tables.{length-table, table-at, table-same, table-more, table-set, same_test, other_test, length-words_left, word_at}

@@ -11,7 +11,7 @@ use Rattle.arcstr_count.specs.History.{makes}
 use Rattle.arcstr_count.specs.Past.{past_of, times_given}
 use Rattle.arcstr_count.specs.Summary.{WorldView, StandsFor}
 use Rattle.arcstr_count.specs.After.{given_after}
-use Rattle.arcstr_count.specs.Kept.{view_of}
+use Rattle.arcstr_count.specs.Tables.{view_of}
 use Rattle.arcstr_count.proofs.Pasts.{IsPast-past_of}
 use Rattle.arcstr_count.proofs.LawsOfPasts.{given_once}
 use Rattle.arcstr_count.proofs.Tables.{unmade_block}

@@ -17,14 +17,14 @@ use Rattle.arcstr_count.specs.Marks.{is_marked, living, is_only}
 use Rattle.arcstr_count.specs.Answer.{unless_free, unless_dropping, unless_owing, unless_raw, refusal_of}
 use Rattle.arcstr_count.specs.Past.{IsPast, past_of}
 use Rattle.arcstr_count.specs.Left.{word_left}
-use Rattle.arcstr_count.specs.Summary.{WorldView, StandsFor}
-use Rattle.arcstr_count.specs.Kept.{word_in, view_of, IsWorld}
+use Rattle.arcstr_count.specs.Summary.{WorldView, StandsFor, handles_of}
+use Rattle.arcstr_count.specs.Tables.{word_in, view_of, no_handle, no_block, handles_with_state, blocks_with_word, blocks_with_mark, blocks_with_given, IsWorld}
 use Rattle.arcstr_count.specs.Taken.{IsRefusal, Takes}
-use Rattle.arcstr_count.specs.Looked.{IsAt}
+use Rattle.arcstr_count.specs.OneHandle.{IsAt}
 use Rattle.arcstr_count.proofs.Pasts.{IsPast-past_of}
-use Rattle.arcstr_count.proofs.Tables.{handle_is, length-handles_of, handles-Make, handles-Clone, handles-Begin, handles-Sub, handles-Back}
+use Rattle.arcstr_count.proofs.Tables.{handle_is, handle_at, length-handles_of, handles-Make, handles-Clone, handles-Begin, handles-Sub, handles-Back}
 use Rattle.arcstr_count.proofs.Tables.{handles-IntoRaw, handles-FromRaw}
-use Rattle.arcstr_count.proofs.Entries.{AreTablesOf, entry_of, entries_of, entry_with, with_word, tables_from_view, length-entries_of, entries-Make}
+use Rattle.arcstr_count.proofs.Entries.{AreTablesOf, entry_of, entries_of, entry_at, entry_with, with_word, tables_from_view, length-entries_of, entries-Make}
 use Rattle.arcstr_count.proofs.Entries.{entries-Clone, entries-Sub, entries-Leak, entries-Back, words_of-entries}
 use Rattle.arcstr_count.proofs.LawsOfPasts.{word_stands, Sub_counted, Sub_last}
 use Rattle.arcstr_count.proofs.Taking.{FoundIn, found_in_past, handle_state-found, entry_read, Changes, takes_accepted}
@@ -85,12 +85,39 @@ module _ (limit : ℕ) (handles : List HandleSummary) (blocks : List BlockEntry)
       (ap (λ es. map word_in es) tables.blocks_are ∙ words_of-entries limit p)
       (subst (λ w. IsAt w h b s) (sym view_is) at)
 
-  -- a table of blocks with the entry of the handle's block changed
-  entry_changed : (F : BlockEntry → BlockEntry) (p : List Step) (e : BlockEntry) → AreTablesOf limit p handles blocks
-      → block_of p h ≡ b → e ≡ entry_of limit p b
-      → set blocks b (F e) ≡ set (entries_of limit p) (block_of p h) (F (entry_of limit p (block_of p h)))
-  entry_changed F p e tables block is =
-      set_with tables.blocks_are (sym block) (ap F (is ∙ ap (λ k. entry_of limit p k) (sym block)))
+  -- the entry that the table has of the handle's block is that of the past
+  block_read : (p : List Step) → AreTablesOf limit p handles blocks → b < makes p → get_or blocks b no_block ≡ entry_of limit p b
+  block_read p tables made = ap (λ (es : List BlockEntry). get_or es b no_block) tables.blocks_are ∙ entry_at limit p b no_block made
+
+  -- the table of handles with the handle in another state
+  state_changed : (s t u : HandleState) (p : List Step) → AreTablesOf limit p handles blocks → FoundIn limit p h b s → t ≡ u
+      → handles_with_state handles h t ≡ set (handles_of limit p) h (record { block = block_of p h; state = u })
+  state_changed s t u p tables f is = set_with tables.handles_are refl (handle_is block is)
+    where
+      block : (get_or handles h no_handle).block ≡ block_of p h
+      block = ap (λ (hs : List HandleSummary). (get_or hs h no_handle).block) tables.handles_are
+          ∙ ap (λ (x : HandleSummary). x.block) (handle_at limit p h no_handle f.born)
+
+  -- the table of blocks with another word on the handle's block
+  word_changed : (s : HandleState) (w : FlagAndCount) (F : FlagAndCount → FlagAndCount) (p : List Step)
+      → AreTablesOf limit p handles blocks → FoundIn limit p h b s → w ≡ F (word_left limit p b)
+      → blocks_with_word blocks b w ≡ set (entries_of limit p) (block_of p h)
+      (with_word (entry_of limit p (block_of p h)) (F (word_left limit p (block_of p h))))
+  word_changed s w F p tables f is = set_with tables.blocks_are (sym f.block) (ap₂ entry_with word given)
+    where
+      word : w ≡ F (word_left limit p (block_of p h))
+      word = is ∙ ap (λ k. F (word_left limit p k)) (sym f.block)
+
+      given : (get_or blocks b no_block).given ≡ (entry_of limit p (block_of p h)).given
+      given = ap (λ (x : BlockEntry). x.given) (block_read p tables f.made) ∙ ap (λ k. (entry_of limit p k).given) (sym f.block)
+
+  -- the table of blocks with the handle's block given back
+  given_changed : (s : HandleState) (p : List Step) → AreTablesOf limit p handles blocks → FoundIn limit p h b s
+      → blocks_with_given blocks b ≡ set (entries_of limit p) (block_of p h) (record { word = word_left limit p (block_of p h); given = true })
+  given_changed s p tables f = set_with tables.blocks_are (sym f.block) (ap (λ v. entry_with v true) word)
+    where
+      word : (get_or blocks b no_block).word ≡ word_left limit p (block_of p h)
+      word = ap (λ (x : BlockEntry). x.word) (block_read p tables f.made) ∙ ap (λ k. word_left limit p k) (sym f.block)
 
   module _ (e : BlockEntry) (read : e ≡ get_or blocks b e) where
     entry_is : (p : List Step) → AreTablesOf limit p handles blocks → b < makes p → e ≡ entry_of limit p b
@@ -150,19 +177,19 @@ module _ (limit : ℕ) (handles : List HandleSummary) (blocks : List BlockEntry)
 
     pub takes_clone : (born : ℕ) (new_handles : List HandleSummary) (w : FlagAndCount) → IsAt old h b Free
         → born ≡ length handles → new_handles ≡ handles ++ record { block = b; state = Free } ∷ [] → w ≡ cloned_of limit e.word
-        → Takes old (Clone h) (Handle born) (view_of limit new_handles (set blocks b (record { word = w; given = e.given })))
+        → Takes old (Clone h) (Handle born) (view_of limit new_handles (blocks_with_word blocks b w))
     takes_clone born new_handles w at births_is more_handles word =
         takes_accepted limit handles blocks old (Clone h) (Handle born) new_handles _ view_is (λ refusal. refusal) change
       where
         change : (p : List Step) → IsPast limit p → AreTablesOf limit p handles blocks
-            → Changes limit p (Clone h) (Handle born) new_handles (set blocks b (record { word = w; given = e.given }))
+            → Changes limit p (Clone h) (Handle born) new_handles (blocks_with_word blocks b w)
         change p past tables = record {
           unrefused = ap unless_free (handle_state-found limit p h b Free f);
           answer = ap Handle (births_is ∙ ap length tables.handles_are ∙ length-handles_of limit p);
           tables = record {
             handles_are = more_handles ∙ push_with tables.handles_are (handle_is (sym f.block) refl) ∙ sym (handles-Clone limit p h past);
-            blocks_are = ap (λ v. set blocks b (with_word e v)) word
-                ∙ entry_changed (λ x. with_word x (cloned_of limit x.word)) p e tables f.block (entry_is p tables f.made)
+            blocks_are = word_changed Free w (cloned_of limit) p tables f
+                (word ∙ ap (λ (x : BlockEntry). cloned_of limit x.word) (entry_is p tables f.made))
                 ∙ sym (entries-Clone limit p h (rw f.block f.made));
           };
         }
@@ -174,7 +201,7 @@ module _ (limit : ℕ) (handles : List HandleSummary) (blocks : List BlockEntry)
 
     takes_begin_by : (m : Bool) → IsAt old h b Free → e.word.flag ≡ m
         → Takes old (Begin h) (if m then Ended else Looked)
-        (view_of limit (set handles h (record { block = b; state = if m then Gone else Dropping })) blocks)
+        (view_of limit (handles_with_state handles h (if m then Gone else Dropping)) blocks)
     takes_begin_by m at flag = takes_accepted limit handles blocks old (Begin h) _ _ blocks view_is (unrefused_by m) change
       where
         unrefused_by : (m : Bool) → IsRefusal (if m then Ended else Looked) → ⊥
@@ -182,12 +209,12 @@ module _ (limit : ℕ) (handles : List HandleSummary) (blocks : List BlockEntry)
         unrefused_by false refusal = refusal
 
         change : (p : List Step) → IsPast limit p → AreTablesOf limit p handles blocks
-            → Changes limit p (Begin h) (if m then Ended else Looked) (set handles h (record { block = b; state = if m then Gone else Dropping })) blocks
+            → Changes limit p (Begin h) (if m then Ended else Looked) (handles_with_state handles h (if m then Gone else Dropping)) blocks
         change p past tables = record {
           unrefused = unrefused;
           answer = sym (ap (λ t. if t then Ended else Looked) mark);
           tables = record {
-            handles_are = set_with tables.handles_are refl (handle_is (sym f.block) (sym (ap (λ t. if t then Gone else Dropping) mark)))
+            handles_are = state_changed Free _ _ p tables f (sym (ap (λ t. if t then Gone else Dropping) mark))
                 ∙ sym (handles-Begin limit p h past (ap is_none unrefused));
             blocks_are = tables.blocks_are;
           };
@@ -204,7 +231,7 @@ module _ (limit : ℕ) (handles : List HandleSummary) (blocks : List BlockEntry)
 
     pub takes_begin : (state : HandleState) (reply : Reply) → IsAt old h b Free
         → state ≡ (if e.word.flag then Gone else Dropping) → reply ≡ (if e.word.flag then Ended else Looked)
-        → Takes old (Begin h) reply (view_of limit (set handles h (record { block = b; state = state })) blocks)
+        → Takes old (Begin h) reply (view_of limit (handles_with_state handles h state) blocks)
     takes_begin state reply at state_is reply_is = rw (state_is, reply_is) (takes_begin_by e.word.flag at refl)
 
     -- ---- `Sub`
@@ -224,8 +251,7 @@ module _ (limit : ℕ) (handles : List HandleSummary) (blocks : List BlockEntry)
 
     takes_sub_by : (last : Bool) (w : FlagAndCount) → IsAt old h b Dropping → w ≡ dropped_of e.word → is_last e.word ≡ last
         → Takes old (Sub h) (if last then Owes else Left)
-        (view_of limit (set handles h (record { block = b; state = if last then Owing else Gone }))
-        (set blocks b (record { word = w; given = e.given })))
+        (view_of limit (handles_with_state handles h (if last then Owing else Gone)) (blocks_with_word blocks b w))
     takes_sub_by last w at word is = takes_accepted limit handles blocks old (Sub h) _ _ _ view_is (unrefused_by last) change
       where
         unrefused_by : (t : Bool) → IsRefusal (if t then Owes else Left) → ⊥
@@ -234,16 +260,15 @@ module _ (limit : ℕ) (handles : List HandleSummary) (blocks : List BlockEntry)
 
         change : (p : List Step) → IsPast limit p → AreTablesOf limit p handles blocks
             → Changes limit p (Sub h) (if last then Owes else Left)
-            (set handles h (record { block = b; state = if last then Owing else Gone }))
-            (set blocks b (record { word = w; given = e.given }))
+            (handles_with_state handles h (if last then Owing else Gone)) (blocks_with_word blocks b w)
         change p past tables = record {
           unrefused = unrefused;
           answer = sym (ap (λ t. if t then Owes else Left) owes);
           tables = record {
-            handles_are = set_with tables.handles_are refl (handle_is (sym f.block) (sym (ap (λ t. if t then Owing else Gone) owes)))
+            handles_are = state_changed Dropping _ _ p tables f (sym (ap (λ t. if t then Owing else Gone) owes))
                 ∙ sym (handles-Sub limit p h past (ap is_none unrefused));
-            blocks_are = ap (λ v. set blocks b (with_word e v)) word
-                ∙ entry_changed (λ x. with_word x (dropped_of x.word)) p e tables f.block (entry_is p tables f.made)
+            blocks_are = word_changed Dropping w dropped_of p tables f
+                (word ∙ ap (λ (x : BlockEntry). dropped_of x.word) (entry_is p tables f.made))
                 ∙ sym (entries-Sub limit p h (rw f.block f.made));
           };
         }
@@ -264,71 +289,68 @@ module _ (limit : ℕ) (handles : List HandleSummary) (blocks : List BlockEntry)
         → (state : HandleState) (reply : Reply)
         → state ≡ (if last then Owing else Gone) → reply ≡ (if last then Owes else Left)
         → Takes old (Sub h) reply
-        (view_of limit (set handles h (record { block = b; state = state })) (set blocks b (record { word = w; given = e.given })))
+        (view_of limit (handles_with_state handles h state) (blocks_with_word blocks b w))
     takes_sub last w at word is state reply state_is reply_is = rw (state_is, reply_is) (takes_sub_by last w at word (sym is))
 
-    -- ---- `Back`
+  -- ---- `Back`
 
-    pub takes_back : IsAt old h b Owing
-        → Takes old (Back h) Given
-        (view_of limit (set handles h (record { block = b; state = Gone })) (set blocks b (record { word = e.word; given = true })))
-    takes_back at = takes_accepted limit handles blocks old (Back h) Given _ _ view_is (λ refusal. refusal) change
-      where
-        change : (p : List Step) → IsPast limit p → AreTablesOf limit p handles blocks
-            → Changes limit p (Back h) Given (set handles h (record { block = b; state = Gone }))
-            (set blocks b (record { word = e.word; given = true }))
-        change p past tables = record {
-          unrefused = unrefused;
-          answer = refl;
-          tables = record {
-            handles_are = set_with tables.handles_are refl (handle_is (sym f.block) refl)
-                ∙ sym (handles-Back limit p h (ap is_none unrefused));
-            blocks_are = entry_changed (λ x. record { word = x.word; given = true }) p e tables f.block (entry_is p tables f.made)
-                ∙ sym (entries-Back limit p h (rw f.block f.made));
-          };
-        }
-          where
-            f : FoundIn limit p h b Owing
-            f = found Owing p at tables
-
-            unrefused : refusal_of limit p (Back h) ≡ None
-            unrefused = ap unless_owing (handle_state-found limit p h b Owing f)
-
-    -- ---- `Leak`
-
-    pub takes_leak : (x : BlockEntry) → IsAt old h b Free → x.word ≡ marked_of e.word → x.given ≡ e.given
-        → Takes old (Leak h) Marked (view_of limit handles (set blocks b x))
-    takes_leak x at word given = takes_accepted limit handles blocks old (Leak h) Marked handles _ view_is (λ refusal. refusal) change
-      where
-        change : (p : List Step) → IsPast limit p → AreTablesOf limit p handles blocks
-            → Changes limit p (Leak h) Marked handles (set blocks b x)
-        change p past tables = record {
-          unrefused = ap unless_free (handle_state-found limit p h b Free f);
-          answer = refl;
-          tables = record {
-            handles_are = tables.handles_are;
-            blocks_are = ap (λ v. set blocks b v) (ap₂ entry_with word given)
-                ∙ entry_changed (λ y. with_word y (marked_of y.word)) p e tables f.block (entry_is p tables f.made)
-                ∙ sym (entries-Leak limit p h (rw f.block f.made));
-          };
-        }
-          where
-            f : FoundIn limit p h b Free
-            f = found Free p at tables
-
-  -- ---- `IntoRaw` and `FromRaw`
-
-  pub takes_into_raw : IsAt old h b Free
-      → Takes old (IntoRaw h) RawReply (view_of limit (set handles h (record { block = b; state = Raw })) blocks)
-  takes_into_raw at = takes_accepted limit handles blocks old (IntoRaw h) RawReply _ blocks view_is (λ refusal. refusal) change
+  pub takes_back : IsAt old h b Owing
+      → Takes old (Back h) Given
+      (view_of limit (handles_with_state handles h Gone) (blocks_with_given blocks b))
+  takes_back at = takes_accepted limit handles blocks old (Back h) Given _ _ view_is (λ refusal. refusal) change
     where
       change : (p : List Step) → IsPast limit p → AreTablesOf limit p handles blocks
-          → Changes limit p (IntoRaw h) RawReply (set handles h (record { block = b; state = Raw })) blocks
+          → Changes limit p (Back h) Given (handles_with_state handles h Gone) (blocks_with_given blocks b)
       change p past tables = record {
         unrefused = unrefused;
         answer = refl;
         tables = record {
-          handles_are = set_with tables.handles_are refl (handle_is (sym f.block) refl)
+          handles_are = state_changed Owing _ _ p tables f refl
+              ∙ sym (handles-Back limit p h (ap is_none unrefused));
+          blocks_are = given_changed Owing p tables f
+              ∙ sym (entries-Back limit p h (rw f.block f.made));
+        };
+      }
+        where
+          f : FoundIn limit p h b Owing
+          f = found Owing p at tables
+
+          unrefused : refusal_of limit p (Back h) ≡ None
+          unrefused = ap unless_owing (handle_state-found limit p h b Owing f)
+
+  -- ---- `Leak`
+
+  pub takes_leak : IsAt old h b Free → Takes old (Leak h) Marked (view_of limit handles (blocks_with_mark blocks b))
+  takes_leak at = takes_accepted limit handles blocks old (Leak h) Marked handles _ view_is (λ refusal. refusal) change
+    where
+      change : (p : List Step) → IsPast limit p → AreTablesOf limit p handles blocks
+          → Changes limit p (Leak h) Marked handles (blocks_with_mark blocks b)
+      change p past tables = record {
+        unrefused = ap unless_free (handle_state-found limit p h b Free f);
+        answer = refl;
+        tables = record {
+          handles_are = tables.handles_are;
+          blocks_are = word_changed Free _ marked_of p tables f (ap (λ (x : BlockEntry). marked_of x.word) (block_read p tables f.made))
+              ∙ sym (entries-Leak limit p h (rw f.block f.made));
+        };
+      }
+        where
+          f : FoundIn limit p h b Free
+          f = found Free p at tables
+
+  -- ---- `IntoRaw` and `FromRaw`
+
+  pub takes_into_raw : IsAt old h b Free
+      → Takes old (IntoRaw h) RawReply (view_of limit (handles_with_state handles h Raw) blocks)
+  takes_into_raw at = takes_accepted limit handles blocks old (IntoRaw h) RawReply _ blocks view_is (λ refusal. refusal) change
+    where
+      change : (p : List Step) → IsPast limit p → AreTablesOf limit p handles blocks
+          → Changes limit p (IntoRaw h) RawReply (handles_with_state handles h Raw) blocks
+      change p past tables = record {
+        unrefused = unrefused;
+        answer = refl;
+        tables = record {
+          handles_are = state_changed Free _ _ p tables f refl
               ∙ sym (handles-IntoRaw limit p h (ap is_none unrefused));
           blocks_are = tables.blocks_are;
         };
@@ -341,16 +363,16 @@ module _ (limit : ℕ) (handles : List HandleSummary) (blocks : List BlockEntry)
           unrefused = ap unless_free (handle_state-found limit p h b Free f)
 
   pub takes_from_raw : IsAt old h b Raw
-      → Takes old (FromRaw h) Unraw (view_of limit (set handles h (record { block = b; state = Free })) blocks)
+      → Takes old (FromRaw h) Unraw (view_of limit (handles_with_state handles h Free) blocks)
   takes_from_raw at = takes_accepted limit handles blocks old (FromRaw h) Unraw _ blocks view_is (λ refusal. refusal) change
     where
       change : (p : List Step) → IsPast limit p → AreTablesOf limit p handles blocks
-          → Changes limit p (FromRaw h) Unraw (set handles h (record { block = b; state = Free })) blocks
+          → Changes limit p (FromRaw h) Unraw (handles_with_state handles h Free) blocks
       change p past tables = record {
         unrefused = unrefused;
         answer = refl;
         tables = record {
-          handles_are = set_with tables.handles_are refl (handle_is (sym f.block) refl)
+          handles_are = state_changed Raw _ _ p tables f refl
               ∙ sym (handles-FromRaw limit p h past (ap is_none unrefused));
           blocks_are = tables.blocks_are;
         };

@@ -19,9 +19,9 @@ use Rattle.arcstr_count.specs.Marks.{state_of}
 use Rattle.arcstr_count.specs.Answer.{unless_free, handle_state, refusal_of, accepted_answer, reply_by}
 use Rattle.arcstr_count.specs.Past.{IsPast, past_of}
 use Rattle.arcstr_count.specs.Summary.{Summary, WorldView, StandsFor, handle_summary, handles_of, summary_of, words_left}
-use Rattle.arcstr_count.specs.Kept.{view_of, IsWorld}
+use Rattle.arcstr_count.specs.Tables.{view_of, IsWorld}
 use Rattle.arcstr_count.specs.Taken.{IsRefusal, IsAcceptedBy, Answers, Follows, Takes, HasHistory}
-use Rattle.arcstr_count.specs.Looked.{state_at, IsAt}
+use Rattle.arcstr_count.specs.OneHandle.{state_at, IsAt}
 use Rattle.arcstr_count.proofs.Pasts.{past_of-step, IsPast-past_of}
 use Rattle.arcstr_count.proofs.LawsOfHandles.{block_made}
 use Rattle.arcstr_count.proofs.Tables.{handle_at, length-handles_of, length-words_left}

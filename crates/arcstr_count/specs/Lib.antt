@@ -11,5 +11,5 @@ pub mod OneBlock
 pub mod Laws
 pub mod Sentences
 pub mod Taken
-pub mod Kept
-pub mod Looked
+pub mod Tables
+pub mod OneHandle

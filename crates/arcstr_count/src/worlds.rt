@@ -4,12 +4,12 @@ ghost use Rattle.std.specs.Prelude.{◌≡◌, ◌<◌, ◌≤◌, ◌↔◌, �
 ghost use Rattle.std.specs.Prelude.{IfOk, IfErr, OnOk, OnErr, IsOk, IfSome, IsNone, Some, slice_get, vec_len, vec_capacity};
 ghost use Rattle.arcstr_count.specs.declared.steps.Step.{Step};
 ghost use Rattle.arcstr_count.specs.Summary.{StandsFor};
-ghost use Rattle.arcstr_count.specs.Word.{marked_of};
 ghost use Rattle.arcstr_count.specs.After.{given_after};
+ghost use Rattle.arcstr_count.specs.Tables.{handles_with_state, blocks_with_word, blocks_with_mark, blocks_with_given};
 ghost use Rattle.arcstr_count.specs.Answer.{unless_free, unless_dropping, unless_owing, unless_raw};
 ghost use Rattle.arcstr_count.specs.Taken.{GivesBirth, IsRefusal, IsAcceptedBy, Answers, Follows, Takes, HasHistory};
 ghost use Rattle.arcstr_count.specs.Laws.{WordsStand, LooksAreExact, MarksStay, AtMostOneOwes, GivenAtMostOnce, GivenExactlyIfUnmarked, InEachHistoryOf};
-ghost use Rattle.arcstr_count.specs.Looked.{state_at, IsAt};
+ghost use Rattle.arcstr_count.specs.OneHandle.{state_at, IsAt};
 
 use crate::faults::{RunFault, StepFault};
 use crate::steps::{HandleState, HandleSummary, Reply, Step};
@@ -35,22 +35,9 @@ struct BlockEntry {
     given: bool,
 }
 
-impl BlockEntry {
-    /// The entry after a leak: its word has the mark.
-    fn leaked(self) -> BlockEntry
-        ensures word { result.word ≡ marked_of self.word }
-        ensures given { result.given ≡ self.given }
-    {
-        BlockEntry {
-            word: self.word.with_mark(),
-            given: self.given,
-        }
-    }
-}
-
 impl<A: Allocator> Model for World<A> {
     ghost use Rattle.arcstr_count.specs.Summary.{WorldView};
-    ghost use Rattle.arcstr_count.specs.Kept.{view_of, IsWorld};
+    ghost use Rattle.arcstr_count.specs.Tables.{view_of, IsWorld};
 
     ghost Value = { WorldView };
 
@@ -91,13 +78,13 @@ impl<A: Allocator + Copy> World<A> {
         match step {
             Step::Make => self.make(),
             Step::Look(handle) => Ok(self.look(handle)),
-            Step::Clone(handle) => self.clone_of(handle),
+            Step::Clone(handle) => self.clone(handle),
             Step::Begin(handle) => Ok(self.begin(handle)),
-            Step::Sub(handle) => Ok(self.subtract(handle)),
-            Step::Back(handle) => Ok(self.give_back(handle)),
+            Step::Sub(handle) => Ok(self.sub(handle)),
+            Step::Back(handle) => Ok(self.back(handle)),
             Step::Leak(handle) => Ok(self.leak(handle)),
-            Step::IntoRaw(handle) => Ok(self.make_raw(handle)),
-            Step::FromRaw(handle) => Ok(self.make_free(handle)),
+            Step::IntoRaw(handle) => Ok(self.into_raw(handle)),
+            Step::FromRaw(handle) => Ok(self.from_raw(handle)),
         }
     }
 
@@ -129,7 +116,7 @@ impl<A: Allocator + Copy> World<A> {
     }
 
     /// What the world keeps of a handle, and nothing of one that was never born.
-    fn summary_of(&self, handle: u64) -> Option<HandleSummary>
+    fn known_handle(&self, handle: u64) -> Option<HandleSummary>
         ensures value { result ≡ slice_get self.now.summary.handles handle }
         ensures found { IfSome result (λ found. IsAt self.now handle found.block found.state) }
     {
@@ -141,7 +128,7 @@ impl<A: Allocator + Copy> World<A> {
         ensures refused { IfErr result (λ fault. unless_free (state_at self.now handle) ≡ Some fault) }
         ensures found { IfOk result (λ block. IsAt self.now handle block HandleState.Free) }
     {
-        match self.summary_of(handle) {
+        match self.known_handle(handle) {
             None => Err(StepFault::NoHandle),
             Some(found) => match found.state {
                 HandleState::Free => Ok(found.block),
@@ -157,7 +144,7 @@ impl<A: Allocator + Copy> World<A> {
         ensures refused { IfErr result (λ fault. unless_dropping (state_at self.now handle) ≡ Some fault) }
         ensures found { IfOk result (λ block. IsAt self.now handle block HandleState.Dropping) }
     {
-        match self.summary_of(handle) {
+        match self.known_handle(handle) {
             None => Err(StepFault::NoHandle),
             Some(found) => match found.state {
                 HandleState::Dropping => Ok(found.block),
@@ -172,7 +159,7 @@ impl<A: Allocator + Copy> World<A> {
         ensures refused { IfErr result (λ fault. unless_owing (state_at self.now handle) ≡ Some fault) }
         ensures found { IfOk result (λ block. IsAt self.now handle block HandleState.Owing) }
     {
-        match self.summary_of(handle) {
+        match self.known_handle(handle) {
             None => Err(StepFault::NoHandle),
             Some(found) => match found.state {
                 HandleState::Owing => Ok(found.block),
@@ -187,7 +174,7 @@ impl<A: Allocator + Copy> World<A> {
         ensures refused { IfErr result (λ fault. unless_raw (state_at self.now handle) ≡ Some fault) }
         ensures found { IfOk result (λ block. IsAt self.now handle block HandleState.Raw) }
     {
-        match self.summary_of(handle) {
+        match self.known_handle(handle) {
             None => Err(StepFault::NoHandle),
             Some(found) => match found.state {
                 HandleState::Raw => Ok(found.block),
@@ -204,8 +191,8 @@ impl<A: Allocator + Copy> World<A> {
     {
         make_room(&mut self.handles, &mut self.blocks)?;
         let block = self.blocks.len() as u64;
-        let handle = bear(&mut self.handles, block);
-        put(
+        let handle = push_handle(&mut self.handles, block);
+        push_entry(
             &mut self.blocks,
             BlockEntry {
                 word: Word::one(),
@@ -227,7 +214,7 @@ impl<A: Allocator + Copy> World<A> {
         }
     }
 
-    fn clone_of(&mut self, handle: u64) -> Result<Reply, RunFault>
+    fn clone(&mut self, handle: u64) -> Result<Reply, RunFault>
         ensures takes { IfOk result (λ reply. Takes self.old (Step.Clone handle) reply self.new) }
         ensures memory { IfErr result (λ fault. (fault ≡ RunFault.Memory) × (self.new ≡ self.old)) }
         ensures accepted { OnErr result (IsAcceptedBy self.old (Step.Clone handle)) }
@@ -239,12 +226,9 @@ impl<A: Allocator + Copy> World<A> {
         if self.handles.reserve(1).is_err() {
             return Err(RunFault::Memory);
         }
-        let entry = self.blocks[block as usize];
-        self.blocks[block as usize] = BlockEntry {
-            word: entry.word.cloned(self.limit),
-            given: entry.given,
-        };
-        Ok(Reply::Handle(bear(&mut self.handles, block)))
+        let word = self.blocks[block as usize].word;
+        set_word(&mut self.blocks, block, word.cloned(self.limit));
+        Ok(Reply::Handle(push_handle(&mut self.handles, block)))
     }
 
     fn begin(&mut self, handle: u64) -> Reply
@@ -254,45 +238,34 @@ impl<A: Allocator + Copy> World<A> {
             Ok(block) => block,
             Err(fault) => return Reply::Refused(fault),
         };
-        let (state, reply) = begun(self.blocks[block as usize].word);
-        self.handles[handle as usize] = HandleSummary { block, state };
+        let (state, reply) = after_begin(self.blocks[block as usize].word);
+        set_state(&mut self.handles, handle, state);
         reply
     }
 
-    fn subtract(&mut self, handle: u64) -> Reply
+    fn sub(&mut self, handle: u64) -> Reply
         ensures { Takes self.old (Step.Sub handle) result self.new }
     {
         let block = match self.dropping_handle(handle) {
             Ok(block) => block,
             Err(fault) => return Reply::Refused(fault),
         };
-        let entry = self.blocks[block as usize];
-        let (word, last) = entry.word.dropped();
-        let (state, reply) = subtracted(last);
-        self.blocks[block as usize] = BlockEntry {
-            word,
-            given: entry.given,
-        };
-        self.handles[handle as usize] = HandleSummary { block, state };
+        let (word, last) = self.blocks[block as usize].word.dropped();
+        let (state, reply) = after_sub(last);
+        set_word(&mut self.blocks, block, word);
+        set_state(&mut self.handles, handle, state);
         reply
     }
 
-    fn give_back(&mut self, handle: u64) -> Reply
+    fn back(&mut self, handle: u64) -> Reply
         ensures { Takes self.old (Step.Back handle) result self.new }
     {
         let block = match self.owing_handle(handle) {
             Ok(block) => block,
             Err(fault) => return Reply::Refused(fault),
         };
-        let entry = self.blocks[block as usize];
-        self.blocks[block as usize] = BlockEntry {
-            word: entry.word,
-            given: true,
-        };
-        self.handles[handle as usize] = HandleSummary {
-            block,
-            state: HandleState::Gone,
-        };
+        set_given(&mut self.blocks, block);
+        set_state(&mut self.handles, handle, HandleState::Gone);
         Reply::Given
     }
 
@@ -303,37 +276,32 @@ impl<A: Allocator + Copy> World<A> {
             Ok(block) => block,
             Err(fault) => return Reply::Refused(fault),
         };
-        let entry = self.blocks[block as usize];
-        self.blocks[block as usize] = entry.leaked();
+        set_mark(&mut self.blocks, block);
         Reply::Marked
     }
 
-    fn make_raw(&mut self, handle: u64) -> Reply
+    fn into_raw(&mut self, handle: u64) -> Reply
         ensures { Takes self.old (Step.IntoRaw handle) result self.new }
     {
-        let block = match self.free_handle(handle) {
-            Ok(block) => block,
-            Err(fault) => return Reply::Refused(fault),
-        };
-        self.handles[handle as usize] = HandleSummary {
-            block,
-            state: HandleState::Raw,
-        };
-        Reply::Raw
+        match self.free_handle(handle) {
+            Err(fault) => Reply::Refused(fault),
+            Ok(_) => {
+                set_state(&mut self.handles, handle, HandleState::Raw);
+                Reply::Raw
+            }
+        }
     }
 
-    fn make_free(&mut self, handle: u64) -> Reply
+    fn from_raw(&mut self, handle: u64) -> Reply
         ensures { Takes self.old (Step.FromRaw handle) result self.new }
     {
-        let block = match self.raw_handle(handle) {
-            Ok(block) => block,
-            Err(fault) => return Reply::Refused(fault),
-        };
-        self.handles[handle as usize] = HandleSummary {
-            block,
-            state: HandleState::Free,
-        };
-        Reply::Unraw
+        match self.raw_handle(handle) {
+            Err(fault) => Reply::Refused(fault),
+            Ok(_) => {
+                set_state(&mut self.handles, handle, HandleState::Free);
+                Reply::Unraw
+            }
+        }
     }
 }
 
@@ -349,7 +317,7 @@ fn times_given(entry: Option<BlockEntry>) -> u64
 }
 
 /// What becomes of a free handle whose drop looks at this word, and the reply: it ends at a mark.
-fn begun(word: Word) -> (HandleState, Reply)
+fn after_begin(word: Word) -> (HandleState, Reply)
     ensures state { result.0 ≡ (if word.flag then HandleState.Gone else HandleState.Dropping) }
     ensures reply { result.1 ≡ (if word.flag then Reply.Ended else Reply.Looked) }
 {
@@ -362,7 +330,7 @@ fn begun(word: Word) -> (HandleState, Reply)
 
 /// What becomes of a dropping handle that subtracts, and the reply: it owes its block where its
 /// subtraction was the last one.
-fn subtracted(last: bool) -> (HandleState, Reply)
+fn after_sub(last: bool) -> (HandleState, Reply)
     ensures state { result.0 ≡ (if last then HandleState.Owing else HandleState.Gone) }
     ensures reply { result.1 ≡ (if last then Reply.Owes else Reply.Left) }
 {
@@ -391,13 +359,13 @@ fn make_room<A: Allocator>(
 }
 
 /// Puts a free handle of this block at the end of the table, and answers its number.
-fn bear<A: Allocator>(handles: &mut Vec<HandleSummary, A>, block: u64) -> u64
+fn push_handle<A: Allocator>(handles: &mut Vec<HandleSummary, A>, block: u64) -> u64
     requires { vec_len handles.old < vec_capacity handles.old }
     ensures number { result ≡ length handles.old.items }
     ensures born { handles.new.items ≡ handles.old.items ++ record { block = block; state = HandleState.Free } ∷ [] }
 {
     let number = handles.len() as u64;
-    put(
+    push_entry(
         handles,
         HandleSummary {
             block,
@@ -415,11 +383,44 @@ fn entry_at<T: Copy>(table: &[T], number: u64) -> Option<T>
 }
 
 /// Puts an entry at the end of a table that has room for it.
-fn put<T: Drop, A: Allocator>(table: &mut Vec<T, A>, entry: T)
+fn push_entry<T: Drop, A: Allocator>(table: &mut Vec<T, A>, entry: T)
     requires { vec_len table.old < vec_capacity table.old }
     ensures { table.new.items ≡ table.old.items ++ entry ∷ [] }
 {
     let _ = table.push(entry);
+}
+
+/// Puts a handle into another state.
+fn set_state<A: Allocator>(handles: &mut Vec<HandleSummary, A>, handle: u64, state: HandleState)
+    requires { handle < vec_len handles.old }
+    ensures { handles.new.items ≡ handles_with_state handles.old.items handle state }
+{
+    handles[handle as usize].state = state;
+}
+
+/// Puts another word on a block.
+fn set_word<A: Allocator>(blocks: &mut Vec<BlockEntry, A>, block: u64, word: Word)
+    requires { block < vec_len blocks.old }
+    ensures { blocks.new.items ≡ blocks_with_word blocks.old.items block word }
+{
+    blocks[block as usize].word = word;
+}
+
+/// Marks a block. Its count stays.
+fn set_mark<A: Allocator>(blocks: &mut Vec<BlockEntry, A>, block: u64)
+    requires { block < vec_len blocks.old }
+    ensures { blocks.new.items ≡ blocks_with_mark blocks.old.items block }
+{
+    let word = blocks[block as usize].word;
+    set_word(blocks, block, word.with_mark());
+}
+
+/// Writes down that a block was given back.
+fn set_given<A: Allocator>(blocks: &mut Vec<BlockEntry, A>, block: u64)
+    requires { block < vec_len blocks.old }
+    ensures { blocks.new.items ≡ blocks_with_given blocks.old.items block }
+{
+    blocks[block as usize].given = true;
 }
 
 #[cfg(test)]

@@ -10,10 +10,10 @@ returns-in-Err g c =
     takes_refused_by unless_free c.args.self.now (Begin c.args.handle) c.args.handle c.in-Err.fault (λ p. refl) c.in-Err.ensures.refused
 
 pub returns : goal.returns
-returns g c =
-    takes_begin c.self.inside.limit c.self.inside.handles.items c.self.inside.blocks.items c.args.self.now
+returns g c = rw c.set_state.ensures
+    (takes_begin c.self.inside.limit c.self.inside.handles.items c.self.inside.blocks.items c.args.self.now
     c.args.handle c.in-Ok.block c.self.view_is c.index.result.now c.index.ensures
-    _ _ c.in-Ok.ensures.found c.begun-state.ensures.state c.begun-state.ensures.reply
+    _ _ c.in-Ok.ensures.found c.after_begin-state.ensures.state c.after_begin-state.ensures.reply)
 
 pub invariant_of-self : goal.invariant_of-self
 invariant_of-self g c = world_kept _ _ _ _ _ _ _ _ c.self.invariant c.self.view_is (returns g c)

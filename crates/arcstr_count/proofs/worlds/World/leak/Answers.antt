@@ -10,10 +10,9 @@ returns-in-Err g c =
     takes_refused_by unless_free c.args.self.now (Leak c.args.handle) c.args.handle c.in-Err.fault (λ p. refl) c.in-Err.ensures.refused
 
 pub returns : goal.returns
-returns g c =
-    takes_leak c.self.inside.limit c.self.inside.handles.items c.self.inside.blocks.items c.args.self.now
-    c.args.handle c.in-Ok.block c.self.view_is c.index-entry.result.now c.index-entry.ensures
-    _ c.in-Ok.ensures.found c.leaked.ensures.word c.leaked.ensures.given
+returns g c = rw c.set_mark.ensures
+    (takes_leak c.self.inside.limit c.self.inside.handles.items c.self.inside.blocks.items c.args.self.now
+    c.args.handle c.in-Ok.block c.self.view_is c.in-Ok.ensures.found)
 
 pub invariant_of-self : goal.invariant_of-self
 invariant_of-self g c = world_kept _ _ _ _ _ _ _ _ c.self.invariant c.self.view_is (returns g c)

@@ -3,7 +3,7 @@ use Rattle.arcstr_count.specs.declared.steps.Step.TheVariants.{Sub}
 use Rattle.arcstr_count.specs.Answer.{unless_dropping}
 use Rattle.arcstr_count.proofs.Taking.{takes_refused_by, world_kept}
 use Rattle.arcstr_count.proofs.StepsTaken.{takes_sub, dropping_is_counted}
-use Rattle.arcstr_count.proofs.worlds.World.subtract.Goals as goal
+use Rattle.arcstr_count.proofs.worlds.World.sub.Goals as goal
 
 pub returns-in-Err : goal.returns-in-Err
 returns-in-Err g c =
@@ -12,15 +12,15 @@ returns-in-Err g c =
 pub dropped-word-requires : goal.dropped-word-requires
 dropped-word-requires g c =
     dropping_is_counted c.self.inside.limit c.self.inside.handles.items c.self.inside.blocks.items c.args.self.now
-    c.args.handle c.in-Ok.block c.self.view_is c.index-entry.result.now c.index-entry.ensures
+    c.args.handle c.in-Ok.block c.self.view_is c.index.result.now c.index.ensures
     c.self.invariant c.in-Ok.ensures.found
 
 pub returns : goal.returns
-returns g c =
-    takes_sub c.self.inside.limit c.self.inside.handles.items c.self.inside.blocks.items c.args.self.now
-    c.args.handle c.in-Ok.block c.self.view_is c.index-entry.result.now c.index-entry.ensures
+returns g c = rw (c.set_state.ensures, c.set_word.ensures)
+    (takes_sub c.self.inside.limit c.self.inside.handles.items c.self.inside.blocks.items c.args.self.now
+    c.args.handle c.in-Ok.block c.self.view_is c.index.result.now c.index.ensures
     c.dropped-word.result.1 _ c.in-Ok.ensures.found c.dropped-word.ensures.word c.dropped-word.ensures.last
-    _ _ c.subtracted-state.ensures.state c.subtracted-state.ensures.reply
+    _ _ c.after_sub-state.ensures.state c.after_sub-state.ensures.reply)
 
 pub invariant_of-self : goal.invariant_of-self
 invariant_of-self g c = world_kept _ _ _ _ _ _ _ _ c.self.invariant c.self.view_is (returns g c)

@@ -3,7 +3,7 @@ use Rattle.arcstr_count.specs.declared.steps.Step.TheVariants.{Clone}
 use Rattle.arcstr_count.specs.Answer.{unless_free}
 use Rattle.arcstr_count.proofs.Taking.{takes_refused_by, world_kept, clone_accepted}
 use Rattle.arcstr_count.proofs.StepsTaken.{push_with, takes_clone}
-use Rattle.arcstr_count.proofs.worlds.World.clone_of.Goals as goal
+use Rattle.arcstr_count.proofs.worlds.World.clone.Goals as goal
 
 pub returns-in-Err-clause-takes : goal.returns-in-Err-clause-takes
 returns-in-Err-clause-takes g c =
@@ -16,13 +16,13 @@ pub returns-then-is_err-clause-accepted : goal.returns-then-is_err-clause-accept
 returns-then-is_err-clause-accepted g c = clone_accepted c.args.self.now c.args.handle c.in-Ok.block c.in-Ok.ensures.found
 
 pub returns-clause-takes : goal.returns-clause-takes
-returns-clause-takes g c =
-    takes_clone c.self.inside.limit c.self.inside.handles.items c.self.inside.blocks.items c.args.self.now
-    c.args.handle c.in-Ok.block c.self.view_is c.index-entry.result.now c.index-entry.ensures
+returns-clause-takes g c = rw c.set_word.ensures
+    (takes_clone c.self.inside.limit c.self.inside.handles.items c.self.inside.blocks.items c.args.self.now
+    c.args.handle c.in-Ok.block c.self.view_is c.index.result.now c.index.ensures
     _ _ _ c.in-Ok.ensures.found
-    (c.bear.ensures.number ∙ ap length c.reserve.ensures.items)
-    (c.bear.ensures.born ∙ push_with c.reserve.ensures.items refl)
-    c.cloned.ensures
+    (c.push_handle.ensures.number ∙ ap length c.reserve.ensures.items)
+    (c.push_handle.ensures.born ∙ push_with c.reserve.ensures.items refl)
+    c.cloned.ensures)
 
 pub invariant_of-self-2 : goal.invariant_of-self-2
 invariant_of-self-2 g c = world_kept _ _ _ _ _ _ _ _ c.self.invariant c.self.view_is (returns-clause-takes g c)

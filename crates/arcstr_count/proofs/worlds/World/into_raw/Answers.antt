@@ -3,16 +3,16 @@ use Rattle.arcstr_count.specs.declared.steps.Step.TheVariants.{IntoRaw}
 use Rattle.arcstr_count.specs.Answer.{unless_free}
 use Rattle.arcstr_count.proofs.Taking.{takes_refused_by, world_kept}
 use Rattle.arcstr_count.proofs.StepsTaken.{takes_into_raw}
-use Rattle.arcstr_count.proofs.worlds.World.make_raw.Goals as goal
+use Rattle.arcstr_count.proofs.worlds.World.into_raw.Goals as goal
 
 pub returns-in-Err : goal.returns-in-Err
 returns-in-Err g c =
     takes_refused_by unless_free c.args.self.now (IntoRaw c.args.handle) c.args.handle c.in-Err.fault (λ p. refl) c.in-Err.ensures.refused
 
-pub returns : goal.returns
-returns g c =
-    takes_into_raw c.self.inside.limit c.self.inside.handles.items c.self.inside.blocks.items c.args.self.now
-    c.args.handle c.in-Ok.block c.self.view_is c.in-Ok.ensures.found
+pub returns-in-Ok : goal.returns-in-Ok
+returns-in-Ok g c = rw c.set_state.ensures
+    (takes_into_raw c.self.inside.limit c.self.inside.handles.items c.self.inside.blocks.items c.args.self.now
+    c.args.handle _ c.self.view_is c.in-Ok.ensures.found)
 
 pub invariant_of-self : goal.invariant_of-self
-invariant_of-self g c = world_kept _ _ _ _ _ _ _ _ c.self.invariant c.self.view_is (returns g c)
+invariant_of-self g c = world_kept _ _ _ _ _ _ _ _ c.self.invariant c.self.view_is (returns-in-Ok g c)

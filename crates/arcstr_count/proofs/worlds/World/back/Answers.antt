@@ -3,16 +3,16 @@ use Rattle.arcstr_count.specs.declared.steps.Step.TheVariants.{Back}
 use Rattle.arcstr_count.specs.Answer.{unless_owing}
 use Rattle.arcstr_count.proofs.Taking.{takes_refused_by, world_kept}
 use Rattle.arcstr_count.proofs.StepsTaken.{takes_back}
-use Rattle.arcstr_count.proofs.worlds.World.give_back.Goals as goal
+use Rattle.arcstr_count.proofs.worlds.World.back.Goals as goal
 
 pub returns-in-Err : goal.returns-in-Err
 returns-in-Err g c =
     takes_refused_by unless_owing c.args.self.now (Back c.args.handle) c.args.handle c.in-Err.fault (λ p. refl) c.in-Err.ensures.refused
 
 pub returns : goal.returns
-returns g c =
-    takes_back c.self.inside.limit c.self.inside.handles.items c.self.inside.blocks.items c.args.self.now
-    c.args.handle c.in-Ok.block c.self.view_is c.index-entry.result.now c.index-entry.ensures c.in-Ok.ensures.found
+returns g c = rw (c.set_state.ensures, c.set_given.ensures)
+    (takes_back c.self.inside.limit c.self.inside.handles.items c.self.inside.blocks.items c.args.self.now
+    c.args.handle c.in-Ok.block c.self.view_is c.in-Ok.ensures.found)
 
 pub invariant_of-self : goal.invariant_of-self
 invariant_of-self g c = world_kept _ _ _ _ _ _ _ _ c.self.invariant c.self.view_is (returns g c)
