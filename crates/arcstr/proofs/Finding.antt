@@ -1,12 +1,15 @@
 -- Where a character first stands in a text.
-use Rattle.std.proofs.Common.{◌≡◌, ◌↔◌, ℕ, ◌==◌, Option, None, Some, false, List, [], ◌∷◌, ◌++◌, length, take, drop, All, Contains, IsSome, IfSome, refl, sym, ap, subst, ◌∙◌, arith}
-use Rattle.std.specs.Prelude.{MatchOption}
+use Rattle.std.proofs.Common.{◌≡◌, ◌↔◌, ℕ, ◌==◌, Option, None, Some, false, List, [], ◌∷◌, ◌++◌, length, take, drop, All, Contains, IsSome, IfSome, refl, sym, ap, subst, ◌∙◌, append_assoc, arith}
+use Rattle.std.specs.Prelude.{◌+◌, ◌-◌, MatchOption, encode_utf8}
+use Rattle.std.specs.Char.{len_utf8}
 use Rattle.std.specs.Str.{chars, IsUtf8, NoCharPasses, NonePass}
 use Rattle.std.specs.Str.Pattern.{FindsChar, MatchBeginsAt}
-use Rattle.std.proofs.lemmas.List.{take-append-drop, length-take-le}
+use Rattle.std.proofs.lemmas.List.{take-append-drop, take_all, length-drop, length-take-le}
+use Rattle.std.proofs.lemmas.Slice.{between_is}
 use Rattle.std.proofs.lemmas.List.Elements.{All-nil, All-cons, All-contains, Contains-append_right}
 use Rattle.std.proofs.lemmas.Str.{IsCharBoundary-start, IsUtf8-take, IsUtf8-drop, chars-append, chars_from_encodes, chars_past_char, encodes-chars}
 use Rattle.arcstr_range.specs.Ends.{IsLawful}
+use Rattle.arcstr_range.specs.Text.{cut}
 use Rattle.arcstr.specs.Splitting.{IsFirstPlace}
 
 all_others : (character : ℕ) (characters : List ℕ) → NonePass (λ c. c == character) characters → All (λ c. (c == character) ≡ false) characters
@@ -59,3 +62,21 @@ lawful_where_found text character (Some place) utf8 cases = record {
   fits = record { in_order = omega arith; within = cases.3.0 };
   at_boundaries = (IsCharBoundary-start text utf8, cases.3);
 }
+
+-- where `find` answers a place, what lies before it, the character and what lies behind join to the text
+joined_at : (text : List ℕ) (character place : ℕ) → MatchBeginsAt (FindsChar character) text place
+    → cut text 0 place ++ encode_utf8 character ++ cut text (place + len_utf8 character) (length text) ≡ text
+joined_at text character place at =
+    let behind : cut text (place + len_utf8 character) (length text) ≡ drop at.0 text =
+    ap (λ start. cut text start (length text)) (sym at.1.1.ends) ∙ take_all (length text - at.0) (drop at.0 text) (omega (arith, length-drop at.0 text)) in
+    ap (λ front. front ++ encode_utf8 character ++ cut text (place + len_utf8 character) (length text)) (between_is text 0 place)
+    ∙ ap (λ rest. take place text ++ encode_utf8 character ++ rest) behind
+    ∙ append_assoc (take place text) (encode_utf8 character) (drop at.0 text)
+    ∙ ap (λ rest. take place text ++ rest) (sym at.1.1.split)
+    ∙ take-append-drop place text
+
+pub joined_where_found : (text : List ℕ) (character : ℕ) (answer : Option ℕ) → IsUtf8 text
+    → MatchOption answer (FindsChar character text None) (MatchBeginsAt (FindsChar character) text)
+    → IfSome answer (λ place. cut text 0 place ++ encode_utf8 character ++ cut text (place + len_utf8 character) (length text) ≡ text)
+joined_where_found text character None utf8 cases = tt
+joined_where_found text character (Some place) utf8 cases = joined_at text character place cases

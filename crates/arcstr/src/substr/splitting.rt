@@ -1,6 +1,7 @@
 //! A `Substr` split in two at a character.
 ghost use Rattle.std.specs.Prelude.{◌≡◌};
 ghost use Rattle.arcstr_range.specs.Ends.{IsLawful};
+ghost use Rattle.arcstr_range.specs.Text.{cut};
 ghost use Rattle.arcstr.specs.Splitting.{AnswersSplit};
 ghost use Rattle.arcstr.specs.Substr.{slice_within, text_of};
 
@@ -23,9 +24,11 @@ impl Substr {
     }
 
     /// The slice of the same parent between two places of the slice's own text.
+    #[tactic(auto, using(arcstr_range::proofs::Boundaries::cuts_of_cuts))]
     fn between(&self, rt: &impl Wait, range: Range<usize>) -> Substr
         requires { IsLawful (text_of self.now) range.start range.end }
-        ensures { result ≡ slice_within self.now range.start range.end }
+        ensures slice { result ≡ slice_within self.now range.start range.end }
+        ensures text { text_of result ≡ cut (text_of self.now) range.start range.end }
     {
         let start = self.range().start;
         let places = start + range.start..start + range.end;
