@@ -1,6 +1,6 @@
 pub mod Lines
 pub mod Numbers
-pub mod Examples
+pub mod WorkedExamples
 pub mod Joined
 pub mod LinesDone
 pub mod LineTexts

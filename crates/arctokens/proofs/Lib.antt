@@ -4,7 +4,7 @@ pub mod CharacterAt
 pub mod RunSteps
 pub mod OneKind
 pub mod WordRuns
-pub mod Examples
+pub mod WorkedExamples
 pub mod TokensBefore
 pub mod Turns
 pub mod PieceSteps

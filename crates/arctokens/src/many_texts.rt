@@ -10,6 +10,14 @@ use std::sync::Wait;
 use std::thread::Threads;
 
 /// What each worker passes once, before its first text.
+///
+/// ```
+/// struct Open;
+/// impl Gate for Open {
+///     fn pass(&self, _worker: usize) {}
+/// }
+/// tokens_all_with(&rt, rt.alloc(), &[literal!("a b")], 2, &Open)?;
+/// ```
 pub trait Gate {
     /// Called once for each worker, with its number, also for one to which no text falls.
     fn pass(&self, worker: usize);
@@ -25,6 +33,14 @@ impl Gate for OpenGate {
 /// The tokens of each text, in the order of the texts: one list for each, as `tokens` answers it. They
 /// are found by so many workers, each in a thread of its own, as `tokens_all_with` says, behind a gate at which
 /// none waits. That there are 1 to 64 workers is the caller's condition. Refused for want of memory alone.
+///
+/// ```
+/// let texts = [literal!("foo   bar"), literal!("")];
+/// let lists = tokens_all(&rt, rt.alloc(), &texts, 4)?;
+/// assert_eq!(rt; lists.len(), 2);
+/// assert_eq!(rt; lists[0].len(), 2);
+/// assert_eq!(rt; lists[1].len(), 0);
+/// ```
 pub fn tokens_all<R: Threads + Wait + Sync>(
     rt: &R,
     alloc: Global,
@@ -49,6 +65,14 @@ pub fn tokens_all<R: Threads + Wait + Sync>(
 /// After a refusal every thread that was started has been joined, and no slice that was made is left.
 /// That threads run at once, that each passes the gate once, and that a call succeeds where memory is
 /// there, no clause can say: tests show it.
+///
+/// ```
+/// struct Open;
+/// impl Gate for Open {
+///     fn pass(&self, _worker: usize) {}
+/// }
+/// assert_eq!(rt; tokens_all_with(&rt, rt.alloc(), &[], 2, &Open)?.len(), 0);
+/// ```
 pub fn tokens_all_with<R: Threads + Wait + Sync, G: Gate + Sync>(
     rt: &R,
     alloc: Global,

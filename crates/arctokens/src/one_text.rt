@@ -13,6 +13,13 @@ use std::sync::Wait;
 /// Takes one clone of the text for each word, and so it may wait; and memory for the list alone, for want of
 /// which alone it is refused. No slice is then left. That a call succeeds where memory is there, no clause can
 /// say: a body that always refuses is caught by the tests.
+///
+/// ```
+/// let words = tokens(&rt, rt.alloc(), &literal!("foo   bar"))?;
+/// assert_eq!(rt; words.len(), 2);
+/// assert_eq!(rt; words[1].as_str(), "bar");
+/// assert_eq!(rt; words[1].range(), 6..9);
+/// ```
 pub fn tokens<R: Wait>(rt: &R, alloc: Global, text: &ArcStr) -> Result<Vec<Substr>, AllocError>
     ensures { IfOk result (λ tokens. AreTokens text.now tokens.items) }
 {
@@ -26,8 +33,8 @@ pub fn tokens<R: Wait>(rt: &R, alloc: Global, text: &ArcStr) -> Result<Vec<Subst
     Ok(tokens)
 }
 
-/// The law that a text has one list of tokens, and so that each two answers of `tokens` are the same. It
-/// does nothing: its clause is what it is for.
+/// The law that a text has one list of tokens, and so that each two answers of `tokens` are the same. Of use in
+/// proofs alone: it does nothing, and its clause is what it is for.
 pub fn tokens_are_one(text: &ArcStr, one: &[Substr], other: &[Substr])
     ensures { AreTokens text.now one.now → AreTokens text.now other.now → one.now ≡ other.now }
 {}
