@@ -1,4 +1,4 @@
-mod Examples
+mod WorkedExamples
 pub mod Pasts
 pub mod LawsOfHandles
 pub mod Tables

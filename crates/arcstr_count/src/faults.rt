@@ -6,7 +6,14 @@ ghost use Rattle.arcstr_count.specs.Faults.{step_fault_number, run_fault_number,
 use std::error::Error;
 use std::fmt;
 
-/// Why a step is refused, by the state of the handle that it names.
+/// Why a step is refused, by the state of the handle that it names: each state but one has its fault, so
+/// no two are due at once. It is shown by its name.
+///
+/// ```
+/// let replies = count::run(rt.alloc(), 2, &[Step::Make, Step::Sub(0)])?;
+/// let refused = Reply::Refused(StepFault::NotInDrop);
+/// assert_eq!(rt; replies.last(), Some(&refused));
+/// ```
 #[derive(Clone, Copy, Debug, PartialEq, Eq)]
 pub enum StepFault {
     /// No handle of this number is there: it was never born, owes its block, or has ended.
@@ -24,7 +31,12 @@ pub enum StepFault {
 }
 
 impl StepFault {
-    /// The number of the fault, from 1.
+    /// The number of the fault, from 1, by which the reply to a script's line has it. It takes no memory.
+    ///
+    /// ```
+    /// assert_eq!(rt; StepFault::NoHandle.number(), 1);
+    /// assert_eq!(rt; StepFault::NotRaw.number(), 6);
+    /// ```
     pub fn number(&self) -> u8
         ensures { result ≡ step_fault_number self.now }
     {
@@ -38,7 +50,11 @@ impl StepFault {
         }
     }
 
-    /// The name of the fault, as it is printed.
+    /// The name of the fault, as it is printed. It takes no memory.
+    ///
+    /// ```
+    /// assert_eq!(rt; StepFault::IsRaw.name(), "IsRaw");
+    /// ```
     pub fn name(&self) -> &'static str
         ensures { result.now ≡ step_fault_text self.now }
     {
@@ -63,7 +79,13 @@ impl fmt::Display for StepFault {
 
 impl Error for StepFault {}
 
-/// Why a world cannot be made, or a step not be taken.
+/// Why a world cannot be made, or a step not be taken. `LimitTooLarge` is tested first, and a world that
+/// was made answers `Memory` alone. It is shown by its text.
+///
+/// ```
+/// let refused = World::new(rt.alloc(), RC_MAX + 1);
+/// assert!(rt; matches!(refused, Err(RunFault::LimitTooLarge)));
+/// ```
 #[derive(Clone, Copy, Debug, PartialEq, Eq)]
 pub enum RunFault {
     /// The limit is above `RC_MAX`.
@@ -73,7 +95,13 @@ pub enum RunFault {
 }
 
 impl RunFault {
-    /// The number of the fault, from 1.
+    /// The number of the fault, from 1, for a caller that hands faults on as numbers: here tests alone read
+    /// it. It takes no memory.
+    ///
+    /// ```
+    /// assert_eq!(rt; RunFault::LimitTooLarge.number(), 1);
+    /// assert_eq!(rt; RunFault::Memory.number(), 2);
+    /// ```
     pub fn number(&self) -> u8
         ensures { result ≡ run_fault_number self.now }
     {
@@ -83,7 +111,11 @@ impl RunFault {
         }
     }
 
-    /// The text of the fault, as it is printed.
+    /// The text of the fault, as it is printed. It takes no memory.
+    ///
+    /// ```
+    /// assert_eq!(rt; RunFault::Memory.text(), "out of memory");
+    /// ```
     pub fn text(&self) -> &'static str
         ensures { result.now ≡ run_fault_text self.now }
     {

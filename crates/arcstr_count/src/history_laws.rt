@@ -5,7 +5,13 @@ ghost use Rattle.arcstr_count.specs.Laws.{WordsStand, LooksAreExact, MarksStay, 
 use crate::steps::Step;
 
 /// The laws of every interleaving: for any limit, any list of steps, any front of the list and any
-/// block made in that front. It does nothing: its clauses are what it is for.
+/// block made in that front. It asks nothing of its caller, and does nothing when it runs: its clauses
+/// are what it is for.
+///
+/// ```
+/// let steps = [Step::Make, Step::Clone(0), Step::Leak(1), Step::Begin(0)];
+/// count::every_interleaving(RC_MAX, &steps);
+/// ```
 pub fn every_interleaving(limit: u64, steps: &[Step])
     ensures words_stand { WordsStand limit steps.now }
     ensures looks_exact { LooksAreExact limit steps.now }

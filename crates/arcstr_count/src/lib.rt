@@ -2,7 +2,7 @@
 //!
 //! A handle is numbered by its birth, a block by its making. `specs/` says what a history of steps
 //! means, with handles and sets of them; `World` answers one step at a time by that meaning, and
-//! `run` a whole list.
+//! `run` a whole list. In the examples `count` is this crate.
 #![tactic(auto)]
 
 pub use faults::{RunFault, StepFault};
@@ -13,6 +13,8 @@ pub use steps::{HandleState, HandleSummary, Reply, Step};
 pub use words::{RC_MAX, Word};
 pub use worlds::World;
 
+#[cfg(test)]
+mod examples;
 mod faults;
 mod history_laws;
 #[cfg(test)]

@@ -12,9 +12,17 @@ use crate::words::RC_MAX;
 use crate::worlds::World;
 use std::alloc::Allocator;
 
-/// The reply to each step of a list, from the empty history on.
+/// The reply to each step of a list, from the empty history on. The limit is the greatest count, in
+/// handles, at which a clone still counts.
 ///
-/// `LimitTooLarge` is tested first; then `Memory`, where it comes.
+/// It takes memory for the replies and for a world, which it gives back. `LimitTooLarge`, a limit above
+/// `RC_MAX`, is tested first; then `Memory` comes where memory is refused.
+///
+/// ```
+/// let steps = [Step::Make, Step::Clone(0), Step::Look(1)];
+/// let replies = count::run(rt.alloc(), 2, &steps)?;
+/// assert_eq!(rt; replies.last(), Some(&Reply::Count(2)));
+/// ```
 pub fn run<A: Allocator + Copy>(
     alloc: A,
     limit: u64,

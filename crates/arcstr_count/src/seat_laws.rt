@@ -8,11 +8,18 @@ use crate::steps::{HandleState, Step};
 use crate::words::Word;
 
 /// The law of a running block, whose word and seats are those of a history of one block: the handles
-/// are as many as the history's. It does nothing: its clauses are what it is for.
+/// are as many as the history's. It does nothing when it runs: its clauses are what it is for. They say
+/// nothing where word and seats are not the history's.
 ///
 /// An unmarked word counts the seats of living handles; a marked one counts at least those of handles
 /// that are dropping; no count is above the limit and one; at most one seat owes, and where one does,
 /// the word is unmarked with count 0 and no handle lives.
+///
+/// ```
+/// let history = [Step::Make, Step::Clone(0), Step::Begin(1)];
+/// let seats = [HandleState::Free, HandleState::Dropping];
+/// count::seats_are_counted(RC_MAX, &history, Word::from_bits(4), &seats);
+/// ```
 pub fn seats_are_counted(limit: u64, history: &[Step], word: Word, seats: &[HandleState])
     ensures counted { Keeps limit history.now word seats.now → IsFalse word.flag
         → word.count ≡ length (filter lives seats.now) }

@@ -1,7 +1,8 @@
 //! What the definitions on histories mean, each as a sentence over the fronts of a history.
 //!
 //! A history is the list of its steps in their natural order, and a front of it is a beginning of it.
-//! Each function here does nothing: its contract is the law that a definition and its sentence are equal.
+//! Each function here does nothing: its contract is the law that a definition and its sentence are equal,
+//! for each limit and history. None asks anything of its caller.
 
 ghost use Rattle.std.specs.Prelude.{◌≡◌, ◌≢◌, ◌↔◌, ◌<◌, ◌⊎◌, IsTrue, Some, Contains, []};
 ghost use Rattle.std.specs.List.Sorted.{IsStrictlyIncreasing};
@@ -17,12 +18,22 @@ use crate::steps::{HandleState, Reply, Step};
 /// Which steps are accepted: a step whose handle's state has 'ok' in the table of refusals, and `Make`
 /// always. `Look`, `Clone`, `Begin`, `Leak` and `IntoRaw` want a free handle, `Sub` a dropping one,
 /// `Back` an owing one and `FromRaw` a raw one.
+/// It does nothing when it runs.
+///
+/// ```
+/// sentences::accepted_is(2, &[Step::Make], Step::Look(0));
+/// ```
 pub fn accepted_is(limit: u64, history: &[Step], step: Step)
     ensures { IsTrue (accepted_after limit history.now step) ↔ AcceptedSentence limit history.now step }
 {}
 
 /// How many handles were born and how many blocks were made: as many as the history has accepted
 /// steps `Make` and `Clone`, and accepted steps `Make`.
+/// It does nothing when it runs.
+///
+/// ```
+/// sentences::births_are(2, &[Step::Make, Step::Clone(0)]);
+/// ```
 pub fn births_are(limit: u64, history: &[Step])
     ensures handles { births_after limit history.now ≡ accepted_count limit history.now (λ front s. is_birth s) }
     ensures blocks { makes_after limit history.now ≡ accepted_count limit history.now (λ front s. is_make s) }
@@ -31,6 +42,12 @@ pub fn births_are(limit: u64, history: &[Step])
 /// Where a handle is born, and on which block: handle h at the accepted `Make` or `Clone` with h births
 /// before it. A `Make`'s handle stands on a new block, numbered by the `Make`s before it; a `Clone`'s on
 /// the block of the handle that it names.
+/// It does nothing when it runs.
+///
+/// ```
+/// let (handle, block) = (1, 0);
+/// sentences::born_is(2, &[Step::Make, Step::Clone(0)], handle, block);
+/// ```
 pub fn born_is(limit: u64, history: &[Step], handle: u64, block: u64)
     ensures { ((handle < births_after limit history.now) × (block_after limit history.now handle ≡ block))
         ↔ BornSentence limit history.now handle block }
@@ -38,6 +55,12 @@ pub fn born_is(limit: u64, history: &[Step], handle: u64, block: u64)
 
 /// When a block is marked: exactly after a history that has an accepted `Leak` on it, or an accepted
 /// `Clone` on it after a front with the block unmarked and more than `limit` handles living on it.
+/// It does nothing when it runs.
+///
+/// ```
+/// let block = 0;
+/// sentences::marked_is(2, &[Step::Make, Step::Leak(0)], block);
+/// ```
 pub fn marked_is(limit: u64, history: &[Step], block: u64)
     ensures { IsTrue (marked_after limit history.now block) ↔ MarkedSentence limit history.now block }
 {}
@@ -45,6 +68,13 @@ pub fn marked_is(limit: u64, history: &[Step], block: u64)
 /// The state of a handle that was born: raw, if the last accepted one of its `IntoRaw` and `FromRaw` is
 /// `IntoRaw`; else free, if it has no accepted `Begin`; else dropping, if that `Begin` came where its
 /// block was unmarked and it has no accepted `Sub`; else owing, if it owes; else gone.
+/// It does nothing when it runs.
+///
+/// ```
+/// let handle = 0;
+/// let history = [Step::Make, Step::IntoRaw(0)];
+/// sentences::state_is(2, &history, handle, HandleState::Raw);
+/// ```
 pub fn state_is(limit: u64, history: &[Step], handle: u64, state: HandleState)
     ensures { (state_after limit history.now handle ≡ Some state)
         ↔ ((handle < births_after limit history.now) × StateSentence limit history.now handle state) }
@@ -52,12 +82,25 @@ pub fn state_is(limit: u64, history: &[Step], handle: u64, state: HandleState)
 
 /// Which handles owe their block: those with an accepted `Sub` after a front with the block unmarked and
 /// no other handle living on it, and with no accepted `Back`.
+/// It does nothing when it runs.
+///
+/// ```
+/// let handle = 0;
+/// let history = [Step::Make, Step::Begin(0), Step::Sub(0)];
+/// sentences::owes_is(2, &history, handle);
+/// ```
 pub fn owes_is(limit: u64, history: &[Step], handle: u64)
     ensures { (state_after limit history.now handle ≡ Some Owing) ↔ OwesSentence limit history.now handle }
 {}
 
 /// Which handles live on a block: those that stand on it and are free, raw or dropping. Each of them is
 /// listed once, in rising order, so that the list is as long as they are many.
+/// It does nothing when it runs.
+///
+/// ```
+/// let (block, handle) = (0, 1);
+/// sentences::living_is(2, &[Step::Make, Step::Clone(0)], block, handle);
+/// ```
 pub fn living_is(limit: u64, history: &[Step], block: u64, handle: u64)
     ensures members { Contains (living_after limit history.now block) handle ↔ LivingSentence limit history.now block handle }
     ensures once { IsStrictlyIncreasing (living_after limit history.now block) }
@@ -65,6 +108,13 @@ pub fn living_is(limit: u64, history: &[Step], block: u64, handle: u64)
 
 /// When a drop is under way on a block: when some handle on it is dropping or owing. The two lists have
 /// exactly these handles.
+/// It does nothing when it runs.
+///
+/// ```
+/// let (block, handle) = (0, 1);
+/// let history = [Step::Make, Step::Clone(0), Step::Begin(1)];
+/// sentences::under_way_is(2, &history, block, handle);
+/// ```
 pub fn under_way_is(limit: u64, history: &[Step], block: u64, handle: u64)
     ensures dropping { Contains (dropping_after limit history.now block) handle
         ↔ ((block_after limit history.now handle ≡ block) × (state_after limit history.now handle ≡ Some Dropping)) }
@@ -75,6 +125,13 @@ pub fn under_way_is(limit: u64, history: &[Step], block: u64, handle: u64)
 {}
 
 /// How often a block was given back: as often as the history has an accepted `Back` of a handle on it.
+/// It does nothing when it runs.
+///
+/// ```
+/// let block = 0;
+/// let history = [Step::Make, Step::Begin(0), Step::Sub(0), Step::Back(0)];
+/// sentences::given_is(2, &history, block);
+/// ```
 pub fn given_is(limit: u64, history: &[Step], block: u64)
     ensures { given_after limit history.now block ≡ given_count limit history.now block }
 {}
@@ -83,6 +140,11 @@ pub fn given_is(limit: u64, history: &[Step], block: u64)
 /// handle. An accepted one: `Make` and `Clone` the number of births before it; `Look` `Static` at a marked
 /// block, else how many handles live on it; `Begin` `Ended` on a marked block, else `Looked`; `Sub` `Owes`
 /// if its block is unmarked and no other handle lives on it, else `Left`; each other step its one reply.
+/// It does nothing when it runs.
+///
+/// ```
+/// sentences::answer_is(2, &[Step::Make], Step::Look(0), Reply::Count(1));
+/// ```
 pub fn answer_is(limit: u64, history: &[Step], step: Step, reply: Reply)
     ensures { (answer_after limit history.now step ≡ reply) ↔ AnswerSentence limit history.now step reply }
 {}

@@ -5,6 +5,12 @@ use crate::faults::StepFault;
 /// One act of one holder. The number is that of the handle that acts.
 ///
 /// Handles are numbered from 0 in order of birth over all blocks: `Make` and `Clone` give birth.
+///
+/// ```
+/// let steps = [Step::Make, Step::Begin(0), Step::Sub(0)];
+/// let replies = count::run(rt.alloc(), 2, &steps)?;
+/// assert_eq!(rt; replies.last(), Some(&Reply::Owes));
+/// ```
 #[derive(Clone, Copy, Debug, PartialEq, Eq)]
 pub enum Step {
     /// A new block with one free handle.
@@ -28,6 +34,13 @@ pub enum Step {
 }
 
 /// What an accepted step answers, or why a step is refused.
+///
+/// ```
+/// let mut world = World::new(rt.alloc(), 2)?;
+/// assert_eq!(rt; world.step(Step::Make)?, Reply::Made(0));
+/// assert_eq!(rt; world.step(Step::Leak(0))?, Reply::Marked);
+/// assert_eq!(rt; world.step(Step::Look(0))?, Reply::Static);
+/// ```
 #[derive(Clone, Copy, Debug, PartialEq, Eq)]
 pub enum Reply {
     /// To `Make`: the handle that was born.
@@ -59,6 +72,12 @@ pub enum Reply {
 }
 
 /// Where a handle that was born stands. It lives while it is free, raw or dropping.
+///
+/// ```
+/// let history = [Step::Make, Step::Clone(0), Step::IntoRaw(1)];
+/// let seats = [HandleState::Free, HandleState::Raw];
+/// count::seats_are_counted(2, &history, Word::from_bits(4), &seats);
+/// ```
 #[derive(Clone, Copy, Debug, PartialEq, Eq)]
 pub enum HandleState {
     /// A handle in use.
@@ -73,7 +92,13 @@ pub enum HandleState {
     Gone,
 }
 
-/// What a summary of a history keeps of a handle that was born.
+/// What a summary of a history keeps of a handle that was born. No call answers one: contracts speak of it.
+///
+/// ```
+/// let state = HandleState::Free;
+/// let first = HandleSummary { block: 0, state };
+/// assert_eq!(rt; first.block, 0);
+/// ```
 #[derive(Clone, Copy, Debug, PartialEq, Eq)]
 pub struct HandleSummary {
     /// The number of the block that the handle stands on.

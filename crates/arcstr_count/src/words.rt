@@ -6,12 +6,23 @@ ghost use Rattle.arcstr_count.specs.declared.words.TheConstants.{RC_MAX};
 
 use std::marker::Model;
 
-/// The greatest limit on the count of a block: `2^62 - 1`.
+/// The greatest limit on the count of a block, in handles: `2^62 - 1`.
+///
+/// ```
+/// assert_eq!(rt; RC_MAX, (1 << 62) - 1);
+/// assert!(rt; World::new(rt.alloc(), RC_MAX).is_ok());
+/// ```
 pub const RC_MAX: u64 = (1 << 62) - 1;
 
 /// The word of a block: a flag, which says that the block is marked static, and a count.
 ///
-/// It is one `u64`: bit 0 is the flag, the other 63 bits are the count.
+/// It is one `u64`: bit 0 is the flag, the other 63 bits are the count. No call on it takes memory.
+///
+/// ```
+/// let word = Word::one().cloned(RC_MAX);
+/// assert_eq!(rt; word.count(), 2);
+/// assert!(rt; !word.marked());
+/// ```
 #[derive(Clone, Copy, Debug, PartialEq, Eq)]
 pub struct Word {
     bits: u64,
@@ -29,20 +40,36 @@ impl Model for Word {
 
 impl Word {
     /// The word of a new block: unmarked, with count 1.
+    ///
+    /// ```
+    /// assert_eq!(rt; Word::one().count(), 1);
+    /// assert_eq!(rt; Word::one().bits(), 2);
+    /// ```
     pub fn one() -> Word
         ensures { result ≡ fresh_word }
     {
         Word { bits: 2 }
     }
 
-    /// The word that a number stands for.
+    /// The word that a number stands for: its lowest bit is the flag, and half of it the count.
+    ///
+    /// ```
+    /// let word = Word::from_bits(7);
+    /// assert!(rt; word.marked());
+    /// assert_eq!(rt; word.count(), 3);
+    /// ```
     pub fn from_bits(bits: u64) -> Word
         ensures { bits_of result ≡ bits }
     {
         Word { bits }
     }
 
-    /// The number that stands for the word: the flag, and twice the count.
+    /// The number that stands for the word: the flag, as 0 or 1, and twice the count.
+    ///
+    /// ```
+    /// assert_eq!(rt; Word::one().bits(), 2);
+    /// assert_eq!(rt; Word::one().with_mark().bits(), 3);
+    /// ```
     pub fn bits(self) -> u64
         ensures { result ≡ bits_of self }
     {
@@ -50,13 +77,23 @@ impl Word {
     }
 
     /// Whether the block is marked static.
+    ///
+    /// ```
+    /// assert!(rt; Word::from_bits(3).marked());
+    /// assert!(rt; !Word::from_bits(2).marked());
+    /// ```
     pub fn marked(self) -> bool
         ensures { result ≡ self.flag }
     {
         self.bits % 2 == 1
     }
 
-    /// The count. Of an unmarked block it is the number of living handles.
+    /// The count, in handles. Of an unmarked block it is the number of living handles.
+    ///
+    /// ```
+    /// assert_eq!(rt; Word::from_bits(6).count(), 3);
+    /// assert_eq!(rt; Word::from_bits(7).count(), 3);
+    /// ```
     pub fn count(self) -> u64
         ensures value { result ≡ self.count }
         ensures range { result < 2 ^ 63 }
@@ -65,6 +102,11 @@ impl Word {
     }
 
     /// What a look finds: nothing at a marked word, else the count.
+    ///
+    /// ```
+    /// assert_eq!(rt; Word::from_bits(6).looked(), Some(3));
+    /// assert_eq!(rt; Word::from_bits(7).looked(), None);
+    /// ```
     pub fn looked(self) -> Option<u64>
         ensures { result ≡ looked_of self }
     {
@@ -76,7 +118,12 @@ impl Word {
     }
 
     /// The word after a clone: a marked one as it was; where the count is above the limit, with the
-    /// mark; else with a count one higher.
+    /// mark; else with a count one higher. The caller's limit has to be at most `RC_MAX`.
+    ///
+    /// ```
+    /// assert_eq!(rt; Word::from_bits(2).cloned(1), Word::from_bits(4));
+    /// assert_eq!(rt; Word::from_bits(4).cloned(1), Word::from_bits(5));
+    /// ```
     pub fn cloned(self, limit: u64) -> Word
         requires { limit ≤ RC_MAX }
         ensures { result ≡ cloned_of limit self }
@@ -91,7 +138,13 @@ impl Word {
     }
 
     /// The word after a subtraction, whose count is one lower, and whether it was the last one: the
-    /// word was unmarked with count 1.
+    /// word was unmarked with count 1. The caller's word has to count a handle: its count is above 0.
+    ///
+    /// ```
+    /// let (word, last) = Word::one().dropped();
+    /// assert_eq!(rt; word.count(), 0);
+    /// assert!(rt; last);
+    /// ```
     pub fn dropped(self) -> (Word, bool)
         requires { 0 < self.count }
         ensures word { result.0 ≡ dropped_of self }
@@ -106,6 +159,11 @@ impl Word {
     }
 
     /// The word after a mark: the count stays.
+    ///
+    /// ```
+    /// assert_eq!(rt; Word::from_bits(6).with_mark(), Word::from_bits(7));
+    /// assert_eq!(rt; Word::from_bits(7).with_mark(), Word::from_bits(7));
+    /// ```
     pub fn with_mark(self) -> Word
         ensures { result ≡ marked_of self }
     {

@@ -20,7 +20,15 @@ use std::marker::Model;
 /// Counted blocks and their handles, which answer one step at a time.
 ///
 /// It keeps a table of states by the number of the handle, a table of words by the number of the
-/// block, and the limit on the count of a block: a step costs a fixed time, but for growth.
+/// block, and the limit on the count of a block: a step costs a fixed time, but for growth. The tables
+/// take memory of the allocator, and give it back when the world is dropped.
+///
+/// ```
+/// let mut world = World::new(rt.alloc(), 2)?;
+/// assert_eq!(rt; world.step(Step::Make)?, Reply::Made(0));
+/// assert_eq!(rt; world.step(Step::Clone(0))?, Reply::Handle(1));
+/// assert_eq!(rt; world.step(Step::Look(0))?, Reply::Count(2));
+/// ```
 #[derive(Drop)]
 pub struct World<A: Allocator> {
     limit: u64,
@@ -47,7 +55,14 @@ impl<A: Allocator> Model for World<A> {
 }
 
 impl<A: Allocator + Copy> World<A> {
-    /// A world of the empty history. It asks for no memory: its one refusal is a limit above `RC_MAX`.
+    /// A world of the empty history, whose clones count up to the limit, in handles. It asks for no memory:
+    /// its one refusal is `LimitTooLarge`, a limit above `RC_MAX`.
+    ///
+    /// ```
+    /// assert!(rt; World::new(rt.alloc(), RC_MAX).is_ok());
+    /// let refused = World::new(rt.alloc(), RC_MAX + 1);
+    /// assert!(rt; matches!(refused, Err(RunFault::LimitTooLarge)));
+    /// ```
     pub fn new(alloc: A, limit: u64) -> Result<World<A>, RunFault>
         ensures too_large { (result ≡ Err RunFault.LimitTooLarge) ↔ (RC_MAX < limit) }
         ensures made { limit ≤ RC_MAX → IsOk result }
@@ -63,8 +78,17 @@ impl<A: Allocator + Copy> World<A> {
         })
     }
 
-    /// Answers a step, and takes it where it is accepted. Only an accepted `Make` or `Clone` asks for
-    /// memory; where there is none, the world is as it was.
+    /// Answers a step, and takes it where it is accepted. A refused step is answered, and changes nothing.
+    ///
+    /// Only an accepted `Make` or `Clone` asks for memory; where there is none the one fault, `Memory`, comes,
+    /// and the world is as it was.
+    ///
+    /// ```
+    /// let mut world = World::new(rt.alloc(), 2)?;
+    /// assert_eq!(rt; world.step(Step::Make)?, Reply::Made(0));
+    /// let refused = Reply::Refused(StepFault::NotInDrop);
+    /// assert_eq!(rt; world.step(Step::Sub(0))?, refused);
+    /// ```
     pub fn step(&mut self, step: Step) -> Result<Reply, RunFault>
         ensures answers { IfOk result (Answers self.old step) }
         ensures stands { OnOk result (Follows self.old step self.new) }
@@ -88,7 +112,16 @@ impl<A: Allocator + Copy> World<A> {
         }
     }
 
-    /// How often the block was given back: 0 or 1 times, and 0 for a block that was never made.
+    /// How often the block of this number was given back: 0 or 1 times, and 0 for a block that was never
+    /// made. It takes no memory.
+    ///
+    /// ```
+    /// let mut world = World::new(rt.alloc(), 2)?;
+    /// for step in [Step::Make, Step::Begin(0), Step::Sub(0), Step::Back(0)] {
+    ///     let _ = world.step(step)?;
+    /// }
+    /// assert_eq!(rt; world.given(0), 1);
+    /// ```
     pub fn given(&self, block: u64) -> u64
         ensures value { (history : List Step) → StandsFor self.now history
             → result ≡ given_after self.now.summary.limit history block }
@@ -99,7 +132,13 @@ impl<A: Allocator + Copy> World<A> {
 
     /// The law that each world stands for at least one history, and the laws of every interleaving for
     /// each history that it stands for: what holds after every front of it, of every block made in it.
-    /// It does nothing: its clauses are what it is for.
+    /// It does nothing when it runs: its clauses are what it is for.
+    ///
+    /// ```
+    /// let mut world = World::new(rt.alloc(), 2)?;
+    /// assert_eq!(rt; world.step(Step::Make)?, Reply::Made(0));
+    /// world.stands_for_a_history();
+    /// ```
     pub fn stands_for_a_history(&self)
         ensures some { HasHistory self.now }
 

@@ -1,5 +1,5 @@
 pub mod Boundaries
-pub mod Examples
 pub mod Faults
 pub mod Trims
 pub mod WhiteSpace
+pub mod WorkedExamples

@@ -2,5 +2,7 @@
 //! text, and texts that remember their place.
 #![tactic(auto)]
 
+#[cfg(test)]
+mod examples;
 pub mod range;
 pub mod view;

@@ -15,7 +15,15 @@ pub use fault::RangeFault;
 pub use places::{checked_ends, inner_ends, is_boundary, slice};
 use std::ops::{Range, RangeFrom, RangeFull, RangeInclusive, RangeTo, RangeToInclusive};
 
-/// A range of places in a text, in one of the forms of Rust's ranges over `usize`.
+/// A range of places in a text, in bytes, in one of the forms of Rust's ranges over `usize`.
+///
+/// Each of those converts to it. No range is refused before it is laid on a text or a length, and none
+/// takes memory.
+///
+/// ```
+/// assert_eq!(rt; StrRange::from(1..3), StrRange::Between(1, 3));
+/// assert_eq!(rt; StrRange::from(..=2), StrRange::ToInclusive(2));
+/// ```
 #[derive(Clone, Copy, Debug, PartialEq, Eq, Hash)]
 pub enum StrRange {
     /// `start..end`
@@ -33,11 +41,17 @@ pub enum StrRange {
 }
 
 impl StrRange {
-    /// The start and the end in something of `len` bytes.
+    /// The start and the end, in bytes, in something of `len` bytes. It takes no memory.
     ///
     /// Refuses the first that fails: the start is at most the end (`OutOfOrder`), and the end at most
     /// `len` (`PastEnd`). An inclusive end of `usize::MAX` counts as one place more, and so is past the
     /// end.
+    ///
+    /// ```
+    /// assert_eq!(rt; StrRange::From(1).ends(3), Ok((1, 3)));
+    /// assert_eq!(rt; StrRange::From(4).ends(3), Err(RangeFault::OutOfOrder));
+    /// assert_eq!(rt; StrRange::Inclusive(1, 3).ends(3), Err(RangeFault::PastEnd));
+    /// ```
     #[tactic(auto, using(crate::proofs::Faults::refused_with))]
     pub fn ends(self, len: usize) -> Result<(usize, usize), RangeFault>
         ensures value { IfOk result (λ ends. ends ≡ ends_of self len) }

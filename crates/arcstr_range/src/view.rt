@@ -12,7 +12,15 @@ use std::ops::Range;
 /// A text and the place, in bytes, where it says that it stands in a longer text, its parent. The
 /// parent is not kept: `is_found_in` tells whether a text has the view there.
 ///
-/// The place and the text's length have a sum of at most `usize::MAX`.
+/// The place and the text's length have a sum of at most `usize::MAX`. A view borrows its text, and no
+/// call on it takes memory.
+///
+/// ```
+/// let line = "key = value";
+/// let name = StrView::whole(line).cut(0..4).ok_or("no part")?.trim_end();
+/// assert_eq!(rt; name.text(), "key");
+/// assert!(rt; name.is_found_in(line));
+/// ```
 #[derive(Debug, Drop)]
 pub struct StrView<'a> {
     text: &'a str,
@@ -31,7 +39,13 @@ impl<'a> Model for StrView<'a> {
 }
 
 impl<'a> StrView<'a> {
-    /// The view of a whole text, at place 0.
+    /// The view of a whole text, at place 0. It takes no memory.
+    ///
+    /// ```
+    /// let view = StrView::whole("abc");
+    /// assert_eq!(rt; view.text(), "abc");
+    /// assert_eq!(rt; view.place(), 0);
+    /// ```
     pub fn whole(text: &'a str) -> StrView<'a>
         ensures { result ≡ view_at text.now 0 }
     {
@@ -39,7 +53,13 @@ impl<'a> StrView<'a> {
     }
 
     /// The view of a text that stands at a place, in bytes. `None` exactly where the place and the text's
-    /// length have a sum above `usize::MAX`.
+    /// length have a sum above `usize::MAX`. It takes no memory.
+    ///
+    /// ```
+    /// let view = StrView::at("abc", 4).ok_or("no view")?;
+    /// assert_eq!(rt; view.range(), 4..7);
+    /// assert!(rt; StrView::at("abc", usize::MAX).is_none());
+    /// ```
     pub fn at(text: &'a str, place: usize) -> Option<StrView<'a>>
         ensures some { IsSome result ↔ (place + length text.now ≤ usize.MAX) }
         ensures value { IfSome result (λ view. view ≡ view_at text.now place) }
@@ -48,14 +68,23 @@ impl<'a> StrView<'a> {
         Some(StrView { text, place })
     }
 
-    /// The view's text.
+    /// The view's text. It takes no memory.
+    ///
+    /// ```
+    /// assert_eq!(rt; StrView::whole("abc").text(), "abc");
+    /// ```
     pub fn text(&self) -> &'a str
         ensures { result.now ≡ self.now.text }
     {
         self.text
     }
 
-    /// The place, in bytes, where the view's text stands.
+    /// The place, in bytes, where the view's text stands. It takes no memory.
+    ///
+    /// ```
+    /// let word = StrView::whole("  abc").trim_start();
+    /// assert_eq!(rt; word.place(), 2);
+    /// ```
     pub fn place(&self) -> usize
         ensures value { result ≡ self.now.place }
         ensures fits { end_of self.now ≤ usize.MAX }
@@ -63,7 +92,13 @@ impl<'a> StrView<'a> {
         self.place
     }
 
-    /// The range of places that the view takes: from its place on, as long as its text.
+    /// The range of places, in bytes, that the view takes: from its place on, as long as its text. It takes
+    /// no memory.
+    ///
+    /// ```
+    /// let word = StrView::whole("  abc").trim_start();
+    /// assert_eq!(rt; word.range(), 2..5);
+    /// ```
     pub fn range(&self) -> Range<usize>
         ensures start { result.start ≡ self.now.place }
         ensures end { result.end ≡ end_of self.now }
@@ -71,8 +106,15 @@ impl<'a> StrView<'a> {
         self.place..self.place + self.text.len()
     }
 
-    /// The part of the view between two places of its own text. `None` exactly where these are out of
-    /// order, past the text or inside a character.
+    /// The part of the view between two places of its own text, in bytes. `None` exactly where these are
+    /// out of order, past the text or inside a character. It takes no memory.
+    ///
+    /// ```
+    /// let part = StrView::whole("aéb").cut(1..3).ok_or("no part")?;
+    /// assert_eq!(rt; part.text(), "é");
+    /// assert_eq!(rt; part.place(), 1);
+    /// assert!(rt; StrView::whole("aéb").cut(0..2).is_none());
+    /// ```
     pub fn cut(&self, range: Range<usize>) -> Option<StrView<'a>>
         ensures some { IsSome result ↔ IsSliceable self.now.text range.start range.end }
         ensures value { IfSome result (λ part. part ≡ part_of self.now range.start range.end) }
@@ -85,7 +127,14 @@ impl<'a> StrView<'a> {
         })
     }
 
-    /// The view without the white space in front. Its place moves by the bytes of that.
+    /// The view without the white space in front, as Rust's `str::trim_start`. Its place moves by the bytes
+    /// of that. It takes no memory.
+    ///
+    /// ```
+    /// let word = StrView::whole("  a ").trim_start();
+    /// assert_eq!(rt; word.text(), "a ");
+    /// assert_eq!(rt; word.place(), 2);
+    /// ```
     #[tactic(auto, using(crate::proofs::Trims::trims_of_starts))]
     pub fn trim_start(&self) -> StrView<'a>
         ensures longest { TrimsStart self.now result }
@@ -99,7 +148,14 @@ impl<'a> StrView<'a> {
         }
     }
 
-    /// The view without the white space behind. Its place stays.
+    /// The view without the white space behind, as Rust's `str::trim_end`. Its place stays. It takes no
+    /// memory.
+    ///
+    /// ```
+    /// let word = StrView::whole("  a ").trim_end();
+    /// assert_eq!(rt; word.text(), "  a");
+    /// assert_eq!(rt; word.place(), 0);
+    /// ```
     #[tactic(auto, using(crate::proofs::Trims::trims_of_ends))]
     pub fn trim_end(&self) -> StrView<'a>
         ensures longest { TrimsEnd self.now result }
@@ -111,7 +167,14 @@ impl<'a> StrView<'a> {
         }
     }
 
-    /// The view without the white space in front and behind.
+    /// The view without the white space in front and behind, as Rust's `str::trim`. Its place moves by the
+    /// bytes in front. It takes no memory.
+    ///
+    /// ```
+    /// let word = StrView::whole("  a ").trim();
+    /// assert_eq!(rt; word.text(), "a");
+    /// assert_eq!(rt; word.place(), 2);
+    /// ```
     pub fn trim(&self) -> StrView<'a>
         ensures longest { Trims self.now result }
         ensures text { result.text ≡ trim self.now.text }
@@ -120,7 +183,13 @@ impl<'a> StrView<'a> {
     }
 
     /// Whether the parent has the view's text at the view's place, in a lawful range. An empty view is
-    /// found in every text.
+    /// found in every text. It takes no memory.
+    ///
+    /// ```
+    /// let word = StrView::whole("  abc").trim_start();
+    /// assert!(rt; word.is_found_in("  abc"));
+    /// assert!(rt; !word.is_found_in("abc"));
+    /// ```
     pub fn is_found_in(&self, parent: &str) -> bool
         ensures { IsTrue result ↔ IsFoundAt parent.now self.now.text self.now.place }
     {

@@ -17,12 +17,3 @@ fn subtracts(rt: HostRuntime) {
     let (one, last) = Word::from_bits(4).dropped();
     assert_eq!(rt; (one.bits(), last), (2, false));
 }
-
-#[test]
-fn marks_and_looks(rt: HostRuntime) {
-    assert_eq!(rt; Word::from_bits(2).with_mark().bits(), 3);
-    assert_eq!(rt; Word::from_bits(3).with_mark().bits(), 3);
-    assert_eq!(rt; Word::from_bits(6).looked(), Some(3));
-    assert_eq!(rt; Word::from_bits(7).looked(), None);
-    assert_eq!(rt; Word::one().bits(), 2);
-}

@@ -78,10 +78,3 @@ fn of_two_blocks_one_is_given_back(rt: HostRuntime) -> Result<(), Fail> {
     assert_eq!(rt; world.given(1), 1);
     Ok(())
 }
-
-#[test]
-fn the_limit_is_at_most_the_greatest(rt: HostRuntime) {
-    assert!(rt; World::new(rt.alloc(), RC_MAX).is_ok());
-    let refused = World::new(rt.alloc(), 4_611_686_018_427_387_904);
-    assert!(rt; matches!(refused, Err(RunFault::LimitTooLarge)));
-}

@@ -4,7 +4,15 @@ ghost use Rattle.std.specs.Prelude.{◌≡◌, Some};
 use std::error::Error;
 use std::fmt;
 
-/// Why a range is refused. The tests come in the order of the variants.
+/// Why a range is refused. The tests come in the order of the variants, and the first that fails is
+/// answered. It is shown as a short text, and has no memory of its own.
+///
+/// ```
+/// let ends = range::checked_ends("aé", StrRange::To(2));
+/// assert_eq!(rt; ends, Err(RangeFault::OffBoundary));
+/// let shown = RangeFault::OffBoundary.to_string(rt.alloc())?;
+/// assert_eq!(rt; shown.as_str(), "range cuts a character");
+/// ```
 #[derive(Clone, Copy, Debug, PartialEq, Eq, Hash)]
 pub enum RangeFault {
     /// The start is after the end.
@@ -18,7 +26,13 @@ pub enum RangeFault {
 impl RangeFault {
     ghost use Rattle.arcstr_range.specs.RangeFault.{number_of};
 
-    /// The number of the fault, from 1 on in the order of the tests. No fault has the number 3.
+    /// The number of the fault, from 1 on in the order of the tests. No fault has the number 3. It takes no
+    /// memory.
+    ///
+    /// ```
+    /// assert_eq!(rt; RangeFault::OutOfOrder.number(), 1);
+    /// assert_eq!(rt; RangeFault::OffBoundary.number(), 4);
+    /// ```
     pub fn number(&self) -> u8
         ensures { result ≡ number_of self.now }
     {

@@ -9,8 +9,13 @@ ghost use Rattle.arcstr_range.specs.Substring.{substring_at, text_of, inner_by, 
 use crate::range::{RangeFault, StrRange};
 use std::ops::Range;
 
-/// Whether the text may be cut at the place: exactly if the place is the byte length of a front of
-/// the text's characters.
+/// Whether the text may be cut at the place, in bytes: exactly if the place is the byte length of a front
+/// of the text's characters. It takes no memory.
+///
+/// ```
+/// assert!(rt; range::is_boundary("aé", 1));
+/// assert!(rt; !range::is_boundary("aé", 2));
+/// ```
 #[tactic(auto, using(crate::proofs::Boundaries::fronts_at_boundaries))]
 pub fn is_boundary(text: &str, place: usize) -> bool
     ensures boundary { IsTrue result ↔ IsCharBoundary text.now place }
@@ -19,10 +24,16 @@ pub fn is_boundary(text: &str, place: usize) -> bool
     text.is_char_boundary(place)
 }
 
-/// The start and the end of the range in the text.
+/// The start and the end of the range in the text, in bytes. It takes no memory.
 ///
 /// Refuses the first that fails: the start is at most the end (`OutOfOrder`), the end at most the
 /// text's length (`PastEnd`), and both are boundaries (`OffBoundary`).
+///
+/// ```
+/// assert_eq!(rt; range::checked_ends("aé", StrRange::From(1)), Ok((1, 3)));
+/// let cut = range::checked_ends("aé", StrRange::To(2));
+/// assert_eq!(rt; cut, Err(RangeFault::OffBoundary));
+/// ```
 pub fn checked_ends(text: &str, range: StrRange) -> Result<(usize, usize), RangeFault>
     ensures value { IfOk result (λ ends. ends ≡ ends_in text.now range) }
     ensures lawful { IsOk result ↔ IsLawfulRange text.now range }
@@ -36,10 +47,19 @@ pub fn checked_ends(text: &str, range: StrRange) -> Result<(usize, usize), Range
     Ok((start, end))
 }
 
-/// The start and the end, in the parent, of a range in a substring of it, the parent's `outer`.
+/// The start and the end, in the parent and in bytes, of a range in a substring of it, the parent's
+/// `outer`. The caller's `outer` has to be lawful in the parent. It takes no memory.
 ///
 /// The range is measured in the substring's own text, and refused as `checked_ends` of that text
-/// refuses it. The ends that are found are lawful in the parent, and cut the same text from it.
+/// refuses it: `OutOfOrder`, then `PastEnd`, then `OffBoundary`. The ends that are found are lawful in the
+/// parent, and cut the same text from it.
+///
+/// ```
+/// let ends = range::inner_ends("foobarbaz", 3..6, StrRange::From(1));
+/// assert_eq!(rt; ends, Ok((4, 6)));
+/// let past = range::inner_ends("foobarbaz", 3..6, StrRange::To(5));
+/// assert_eq!(rt; past, Err(RangeFault::PastEnd));
+/// ```
 #[tactic(auto, using(crate::proofs::Boundaries::cuts_of_cuts))]
 pub fn inner_ends(
     parent: &str,
@@ -67,7 +87,12 @@ pub fn inner_ends(
 }
 
 /// The slice of the text between the ends of the range, as Rust's `str::get`: `None` exactly where
-/// the ends are out of order, past the text or inside a character.
+/// the ends are out of order, past the text or inside a character. The slice is borrowed from the text.
+///
+/// ```
+/// assert_eq!(rt; range::slice("aé", StrRange::From(1)), Some("é"));
+/// assert_eq!(rt; range::slice("aé", StrRange::To(2)), None);
+/// ```
 #[tactic(auto, using(crate::proofs::Boundaries::slices_by_characters))]
 pub fn slice(text: &str, range: StrRange) -> Option<&str>
     ensures some { IsSome result ↔ IsSliceRange text.now range }

@@ -14,24 +14,11 @@ fn view(text: &str, place: usize) -> Result<StrView<'_>, Fail> {
 }
 
 #[test]
-fn whole_text_is_at_place_zero(rt: HostRuntime) {
-    check(&rt, StrView::whole("abc"), "abc", 0);
-}
-
-#[test]
 fn views_end_within_usize(rt: HostRuntime) -> Result<(), Fail> {
     assert!(rt; StrView::at("abc", MAX).is_none());
     assert!(rt; StrView::at("abc", MAX - 2).is_none());
     check(&rt, view("abc", MAX - 3)?, "abc", MAX - 3);
     check(&rt, view("", MAX)?, "", MAX);
-    Ok(())
-}
-
-#[test]
-fn ranges_of_views(rt: HostRuntime) -> Result<(), Fail> {
-    let range = view("abc", 4)?.range();
-    assert_eq!(rt; range.start, 4);
-    assert_eq!(rt; range.end, 7);
     Ok(())
 }
 
