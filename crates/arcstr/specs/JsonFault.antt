@@ -4,13 +4,13 @@ use Rattle.arcstr.specs.declared.json.JsonFault.{JsonFault}
 use Rattle.arcstr.specs.declared.json.JsonFault.TheVariants.{NotText, Length, Memory}
 
 -- the number of a fault
-abbrev pub number_of : JsonFault → ℕ
-number_of NotText = 1
-number_of Length = 2
-number_of Memory = 3
+abbrev pub json_fault_number : JsonFault → ℕ
+json_fault_number NotText = 1
+json_fault_number Length = 2
+json_fault_number Memory = 3
 
 -- what a fault is shown as
-abbrev pub text_of : JsonFault → List ℕ
-text_of NotText = codes "value is not a text"
-text_of Length = codes "text is too long"
-text_of Memory = codes "out of memory"
+abbrev pub json_fault_text : JsonFault → List ℕ
+json_fault_text NotText = codes "value is not a text"
+json_fault_text Length = codes "text is too long"
+json_fault_text Memory = codes "out of memory"

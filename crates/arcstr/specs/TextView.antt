@@ -17,8 +17,8 @@ abbrev pub literal_of : List ℕ → TextView
 literal_of bytes = record { text = bytes; kind = literal }
 
 -- the text of these bytes in a counted block
-abbrev pub block_of : List ℕ → TextView
-block_of bytes = record { text = bytes; kind = block }
+abbrev pub counted_of : List ℕ → TextView
+counted_of bytes = record { text = bytes; kind = block }
 
 -- the text of these bytes in a block that is marked for good
 abbrev pub fixed_of : List ℕ → TextView

@@ -1,6 +1,6 @@
 //! `ArcStr`: a text that threads share.
 ghost use Rattle.std.specs.Prelude.{◌≡◌, ◌+◌, ◌≤◌, ◌↔◌, [], length, IsTrue, IsSome, IsNone, IfSome};
-ghost use Rattle.arcstr.specs.TextView.{IsStatic, literal_of, fixed_of, block_of, leaked};
+ghost use Rattle.arcstr.specs.TextView.{IsStatic, literal_of, fixed_of, counted_of, leaked};
 
 use crate::static_str::StaticStr;
 use arcstr_block::{Fixed, Shared};
@@ -192,7 +192,7 @@ impl ArcStr {
     }
 
     fn from_shared(shared: Shared<RC_MAX, Global>) -> ArcStr
-        ensures { result ≡ block_of shared.text }
+        ensures { result ≡ counted_of shared.text }
     {
         ArcStr {
             form: Form::Counted(shared),

@@ -20,11 +20,11 @@ pub enum JsonFault {
 }
 
 impl JsonFault {
-    ghost use Rattle.arcstr.specs.JsonFault.{number_of};
+    ghost use Rattle.arcstr.specs.JsonFault.{json_fault_number};
 
     /// The number of the fault, from 1 on in the order of the tests.
     pub fn number(&self) -> u8
-        ensures { result ≡ number_of self.now }
+        ensures { result ≡ json_fault_number self.now }
     {
         match self {
             JsonFault::NotText => 1,
@@ -35,9 +35,9 @@ impl JsonFault {
 }
 
 impl fmt::Display for JsonFault {
-    ghost use Rattle.arcstr.specs.JsonFault.{text_of};
+    ghost use Rattle.arcstr.specs.JsonFault.{json_fault_text};
 
-    ghost output = { λ fault. Some (text_of fault) };
+    ghost output = { λ fault. Some (json_fault_text fault) };
 
     fn fmt<W: fmt::Write>(&self, f: &mut fmt::Formatter<W>) -> fmt::Result {
         f.write_str(match self {

@@ -8,9 +8,10 @@ use crate::substr::Substr;
 use std::sync::Wait;
 
 impl ArcStr {
-    /// The slices of this text before and after the first place of the character, as Rust's `str::split_once`.
-    /// `None` exactly where the text doesn't have the character. Takes no memory; the handle is cloned once
-    /// for each slice, which also where it is empty keeps the text.
+    /// The slices of this text before and after the first place of the character, as Rust's `str::split_once`: the
+    /// first, the character and the second join to the text. `None` exactly where it doesn't have the character.
+    /// Takes no memory; where it has, the handle is cloned once for each slice, which also where it is empty keeps
+    /// the text, and so it may wait.
     pub fn split_once(&self, rt: &impl Wait, character: char) -> Option<(Substr, Substr)>
         ensures { AnswersSplit self.now.text (slice_of self.now) character result }
     {

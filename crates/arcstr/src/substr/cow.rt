@@ -14,6 +14,11 @@ mod tests;
 
 impl Substr {
     /// The slice's own text, borrowed. Takes no memory, and no step is taken.
+    ///
+    /// ```
+    /// let slice = literal!("foobar").substr(&rt, 3..)?;
+    /// assert_eq!(rt; slice.to_cow().as_str(), "bar");
+    /// ```
     pub fn to_cow(&self) -> CowStr<'_>
         ensures text { cow_str_bytes result ≡ text_of self.now }
         ensures borrowed { IsBorrowedStr result }
@@ -22,15 +27,22 @@ impl Substr {
     }
 
     /// The slice's own text without its parent: of a literal's slice it is borrowed, of any other it is
-    /// copied, with one request for memory where it is not empty. For want of memory the slice itself comes
-    /// back.
+    /// copied, with one request for memory where it is not empty, and the slice is dropped. For want of memory the
+    /// slice itself comes back. Of a parent in a counted block one load of its word is taken, and the steps of the
+    /// drop.
+    ///
+    /// ```
+    /// let slice = literal!("foobar").substr(&rt, 3..)?;
+    /// let cow = slice.into_cow(rt.alloc())?;
+    /// assert!(rt; matches!(cow, CowStr::Borrowed("bar")));
+    /// ```
     pub fn into_cow(self, alloc: Global) -> Result<CowStr<'static>, Substr>
         ensures text { IfOk result (λ cow. cow_str_bytes cow ≡ text_of self) }
         ensures borrowed { IfOk result (λ cow. IsBorrowedStr cow ↔ (self.parent.kind ≡ literal)) }
         ensures of_literal { self.parent.kind ≡ literal → IsOk result }
         ensures back { IfErr result (λ slice. slice ≡ self) }
     {
-        if let Some(text) = self.literal_text() {
+        if let Some(text) = self.look_for_literal() {
             return Ok(CowStr::Borrowed(text));
         }
         match self.to_string(alloc) {
@@ -41,7 +53,7 @@ impl Substr {
 
     /// The slice's own text as the program has it, exactly where its parent is a literal. Of a parent in a
     /// counted block one load of its word is taken.
-    fn literal_text(&self) -> Option<&'static str>
+    fn look_for_literal(&self) -> Option<&'static str>
         ensures exactly { IsSome result ↔ (self.now.parent.kind ≡ literal) }
         ensures same { IfSome result (λ text. text.now ≡ text_of self.now) }
     {

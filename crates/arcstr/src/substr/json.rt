@@ -10,15 +10,31 @@ use serde_json::Value;
 use std::alloc::{AllocError, Global};
 
 impl Substr {
-    /// A copy of the slice's own text, as a JSON string. Refused for want of memory alone. No step is taken.
+    /// A copy of the slice's own text, as a JSON string, with one request for memory where it is not empty. Refused
+    /// for want of memory alone (`AllocError`). No step is taken.
+    ///
+    /// ```
+    /// let slice = literal!("foobar").substr(&rt, 3..)?;
+    /// let value = slice.to_json(rt.alloc())?;
+    /// assert_eq!(rt; value.as_str(), Some("bar"));
+    /// ```
     pub fn to_json(&self, alloc: Global) -> Result<Value, AllocError>
         ensures { IfOk result (λ value. text_in value ≡ Some (text_of self.now)) }
     {
         Value::try_from_str(alloc, self.as_str())
     }
 
-    /// The text of a JSON string, made as `from_str` makes it. Refused, in this order: a value that is not a
-    /// string (`NotText`), a text that is too long for a block (`Length`), and want of memory (`Memory`).
+    /// A copy of the text of a JSON string in a block, as a slice of the whole of it, with one request for memory; of
+    /// the empty literal where the text is empty, which takes none. Refused, in this order: a value that is not a
+    /// string (`NotText`), a text of `2^63 - 25` bytes or more (`Length`), and want of memory (`Memory`).
+    ///
+    /// ```
+    /// let value = Value::try_from_str(rt.alloc(), "bar")?;
+    /// let slice = Substr::from_json(rt.alloc(), &value)?;
+    /// assert_eq!(rt; slice.as_str(), "bar");
+    /// let refused = Substr::from_json(rt.alloc(), &Value::Null);
+    /// assert_eq!(rt; refused.err(), Some(JsonFault::NotText));
+    /// ```
     pub fn from_json(alloc: Global, value: &Value) -> Result<Substr, JsonFault>
         ensures { ReadsSubstr value.now result }
     {

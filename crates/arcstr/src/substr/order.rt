@@ -18,7 +18,13 @@ use std::hash::{Hash, Hasher};
 mod tests;
 
 impl Substr {
-    /// Whether the slice's own text is this one, byte by byte. No step is taken.
+    /// Whether the slice's own text is this one, byte by byte. Takes no memory, and no step is taken.
+    ///
+    /// ```
+    /// let slice = literal!("foobar").substr(&rt, 3..)?;
+    /// assert!(rt; slice.eq_str("bar"));
+    /// assert!(rt; !slice.eq_str("foobar"));
+    /// ```
     pub fn eq_str(&self, other: &str) -> bool
         ensures { IsTrue result ↔ (text_of self.now ≡ other.now) }
     {
@@ -31,6 +37,8 @@ impl PartialEq for Substr {
 
     ghost laws = { on_per text_of (partial_equiv_from_equiv nat_list_eq_equiv) };
 
+    /// Whether the two slices have the same text, byte by byte, whatever their parents and places. Takes no memory, and
+    /// no step is taken.
     fn eq(&self, other: &Substr) -> bool
         ensures value { result ≡ bytes_eq (text_of self.now) (text_of other.now) }
         ensures same { IsTrue result ↔ (text_of self.now ≡ text_of other.now) }
@@ -48,6 +56,7 @@ impl PartialOrd for Substr {
 
     ghost laws = { on_po text_of texts_po };
 
+    /// What `cmp` answers; never `None`. Takes no memory, and no step is taken.
     fn partial_cmp(&self, other: &Substr) -> Option<Ordering> {
         Some(self.cmp(other))
     }
@@ -62,6 +71,8 @@ impl Ord for Substr {
 
     ghost matches_eq = { λ one other. texts_ties (text_of one) (text_of other) };
 
+    /// How the slices' own texts compare, byte by byte, a proper front first, as Rust's `str` compares. Takes no
+    /// memory, and no step is taken.
     fn cmp(&self, other: &Substr) -> Ordering
         ensures value { result ≡ slice_cmp nat_cmp (text_of self.now) (text_of other.now) }
         ensures order { IsTextOrder (text_of self.now) (text_of other.now) result }
@@ -75,6 +86,8 @@ impl Hash for Substr {
 
     ghost respects_eq = { Prim.search (hashing, rules) };
 
+    /// Feeds the hasher the slice's own text, as a `str` feeds it, and so equal slices alike. Takes no memory, and no
+    /// step is taken.
     fn hash<H: Hasher>(&self, state: &mut H) {
         self.as_str().hash(state);
     }

@@ -12,7 +12,13 @@ mod tests;
 
 impl Substr {
     /// A copy of the slice's own text, with one request for memory where it is not empty. Refused for want of memory
-    /// alone. No step is taken.
+    /// alone (`AllocError`). No step is taken.
+    ///
+    /// ```
+    /// let slice = literal!("foobar").substr(&rt, 3..)?;
+    /// let copy = slice.to_string(rt.alloc())?;
+    /// assert_eq!(rt; copy.as_str(), "bar");
+    /// ```
     pub fn to_string(&self, alloc: Global) -> Result<String, AllocError>
         ensures { IfOk result (λ copy. string_bytes copy ≡ text_of self.now) }
     {
@@ -25,6 +31,8 @@ impl fmt::Display for Substr {
 
     ghost styled_output = { λ slice spec. Some (styled_text spec (text_of slice)) };
 
+    /// Writes the slice's own text, with width, fill, alignment and precision as Rust prints a `str`. Fails exactly
+    /// where the writer does. Takes no memory of its own, and no step is taken.
     fn fmt<W: fmt::Write>(&self, f: &mut fmt::Formatter<W>) -> fmt::Result {
         f.pad(self.as_str())
     }
@@ -33,6 +41,8 @@ impl fmt::Display for Substr {
 impl fmt::Debug for Substr {
     ghost debug_output = { λ slice. debug_str (text_of slice) };
 
+    /// Writes the slice's own text between quotes, escaped as Rust prints a `str`. Fails exactly where the writer does.
+    /// Takes no memory of its own, and no step is taken.
     fn fmt<W: fmt::Write>(&self, f: &mut fmt::Formatter<W>) -> fmt::Result {
         let text = self.as_str();
         fmt::Debug::fmt(&text, f)

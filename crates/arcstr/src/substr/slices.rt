@@ -15,8 +15,14 @@ use std::ops::Range;
 use std::sync::Wait;
 
 impl Substr {
-    /// The part of the slice's own text in the range, as Rust's `str::get`: `None` where the ends are out
-    /// of order, past that text or inside a character. Takes no memory, and no step is taken.
+    /// The part of the slice's own text in the range, in bytes, as Rust's `str::get`: `None` exactly where the
+    /// ends are out of order, past that text or inside a character. Takes no memory, and no step is taken.
+    ///
+    /// ```
+    /// let slice = literal!("foobar").substr(&rt, 3..)?;
+    /// assert_eq!(rt; slice.get(1..), Some("ar"));
+    /// assert_eq!(rt; slice.get(0..4), None);
+    /// ```
     pub fn get<R: Into<StrRange>>(&self, range: R) -> Option<&str>
         ensures { (given : StrRange) × R.converts range given
             × AnswersGet (text_of self.now) given (option_copied result) }
@@ -24,11 +30,19 @@ impl Substr {
         slice(self.as_str(), range.into())
     }
 
-    /// The slice of the same parent in the range, which is measured in the slice's own text, also where it
-    /// is empty. Takes no memory; the parent's handle is cloned, and so it may wait.
+    /// The slice of the same parent in the range, which is measured in bytes of the slice's own text, also where it
+    /// is empty. Takes no memory; the parent's handle is cloned where the range is not refused, and so it may wait.
     ///
     /// Refuses the first that fails: the start is at most the end (`OutOfOrder`), the end at most the
     /// length of the slice's own text (`PastEnd`), and both are boundaries of it (`OffBoundary`).
+    ///
+    /// ```
+    /// let slice = literal!("foobarbaz").substr(&rt, 3..6)?;
+    /// let inner = slice.substr(&rt, 1..3)?;
+    /// assert_eq!(rt; inner.as_str(), "ar");
+    /// assert_eq!(rt; inner.range(), 4..6);
+    /// assert_eq!(rt; slice.substr(&rt, 0..5).err(), Some(RangeFault::PastEnd));
+    /// ```
     pub fn substr<R: Into<StrRange>>(&self, rt: &impl Wait, range: R) -> Result<Substr, RangeFault>
         ensures { (given : StrRange) × R.converts range given
             × AnswersRange (text_of self.now) (slice_within self.now) given result }
@@ -44,9 +58,17 @@ impl Substr {
     }
 
     /// The slice of the same parent that a view of the slice's own text shows. `None` exactly where that
-    /// text doesn't have the view's text at the view's place. An empty view is found everywhere, and
+    /// text doesn't have the view's text at the view's place, in bytes. An empty view is found everywhere, and
     /// gives `Substr::new()`. Takes no memory; the parent's handle is cloned where a view that is not empty is
     /// found, and so it may wait.
+    ///
+    /// ```
+    /// let line = literal!("key: value").substr(&rt, 4..)?;
+    /// let view = StrView::whole(line.as_str()).trim();
+    /// let value = line.try_substr_from(&rt, view).expect(&rt, "not found");
+    /// assert_eq!(rt; value.as_str(), "value");
+    /// assert_eq!(rt; value.range(), 5..10);
+    /// ```
     pub fn try_substr_from(&self, rt: &impl Wait, view: StrView<'_>) -> Option<Substr>
         ensures found { IsSome result ↔ IsFoundAt (text_of self.now) view.entry.text view.entry.place }
         ensures value { IfSome result (IsSliceOfView (slice_within self.now) view.entry) }
@@ -58,8 +80,17 @@ impl Substr {
     }
 
     /// The slice of the same parent that a view of the slice's own text shows; of an empty view `Substr::new()`.
-    /// That the slice's own text has the view's text at the view's place is the caller's condition. Takes no
+    /// That the slice's own text has the view's text at the view's place, in bytes, is the caller's condition, which
+    /// `StrView::is_found_in` tests. Takes no
     /// memory; the parent's handle is cloned where the view is not empty, and so it may wait.
+    ///
+    /// ```
+    /// let line = literal!("key: value").substr(&rt, 4..)?;
+    /// let view = StrView::whole(line.as_str()).trim();
+    /// assert!(rt; view.is_found_in(line.as_str()));
+    /// let value = line.substr_from(&rt, view);
+    /// assert_eq!(rt; value.range(), 5..10);
+    /// ```
     pub fn substr_from(&self, rt: &impl Wait, view: StrView<'_>) -> Substr
         requires { IsFoundAt (text_of self.now) view.text view.place }
         ensures { IsSliceOfView (slice_within self.now) view.entry result }
@@ -82,6 +113,14 @@ impl Substr {
     ///
     /// Of other places it refuses the first that fails: the start is at most the end (`OutOfOrder`), the end at
     /// most the length of the slice's own text (`PastEnd`), and both are boundaries of it (`OffBoundary`).
+    ///
+    /// ```
+    /// let slice = literal!("foobarbaz").substr(&rt, 3..6)?;
+    /// let tail = slice.substr_using(&rt, |own| 1..own.len())?;
+    /// assert_eq!(rt; tail.as_str(), "ar");
+    /// assert_eq!(rt; tail.range(), 4..6);
+    /// assert!(rt; slice.substr_using(&rt, |_| 9..9)?.is_empty());
+    /// ```
     pub fn substr_using<F: FnOnce(&str) -> Range<usize>>(
         &self,
         rt: &impl Wait,
@@ -105,6 +144,14 @@ impl Substr {
     ///
     /// Of other places it refuses the first that fails: the start is at most the end (`OutOfOrder`), the end at
     /// most the length of the slice's own text (`PastEnd`), and both are boundaries of it (`OffBoundary`).
+    ///
+    /// ```
+    /// let slice = literal!("foobarbaz").substr(&rt, 3..6)?;
+    /// let tail = slice.try_substr_using(&rt, |own| 1..own.len())?;
+    /// assert_eq!(rt; tail.as_str(), "ar");
+    /// let past = slice.try_substr_using(&rt, |_| 0..9);
+    /// assert_eq!(rt; past.err(), Some(RangeFault::PastEnd));
+    /// ```
     pub fn try_substr_using<F: FnOnce(&str) -> Range<usize>>(
         &self,
         rt: &impl Wait,

@@ -1,8 +1,8 @@
 use super::*;
+use crate::literal_substr;
 use crate::test_steps::{
     check_bytes, check_count, check_nothing, check_slice, check_text, made, part,
 };
-use crate::{literal, literal_substr};
 
 #[test]
 fn the_slice_of_nothing_has_an_empty_literal(rt: HostRuntime) {
@@ -28,7 +28,6 @@ fn literal_slices_have_a_literal_as_parent(rt: HostRuntime) {
     let slice = literal_substr!("Wow!",);
     check_slice(&rt, &slice, "Wow!", 0..4);
     assert!(rt; ArcStr::is_static(slice.parent()));
-    check_slice(&rt, &Substr::from_static("aé"), "aé", 0..3);
 }
 
 #[test]
@@ -36,13 +35,6 @@ fn a_full_slice_takes_the_handle(rt: HostRuntime) {
     let slice = Substr::full(made(&rt, "foo"));
     check_slice(&rt, &slice, "foo", 0..3);
     check_count(&rt, slice.parent(), Some(1));
-}
-
-#[test]
-fn lawful_parts_make_a_slice(rt: HostRuntime) {
-    let slice = Substr::from_parts_unchecked(literal!("foobar"), 2..5);
-    check_slice(&rt, &slice, "oba", 2..5);
-    check_text(&rt, slice.parent().as_str(), "foobar");
 }
 
 #[test]

@@ -27,8 +27,8 @@ fn a_literal_and_a_block_of_one_text_are_one_key(rt: HostRuntime) {
 #[test]
 fn a_map_finds_a_key_of_another_kind(rt: HostRuntime) {
     let mut numbers = HashMap::new(rt.alloc());
-    let kept: Result<_, _> = numbers.insert(made(&rt, "k"), 7u8);
-    kept.expect(&rt, "no memory");
+    let inserted: Result<_, _> = numbers.insert(made(&rt, "k"), 7u8);
+    inserted.expect(&rt, "no memory");
     assert!(rt; numbers.get(&literal!("k")) == Some(&7));
     assert!(rt; numbers.get(&literal!("l")).is_none());
 }

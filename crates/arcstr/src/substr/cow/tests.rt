@@ -1,5 +1,4 @@
 use super::*;
-use crate::literal;
 use crate::test_steps::{check_borrowed, check_owned, made, part};
 use std::alloc::AllocGlobal;
 use std::process::Abort;
@@ -11,12 +10,6 @@ fn is_copied(rt: &(impl Abort + AllocGlobal), slice: Substr, wanted: &str) {
         slice.into_cow(rt.alloc()).expect(rt, "no memory"),
         wanted,
     );
-}
-
-#[test]
-fn the_slice_of_a_literal_is_borrowed(rt: HostRuntime) {
-    let cow = part(&rt, &literal!("foobar"), 3..).into_cow(rt.alloc());
-    check_borrowed(&rt, cow.expect(&rt, "no memory"), "bar");
 }
 
 #[test]

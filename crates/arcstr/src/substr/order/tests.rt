@@ -31,8 +31,8 @@ fn slices_of_one_text_are_equal_whatever_their_parents(rt: HostRuntime) {
 fn a_map_finds_a_slice_of_another_parent(rt: HostRuntime) {
     let mut numbers = HashMap::new(rt.alloc());
     let key = Substr::from_str(rt.alloc(), "k").expect(&rt, "no memory");
-    let kept: Result<_, _> = numbers.insert(key, 7u8);
-    kept.expect(&rt, "no memory");
+    let inserted: Result<_, _> = numbers.insert(key, 7u8);
+    inserted.expect(&rt, "no memory");
     let same = part(&rt, &literal!("jkl"), 1..2);
     assert!(rt; numbers.get(&same) == Some(&7));
     assert!(rt; numbers.get(&Substr::new()).is_none());

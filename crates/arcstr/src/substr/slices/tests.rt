@@ -1,20 +1,13 @@
 use super::*;
 use crate::literal;
 use crate::test_steps::{
-    check_no_slice, check_nothing, check_part, check_slice, check_sliced, check_text, made, part,
+    check_no_slice, check_nothing, check_part, check_slice, check_sliced, check_text, part,
 };
 use std::process::Abort;
 
 /// The slice `bar` of `foobarbaz`.
 fn bar(rt: &(impl Abort + Wait)) -> Substr {
     part(rt, &literal!("foobarbaz"), 3..6)
-}
-
-#[test]
-fn a_slice_is_measured_in_its_own_text(rt: HostRuntime) {
-    let bar = bar(&rt);
-    check_slice(&rt, &bar, "bar", 3..6);
-    check_no_slice(&rt, bar.substr(&rt, 0..5), RangeFault::PastEnd);
 }
 
 #[test]
@@ -69,23 +62,6 @@ fn a_view_is_found_in_the_own_text(rt: HostRuntime) {
 fn a_view_is_not_found_past_the_own_text(rt: HostRuntime) {
     assert!(rt; found(&rt, "bar", 3).is_none());
     assert!(rt; found(&rt, "foo", 0).is_none());
-}
-
-#[test]
-fn a_trimmed_view_of_a_slice_is_found(rt: HostRuntime) {
-    let tail = part(&rt, &made(&rt, "foo   bar"), 3..);
-    check_slice(&rt, &tail, "   bar", 3..9);
-    let trimmed = StrView::whole(tail.as_str()).trim();
-    assert!(rt; trimmed.is_found_in(tail.as_str()));
-    check_slice(&rt, &tail.substr_from(&rt, trimmed), "bar", 6..9);
-}
-
-#[test]
-fn closures_find_places_of_the_own_text(rt: HostRuntime) {
-    let whole = bar(&rt).substr_using(&rt, |own| 0..own.len());
-    check_sliced(&rt, whole, "bar", 3..6);
-    let middle = bar(&rt).try_substr_using(&rt, |_| 1..2);
-    check_sliced(&rt, middle, "a", 4..5);
 }
 
 #[test]

@@ -1,0 +1,3 @@
+//! The examples of the doc comments: the body of each test is the example of the item that it is named for.
+
+mod substr;
