@@ -2,6 +2,8 @@
 //! its words, a reader and two writers.
 #![tactic(auto)]
 
+#[cfg(test)]
+mod examples;
 pub mod pool;
 pub mod port;
 pub mod program;

@@ -13,6 +13,14 @@ use std::{fmt, thread};
 mod tests;
 
 /// What each worker passes once, between its clone and its end.
+///
+/// ```
+/// struct Open;
+/// impl Gate for Open {
+///     fn pass(&self, _worker: usize) {}
+/// }
+/// callers(&rt, rt.alloc(), &literal!("foobar"), 2, &Open)?;
+/// ```
 pub trait Gate {
     /// What is known once a worker of this number has passed: nothing, where it is not given.
     ghost passed: { Self → ℕ → Type 0 } = { λ _ _. Unit {0} };
@@ -23,6 +31,11 @@ pub trait Gate {
 }
 
 /// Why the workers could not all do their work.
+///
+/// ```
+/// let fault = PoolFault::NoThread;
+/// assert_eq!(rt; format!(in rt.alloc(); "{fault}")?.as_str(), "no thread");
+/// ```
 #[derive(Clone, Copy, Debug, PartialEq, Eq)]
 pub enum PoolFault {
     /// There was no memory for the lists of workers and handles.
@@ -33,6 +46,10 @@ pub enum PoolFault {
 
 impl PoolFault {
     /// The number of the fault, from 1.
+    ///
+    /// ```
+    /// assert_eq!(rt; PoolFault::NoThread.number(), 2);
+    /// ```
     pub fn number(&self) -> u8
         ensures { result ≡ pool_fault_number self.now }
     {
@@ -43,6 +60,10 @@ impl PoolFault {
     }
 
     /// The text of the fault, as it is printed.
+    ///
+    /// ```
+    /// assert_eq!(rt; PoolFault::Memory.text(), "out of memory");
+    /// ```
     pub fn text(&self) -> &'static str
         ensures { result.now ≡ pool_fault_text self.now }
     {
@@ -94,6 +115,14 @@ type Worker<'a, G> = PromisedHandle<ArcStr, HandleOf<'a, G>>;
 ///
 /// No clause can say that memory and a thread could be had: a body that always refuses is caught by the
 /// test `each_worker_hands_its_clone_back`.
+///
+/// ```
+/// struct Open;
+/// impl Gate for Open {
+///     fn pass(&self, _worker: usize) {}
+/// }
+/// assert!(rt; callers(&rt, rt.alloc(), &ArcStr::new(), 2, &Open).is_ok());
+/// ```
 pub fn callers<R: Threads + Wait + Sync, G: Gate + Sync>(
     rt: &R,
     alloc: Global,

@@ -9,6 +9,14 @@ use std::io::{Read, Write};
 use std::marker::Model;
 
 /// A reader or a writer with a flag, which the first error of one of its calls sets for good.
+///
+/// ```
+/// let mut room = [0; 2];
+/// let mut port = Port::new(room.as_mut_slice());
+/// port.write_all(b"ab")?;
+/// assert!(rt; port.write_all(b"c").is_err());
+/// assert!(rt; port.failed());
+/// ```
 #[derive(Drop)]
 pub struct Port<T> {
     value: T,
@@ -23,6 +31,11 @@ impl<T> Model for Port<T> {
 
 impl<T> Port<T> {
     /// A port that has not failed.
+    ///
+    /// ```
+    /// let port = Port::new(b"abc".as_slice());
+    /// assert!(rt; !port.failed());
+    /// ```
     pub fn new(value: T) -> Port<T>
         ensures { result ≡ record { value = value; failed = false } }
     {
@@ -33,6 +46,13 @@ impl<T> Port<T> {
     }
 
     /// Whether a call has failed.
+    ///
+    /// ```
+    /// let mut room = [0; 2];
+    /// let mut port = Port::new(room.as_mut_slice());
+    /// assert!(rt; port.write_all(b"abc").is_err());
+    /// assert!(rt; port.failed());
+    /// ```
     pub fn failed(&self) -> bool
         ensures { result ≡ self.now.failed }
     {
@@ -43,6 +63,13 @@ impl<T> Port<T> {
 impl<R: Read> Port<R> {
     /// One read of the reader. Which error it is no clause can say: a body that hands out another one is
     /// caught by the test `remembers_a_fault_after_calls_that_work`.
+    ///
+    /// ```
+    /// let mut port = Port::new(b"abc".as_slice());
+    /// let mut bytes = [0; 4];
+    /// assert_eq!(rt; port.read(&mut bytes)?, 3);
+    /// assert_eq!(rt; bytes, *b"abc\0");
+    /// ```
     pub fn read(&mut self, buf: &mut [u8]) -> io::Result<usize>
         ensures bound { ReadsAtMost result buf.new }
         ensures bytes { ReadConsumes (R.remaining self.old.value) (R.remaining self.new.value)
@@ -57,6 +84,12 @@ impl<R: Read> Port<R> {
 
 impl<W: Write> Port<W> {
     /// Writes all the bytes to the writer. Which error it is the same test shows.
+    ///
+    /// ```
+    /// let mut bytes = Vec::new(rt.alloc());
+    /// Port::new(&mut bytes).write_all(b"abc")?;
+    /// assert_eq!(rt; bytes.as_slice(), b"abc".as_slice());
+    /// ```
     pub fn write_all(&mut self, bytes: &[u8]) -> io::Result<()>
         ensures bytes { OnOk result (Appends (W.contents self.old.value) (W.contents self.new.value)
             bytes.now) }

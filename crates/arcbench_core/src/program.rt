@@ -25,7 +25,7 @@ use thiserror::Error;
 
 /// What the program can be asked to do.
 #[derive(Clone, Copy, Debug, PartialEq, Eq)]
-pub enum Command {
+pub(crate) enum Command {
     /// Answers the script on its input.
     Script,
     /// Starts so many callers of one text, from 1 to 64.
@@ -56,6 +56,14 @@ pub(crate) enum Fault {
 ///
 /// No clause can say that memory was there: a body that always answers 3 to a command is caught by the
 /// tests `answers_a_script`, `two_workers_print_their_texts` and `prints_the_words_of_each_line`.
+///
+/// ```
+/// let words = [String::from_str(rt.alloc(), "script")?];
+/// let mut input = Port::new(b"limit 5\nmake\n".as_slice());
+/// let (mut out, mut errors) = (Port::new(Vec::new(rt.alloc())), Vec::new(rt.alloc()));
+/// let status = serve(&rt, rt.alloc(), &words, &mut input, &mut out, &mut errors);
+/// assert_eq!(rt; status, 0);
+/// ```
 pub fn serve<H, A: Allocator + Copy, R: Read, W: Write, E: Write>(
     rt: &H,
     alloc: A,
@@ -171,6 +179,13 @@ where
 
 /// The status where the program's own words were not to be had: want of memory, or an argument that is
 /// no text, which counts as other words.
+///
+/// ```
+/// let mut errors = Vec::new(rt.alloc());
+/// let status = serve_without_words(&mut errors, &io::Error::from(ErrorKind::OutOfMemory));
+/// assert_eq!(rt; status, 3);
+/// assert_eq!(rt; errors.as_slice(), b"arcbench: out of memory\n".as_slice());
+/// ```
 pub fn serve_without_words<E: Write>(errors: &mut E, error: &io::Error) -> u8
     ensures memory { (result ≡ 3) ↔ (error_kind error.now ≡ ErrorKind.OutOfMemory) }
     ensures usage { (result ≡ 1) ↔ (error_kind error.now ≢ ErrorKind.OutOfMemory) }

@@ -4,6 +4,7 @@ mod fakes;
 mod lists;
 mod memory;
 mod ports;
+mod readme;
 mod statuses;
 mod texts;
 mod threads;

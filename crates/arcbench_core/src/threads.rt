@@ -18,6 +18,12 @@ impl Gate for OpenGate {
 
 /// Starts callers of one text, and hands out their handles. A body that always refuses is caught by the
 /// test `two_workers_print_their_texts`.
+///
+/// ```
+/// let handles = threads::start(&rt, rt.alloc(), 2)?;
+/// assert_eq!(rt; handles.len(), 2);
+/// assert_eq!(rt; handles[1].as_str(), "foobar");
+/// ```
 pub fn start<R: Threads + Wait + Sync>(
     rt: &R,
     alloc: Global,
@@ -35,6 +41,11 @@ pub fn start<R: Threads + Wait + Sync>(
 
 /// The lines of callers: one for each with the text as its handle reads it, and a last one with their
 /// number. Where there are no callers, the fault is that of the pool; else it is `Memory`.
+///
+/// ```
+/// let lines = threads::answer(rt.alloc(), threads::start(&rt, rt.alloc(), 1))?;
+/// assert_eq!(rt; lines.as_slice(), b"worker 0 foobar\ndone 1\n".as_slice());
+/// ```
 pub fn answer(alloc: Global, handles: Result<Vec<ArcStr>, PoolFault>) -> Result<Vec<u8>, PoolFault>
     requires { IfOk handles (λ all. ReadSharedText all.items) }
     ensures lines { IfOk handles (λ all. IfOk result (λ out. out.items ≡ threads_answer (vec_len all))) }

@@ -13,6 +13,11 @@ use std::sync::Wait;
 use std::thread::Threads;
 
 /// Why the words of an input are not printed.
+///
+/// ```
+/// let lines = tokens::answer(&rt, rt.alloc(), 2, b"\xff");
+/// assert_eq!(rt; lines.err(), Some(TokensFault::NotUtf8));
+/// ```
 #[derive(Clone, Copy, Debug, PartialEq, Eq)]
 pub enum TokensFault {
     /// There was no memory for the texts, their words or the lines.
@@ -26,6 +31,11 @@ pub enum TokensFault {
 /// word. So many workers find the words.
 ///
 /// That the input is UTF-8 is tested before all else. A line that is too long for a text is want of memory.
+///
+/// ```
+/// let lines = tokens::answer(&rt, rt.alloc(), 2, b"foo\n\nbar\n")?;
+/// assert_eq!(rt; lines.as_slice(), b"0 0..3 foo\n2 0..3 bar\n".as_slice());
+/// ```
 pub fn answer<H, A: Allocator>(
     rt: &H,
     alloc: A,

@@ -15,6 +15,11 @@ use std::alloc::Allocator;
 ///
 /// `LimitTooLarge` comes exactly where the limit is above `RC_MAX`, and `Memory` only where a growth was
 /// refused. The time is linear in the length of the script.
+///
+/// ```
+/// let answer = script::answer(rt.alloc(), b"limit 5\nmake\nlook 0\n")?;
+/// assert_eq!(rt; answer.as_slice(), b"made 0\ncount 1\n".as_slice());
+/// ```
 pub fn answer<A: Allocator + Copy>(alloc: A, script: &[u8]) -> Result<Vec<u8, A>, RunFault>
     ensures ok { IfOk result (λ out. answer_to script.now ≡ Ok out.items) }
     ensures too_large { (result ≡ Err RunFault.LimitTooLarge)

@@ -14,6 +14,10 @@ use std::fmt;
 use std::io::{Read, Write};
 
 /// Why a script was not answered.
+///
+/// ```
+/// assert_eq!(rt; CopyFault::from(RunFault::Memory), CopyFault::Memory);
+/// ```
 #[derive(Clone, Copy, Debug, PartialEq, Eq)]
 pub enum CopyFault {
     /// The limit of the script is above `RC_MAX`.
@@ -26,6 +30,10 @@ pub enum CopyFault {
 
 impl CopyFault {
     /// The number of the fault, from 1.
+    ///
+    /// ```
+    /// assert_eq!(rt; CopyFault::Io.number(), 3);
+    /// ```
     pub fn number(&self) -> u8
         ensures { result ≡ copy_fault_number self.now }
     {
@@ -37,6 +45,10 @@ impl CopyFault {
     }
 
     /// The text of the fault, as it is printed.
+    ///
+    /// ```
+    /// assert_eq!(rt; CopyFault::Memory.text(), "out of memory");
+    /// ```
     pub fn text(&self) -> &'static str
         ensures { result.now ≡ copy_fault_text self.now }
     {
@@ -76,6 +88,13 @@ impl From<RunFault> for CopyFault {
 /// the answer written.
 ///
 /// A body that always answers `Memory` is caught by the test `copies_the_answer_to_a_script`.
+///
+/// ```
+/// let mut written = Vec::new(rt.alloc());
+/// let mut input = Port::new(b"limit 5\nmake\n".as_slice());
+/// copy(rt.alloc(), &mut input, &mut Port::new(&mut written))?;
+/// assert_eq!(rt; written.as_slice(), b"made 0\n".as_slice());
+/// ```
 pub fn copy<A: Allocator + Copy, R: Read, W: Write>(
     alloc: A,
     input: &mut Port<R>,

@@ -30,7 +30,7 @@ fn parts_at(bytes: &[u8], byte: u8) -> (&[u8], &[u8])
 }
 
 /// The first line of a script, and what comes after it.
-pub fn first_line(bytes: &[u8]) -> (&[u8], &[u8])
+pub(crate) fn first_line(bytes: &[u8]) -> (&[u8], &[u8])
     requires { 0 < length bytes.now }
     ensures lines { lines_of bytes.now ≡ result.0.now ∷ lines_of result.1.now }
     ensures shorter { length result.1.now < length bytes.now }
@@ -50,6 +50,11 @@ fn decimal_of(text: &[u8]) -> Option<u64>
 }
 
 /// The value of a NUMBER: `0`, or digits that do not begin with `0`, below `2^64`.
+///
+/// ```
+/// assert_eq!(rt; number_of(b"64"), Some(64));
+/// assert_eq!(rt; number_of(b"064"), None);
+/// ```
 pub fn number_of(text: &[u8]) -> Option<u64>
     ensures value { result ≡ number_of text.now }
     ensures written { IfSome result (λ n. text.now ≡ decimal n) }
@@ -101,7 +106,7 @@ fn step_named(word: &[u8], handle: u64) -> Option<Step>
 }
 
 /// The step of a line: `make`, or a word, one space, and the number of a handle. Another line has none.
-pub fn step_of(line: &[u8]) -> Option<Step>
+pub(crate) fn step_of(line: &[u8]) -> Option<Step>
     ensures value { result ≡ step_of line.now }
     ensures written { IfSome result (λ step. line.now ≡ line_text step) }
     ensures read { (step : Step) → HasHandle step → line.now ≡ line_text step → result ≡ Some step }
@@ -121,7 +126,7 @@ fn read_step(line: &[u8]) -> Option<Step>
 }
 
 /// The limit that a first line `limit NUMBER` sets. Another line sets none.
-pub fn limit_of(line: &[u8]) -> Option<u64>
+pub(crate) fn limit_of(line: &[u8]) -> Option<u64>
     ensures value { result ≡ limit_of line.now }
     ensures written { IfSome result (λ n. line.now ≡ limit_text n) }
     ensures read { (n : ℕ) → n < 2 ^ 64 → line.now ≡ limit_text n → result ≡ Some n }

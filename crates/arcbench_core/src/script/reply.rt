@@ -6,7 +6,7 @@ use arcstr::count::Reply;
 use std::alloc::{AllocError, Allocator};
 
 /// Appends the text of a reply, without the end of its line.
-pub fn push_reply<A: Allocator>(out: &mut String<A>, reply: Reply) -> Result<(), AllocError>
+pub(crate) fn push_reply<A: Allocator>(out: &mut String<A>, reply: Reply) -> Result<(), AllocError>
     ensures { OnOk result (string_bytes out.new ≡ string_bytes out.old ++ reply_text reply) }
 {
     match reply {
