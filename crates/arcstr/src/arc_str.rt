@@ -33,11 +33,12 @@ pub struct ArcStr {
 }
 
 /// Where the bytes of a text lie: in the program, or in a block that is held as one of its counted handles or for
-/// good. Each kind has an address and then the length of the text, so that a length is read with no test of the kind.
+/// good. Each kind has the address of the text and then its length, so that both are read with no test of the kind.
+/// The counted kind is the first, since clones and drops ask for it alone: a test for 0 takes one branch.
 #[derive(Drop)]
 enum Form {
-    Literal(&'static str),
     Counted(Shared<RC_MAX, Global>),
+    Literal(&'static str),
     Fixed(Fixed<Global>),
 }
 
@@ -89,8 +90,8 @@ impl ArcStr {
         ensures { result ≡ self.now }
     {
         let form = match &self.form {
-            Form::Literal(text) => Form::Literal(text),
             Form::Counted(shared) => Form::Counted(shared.up(rt)),
+            Form::Literal(text) => Form::Literal(text),
             Form::Fixed(fixed) => Form::Fixed(fixed.again()),
         };
         ArcStr { form }
