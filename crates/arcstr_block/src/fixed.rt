@@ -12,7 +12,7 @@ use std::marker::Model;
 /// its text, its block's name, the limit on its count, and the beginning of its history in which it was marked.
 ///
 /// It has 16 bytes where its allocator has none, and may be sent and shared where its allocator may. Its drop does
-/// nothing: the block stays.
+/// nothing: the block stays. None of its functions waits.
 ///
 /// ```
 /// let text = Shared::<5, _>::from_text(rt.alloc(), "aé")?;
@@ -37,7 +37,7 @@ impl<A: Allocator + Copy> Model for Fixed<A> {
 }
 
 impl<A: Allocator + Copy> Fixed<A> {
-    /// The text. It takes no step, and loads nothing from the block.
+    /// The text. It takes no step and no memory, and loads nothing from the block.
     ///
     /// ```
     /// let fixed = Shared::<5, _>::from_text(rt.alloc(), "aé")?.mark();
@@ -49,7 +49,7 @@ impl<A: Allocator + Copy> Fixed<A> {
         self.pointer.text(self.len)
     }
 
-    /// The length of the text, in bytes. It takes no step.
+    /// The length of the text, in bytes. It takes no step and no memory.
     ///
     /// ```
     /// let fixed = Shared::<5, _>::from_text(rt.alloc(), "aé")?.mark();
@@ -79,7 +79,8 @@ impl<A: Allocator + Copy> Fixed<A> {
         }
     }
 
-    /// What was seen of the block's history when it was found or made marked: the mark is in it. It takes no step.
+    /// What was seen of the block's history when it was found or made marked: the mark is in it. It takes no step and no
+    /// memory.
     ///
     /// ```
     /// let text = Shared::<5, _>::from_text(rt.alloc(), "aé")?;

@@ -33,7 +33,8 @@ pub enum Down<A: Allocator> {
 /// The memory of a block that nobody else has, to be given back. It has no drop, and cannot be let go otherwise.
 /// Contracts see its block's name, and the number of the handle that was subtracted last.
 ///
-/// It has 8 bytes where its allocator has none, and may be sent and shared where its allocator may.
+/// It has 8 bytes where its allocator has none, and may be sent and shared where its allocator may. None of its functions
+/// waits or takes memory.
 ///
 /// ```
 /// let text = Shared::<5, _>::from_text(rt.alloc(), "aé")?;
@@ -59,7 +60,7 @@ impl<A: Allocator> Model for Owed<A> {
 }
 
 impl<A: Allocator> Owed<A> {
-    /// Gives the memory of the block, and of its text, back to the allocator, in one call of it.
+    /// Gives the memory of the block, and of its text, back to the allocator, in one call of it. It takes no step.
     /// That a heap has it again is shown by the test `all_memory_is_given_back`.
     ///
     /// ```

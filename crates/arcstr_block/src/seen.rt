@@ -9,6 +9,7 @@ ghost use Rattle.arcstr_block.specs.Handle.{IsFront};
 use std::marker::{Model, PhantomData};
 
 /// A beginning of the history of a block, for good. It has no bytes, may be sent and shared, and its drop does nothing.
+/// Its one function, a law, takes no memory and does not wait.
 ///
 /// `history` lists the steps in their order, and `block` names the block: its history, and the seats of its handles.
 ///

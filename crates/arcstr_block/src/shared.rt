@@ -35,8 +35,8 @@ struct Counted<const LIMIT: u64, A: Allocator + Copy> {
 /// bytes of its text, its block's name, and its own number in the block's history.
 ///
 /// A clone at a count above `LIMIT` marks the block, which then stays for good. A handle has 16 bytes where its allocator
-/// has none, and may be sent and shared where its allocator may. Its drop is `down`, and gives back what is then owed:
-/// it does not wait.
+/// has none, and may be sent and shared where its allocator may. Its drop is `down`, and gives back what is then owed. Of
+/// its functions `up` alone may wait.
 ///
 /// ```
 /// let text = Shared::<5, _>::from_text(rt.alloc(), "aé")?;
@@ -78,7 +78,7 @@ impl<const LIMIT: u64, A: Allocator + Copy> Shared<LIMIT, A> {
         }
     }
 
-    /// The text. It takes no step, and loads nothing from the block.
+    /// The text. It takes no step and no memory, and loads nothing from the block.
     ///
     /// ```
     /// let text = Shared::<5, _>::from_text(rt.alloc(), "aé")?;
@@ -90,7 +90,7 @@ impl<const LIMIT: u64, A: Allocator + Copy> Shared<LIMIT, A> {
         self.handle.pointer.text(self.handle.len)
     }
 
-    /// The length of the text, in bytes. It takes no step.
+    /// The length of the text, in bytes. It takes no step and no memory.
     ///
     /// ```
     /// let text = Shared::<5, _>::from_text(rt.alloc(), "aé")?;
@@ -103,7 +103,7 @@ impl<const LIMIT: u64, A: Allocator + Copy> Shared<LIMIT, A> {
     }
 
     /// One load: the number of living handles, from 1 to `LIMIT + 1`, or `None` at a marked block. What was seen of the
-    /// history ends in this look.
+    /// history ends in this look. It takes no memory.
     ///
     /// ```
     /// let text = Shared::<5, _>::from_text(rt.alloc(), "aé")?;
@@ -123,7 +123,7 @@ impl<const LIMIT: u64, A: Allocator + Copy> Shared<LIMIT, A> {
     }
 
     /// One load: the block as a fixed one, where it is found marked, else `None`. What was seen of the history ends in this
-    /// look.
+    /// look. It takes no memory.
     ///
     /// ```
     /// let text = Shared::<5, _>::from_text(rt.alloc(), "aé")?;
@@ -205,7 +205,7 @@ impl<const LIMIT: u64, A: Allocator + Copy> Shared<LIMIT, A> {
     }
 
     /// The law that two handles on one block have two seats in its history. It hands both back, in their order, and takes no
-    /// step.
+    /// step and no memory.
     ///
     /// ```
     /// let text = Shared::<5, _>::from_text(rt.alloc(), "aé")?;
@@ -272,7 +272,7 @@ impl<const LIMIT: u64, A: Allocator + Copy> Shared<LIMIT, A> {
 
     /// The end of the handle, as its drop begins: a load, and where it finds no mark a fetch-sub, by which the count falls by
     /// one. It answers how the handle ended, with what is owed where it was the last, which has to be given back by hand; and
-    /// what was seen of the history, which ends in that load or in that fetch-sub. It does not wait.
+    /// what was seen of the history, which ends in that load or in that fetch-sub. It takes no memory.
     ///
     /// ```
     /// let text = Shared::<5, _>::from_text(rt.alloc(), "aé")?;

@@ -392,10 +392,6 @@ fn faults_print_their_texts(rt: HostRuntime) -> Result<(), Fail> {
         format!(in rt.alloc(); "{}", TextFault::Memory)?.as_str(),
         "out of memory"
     );
-    assert_eq!(rt;
-        format!(in rt.alloc(); "{}", TextFault::Utf8(2))?.as_str(),
-        "bytes are not UTF-8 from place 2"
-    );
     Ok(())
 }
 
