@@ -6,8 +6,8 @@ ghost use Rattle.arcstr_count.specs.Faults.{step_fault_number, run_fault_number,
 use std::error::Error;
 use std::fmt;
 
-/// Why a step is refused, by the state of the handle that it names: each state but one has its fault, so
-/// no two are due at once. It is shown by its name.
+/// Why a step is refused, by the state of the handle that it names. A handle has one state, so no two
+/// faults are due at once. It is shown by its name.
 ///
 /// ```
 /// let replies = count::run(rt.alloc(), 2, &[Step::Make, Step::Sub(0)])?;

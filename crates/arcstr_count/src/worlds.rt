@@ -127,7 +127,7 @@ impl<A: Allocator + Copy> World<A> {
             → result ≡ given_after self.now.summary.limit history block }
         ensures at_most_once { result ≤ 1 }
     {
-        times_given(entry_at(&self.blocks, block))
+        given_by_entry(entry_at(&self.blocks, block))
     }
 
     /// The law that each world stands for at least one history, and the laws of every interleaving for
@@ -345,7 +345,7 @@ impl<A: Allocator + Copy> World<A> {
 }
 
 /// How often a block was given back by what its entry says, and 0 times where it has none.
-fn times_given(entry: Option<BlockEntry>) -> u64
+fn given_by_entry(entry: Option<BlockEntry>) -> u64
     ensures made { IfSome entry (λ found. result ≡ (if found.given then 1 else 0)) }
     ensures unmade { IsNone entry → result ≡ 0 }
 {
