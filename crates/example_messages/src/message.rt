@@ -1,5 +1,6 @@
 //! Messages, whose fields are slices of one text.
-ghost use Rattle.std.specs.Prelude.{◌≡◌, IfSome};
+ghost use Rattle.std.specs.Prelude.{◌≡◌, ◌↔◌, IfSome, IsSome};
+ghost use Rattle.example_messages.specs.Messages.{HasTwoSemicolons, IsFirstSentence, IsMessage};
 
 use arcstr::{ArcStr, Substr};
 use std::sync::Wait;
@@ -14,11 +15,11 @@ pub struct Message {
 }
 
 impl Message {
-    /// The message that the text is. `None` where it has less than two semicolons. No field is copied.
+    /// The message that the text is, cut at its first two semicolons. `None` exactly where it has less than two. No
+    /// field is copied.
     pub fn read(rt: &impl Wait, text: &ArcStr) -> Option<Message>
-        ensures sender { IfSome result (λ message. message.sender.parent ≡ text.now) }
-        ensures subject { IfSome result (λ message. message.subject.parent ≡ text.now) }
-        ensures body { IfSome result (λ message. message.body.parent ≡ text.now) }
+        ensures found { IsSome result ↔ HasTwoSemicolons text.now }
+        ensures fields { IfSome result (IsMessage text.now) }
     {
         let (sender, rest) = text.split_once(rt, ';')?;
         let (subject, body) = rest.split_once(rt, ';')?;
@@ -33,7 +34,7 @@ impl Message {
     pub fn shorten(&mut self, rt: &impl Wait)
         ensures sender { self.new.sender ≡ self.old.sender }
         ensures subject { self.new.subject ≡ self.old.subject }
-        ensures same_text { self.new.body.parent ≡ self.old.body.parent }
+        ensures body { IsFirstSentence self.old.body self.new.body }
     {
         if let Some((first, _)) = self.body.split_once(rt, '.') {
             self.body = first;
