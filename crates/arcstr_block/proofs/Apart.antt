@@ -65,7 +65,8 @@ module _ {M : Type 1} {𝓤 : Ura M} (𝓛 : Logic 𝓤) (B : RattleType) (g : G
   seat_of : (h : Row.Denot) (vs : List Val) → HasSeat h.right → ⟦ Row.own_val h vs ⟧ ⊢ ⟦ seat h.block.1 h.seat (seat_state h.right) ⟧
   seat_of h vs may = qed 𝓛 (‵ (Row.own_val h vs) ∷ []) ∵ use1 𝓛 (‵ (fex Id (named_right h))) (right_of h vs) $ fpick ! (λ t. fsplit ! $ fpick ! (λ named.
       drop ! $
-      use1 𝓛 (‵ (seat t.3 h.seat (seat_state h.right))) (has_seat 𝓛 (P h) h.limit (block_of h.at) (word_at h.at (length h.text)) t (s h) (sl h) h.seat h.right may) $
+      use1 𝓛 (‵ (seat t.3 h.seat (seat_state h.right)))
+      (has_seat 𝓛 (P h) h.limit (block_of h.at) (word_at h.at (length h.text)) t (s h) (sl h) h.seat h.right may) $
       rewrite ! 0 (λ (z : Names). ‵ (seat z.1 h.seat (seat_state h.right))) named refl $ done !))
 
   -- what is owed has the book of the word 0
@@ -102,7 +103,8 @@ module _ {M : Type 1} {𝓤 : Ura M} (𝓛 : Logic 𝓤) (B : RattleType) (g : G
         move ! (1 ∷ []) $ use1 𝓛 (‵ (fex Id (named_right j))) (right_of j ws) $ fpick ! (λ t. fsplit ! $ fpick ! (λ named. drop ! $
         let γ : h.block.0 ≡ t.2 = e ∙ sym (ap (λ (z : Names). z.0) named) in let δ : h.block.1 ≡ t.3 = f ∙ sym (ap (λ (z : Names). z.1) named) in
         rewrite ! 1 (λ (k : ℕ). ‵ (Book h.limit k h.block.1 0)) γ refl $ rewrite ! 1 (λ (k : ℕ). ‵ (Book h.limit t.2 k 0)) δ refl $ move ! (1 ∷ 0 ∷ []) $
-        by ! (no_other 𝓛 (P j) j.limit (block_of j.at) (word_at j.at (length j.text)) t (s j) (sl j) h.limit j.seat (guard 𝓤 (h.block ≢ j.block) Two) j.right may)))
+        by ! (no_other 𝓛 (P j) j.limit (block_of j.at) (word_at j.at (length j.text)) t (s j) (sl j) h.limit j.seat
+        (guard 𝓤 (h.block ≢ j.block) Two) j.right may)))
 
     are_alone : HasSeat j.right → Dec (h.right ≡ owed) → Two ⊢ guard 𝓤 Alone Two
     are_alone may (no other) = guard_i 𝓤 Alone Two (λ mine. absurd (other mine))

@@ -137,7 +137,8 @@ module _ (holds : Ty → Ptr → Fml) (L : ℕ) (p : Ptr) (text : List ℕ) (rig
   pointer_owns = fsep (placed p (IsText text)) (fex Id of_block)
 
   abbrev pub of_block_shown : Id → Lft → Fml
-  of_block_shown t = beside (said (known t block history)) (shown (block_owns holds p text) L (block_of p) (word_at p (length text)) t (block_shares p text) h right)
+  of_block_shown t = beside (said (known t block history))
+      (shown (block_owns holds p text) L (block_of p) (word_at p (length text)) t (block_shares p text) h right)
 
   abbrev pub pointer_shares : Lft → Fml
   pointer_shares = beside (said (placed p (IsText text))) (some Id of_block_shown)

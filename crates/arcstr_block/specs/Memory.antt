@@ -46,12 +46,10 @@ word_at p n = count_of p + word_place n + 0
 abbrev pub length_at : Ptr → ℕ → Ptr
 length_at p n = tail_at p n +ₚ 8
 
--- room for the bytes, the word and the length, o bytes into the memory b, and the latter two u bytes into it
-abbrev pub rooms_with : ℕ → ℕ → ℕ → ℕ → Fml
-rooms_with n b o u = fsep (froom (ty_array (ty_int w8) n) b o) (fsep (froom (ty_int w64) b (u + 0)) (fsep (froom (ty_int w64) b (u + 8)) ftrue))
-
+-- room for the bytes, the word and the length, o bytes into the memory b
 abbrev pub rooms : ℕ → ℕ → ℕ → Fml
-rooms n b o = rooms_with n b o (o + word_place n)
+rooms n b o = let u : ℕ = o + word_place n in
+    fsep (froom (ty_array (ty_int w8) n) b o) (fsep (froom (ty_int w64) b (u + 0)) (fsep (froom (ty_int w64) b (u + 8)) ftrue))
 
 -- the word w behind a text of n bytes
 abbrev pub word_lies : Ptr → ℕ → ℕ → Fml

@@ -2,8 +2,9 @@
 //! What a number of the word says is in `word.rt`.
 //!
 //! A `Pointer` is one address when it runs. Its right, seat and history are ghost, and are moved by the proof of each
-//! function (`proofs/pointer/Pointer/NAME/Proof.antt`), so a body shows the machine's step alone. `make` begins the
-//! history with `Make`, and `release` ends it with `Back`; `IntoRaw` and `FromRaw` never occur in it.
+//! function (`proofs/pointer/Pointer/NAME/Proof.antt`), so a body shows the machine's step alone. A step is told
+//! the place of the word, how many bytes past the address it lies. `make` begins the history with `Make`, and `release`
+//! ends it with `Back`; `IntoRaw` and `FromRaw` never occur in it.
 ghost use Rattle.std.specs.Prelude.{◌≡◌, ◌≢◌, ℕ, Bool, List, length, IsUtf8};
 ghost use Rattle.std.specs.Coded.{coded_list};
 ghost use Rattle.arcstr_count.specs.declared.steps.Step.{Step};

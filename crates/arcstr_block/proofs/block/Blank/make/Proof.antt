@@ -99,7 +99,8 @@ make_spec 𝓤 𝓛 𝓜 𝓡 wired Y K g d dd met md =
     let size : ℕ = a.1.1.1.1.0 in
     let κ : Lft = κs.0 in let q : Share = qs.0 in
     let token : Ty → Ptr → Fml = g.dealloc_token heap in let τ : Ty = bare (block_type n) in let fit_w : WT (vint w64 w) = record { fits = are.1.0.1 } in
-    let fit_n : WT (vint w64 n) = record { fits = are.1.1.0.1 } in let fit_place : WT (vint w64 place) = record { fits = are.1.1.1.0.1 } in let small : size < 2 ^ 64 = are.1.1.1.1.0.1 in
+    let fit_n : WT (vint w64 n) = record { fits = are.1.1.0.1 } in let fit_place : WT (vint w64 place) = record { fits = are.1.1.1.0.1 } in
+    let small : size < 2 ^ 64 = are.1.1.1.1.0.1 in
     let us : List Val = vptr hp.0 hp.1 ∷ vint w64 w ∷ vint w64 n ∷ vint w64 place ∷ vint w64 size ∷ [] in
     let y : (walk_of 𝓛 En hs c).Ghost = (
       (
@@ -127,9 +128,12 @@ make_spec 𝓤 𝓛 𝓜 𝓡 wired Y K g d dd met md =
     let others : Fml = fsep (flft κs.1.0 qs.1.0) ftrue in
     qed 𝓛 (((‵ (flft κ q) ⊛ ‵ others) ⊛ ‵ (owns (types_at En.signature.params κs) a y.0.4)) ∷ raw (fact 𝓤 (κs.1.0 ⊑ Y.lives)) ∷ raw (fact 𝓤
     (place ≡ word_place n)) ∷ raw (fact 𝓤 (size ≡ block_size n)) ∷ raw (fact 𝓤 (Fits n)) ∷ []) ∵
-    keep ! (1 ∷ 2 ∷ 3 ∷ 4 ∷ 0 ∷ []) $ heard ! (κs.1.0 ⊑ Y.lives) (λ inside. heard ! (place ≡ word_place n) (λ placed. heard ! (size ≡ block_size n) (λ sized. heard ! (Fits n) (λ fits. split ! $ split ! $
+    keep ! (1 ∷ 2 ∷ 3 ∷ 4 ∷ 0 ∷ []) $
+    heard ! (κs.1.0 ⊑ Y.lives) (λ inside. heard ! (place ≡ word_place n) (λ placed. heard ! (size ≡ block_size n) (λ sized.
+    heard ! (Fits n) (λ fits. split ! $ split ! $
     move ! (2 ∷ []) $ fsplit ! $ fsplit ! $ keep ! (1 ∷ 3 ∷ 4 ∷ []) $
-    enter ! 𝓣.C 𝓣.Λ fn us Post $ alloc_all ! (λ l. pass_all ! refl ((tt, tt), ((tt, fit_w), ((tt, fit_n), ((tt, fit_place), ((tt, record { fits = small }), tt))))) $
+    enter ! 𝓣.C 𝓣.Λ fn us Post $
+    alloc_all ! (λ l. pass_all ! refl ((tt, tt), ((tt, fit_w), ((tt, fit_n), ((tt, fit_place), ((tt, record { fits = small }), tt))))) $
     let Ev = env fn.locals l in let both : Body = head (after 1 fn.body) in
     let Then = any_q (after_seq 𝓤 H (Wp 𝓤 H 𝓣.C 𝓣.Λ Ev (after 2 fn.body) (at_return 𝓤 H Ev Post)) (at_return 𝓤 H Ev Post)) in
     let Asked = Takes Z 𝓛 𝓜.mem 𝓡.returns in let z : Asked.Ghost = at_takes Z 𝓛 𝓜.mem 𝓡.returns κ q hp heap size 8 τ in
@@ -139,7 +143,8 @@ make_spec 𝓤 𝓛 𝓜 𝓡 wired Y K g d dd met md =
     use1 𝓛 (later (raw (Answered Z 𝓛 𝓜.mem 𝓡.returns heap τ u) ⊛ ‵ (flft κ q))) (Takes-gives Z 𝓛 𝓜.mem 𝓡.returns κ q hp heap size 8 τ u) $ await ! tt $
     split ! $ move ! (1 ∷ 2 ∷ []) $ join ! $ move ! (1 ∷ []) $
     answers Z ! 𝓜.mem 𝓡.returns heap τ u
-    (λ b o e. let p : Ptr = block_ptr b o in let t : ℕ = o + word_place n in let zs : List ℕ = replicate n 0 in let fs : List Bool = replicate (length zs) false in
+    (λ b o e. let p : Ptr = block_ptr b o in let t : ℕ = o + word_place n in let zs : List ℕ = replicate n 0 in
+    let fs : List Bool = replicate (length zs) false in
     let long : n ≡ length zs = sym (length-replicate n 0) in
     use1 𝓛 (‵ (rooms n b o) ⊛ ‵ (fwand (rooms n b o) (froom τ b o))) (spreads 𝓛 n b o) $ split ! $ move ! (1 ∷ 2 ∷ []) $ fjoin ! $ move ! (1 ∷ []) $ fsplit3 ! $
     move ! (2 ∷ []) $ fsplit ! $

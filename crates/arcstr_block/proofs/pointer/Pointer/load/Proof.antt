@@ -67,8 +67,10 @@ load_spec 𝓤 𝓛 𝓜 𝓡 wired Y K g d dd met md =
     let sl = shares_laws p h.text in
     let pb : ℕ = block_of p in let po : ℕ = word_at p (length h.text) in
     let place : ℕ = a.1.0 in let fits_place : place < 2 ^ 64 = are.1.0.1 in
-    let y : (walk_of 𝓛 En hs c).Ghost = ((κs, qs, bounds, a, (vptr b o ∷ [], (vint w64 place ∷ [], tt))), gh) in let Post : Val → SProp 𝓤 = (walk_of 𝓛 En hs c).post y in
-    qed 𝓛 (((‵ (flft κ q) ⊛ ‵ others) ⊛ ‵ (owns (types_at En.signature.params κs) a y.0.4)) ∷ raw (fact 𝓤 _) ∷ raw (fact 𝓤 (IsFree right)) ∷ raw (fact 𝓤 (place ≡ word_place (length h.text))) ∷ []) ∵
+    let y : (walk_of 𝓛 En hs c).Ghost = ((κs, qs, bounds, a, (vptr b o ∷ [], (vint w64 place ∷ [], tt))), gh) in
+    let Post : Val → SProp 𝓤 = (walk_of 𝓛 En hs c).post y in
+    qed 𝓛 (((‵ (flft κ q) ⊛ ‵ others) ⊛ ‵ (owns (types_at En.signature.params κs) a y.0.4)) ∷ raw (fact 𝓤 _) ∷ raw (fact 𝓤 (IsFree right)) ∷
+    raw (fact 𝓤 (place ≡ word_place (length h.text))) ∷ []) ∵
     keep ! (2 ∷ 3 ∷ 0 ∷ []) $ heard ! (IsFree right) (λ may. heard ! (place ≡ word_place (length h.text)) (λ placed.
     let there : place + count_of p ≡ count_of p + word_place (length h.text) = omega (arith, placed) in
     split ! $ split ! $ move ! (2 ∷ []) $ fsplit ! $ fsplit ! $ keep ! (1 ∷ 3 ∷ 4 ∷ []) $

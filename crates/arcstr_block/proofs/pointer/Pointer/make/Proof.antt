@@ -61,7 +61,8 @@ make_spec 𝓤 𝓛 𝓜 𝓡 wired Y K g d dd met md =
     enter ! 𝓣.C 𝓣.Λ fn (pointer_val p ∷ []) Post $ alloc_all ! (λ l. pass_all ! refl (typed p, tt) $
     rewrite ! 0 (λ (n : ℕ). ‵ (word b (o + word_place (length xs) + 0) n)) fresh refl $ fjoin ! $ move ! (1 ∷ []) $ split ! $ move ! (2 ∷ 0 ∷ []) $
     use2 𝓛 (later (‵ (fex Id (λ t. fsep (reached t.2 (Make ∷ [])) (held_with P lim b (o + word_place (length xs) + 0) t s 0 counted))) ⊛ t₁))
-    (begins 𝓛 P lim b (o + word_place (length xs) + 0) s (shares_laws p xs) small κs.0 (lends_block 𝓛 holds p xs κs.0) κs.0 qs.0 (Incl-refl κs.0)) $ await ! tt $ split ! $
+    (begins 𝓛 P lim b (o + word_place (length xs) + 0) s (shares_laws p xs) small κs.0 (lends_block 𝓛 holds p xs κs.0) κs.0 qs.0 (Incl-refl κs.0)) $
+    await ! tt $ split ! $
     fpick ! (λ t. fsplit ! $ move ! (1 ∷ []) $ fsplit ! $
     -- [the invariant; the right; the beginning; the tokens]
     let h' : Row.Denot = record {

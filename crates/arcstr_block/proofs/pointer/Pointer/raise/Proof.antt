@@ -83,7 +83,8 @@ raise_spec 𝓤 𝓛 𝓜 𝓡 wired Y K g d dd met md =
     let h : Row.Denot = a.0.now in let p : Ptr = h.at in let right : Right = h.right in let lim : ℕ = h.limit in let holds = g.dealloc_token h.home in
     let P : Fml = block_owns holds p h.text in let s : Lft → Fml = block_shares p h.text in
     let sl = shares_laws p h.text in
-    let place : ℕ = a.1.0 in let old : ℕ = a.1.1.0 in let new : ℕ = a.1.1.1.0 in let us : List Val = vptr b o ∷ vint w64 place ∷ vint w64 old ∷ vint w64 new ∷ [] in
+    let place : ℕ = a.1.0 in let old : ℕ = a.1.1.0 in let new : ℕ = a.1.1.1.0 in
+    let us : List Val = vptr b o ∷ vint w64 place ∷ vint w64 old ∷ vint w64 new ∷ [] in
     let pb : ℕ = block_of p in
     let po : ℕ = word_at p (length h.text) in
     let y : (walk_of 𝓛 En hs c).Ghost = (
@@ -179,5 +180,6 @@ raise_spec 𝓤 𝓛 𝓜 𝓡 wired Y K g d dd met md =
     use0 𝓛 (raw (fact 𝓤 Same)) (fact_i 𝓤 Same (emp 𝓤) (refl, refl, refl, refl)) $
     use0 𝓛 (raw (fact 𝓤 (Gains old new n k))) (fact_i 𝓤 (Gains old new n k) (emp 𝓤) got.said) $ join ! $
     use0 𝓛 (raw (fact 𝓤 (IsWord lim n))) (fact_i 𝓤 (IsWord lim n) (emp 𝓤) ok.0) $ join ! $
-    nothing ! $ nothing ! $ fjoin ! $ nothing ! $ fjoin ! $ nothing ! $ fjoin ! $ nothing ! $ fjoin ! $ returns ! (look_at ! 0 refl) $ free_all ! refl $ keep ! (3 ∷ 0 ∷ 2 ∷ 1 ∷ []) $
+    nothing ! $ nothing ! $ fjoin ! $ nothing ! $ fjoin ! $ nothing ! $ fjoin ! $ nothing ! $ fjoin ! $ returns ! (look_at ! 0 refl) $ free_all ! refl $
+    keep ! (3 ∷ 0 ∷ 2 ∷ 1 ∷ []) $
     by ! (leaves 𝓛 En hs c y r (n, h') (tt, (tt, (tt, (tt, tt)))) (tt, (tt, (tt, (tt, tt)))))))))))))))))))))
