@@ -17,6 +17,8 @@ mod arc_str;
 mod conversion_tests;
 #[cfg(test)]
 mod count_tests;
+#[cfg(test)]
+mod examples;
 mod first_place;
 mod json;
 mod mac;
