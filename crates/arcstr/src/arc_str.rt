@@ -22,11 +22,20 @@ mod tests;
 #[cfg(test)]
 mod thread_tests;
 
-/// A text that threads share. A contract sees its text and its kind: a literal, a handle on a
-/// counted block, or a block that is marked for good.
+/// A text that threads share: it may be sent to a thread, and shared between threads. A contract sees its text and its
+/// kind: a literal, a handle on a counted block, or a block that is marked for good. It takes 24 bytes.
 ///
 /// The drop of a handle on a block takes one load of its word, and where that found no mark a fetch-sub. The
-/// last one of an unmarked block gives its memory back. No drop waits.
+/// last one of an unmarked block gives its memory back. The drop of a literal or of a fixed block takes no step. No
+/// drop waits.
+///
+/// ```
+/// let text = ArcStr::from_str(rt.alloc(), "foo")?;
+/// let other = text.clone(&rt);
+/// drop(text);
+/// assert_eq!(rt; other.as_str(), "foo");
+/// assert_eq!(rt; ArcStr::strong_count(&other), Some(1));
+/// ```
 #[derive(Drop)]
 pub struct ArcStr {
     form: Form,
@@ -52,7 +61,17 @@ impl Model for ArcStr {
     ghost view = { λ shared. text_view shared.form };
 }
 
-/// A living handle on a text, outside the type that drops it. It ends only in `ArcStr::from_raw`.
+/// A living handle on a text, outside the type that drops it. It has no drop, and the checker refuses a function that
+/// lets it go: it ends only in `ArcStr::from_raw`. A contract sees the text and its kind. It may be sent to a thread,
+/// and shared between threads. It takes 24 bytes.
+///
+/// ```
+/// let text = ArcStr::from_str(rt.alloc(), "foo")?;
+/// let raw: RawArcStr = ArcStr::into_raw(text.clone(&rt));
+/// drop(text);
+/// let other = ArcStr::from_raw(raw);
+/// assert_eq!(rt; other.as_str(), "foo");
+/// ```
 pub struct RawArcStr {
     text: ArcStr,
 }
@@ -66,14 +85,26 @@ impl Model for RawArcStr {
 }
 
 impl ArcStr {
-    /// The empty literal. Takes no memory.
+    /// The empty literal. Takes no memory, and no step is taken.
+    ///
+    /// ```
+    /// let text = ArcStr::new();
+    /// assert!(rt; text.is_empty());
+    /// assert!(rt; ArcStr::is_static(&text));
+    /// ```
     pub fn new() -> ArcStr
         ensures { result ≡ literal_of [] }
     {
         ArcStr::from_static("")
     }
 
-    /// A literal of this text. Takes no memory.
+    /// A literal of this text, which lies in the program. Takes no memory, and no step is taken.
+    ///
+    /// ```
+    /// let text = ArcStr::from_static("foo");
+    /// assert_eq!(rt; text.as_str(), "foo");
+    /// assert!(rt; ArcStr::is_static(&text));
+    /// ```
     pub fn from_static(text: &'static str) -> ArcStr
         ensures { result ≡ literal_of text.now }
     {
@@ -86,6 +117,13 @@ impl ArcStr {
     /// no mark a compare-exchange that counts the handle, or sets the mark where the count is past its limit; it
     /// is tried again where the word changed between, and so may wait. Of a literal or a fixed block no step is
     /// taken.
+    ///
+    /// ```
+    /// let text = ArcStr::from_str(rt.alloc(), "foo")?;
+    /// let other = text.clone(&rt);
+    /// assert!(rt; other == text);
+    /// assert_eq!(rt; ArcStr::strong_count(&text), Some(2));
+    /// ```
     pub fn clone(&self, rt: &impl Wait) -> ArcStr
         ensures { result ≡ self.now }
     {
@@ -98,6 +136,11 @@ impl ArcStr {
     }
 
     /// The text. No step is taken.
+    ///
+    /// ```
+    /// let text = ArcStr::from_str(rt.alloc(), "aé")?;
+    /// assert_eq!(rt; text.as_str(), "aé");
+    /// ```
     pub fn as_str(&self) -> &str
         ensures { result.now ≡ self.now.text }
     {
@@ -109,6 +152,11 @@ impl ArcStr {
     }
 
     /// The number of bytes of the text. No step is taken, and the bytes are not read.
+    ///
+    /// ```
+    /// let text = ArcStr::from_static("aé");
+    /// assert_eq!(rt; text.len(), 3);
+    /// ```
     pub fn len(&self) -> usize
         ensures { result ≡ length self.now.text }
     {
@@ -116,6 +164,11 @@ impl ArcStr {
     }
 
     /// Whether the text has no bytes. No step is taken.
+    ///
+    /// ```
+    /// assert!(rt; ArcStr::from_static("").is_empty());
+    /// assert!(rt; !ArcStr::from_static(" ").is_empty());
+    /// ```
     pub fn is_empty(&self) -> bool
         ensures { IsTrue result ↔ (self.now.text ≡ []) }
     {
@@ -123,14 +176,28 @@ impl ArcStr {
     }
 
     /// The bytes of the text. No step is taken.
+    ///
+    /// ```
+    /// let text = ArcStr::from_static("aé");
+    /// assert_eq!(rt; text.as_bytes(), b"a\xc3\xa9".as_slice());
+    /// ```
     pub fn as_bytes(&self) -> &[u8]
         ensures { result.now ≡ self.now.text }
     {
         self.as_str().as_bytes()
     }
 
-    /// The number of handles on the text's block at the moment of one load of its word, where the
-    /// block was not marked. `None` where it was, and without a step for a literal and a fixed block.
+    /// The number of handles on the text's block, those of its slices too, at the moment of one load of its word,
+    /// where the block was not marked: from 1 to `RC_MAX + 1`. `None` where it was, and without a step for a literal
+    /// and a fixed block.
+    ///
+    /// ```
+    /// let text = ArcStr::from_str(rt.alloc(), "foo")?;
+    /// let other = text.clone(&rt);
+    /// assert_eq!(rt; ArcStr::strong_count(&text), Some(2));
+    /// other.leak();
+    /// assert_eq!(rt; ArcStr::strong_count(&text), None);
+    /// ```
     pub fn strong_count(this: &ArcStr) -> Option<usize>
         ensures counted { IfSome result (λ count. (1 ≤ count) × (count ≤ RC_MAX + 1)) }
         ensures never_static { IsStatic this.now.kind → IsNone result }
@@ -141,8 +208,15 @@ impl ArcStr {
         }
     }
 
-    /// Whether the text lies where it is never given back: always for a literal and a fixed block;
-    /// for another block exactly where one load of its word found the mark.
+    /// Whether the text lies where it is never given back: always, and without a step, for a literal and a fixed
+    /// block; for another block exactly where one load of its word found the mark.
+    ///
+    /// ```
+    /// let text = ArcStr::from_str(rt.alloc(), "foo")?;
+    /// assert!(rt; !ArcStr::is_static(&text));
+    /// text.leak();
+    /// assert!(rt; ArcStr::is_static(&text));
+    /// ```
     pub fn is_static(this: &ArcStr) -> bool
         ensures { IsStatic this.now.kind → IsTrue result }
     {
@@ -152,8 +226,15 @@ impl ArcStr {
         }
     }
 
-    /// The same text for good: its memory is never given back. Of a block one fetch-or sets the mark in its
-    /// word; of a literal or a fixed block no step is taken. Takes no memory.
+    /// The same text for good: its memory is never given back, whatever ends. Of a block one fetch-or sets the mark
+    /// in its word, which nothing takes away; of a literal or a fixed block no step is taken. Takes no memory.
+    ///
+    /// ```
+    /// let text = ArcStr::from_str(rt.alloc(), "foo")?;
+    /// let kept = text.leak();
+    /// drop(text);
+    /// assert_eq!(rt; kept.as_str(), "foo");
+    /// ```
     pub fn leak(&self) -> StaticStr
         ensures { result ≡ leaked self.now }
     {
@@ -164,8 +245,16 @@ impl ArcStr {
         }
     }
 
-    /// The same text for good, where it lies so already: always for a literal and a fixed block; for
-    /// another block exactly where one load of its word found the mark.
+    /// The same text for good, where it lies so already: always, and without a step, for a literal and a fixed block;
+    /// for another block exactly where one load of its word found the mark. Takes no memory.
+    ///
+    /// ```
+    /// let text = ArcStr::from_str(rt.alloc(), "foo")?;
+    /// assert!(rt; ArcStr::as_static(&text).is_none());
+    /// text.leak();
+    /// let kept = ArcStr::as_static(&text);
+    /// assert!(rt; kept.is_some_and(|kept| kept.as_str() == "foo"));
+    /// ```
     pub fn as_static(this: &ArcStr) -> Option<StaticStr>
         ensures same { IfSome result (λ kept. kept ≡ leaked this.now) }
         ensures always_static { IsStatic this.now.kind → IsSome result }
@@ -177,14 +266,29 @@ impl ArcStr {
         }
     }
 
-    /// The handle as a raw value, in which it lives on until `from_raw`. No step is taken.
+    /// The handle as a raw value, in which it lives on, and is counted, until `from_raw`. Takes no memory, and no step
+    /// is taken.
+    ///
+    /// ```
+    /// let text = ArcStr::from_str(rt.alloc(), "foo")?;
+    /// let raw = ArcStr::into_raw(text.clone(&rt));
+    /// assert_eq!(rt; ArcStr::strong_count(&text), Some(2));
+    /// drop(ArcStr::from_raw(raw));
+    /// assert_eq!(rt; ArcStr::strong_count(&text), Some(1));
+    /// ```
     pub fn into_raw(this: ArcStr) -> RawArcStr
         ensures { result ≡ this }
     {
         RawArcStr { text: this }
     }
 
-    /// The handle that the raw value was made from. No step is taken.
+    /// The handle that the raw value was made from. Takes no memory, and no step is taken.
+    ///
+    /// ```
+    /// let raw = ArcStr::into_raw(ArcStr::from_str(rt.alloc(), "foo")?);
+    /// let text = ArcStr::from_raw(raw);
+    /// assert_eq!(rt; text.as_str(), "foo");
+    /// ```
     pub fn from_raw(raw: RawArcStr) -> ArcStr
         ensures { result ≡ raw }
     {
@@ -215,7 +319,7 @@ impl Default for ArcStr {
 
     ghost is_default = { λ text. text ≡ literal_of [] };
 
-    /// The empty literal, as `ArcStr::new()`. Takes no memory.
+    /// The empty literal, as `ArcStr::new()`. Takes no memory, and no step is taken.
     fn default() -> ArcStr {
         ArcStr::new()
     }

@@ -1,3 +1,7 @@
 //! The examples of the doc comments: the body of each test is the example of the item that it is named for.
 
+mod arc_str;
+mod json;
+mod macros;
+mod static_str;
 mod substr;

@@ -8,21 +8,34 @@ mod from_memory;
 #[cfg(test)]
 mod tests;
 
-/// Why a JSON value is not read as a text. The tests come in the order of the variants.
+/// Why a JSON value is not read as a text. The tests come in the order of the variants. It may be copied, sent to a
+/// thread and shared between threads, and takes one byte. Its drop does nothing.
+///
+/// ```
+/// let fault = ArcStr::from_json(rt.alloc(), &Value::from(12u8)).err();
+/// assert_eq!(rt; fault, Some(JsonFault::NotText));
+/// let shown = format!(in rt.alloc(); "{}", JsonFault::NotText)?;
+/// assert_eq!(rt; shown.as_str(), "value is not a text");
+/// ```
 #[derive(Clone, Copy, Debug, PartialEq, Eq, Hash)]
 pub enum JsonFault {
     /// The value is not a string.
     NotText,
-    /// The text is too long for a block.
+    /// The text is too long for a block: it has `2^63 - 25` bytes or more.
     Length,
-    /// There was no memory.
+    /// There was no memory for the text.
     Memory,
 }
 
 impl JsonFault {
     ghost use Rattle.arcstr.specs.JsonFault.{json_fault_number};
 
-    /// The number of the fault, from 1 on in the order of the tests.
+    /// The number of the fault, from 1 to 3 in the order of the tests.
+    ///
+    /// ```
+    /// assert_eq!(rt; JsonFault::NotText.number(), 1);
+    /// assert_eq!(rt; JsonFault::Memory.number(), 3);
+    /// ```
     pub fn number(&self) -> u8
         ensures { result ≡ json_fault_number self.now }
     {
@@ -39,6 +52,7 @@ impl fmt::Display for JsonFault {
 
     ghost output = { λ fault. Some (json_fault_text fault) };
 
+    /// Writes what was wrong, in a few words. Refused where the writer refuses. Takes no memory of its own.
     fn fmt<W: fmt::Write>(&self, f: &mut fmt::Formatter<W>) -> fmt::Result {
         f.write_str(match self {
             JsonFault::NotText => "value is not a text",

@@ -11,7 +11,14 @@ use std::borrow::CowStr;
 mod tests;
 
 impl ArcStr {
-    /// The text, borrowed. Takes no memory, and no step is taken.
+    /// The text, borrowed from this handle. Takes no memory, and no step is taken.
+    ///
+    /// ```
+    /// let text = ArcStr::from_str(rt.alloc(), "foo")?;
+    /// let cow = text.to_cow();
+    /// assert_eq!(rt; cow.as_str(), "foo");
+    /// assert!(rt; matches!(&cow, CowStr::Borrowed(_)));
+    /// ```
     pub fn to_cow(&self) -> CowStr<'_>
         ensures text { cow_str_bytes result ≡ self.now.text }
         ensures borrowed { IsBorrowedStr result }
@@ -20,7 +27,15 @@ impl ArcStr {
     }
 
     /// The text without its handle: a literal's is borrowed, any other is copied, with one request for
-    /// memory where it is not empty, and its handle is dropped. For want of memory the text itself comes back.
+    /// memory where it is not empty, and its handle is dropped. Refused for want of memory alone, and then the text
+    /// itself comes back. No step is taken but those of the drop.
+    ///
+    /// ```
+    /// let borrowed = ArcStr::from_static("foo").into_cow(rt.alloc())?;
+    /// assert!(rt; matches!(&borrowed, CowStr::Borrowed(_)));
+    /// let copied = ArcStr::from_str(rt.alloc(), "foo")?.into_cow(rt.alloc())?;
+    /// assert!(rt; matches!(&copied, CowStr::Owned(_)));
+    /// ```
     pub fn into_cow(self, alloc: Global) -> Result<CowStr<'static>, ArcStr>
         ensures text { IfOk result (λ cow. cow_str_bytes cow ≡ self.text) }
         ensures borrowed { IfOk result (λ cow. IsBorrowedStr cow ↔ (self.kind ≡ literal)) }

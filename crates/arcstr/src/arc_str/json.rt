@@ -9,15 +9,31 @@ use serde_json::Value;
 use std::alloc::{AllocError, Global};
 
 impl ArcStr {
-    /// A copy of the text, as a JSON string. Refused for want of memory alone. No step is taken.
+    /// A copy of the text, as a JSON string, with one request for memory where it is not empty. Refused for want of
+    /// memory alone. No step is taken.
+    ///
+    /// ```
+    /// let value = ArcStr::from_static("a\"é").to_json(rt.alloc())?;
+    /// assert_eq!(rt; value.as_str(), Some("a\"é"));
+    /// assert_eq!(rt; value.to_string(rt.alloc())?.as_str(), "\"a\\\"é\"");
+    /// ```
     pub fn to_json(&self, alloc: Global) -> Result<Value, AllocError>
         ensures { IfOk result (λ value. text_in value ≡ Some self.now.text) }
     {
         Value::try_from_str(alloc, self.as_str())
     }
 
-    /// The text of a JSON string, made as `from_str` makes it. Refused, in this order: a value that is not a
-    /// string (`NotText`), a text that is too long for a block (`Length`), and want of memory (`Memory`).
+    /// A copy of the text of a JSON string: one request for memory, and none where it is empty. Refused, in this order:
+    /// a value that is not a string (`NotText`), a text of `2^63 - 25` bytes or more (`Length`), and want of memory
+    /// (`Memory`). No step is taken.
+    ///
+    /// ```
+    /// let value = Value::try_from_str(rt.alloc(), "foo")?;
+    /// let text = ArcStr::from_json(rt.alloc(), &value)?;
+    /// assert_eq!(rt; text.as_str(), "foo");
+    /// let fault = ArcStr::from_json(rt.alloc(), &Value::Null).err();
+    /// assert_eq!(rt; fault, Some(JsonFault::NotText));
+    /// ```
     pub fn from_json(alloc: Global, value: &Value) -> Result<ArcStr, JsonFault>
         ensures { ReadsArcStr value.now result }
     {

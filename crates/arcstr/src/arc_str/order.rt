@@ -17,7 +17,13 @@ use std::hash::{Hash, Hasher};
 mod tests;
 
 impl ArcStr {
-    /// Whether the text is this one, byte by byte. No step is taken.
+    /// Whether the text is this one, byte by byte. Takes no memory, and no step is taken.
+    ///
+    /// ```
+    /// let text = ArcStr::from_str(rt.alloc(), "foo")?;
+    /// assert!(rt; text.eq_str("foo"));
+    /// assert!(rt; !text.eq_str("fo"));
+    /// ```
     pub fn eq_str(&self, other: &str) -> bool
         ensures { IsTrue result ↔ (self.now.text ≡ other.now) }
     {
@@ -30,6 +36,7 @@ impl PartialEq for ArcStr {
 
     ghost laws = { on_per (λ shared. shared.text) (partial_equiv_from_equiv nat_list_eq_equiv) };
 
+    /// Whether the two texts are the same, byte by byte, of whatever kinds. Takes no memory, and no step is taken.
     fn eq(&self, other: &ArcStr) -> bool
         ensures value { result ≡ bytes_eq self.now.text other.now.text }
         ensures same { IsTrue result ↔ (self.now.text ≡ other.now.text) }
@@ -47,6 +54,7 @@ impl PartialOrd for ArcStr {
 
     ghost laws = { on_po (λ shared. shared.text) texts_po };
 
+    /// How the two texts compare, as `cmp` says it: always `Some`. Takes no memory, and no step is taken.
     fn partial_cmp(&self, other: &ArcStr) -> Option<Ordering> {
         Some(self.cmp(other))
     }
@@ -61,6 +69,8 @@ impl Ord for ArcStr {
 
     ghost matches_eq = { λ one other. texts_ties one.text other.text };
 
+    /// How the two texts compare by their bytes, of whatever kinds: a text comes before each that goes on after it, and
+    /// else the one with the lower byte where they first differ. Takes no memory, and no step is taken.
     fn cmp(&self, other: &ArcStr) -> Ordering
         ensures value { result ≡ slice_cmp nat_cmp self.now.text other.now.text }
         ensures order { IsTextOrder self.now.text other.now.text result }
@@ -74,6 +84,7 @@ impl Hash for ArcStr {
 
     ghost respects_eq = { Prim.search (hashing, rules) };
 
+    /// The hash of the text, as a `str` of these bytes has it, of whatever kind. Takes no memory, and no step is taken.
     fn hash<H: Hasher>(&self, state: &mut H) {
         self.as_str().hash(state);
     }

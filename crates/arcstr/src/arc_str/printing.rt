@@ -12,6 +12,11 @@ mod tests;
 impl ArcStr {
     /// A copy of the text, with one request for memory where it is not empty. Refused for want of memory
     /// alone. No step is taken.
+    ///
+    /// ```
+    /// let copy = ArcStr::from_static("foo").to_string(rt.alloc())?;
+    /// assert_eq!(rt; copy.as_str(), "foo");
+    /// ```
     pub fn to_string(&self, alloc: Global) -> Result<String, AllocError>
         ensures { IfOk result (λ copy. string_bytes copy ≡ self.now.text) }
     {
@@ -24,6 +29,8 @@ impl fmt::Display for ArcStr {
 
     ghost styled_output = { λ shared spec. Some (styled_text spec shared.text) };
 
+    /// Writes the text, padded or cut as a `str` is. Refused where the writer refuses. Takes no memory of its own, and
+    /// no step is taken.
     fn fmt<W: fmt::Write>(&self, f: &mut fmt::Formatter<W>) -> fmt::Result {
         f.pad(self.as_str())
     }
@@ -32,6 +39,8 @@ impl fmt::Display for ArcStr {
 impl fmt::Debug for ArcStr {
     ghost debug_output = { λ shared. debug_str shared.text };
 
+    /// Writes the text between quotes, escaped as a `str` is. Refused where the writer refuses. Takes no memory of its
+    /// own, and no step is taken.
     fn fmt<W: fmt::Write>(&self, f: &mut fmt::Formatter<W>) -> fmt::Result {
         let text = self.as_str();
         fmt::Debug::fmt(&text, f)

@@ -18,6 +18,12 @@ use std::sync::Wait;
 impl ArcStr {
     /// The part of the text in the range, as Rust's `str::get`: `None` where the ends are out of order,
     /// past the text or inside a character. Takes no memory, and no step is taken.
+    ///
+    /// ```
+    /// let text = ArcStr::from_static("aé");
+    /// assert_eq!(rt; text.get(1..), Some("é"));
+    /// assert_eq!(rt; text.get(..2), None);
+    /// ```
     pub fn get<R: Into<StrRange>>(&self, range: R) -> Option<&str>
         ensures { (given : StrRange) × R.converts range given
             × AnswersGet self.now.text given (option_copied result) }
@@ -30,6 +36,14 @@ impl ArcStr {
     ///
     /// Refuses the first that fails: the start is at most the end (`OutOfOrder`), the end at most the
     /// length (`PastEnd`), and both are boundaries (`OffBoundary`).
+    ///
+    /// ```
+    /// let text = ArcStr::from_str(rt.alloc(), "foo bar")?;
+    /// let slice = text.substr(&rt, 4..)?;
+    /// assert_eq!(rt; slice.as_str(), "bar");
+    /// let fault = text.substr(&rt, 4..9).err();
+    /// assert_eq!(rt; fault, Some(RangeFault::PastEnd));
+    /// ```
     #[inline]
     pub fn substr<R: Into<StrRange>>(&self, rt: &impl Wait, range: R) -> Result<Substr, RangeFault>
         ensures { (given : StrRange) × R.converts range given
@@ -42,6 +56,13 @@ impl ArcStr {
     /// The slice of this text that a view of it shows. `None` exactly where the text doesn't have the
     /// view's text at the view's place. An empty view is found everywhere, and gives `Substr::new()`. Takes no
     /// memory; the handle is cloned where a view that is not empty is found, and so it may wait.
+    ///
+    /// ```
+    /// let text = ArcStr::from_str(rt.alloc(), "  foo ")?;
+    /// let view = StrView::whole(text.as_str()).trim();
+    /// let slice = text.try_substr_from(&rt, view).expect(&rt, "not found");
+    /// assert_eq!(rt; slice.as_str(), "foo");
+    /// ```
     pub fn try_substr_from(&self, rt: &impl Wait, view: StrView<'_>) -> Option<Substr>
         ensures found { IsSome result ↔ IsFoundAt self.now.text view.entry.text view.entry.place }
         ensures value { IfSome result (IsSliceOfView (slice_of self.now) view.entry) }
@@ -55,6 +76,14 @@ impl ArcStr {
     /// The slice of this text that a view of it shows; of an empty view `Substr::new()`. That the text has the
     /// view's text at the view's place is the caller's condition. Takes no memory; the handle is cloned where the
     /// view is not empty, and so it may wait.
+    ///
+    /// ```
+    /// let text = ArcStr::from_str(rt.alloc(), "  foo ")?;
+    /// let view = StrView::whole(text.as_str()).trim();
+    /// assert!(rt; view.is_found_in(text.as_str()));
+    /// let slice = text.substr_from(&rt, view);
+    /// assert_eq!(rt; slice.range(), 2..5);
+    /// ```
     pub fn substr_from(&self, rt: &impl Wait, view: StrView<'_>) -> Substr
         requires { IsFoundAt self.now.text view.text view.place }
         ensures { IsSliceOfView (slice_of self.now) view.entry result }
@@ -71,6 +100,14 @@ impl ArcStr {
     ///
     /// Of other places it refuses the first that fails: the start is at most the end (`OutOfOrder`), the end at
     /// most the length (`PastEnd`), and both are boundaries (`OffBoundary`).
+    ///
+    /// ```
+    /// let text = ArcStr::from_static("name=value");
+    /// let slice = text.substr_using(&rt, |own| 5..own.len())?;
+    /// assert_eq!(rt; slice.as_str(), "value");
+    /// let fault = text.substr_using(&rt, |_| 5..4).err();
+    /// assert_eq!(rt; fault, Some(RangeFault::OutOfOrder));
+    /// ```
     pub fn substr_using<F: FnOnce(&str) -> Range<usize>>(
         &self,
         rt: &impl Wait,
@@ -93,6 +130,12 @@ impl ArcStr {
     ///
     /// Of other places it refuses the first that fails: the start is at most the end (`OutOfOrder`), the end at
     /// most the length (`PastEnd`), and both are boundaries (`OffBoundary`).
+    ///
+    /// ```
+    /// let text = ArcStr::from_static("name=value");
+    /// let slice = text.try_substr_using(&rt, |_| 0..4)?;
+    /// assert_eq!(rt; slice.as_str(), "name");
+    /// ```
     pub fn try_substr_using<F: FnOnce(&str) -> Range<usize>>(
         &self,
         rt: &impl Wait,

@@ -9,9 +9,16 @@ use std::sync::Wait;
 
 impl ArcStr {
     /// The slices of this text before and after the first place of the character, as Rust's `str::split_once`: the
-    /// first, the character and the second join to the text. `None` exactly where it doesn't have the character.
-    /// Takes no memory; where it has, the handle is cloned once for each slice, which also where it is empty keeps
-    /// the text, and so it may wait.
+    /// first, the character and the second join to the text. `None` exactly where it doesn't have the character, and
+    /// then no step is taken. Takes no memory; where it has, the handle is cloned once for each slice, which also where
+    /// it is empty keeps the text, and so it may wait.
+    ///
+    /// ```
+    /// let text = ArcStr::from_str(rt.alloc(), "name=a=b")?;
+    /// let (name, value) = text.split_once(&rt, '=').expect(&rt, "no `=`");
+    /// assert_eq!(rt; name.as_str(), "name");
+    /// assert_eq!(rt; value.as_str(), "a=b");
+    /// ```
     pub fn split_once(&self, rt: &impl Wait, character: char) -> Option<(Substr, Substr)>
         ensures { AnswersSplit self.now.text (slice_of self.now) character result }
     {

@@ -1,4 +1,4 @@
-use super::ArcStr;
+use super::{ArcStr, RawArcStr};
 use crate::literal;
 use crate::static_str::StaticStr;
 use crate::substr::Substr;
@@ -9,6 +9,7 @@ use std::process::Abort;
 #[test]
 fn a_text_is_three_words_and_a_slice_five(rt: HostRuntime) {
     assert_eq!(rt; size_of::<ArcStr>(), 24);
+    assert_eq!(rt; size_of::<RawArcStr>(), 24);
     assert_eq!(rt; size_of::<StaticStr>(), 24);
     assert_eq!(rt; size_of::<Substr>(), 40);
 }
@@ -79,12 +80,4 @@ fn a_static_text_gives_handles_again(rt: HostRuntime) {
     let text = kept.to_arc_str();
     check_leaked(&rt, &text, "foobar");
     check_count(&rt, &text.clone(&rt), None);
-}
-
-#[test]
-fn a_raw_handle_comes_back(rt: HostRuntime) {
-    let raw = ArcStr::into_raw(made(&rt, "abcd"));
-    let text = ArcStr::from_raw(raw);
-    check_text(&rt, text.as_str(), "abcd");
-    check_count(&rt, &text, Some(1));
 }

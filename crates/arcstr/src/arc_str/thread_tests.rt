@@ -1,5 +1,6 @@
 //! Texts that are sent to threads and shared between them.
 use super::ArcStr;
+use crate::json::JsonFault;
 use crate::test_steps::{check_count, check_text, made};
 use std::sync::Wait;
 use std::thread;
@@ -41,4 +42,16 @@ fn two_threads_read_one_static_text(rt: HostRuntime) {
     let kept = made(&rt, "foobar").leak();
     let lengths = thread::join(&rt, || kept.len(), || kept.as_str().len());
     assert!(rt; lengths == (6, 6));
+}
+
+/// The value, which may be sent to a thread and shared between threads.
+fn crossing<T: Send + Sync>(value: T) -> T {
+    value
+}
+
+#[test]
+fn raw_handles_and_faults_may_cross_threads(rt: HostRuntime) {
+    let raw = crossing(ArcStr::into_raw(made(&rt, "foobar")));
+    check_text(&rt, ArcStr::from_raw(raw).as_str(), "foobar");
+    assert_eq!(rt; crossing(JsonFault::Memory), JsonFault::Memory);
 }

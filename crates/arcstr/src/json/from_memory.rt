@@ -8,18 +8,19 @@ impl From<AllocError> for JsonFault {
 
     ghost from_gives = { λ _ fault. fault ≡ Memory };
 
+    /// `Memory`, whatever was asked for. Takes no memory.
     fn from(_refused: AllocError) -> JsonFault {
         JsonFault::Memory
     }
 }
 
-/// What could not be stored is dropped.
 impl<T: Drop> From<AllocFailed<T>> for JsonFault {
     ghost use Rattle.std.specs.Prelude.{◌≡◌};
     ghost use Rattle.arcstr.specs.declared.json.JsonFault.TheVariants.{Memory};
 
     ghost from_gives = { λ _ fault. fault ≡ Memory };
 
+    /// `Memory`, whatever was asked for. Takes no memory; what was not stored is dropped.
     fn from(refused: AllocFailed<T>) -> JsonFault {
         JsonFault::from(AllocError::from(refused))
     }

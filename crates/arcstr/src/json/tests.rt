@@ -5,6 +5,7 @@ use crate::substr::Substr;
 use crate::test_steps::{check_copied, check_empty, check_nothing, check_text, made, part};
 use serde_json::Value;
 use std::alloc::AllocGlobal;
+use std::mem::size_of;
 use std::process::Abort;
 
 /// The JSON string of the text.
@@ -80,6 +81,11 @@ fn a_written_text_is_parsed_back(rt: HostRuntime) {
     );
     let parsed = Value::from_str(rt.alloc(), written.as_str());
     check_read(&rt, &parsed.expect(&rt, "not parsed"), text);
+}
+
+#[test]
+fn a_fault_is_one_byte(rt: HostRuntime) {
+    assert_eq!(rt; size_of::<JsonFault>(), 1);
 }
 
 #[test]

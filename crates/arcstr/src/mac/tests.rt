@@ -77,13 +77,6 @@ fn a_text_is_printed_into_a_width(rt: HostRuntime) {
 }
 
 #[test]
-fn printing_makes_a_block(rt: HostRuntime) {
-    let text = format_arcstr!(rt.alloc(); "cool {}", 123).expect(&rt, "no memory");
-    check_text(&rt, text.as_str(), "cool 123");
-    assert!(rt; ArcStr::as_static(&text).is_none());
-}
-
-#[test]
 fn printing_nothing_makes_the_empty_literal(rt: HostRuntime) {
     let nothing = format_arcstr!(rt.alloc(); "").expect(&rt, "no memory");
     assert!(rt; nothing.is_empty());

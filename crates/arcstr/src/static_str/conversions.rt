@@ -5,7 +5,7 @@ use std::convert::{AsSlice, AsStr};
 impl AsStr for StaticStr {
     ghost text = { λ kept. kept.text };
 
-    /// The text. Takes no step.
+    /// The text. No step is taken.
     fn as_str(&self) -> &str {
         StaticStr::as_str(self)
     }
@@ -14,7 +14,7 @@ impl AsStr for StaticStr {
 impl AsSlice<u8> for StaticStr {
     ghost items = { λ kept. kept.text };
 
-    /// The bytes of the text. Takes no step.
+    /// The bytes of the text. No step is taken.
     fn as_slice(&self) -> &[u8] {
         StaticStr::as_str(self).as_bytes()
     }

@@ -34,12 +34,6 @@ fn a_closure_may_leave_zeros(rt: HostRuntime) {
 }
 
 #[test]
-fn a_closure_that_leaves_no_text_is_refused(rt: HostRuntime) {
-    let made = ArcStr::init_with(rt.alloc(), 5, |bytes| bytes[2] = 255);
-    check_refused(&rt, made, TextFault::Utf8(2));
-}
-
-#[test]
 fn no_bytes_are_filled_too(rt: HostRuntime) {
     let mut length = None;
     let made = ArcStr::init_with(rt.alloc(), 0, |bytes| length = Some(bytes.len()));
@@ -61,14 +55,6 @@ fn a_closure_is_not_run_without_memory(rt: HostRuntime) {
     let made = ArcStr::init_with(rt.alloc(), TOO_LONG - 1, |_| ran = true);
     check_refused(&rt, made, TextFault::Memory);
     assert!(rt; !ran);
-}
-
-#[test]
-fn texts_are_repeated(rt: HostRuntime) {
-    let alloc = rt.alloc();
-    check_made(&rt, ArcStr::try_repeat(alloc, "A", 10), "AAAAAAAAAA");
-    check_made(&rt, ArcStr::try_repeat(alloc, "é", 2), "éé");
-    check_made(&rt, ArcStr::repeat(alloc, "ab", 2), "abab");
 }
 
 #[test]

@@ -28,9 +28,3 @@ fn debug_escapes_as_a_str_does(rt: HostRuntime) {
         check_copied(&rt, format!(in rt.alloc(); "{:?}", literal!(text)), wanted);
     }
 }
-
-#[test]
-fn a_text_is_copied_into_a_string(rt: HostRuntime) {
-    check_copied(&rt, made(&rt, "hi").to_string(rt.alloc()), "hi");
-    check_copied(&rt, literal!("").to_string(rt.alloc()), "");
-}

@@ -128,14 +128,6 @@ fn lacks(rt: &(impl Abort + Wait), text: &ArcStr, shown: &str, place: usize) {
 }
 
 #[test]
-fn a_trimmed_view_is_found(rt: HostRuntime) {
-    let text = made(&rt, "   abc");
-    let trimmed = StrView::whole(text.as_str()).trim();
-    let slice = text.try_substr_from(&rt, trimmed).expect(&rt, "not found");
-    check_within(&rt, &slice, "abc", 3..6, "   abc");
-}
-
-#[test]
 fn an_empty_view_is_found_everywhere(rt: HostRuntime) {
     let text = made(&rt, "abab");
     for place in [99, MAX] {
@@ -166,14 +158,6 @@ fn a_view_is_not_found_elsewhere(rt: HostRuntime) {
     lacks(&rt, &text, "a", MAX - 1);
     lacks(&rt, &literal!("   abc"), "abc", 0);
     lacks(&rt, &literal!("aé"), "é", 0);
-}
-
-#[test]
-fn closures_find_a_slice(rt: HostRuntime) {
-    let text = made(&rt, "   abc");
-    check_sliced(&rt, text.substr_using(&rt, |_| 3..6), "abc", 3..6);
-    let found = text.try_substr_using(&rt, |own| 1..own.len());
-    check_sliced(&rt, found, "  abc", 1..6);
 }
 
 #[test]

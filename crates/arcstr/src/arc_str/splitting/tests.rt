@@ -9,14 +9,6 @@ fn parts(rt: &(impl Abort + Wait), text: &ArcStr, character: char) -> (Substr, S
 }
 
 #[test]
-fn a_text_is_split_at_the_first_place(rt: HostRuntime) {
-    let text = literal!("name=a=b");
-    let (name, value) = parts(&rt, &text, '=');
-    check_slice(&rt, &name, "name", 0..4);
-    check_slice(&rt, &value, "a=b", 5..8);
-}
-
-#[test]
 fn both_parts_keep_the_text(rt: HostRuntime) {
     let text = made(&rt, "name=value");
     let pair = parts(&rt, &text, '=');
