@@ -80,9 +80,9 @@ impl Substr {
     }
 
     /// The slice of the same parent that a view of the slice's own text shows; of an empty view `Substr::new()`.
-    /// That the slice's own text has the view's text at the view's place, in bytes, is the caller's condition, which
-    /// `StrView::is_found_in` tests. Takes no
-    /// memory; the parent's handle is cloned where the view is not empty, and so it may wait.
+    /// That the slice's own text has the view's text at the view's place, in bytes, is the caller's condition;
+    /// `StrView::is_found_in` tests it. Takes no memory; the parent's handle is cloned where the view is not empty,
+    /// and so it may wait.
     ///
     /// ```
     /// let line = literal!("key: value").substr(&rt, 4..)?;
@@ -106,10 +106,10 @@ impl Substr {
         )
     }
 
-    /// The slice of the same parent between the places that the closure finds in the slice's own text. The
+    /// The slice of the same parent between the places, in bytes, that the closure finds in the slice's own text. The
     /// closure is called once, first; that it takes that text is the caller's condition. Equal places give
-    /// `Substr::new()` wherever they lie. Takes no memory; for other places the parent's handle is cloned, and so
-    /// it may wait.
+    /// `Substr::new()` wherever they lie. Takes no memory; for other places that are not refused the parent's handle
+    /// is cloned, and so it may wait.
     ///
     /// Of other places it refuses the first that fails: the start is at most the end (`OutOfOrder`), the end at
     /// most the length of the slice's own text (`PastEnd`), and both are boundaries of it (`OffBoundary`).
@@ -137,10 +137,10 @@ impl Substr {
         self.substr(rt, found)
     }
 
-    /// The slice of the same parent between the places that the closure finds in the slice's own text, as
+    /// The slice of the same parent between the places, in bytes, that the closure finds in the slice's own text, as
     /// `substr_using` answers it. The closure is called once, first; that it takes that text is the caller's
-    /// condition. Equal places give `Substr::new()` wherever they lie. Takes no memory; for other places the
-    /// parent's handle is cloned, and so it may wait.
+    /// condition. Equal places give `Substr::new()` wherever they lie. Takes no memory; for other places that are
+    /// not refused the parent's handle is cloned, and so it may wait.
     ///
     /// Of other places it refuses the first that fails: the start is at most the end (`OutOfOrder`), the end at
     /// most the length of the slice's own text (`PastEnd`), and both are boundaries of it (`OffBoundary`).
