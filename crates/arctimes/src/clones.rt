@@ -11,7 +11,7 @@ use std::sync::Wait;
 use std::thread;
 
 /// Times the figure if it is one of these, and says whether it is.
-pub fn run<M: Machine>(rt: &M, request: &Request) -> Result<bool> {
+pub(crate) fn run<M: Machine>(rt: &M, request: &Request) -> Result<bool> {
     match request.figure {
         "clone_drop" => of_one_text(rt, request)?,
         "clone_drop_bare" => of_one_text_unread(rt, request)?,

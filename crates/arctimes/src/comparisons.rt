@@ -11,7 +11,7 @@ use std::cmp::Ordering;
 use std::hash::{DefaultHasher, Hash, Hasher};
 
 /// Times the figure if it is one of these, and says whether it is: 8 texts in blocks of their own beside one more.
-pub fn run<M: Machine>(rt: &M, request: &Request) -> Result<bool> {
+pub(crate) fn run<M: Machine>(rt: &M, request: &Request) -> Result<bool> {
     let text = letters(rt.alloc(), request.size, request.size)?;
     let one = ArcStr::from_str(rt.alloc(), text.as_str())?;
     let others = letters(rt.alloc(), request.size, request.place)?;

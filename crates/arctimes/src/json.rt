@@ -11,7 +11,7 @@ use serde_json::Value;
 use std::alloc::{AllocError, Global};
 
 /// Times the figure if it is one of these, and says whether it is.
-pub fn run<M: Machine>(rt: &M, request: &Request) -> Result<bool> {
+pub(crate) fn run<M: Machine>(rt: &M, request: &Request) -> Result<bool> {
     let text = letters(rt.alloc(), request.size, request.place)?;
     let all = many(rt.alloc(), text.as_str(), 8)?;
     let times = request.operations / 8;

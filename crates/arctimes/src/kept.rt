@@ -11,7 +11,7 @@ use std::alloc::{AllocError, Global};
 use std::sync::Wait;
 
 /// Times the figure if it is one of these, and says whether it is.
-pub fn run<M: Machine>(rt: &M, request: &Request) -> Result<bool> {
+pub(crate) fn run<M: Machine>(rt: &M, request: &Request) -> Result<bool> {
     let text = letters(rt.alloc(), request.size, request.size)?;
     let text = text.as_str();
     let count = request.operations;

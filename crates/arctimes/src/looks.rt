@@ -9,7 +9,7 @@ use anyhow::Result;
 use arcstr::ArcStr;
 
 /// Times the figure if it is one of these, and says whether it is: over 8 texts in blocks of their own.
-pub fn run<M: Machine>(rt: &M, request: &Request) -> Result<bool> {
+pub(crate) fn run<M: Machine>(rt: &M, request: &Request) -> Result<bool> {
     let text = letters(rt.alloc(), request.size, request.size)?;
     let all = many(rt.alloc(), text.as_str(), 8)?;
     let times = request.operations / 8;

@@ -5,6 +5,14 @@ use std::sync::Wait;
 use std::thread::Threads;
 
 /// A clock, memory, standard streams, threads, and the leave to wait for them.
-pub trait Machine: Clock + Env + AllocGlobal + Input + Print + Eprint + Threads + Wait + Sync {}
+pub(crate) trait Machine: Clock
+    + Env
+    + AllocGlobal
+    + Input
+    + Print
+    + Eprint
+    + Threads
+    + Wait
+    + Sync {}
 
 impl<R: Clock + Env + AllocGlobal + Input + Print + Eprint + Threads + Wait + Sync> Machine for R {}

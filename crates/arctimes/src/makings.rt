@@ -10,7 +10,7 @@ use arcstr::ArcStr;
 use std::alloc::Global;
 
 /// Times the figure if it is one of these, and says whether it is.
-pub fn run<M: Machine>(rt: &M, request: &Request) -> Result<bool> {
+pub(crate) fn run<M: Machine>(rt: &M, request: &Request) -> Result<bool> {
     let text = letters(rt.alloc(), request.size, request.size)?;
     let text = text.as_str();
     let times = request.operations;

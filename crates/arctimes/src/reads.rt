@@ -13,7 +13,7 @@ use std::alloc::AllocError;
 const TEXT: &str = "0123456789abcdef";
 
 /// Times the figure if it is one of these, and says whether it is.
-pub fn run<M: Machine>(rt: &M, request: &Request) -> Result<bool> {
+pub(crate) fn run<M: Machine>(rt: &M, request: &Request) -> Result<bool> {
     let times = request.operations / 1000;
     match request.figure {
         "read" => {

@@ -4,7 +4,7 @@ use anyhow::{Context, Result};
 
 /// How the rounds of a figure are told.
 #[derive(Clone, Copy, PartialEq, Eq)]
-pub enum Form {
+pub(crate) enum Form {
     /// A line on standard output for each round, with all numbers.
     Lines,
     /// The name and the sum on standard output, and the time on standard error.
@@ -13,24 +13,24 @@ pub enum Form {
 
 /// A figure by its name, and how much of it is done.
 #[derive(Clone, Copy)]
-pub struct Request<'a> {
-    pub figure: &'a str,
+pub(crate) struct Request<'a> {
+    pub(crate) figure: &'a str,
     /// How many operations a round has (N).
-    pub operations: usize,
-    pub rounds: usize,
-    pub threads: usize,
+    pub(crate) operations: usize,
+    pub(crate) rounds: usize,
+    pub(crate) threads: usize,
     /// The length of a text, in bytes.
-    pub size: usize,
+    pub(crate) size: usize,
     /// The place of the byte in which two texts differ (AT); none where it is the size.
-    pub place: usize,
+    pub(crate) place: usize,
     /// How many texts there are, for figures of reads.
-    pub count: usize,
-    pub form: Form,
+    pub(crate) count: usize,
+    pub(crate) form: Form,
 }
 
 impl<'a> Request<'a> {
     /// A thousand operations in three rounds, of one thread on a text of 64 bytes.
-    pub fn of(figure: &'a str) -> Request<'a> {
+    pub(crate) fn of(figure: &'a str) -> Request<'a> {
         Request {
             figure,
             operations: 1000,
@@ -44,7 +44,7 @@ impl<'a> Request<'a> {
     }
 
     /// The request that the words spell, in the order FIGURE N ROUNDS THREADS SIZE AT COUNT.
-    pub fn from_words(words: &'a [String]) -> Result<Request<'a>> {
+    pub(crate) fn from_words(words: &'a [String]) -> Result<Request<'a>> {
         let figure = words.first().map_or("", |word| word.as_str());
         let usual = Request::of(figure);
         let size = number(words, 4, usual.size)?;

@@ -8,7 +8,7 @@ use std::time::Instant;
 
 /// What a round's time is shared out among, where a person reads it.
 #[derive(Clone, Copy)]
-pub enum Unit {
+pub(crate) enum Unit {
     /// So many operations as the request has.
     Operation,
     /// So many texts as were read: N / 1000 rounds over COUNT texts.
@@ -18,7 +18,7 @@ pub enum Unit {
 }
 
 /// Does the rounds of the request, and tells of each.
-pub fn run<M: Machine, F: Fn() -> Result<usize, AllocError> + Drop>(
+pub(crate) fn run<M: Machine, F: Fn() -> Result<usize, AllocError> + Drop>(
     rt: &M,
     request: &Request,
     unit: Unit,

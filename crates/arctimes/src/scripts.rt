@@ -9,7 +9,7 @@ use arcbench_core::script;
 use std::alloc::{AllocError, Global};
 
 /// Times the figure if it is this one, and says whether it is.
-pub fn run<M: Machine>(rt: &M, request: &Request) -> Result<bool> {
+pub(crate) fn run<M: Machine>(rt: &M, request: &Request) -> Result<bool> {
     if request.figure != "script" {
         return Ok(false);
     }

@@ -15,7 +15,7 @@ const START: usize = 1000;
 const END: usize = 3000;
 
 /// Times the figure if it is one of these, and says whether it is.
-pub fn run<M: Machine>(rt: &M, request: &Request) -> Result<bool> {
+pub(crate) fn run<M: Machine>(rt: &M, request: &Request) -> Result<bool> {
     match request.figure {
         "substr" => of_a_text(rt, request)?,
         "substr_of_substr" => of_a_slice(rt, request)?,

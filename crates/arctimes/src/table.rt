@@ -52,7 +52,7 @@ fn short(figure: &str) -> Request<'_> {
 }
 
 /// Does a short round of each figure.
-pub fn run<M: Machine>(rt: &M) -> Result<()> {
+pub(crate) fn run<M: Machine>(rt: &M) -> Result<()> {
     for figure in USUAL {
         run_figure(rt, &short(figure))?;
     }

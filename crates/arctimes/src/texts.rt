@@ -5,7 +5,7 @@ use std::alloc::{AllocError, Global};
 use std::sync::Wait;
 
 /// So many letters `x`, of which the one at the place, if there is one, is `y`.
-pub fn letters(alloc: Global, size: usize, place: usize) -> Result<String, AllocError> {
+pub(crate) fn letters(alloc: Global, size: usize, place: usize) -> Result<String, AllocError> {
     let mut text = String::with_capacity(alloc, size)?;
     for at in 0..size {
         text.push(if at == place { 'y' } else { 'x' })?;
@@ -14,7 +14,7 @@ pub fn letters(alloc: Global, size: usize, place: usize) -> Result<String, Alloc
 }
 
 /// So many texts that are alike, each in a block of its own.
-pub fn many(alloc: Global, text: &str, count: usize) -> Result<Vec<ArcStr>, TextFault> {
+pub(crate) fn many(alloc: Global, text: &str, count: usize) -> Result<Vec<ArcStr>, TextFault> {
     let mut texts = Vec::new(alloc);
     for _ in 0..count {
         texts
@@ -25,7 +25,7 @@ pub fn many(alloc: Global, text: &str, count: usize) -> Result<Vec<ArcStr>, Text
 }
 
 /// So many handles on one text.
-pub fn handles<R: Wait>(
+pub(crate) fn handles<R: Wait>(
     rt: &R,
     alloc: Global,
     text: &ArcStr,
@@ -42,7 +42,11 @@ pub fn handles<R: Wait>(
 const STEP: usize = 7919;
 
 /// Handles on the same texts in steps of 7919, so that neighbours in the list are none in memory.
-pub fn mixed<R: Wait>(rt: &R, alloc: Global, texts: &[ArcStr]) -> Result<Vec<ArcStr>, AllocError> {
+pub(crate) fn mixed<R: Wait>(
+    rt: &R,
+    alloc: Global,
+    texts: &[ArcStr],
+) -> Result<Vec<ArcStr>, AllocError> {
     let mut handles = Vec::new(alloc);
     for turn in 0..texts.len() {
         let place = turn.wrapping_mul(STEP) % texts.len();

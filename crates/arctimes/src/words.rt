@@ -27,7 +27,7 @@ enum Found {
 }
 
 /// Times the figure if it is one of these, and says whether it is.
-pub fn run<M: Machine>(rt: &M, request: &Request) -> Result<bool> {
+pub(crate) fn run<M: Machine>(rt: &M, request: &Request) -> Result<bool> {
     match request.figure {
         "count" => find(rt, request, Found::Count)?,
         "ranges" => find(rt, request, Found::Places)?,
