@@ -1,4 +1,4 @@
-use Rattle.std.proofs.Common.{rules, arith}
+use Rattle.std.proofs.Common.{rules}
 use Rattle.example_messages.proofs.Splits.{not_two_where_none, not_two_where_none_after}
 use Rattle.example_messages.proofs.message.Message.read.Goals as goal
 
