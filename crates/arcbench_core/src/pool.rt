@@ -32,6 +32,8 @@ pub trait Gate {
 
 /// Why the workers could not all do their work.
 ///
+/// Plain data of 1 byte: it may be copied, sent and shared, and its drop does nothing.
+///
 /// ```
 /// let fault = PoolFault::NoThread;
 /// assert_eq!(rt; format!(in rt.alloc(); "{fault}")?.as_str(), "no thread");

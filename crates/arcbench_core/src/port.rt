@@ -10,6 +10,8 @@ use std::marker::Model;
 
 /// A reader or a writer with a flag, which the first error of one of its calls sets for good.
 ///
+/// It may be sent and shared where its reader or writer may, and its drop drops this.
+///
 /// ```
 /// let mut room = [0; 2];
 /// let mut port = Port::new(room.as_mut_slice());

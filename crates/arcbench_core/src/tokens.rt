@@ -14,6 +14,8 @@ use std::thread::Threads;
 
 /// Why the words of an input are not printed.
 ///
+/// Plain data of 1 byte: it may be copied, sent and shared, and its drop does nothing.
+///
 /// ```
 /// let lines = tokens::answer(&rt, rt.alloc(), 2, b"\xff");
 /// assert_eq!(rt; lines.err(), Some(TokensFault::NotUtf8));

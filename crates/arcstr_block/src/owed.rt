@@ -11,7 +11,7 @@ use crate::shared::Shared;
 use std::alloc::Allocator;
 use std::marker::Model;
 
-/// How a handle ended. It has 16 bytes where its allocator has none, and may be sent and shared where its allocator may.
+/// How a handle ended. It has 24 bytes where its allocator has none, and may be sent and shared where its allocator may.
 /// It has no drop: what is owed has to be given back by hand.
 ///
 /// ```
@@ -33,7 +33,7 @@ pub enum Down<A: Allocator> {
 /// The memory of a block that nobody else has, to be given back. It has no drop, and cannot be let go otherwise.
 /// Contracts see its block's name, and the number of the handle that was subtracted last.
 ///
-/// It has 8 bytes where its allocator has none, and may be sent and shared where its allocator may. None of its functions
+/// It has 16 bytes where its allocator has none, and may be sent and shared where its allocator may. None of its functions
 /// waits or takes memory.
 ///
 /// ```

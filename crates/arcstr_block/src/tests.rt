@@ -19,7 +19,7 @@ fn the_types_have_their_sizes(rt: HostRuntime) {
     assert_eq!(rt; size_of::<Fixed<Global>>(), 16);
     assert_eq!(rt;
         (size_of::<Owed<Global>>(), size_of::<Down<Global>>()),
-        (8, 16)
+        (16, 24)
     );
     assert_eq!(rt; (size_of::<Seen>(), size_of::<TextFault>()), (0, 16));
 }

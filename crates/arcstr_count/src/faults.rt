@@ -9,6 +9,8 @@ use std::fmt;
 /// Why a step is refused, by the state of the handle that it names. A handle has one state, so no two
 /// faults are due at once. It is shown by its name.
 ///
+/// Plain data of 1 byte: it may be copied, sent and shared, and its drop does nothing.
+///
 /// ```
 /// let replies = count::run(rt.alloc(), 2, &[Step::Make, Step::Sub(0)])?;
 /// let refused = Reply::Refused(StepFault::NotInDrop);
@@ -81,6 +83,8 @@ impl Error for StepFault {}
 
 /// Why a world cannot be made, or a step not be taken. `LimitTooLarge` is tested first, and a world that
 /// was made answers `Memory` alone. It is shown by its text.
+///
+/// Plain data of 1 byte: it may be copied, sent and shared, and its drop does nothing.
 ///
 /// ```
 /// let refused = World::new(rt.alloc(), RC_MAX + 1);

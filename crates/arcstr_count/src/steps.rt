@@ -6,6 +6,8 @@ use crate::faults::StepFault;
 ///
 /// Handles are numbered from 0 in order of birth over all blocks: `Make` and `Clone` give birth.
 ///
+/// Plain data of 16 bytes: it may be copied, sent and shared, and its drop does nothing.
+///
 /// ```
 /// let steps = [Step::Make, Step::Begin(0), Step::Sub(0)];
 /// let replies = count::run(rt.alloc(), 2, &steps)?;
@@ -34,6 +36,8 @@ pub enum Step {
 }
 
 /// What an accepted step answers, or why a step is refused.
+///
+/// Plain data of 16 bytes: it may be copied, sent and shared, and its drop does nothing.
 ///
 /// ```
 /// let mut world = World::new(rt.alloc(), 2)?;
@@ -73,6 +77,8 @@ pub enum Reply {
 
 /// Where a handle that was born stands. It lives while it is free, raw or dropping.
 ///
+/// Plain data of 1 byte: it may be copied, sent and shared, and its drop does nothing.
+///
 /// ```
 /// let history = [Step::Make, Step::Clone(0), Step::IntoRaw(1)];
 /// let seats = [HandleState::Free, HandleState::Raw];
@@ -93,6 +99,8 @@ pub enum HandleState {
 }
 
 /// What a summary of a history keeps of a handle that was born. No call answers one: contracts speak of it.
+///
+/// Plain data of 16 bytes: it may be copied, sent and shared, and its drop does nothing.
 ///
 /// ```
 /// let state = HandleState::Free;

@@ -18,6 +18,8 @@ pub const RC_MAX: u64 = (1 << 62) - 1;
 ///
 /// It is one `u64`: bit 0 is the flag, the other 63 bits are the count. No call on it takes memory.
 ///
+/// Plain data of 8 bytes: it may be copied, sent and shared, and its drop does nothing.
+///
 /// ```
 /// let word = Word::one().cloned(RC_MAX);
 /// assert_eq!(rt; word.count(), 2);

@@ -21,7 +21,8 @@ use std::marker::Model;
 ///
 /// It keeps a table of states by the number of the handle, a table of words by the number of the
 /// block, and the limit on the count of a block: a step costs a fixed time, but for growth. The tables
-/// take memory of the allocator, and give it back when the world is dropped.
+/// take memory of the allocator, and give it back when the world is dropped. It may be sent and shared
+/// where its allocator may, and has 56 bytes where that has none.
 ///
 /// ```
 /// let mut world = World::new(rt.alloc(), 2)?;

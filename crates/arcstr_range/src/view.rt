@@ -15,6 +15,8 @@ use std::ops::Range;
 /// The place and the text's length have a sum of at most `usize::MAX`. A view borrows its text, and no
 /// call on it takes memory.
 ///
+/// It has 24 bytes, may be sent and shared, and its drop does nothing.
+///
 /// ```
 /// let line = "key = value";
 /// let name = StrView::whole(line).cut(0..4).ok_or("no part")?.trim_end();

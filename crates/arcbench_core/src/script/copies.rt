@@ -15,6 +15,8 @@ use std::io::{Read, Write};
 
 /// Why a script was not answered.
 ///
+/// Plain data of 1 byte: it may be copied, sent and shared, and its drop does nothing.
+///
 /// ```
 /// assert_eq!(rt; CopyFault::from(RunFault::Memory), CopyFault::Memory);
 /// ```

@@ -1,11 +1,15 @@
 //! The program's statuses, what it prints, and a fault at each read and each write.
 use super::fakes::{FakeReader, FakeWriter, NEVER};
 use super::texts::{FIRST_ANSWER, FIRST_SCRIPT, IO, NO_MEMORY, TOO_LARGE, USAGE};
+use crate::pool::PoolFault;
 use crate::port::Port;
 use crate::program::{serve, serve_without_words};
+use crate::script::CopyFault;
+use crate::tokens::TokensFault;
 use std::alloc::AllocError;
 use std::io;
 use std::io::ErrorKind;
+use std::mem::size_of;
 use std::process::Abort;
 use std::sync::Wait;
 use std::test::Fail;
@@ -171,4 +175,10 @@ fn ends_where_its_words_are_not_to_be_had(rt: HostRuntime) {
         );
         assert_eq!(rt; errors.as_slice(), line.as_bytes());
     }
+}
+
+#[test]
+fn faults_have_one_byte(rt: HostRuntime) {
+    assert_eq!(rt; (size_of::<PoolFault>(), size_of::<CopyFault>()), (1, 1));
+    assert_eq!(rt; size_of::<TokensFault>(), 1);
 }

@@ -1,5 +1,6 @@
 use super::*;
 use std::alloc::Global;
+use std::mem::size_of;
 use std::process::Abort;
 use std::test::Fail;
 
@@ -77,4 +78,15 @@ fn of_two_blocks_one_is_given_back(rt: HostRuntime) -> Result<(), Fail> {
     assert_eq!(rt; world.given(0), 0);
     assert_eq!(rt; world.given(1), 1);
     Ok(())
+}
+
+#[test]
+fn types_have_their_sizes(rt: HostRuntime) {
+    assert_eq!(rt; (size_of::<World<Global>>(), size_of::<Word>()), (56, 8));
+    assert_eq!(rt; (size_of::<Step>(), size_of::<Reply>()), (16, 16));
+    assert_eq!(rt;
+        (size_of::<HandleSummary>(), size_of::<HandleState>()),
+        (16, 1)
+    );
+    assert_eq!(rt; (size_of::<StepFault>(), size_of::<RunFault>()), (1, 1));
 }

@@ -7,6 +7,8 @@ use std::fmt;
 /// Why a range is refused. The tests come in the order of the variants, and the first that fails is
 /// answered. It is shown as a short text, and has no memory of its own.
 ///
+/// Plain data of 1 byte: it may be copied, sent and shared, and its drop does nothing.
+///
 /// ```
 /// let ends = range::checked_ends("aé", StrRange::To(2));
 /// assert_eq!(rt; ends, Err(RangeFault::OffBoundary));

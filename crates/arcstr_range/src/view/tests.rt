@@ -1,4 +1,6 @@
 use super::*;
+use crate::range::{RangeFault, StrRange};
+use std::mem::size_of;
 use std::process::Abort;
 use std::test::Fail;
 
@@ -78,4 +80,10 @@ fn found_after_a_trim(rt: HostRuntime) {
     let text = "   abc";
     assert!(rt; StrView::whole(text).trim().is_found_in(text));
     assert!(rt; !StrView::whole("abc").is_found_in(text));
+}
+
+#[test]
+fn types_have_their_sizes(rt: HostRuntime) {
+    assert_eq!(rt; size_of::<StrView<'_>>(), 24);
+    assert_eq!(rt; (size_of::<StrRange>(), size_of::<RangeFault>()), (24, 1));
 }
