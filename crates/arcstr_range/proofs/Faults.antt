@@ -4,10 +4,11 @@ use Rattle.std.specs.Prelude.{Err, IsErrOf}
 use Rattle.arcstr_range.specs.declared.range.fault.RangeFault.{RangeFault}
 use Rattle.arcstr_range.specs.declared.range.fault.RangeFault.TheVariants.{OutOfOrder, PastEnd, OffBoundary}
 use Rattle.arcstr_range.specs.Ends.{IsFirstFault}
-use Rattle.arcstr_range.specs.RangeFault.{number_of}
+use Rattle.arcstr_range.specs.RangeFault.{range_fault_number}
 
 -- faults differ in their numbers
-ordered : (given fault : RangeFault) → (given ≡ fault) ⊎ (number_of given < number_of fault) ⊎ (number_of fault < number_of given)
+ordered : (given fault : RangeFault) →
+    (given ≡ fault) ⊎ (range_fault_number given < range_fault_number fault) ⊎ (range_fault_number fault < range_fault_number given)
 ordered OutOfOrder OutOfOrder = inl refl
 ordered PastEnd PastEnd = inl refl
 ordered OffBoundary OffBoundary = inl refl

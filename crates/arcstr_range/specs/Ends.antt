@@ -5,7 +5,7 @@ use Rattle.arcstr_range.specs.declared.range.StrRange.{StrRange}
 use Rattle.arcstr_range.specs.declared.range.StrRange.TheVariants.{Between, From, To, Full, Inclusive, ToInclusive}
 use Rattle.arcstr_range.specs.declared.range.fault.RangeFault.{RangeFault}
 use Rattle.arcstr_range.specs.declared.range.fault.RangeFault.TheVariants.{OutOfOrder, PastEnd, OffBoundary}
-use Rattle.arcstr_range.specs.RangeFault.{number_of}
+use Rattle.arcstr_range.specs.RangeFault.{range_fault_number}
 use Rattle.arcstr_range.specs.Text.{cut}
 
 -- the start and the end of a range in something of that length, as whole numbers without a bound
@@ -33,7 +33,7 @@ text_rule text start end OffBoundary = IsCharBoundary text start × IsCharBounda
 -- the first fault, in the order of their numbers: its rule is broken, and each rule before it is kept
 pub record IsFirstFault (rule : RangeFault → Type 0) (fault : RangeFault) : Type 0 where
   pub broken : ¬ (rule fault)
-  pub kept_before : (earlier : RangeFault) → number_of earlier < number_of fault → rule earlier
+  pub kept_before : (earlier : RangeFault) → range_fault_number earlier < range_fault_number fault → rule earlier
 
 -- each rule of a length is kept
 pub record FitsLength (len start end : ℕ) : Type 0 where

@@ -4,13 +4,13 @@ use Rattle.arcstr_range.specs.declared.range.fault.RangeFault.{RangeFault}
 use Rattle.arcstr_range.specs.declared.range.fault.RangeFault.TheVariants.{OutOfOrder, PastEnd, OffBoundary}
 
 -- the number of a fault: the rule of a lower number is tested first. No fault has the number 3
-abbrev pub number_of : RangeFault → ℕ
-number_of OutOfOrder = 1
-number_of PastEnd = 2
-number_of OffBoundary = 4
+abbrev pub range_fault_number : RangeFault → ℕ
+range_fault_number OutOfOrder = 1
+range_fault_number PastEnd = 2
+range_fault_number OffBoundary = 4
 
 -- what a fault is shown as
-abbrev pub text_of : RangeFault → List ℕ
-text_of OutOfOrder = codes "range start is after its end"
-text_of PastEnd = codes "range ends past the text"
-text_of OffBoundary = codes "range cuts a character"
+abbrev pub range_fault_text : RangeFault → List ℕ
+range_fault_text OutOfOrder = codes "range start is after its end"
+range_fault_text PastEnd = codes "range ends past the text"
+range_fault_text OffBoundary = codes "range cuts a character"

@@ -26,7 +26,7 @@ pub enum RangeFault {
 }
 
 impl RangeFault {
-    ghost use Rattle.arcstr_range.specs.RangeFault.{number_of};
+    ghost use Rattle.arcstr_range.specs.RangeFault.{range_fault_number};
 
     /// The number of the fault, from 1 on in the order of the tests. No fault has the number 3. It takes no
     /// memory.
@@ -36,7 +36,7 @@ impl RangeFault {
     /// assert_eq!(rt; RangeFault::OffBoundary.number(), 4);
     /// ```
     pub fn number(&self) -> u8
-        ensures { result ≡ number_of self.now }
+        ensures { result ≡ range_fault_number self.now }
     {
         match self {
             RangeFault::OutOfOrder => 1,
@@ -47,9 +47,9 @@ impl RangeFault {
 }
 
 impl fmt::Display for RangeFault {
-    ghost use Rattle.arcstr_range.specs.RangeFault.{text_of};
+    ghost use Rattle.arcstr_range.specs.RangeFault.{range_fault_text};
 
-    ghost output = { λ fault. Some (text_of fault) };
+    ghost output = { λ fault. Some (range_fault_text fault) };
 
     fn fmt<W: fmt::Write>(&self, f: &mut fmt::Formatter<W>) -> fmt::Result {
         f.write_str(match self {
