@@ -1,7 +1,6 @@
 //! What the program prints of the words of its input's lines.
-ghost use Rattle.std.specs.Prelude.{◌≡◌, ◌≢◌, ◌≤◌, ◌<◌, ◌↔◌, ◌∷◌, ◌++◌, length, map, IfOk, IfErr, OnOk, Err, string_bytes};
+ghost use Rattle.std.specs.Prelude.{◌≡◌, ◌≤◌, ◌<◌, ◌↔◌, ◌∷◌, ◌++◌, length, IfOk, OnOk, Err, string_bytes};
 ghost use Rattle.std.specs.Str.{IsUtf8};
-ghost use Rattle.arcstr.specs.TextView.{TextView};
 ghost use Rattle.arcbench_core.specs.Line.{lines_of};
 ghost use Rattle.arcbench_core.specs.TokenLines.{IsTokenAnswer, lines_of_lists, slice_line, slice_lines, texts_of};
 

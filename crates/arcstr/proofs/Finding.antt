@@ -39,26 +39,26 @@ first_at text character place utf8 at =
       measured = ap length (encodes-chars (take place text) front_utf8) ∙ length-take-le place text at.3.0;
     }
 
-pub first_where_found : (text : List ℕ) (character : ℕ) (answer : Option ℕ) → IsUtf8 text
+pub first : (text : List ℕ) (character : ℕ) (answer : Option ℕ) → IsUtf8 text
     → MatchOption answer (FindsChar character text None) (MatchBeginsAt (FindsChar character) text) → IfSome answer (IsFirstPlace text character)
-first_where_found text character None utf8 cases = tt
-first_where_found text character (Some place) utf8 cases = first_at text character place utf8 cases
+first text character None utf8 cases = tt
+first text character (Some place) utf8 cases = first_at text character place utf8 cases
 
 has_first : (text : List ℕ) (character place : ℕ) → IsFirstPlace text character place → Contains (chars text) character
 has_first text character place first =
     subst (λ cs. Contains cs character) (sym first.split) (Contains-append_right first.before (character ∷ first.after) character (0, omega arith, refl))
 
 -- `find` answers a place exactly where the text has the character
-pub found_where_contained : (text : List ℕ) (character : ℕ) (answer : Option ℕ) → IsUtf8 text
+pub found : (text : List ℕ) (character : ℕ) (answer : Option ℕ) → IsUtf8 text
     → MatchOption answer (FindsChar character text None) (MatchBeginsAt (FindsChar character) text) → IsSome answer ↔ Contains (chars text) character
-found_where_contained text character None utf8 cases = ((λ some. absurd (grind (arith, some))), λ among. absurd (not_among character text utf8 cases among))
-found_where_contained text character (Some place) utf8 cases = ((λ some. has_first text character place (first_at text character place utf8 cases)), λ among. refl)
+found text character None utf8 cases = ((λ some. absurd (grind (arith, some))), λ among. absurd (not_among character text utf8 cases among))
+found text character (Some place) utf8 cases = ((λ some. has_first text character place (first_at text character place utf8 cases)), λ among. refl)
 
 -- what lies before the place that `find` answers is a lawful slice
-pub lawful_where_found : (text : List ℕ) (character : ℕ) (answer : Option ℕ) → IsUtf8 text
+pub lawful : (text : List ℕ) (character : ℕ) (answer : Option ℕ) → IsUtf8 text
     → MatchOption answer (FindsChar character text None) (MatchBeginsAt (FindsChar character) text) → IfSome answer (IsLawful text 0)
-lawful_where_found text character None utf8 cases = tt
-lawful_where_found text character (Some place) utf8 cases = record {
+lawful text character None utf8 cases = tt
+lawful text character (Some place) utf8 cases = record {
   fits = record { in_order = omega arith; within = cases.3.0 };
   at_boundaries = (IsCharBoundary-start text utf8, cases.3);
 }
@@ -75,8 +75,8 @@ joined_at text character place at =
     ∙ ap (λ rest. take place text ++ rest) (sym at.1.1.split)
     ∙ take-append-drop place text
 
-pub joined_where_found : (text : List ℕ) (character : ℕ) (answer : Option ℕ) → IsUtf8 text
+pub joined : (text : List ℕ) (character : ℕ) (answer : Option ℕ) → IsUtf8 text
     → MatchOption answer (FindsChar character text None) (MatchBeginsAt (FindsChar character) text)
     → IfSome answer (λ place. cut text 0 place ++ encode_utf8 character ++ cut text (place + len_utf8 character) (length text) ≡ text)
-joined_where_found text character None utf8 cases = tt
-joined_where_found text character (Some place) utf8 cases = joined_at text character place cases
+joined text character None utf8 cases = tt
+joined text character (Some place) utf8 cases = joined_at text character place cases

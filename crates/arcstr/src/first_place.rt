@@ -7,7 +7,7 @@ ghost use Rattle.arcstr_range.specs.Text.{cut};
 ghost use Rattle.arcstr.specs.Splitting.{IsFirstPlace};
 
 /// The first place of the character in the text, in bytes. `None` exactly where the text doesn't have it.
-#[tactic(auto, using(crate::proofs::Finding::found_where_contained, crate::proofs::Finding::first_where_found, crate::proofs::Finding::lawful_where_found, crate::proofs::Finding::joined_where_found))]
+#[tactic(auto, using(crate::proofs::Finding::found, crate::proofs::Finding::first, crate::proofs::Finding::lawful, crate::proofs::Finding::joined))]
 pub(crate) fn first_place(text: &str, character: char) -> Option<usize>
     ensures found { IsSome result ↔ Contains (chars text.now) character }
     ensures first { IfSome result (IsFirstPlace text.now character) }

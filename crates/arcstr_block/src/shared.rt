@@ -1,5 +1,5 @@
 //! One handle on a block.
-ghost use Rattle.std.specs.Prelude.{◌≡◌, ◌≢◌, ◌↔◌, ℕ, length, IsUtf8, ◌<◌, ◌≤◌, ◌+◌, MatchOption, IfOk, IfErr, IfSome};
+ghost use Rattle.std.specs.Prelude.{◌≡◌, ◌≢◌, ℕ, length, IsUtf8, ◌<◌, ◌≤◌, ◌+◌, MatchOption, IfOk, IfErr, IfSome};
 ghost use Rattle.arcstr_count.specs.Word.{bits_of, fresh_word};
 ghost use Rattle.arcstr_block.specs.Memory.{Fits};
 ghost use Rattle.arcstr_block.specs.Word.{IsLimit, IsUnmarked, IsWord, IsOtherWord};

@@ -2,7 +2,7 @@
 //!
 //! Places and lengths are counted in bytes, and a place is a boundary where Rust's
 //! `str::is_char_boundary` says so.
-ghost use Rattle.std.specs.Prelude.{◌≡◌, ◌≢◌, ◌↔◌, IsOk, IsErrOf, ◌+◌, ◌<◌, nat_le, ◌&&◌, if◌then◌else◌, IfOk, IfErr, MatchOption};
+ghost use Rattle.std.specs.Prelude.{◌≡◌, ◌≢◌, ◌↔◌, IsOk, IsErrOf, ◌<◌, nat_le, ◌&&◌, if◌then◌else◌, IfOk, IfErr, MatchOption};
 ghost use Rattle.std.specs.Range.{range_inclusive_start, range_inclusive_end, range_inclusive_exhausted};
 ghost use Rattle.arcstr_range.specs.declared.range.StrRange.TheVariants.{Between, From as FromStart, To, Full, Inclusive, ToInclusive};
 ghost use Rattle.arcstr_range.specs.declared.range.fault.RangeFault.{RangeFault};

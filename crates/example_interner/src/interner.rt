@@ -1,5 +1,6 @@
 //! Texts of which each is made once.
 ghost use Rattle.std.specs.Prelude.{◌≡◌, [], length, IfOk, IfErr, OnErr};
+ghost use Rattle.arcstr.specs.Making.{IsFaultOfMaking};
 ghost use Rattle.example_interner.specs.Words.{AreRising, IsAt, IsGapFor, Keeps};
 
 use arcstr::{ArcStr, TextFault};
@@ -48,6 +49,7 @@ impl Interner {
         ensures kept { IfOk result (Keeps self.old self.new) }
         ensures once { AreRising self.new }
         ensures refused { OnErr result (self.new ≡ self.old) }
+        ensures fault { IfErr result (IsFaultOfMaking (length word.now)) }
     {
         let place = match self.search(word) {
             Ok(place) => return Ok(self.texts[place].clone(rt)),
