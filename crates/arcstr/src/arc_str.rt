@@ -1,5 +1,6 @@
 //! `ArcStr`: a text that threads share.
 ghost use Rattle.std.specs.Prelude.{◌≡◌, ◌+◌, ◌≤◌, ◌↔◌, [], length, IsTrue, IsSome, IsNone, IfSome};
+ghost use Rattle.arcstr.specs.Forms.{IsLimited};
 ghost use Rattle.arcstr.specs.TextView.{IsStatic, literal_of, fixed_of, counted_of, leaked};
 
 use crate::static_str::StaticStr;
@@ -39,6 +40,7 @@ mod thread_tests;
 #[derive(Drop)]
 pub struct ArcStr {
     form: Form,
+    ghost limited: { IsLimited form },
 }
 
 /// Where the bytes of a text lie: in the program, or in a block that is held as one of its counted handles or for
@@ -297,6 +299,7 @@ impl ArcStr {
     }
 
     fn from_shared(shared: Shared<RC_MAX, Global>) -> ArcStr
+        requires { shared.limit ≡ RC_MAX }
         ensures { result ≡ counted_of shared.text }
     {
         ArcStr {

@@ -6,11 +6,13 @@ use Rattle.arcstr_count.specs.declared.steps.Reply.TheVariants.{Count, Static, M
 use Rattle.arcstr_count.specs.OneBlock.{IsOneBlock, EndsIn}
 use Rattle.arcstr_count.specs.After.{marked_after}
 
--- the bytes of the text, the name of the block (of its history, and of the seats of its handles), and the number of the handle in it
+-- the bytes of the text, the name of the block (of its history, and of the seats of its handles), the number of the handle in it, and the limit on
+-- the count of the block
 pub record Handle : Type 0 where
   pub text : List ℕ
   pub block : ℕ × ℕ
   pub seat : ℕ
+  pub limit : ℕ
 
 -- what a marked block is seen as, which is kept for good: the bytes of its text, its name, the limit on its count,
 -- and the beginning of its history that was seen when it was found or made marked

@@ -30,6 +30,7 @@ impl<const LIMIT: u64, A: Allocator + Copy> Shared<LIMIT, A> {
     pub fn from_text(alloc: A, text: &str) -> Result<Shared<LIMIT, A>, TextFault>
         requires limit { LIMIT ≤ RC_MAX }
         ensures made { IfOk result (λ made. made.text ≡ text.now) }
+        ensures limit { IfOk result (λ made. made.limit ≡ LIMIT) }
         ensures too_long { IsErrOf result TextFault.Length ↔ IsTooLong (length text.now) }
         ensures refused { IfErr result (IsFaultOfMaking (length text.now)) }
     {
@@ -63,6 +64,7 @@ impl<const LIMIT: u64, A: Allocator + Copy> Shared<LIMIT, A> {
         requires limit { LIMIT ≤ RC_MAX }
         requires callable { (¬ IsTooLong n) → FnOnceTakesAtMut F.FnOnce fill (replicate n 0) }
         ensures made { IfOk result (λ made. FnOnceReturnsAtMut F.FnOnce fill (replicate n 0) tt made.text) }
+        ensures limit { IfOk result (λ made. made.limit ≡ LIMIT) }
         ensures as_long { IfOk result (λ made. length made.text ≡ n) }
         ensures text { IfOk result (λ made. IsUtf8 made.text) }
         ensures too_long { IsErrOf result TextFault.Length ↔ IsTooLong n }
@@ -94,6 +96,7 @@ impl<const LIMIT: u64, A: Allocator + Copy> Shared<LIMIT, A> {
     pub fn repeat(alloc: A, text: &str, n: usize) -> Result<Shared<LIMIT, A>, TextFault>
         requires { LIMIT ≤ RC_MAX }
         ensures made { IfOk result (λ made. made.text ≡ repeat n text.now) }
+        ensures limit { IfOk result (λ made. made.limit ≡ LIMIT) }
         ensures too_long { IsErrOf result TextFault.Length ↔ IsTooLong (n * length text.now) }
         ensures refused { IfErr result (IsFaultOfMaking (n * length text.now)) }
     {

@@ -52,7 +52,7 @@ pub struct Shared<const LIMIT: u64, A: Allocator + Copy> {
 impl<const LIMIT: u64, A: Allocator + Copy> Model for Shared<LIMIT, A> {
     ghost Value = { Handle };
 
-    ghost view = { λ s. record { text = s.handle.pointer.text; block = s.handle.pointer.block; seat = s.handle.pointer.seat } };
+    ghost view = { λ s. record { text = s.handle.pointer.text; block = s.handle.pointer.block; seat = s.handle.pointer.seat; limit = s.handle.pointer.limit } };
 }
 
 impl<const LIMIT: u64, A: Allocator + Copy> Shared<LIMIT, A> {
@@ -66,7 +66,8 @@ impl<const LIMIT: u64, A: Allocator + Copy> Shared<LIMIT, A> {
         requires utf8 { IsUtf8 block.text }
         requires length { len ≡ length block.text }
         requires fits { Fits len }
-        ensures { result.text ≡ block.text }
+        ensures text { result.text ≡ block.text }
+        ensures limit { result.limit ≡ LIMIT }
     {
         let pointer = Pointer::make(block);
         Shared {
@@ -186,6 +187,7 @@ impl<const LIMIT: u64, A: Allocator + Copy> Shared<LIMIT, A> {
     pub fn up<R: Wait>(&self, rt: &R) -> Shared<LIMIT, A>
         ensures text { result.text ≡ self.now.text }
         ensures block { result.block ≡ self.now.block }
+        ensures limit { result.limit ≡ LIMIT }
     {
         let (found, gained) = self.handle.pointer.find(place_of_word(self.handle.len));
         if marked(found) {

@@ -10,8 +10,8 @@ use std::process::Abort;
 use std::sync::Wait;
 use std::sync::atomic::{AtomicBool, AtomicU64, Ordering};
 use std::test::Fail;
-use std::thread;
 use std::thread::Threads;
+use std::{io, thread};
 
 #[test]
 fn the_types_have_their_sizes(rt: HostRuntime) {
@@ -392,6 +392,35 @@ fn faults_print_their_texts(rt: HostRuntime) -> Result<(), Fail> {
         format!(in rt.alloc(); "{}", TextFault::Memory)?.as_str(),
         "out of memory"
     );
+    Ok(())
+}
+
+#[test]
+fn faults_of_reading_print_their_texts(rt: HostRuntime) -> Result<(), Fail> {
+    let length = io::Error::from(TextFault::Length);
+    let bytes = io::Error::from(TextFault::Utf8(2));
+    assert_eq!(rt;
+        format!(in rt.alloc(); "{length}")?.as_str(),
+        "text is too long"
+    );
+    assert_eq!(rt;
+        format!(in rt.alloc(); "{bytes}")?.as_str(),
+        "bytes are not UTF-8"
+    );
+    Ok(())
+}
+
+/// Two handles, for which a heap of 16 bytes has no room, end as the fault is made of them.
+#[test]
+fn what_could_not_be_stored_is_dropped(rt: HostRuntime) -> Result<(), Fail> {
+    let heap = LocalHeap::new(rt.alloc(), 16)?;
+    let text = Shared::<5, Global>::from_text(rt.alloc(), "foobar")?;
+    let Err(refused) = Box::new(&heap, (text.up(&rt), text.up(&rt))) else {
+        return Err(Fail::from("the heap has room for two handles"));
+    };
+    assert_eq!(rt; text.look().0, Some(3));
+    assert_eq!(rt; TextFault::from(refused), TextFault::Memory);
+    assert_eq!(rt; text.look().0, Some(1));
     Ok(())
 }
 

@@ -48,6 +48,22 @@ fn a_clone_shares_the_count(rt: HostRuntime) {
     check_count(&rt, &text, Some(1));
 }
 
+/// As many handles as this leave a text counted. Its limit, `RC_MAX`, is too great for a test.
+const HANDLES: usize = 70_000;
+
+#[test]
+fn many_handles_are_counted_and_mark_nothing(rt: HostRuntime) {
+    let text = made(&rt, "foobar");
+    let mut handles = Vec::new(rt.alloc());
+    for _ in 1..HANDLES {
+        handles.push(text.clone(&rt)).expect(&rt, "no memory");
+    }
+    check_count(&rt, &text, Some(HANDLES));
+    check_not_static(&rt, &text);
+    drop(handles);
+    check_count(&rt, &text, Some(1));
+}
+
 #[test]
 fn a_leaked_text_reads_on_without_its_handles(rt: HostRuntime) {
     let text = made(&rt, "foobar");

@@ -35,105 +35,88 @@ fn a_refused_fill_gives_its_memory_back(rt: HostRuntime) -> Result<(), Fail> {
     Ok(())
 }
 
-/// The heaps grow by the least block that they hand out, so the request for memory is refused by the first of them, and
-/// the first that grants it has no room for a second.
-const SIZES: usize = 16;
-
-const GRAIN: usize = 16;
-
-/// Whether this block has the text, and the heap that holds it holds no second one.
-fn is_whole_and_alone(heap: &LocalHeap, made: &Shared<5, &LocalHeap>) -> bool {
-    let second = Shared::<5, _>::from_text(heap, "foobar");
-    made.as_str() == "foobar" && matches!(second, Err(TextFault::Memory))
+#[test]
+fn one_byte_is_filled_and_a_text_is_copied_twice(rt: HostRuntime) -> Result<(), Fail> {
+    let filled = Shared::<5, _>::init(rt.alloc(), 1, |bytes| bytes[0] = b'a')?;
+    assert_eq!(rt; filled.as_str(), "a");
+    let copies = Shared::<5, _>::repeat(rt.alloc(), "ab", 2)?;
+    assert_eq!(rt; copies.as_str(), "abab");
+    Ok(())
 }
 
-/// What making gave: 0 for want of memory, 1 for the text in a heap that holds no second one, else 2.
-fn outcome(heap: &LocalHeap, made: Result<Shared<5, &LocalHeap>, TextFault>) -> u8 {
-    match made {
-        Err(TextFault::Memory) => 0,
-        Err(_) => 2,
-        Ok(made) => {
-            if is_whole_and_alone(heap, &made) {
-                1
-            } else {
-                2
-            }
-        }
-    }
+/// A text of 64 bytes. Its block has 80, to which a heap adds nothing: it rounds sizes up to a multiple of 16.
+const TEXT: &str = "0123456789abcdef0123456789abcdef0123456789abcdef0123456789abcdef";
+
+const BLOCK: usize = 80;
+
+/// The greatest heap that does not hold the block.
+const TOO_SMALL: usize = 64;
+
+#[test]
+fn a_text_takes_exactly_its_block(rt: HostRuntime) -> Result<(), Fail> {
+    let heap = LocalHeap::new(rt.alloc(), BLOCK)?;
+    let made = Shared::<5, _>::from_text(&heap, TEXT)?;
+    assert_eq!(rt; (made.as_str(), heap.used(), heap.free()), (TEXT, BLOCK, 0));
+    drop(made);
+    assert_eq!(rt; heap.used(), 0);
+    Ok(())
 }
 
-/// What a closure that writes the text gave, and whether it ran.
-fn filled(heap: &LocalHeap) -> (u8, bool) {
+#[test]
+fn copies_take_exactly_one_block(rt: HostRuntime) -> Result<(), Fail> {
+    let heap = LocalHeap::new(rt.alloc(), BLOCK)?;
+    let made = Shared::<5, _>::repeat(&heap, "0123456789abcdef", 4)?;
+    assert_eq!(rt; (made.as_str(), heap.used(), heap.free()), (TEXT, BLOCK, 0));
+    drop(made);
+    assert_eq!(rt; heap.used(), 0);
+    Ok(())
+}
+
+#[test]
+fn a_fill_has_exactly_its_block_before_its_closure(rt: HostRuntime) -> Result<(), Fail> {
+    let heap = LocalHeap::new(rt.alloc(), BLOCK)?;
+    let mut used = 0;
+    let made = Shared::<5, _>::init(&heap, 64, |bytes| {
+        used = heap.used();
+        bytes.copy_from_slice(TEXT.as_bytes());
+    })?;
+    assert_eq!(rt; (made.as_str(), used, heap.used()), (TEXT, BLOCK, BLOCK));
+    drop(made);
+    assert_eq!(rt; heap.used(), 0);
+    Ok(())
+}
+
+#[test]
+fn a_heap_that_is_too_small_refuses_each_making(rt: HostRuntime) -> Result<(), Fail> {
+    let heap = LocalHeap::new(rt.alloc(), TOO_SMALL)?;
+    assert!(rt;
+        matches!(
+            Shared::<5, _>::from_text(&heap, TEXT),
+            Err(TextFault::Memory)
+        )
+    );
+    assert!(rt;
+        matches!(
+            Shared::<5, _>::repeat(&heap, TEXT, 1),
+            Err(TextFault::Memory)
+        )
+    );
+    assert_eq!(rt; heap.used(), 0);
+    Ok(())
+}
+
+/// Refused memory comes before bytes that are no text: the closure, which leaves some, is not run.
+#[test]
+fn a_fill_without_memory_does_not_run_its_closure(rt: HostRuntime) -> Result<(), Fail> {
+    let heap = LocalHeap::new(rt.alloc(), TOO_SMALL)?;
     let mut ran = false;
-    let made = Shared::<5, _>::init(heap, 6, |bytes| {
+    let made = Shared::<5, _>::init(&heap, 64, |bytes| {
         ran = true;
-        bytes.copy_from_slice(b"foobar");
+        bytes.fill(255);
     });
-    (outcome(heap, made), ran)
-}
-
-#[test]
-fn a_text_asks_for_memory_once(rt: HostRuntime) -> Result<(), Fail> {
-    let mut refused = 0u64;
-    for size in 1..SIZES {
-        let heap = LocalHeap::new(rt.alloc(), size * GRAIN)?;
-        let got = outcome(&heap, Shared::from_text(&heap, "foobar"));
-        assert_eq!(rt; heap.used(), 0);
-        if got != 0 {
-            assert_eq!(rt; (got, 0 < refused), (1, true));
-            return Ok(());
-        }
-        refused = refused.wrapping_add(1);
-    }
-    Err(Fail::from("no heap held the text"))
-}
-
-/// What three copies of a text gave.
-fn repeated(heap: &LocalHeap) -> u8 {
-    match Shared::<5, _>::repeat(heap, "ab", 3) {
-        Err(TextFault::Memory) => 0,
-        Err(_) => 2,
-        Ok(made) => {
-            let second = Shared::<5, _>::from_text(heap, "foobar");
-            if made.as_str() == "ababab" && matches!(second, Err(TextFault::Memory)) {
-                1
-            } else {
-                2
-            }
-        }
-    }
-}
-
-#[test]
-fn copies_ask_for_memory_once(rt: HostRuntime) -> Result<(), Fail> {
-    let mut refused = 0u64;
-    for size in 1..SIZES {
-        let heap = LocalHeap::new(rt.alloc(), size * GRAIN)?;
-        let got = repeated(&heap);
-        assert_eq!(rt; heap.used(), 0);
-        if got != 0 {
-            assert_eq!(rt; (got, 0 < refused), (1, true));
-            return Ok(());
-        }
-        refused = refused.wrapping_add(1);
-    }
-    Err(Fail::from("no heap held the text"))
-}
-
-#[test]
-fn a_fill_asks_for_memory_once_before_its_closure(rt: HostRuntime) -> Result<(), Fail> {
-    let mut refused = 0u64;
-    for size in 1..SIZES {
-        let heap = LocalHeap::new(rt.alloc(), size * GRAIN)?;
-        let got = filled(&heap);
-        assert_eq!(rt; heap.used(), 0);
-        if got != (0, false) {
-            assert_eq!(rt; (got, 0 < refused), ((1, true), true));
-            return Ok(());
-        }
-        refused = refused.wrapping_add(1);
-    }
-    Err(Fail::from("no heap held the text"))
+    assert!(rt; matches!(made, Err(TextFault::Memory)));
+    assert_eq!(rt; (ran, heap.used()), (false, 0));
+    Ok(())
 }
 
 /// Whether a text of this length, from within a longer one, is read back whole.
