@@ -59,6 +59,13 @@ fn a_leaked_text_reads_on_without_its_handles(rt: HostRuntime) {
     check_part(&rt, kept.literal(), None);
 }
 
+#[test]
+fn a_raw_handle_comes_back(rt: HostRuntime) {
+    let back = ArcStr::from_raw(ArcStr::into_raw(made(&rt, "abcd")));
+    check_text(&rt, back.as_str(), "abcd");
+    check_count(&rt, &back, Some(1));
+}
+
 fn check_not_static(rt: &impl Abort, text: &ArcStr) {
     assert!(rt; !ArcStr::is_static(text));
     assert!(rt; ArcStr::as_static(text).is_none());

@@ -1,7 +1,7 @@
 use super::*;
 use crate::literal_substr;
 use crate::test_steps::{
-    check_bytes, check_count, check_nothing, check_slice, check_text, made, part,
+    check_bytes, check_count, check_nothing, check_slice, check_text, made, many_digits, part,
 };
 
 #[test]
@@ -21,6 +21,13 @@ fn a_made_slice_is_all_of_its_text(rt: HostRuntime) {
     check_count(&rt, slice.parent(), Some(1));
     assert!(rt; slice.len() == 3);
     assert!(rt; !slice.is_empty());
+}
+
+#[test]
+fn a_made_slice_of_a_million_bytes_is_read_back(rt: HostRuntime) {
+    let digits = many_digits(&rt);
+    let slice = Substr::from_str(rt.alloc(), digits.as_str()).expect(&rt, "no memory");
+    check_slice(&rt, &slice, digits.as_str(), 0..1_000_000);
 }
 
 #[test]

@@ -11,6 +11,11 @@ fn a_text_is_padded_as_a_str_is(rt: HostRuntime) {
 }
 
 #[test]
+fn a_text_is_copied_into_a_string(rt: HostRuntime) {
+    check_copied(&rt, made(&rt, "hi").to_string(rt.alloc()), "hi");
+}
+
+#[test]
 fn padding_counts_characters(rt: HostRuntime) {
     let text = literal!("é");
     let padded = format!(in rt.alloc(); "{text}|{text:<3}|{text:*>3}");

@@ -151,6 +151,14 @@ fn a_view_is_found_at_its_place(rt: HostRuntime) {
 }
 
 #[test]
+fn a_trimmed_view_gives_its_slice(rt: HostRuntime) {
+    let text = made(&rt, "   abc");
+    let view = StrView::whole(text.as_str()).trim();
+    let slice = text.try_substr_from(&rt, view).expect(&rt, "not found");
+    check_slice(&rt, &slice, "abc", 3..6);
+}
+
+#[test]
 fn a_view_is_not_found_elsewhere(rt: HostRuntime) {
     let text = literal!("abab");
     lacks(&rt, &text, "ab", 1);
@@ -171,8 +179,11 @@ fn equal_places_of_a_closure_give_the_slice_of_nothing(rt: HostRuntime) {
 
 #[test]
 fn equal_places_are_tried_too(rt: HostRuntime) {
-    let found = literal!("aé").try_substr_using(&rt, |_| 7..7);
+    let text = literal!("abc");
+    let found = text.substr_using(&rt, |_| 7..7);
     check_nothing(&rt, &found.expect(&rt, "no slice"));
+    let tried = text.try_substr_using(&rt, |_| 7..7);
+    check_nothing(&rt, &tried.expect(&rt, "no slice"));
 }
 
 #[test]

@@ -1,7 +1,7 @@
 use super::*;
 use crate::literal;
 use crate::test_steps::{
-    check_no_slice, check_nothing, check_part, check_slice, check_sliced, check_text, part,
+    check_no_slice, check_nothing, check_part, check_slice, check_sliced, check_text, made, part,
 };
 use std::process::Abort;
 
@@ -59,9 +59,24 @@ fn a_view_is_found_in_the_own_text(rt: HostRuntime) {
 }
 
 #[test]
+fn a_trimmed_view_of_a_slice_gives_its_slice(rt: HostRuntime) {
+    let slice = part(&rt, &made(&rt, "foo   bar"), StrRange::From(3));
+    check_text(&rt, slice.as_str(), "   bar");
+    let view = StrView::whole(slice.as_str()).trim();
+    let trimmed = slice.try_substr_from(&rt, view).expect(&rt, "not found");
+    check_slice(&rt, &trimmed, "bar", 6..9);
+}
+
+#[test]
 fn a_view_is_not_found_past_the_own_text(rt: HostRuntime) {
     assert!(rt; found(&rt, "bar", 3).is_none());
     assert!(rt; found(&rt, "foo", 0).is_none());
+}
+
+#[test]
+fn places_of_the_own_text_give_all_of_it(rt: HostRuntime) {
+    check_sliced(&rt, bar(&rt).substr_using(&rt, |_| 0..3), "bar", 3..6);
+    check_sliced(&rt, bar(&rt).try_substr_using(&rt, |_| 0..3), "bar", 3..6);
 }
 
 #[test]
