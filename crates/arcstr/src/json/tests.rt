@@ -34,14 +34,6 @@ fn a_slice_is_written_and_read_back(rt: HostRuntime) {
 }
 
 #[test]
-fn a_text_is_written_and_read_back(rt: HostRuntime) {
-    let value = made(&rt, "hi").to_json(rt.alloc()).expect(&rt, "no memory");
-    check_read(&rt, &value, "hi");
-    let read = ArcStr::from_json(rt.alloc(), &value).expect(&rt, "no text");
-    assert!(rt; read == literal!("hi"));
-}
-
-#[test]
 fn a_million_bytes_are_read(rt: HostRuntime) {
     let digits = many_digits(&rt);
     let value = string(&rt, digits.as_str());

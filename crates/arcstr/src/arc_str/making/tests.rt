@@ -34,12 +34,6 @@ fn bytes_that_a_closure_leaves_are_refused_after_their_text(rt: HostRuntime) {
 }
 
 #[test]
-fn a_closure_may_leave_zeros(rt: HostRuntime) {
-    let zeros = ArcStr::init_with(rt.alloc(), 3, |_| {});
-    check_made(&rt, zeros, "\0\0\0");
-}
-
-#[test]
 fn no_bytes_are_filled_too(rt: HostRuntime) {
     let mut length = None;
     let made = ArcStr::init_with(rt.alloc(), 0, |bytes| length = Some(bytes.len()));
@@ -61,6 +55,14 @@ fn a_closure_is_not_run_without_memory(rt: HostRuntime) {
     let made = ArcStr::init_with(rt.alloc(), TOO_LONG - 1, |_| ran = true);
     check_refused(&rt, made, TextFault::Memory);
     assert!(rt; !ran);
+}
+
+#[test]
+fn a_closure_is_run_only_where_the_memory_is_there(rt: HostRuntime) {
+    let mut ran = false;
+    let made = ArcStr::init_with(rt.alloc(), 3, |_| ran = true);
+    assert!(rt; made.is_ok() == ran);
+    check_made(&rt, made, "\0\0\0");
 }
 
 #[test]

@@ -16,13 +16,6 @@ fn a_text_is_copied_into_a_string(rt: HostRuntime) {
 }
 
 #[test]
-fn padding_counts_characters(rt: HostRuntime) {
-    let text = literal!("é");
-    let padded = format!(in rt.alloc(); "{text}|{text:<3}|{text:*>3}");
-    check_copied(&rt, padded, "é|é  |**é");
-}
-
-#[test]
 fn debug_escapes_as_a_str_does(rt: HostRuntime) {
     for (text, wanted) in [
         ("a\"b", "\"a\\\"b\""),
