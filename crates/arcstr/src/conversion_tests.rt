@@ -83,8 +83,6 @@ fn not_stored(rt: &impl Wait, text: &ArcStr) -> AllocFailed<ArcStr> {
 #[test]
 fn what_was_not_stored_is_dropped(rt: HostRuntime) {
     let text = made(&rt, "foo");
-    assert_eq!(rt; TextFault::from(not_stored(&rt, &text)), TextFault::Memory);
-    check_count(&rt, &text, Some(1));
     assert_eq!(rt; JsonFault::from(not_stored(&rt, &text)), JsonFault::Memory);
     check_count(&rt, &text, Some(1));
 }
