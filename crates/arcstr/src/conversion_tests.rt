@@ -1,11 +1,12 @@
 //! Calls that ask for a text, for bytes or for a fault by its trait, and are given those of this crate.
-use crate::test_steps::{check_bytes, check_text, made, part};
+use crate::test_steps::{check_bytes, check_count, check_text, made, part};
 use crate::{ArcStr, JsonFault, RangeFault, StrRange, StrView, TextFault, literal};
 use serde_json::Value;
-use std::alloc::{AllocError, AllocGlobal, Global};
+use std::alloc::{AllocError, AllocFailed, AllocGlobal, Global};
 use std::convert::{AsSlice, AsStr};
 use std::io;
 use std::process::Abort;
+use std::sync::Wait;
 
 /// Asserts what the value lends as a text, and as bytes.
 fn check_lent<T: AsStr + AsSlice<u8>>(rt: &impl Abort, value: &T, wanted: &str) {
@@ -15,7 +16,9 @@ fn check_lent<T: AsStr + AsSlice<u8>>(rt: &impl Abort, value: &T, wanted: &str) 
 
 #[test]
 fn a_text_lends_its_text(rt: HostRuntime) {
-    check_lent(&rt, &literal!("foobar"), "foobar");
+    let text = made(&rt, "foobar");
+    check_lent(&rt, &text, "foobar");
+    check_count(&rt, &text, Some(1));
 }
 
 #[test]
@@ -25,7 +28,9 @@ fn a_static_text_lends_its_text(rt: HostRuntime) {
 
 #[test]
 fn a_slice_lends_its_own_text(rt: HostRuntime) {
-    check_lent(&rt, &part(&rt, &literal!("foobar"), 3..), "bar");
+    let slice = part(&rt, &made(&rt, "foobar"), 3..);
+    check_lent(&rt, &slice, "bar");
+    check_count(&rt, slice.parent(), Some(1));
 }
 
 /// The texts of a list, which both ask for memory.
@@ -66,6 +71,20 @@ fn json_text(rt: &(impl Abort + AllocGlobal)) -> Value {
 fn want_of_memory_is_a_fault_of_each_kind(rt: HostRuntime) {
     assert_eq!(rt; TextFault::from(AllocError), TextFault::Memory);
     assert_eq!(rt; JsonFault::from(AllocError), JsonFault::Memory);
+}
+
+/// A handle on the text that could not be stored.
+fn not_stored(rt: &impl Wait, text: &ArcStr) -> AllocFailed<ArcStr> {
+    AllocFailed {
+        value: text.clone(rt),
+    }
+}
+
+#[test]
+fn what_was_not_stored_is_dropped(rt: HostRuntime) {
+    let text = made(&rt, "foo");
+    assert_eq!(rt; JsonFault::from(not_stored(&rt, &text)), JsonFault::Memory);
+    check_count(&rt, &text, Some(1));
 }
 
 /// What a fault is as one of reading and writing.

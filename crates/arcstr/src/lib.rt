@@ -23,8 +23,6 @@ mod first_place;
 mod json;
 mod mac;
 #[cfg(test)]
-mod refusal_tests;
-#[cfg(test)]
 mod slice_count_tests;
 mod static_str;
 mod substr;

@@ -120,6 +120,15 @@ pub(crate) fn letters(
     made(rt, text.as_str())
 }
 
+/// The ten digits, over and over: a million bytes.
+pub(crate) fn many_digits(rt: &(impl Abort + AllocGlobal)) -> String {
+    let mut digits = String::new(rt.alloc());
+    for _ in 0..100_000 {
+        digits.push_str("0123456789").expect(rt, "no memory");
+    }
+    digits
+}
+
 /// Asserts how the two compare, and that they compare the other way round too.
 pub(crate) fn check_order<T: Ord>(rt: &impl Abort, one: &T, other: &T, wanted: Ordering) {
     assert!(rt; one.cmp(other) == wanted);

@@ -11,8 +11,6 @@ use arcstr_block::{Shared, TextFault};
 use std::alloc::Global;
 
 #[cfg(test)]
-mod memory_tests;
-#[cfg(test)]
 mod tests;
 #[cfg(test)]
 mod utf8_tests;

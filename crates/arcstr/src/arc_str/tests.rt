@@ -1,5 +1,4 @@
 use super::{ArcStr, RawArcStr};
-use crate::literal;
 use crate::static_str::StaticStr;
 use crate::substr::Substr;
 use crate::test_steps::{check_bytes, check_count, check_empty, check_part, check_text, made};
@@ -27,15 +26,6 @@ fn the_empty_text_is_a_literal(rt: HostRuntime) {
     check_empty(&rt, &made(&rt, ""));
     check_empty(&rt, &ArcStr::new());
     check_empty(&rt, &ArcStr::default());
-}
-
-#[test]
-fn clones_of_a_literal_are_literals(rt: HostRuntime) {
-    let text = literal!("Wow!",);
-    let last = text.clone(&rt).clone(&rt).clone(&rt).clone(&rt);
-    let kept = ArcStr::as_static(&last).expect(&rt, "a literal is static");
-    check_text(&rt, kept.as_str(), "Wow!");
-    check_part(&rt, kept.literal(), Some("Wow!"));
 }
 
 #[test]
@@ -73,6 +63,13 @@ fn a_leaked_text_reads_on_without_its_handles(rt: HostRuntime) {
     drop(text);
     check_text(&rt, kept.as_str(), "foobar");
     check_part(&rt, kept.literal(), None);
+}
+
+#[test]
+fn a_raw_handle_comes_back(rt: HostRuntime) {
+    let back = ArcStr::from_raw(ArcStr::into_raw(made(&rt, "abcd")));
+    check_text(&rt, back.as_str(), "abcd");
+    check_count(&rt, &back, Some(1));
 }
 
 fn check_not_static(rt: &impl Abort, text: &ArcStr) {

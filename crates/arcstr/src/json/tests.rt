@@ -2,7 +2,9 @@ use super::JsonFault;
 use crate::arc_str::ArcStr;
 use crate::literal;
 use crate::substr::Substr;
-use crate::test_steps::{check_copied, check_empty, check_nothing, check_text, made, part};
+use crate::test_steps::{
+    check_copied, check_empty, check_nothing, check_text, made, many_digits, part,
+};
 use serde_json::Value;
 use std::alloc::AllocGlobal;
 use std::mem::size_of;
@@ -32,11 +34,10 @@ fn a_slice_is_written_and_read_back(rt: HostRuntime) {
 }
 
 #[test]
-fn a_text_is_written_and_read_back(rt: HostRuntime) {
-    let value = made(&rt, "hi").to_json(rt.alloc()).expect(&rt, "no memory");
-    check_read(&rt, &value, "hi");
-    let read = ArcStr::from_json(rt.alloc(), &value).expect(&rt, "no text");
-    assert!(rt; read == literal!("hi"));
+fn a_million_bytes_are_read(rt: HostRuntime) {
+    let digits = many_digits(&rt);
+    let value = string(&rt, digits.as_str());
+    check_read(&rt, &value, digits.as_str());
 }
 
 fn check_fault(rt: &impl Abort, found: Option<JsonFault>, wanted: JsonFault) {

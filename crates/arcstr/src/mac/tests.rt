@@ -5,7 +5,7 @@ ghost use Rattle.arcstr.specs.Printing.{AnswersPrinted};
 ghost use Rattle.arcstr.specs.Substr.{whole_of};
 ghost use Rattle.arcstr.specs.TextView.{literal_of};
 
-use crate::test_steps::{check_made, check_slice, check_text, made};
+use crate::test_steps::{check_made, check_slice, check_text};
 use crate::{ArcStr, Substr, TextFault, format_arcstr, literal, literal_substr};
 use std::alloc::Global;
 use std::fmt;
@@ -57,7 +57,8 @@ fn printed_text(alloc: Global, text: &str) -> Result<ArcStr, TextFault>
 fn literals_are_made(rt: HostRuntime) {
     check_text(&rt, literal_text("Wow!").as_str(), "Wow!");
     check_slice(&rt, &literal_slice("Wow!"), "Wow!", 0..4);
-    check_made(&rt, printed_value(rt.alloc(), &literal!("foo")), "foo");
+    check_slice(&rt, &literal_substr!("Wow!",), "Wow!", 0..4);
+    check_made(&rt, printed_value(rt.alloc(), &literal!("foo",)), "foo");
 }
 
 #[test]
@@ -66,14 +67,6 @@ fn values_are_printed(rt: HostRuntime) {
     check_made(&rt, printed_truth(rt.alloc(), true), "true");
     check_made(&rt, printed_character(rt.alloc(), 'é'), "é");
     check_made(&rt, printed_text(rt.alloc(), "foo"), "foo!");
-}
-
-#[test]
-fn a_text_is_printed_into_a_width(rt: HostRuntime) {
-    let text = made(&rt, "foo");
-    let wide = format_arcstr!(rt.alloc(); "{:>5}", text).expect(&rt, "no memory");
-    check_text(&rt, wide.as_str(), "  foo");
-    assert!(rt; wide.len() == 5);
 }
 
 #[test]

@@ -1,7 +1,6 @@
 use super::*;
-use crate::literal_substr;
 use crate::test_steps::{
-    check_bytes, check_count, check_nothing, check_slice, check_text, made, part,
+    check_bytes, check_count, check_nothing, check_slice, made, many_digits, part,
 };
 
 #[test]
@@ -24,10 +23,10 @@ fn a_made_slice_is_all_of_its_text(rt: HostRuntime) {
 }
 
 #[test]
-fn literal_slices_have_a_literal_as_parent(rt: HostRuntime) {
-    let slice = literal_substr!("Wow!",);
-    check_slice(&rt, &slice, "Wow!", 0..4);
-    assert!(rt; ArcStr::is_static(slice.parent()));
+fn a_made_slice_of_a_million_bytes_is_read_back(rt: HostRuntime) {
+    let digits = many_digits(&rt);
+    let slice = Substr::from_str(rt.alloc(), digits.as_str()).expect(&rt, "no memory");
+    check_slice(&rt, &slice, digits.as_str(), 0..1_000_000);
 }
 
 #[test]
@@ -35,16 +34,6 @@ fn a_full_slice_takes_the_handle(rt: HostRuntime) {
     let slice = Substr::full(made(&rt, "foo"));
     check_slice(&rt, &slice, "foo", 0..3);
     check_count(&rt, slice.parent(), Some(1));
-}
-
-#[test]
-fn a_clone_has_the_same_parent_and_places(rt: HostRuntime) {
-    let text = made(&rt, "foobarbaz");
-    let slice = part(&rt, &text, 3..6);
-    let again = slice.clone(&rt);
-    check_slice(&rt, &again, "bar", 3..6);
-    check_text(&rt, again.parent().as_str(), "foobarbaz");
-    check_count(&rt, &text, Some(3));
 }
 
 #[test]

@@ -1,5 +1,5 @@
-use crate::test_steps::{check_empty, check_made, check_refused};
-use crate::{ArcStr, TextFault};
+use crate::test_steps::{check_empty, check_made, check_refused, many_digits};
+use crate::{ArcStr, TextFault, format_arcstr};
 
 /// The least length that is too long.
 const TOO_LONG: usize = 9_223_372_036_854_775_783;
@@ -28,9 +28,9 @@ fn a_closure_fills_a_text(rt: HostRuntime) {
 }
 
 #[test]
-fn a_closure_may_leave_zeros(rt: HostRuntime) {
-    let zeros = ArcStr::init_with(rt.alloc(), 3, |_| {});
-    check_made(&rt, zeros, "\0\0\0");
+fn bytes_that_a_closure_leaves_are_refused_after_their_text(rt: HostRuntime) {
+    let made = ArcStr::init_with(rt.alloc(), 5, |bytes| bytes[2] = 255);
+    check_refused(&rt, made, TextFault::Utf8(2));
 }
 
 #[test]
@@ -58,6 +58,21 @@ fn a_closure_is_not_run_without_memory(rt: HostRuntime) {
 }
 
 #[test]
+fn a_closure_is_run_only_where_the_memory_is_there(rt: HostRuntime) {
+    let mut ran = false;
+    let made = ArcStr::init_with(rt.alloc(), 3, |_| ran = true);
+    assert!(rt; made.is_ok() == ran);
+    check_made(&rt, made, "\0\0\0");
+}
+
+#[test]
+fn copies_are_joined(rt: HostRuntime) {
+    check_made(&rt, ArcStr::try_repeat(rt.alloc(), "A", 10), "AAAAAAAAAA");
+    check_made(&rt, ArcStr::try_repeat(rt.alloc(), "é", 2), "éé");
+    check_made(&rt, ArcStr::repeat(rt.alloc(), "ab", 2), "abab");
+}
+
+#[test]
 fn no_copies_and_copies_of_nothing_are_empty(rt: HostRuntime) {
     let alloc = rt.alloc();
     check_made(&rt, ArcStr::try_repeat(alloc, "", usize::MAX), "");
@@ -80,4 +95,41 @@ fn too_many_copies_are_refused(rt: HostRuntime) {
         ArcStr::try_repeat(alloc, "A", TOO_LONG - 1),
         TextFault::Memory,
     );
+}
+
+#[test]
+fn copies_of_a_million_bytes_are_read_back(rt: HostRuntime) {
+    let digits = many_digits(&rt);
+    let wanted = digits.as_str();
+    check_made(&rt, ArcStr::from_str(rt.alloc(), wanted), wanted);
+    check_made(&rt, ArcStr::try_alloc(rt.alloc(), wanted), wanted);
+    check_made(
+        &rt,
+        ArcStr::from_utf8(rt.alloc(), wanted.as_bytes()),
+        wanted,
+    );
+    check_made(&rt, format_arcstr!(rt.alloc(); "{wanted}"), wanted);
+}
+
+#[test]
+fn repetitions_of_a_million_bytes_are_read_back(rt: HostRuntime) {
+    let digits = many_digits(&rt);
+    let wanted = digits.as_str();
+    check_made(
+        &rt,
+        ArcStr::try_repeat(rt.alloc(), "0123456789", 100_000),
+        wanted,
+    );
+    check_made(
+        &rt,
+        ArcStr::repeat(rt.alloc(), "0123456789", 100_000),
+        wanted,
+    );
+}
+
+#[test]
+fn a_closure_fills_a_million_bytes(rt: HostRuntime) {
+    let made = ArcStr::init_with(rt.alloc(), 1_000_000, |bytes| bytes.fill(b'7'));
+    let wanted = ArcStr::repeat(rt.alloc(), "7", 1_000_000).expect(&rt, "no memory");
+    check_made(&rt, made, wanted.as_str());
 }

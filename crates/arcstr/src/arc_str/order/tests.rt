@@ -33,11 +33,6 @@ fn a_map_finds_a_key_of_another_kind(rt: HostRuntime) {
     assert!(rt; numbers.get(&literal!("l")).is_none());
 }
 
-#[test]
-fn a_longer_text_may_come_first(rt: HostRuntime) {
-    assert!(rt; literal!("abc") < literal!("b"));
-}
-
 /// Asserts the order of texts of this many bytes that differ in the byte at the place alone, and of a text
 /// that goes on.
 fn differ_at(rt: &(impl Abort + AllocGlobal), length: usize, place: usize) {

@@ -11,10 +11,8 @@ fn a_text_is_padded_as_a_str_is(rt: HostRuntime) {
 }
 
 #[test]
-fn padding_counts_characters(rt: HostRuntime) {
-    let text = literal!("é");
-    let padded = format!(in rt.alloc(); "{text}|{text:<3}|{text:*>3}");
-    check_copied(&rt, padded, "é|é  |**é");
+fn a_text_is_copied_into_a_string(rt: HostRuntime) {
+    check_copied(&rt, made(&rt, "hi").to_string(rt.alloc()), "hi");
 }
 
 #[test]

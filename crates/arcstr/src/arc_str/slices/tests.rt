@@ -31,18 +31,6 @@ fn empty_slices_keep_their_parent(rt: HostRuntime) {
     check_no_slice(&rt, text.substr(&rt, 6..), RangeFault::OutOfOrder);
 }
 
-#[test]
-fn slices_of_a_literal(rt: HostRuntime) {
-    let digits = part(&rt, &literal!("12345"), 1..4);
-    check_slice(&rt, &digits, "234", 1..4);
-    assert!(rt; ArcStr::is_static(digits.parent()));
-}
-
-#[test]
-fn the_slice_of_all_of_a_literal(rt: HostRuntime) {
-    check_sliced(&rt, literal!("12345").substr(&rt, ..), "12345", 0..5);
-}
-
 /// Asserts that `aé` has no slice in the range, and why.
 fn refuses<R: Into<StrRange>>(rt: &(impl Abort + Wait), range: R, wanted: RangeFault) {
     check_no_slice(rt, literal!("aé").substr(rt, range), wanted);
@@ -54,45 +42,21 @@ fn gives<R: Into<StrRange>>(rt: &(impl Abort + Wait), range: R, text: &str, plac
 }
 
 #[test]
-fn slices_from_a_place(rt: HostRuntime) {
+fn a_range_of_each_form_gives_its_slice(rt: HostRuntime) {
     gives(&rt, 3.., "", 3..3);
-    refuses(&rt, 2.., RangeFault::OffBoundary);
-    refuses(&rt, 4.., RangeFault::OutOfOrder);
-    refuses(&rt, MAX.., RangeFault::OutOfOrder);
-}
-
-#[test]
-fn slices_up_to_a_place(rt: HostRuntime) {
-    gives(&rt, ..0, "", 0..0);
-    refuses(&rt, ..2, RangeFault::OffBoundary);
-    refuses(&rt, ..4, RangeFault::PastEnd);
-    refuses(&rt, ..MAX, RangeFault::PastEnd);
-}
-
-#[test]
-fn slices_between_places(rt: HostRuntime) {
-    refuses(&rt, 0..2, RangeFault::OffBoundary);
-    refuses(&rt, 2..1, RangeFault::OutOfOrder);
-    refuses(&rt, 9..8, RangeFault::OutOfOrder);
-    refuses(&rt, 0..4, RangeFault::PastEnd);
-    refuses(&rt, 2..2, RangeFault::OffBoundary);
-    refuses(&rt, MAX..MAX, RangeFault::PastEnd);
-}
-
-#[test]
-fn slices_between_a_place_and_a_last_one(rt: HostRuntime) {
-    gives(&rt, 0..=0, "a", 0..1);
-    refuses(&rt, 1..=1, RangeFault::OffBoundary);
+    gives(&rt, ..1, "a", 0..1);
+    gives(&rt, 1..3, "é", 1..3);
+    gives(&rt, .., "aé", 0..3);
     gives(&rt, 3..=2, "", 3..3);
-    refuses(&rt, 4..=2, RangeFault::OutOfOrder);
-    refuses(&rt, MAX..=0, RangeFault::OutOfOrder);
-    refuses(&rt, MAX..=MAX, RangeFault::PastEnd);
+    gives(&rt, ..=2, "aé", 0..3);
 }
 
 #[test]
-fn slices_up_to_a_last_place(rt: HostRuntime) {
-    gives(&rt, ..=0, "a", 0..1);
-    gives(&rt, ..=2, "aé", 0..3);
+fn a_range_of_each_form_is_refused(rt: HostRuntime) {
+    refuses(&rt, 4.., RangeFault::OutOfOrder);
+    refuses(&rt, ..2, RangeFault::OffBoundary);
+    refuses(&rt, 2..2, RangeFault::OffBoundary);
+    refuses(&rt, MAX..=MAX, RangeFault::PastEnd);
     refuses(&rt, ..=3, RangeFault::PastEnd);
 }
 
@@ -138,16 +102,19 @@ fn an_empty_view_is_found_everywhere(rt: HostRuntime) {
 }
 
 #[test]
-fn a_view_does_not_end_past_the_last_place(rt: HostRuntime) {
-    assert!(rt; StrView::at("abc", MAX).is_none());
-}
-
-#[test]
 fn a_view_is_found_at_its_place(rt: HostRuntime) {
     let text = literal!("abab");
     finds(&rt, &text, "b", 3..4);
     finds(&rt, &text, "ab", 2..4);
     finds(&rt, &literal!("aé"), "é", 1..3);
+}
+
+#[test]
+fn a_trimmed_view_gives_its_slice(rt: HostRuntime) {
+    let text = made(&rt, "   abc");
+    let view = StrView::whole(text.as_str()).trim();
+    let slice = text.try_substr_from(&rt, view).expect(&rt, "not found");
+    check_slice(&rt, &slice, "abc", 3..6);
 }
 
 #[test]
@@ -171,8 +138,11 @@ fn equal_places_of_a_closure_give_the_slice_of_nothing(rt: HostRuntime) {
 
 #[test]
 fn equal_places_are_tried_too(rt: HostRuntime) {
-    let found = literal!("aé").try_substr_using(&rt, |_| 7..7);
+    let text = literal!("abc");
+    let found = text.substr_using(&rt, |_| 7..7);
     check_nothing(&rt, &found.expect(&rt, "no slice"));
+    let tried = text.try_substr_using(&rt, |_| 7..7);
+    check_nothing(&rt, &tried.expect(&rt, "no slice"));
 }
 
 #[test]
@@ -181,12 +151,6 @@ fn other_places_of_a_closure_are_a_range(rt: HostRuntime) {
     check_sliced(&rt, found, "bc", 1..3);
     let off = literal!("aé").substr_using(&rt, |_| 1..2);
     check_no_slice(&rt, off, RangeFault::OffBoundary);
-}
-
-#[test]
-fn turned_places_of_a_closure_are_refused(rt: HostRuntime) {
-    let turned = literal!("abc").try_substr_using(&rt, |_| 2..1);
-    check_no_slice(&rt, turned, RangeFault::OutOfOrder);
 }
 
 #[test]

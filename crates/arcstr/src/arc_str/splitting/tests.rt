@@ -1,6 +1,6 @@
 use super::*;
 use crate::literal;
-use crate::test_steps::{check_copied, check_count, check_slice, made};
+use crate::test_steps::{check_count, check_slice, made};
 use std::process::Abort;
 
 /// The two parts of the text, which has the character.
@@ -38,11 +38,4 @@ fn an_empty_part_keeps_the_text(rt: HostRuntime) {
     check_slice(&rt, &front, "", 0..0);
     check_slice(&rt, &rest, "", 1..1);
     check_count(&rt, &text, Some(3));
-}
-
-#[test]
-fn the_parts_and_the_character_join_to_the_text(rt: HostRuntime) {
-    let (front, rest) = parts(&rt, &literal!("aé→b→c"), '→');
-    let joined = format!(in rt.alloc(); "{front}→{rest}");
-    check_copied(&rt, joined, "aé→b→c");
 }

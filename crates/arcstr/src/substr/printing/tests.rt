@@ -2,13 +2,6 @@ use super::*;
 use crate::test_steps::{check_copied, made, part};
 
 #[test]
-fn a_slice_is_padded_as_a_str_is(rt: HostRuntime) {
-    let slice = part(&rt, &made(&rt, "barfoo"), 3..);
-    check_copied(&rt, format!(in rt.alloc(); "{slice:>5}"), "  foo");
-    check_copied(&rt, format!(in rt.alloc(); "{slice:-^9}"), "---foo---");
-}
-
-#[test]
 fn debug_of_a_slice_escapes_its_own_text(rt: HostRuntime) {
     let parent = made(&rt, "\"a\"b\"é\"\n→\r");
     for (start, end, wanted) in [

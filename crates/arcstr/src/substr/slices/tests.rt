@@ -1,7 +1,7 @@
 use super::*;
 use crate::literal;
 use crate::test_steps::{
-    check_no_slice, check_nothing, check_part, check_slice, check_sliced, check_text, part,
+    check_nothing, check_part, check_slice, check_sliced, check_text, made, part,
 };
 use std::process::Abort;
 
@@ -15,13 +15,6 @@ fn a_slice_of_a_slice_keeps_the_parent(rt: HostRuntime) {
     let inner = bar(&rt).substr(&rt, 1..3).expect(&rt, "no slice");
     check_slice(&rt, &inner, "ar", 4..6);
     check_text(&rt, inner.parent().as_str(), "foobarbaz");
-}
-
-#[test]
-fn an_empty_slice_of_a_slice_keeps_the_parent(rt: HostRuntime) {
-    let empty = bar(&rt).substr(&rt, 2..2).expect(&rt, "no slice");
-    check_slice(&rt, &empty, "", 5..5);
-    check_text(&rt, empty.parent().as_str(), "foobarbaz");
 }
 
 #[test]
@@ -52,10 +45,12 @@ fn found(rt: &(impl Abort + Wait), shown: &str, place: usize) -> Option<Substr> 
 }
 
 #[test]
-fn a_view_is_found_in_the_own_text(rt: HostRuntime) {
-    let whole = found(&rt, "bar", 0).expect(&rt, "not found");
-    check_slice(&rt, &whole, "bar", 3..6);
-    check_nothing(&rt, &found(&rt, "", 99).expect(&rt, "not found"));
+fn a_trimmed_view_of_a_slice_gives_its_slice(rt: HostRuntime) {
+    let slice = part(&rt, &made(&rt, "foo   bar"), StrRange::From(3));
+    check_text(&rt, slice.as_str(), "   bar");
+    let view = StrView::whole(slice.as_str()).trim();
+    let trimmed = slice.try_substr_from(&rt, view).expect(&rt, "not found");
+    check_slice(&rt, &trimmed, "bar", 6..9);
 }
 
 #[test]
@@ -65,9 +60,9 @@ fn a_view_is_not_found_past_the_own_text(rt: HostRuntime) {
 }
 
 #[test]
-fn places_past_the_own_text_are_refused(rt: HostRuntime) {
-    let past = bar(&rt).substr_using(&rt, |_| 0..9);
-    check_no_slice(&rt, past, RangeFault::PastEnd);
+fn places_of_the_own_text_give_all_of_it(rt: HostRuntime) {
+    check_sliced(&rt, bar(&rt).substr_using(&rt, |_| 0..3), "bar", 3..6);
+    check_sliced(&rt, bar(&rt).try_substr_using(&rt, |_| 0..3), "bar", 3..6);
 }
 
 #[test]

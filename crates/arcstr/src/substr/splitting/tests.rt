@@ -23,11 +23,3 @@ fn a_slice_does_not_find_what_its_parent_has(rt: HostRuntime) {
     assert!(rt; first.split_once(&rt, '=').is_none());
     check_count(&rt, &text, Some(2));
 }
-
-#[test]
-fn parts_of_a_slice_end_where_it_ends(rt: HostRuntime) {
-    let slice = part(&rt, &made(&rt, "né→à→x"), 1..8);
-    let (front, rest) = parts(&rt, &slice, '→');
-    check_slice(&rt, &front, "é", 1..3);
-    check_slice(&rt, &rest, "à", 6..8);
-}
