@@ -14,6 +14,7 @@ FUNCTION = re.compile(
 OWNER = re.compile(
     r"^(?:unsafe )?(?:impl\b(?:<[^{]*?>)? (?P<trait>[^{;\n]*? for )?(?P<type>\w+)|(?:pub )?trait (?P<new>\w+))[^;{]*\{", re.M)
 CLAUSE = re.compile(r"\b(?P<kind>ensures|requires|invariant|decreases)(?: (?P<name>\w+))?\s*$")
+HIDING = re.compile(r"#!?\[(?:cfg|path|ignore).*?\]$", re.M)
 CLOSING = {"(": ")", "{": "}"}
 
 
@@ -59,7 +60,7 @@ def is_library(crate):
 
 def files_of(crate):
     """The files that the `mod` lines of a crate reach, each with whether it is for tests alone; and what is wrong: a file that they do
-    not reach, a file that is missing, and a condition other than `test`."""
+    not reach, a file that is missing, a test that is not run, and code under a condition other than `test`."""
     source = CRATES / crate / "src"
     root = source / ("lib.rt" if is_library(crate) else "main.rt")
     files, wrong = {}, []
@@ -71,12 +72,11 @@ def files_of(crate):
             continue
         files[file] = tests
         text = without_comments(file.read_text())
-        wrong.extend(f"{crate}: the file {file.relative_to(source)} stands under `{found}`" for found in re.findall(r"#!\[cfg.*", text))
+        hidden = [line for line in HIDING.findall(text) if line != "#[cfg(test)]"]
+        wrong.extend(f"{crate}: {file.relative_to(source)} has `{line}`" for line in hidden)
         for found in MODULE.finditer(text):
-            conditions = re.findall(r"#\[(?:cfg|path).*", found["attributes"])
-            wrong.extend(f"{crate}: the module {found['name']} stands under `{line}`" for line in conditions if line != "#[cfg(test)]")
             folder = file.parent if file == root else file.with_suffix("")
-            to_read.append((folder / f"{found['name']}.rt", tests or bool(conditions)))
+            to_read.append((folder / f"{found['name']}.rt", tests or "#[cfg(test)]" in found["attributes"]))
     unread = sorted(set(source.rglob("*.rt")) - set(files))
     return dict(sorted(files.items())), wrong + [f"{crate}: no `mod` line reads {file.relative_to(source)}" for file in unread]
 
