@@ -1,0 +1,136 @@
+"""Reads the crates' sources, for the checks: the list of crates, the files of each, and the functions in a file with their contracts."""
+import re
+from dataclasses import dataclass, field
+from pathlib import Path
+
+ROOT = Path(__file__).resolve().parents[1]
+CRATES = ROOT / "crates"
+COMMENT_OR_LITERAL = re.compile(
+    r"(?P<line>//[^\n]*)|(?P<block>/\*)|\"(?:\\.|[^\"\\])*\"|(?<![\w'])'(?:\\[^'\n]+|[^'\\\n])'", re.S)
+ATTRIBUTES = r"^(?P<attributes>(?:[ \t]*#\[[^\n]*\][ \t]*\n(?:[ \t]*\n)*)*)[ \t]*"
+MODULE = re.compile(ATTRIBUTES + r"(?:pub(?:\([a-z]+\))? )?mod (?P<name>\w+);", re.M)
+FUNCTION = re.compile(
+    ATTRIBUTES + r"(?P<public>pub )?(?:pub\([a-z]+\) )?(?:(?:const|unsafe|extern|async) )*fn (?P<name>\w+)", re.M)
+OWNER = re.compile(
+    r"^(?:unsafe )?(?:impl\b(?:<[^{]*?>)? (?P<trait>[^{;\n]*? for )?(?P<type>\w+)|(?:pub )?trait (?P<new>\w+))[^;{]*\{", re.M)
+CLAUSE = re.compile(r"\b(?P<kind>ensures|requires|invariant|decreases)(?: (?P<name>\w+))?\s*$")
+HIDING = re.compile(r"#!?\[(?:cfg|path|ignore).*?\]$", re.M)
+CLOSING = {"(": ")", "{": "}"}
+
+
+def end_of_block_comment(text, start):
+    """The place after the block comment that begins at `start`. Block comments nest."""
+    depth = 0
+    for found in re.compile(r"/\*|\*/").finditer(text, start):
+        depth += 1 if found[0] == "/*" else -1
+        if depth == 0:
+            return found.end()
+    return len(text)
+
+
+def blank(text):
+    return re.sub(r"[^\n]", " ", text)
+
+
+def without_comments(text, literals=True):
+    """The text with a space for each character of a comment, so that all places stay. `literals=False` also blanks what stands in quotes."""
+    parts = []
+    place = 0
+    while found := COMMENT_OR_LITERAL.search(text, place):
+        parts.append(text[place:found.start()])
+        place = end_of_block_comment(text, found.start()) if found["block"] else found.end()
+        part = text[found.start():place]
+        if found["line"] or found["block"]:
+            part = blank(part)
+        elif not literals:
+            part = part[0] + blank(part[1:-1]) + part[-1]
+        parts.append(part)
+    return "".join(parts) + text[place:]
+
+
+def listed_crates():
+    """The crates that crates.txt lists, in its order."""
+    lines = (ROOT / "crates.txt").read_text().splitlines()
+    return [re.match(r"\w+", line)[0] for line in lines if re.match(r"\w", line)]
+
+
+def is_library(crate):
+    return (CRATES / crate / "src" / "lib.rt").exists()
+
+
+def files_of(crate):
+    """The files that the `mod` lines of a crate reach, each with whether it is for tests alone; and what is wrong: a file that they do
+    not reach, a file that is missing, a test that is not run, and code under a condition other than `test`."""
+    source = CRATES / crate / "src"
+    root = source / ("lib.rt" if is_library(crate) else "main.rt")
+    files, wrong = {}, []
+    to_read = [(root, False)]
+    while to_read:
+        file, tests = to_read.pop()
+        if not file.exists():
+            wrong.append(f"{crate}: there is no {file.relative_to(CRATES / crate)}")
+            continue
+        files[file] = tests
+        text = without_comments(file.read_text())
+        hidden = [line for line in HIDING.findall(text) if line != "#[cfg(test)]"]
+        wrong.extend(f"{crate}: {file.relative_to(source)} has `{line}`" for line in hidden)
+        for found in MODULE.finditer(text):
+            folder = file.parent if file == root else file.with_suffix("")
+            to_read.append((folder / f"{found['name']}.rt", tests or "#[cfg(test)]" in found["attributes"]))
+    unread = sorted(set(source.rglob("*.rt")) - set(files))
+    return dict(sorted(files.items())), wrong + [f"{crate}: no `mod` line reads {file.relative_to(source)}" for file in unread]
+
+
+@dataclass
+class Function:
+    """A function: its type or trait where it has one, its `ensures` clauses by name (`None` for a clause without one), and its body."""
+
+    name: str
+    owner: str | None
+    is_public: bool
+    attributes: list
+    file: Path
+    ensures: dict = field(default_factory=dict)
+    body: str = ""
+    raw_body: str = ""
+
+    def call(self):
+        return f"{self.owner}::{self.name}" if self.owner else self.name
+
+
+def end_of_group(text, start):
+    """The place after the bracket that closes the one at `start`."""
+    depth = 0
+    for found in re.compile(re.escape(text[start]) + "|" + re.escape(CLOSING[text[start]])).finditer(text, start):
+        depth += 1 if found[0] == text[start] else -1
+        if depth == 0:
+            return found.end()
+    return len(text)
+
+
+def read_contract(function, text, shown, source, start):
+    """Reads the clauses and the body after the parameters. `shown` is the source without its comments, and `text` also without literals."""
+    while (found := re.compile(r"[{;]").search(text, start)) and found[0] == "{":
+        end = end_of_group(text, found.start())
+        clause = CLAUSE.search(text, start, found.start())
+        if not clause:
+            function.body, function.raw_body = shown[found.end():end - 1], source[found.end():end - 1]
+            return
+        if clause["kind"] == "ensures":
+            function.ensures[clause["name"]] = " ".join(shown[found.end():end - 1].split())
+        start = end
+
+
+def functions(file):
+    """The functions of a file. One of a trait, or of its implementation, is as public as the trait."""
+    source = file.read_text()
+    shown = without_comments(source)
+    text = without_comments(source, literals=False)
+    owners = [(found, end_of_group(text, found.end() - 1)) for found in OWNER.finditer(text)]
+    for found in FUNCTION.finditer(text):
+        owner = next((owner for owner, end in owners if owner.start() < found.start() < end), None)
+        is_public = bool(found["public"] or owner and (owner["trait"] or owner["new"]))
+        attributes = re.findall(r"#\[(.*)\]", found["attributes"])
+        function = Function(found["name"], owner and (owner["type"] or owner["new"]), is_public, attributes, file)
+        read_contract(function, text, shown, source, end_of_group(text, text.index("(", found.end())))
+        yield function
