@@ -143,6 +143,10 @@ two_blocks-given_1 : times_given (past_of 5 two_blocks) 1 ≡ 1
 unfolding two_blocks
 two_blocks-given_1 = refl
 
+two_blocks-unmade : times_given (past_of 5 two_blocks) 2 ≡ 0
+unfolding two_blocks
+two_blocks-unmade = refl
+
 -- limit 0 with one handle
 limit_zero_drop : List Step
 limit_zero_drop = Make ∷ Begin 0 ∷ Sub 0 ∷ Back 0 ∷ Look 0 ∷ []

@@ -17,3 +17,9 @@ fn subtracts(rt: HostRuntime) {
     let (one, last) = Word::from_bits(4).dropped();
     assert_eq!(rt; (one.bits(), last), (2, false));
 }
+
+#[test]
+fn marks_once(rt: HostRuntime) {
+    assert_eq!(rt; Word::from_bits(2).with_mark().bits(), 3);
+    assert_eq!(rt; Word::from_bits(3).with_mark().bits(), 3);
+}
