@@ -32,7 +32,7 @@ struct Counted<const LIMIT: u64, A: Allocator + Copy> {
 }
 
 /// One handle on a block, by which its text is read; the block stays while a handle on it is left. Contracts see the
-/// bytes of its text, its block's name, and its own number in the block's history.
+/// bytes of its text, its block's name, its own number in the block's history, and the limit on the block's count.
 ///
 /// A clone at a count above `LIMIT` marks the block, which then stays for good. A handle has 16 bytes where its allocator
 /// has none, and may be sent and shared where its allocator may. Its drop is `down`, and gives back what is then owed. Of
