@@ -1,8 +1,8 @@
 //! Calls that ask for a text, for bytes or for a fault by its trait, and are given those of this crate.
-use crate::test_steps::{check_bytes, check_count, check_text, made, part};
-use crate::{ArcStr, JsonFault, RangeFault, StrRange, StrView, TextFault, literal};
+use crate::test_steps::{check_bytes, check_count, check_part, check_text, made, part};
+use crate::{ArcStr, JsonFault, StrRange, TextFault, literal};
 use serde_json::Value;
-use std::alloc::{AllocError, AllocFailed, AllocGlobal, Global};
+use std::alloc::{AllocFailed, AllocGlobal, Global};
 use std::convert::{AsSlice, AsStr};
 use std::io;
 use std::process::Abort;
@@ -67,12 +67,6 @@ fn json_text(rt: &(impl Abort + AllocGlobal)) -> Value {
     Value::try_from_str(rt.alloc(), "foo").expect(rt, "no memory")
 }
 
-#[test]
-fn want_of_memory_is_a_fault_of_each_kind(rt: HostRuntime) {
-    assert_eq!(rt; TextFault::from(AllocError), TextFault::Memory);
-    assert_eq!(rt; JsonFault::from(AllocError), JsonFault::Memory);
-}
-
 /// A handle on the text that could not be stored.
 fn not_stored(rt: &impl Wait, text: &ArcStr) -> AllocFailed<ArcStr> {
     AllocFailed {
@@ -100,12 +94,10 @@ fn faults_of_a_text_have_kinds(rt: HostRuntime) {
 }
 
 #[test]
-fn ranges_and_views_stand_at_the_root(rt: HostRuntime) {
-    let range = StrRange::Between(3, 9);
-    assert!(rt;
-        literal!("foobar")
-            .substr(&rt, range)
-            .is_err_and(|fault| fault == RangeFault::PastEnd)
+fn ranges_stand_at_the_root(rt: HostRuntime) {
+    check_part(
+        &rt,
+        literal!("foobar").get(StrRange::Between(3, 6)),
+        Some("bar"),
     );
-    check_text(&rt, StrView::whole("foo ").trim_end().text(), "foo");
 }

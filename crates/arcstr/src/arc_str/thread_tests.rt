@@ -37,20 +37,14 @@ fn two_threads_clone_and_drop_one_text(rt: HostRuntime) {
     check_count(&rt, &text, Some(1));
 }
 
-#[test]
-fn two_threads_read_one_static_text(rt: HostRuntime) {
-    let kept = made(&rt, "foobar").leak();
-    let lengths = thread::join(&rt, || kept.len(), || kept.as_str().len());
-    assert!(rt; lengths == (6, 6));
-}
-
 /// The value, which may be sent to a thread and shared between threads.
 fn crossing<T: Send + Sync>(value: T) -> T {
     value
 }
 
 #[test]
-fn raw_handles_and_faults_may_cross_threads(rt: HostRuntime) {
+fn raw_handles_static_texts_and_faults_may_cross_threads(rt: HostRuntime) {
+    check_text(&rt, crossing(made(&rt, "foobar").leak()).as_str(), "foobar");
     let raw = crossing(ArcStr::into_raw(made(&rt, "foobar")));
     check_text(&rt, ArcStr::from_raw(raw).as_str(), "foobar");
     assert_eq!(rt; crossing(JsonFault::Memory), JsonFault::Memory);

@@ -40,27 +40,6 @@ fn a_million_bytes_are_read(rt: HostRuntime) {
     check_read(&rt, &value, digits.as_str());
 }
 
-fn check_fault(rt: &impl Abort, found: Option<JsonFault>, wanted: JsonFault) {
-    assert_eq!(rt; found, Some(wanted));
-}
-
-/// Asserts that neither a text nor a slice is read from the value.
-fn is_no_text(rt: &(impl Abort + AllocGlobal), value: Value) {
-    let of_text = ArcStr::from_json(rt.alloc(), &value).err();
-    check_fault(rt, of_text, JsonFault::NotText);
-    let of_slice = Substr::from_json(rt.alloc(), &value).err();
-    check_fault(rt, of_slice, JsonFault::NotText);
-}
-
-#[test]
-fn other_values_are_no_texts(rt: HostRuntime) {
-    is_no_text(&rt, Value::from(12u8));
-    is_no_text(&rt, Value::Null);
-    is_no_text(&rt, Value::from(true));
-    let list = vec![in rt.alloc(); string(&rt, "a")];
-    is_no_text(&rt, Value::Array(list.expect(&rt, "no memory")));
-}
-
 #[test]
 fn the_empty_string_gives_the_empty_literal(rt: HostRuntime) {
     let value = string(&rt, "");

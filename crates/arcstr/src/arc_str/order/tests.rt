@@ -1,36 +1,14 @@
 use super::*;
 use crate::literal;
-use crate::test_steps::{are_one_key, check_order, check_text, letters, made};
+use crate::test_steps::{are_one_key, check_order, letters, made};
 use std::alloc::AllocGlobal;
-use std::collections::{BTreeSet, HashMap};
 use std::process::Abort;
-
-#[test]
-fn texts_stand_in_order_of_their_bytes(rt: HostRuntime) {
-    let mut texts = BTreeSet::new(rt.alloc());
-    for text in ["é", "b", "ab", "Z", "a"] {
-        texts.insert(made(&rt, text)).expect(&rt, "no memory");
-    }
-    assert!(rt; texts.len() == 5);
-    for (text, wanted) in texts.iter().zip(["Z", "a", "ab", "b", "é"]) {
-        check_text(&rt, text.as_str(), wanted);
-    }
-}
 
 #[test]
 fn a_literal_and_a_block_of_one_text_are_one_key(rt: HostRuntime) {
     let text = made(&rt, "bar");
     assert!(rt; are_one_key(&text, &literal!("bar"), "bar"));
     assert!(rt; text.eq_str("bar") && !text.eq_str("ba"));
-}
-
-#[test]
-fn a_map_finds_a_key_of_another_kind(rt: HostRuntime) {
-    let mut numbers = HashMap::new(rt.alloc());
-    let inserted: Result<_, _> = numbers.insert(made(&rt, "k"), 7u8);
-    inserted.expect(&rt, "no memory");
-    assert!(rt; numbers.get(&literal!("k")) == Some(&7));
-    assert!(rt; numbers.get(&literal!("l")).is_none());
 }
 
 /// Asserts the order of texts of this many bytes that differ in the byte at the place alone, and of a text

@@ -8,27 +8,13 @@ use std::process::Abort;
 
 const MAX: usize = usize::MAX;
 
-/// Asserts the slice's text and places, and its parent's text.
-fn check_within(rt: &impl Abort, slice: &Substr, text: &str, places: Range<usize>, parent: &str) {
-    check_slice(rt, slice, text, places);
-    check_text(rt, slice.parent().as_str(), parent);
-}
-
 #[test]
 fn slices_keep_their_parent(rt: HostRuntime) {
     let text = made(&rt, "abcde");
     let tail = part(&rt, &text, 2..);
-    check_within(&rt, &tail, "cde", 2..5, "abcde");
+    check_slice(&rt, &tail, "cde", 2..5);
+    check_text(&rt, tail.parent().as_str(), "abcde");
     check_count(&rt, &text, Some(2));
-}
-
-#[test]
-fn empty_slices_keep_their_parent(rt: HostRuntime) {
-    let text = made(&rt, "abcde");
-    let nothing = part(&rt, &text, 5..);
-    check_within(&rt, &nothing, "", 5..5, "abcde");
-    check_count(&rt, &text, Some(2));
-    check_no_slice(&rt, text.substr(&rt, 6..), RangeFault::OutOfOrder);
 }
 
 /// Asserts that `aé` has no slice in the range, and why.
