@@ -84,7 +84,7 @@ def files_of(crate):
     return dict(sorted(files.items())), wrong + [f"{crate}: no `mod` line reads {file.relative_to(source)}" for file in unread]
 
 
-@dataclass
+@dataclass(eq=False)
 class Function:
     """A function: its type or trait where it has one, its `ensures` clauses by name (`None` for a clause without one), and its body."""
 
