@@ -1,6 +1,7 @@
 """Reads the crates' sources, for the checks: the list of crates, the files of each, and the functions in a file with their contracts."""
 import re
 from dataclasses import dataclass, field
+from functools import cache
 from pathlib import Path
 
 ROOT = Path(__file__).resolve().parents[1]
@@ -32,6 +33,7 @@ def blank(text):
     return re.sub(r"[^\n]", " ", text)
 
 
+@cache
 def without_comments(text, literals=True):
     """The text with a space for each character of a comment, so that all places stay. `literals=False` also blanks what stands in quotes."""
     parts = []
@@ -58,6 +60,7 @@ def is_library(crate):
     return (CRATES / crate / "src" / "lib.rt").exists()
 
 
+@cache
 def files_of(crate):
     """The files that the `mod` lines of a crate reach, each with whether it is for tests alone; and what is wrong: a file that they do
     not reach, a file that is missing, a test that is not run, and code under a condition other than `test`."""
@@ -81,7 +84,7 @@ def files_of(crate):
     return dict(sorted(files.items())), wrong + [f"{crate}: no `mod` line reads {file.relative_to(source)}" for file in unread]
 
 
-@dataclass
+@dataclass(eq=False)
 class Function:
     """A function: its type or trait where it has one, its `ensures` clauses by name (`None` for a clause without one), and its body."""
 
