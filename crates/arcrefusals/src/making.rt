@@ -1,77 +1,163 @@
 //! Calls that make a text of its own.
 ghost use Rattle.std.specs.Prelude.{◌≡◌, OnOk};
 
+use crate::meter::Meter;
 use crate::stop::{Part, Stop, check};
 use arcstr::{ArcStr, Substr, format_arcstr};
 use std::alloc::Global;
 
-pub(crate) fn from_str(alloc: Global) -> Result<(), Stop> {
-    check_made(ArcStr::from_str(alloc, "foobar"), "foobar")
+/// The calls, in the order of their lines.
+pub(crate) const CALLS: [Making; 8] = [
+    Making::FromStr,
+    Making::TryAlloc,
+    Making::FromUtf8,
+    Making::TryRepeat,
+    Making::Repeat,
+    Making::InitWith,
+    Making::SubstrFromStr,
+    Making::FormatArcstr,
+];
+
+#[derive(Clone, Copy)]
+pub(crate) enum Making {
+    FromStr,
+    TryAlloc,
+    FromUtf8,
+    TryRepeat,
+    Repeat,
+    InitWith,
+    SubstrFromStr,
+    FormatArcstr,
 }
 
-pub(crate) fn try_alloc(alloc: Global) -> Result<(), Stop> {
-    check_made(ArcStr::try_alloc(alloc, "foobar"), "foobar")
+impl Making {
+    pub(crate) fn line(self) -> &'static str {
+        match self {
+            Making::FromStr => "ArcStr::from_str: the text, count 1",
+            Making::TryAlloc => "ArcStr::try_alloc: the text, count 1",
+            Making::FromUtf8 => "ArcStr::from_utf8: the text, count 1",
+            Making::TryRepeat => "ArcStr::try_repeat: the text, count 1",
+            Making::Repeat => "ArcStr::repeat: the text, count 1",
+            Making::InitWith =>
+                "ArcStr::init_with: the text, count 1, no closure runs without memory",
+            Making::SubstrFromStr => "Substr::from_str: the text, its range, count 1",
+            Making::FormatArcstr => "format_arcstr!: the text, count 1",
+        }
+    }
+
+    pub(crate) fn once(self, meter: Meter, alloc: Global) -> Result<(), Stop> {
+        match self {
+            Making::FromStr => from_str(meter, alloc),
+            Making::TryAlloc => try_alloc(meter, alloc),
+            Making::FromUtf8 => from_utf8(meter, alloc),
+            Making::TryRepeat => try_repeat(meter, alloc),
+            Making::Repeat => repeat(meter, alloc),
+            Making::InitWith => init_with(meter, alloc),
+            Making::SubstrFromStr => slice_from_str(meter, alloc),
+            Making::FormatArcstr => formatted(meter, alloc),
+        }
+    }
 }
 
-pub(crate) fn from_utf8(alloc: Global) -> Result<(), Stop> {
-    check_made(ArcStr::from_utf8(alloc, b"foobar"), "foobar")
+fn from_str(meter: Meter, alloc: Global) -> Result<(), Stop> {
+    meter.begin();
+    let made = ArcStr::from_str(alloc, "foobar");
+    meter.end();
+    check_made(meter, made, "foobar")
 }
 
-pub(crate) fn try_repeat(alloc: Global) -> Result<(), Stop> {
-    check_made(ArcStr::try_repeat(alloc, "ab", 3), "ababab")
+fn try_alloc(meter: Meter, alloc: Global) -> Result<(), Stop> {
+    meter.begin();
+    let made = ArcStr::try_alloc(alloc, "foo bar.");
+    meter.end();
+    check_made(meter, made, "foo bar.")
 }
 
-pub(crate) fn repeat(alloc: Global) -> Result<(), Stop> {
-    check_made(ArcStr::repeat(alloc, "ab", 3), "ababab")
+fn from_utf8(meter: Meter, alloc: Global) -> Result<(), Stop> {
+    meter.begin();
+    let made = ArcStr::from_utf8(alloc, b"foo, bar.");
+    meter.end();
+    check_made(meter, made, "foo, bar.")
 }
 
-/// Prints more than the text has room for at first.
-pub(crate) fn formatted(alloc: Global) -> Result<(), Stop> {
+fn try_repeat(meter: Meter, alloc: Global) -> Result<(), Stop> {
+    meter.begin();
+    let made = ArcStr::try_repeat(alloc, "0123456789abcdef", 4);
+    meter.end();
     check_made(
-        format_arcstr!(alloc; "cool {} and {}", 123, 456),
-        "cool 123 and 456",
+        meter,
+        made,
+        "0123456789abcdef0123456789abcdef0123456789abcdef0123456789abcdef",
     )
 }
 
+fn repeat(meter: Meter, alloc: Global) -> Result<(), Stop> {
+    meter.begin();
+    let made = ArcStr::repeat(alloc, "ab", 3);
+    meter.end();
+    check_made(meter, made, "ababab")
+}
+
 /// Fills a text by a closure, which runs exactly where the call is not refused.
-pub(crate) fn init_with(alloc: Global) -> Result<(), Stop> {
+fn init_with(meter: Meter, alloc: Global) -> Result<(), Stop> {
     let mut ran = false;
+    meter.begin();
     let made = ArcStr::init_with(alloc, 3, |bytes| {
         ran = true;
         bytes.copy_from_slice(b"abc");
     });
+    meter.end();
     check(Part::Closure, ran == made.is_ok())?;
-    check_made(made, "abc")
+    check_made(meter, made, "abc")
 }
 
-pub(crate) fn slice_from_str(alloc: Global) -> Result<(), Stop> {
-    check_slice_made(Substr::from_str(alloc, "foobar"), "foobar")
+fn slice_from_str(meter: Meter, alloc: Global) -> Result<(), Stop> {
+    meter.begin();
+    let made = Substr::from_str(alloc, "foobar");
+    meter.end();
+    check_slice_made(meter, made, "foobar")
 }
 
-/// Compares what was made with this text, in a block of its own, where it was not refused.
-pub(crate) fn check_made<E: Into<Stop>>(made: Result<ArcStr, E>, wanted: &str) -> Result<(), Stop> {
+/// Prints more than the text has room for at first.
+fn formatted(meter: Meter, alloc: Global) -> Result<(), Stop> {
+    meter.begin();
+    let made = format_arcstr!(alloc; "cool {} and {}", 123, 456);
+    meter.end();
+    check_made(meter, made, "cool 123 and 456")
+}
+
+/// Compares what was made with this text, in a block of its own, where it was not refused, and drops it.
+pub(crate) fn check_made<E: Into<Stop>>(
+    meter: Meter,
+    made: Result<ArcStr, E>,
+    wanted: &str,
+) -> Result<(), Stop> {
     match made {
-        Ok(text) => check_text(&text, wanted, 1),
+        Ok(text) => {
+            check_text(&text, wanted, 1)?;
+            meter.drop_counted(text);
+            Ok(())
+        }
         Err(fault) => Err(fault.into()),
     }
 }
 
 /// Compares what was made with a slice of all of this text, in a block of its own, where it was not
-/// refused.
+/// refused, and drops it.
 pub(crate) fn check_slice_made<E: Into<Stop>>(
+    meter: Meter,
     made: Result<Substr, E>,
     wanted: &str,
 ) -> Result<(), Stop> {
     match made {
-        Ok(slice) => check_whole(&slice, wanted),
+        Ok(slice) => {
+            check(Part::Range, slice.range() == (0..wanted.len()))?;
+            check_text(slice.parent(), wanted, 1)?;
+            meter.drop_counted(slice);
+            Ok(())
+        }
         Err(fault) => Err(fault.into()),
     }
-}
-
-/// Compares a slice with all of this text, in a block with one handle.
-fn check_whole(slice: &Substr, wanted: &str) -> Result<(), Stop> {
-    check(Part::Range, slice.range() == (0..wanted.len()))?;
-    check_text(slice.parent(), wanted, 1)
 }
 
 /// Compares a text with this one, and its count with that of so many handles.

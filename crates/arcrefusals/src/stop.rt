@@ -2,6 +2,8 @@
 ghost use Rattle.std.specs.Prelude.{◌↔◌, IsOk, IsTrue};
 
 use arcbench_core::pool::PoolFault;
+use arcbench_core::script::CopyFault;
+use arcstr::count::RunFault;
 use arcstr::{JsonFault, TextFault};
 use std::alloc::AllocError;
 use std::fmt;
@@ -25,6 +27,12 @@ pub(crate) enum Part {
     Value,
     Closure,
     Length,
+    Order,
+    Hash,
+    Reply,
+    Given,
+    Answer,
+    Gate,
     Fault,
 }
 
@@ -38,6 +46,12 @@ impl Part {
             Part::Value => "a JSON value",
             Part::Closure => "the run of a closure",
             Part::Length => "the length of a list",
+            Part::Order => "an order",
+            Part::Hash => "a hash",
+            Part::Reply => "a reply",
+            Part::Given => "how often a block was given back",
+            Part::Answer => "an answer",
+            Part::Gate => "how often a worker passed its gate",
             Part::Fault => "a fault",
         }
     }
@@ -87,6 +101,24 @@ impl From<JsonFault> for Stop {
     fn from(fault: JsonFault) -> Stop {
         match fault {
             JsonFault::Memory => Stop::Refused,
+            _ => Stop::Differs(Part::Fault),
+        }
+    }
+}
+
+impl From<RunFault> for Stop {
+    fn from(fault: RunFault) -> Stop {
+        match fault {
+            RunFault::Memory => Stop::Refused,
+            _ => Stop::Differs(Part::Fault),
+        }
+    }
+}
+
+impl From<CopyFault> for Stop {
+    fn from(fault: CopyFault) -> Stop {
+        match fault {
+            CopyFault::Memory => Stop::Refused,
             _ => Stop::Differs(Part::Fault),
         }
     }
