@@ -1,10 +1,10 @@
 //! What the program prints of callers in threads.
-ghost use Rattle.std.specs.Prelude.{◌≡◌, ◌≤◌, length, vec_len, ◌++◌, ◌∷◌, [], IfOk, IfErr, OnOk, Err, string_bytes, codes};
+ghost use Rattle.std.specs.Prelude.{◌≡◌, ◌≤◌, length, vec_len, ◌++◌, ◌∷◌, [], IfOk, IfErr, OnOk, OnErr, Err, string_bytes, codes};
 ghost use Rattle.std.specs.Fmt.{decimal};
 ghost use Rattle.arcbench_core.specs.Threads.{shared_text, ReadSharedText, worker_line, worker_lines, threads_answer};
 
 use crate::pool::{Gate, PoolFault, callers};
-use arcstr::ArcStr;
+use arcstr::{ArcStr, TextFault};
 use std::alloc::{AllocError, Global};
 use std::sync::Wait;
 use std::thread::Threads;
@@ -33,7 +33,23 @@ pub fn start<R: Threads + Wait + Sync>(
     ensures one_each { IfOk result (λ handles. vec_len handles ≡ workers) }
     ensures shared_text { IfOk result (λ handles. ReadSharedText handles.items) }
 {
-    match ArcStr::from_str(alloc, "foobar") {
+    start_with(rt, alloc, ArcStr::from_str(alloc, "foobar"), workers)
+}
+
+/// Starts callers of a text that was made, or answers `Memory` where it was not.
+fn start_with<R: Threads + Wait + Sync>(
+    rt: &R,
+    alloc: Global,
+    made: Result<ArcStr, TextFault>,
+    workers: usize,
+) -> Result<Vec<ArcStr>, PoolFault>
+    requires workers { (1 ≤ workers) × (workers ≤ 64) }
+    requires shared_text { IfOk made (λ text. text.text ≡ shared_text) }
+    ensures one_each { IfOk result (λ handles. vec_len handles ≡ workers) }
+    ensures shared_text { IfOk result (λ handles. ReadSharedText handles.items) }
+    ensures memory { OnErr made (result ≡ Err PoolFault.Memory) }
+{
+    match made {
         Ok(text) => callers(rt, alloc, &text, workers, &OpenGate),
         Err(_) => Err(PoolFault::Memory),
     }

@@ -1,5 +1,5 @@
 //! The examples of the doc comments, word for word: `.ci/checks/examples` compares them.
-use crate::{Gate, tokens, tokens_all, tokens_all_with};
+use crate::{Gate, tokens, tokens_all, tokens_all_with, tokens_are_one};
 use arcstr::literal;
 use std::test::Fail;
 
@@ -9,6 +9,16 @@ fn one_text_tokens(rt: HostRuntime) -> Result<(), Fail> {
     assert_eq!(rt; words.len(), 2);
     assert_eq!(rt; words[1].as_str(), "bar");
     assert_eq!(rt; words[1].range(), 6..9);
+    Ok(())
+}
+
+#[test]
+fn one_text_tokens_are_one(rt: HostRuntime) -> Result<(), Fail> {
+    let text = literal!("foo   bar");
+    let one = tokens(&rt, rt.alloc(), &text)?;
+    let other = tokens(&rt, rt.alloc(), &text)?;
+    tokens_are_one(&text, &one, &other);
+    assert!(rt; one.is_empty() || other[0].as_str() == "foo");
     Ok(())
 }
 

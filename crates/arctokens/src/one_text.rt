@@ -33,8 +33,16 @@ pub fn tokens<R: Wait>(rt: &R, alloc: Global, text: &ArcStr) -> Result<Vec<Subst
     Ok(tokens)
 }
 
-/// The law that a text has one list of tokens, and so that each two answers of `tokens` are the same. Of use in
-/// proofs alone: it does nothing, and its clause is what it is for.
+/// A law: a text has one list of tokens, so any two answers of `tokens` for it are equal. It is for proofs: the
+/// call does nothing at run time. In the example, only its clause shows that `other[0]` is within bounds.
+///
+/// ```
+/// let text = literal!("foo   bar");
+/// let one = tokens(&rt, rt.alloc(), &text)?;
+/// let other = tokens(&rt, rt.alloc(), &text)?;
+/// tokens_are_one(&text, &one, &other);
+/// assert!(rt; one.is_empty() || other[0].as_str() == "foo");
+/// ```
 pub fn tokens_are_one(text: &ArcStr, one: &[Substr], other: &[Substr])
     ensures { AreTokens text.now one.now → AreTokens text.now other.now → one.now ≡ other.now }
 {}

@@ -1,9 +1,9 @@
 use super::{Gate, PoolFault, callers};
 use arcstr::ArcStr;
-use std::sync::atomic::{AtomicBool, AtomicU64, Ordering};
+use std::sync::atomic::{AtomicU64, Ordering};
 use std::test::Fail;
 
-/// How often a worker looks for the other's flag.
+/// How often a worker looks for the others.
 const LOOKS: u32 = 100_000_000;
 
 /// Nothing waits here.
@@ -13,20 +13,25 @@ impl Gate for OpenGate {
     fn pass(&self, _worker: usize) {}
 }
 
-/// Two workers that look for each other: each sets its flag and notes whether it saw the other's.
+/// A gate at which each worker waits until all of them have arrived. It counts the workers that then see the
+/// clone of each worker, beside the caller's handle and the gate's own.
 #[derive(Drop)]
-struct TwoFlags {
-    flags: [AtomicBool; 2],
-    seen: [AtomicBool; 2],
+struct Meeting {
+    text: ArcStr,
+    handles: usize,
+    workers: u64,
+    arrived: AtomicU64,
+    met: AtomicU64,
 }
 
-impl Gate for TwoFlags {
-    fn pass(&self, worker: usize) {
-        let own = worker % 2;
-        self.flags[own].store(true, Ordering::SeqCst);
+impl Gate for Meeting {
+    fn pass(&self, _worker: usize) {
+        self.arrived.fetch_add(1, Ordering::SeqCst);
         for _ in 0..LOOKS {
-            if self.flags[1 - own].load(Ordering::SeqCst) {
-                self.seen[own].store(true, Ordering::SeqCst);
+            if self.arrived.load(Ordering::SeqCst) == self.workers {
+                if ArcStr::strong_count(&self.text) == Some(self.handles) {
+                    self.met.fetch_add(1, Ordering::SeqCst);
+                }
                 break;
             }
         }
@@ -45,17 +50,22 @@ fn each_worker_hands_its_clone_back(rt: HostRuntime) -> Result<(), Fail> {
     Ok(())
 }
 
+/// A body that starts fewer threads than there are workers lets the first worker wait in vain. A worker that
+/// passes before it clones misses its own clone.
 #[test]
-fn two_workers_run_at_once(rt: HostRuntime) -> Result<(), Fail> {
+fn all_workers_meet_with_their_clones(rt: HostRuntime) -> Result<(), Fail> {
     let text = ArcStr::from_str(rt.alloc(), "foobar")?;
-    let gate = TwoFlags {
-        flags: [AtomicBool::new(false), AtomicBool::new(false)],
-        seen: [AtomicBool::new(false), AtomicBool::new(false)],
-    };
-    let handles = callers(&rt, rt.alloc(), &text, 2, &gate)?;
-    assert_eq!(rt; handles.len(), 2);
-    assert!(rt; gate.seen[0].load(Ordering::SeqCst));
-    assert!(rt; gate.seen[1].load(Ordering::SeqCst));
+    for (count, handles, workers) in [(1, 3, 1), (3, 5, 3), (16, 18, 16)] {
+        let gate = Meeting {
+            text: text.clone(&rt),
+            handles,
+            workers,
+            arrived: AtomicU64::new(0),
+            met: AtomicU64::new(0),
+        };
+        assert_eq!(rt; callers(&rt, rt.alloc(), &text, count, &gate)?.len(), count);
+        assert_eq!(rt; gate.met.load(Ordering::SeqCst), workers);
+    }
     Ok(())
 }
 

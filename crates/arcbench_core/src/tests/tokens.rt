@@ -18,6 +18,19 @@ fn prints_the_words_of_each_line(rt: HostRuntime) -> Result<(), Fail> {
 }
 
 #[test]
+fn prints_the_words_of_3_000_lines(rt: HostRuntime) -> Result<(), Fail> {
+    let mut lines = String::new(rt.alloc());
+    let mut wanted = String::new(rt.alloc());
+    for number in 0..3_000 {
+        lines.push_str(" ab\n")?;
+        write!(wanted, "{number} 1..3 ab\n")?;
+    }
+    let found = run_program(&rt, &["tokens", "3"], lines.as_str(), NO_FAULT)?;
+    expect(&rt, &found, 0, wanted.as_str(), "");
+    Ok(())
+}
+
+#[test]
 fn a_last_line_needs_no_end(rt: HostRuntime) -> Result<(), Fail> {
     let found = run_program(&rt, &["tokens", "2"], " a\r\nb", NO_FAULT)?;
     expect(&rt, &found, 0, "0 1..2 a\n1 0..1 b\n", "");

@@ -8,11 +8,11 @@ use arcstr::{ArcStr, Substr};
 use std::alloc::{AllocError, AllocGlobal};
 use std::process::Abort;
 use std::sync::Wait;
-use std::sync::atomic::{AtomicBool, AtomicU64, Ordering};
+use std::sync::atomic::{AtomicU64, Ordering};
 use std::test::Fail;
 use std::thread::Threads;
 
-/// How often a worker looks for the other's flag.
+/// How often a worker looks for the others.
 const LOOKS: u32 = 100_000_000;
 
 /// Two texts: of two words, and of none.
@@ -115,36 +115,42 @@ fn counts_of_texts_while_their_tokens_live(rt: HostRuntime) -> Result<(), Fail> 
     Ok(())
 }
 
-/// Two workers that look for each other: each sets its flag and notes whether it saw the other's.
+/// A gate at which each worker waits until all of them have arrived. It counts the workers that saw this.
 #[derive(Drop)]
-struct TwoFlags {
-    flags: [AtomicBool; 2],
-    seen: [AtomicBool; 2],
+struct Meeting {
+    workers: u64,
+    arrived: AtomicU64,
+    met: AtomicU64,
 }
 
-impl Gate for TwoFlags {
-    fn pass(&self, worker: usize) {
-        let own = worker % 2;
-        self.flags[own].store(true, Ordering::SeqCst);
+impl Gate for Meeting {
+    fn pass(&self, _worker: usize) {
+        self.arrived.fetch_add(1, Ordering::SeqCst);
         for _ in 0..LOOKS {
-            if self.flags[1 - own].load(Ordering::SeqCst) {
-                self.seen[own].store(true, Ordering::SeqCst);
+            if self.arrived.load(Ordering::SeqCst) == self.workers {
+                self.met.fetch_add(1, Ordering::SeqCst);
                 break;
             }
         }
     }
 }
 
+/// A body that starts fewer threads than there are workers lets the first worker wait in vain.
 #[test]
-fn two_workers_run_at_once(rt: HostRuntime) -> Result<(), Fail> {
+fn all_workers_run_at_once(rt: HostRuntime) -> Result<(), Fail> {
     let texts = two_texts(&rt);
-    let gate = TwoFlags {
-        flags: [AtomicBool::new(false), AtomicBool::new(false)],
-        seen: [AtomicBool::new(false), AtomicBool::new(false)],
-    };
-    check_two_texts(&rt, &tokens_all_with(&rt, rt.alloc(), &texts, 2, &gate)?);
-    assert!(rt; gate.seen[0].load(Ordering::SeqCst));
-    assert!(rt; gate.seen[1].load(Ordering::SeqCst));
+    for (count, workers) in [(3, 3), (16, 16)] {
+        let gate = Meeting {
+            workers,
+            arrived: AtomicU64::new(0),
+            met: AtomicU64::new(0),
+        };
+        check_two_texts(
+            &rt,
+            &tokens_all_with(&rt, rt.alloc(), &texts, count, &gate)?,
+        );
+        assert_eq!(rt; gate.met.load(Ordering::SeqCst), workers);
+    }
     Ok(())
 }
 

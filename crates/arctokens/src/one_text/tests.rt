@@ -47,6 +47,19 @@ fn words_are_not_cut_at_signs(rt: HostRuntime) {
     check_words(&rt, "a,b. c\0d", &[(0, 4, "a,b."), (5, 8, "c\0d")]);
 }
 
+#[test]
+fn a_text_of_20_000_words(rt: HostRuntime) -> Result<(), Fail> {
+    let mut text = String::new(rt.alloc());
+    for _ in 0..20_000 {
+        text.push_str("ab ")?;
+    }
+    let words = tokens(&rt, rt.alloc(), &made(&rt, text.as_str()))?;
+    assert_eq!(rt; words.len(), 20_000);
+    let last = words.last().ok_or("no token")?;
+    assert_eq!(rt; last.range(), 59_997..59_999);
+    Ok(())
+}
+
 /// The characters that are white space in Unicode.
 const WHITE_SPACE: [char; 25] = [
     '\u{9}', '\u{a}', '\u{b}', '\u{c}', '\u{d}', '\u{20}', '\u{85}', '\u{a0}', '\u{1680}',
