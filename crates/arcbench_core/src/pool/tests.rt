@@ -55,7 +55,7 @@ fn each_worker_hands_its_clone_back(rt: HostRuntime) -> Result<(), Fail> {
 #[test]
 fn all_workers_meet_with_their_clones(rt: HostRuntime) -> Result<(), Fail> {
     let text = ArcStr::from_str(rt.alloc(), "foobar")?;
-    for (count, handles, workers) in [(1, 3, 1), (3, 5, 3), (16, 18, 16)] {
+    for (count, handles, workers) in [(1, 3, 1), (2, 4, 2), (3, 5, 3), (16, 18, 16)] {
         let gate = Meeting {
             text: text.clone(&rt),
             handles,

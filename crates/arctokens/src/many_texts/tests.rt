@@ -139,7 +139,7 @@ impl Gate for Meeting {
 #[test]
 fn all_workers_run_at_once(rt: HostRuntime) -> Result<(), Fail> {
     let texts = two_texts(&rt);
-    for (count, workers) in [(3, 3), (16, 16)] {
+    for (count, workers) in [(2, 2), (3, 3), (16, 16)] {
         let gate = Meeting {
             workers,
             arrived: AtomicU64::new(0),
