@@ -49,7 +49,7 @@ fn many_handles_are_counted_and_mark_nothing(rt: HostRuntime) {
         handles.push(text.clone(&rt)).expect(&rt, "no memory");
     }
     check_count(&rt, &text, Some(HANDLES));
-    check_not_static(&rt, &text);
+    assert!(rt; !ArcStr::is_static(&text));
     drop(handles);
     check_count(&rt, &text, Some(1));
 }
