@@ -1,11 +1,21 @@
 use super::*;
 use std::test::Fail;
 
+/// The least place that 32 bits do not hold.
+const WIDE: usize = 4294967296;
+
 const MAX: usize = usize::MAX;
 
 // Through the bound, as the text types take a range.
 fn found<R: Into<StrRange> + Drop>(text: &str, range: R) -> Result<(usize, usize), RangeFault> {
     checked_ends(text, range.into())
+}
+
+#[test]
+fn ends_are_at_most_the_length(rt: HostRuntime) {
+    assert_eq!(rt; StrRange::To(WIDE).ends(10), Err(RangeFault::PastEnd));
+    assert_eq!(rt; StrRange::To(10).ends(10), Ok((0, 10)));
+    assert_eq!(rt; StrRange::To(MAX).ends(MAX), Ok((0, MAX)));
 }
 
 #[test]
@@ -50,11 +60,25 @@ fn between_places(rt: HostRuntime) {
 }
 
 #[test]
+fn between_equal_and_greatest_places(rt: HostRuntime) {
+    assert_eq!(rt; found("aé", 2..2), Err(RangeFault::OffBoundary));
+    assert_eq!(rt; found("aé", MAX..0), Err(RangeFault::OutOfOrder));
+    assert_eq!(rt; found("aé", MAX..MAX), Err(RangeFault::PastEnd));
+}
+
+#[test]
 fn between_a_place_and_a_last_one(rt: HostRuntime) {
     assert_eq!(rt; found("aé", 0..=0), Ok((0, 1)));
     assert_eq!(rt; found("aé", 1..=1), Err(RangeFault::OffBoundary));
     assert_eq!(rt; found("aé", 3..=2), Ok((3, 3)));
     assert_eq!(rt; found("aé", 4..=2), Err(RangeFault::OutOfOrder));
+}
+
+#[test]
+fn between_greatest_places_inclusive_and_by_the_form_itself(rt: HostRuntime) {
+    assert_eq!(rt; found("aé", MAX..=0), Err(RangeFault::OutOfOrder));
+    assert_eq!(rt; found("aé", MAX..=MAX), Err(RangeFault::PastEnd));
+    assert_eq!(rt; found("aé", StrRange::From(1)), Ok((1, 3)));
 }
 
 #[test]
