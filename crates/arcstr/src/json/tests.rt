@@ -2,9 +2,7 @@ use super::JsonFault;
 use crate::arc_str::ArcStr;
 use crate::literal;
 use crate::substr::Substr;
-use crate::test_steps::{
-    check_copied, check_empty, check_nothing, check_text, made, many_digits, part,
-};
+use crate::test_steps::{check_copied, check_text, made, many_digits, part};
 use serde_json::Value;
 use std::alloc::AllocGlobal;
 use std::mem::size_of;
@@ -38,15 +36,6 @@ fn a_million_bytes_are_read(rt: HostRuntime) {
     let digits = many_digits(&rt);
     let value = string(&rt, digits.as_str());
     check_read(&rt, &value, digits.as_str());
-}
-
-#[test]
-fn the_empty_string_gives_the_empty_literal(rt: HostRuntime) {
-    let value = string(&rt, "");
-    let text = ArcStr::from_json(rt.alloc(), &value).expect(&rt, "no text");
-    check_empty(&rt, &text);
-    let slice = Substr::from_json(rt.alloc(), &value).expect(&rt, "no slice");
-    check_nothing(&rt, &slice);
 }
 
 #[test]

@@ -68,10 +68,3 @@ fn values_are_printed(rt: HostRuntime) {
     check_made(&rt, printed_character(rt.alloc(), 'é'), "é");
     check_made(&rt, printed_text(rt.alloc(), "foo"), "foo!");
 }
-
-#[test]
-fn printing_nothing_makes_the_empty_literal(rt: HostRuntime) {
-    let nothing = format_arcstr!(rt.alloc(); "").expect(&rt, "no memory");
-    assert!(rt; nothing.is_empty());
-    assert!(rt; ArcStr::as_static(&nothing).is_some());
-}

@@ -73,13 +73,6 @@ fn copies_are_joined(rt: HostRuntime) {
 }
 
 #[test]
-fn no_copies_and_copies_of_nothing_are_empty(rt: HostRuntime) {
-    let alloc = rt.alloc();
-    check_made(&rt, ArcStr::try_repeat(alloc, "", usize::MAX), "");
-    check_made(&rt, ArcStr::try_repeat(alloc, "foo", 0), "");
-}
-
-#[test]
 fn too_many_copies_are_refused(rt: HostRuntime) {
     let alloc = rt.alloc();
     let length = TextFault::Length;

@@ -1,8 +1,7 @@
 use super::*;
 use crate::literal;
 use crate::test_steps::{
-    check_count, check_no_slice, check_nothing, check_part, check_slice, check_sliced, check_text,
-    made, part,
+    check_count, check_no_slice, check_nothing, check_slice, check_sliced, check_text, made, part,
 };
 use std::process::Abort;
 
@@ -46,35 +45,10 @@ fn a_range_of_each_form_is_refused(rt: HostRuntime) {
     refuses(&rt, ..=3, RangeFault::PastEnd);
 }
 
-/// Asserts what `get` answers for the range in `aé`.
-fn reads<R: Into<StrRange>>(rt: &impl Abort, range: R, wanted: Option<&str>) {
-    check_part(rt, literal!("aé").get(range), wanted);
-}
-
-#[test]
-fn parts_are_those_of_str(rt: HostRuntime) {
-    reads(&rt, 1..3, Some("é"));
-    reads(&rt, 0..2, None);
-    reads(&rt, 2..2, None);
-    reads(&rt, ..=MAX, None);
-    reads(&rt, StrRange::Full, Some("aé"));
-}
-
 /// The slice of the text that shows this at the place, where there is one.
 fn found(rt: &(impl Abort + Wait), text: &ArcStr, shown: &str, place: usize) -> Option<Substr> {
     let view = StrView::at(shown, place).expect(rt, "no view");
     text.try_substr_from(rt, view)
-}
-
-/// Asserts that the text has a slice that shows this at these places.
-fn finds(rt: &(impl Abort + Wait), text: &ArcStr, shown: &str, places: Range<usize>) {
-    let slice = found(rt, text, shown, places.start);
-    check_slice(rt, &slice.expect(rt, "not found"), shown, places);
-}
-
-/// Asserts that the text does not show this at the place.
-fn lacks(rt: &(impl Abort + Wait), text: &ArcStr, shown: &str, place: usize) {
-    assert!(rt; found(rt, text, shown, place).is_none());
 }
 
 #[test]
@@ -88,29 +62,11 @@ fn an_empty_view_is_found_everywhere(rt: HostRuntime) {
 }
 
 #[test]
-fn a_view_is_found_at_its_place(rt: HostRuntime) {
-    let text = literal!("abab");
-    finds(&rt, &text, "b", 3..4);
-    finds(&rt, &text, "ab", 2..4);
-    finds(&rt, &literal!("aé"), "é", 1..3);
-}
-
-#[test]
 fn a_trimmed_view_gives_its_slice(rt: HostRuntime) {
     let text = made(&rt, "   abc");
     let view = StrView::whole(text.as_str()).trim();
     let slice = text.try_substr_from(&rt, view).expect(&rt, "not found");
     check_slice(&rt, &slice, "abc", 3..6);
-}
-
-#[test]
-fn a_view_is_not_found_elsewhere(rt: HostRuntime) {
-    let text = literal!("abab");
-    lacks(&rt, &text, "ab", 1);
-    lacks(&rt, &text, "ab", 3);
-    lacks(&rt, &text, "a", MAX - 1);
-    lacks(&rt, &literal!("   abc"), "abc", 0);
-    lacks(&rt, &literal!("aé"), "é", 0);
 }
 
 #[test]
@@ -129,14 +85,6 @@ fn equal_places_are_tried_too(rt: HostRuntime) {
     check_nothing(&rt, &found.expect(&rt, "no slice"));
     let tried = text.try_substr_using(&rt, |_| 7..7);
     check_nothing(&rt, &tried.expect(&rt, "no slice"));
-}
-
-#[test]
-fn other_places_of_a_closure_are_a_range(rt: HostRuntime) {
-    let found = literal!("abc").try_substr_using(&rt, |_| 1..3);
-    check_sliced(&rt, found, "bc", 1..3);
-    let off = literal!("aé").substr_using(&rt, |_| 1..2);
-    check_no_slice(&rt, off, RangeFault::OffBoundary);
 }
 
 #[test]

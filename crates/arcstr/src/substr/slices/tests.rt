@@ -1,8 +1,6 @@
 use super::*;
 use crate::literal;
-use crate::test_steps::{
-    check_nothing, check_part, check_slice, check_sliced, check_text, made, part,
-};
+use crate::test_steps::{check_nothing, check_slice, check_sliced, check_text, made, part};
 use std::process::Abort;
 
 /// The slice `bar` of `foobarbaz`.
@@ -15,27 +13,6 @@ fn a_slice_of_a_slice_keeps_the_parent(rt: HostRuntime) {
     let inner = bar(&rt).substr(&rt, 1..3).expect(&rt, "no slice");
     check_slice(&rt, &inner, "ar", 4..6);
     check_text(&rt, inner.parent().as_str(), "foobarbaz");
-}
-
-#[test]
-fn places_of_a_slice_of_a_slice_are_sums(rt: HostRuntime) {
-    let tail = part(&rt, &literal!("foobarbaz"), 3..);
-    let inner = tail.substr(&rt, 1..5).expect(&rt, "no slice");
-    check_slice(&rt, &inner, "arba", 4..8);
-    check_sliced(&rt, inner.substr(&rt, ..), "arba", 4..8);
-}
-
-/// Asserts what `get` answers for the range in `bar`.
-fn reads<R: Into<StrRange>>(rt: &(impl Abort + Wait), range: R, wanted: Option<&str>) {
-    check_part(rt, bar(rt).get(range), wanted);
-}
-
-#[test]
-fn parts_of_a_slice_are_those_of_its_own_text(rt: HostRuntime) {
-    reads(&rt, 1..3, Some("ar"));
-    reads(&rt, .., Some("bar"));
-    reads(&rt, 0..5, None);
-    reads(&rt, 2..1, None);
 }
 
 /// What `bar` has at the place, where it shows this text there.
