@@ -24,6 +24,9 @@ greatest_number = refl
 number_too_large : number_of (codes "18446744073709551616") ≡ None
 number_too_large = refl
 
+number_of_20_nines : number_of (codes "99999999999999999999") ≡ None
+number_of_20_nines = refl
+
 zero_alone : number_of (codes "0") ≡ Some 0
 zero_alone = refl
 
@@ -71,8 +74,14 @@ idle_zero_in_limit = refl
 limit_alone : answer_to (codes "limit 5") ≡ Ok []
 limit_alone = refl
 
+limit_zero : answer_to (codes "limit 0\n") ≡ Ok []
+limit_zero = refl
+
 greatest_limit : answer_to (codes "limit 4611686018427387903\n") ≡ Ok []
 greatest_limit = refl
 
 limit_too_large : answer_to (codes "limit 4611686018427387904\nmake\n") ≡ Err LimitTooLarge
 limit_too_large = refl
+
+limit_of_all_bits : answer_to (codes "limit 18446744073709551615") ≡ Err LimitTooLarge
+limit_of_all_bits = refl
