@@ -122,7 +122,8 @@ fn repetitions_of_a_million_bytes_are_read_back(rt: HostRuntime) {
 
 #[test]
 fn a_closure_fills_a_million_bytes(rt: HostRuntime) {
-    let made = ArcStr::init_with(rt.alloc(), 1_000_000, |bytes| bytes.fill(b'7'));
-    let wanted = ArcStr::repeat(rt.alloc(), "7", 1_000_000).expect(&rt, "no memory");
+    let length = many_digits(&rt).len();
+    let made = ArcStr::init_with(rt.alloc(), length, |bytes| bytes.fill(b'7'));
+    let wanted = ArcStr::repeat(rt.alloc(), "7", length).expect(&rt, "no memory");
     check_made(&rt, made, wanted.as_str());
 }
