@@ -78,9 +78,8 @@ impl ArcStr {
     /// after which the closure is not run, and bytes that are not UTF-8 once it has run (`Utf8`, with the length
     /// in bytes of their longest front that is).
     ///
-    /// The `requires` lets the closure run only on a length that is not too long. That it is not run without memory
-    /// no clause says: the tests `a_closure_is_not_run_without_memory` and
-    /// `a_closure_is_run_only_where_the_memory_is_there` do.
+    /// The `requires` lets the closure run only on a length that is not too long. The contract does not say that it is
+    /// not run without memory: the test `a_closure_is_not_run_without_memory` shows it.
     ///
     /// ```
     /// let text = ArcStr::init_with(rt.alloc(), 3, |bytes| bytes.copy_from_slice(b"foo"))?;
