@@ -17,6 +17,7 @@ mod arc_str;
 mod conversion_tests;
 #[cfg(test)]
 mod count_tests;
+mod deref;
 #[cfg(test)]
 mod examples;
 mod first_place;
