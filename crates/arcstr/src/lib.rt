@@ -21,6 +21,7 @@ mod deref;
 #[cfg(test)]
 mod examples;
 mod first_place;
+mod from;
 mod json;
 mod mac;
 #[cfg(test)]
