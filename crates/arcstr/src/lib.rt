@@ -24,6 +24,7 @@ mod first_place;
 mod from;
 mod json;
 mod mac;
+mod map_keys;
 #[cfg(test)]
 mod refusal_tests;
 #[cfg(test)]
