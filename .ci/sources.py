@@ -13,7 +13,8 @@ MODULE = re.compile(ATTRIBUTES + r"(?:pub(?:\([a-z]+\))? )?mod (?P<name>\w+);", 
 FUNCTION = re.compile(
     ATTRIBUTES + r"(?P<public>pub )?(?:pub\([a-z]+\) )?(?:(?:const|unsafe|extern|async) )*fn (?P<name>\w+)", re.M)
 OWNER = re.compile(
-    r"^(?:unsafe )?(?:impl\b(?:<[^{]*?>)? (?P<trait>[^{;\n]*? for )?(?P<type>\w+)|(?:pub )?trait (?P<new>\w+))[^;{]*\{", re.M)
+    r"^(?:unsafe )?(?:impl\b(?:<[^{]*?>)? (?:(?P<own>[^{;\n]*?) for &|(?P<trait>[^{;\n]*? for )?(?P<type>\w+))"
+    r"|(?:pub )?trait (?P<new>\w+))[^;{]*\{", re.M)
 CLAUSE = re.compile(r"\b(?P<kind>ensures|requires|invariant|decreases)(?: (?P<name>\w+))?\s*$")
 HIDING = re.compile(r"#!?\[(?:cfg|path|ignore).*?\]$", re.M)
 CLOSING = {"(": ")", "{": "}"}
@@ -86,7 +87,8 @@ def files_of(crate):
 
 @dataclass(eq=False)
 class Function:
-    """A function: its type or trait where it has one, its `ensures` clauses by name (`None` for a clause without one), and its body."""
+    """A function: its type or trait where it has one, its `ensures` clauses by name (`None` for a clause without one), and its body. A function of
+    a trait for a reference, as `impl Equivalent<ArcStr> for &str`, has the trait as its type."""
 
     name: str
     owner: str | None
@@ -132,8 +134,8 @@ def functions(file):
     owners = [(found, end_of_group(text, found.end() - 1)) for found in OWNER.finditer(text)]
     for found in FUNCTION.finditer(text):
         owner = next((owner for owner, end in owners if owner.start() < found.start() < end), None)
-        is_public = bool(found["public"] or owner and (owner["trait"] or owner["new"]))
+        is_public = bool(found["public"] or owner and (owner["trait"] or owner["own"] or owner["new"]))
         attributes = re.findall(r"#\[(.*)\]", found["attributes"])
-        function = Function(found["name"], owner and (owner["type"] or owner["new"]), is_public, attributes, file)
+        function = Function(found["name"], owner and (owner["type"] or owner["own"] or owner["new"]), is_public, attributes, file)
         read_contract(function, text, shown, source, end_of_group(text, text.index("(", found.end())))
         yield function

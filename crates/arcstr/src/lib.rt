@@ -17,11 +17,14 @@ mod arc_str;
 mod conversion_tests;
 #[cfg(test)]
 mod count_tests;
+mod deref;
 #[cfg(test)]
 mod examples;
 mod first_place;
+mod from;
 mod json;
 mod mac;
+mod map_keys;
 #[cfg(test)]
 mod slice_count_tests;
 mod static_str;

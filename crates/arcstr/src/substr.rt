@@ -14,6 +14,7 @@ use std::ops::Range;
 use std::sync::Wait;
 
 mod conversions;
+mod copying;
 mod cow;
 mod json;
 mod order;

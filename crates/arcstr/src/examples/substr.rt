@@ -220,3 +220,12 @@ fn substr_from_json(rt: HostRuntime) -> Result<(), Fail> {
     assert_eq!(rt; refused.err(), Some(JsonFault::NotText));
     Ok(())
 }
+
+#[test]
+fn substr_to_arc_str(rt: HostRuntime) -> Result<(), Fail> {
+    let slice = literal!("foobar").substr(&rt, 3..)?;
+    let text = slice.to_arc_str(rt.alloc())?;
+    assert_eq!(rt; text.as_str(), "bar");
+    assert_eq!(rt; ArcStr::strong_count(&text), Some(1));
+    Ok(())
+}

@@ -4,6 +4,8 @@ ghost use Rattle.std.specs.Prelude.{◌≡◌, Some};
 use std::error::Error;
 use std::fmt;
 
+mod to_io;
+
 /// Why a range is refused. The tests come in the order of the variants, and the first that fails is
 /// answered. It is shown as a short text, and has no memory of its own.
 ///
@@ -26,7 +28,7 @@ pub enum RangeFault {
 }
 
 impl RangeFault {
-    ghost use Rattle.arcstr_range.specs.RangeFault.{range_fault_number};
+    ghost use Rattle.arcstr_range.specs.RangeFault.{range_fault_number, range_fault_text};
 
     /// The number of the fault, from 1 on in the order of the tests. No fault has the number 3. It takes no
     /// memory.
@@ -44,6 +46,17 @@ impl RangeFault {
             RangeFault::OffBoundary => 4,
         }
     }
+
+    /// What is wrong, in a few words.
+    fn text(&self) -> &'static str
+        ensures { result.now ≡ range_fault_text self.now }
+    {
+        match self {
+            RangeFault::OutOfOrder => "range start is after its end",
+            RangeFault::PastEnd => "range ends past the text",
+            RangeFault::OffBoundary => "range cuts a character",
+        }
+    }
 }
 
 impl fmt::Display for RangeFault {
@@ -52,11 +65,7 @@ impl fmt::Display for RangeFault {
     ghost output = { λ fault. Some (range_fault_text fault) };
 
     fn fmt<W: fmt::Write>(&self, f: &mut fmt::Formatter<W>) -> fmt::Result {
-        f.write_str(match self {
-            RangeFault::OutOfOrder => "range start is after its end",
-            RangeFault::PastEnd => "range ends past the text",
-            RangeFault::OffBoundary => "range cuts a character",
-        })
+        f.write_str(self.text())
     }
 }
 

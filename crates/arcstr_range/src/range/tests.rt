@@ -1,4 +1,5 @@
 use super::*;
+use std::io;
 use std::test::Fail;
 
 /// The least place that 32 bits do not hold.
@@ -154,6 +155,17 @@ fn faults_write_their_texts(rt: HostRuntime) -> Result<(), Fail> {
     );
     assert_eq!(rt;
         RangeFault::OffBoundary.to_string(alloc)?.as_str(),
+        "range cuts a character"
+    );
+    Ok(())
+}
+
+#[test]
+fn faults_are_faults_of_reading_and_writing(rt: HostRuntime) -> Result<(), Fail> {
+    let fault = io::Error::from(RangeFault::OffBoundary);
+    assert_eq!(rt; fault.kind(), io::ErrorKind::InvalidInput);
+    assert_eq!(rt;
+        fault.to_string(rt.alloc())?.as_str(),
         "range cuts a character"
     );
     Ok(())

@@ -1,0 +1,45 @@
+//! Texts that act as a `str`: every method of `str` can be called on them. A method that the type itself has is called
+//! in place of `str`'s.
+ghost use Rattle.std.specs.Prelude.{◌≡◌};
+ghost use Rattle.arcstr.specs.Substr.{text_of};
+
+use crate::arc_str::ArcStr;
+use crate::static_str::StaticStr;
+use crate::substr::Substr;
+use std::ops::DerefStr;
+
+#[cfg(test)]
+mod tests;
+
+impl DerefStr for ArcStr {
+    ghost deref_gives = { λ shared bytes. bytes ≡ shared.text };
+
+    /// The text, as `as_str` answers it: `text.trim()` is `text.as_str().trim()`. Takes no memory and no atomic step.
+    fn deref(&self) -> &str
+        ensures text { result.now ≡ self.now.text }
+    {
+        ArcStr::as_str(self)
+    }
+}
+
+impl DerefStr for Substr {
+    ghost deref_gives = { λ slice bytes. bytes ≡ text_of slice };
+
+    /// The slice's own text, as `as_str` answers it. Takes no memory and no atomic step.
+    fn deref(&self) -> &str
+        ensures text { result.now ≡ text_of self.now }
+    {
+        Substr::as_str(self)
+    }
+}
+
+impl DerefStr for StaticStr {
+    ghost deref_gives = { λ kept bytes. bytes ≡ kept.text };
+
+    /// The text, as `as_str` answers it. Takes no memory and no atomic step.
+    fn deref(&self) -> &str
+        ensures text { result.now ≡ self.now.text }
+    {
+        StaticStr::as_str(self)
+    }
+}

@@ -1,0 +1,81 @@
+//! Texts as keys of std's maps and sets, which are looked up by a `&str`: `map.get("foo")`, `set.contains("foo")`,
+//! `map["foo"]`. No look-up takes memory or an atomic step.
+ghost use Rattle.std.specs.Prelude.{◌≡◌, ◌↔◌, IsTrue, bytes_eq};
+ghost use Rattle.std.proofs.Common.{ap};
+ghost use Rattle.std.specs.BTreeMap.Comparable.{le_lt_trans};
+ghost use Rattle.std.specs.Cmp.Lexicographic.{bytes_decides, nat_list_cmp_total, nat_list_eq_equiv, slice_cmp};
+ghost use Rattle.std.specs.Hash as fed;
+ghost use Rattle.std.specs.Ordering.{nat_cmp};
+ghost use Rattle.arcstr.specs.Substr.{text_of};
+
+use crate::arc_str::ArcStr;
+use crate::substr::Substr;
+use crate::text_order::{compare, is_same};
+use std::cmp::Ordering;
+use std::collections::btree_map::Comparable;
+use std::collections::hash_map::Equivalent;
+
+#[cfg(test)]
+mod tests;
+
+impl Equivalent<ArcStr> for &str {
+    ghost equivalent = { λ word key. bytes_eq word.now key.text };
+
+    ghost respects_hash = { λ word key same. ap fed.str ((bytes_decides word.now key.text).0 same) };
+
+    ghost respects_eq = { λ word one other. nat_list_eq_equiv.congr word.now one.text other.text };
+
+    /// Whether the key's text is this one, byte by byte.
+    fn equivalent(&self, key: &ArcStr) -> bool
+        ensures value { result ≡ bytes_eq self.now.now key.now.text }
+        ensures same { IsTrue result ↔ (self.now.now ≡ key.now.text) }
+    {
+        is_same(*self, ArcStr::as_str(key))
+    }
+}
+
+impl Equivalent<Substr> for &str {
+    ghost equivalent = { λ word key. bytes_eq word.now (text_of key) };
+
+    ghost respects_hash = { λ word key same. ap fed.str ((bytes_decides word.now (text_of key)).0 same) };
+
+    ghost respects_eq = { λ word one other. nat_list_eq_equiv.congr word.now (text_of one) (text_of other) };
+
+    /// Whether the key's own text is this one, byte by byte.
+    fn equivalent(&self, key: &Substr) -> bool
+        ensures value { result ≡ bytes_eq self.now.now (text_of key.now) }
+        ensures same { IsTrue result ↔ (self.now.now ≡ text_of key.now) }
+    {
+        is_same(*self, Substr::as_str(key))
+    }
+}
+
+impl Comparable<ArcStr> for &str {
+    ghost compare = { λ word key. slice_cmp nat_cmp word.now key.text };
+
+    ghost respects_cmp = { λ word one other. nat_list_cmp_total.congr word.now one.text other.text };
+
+    ghost below_greater = { λ word one other. le_lt_trans nat_list_cmp_total word.now one.text other.text };
+
+    /// How this text and the key's compare, byte by byte.
+    fn compare(&self, key: &ArcStr) -> Ordering
+        ensures value { result ≡ slice_cmp nat_cmp self.now.now key.now.text }
+    {
+        compare(*self, ArcStr::as_str(key))
+    }
+}
+
+impl Comparable<Substr> for &str {
+    ghost compare = { λ word key. slice_cmp nat_cmp word.now (text_of key) };
+
+    ghost respects_cmp = { λ word one other. nat_list_cmp_total.congr word.now (text_of one) (text_of other) };
+
+    ghost below_greater = { λ word one other. le_lt_trans nat_list_cmp_total word.now (text_of one) (text_of other) };
+
+    /// How this text and the key's own text compare, byte by byte.
+    fn compare(&self, key: &Substr) -> Ordering
+        ensures value { result ≡ slice_cmp nat_cmp self.now.now (text_of key.now) }
+    {
+        compare(*self, Substr::as_str(key))
+    }
+}

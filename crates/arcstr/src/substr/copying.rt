@@ -1,0 +1,28 @@
+//! A slice as a text of its own.
+ghost use Rattle.arcstr.specs.Making.{AnswersCopy};
+ghost use Rattle.arcstr.specs.Substr.{text_of};
+
+use crate::arc_str::ArcStr;
+use crate::substr::Substr;
+use arcstr_block::TextFault;
+use std::alloc::Global;
+
+#[cfg(test)]
+mod tests;
+
+impl Substr {
+    /// A copy of the slice's own text in a block of its own: one allocation, and none where it is empty. The copy does
+    /// not keep the parent, so a short slice lets a long text go. Refused as `ArcStr::from_str` is. Takes no atomic step.
+    ///
+    /// ```
+    /// let slice = literal!("foobar").substr(&rt, 3..)?;
+    /// let text = slice.to_arc_str(rt.alloc())?;
+    /// assert_eq!(rt; text.as_str(), "bar");
+    /// assert_eq!(rt; ArcStr::strong_count(&text), Some(1));
+    /// ```
+    pub fn to_arc_str(&self, alloc: Global) -> Result<ArcStr, TextFault>
+        ensures { AnswersCopy (text_of self.now) result }
+    {
+        ArcStr::from_str(alloc, self.as_str())
+    }
+}
