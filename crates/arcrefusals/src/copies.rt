@@ -11,7 +11,7 @@ use std::borrow::CowStr;
 use std::sync::Wait;
 
 /// The calls, in the order of their lines.
-pub(crate) const CALLS: [Copying; 8] = [
+pub(crate) const CALLS: [Copying; 9] = [
     Copying::ToString,
     Copying::ToJson,
     Copying::IntoCow,
@@ -20,6 +20,7 @@ pub(crate) const CALLS: [Copying; 8] = [
     Copying::SubstrToJson,
     Copying::SubstrIntoCow,
     Copying::SubstrFromJson,
+    Copying::SubstrToArcStr,
 ];
 
 #[derive(Clone, Copy)]
@@ -32,6 +33,7 @@ pub(crate) enum Copying {
     SubstrToJson,
     SubstrIntoCow,
     SubstrFromJson,
+    SubstrToArcStr,
 }
 
 impl Copying {
@@ -46,6 +48,7 @@ impl Copying {
             Copying::SubstrIntoCow => "Substr::into_cow: the copy, or the slice back",
             Copying::SubstrFromJson =>
                 "Substr::from_json: the text, its range, count 1, the value stands",
+            Copying::SubstrToArcStr => "Substr::to_arc_str: the copy, the slice stands, count 1",
         }
     }
 
@@ -60,6 +63,7 @@ impl Copying {
             Copying::SubstrToJson => slice_to_json(meter, alloc),
             Copying::SubstrIntoCow => slice_into_cow(rt, meter, alloc),
             Copying::SubstrFromJson => slice_from_json(meter, alloc),
+            Copying::SubstrToArcStr => slice_to_arc_str(meter, alloc),
         }
     }
 }
@@ -187,6 +191,21 @@ fn slice_from_json(meter: Meter, alloc: Global) -> Result<(), Stop> {
         meter.end();
         let ended = check_slice_made(meter, made, "foobar");
         check_value(&value, "foobar")?;
+        if !is_refused(ended) {
+            return ended;
+        }
+    }
+    Err(Stop::Refused)
+}
+
+fn slice_to_arc_str(meter: Meter, alloc: Global) -> Result<(), Stop> {
+    let slice = bar_of_foobar(alloc)?;
+    for _ in 0..TRIES {
+        meter.begin();
+        let copy = slice.to_arc_str(alloc);
+        meter.end();
+        let ended = check_made(meter, copy, "bar");
+        check_bar(&slice, 1)?;
         if !is_refused(ended) {
             return ended;
         }
