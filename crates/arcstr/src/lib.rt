@@ -20,6 +20,8 @@ mod count_tests;
 #[cfg(test)]
 mod examples;
 mod first_place;
+#[cfg(test)]
+mod found_view_tests;
 mod json;
 mod mac;
 #[cfg(test)]
