@@ -7,7 +7,12 @@ fn trimmed_views_of_a_text_are_found(rt: HostRuntime) {
     let text = made(&rt, "  abc ");
     let whole = StrView::whole(text.as_str());
     check_slice(&rt, &text.substr_from(&rt, whole.trim()), "abc", 2..5);
-    check_slice(&rt, &text.substr_from(&rt, whole.trim_start()), "abc ", 2..6);
+    check_slice(
+        &rt,
+        &text.substr_from(&rt, whole.trim_start()),
+        "abc ",
+        2..6,
+    );
     check_slice(&rt, &text.substr_from(&rt, whole.trim_end()), "  abc", 0..5);
 }
 
@@ -23,7 +28,7 @@ fn a_cut_of_a_view_of_a_text_is_found(rt: HostRuntime) {
 fn views_of_the_own_text_of_a_slice_are_found(rt: HostRuntime) {
     let slice = part(&rt, &made(&rt, "key: value"), 4..);
     let view = StrView::whole(slice.as_str()).trim();
-    check_slice(&rt, &slice.substr_from(&rt, view), "value", 5..10);
     let cut = view.cut(0..3).expect(&rt, "no part");
     check_slice(&rt, &slice.substr_from(&rt, cut), "val", 5..8);
+    check_slice(&rt, &slice.substr_from(&rt, view), "value", 5..10);
 }

@@ -31,3 +31,4 @@ mod substr;
 #[cfg(test)]
 mod test_steps;
 mod text_order;
+mod trimmed;

@@ -17,6 +17,7 @@ mod conversions;
 mod cow;
 mod json;
 mod order;
+mod parts;
 mod printing;
 mod slices;
 mod splitting;
