@@ -2,6 +2,7 @@ pub mod TextView
 pub mod Forms
 pub mod StaticForms
 pub mod Making
+pub mod Parts
 pub mod Printing
 pub mod Substr
 pub mod Slicing

@@ -15,6 +15,7 @@ mod cow;
 mod json;
 mod making;
 mod order;
+mod parts;
 mod printing;
 mod slices;
 mod splitting;

@@ -3,5 +3,6 @@
 mod arc_str;
 mod json;
 mod macros;
+mod parts;
 mod static_str;
 mod substr;

@@ -21,6 +21,8 @@ mod deref;
 #[cfg(test)]
 mod examples;
 mod first_place;
+#[cfg(test)]
+mod found_view_tests;
 mod from;
 mod json;
 mod mac;
@@ -32,3 +34,4 @@ mod substr;
 #[cfg(test)]
 mod test_steps;
 mod text_order;
+mod trimmed;

@@ -18,6 +18,7 @@ mod copying;
 mod cow;
 mod json;
 mod order;
+mod parts;
 mod printing;
 mod slices;
 mod splitting;

@@ -1,5 +1,6 @@
 pub mod Boundaries
 pub mod Faults
+pub mod FoundParts
 pub mod Trims
 pub mod WhiteSpace
 pub mod WorkedExamples

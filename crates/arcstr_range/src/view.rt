@@ -1,5 +1,5 @@
 //! Views of a text, which remember the place where it stands.
-ghost use Rattle.std.specs.Prelude.{◌≡◌, ◌↔◌, ◌+◌, ◌≤◌, length, IsTrue, IsSome, IfSome};
+ghost use Rattle.std.specs.Prelude.{◌≡◌, ℕ, List, ◌↔◌, ◌+◌, ◌≤◌, length, IsTrue, IsSome, IfSome};
 ghost use Rattle.std.specs.Str.{trim, trim_end, trim_start};
 ghost use Rattle.arcstr_range.specs.Ends.{IsSliceable};
 ghost use Rattle.arcstr_range.specs.Trim.{Trims, TrimsEnd, TrimsStart};
@@ -48,8 +48,10 @@ impl<'a> StrView<'a> {
     /// assert_eq!(rt; view.text(), "abc");
     /// assert_eq!(rt; view.place(), 0);
     /// ```
+    #[tactic(auto, using(crate::proofs::FoundParts::whole_texts_are_found))]
     pub fn whole(text: &'a str) -> StrView<'a>
-        ensures { result ≡ view_at text.now 0 }
+        ensures value { result ≡ view_at text.now 0 }
+        ensures found { IsFoundAt text.now result.text result.place }
     {
         StrView { text, place: 0 }
     }
@@ -117,9 +119,12 @@ impl<'a> StrView<'a> {
     /// assert_eq!(rt; part.place(), 1);
     /// assert!(rt; StrView::whole("aéb").cut(0..2).is_none());
     /// ```
+    #[tactic(auto, using(crate::proofs::FoundParts::parts_are_found))]
     pub fn cut(&self, range: Range<usize>) -> Option<StrView<'a>>
         ensures some { IsSome result ↔ IsSliceable self.now.text range.start range.end }
         ensures value { IfSome result (λ part. part ≡ part_of self.now range.start range.end) }
+        ensures found { (parent : List ℕ) → IsFoundAt parent self.now.text self.now.place
+            → IfSome result (λ part. IsFoundAt parent part.text part.place) }
     {
         let start = range.start;
         let text = slice(self.text, range.into())?;
@@ -137,10 +142,12 @@ impl<'a> StrView<'a> {
     /// assert_eq!(rt; word.text(), "a ");
     /// assert_eq!(rt; word.place(), 2);
     /// ```
-    #[tactic(auto, using(crate::proofs::Trims::trims_of_starts))]
+    #[tactic(auto, using(crate::proofs::Trims::trims_of_starts, crate::proofs::FoundParts::starts_are_found))]
     pub fn trim_start(&self) -> StrView<'a>
         ensures longest { TrimsStart self.now result }
         ensures text { result.text ≡ trim_start self.now.text }
+        ensures found { (parent : List ℕ) → IsFoundAt parent self.now.text self.now.place
+            → IsFoundAt parent result.text result.place }
     {
         let whole = self.text();
         let text = whole.trim_start();
@@ -158,10 +165,12 @@ impl<'a> StrView<'a> {
     /// assert_eq!(rt; word.text(), "  a");
     /// assert_eq!(rt; word.place(), 0);
     /// ```
-    #[tactic(auto, using(crate::proofs::Trims::trims_of_ends))]
+    #[tactic(auto, using(crate::proofs::Trims::trims_of_ends, crate::proofs::FoundParts::ends_are_found))]
     pub fn trim_end(&self) -> StrView<'a>
         ensures longest { TrimsEnd self.now result }
         ensures text { result.text ≡ trim_end self.now.text }
+        ensures found { (parent : List ℕ) → IsFoundAt parent self.now.text self.now.place
+            → IsFoundAt parent result.text result.place }
     {
         StrView {
             text: self.text.trim_end(),
@@ -180,6 +189,8 @@ impl<'a> StrView<'a> {
     pub fn trim(&self) -> StrView<'a>
         ensures longest { Trims self.now result }
         ensures text { result.text ≡ trim self.now.text }
+        ensures found { (parent : List ℕ) → IsFoundAt parent self.now.text self.now.place
+            → IsFoundAt parent result.text result.place }
     {
         self.trim_start().trim_end()
     }

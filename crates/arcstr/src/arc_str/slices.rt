@@ -74,13 +74,13 @@ impl ArcStr {
     }
 
     /// The slice of this text that a view of it shows; of an empty view `Substr::new()`. That the text has the
-    /// view's text at the view's place is the caller's condition. Takes no memory; the handle is cloned where the
-    /// view is not empty, and so it may wait.
+    /// view's text at the view's place is the caller's condition: the text's own `view` and its cuts and trims meet
+    /// it, and `StrView::is_found_in` tests it of others. Takes no memory; the handle is cloned where the view is not
+    /// empty, and so it may wait.
     ///
     /// ```
     /// let text = ArcStr::from_str(rt.alloc(), "  foo ")?;
     /// let view = StrView::whole(text.as_str()).trim();
-    /// assert!(rt; view.is_found_in(text.as_str()));
     /// let slice = text.substr_from(&rt, view);
     /// assert_eq!(rt; slice.range(), 2..5);
     /// ```

@@ -238,7 +238,6 @@ fn arc_str_try_substr_from(rt: HostRuntime) -> Result<(), Fail> {
 fn arc_str_substr_from(rt: HostRuntime) -> Result<(), Fail> {
     let text = ArcStr::from_str(rt.alloc(), "  foo ")?;
     let view = StrView::whole(text.as_str()).trim();
-    assert!(rt; view.is_found_in(text.as_str()));
     let slice = text.substr_from(&rt, view);
     assert_eq!(rt; slice.range(), 2..5);
     Ok(())

@@ -136,7 +136,6 @@ fn substr_try_substr_from(rt: HostRuntime) -> Result<(), Fail> {
 fn substr_substr_from(rt: HostRuntime) -> Result<(), Fail> {
     let line = literal!("key: value").substr(&rt, 4..)?;
     let view = StrView::whole(line.as_str()).trim();
-    assert!(rt; view.is_found_in(line.as_str()));
     let value = line.substr_from(&rt, view);
     assert_eq!(rt; value.range(), 5..10);
     Ok(())

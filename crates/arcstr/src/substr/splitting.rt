@@ -34,7 +34,7 @@ impl Substr {
 
     /// The slice of the same parent between two places of the slice's own text. The parent's handle is cloned.
     #[tactic(auto, using(arcstr_range::proofs::Boundaries::cuts_of_cuts))]
-    fn clone_between(&self, rt: &impl Wait, range: Range<usize>) -> Substr
+    pub(crate) fn clone_between(&self, rt: &impl Wait, range: Range<usize>) -> Substr
         requires { IsLawful (text_of self.now) range.start range.end }
         ensures slice { result ≡ slice_within self.now range.start range.end }
         ensures text { text_of result ≡ cut (text_of self.now) range.start range.end }
