@@ -2,7 +2,6 @@ mod answers;
 mod copies;
 mod fakes;
 mod lists;
-mod memory;
 mod ports;
 mod readme;
 mod statuses;

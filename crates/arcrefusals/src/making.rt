@@ -7,12 +7,13 @@ use arcstr::{ArcStr, Substr, format_arcstr};
 use std::alloc::Global;
 
 /// The calls, in the order of their lines.
-pub(crate) const CALLS: [Making; 8] = [
+pub(crate) const CALLS: [Making; 9] = [
     Making::FromStr,
     Making::TryAlloc,
     Making::FromUtf8,
     Making::TryRepeat,
     Making::Repeat,
+    Making::Join,
     Making::InitWith,
     Making::SubstrFromStr,
     Making::FormatArcstr,
@@ -25,6 +26,7 @@ pub(crate) enum Making {
     FromUtf8,
     TryRepeat,
     Repeat,
+    Join,
     InitWith,
     SubstrFromStr,
     FormatArcstr,
@@ -38,6 +40,7 @@ impl Making {
             Making::FromUtf8 => "ArcStr::from_utf8: the text, count 1",
             Making::TryRepeat => "ArcStr::try_repeat: the text, count 1",
             Making::Repeat => "ArcStr::repeat: the text, count 1",
+            Making::Join => "ArcStr::join: the text, count 1",
             Making::InitWith =>
                 "ArcStr::init_with: the text, count 1, no closure runs without memory",
             Making::SubstrFromStr => "Substr::from_str: the text, its range, count 1",
@@ -52,6 +55,7 @@ impl Making {
             Making::FromUtf8 => from_utf8(meter, alloc),
             Making::TryRepeat => try_repeat(meter, alloc),
             Making::Repeat => repeat(meter, alloc),
+            Making::Join => join(meter, alloc),
             Making::InitWith => init_with(meter, alloc),
             Making::SubstrFromStr => slice_from_str(meter, alloc),
             Making::FormatArcstr => formatted(meter, alloc),
@@ -96,6 +100,13 @@ fn repeat(meter: Meter, alloc: Global) -> Result<(), Stop> {
     let made = ArcStr::repeat(alloc, "ab", 3);
     meter.end();
     check_made(meter, made, "ababab")
+}
+
+fn join(meter: Meter, alloc: Global) -> Result<(), Stop> {
+    meter.begin();
+    let made = ArcStr::join(alloc, &["foo", "", "bar"], ", ");
+    meter.end();
+    check_made(meter, made, "foo, , bar")
 }
 
 /// Fills a text by a closure, which runs exactly where the call is not refused.

@@ -10,12 +10,14 @@ use std::hash::{DefaultHasher, Hash, Hasher};
 use std::sync::Wait;
 
 /// The calls, in the order of their lines.
-pub(crate) const CALLS: [WithoutMemory; 10] = [
+pub(crate) const CALLS: [WithoutMemory; 12] = [
     WithoutMemory::EmptyText,
     WithoutMemory::Literal,
     WithoutMemory::Clone,
     WithoutMemory::Slice,
     WithoutMemory::SliceOfSlice,
+    WithoutMemory::Parts,
+    WithoutMemory::PartsOfSlice,
     WithoutMemory::Leak,
     WithoutMemory::Comparison,
     WithoutMemory::Hash,
@@ -30,6 +32,8 @@ pub(crate) enum WithoutMemory {
     Clone,
     Slice,
     SliceOfSlice,
+    Parts,
+    PartsOfSlice,
     Leak,
     Comparison,
     Hash,
@@ -45,6 +49,10 @@ impl WithoutMemory {
             WithoutMemory::Clone => "ArcStr::clone: the text, count 2, then 1",
             WithoutMemory::Slice => "ArcStr::substr: the slice, count 2, then 1",
             WithoutMemory::SliceOfSlice => "Substr::substr: the slice, count 3, then 2",
+            WithoutMemory::Parts =>
+                "ArcStr::substr_split_at, substr_split_once, substr_rsplit_once, substr_strip_prefix, substr_strip_suffix: eight slices, count 9, then 1",
+            WithoutMemory::PartsOfSlice =>
+                "Substr::substr_split_at, substr_split_once, substr_rsplit_once, substr_strip_prefix, substr_strip_suffix: eight slices, count 9, then 1",
             WithoutMemory::Leak => "ArcStr::leak: the text, no count",
             WithoutMemory::Comparison => "==, cmp: two texts",
             WithoutMemory::Hash => "hash: two texts",
@@ -60,6 +68,8 @@ impl WithoutMemory {
             WithoutMemory::Clone => clone(rt, meter, alloc),
             WithoutMemory::Slice => slice(rt, meter, alloc),
             WithoutMemory::SliceOfSlice => slice_of_slice(rt, meter, alloc),
+            WithoutMemory::Parts => parts(rt, meter, alloc),
+            WithoutMemory::PartsOfSlice => parts_of_slice(rt, meter, alloc),
             WithoutMemory::Leak => leak(meter, alloc),
             WithoutMemory::Comparison => comparison(meter, alloc),
             WithoutMemory::Hash => hash(meter, alloc),
@@ -115,6 +125,35 @@ fn slice_of_slice(rt: &impl Wait, meter: Meter, alloc: Global) -> Result<(), Sto
     meter.end();
     check_slice(meter, made.ok(), "ar", 3)?;
     check_count(&text, 2)
+}
+
+fn parts(rt: &impl Wait, meter: Meter, alloc: Global) -> Result<(), Stop> {
+    let text = ArcStr::from_str(alloc, "foobar")?;
+    meter.begin();
+    let halves = text.substr_split_at(rt, 3);
+    let first = text.substr_split_once(rt, 'o');
+    let last = text.substr_rsplit_once(rt, "ob");
+    let bar = text.substr_strip_prefix(rt, "foo");
+    let foo = text.substr_strip_suffix(rt, "bar");
+    meter.end();
+    check_text(&text, "foobar", 9)?;
+    meter.drop_counted((halves, first, last, bar, foo));
+    check_text(&text, "foobar", 1)
+}
+
+fn parts_of_slice(rt: &impl Wait, meter: Meter, alloc: Global) -> Result<(), Stop> {
+    let text = ArcStr::from_str(alloc, "a foobar b")?;
+    let foobar = Substr::from_parts_unchecked(text, 2..8);
+    meter.begin();
+    let halves = foobar.substr_split_at(rt, 3);
+    let first = foobar.substr_split_once(rt, 'o');
+    let last = foobar.substr_rsplit_once(rt, "ob");
+    let bar = foobar.substr_strip_prefix(rt, "foo");
+    let foo = foobar.substr_strip_suffix(rt, "bar");
+    meter.end();
+    check_count(foobar.parent(), 9)?;
+    meter.drop_counted((halves, first, last, bar, foo));
+    check_count(foobar.parent(), 1)
 }
 
 /// Compares the text of a slice, and the count of its parent with that of so many handles, and drops it.

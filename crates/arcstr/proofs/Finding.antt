@@ -1,16 +1,14 @@
--- Where a character first stands in a text.
-use Rattle.std.proofs.Common.{◌≡◌, ◌↔◌, ℕ, ◌==◌, Option, None, Some, false, List, [], ◌∷◌, ◌++◌, length, take, drop, All, Contains, IsSome, IfSome, refl, sym, ap, subst, ◌∙◌, append_assoc, arith}
-use Rattle.std.specs.Prelude.{◌+◌, ◌-◌, MatchOption, encode_utf8}
+-- A text that is split around the first match of a character is split at its first place.
+use Rattle.std.proofs.Common.{◌≡◌, ℕ, ◌==◌, Option, None, Some, false, List, [], ◌∷◌, ◌++◌, length, take, drop, All, Contains, IfSome, refl, sym, ap, subst, ◌∙◌, append_assoc, arith}
+use Rattle.std.specs.Prelude.{◌+◌, ◌-◌, encode_utf8}
 use Rattle.std.specs.Char.{len_utf8}
-use Rattle.std.specs.Str.{chars, IsUtf8, NoCharPasses, NonePass}
-use Rattle.std.specs.Str.Pattern.{FindsChar, MatchBeginsAt}
-use Rattle.std.proofs.lemmas.List.{take-append-drop, take_all, length-drop, length-take-le}
-use Rattle.std.proofs.lemmas.Slice.{between_is}
+use Rattle.std.specs.Str.{chars, IsCharBoundary, IsUtf8, NoCharPasses, NonePass}
+use Rattle.std.specs.Str.Pattern.{FindsChar, MatchBeginsAt, SplitsAroundMatch}
+use Rattle.std.proofs.lemmas.List.{take-append-drop, length-take-le}
 use Rattle.std.proofs.lemmas.List.Elements.{All-nil, All-cons, All-contains, Contains-append_right}
-use Rattle.std.proofs.lemmas.Str.{IsCharBoundary-start, IsUtf8-take, IsUtf8-drop, chars-append, chars_from_encodes, chars_past_char, encodes-chars}
-use Rattle.arcstr_range.specs.Ends.{IsLawful}
-use Rattle.arcstr_range.specs.Text.{cut}
-use Rattle.arcstr.specs.Splitting.{IsFirstPlace}
+use Rattle.std.proofs.lemmas.Str.{IsUtf8-take, IsUtf8-drop, chars-append, chars_from_encodes, chars_past_char, encodes-chars}
+use Rattle.arcstr.specs.Splitting.{AnswersSplit, AreAround, FindsCharacter, IsFirstPlace}
+use Rattle.arcstr.specs.Substr.{SubstrView, text_of}
 
 all_others : (character : ℕ) (characters : List ℕ) → NonePass (λ c. c == character) characters → All (λ c. (c == character) ≡ false) characters
 all_others character [] none = All-nil (λ c. (c == character) ≡ false)
@@ -39,44 +37,69 @@ first_at text character place utf8 at =
       measured = ap length (encodes-chars (take place text) front_utf8) ∙ length-take-le place text at.3.0;
     }
 
-pub first : (text : List ℕ) (character : ℕ) (answer : Option ℕ) → IsUtf8 text
-    → MatchOption answer (FindsChar character text None) (MatchBeginsAt (FindsChar character) text) → IfSome answer (IsFirstPlace text character)
-first text character None utf8 cases = tt
-first text character (Some place) utf8 cases = first_at text character place utf8 cases
-
 has_first : (text : List ℕ) (character place : ℕ) → IsFirstPlace text character place → Contains (chars text) character
 has_first text character place first =
     subst (λ cs. Contains cs character) (sym first.split) (Contains-append_right first.before (character ∷ first.after) character (0, omega arith, refl))
 
--- `find` answers a place exactly where the text has the character
-pub found : (text : List ℕ) (character : ℕ) (answer : Option ℕ) → IsUtf8 text
-    → MatchOption answer (FindsChar character text None) (MatchBeginsAt (FindsChar character) text) → IsSome answer ↔ Contains (chars text) character
-found text character None utf8 cases = ((λ some. absurd (grind (arith, some))), λ among. absurd (not_among character text utf8 cases among))
-found text character (Some place) utf8 cases = ((λ some. has_first text character place (first_at text character place utf8 cases)), λ among. refl)
+-- a text without a match doesn't have the character. `read` is what was searched
+pub not_split : (finds : List ℕ → Option (ℕ × ℕ) → Type 0) (text read : List ℕ) (between : ℕ → ℕ → SubstrView) (answer : Option (SubstrView × SubstrView))
+    → (character : ℕ) → FindsCharacter finds character → finds read None → read ≡ text → IsUtf8 read → answer ≡ None
+    → AnswersSplit text between character answer
+not_split finds text read between answer character at_character none same utf8 is =
+    let without : ¬ (Contains (chars text) character) = subst (λ bytes. ¬ (Contains (chars bytes) character)) same (not_among character read utf8 (at_character read None none)) in
+    subst (AnswersSplit text between character) (sym is) (record {
+      found = (λ some. absurd (grind (arith, some)), λ among. absurd (without among));
+      value = tt;
+    })
 
--- what lies before the place that `find` answers is a lawful slice
-pub lawful : (text : List ℕ) (character : ℕ) (answer : Option ℕ) → IsUtf8 text
-    → MatchOption answer (FindsChar character text None) (MatchBeginsAt (FindsChar character) text) → IfSome answer (IsLawful text 0)
-lawful text character None utf8 cases = tt
-lawful text character (Some place) utf8 cases = record {
-  fits = record { in_order = omega arith; within = cases.3.0 };
-  at_boundaries = (IsCharBoundary-start text utf8, cases.3);
-}
+around : (finds : List ℕ → Option (ℕ × ℕ) → Type 0) (text before after : List ℕ) (between : ℕ → ℕ → SubstrView) (parts : SubstrView × SubstrView) (character : ℕ)
+    → IsUtf8 text → IsCharBoundary text (length before) → IsCharBoundary text (length text - length after) → SplitsAroundMatch finds text before after
+    → text_of parts.0 ≡ before → text_of parts.1 ≡ after → parts.0 ≡ between 0 (length before) → parts.1 ≡ between (length text - length after) (length text)
+    → FindsCharacter finds character → AreAround text between character parts
+around finds text before after between parts character utf8 begins ends split is_before is_after there there_after at_character =
+    let match_is = at_character text (Some (split.0, split.1)) split.2 in
+    let end : length text - length after ≡ split.1 = omega (arith, split.7) in
+    let at : MatchBeginsAt (FindsChar character) text split.0 = (split.1, match_is, split.5, subst (IsCharBoundary text) split.6 begins, subst (IsCharBoundary text) end ends) in
+    let start : length text - length after ≡ split.0 + len_utf8 character = omega (arith, split.7, match_is.1.ends) in
+    record {
+      place = split.0;
+      first = first_at text character split.0 utf8 at;
+      before = there ∙ ap (between 0) split.6;
+      after = there_after ∙ ap (λ place. between place (length text)) start;
+      joined =
+          ap (λ front. front ++ encode_utf8 character ++ text_of parts.1) (is_before ∙ split.3)
+          ∙ ap (λ rest. take split.0 text ++ encode_utf8 character ++ rest) (is_after ∙ split.4)
+          ∙ append_assoc (take split.0 text) (encode_utf8 character) (drop split.1 text)
+          ∙ ap (λ rest. take split.0 text ++ rest) (sym match_is.1.split)
+          ∙ take-append-drop split.0 text;
+    }
 
--- where `find` answers a place, what lies before it, the character and what lies behind join to the text
-joined_at : (text : List ℕ) (character place : ℕ) → MatchBeginsAt (FindsChar character) text place
-    → cut text 0 place ++ encode_utf8 character ++ cut text (place + len_utf8 character) (length text) ≡ text
-joined_at text character place at =
-    let behind : cut text (place + len_utf8 character) (length text) ≡ drop at.0 text =
-    ap (λ start. cut text start (length text)) (sym at.1.1.ends) ∙ take_all (length text - at.0) (drop at.0 text) (omega (arith, length-drop at.0 text)) in
-    ap (λ front. front ++ encode_utf8 character ++ cut text (place + len_utf8 character) (length text)) (between_is text 0 place)
-    ∙ ap (λ rest. take place text ++ encode_utf8 character ++ rest) behind
-    ∙ append_assoc (take place text) (encode_utf8 character) (drop at.0 text)
-    ∙ ap (λ rest. take place text ++ rest) (sym at.1.1.split)
-    ∙ take-append-drop place text
+-- where there is a match, the slices with the texts around it lie around the character's first place
+pub split_around : (finds : List ℕ → Option (ℕ × ℕ) → Type 0) (text read before after : List ℕ) (between : ℕ → ℕ → SubstrView) (one other : SubstrView)
+    → (character : ℕ) → FindsCharacter finds character → SplitsAroundMatch finds read before after → read ≡ text → IsUtf8 read
+    → IsCharBoundary text (length before) → IsCharBoundary text (length text - length after)
+    → text_of one ≡ before → text_of other ≡ after → one ≡ between 0 (length before) → other ≡ between (length text - length after) (length text)
+    → AnswersSplit text between character (Some (one, other))
+split_around finds text read before after between one other character at_character split same utf8 begins ends is_before is_after there there_after =
+    let own = subst IsUtf8 same utf8 in
+    let parted = subst (λ bytes. SplitsAroundMatch finds bytes before after) same split in
+    let value = around finds text before after between (one, other) character own begins ends parted is_before is_after there there_after at_character in
+    record { found = (λ some. has_first text character value.place value.first, λ among. refl); value = value }
 
-pub joined : (text : List ℕ) (character : ℕ) (answer : Option ℕ) → IsUtf8 text
-    → MatchOption answer (FindsChar character text None) (MatchBeginsAt (FindsChar character) text)
-    → IfSome answer (λ place. cut text 0 place ++ encode_utf8 character ++ cut text (place + len_utf8 character) (length text) ≡ text)
-joined text character None utf8 cases = tt
-joined text character (Some place) utf8 cases = joined_at text character place cases
+-- the same of the one character that a pattern looks for, if it looks for just one
+
+pub not_split_at_single : (finds : List ℕ → Option (ℕ × ℕ) → Type 0) (text read : List ℕ) (between : ℕ → ℕ → SubstrView) (answer : Option (SubstrView × SubstrView))
+    → (single : Option ℕ) → finds read None → read ≡ text → IsUtf8 read → answer ≡ None
+    → IfSome single (λ character. FindsCharacter finds character → AnswersSplit text between character answer)
+not_split_at_single finds text read between answer None none same utf8 is = tt
+not_split_at_single finds text read between answer (Some character) none same utf8 is =
+    λ at_character. not_split finds text read between answer character at_character none same utf8 is
+
+pub split_around_single : (finds : List ℕ → Option (ℕ × ℕ) → Type 0) (text read before after : List ℕ) (between : ℕ → ℕ → SubstrView) (one other : SubstrView)
+    → (single : Option ℕ) → SplitsAroundMatch finds read before after → read ≡ text → IsUtf8 read
+    → IsCharBoundary text (length before) → IsCharBoundary text (length text - length after)
+    → text_of one ≡ before → text_of other ≡ after → one ≡ between 0 (length before) → other ≡ between (length text - length after) (length text)
+    → IfSome single (λ character. FindsCharacter finds character → AnswersSplit text between character (Some (one, other)))
+split_around_single finds text read before after between one other None split same utf8 begins ends is_before is_after there there_after = tt
+split_around_single finds text read before after between one other (Some character) split same utf8 begins ends is_before is_after there there_after =
+    λ at_character. split_around finds text read before after between one other character at_character split same utf8 begins ends is_before is_after there there_after

@@ -1,8 +1,37 @@
--- Where a character first stands in a text, and the two slices around it. A place is counted in bytes.
-use Rattle.std.specs.Prelude.{◌≡◌, ◌↔◌, ℕ, ◌+◌, List, ◌∷◌, ◌++◌, length, Contains, encode_utf8, encode_utf8_all, Option, IsSome, IfSome}
+-- What the calls answer that take a text apart. As in `Slicing`, `between` is the slice between two places of the receiver's
+-- own text. A place is counted in bytes. What a search for a pattern finds, and the parts around it, is said in std's words.
+use Rattle.std.specs.Prelude.{◌≡◌, ◌↔◌, ℕ, ◌+◌, ◌-◌, List, ◌∷◌, ◌++◌, length, take, drop, Contains, encode_utf8, encode_utf8_all, Option, Result, IsSome, IfSome, IsOk, IfOk, IsErrOf}
 use Rattle.std.specs.Char.{len_utf8}
 use Rattle.std.specs.Str.{chars}
+use Rattle.std.specs.Str.Pattern.{FindsChar}
+use Rattle.arcstr_range.specs.declared.range.StrRange.TheVariants.{To}
+use Rattle.arcstr_range.specs.declared.range.fault.RangeFault.{RangeFault}
+use Rattle.arcstr_range.specs.Ends.{IsLawfulRange, IsFirstRangeFault}
 use Rattle.arcstr.specs.Substr.{SubstrView, text_of}
+
+-- the slice lies at the start of the receiver's text
+abbrev pub LiesAtStart : (ℕ → ℕ → SubstrView) → SubstrView → Type 0
+LiesAtStart between slice = slice ≡ between 0 (length (text_of slice))
+
+-- the slice lies at the end of the receiver's text
+abbrev pub LiesAtEnd : List ℕ → (ℕ → ℕ → SubstrView) → SubstrView → Type 0
+LiesAtEnd text between slice = slice ≡ between (length text - length (text_of slice)) (length text)
+
+-- the answer of `substr_split_at`: the slices before and after the place, exactly where the range up to the place is lawful,
+-- and else that range's first fault
+pub record AnswersSplitAt (text : List ℕ) (between : ℕ → ℕ → SubstrView) (place : ℕ) (answer : Result (SubstrView × SubstrView) RangeFault) : Type 0 where
+  pub lawful : IsOk answer ↔ IsLawfulRange text (To place)
+  pub refused : (fault : RangeFault) → IsErrOf answer fault ↔ IsFirstRangeFault text (To place) fault
+  pub before : IfOk answer (λ parts. parts.0 ≡ between 0 place)
+  pub after : IfOk answer (λ parts. parts.1 ≡ between place (length text))
+  pub text_before : IfOk answer (λ parts. text_of parts.0 ≡ take place text)
+  pub text_after : IfOk answer (λ parts. text_of parts.1 ≡ drop place text)
+
+-- ---- at a character
+
+-- the search finds in each text what a search for the character finds
+abbrev pub FindsCharacter : (List ℕ → Option (ℕ × ℕ) → Type 0) → ℕ → Type 0
+FindsCharacter finds character = (text : List ℕ) (answer : Option (ℕ × ℕ)) → finds text answer → FindsChar character text answer
 
 -- the character stands at the place, and those before it are others
 pub record IsFirstPlace (text : List ℕ) (character place : ℕ) : Type 0 where
@@ -12,8 +41,7 @@ pub record IsFirstPlace (text : List ℕ) (character place : ℕ) : Type 0 where
   pub others : ¬ (Contains before character)
   pub measured : length (encode_utf8_all before) ≡ place
 
--- the slices lie before and after the first place of the character, and with its UTF-8 between them they join to the text.
--- `between` is the slice between two places of the text
+-- the slices lie before and after the first place of the character, and with its UTF-8 between them they join to the text
 pub record AreAround (text : List ℕ) (between : ℕ → ℕ → SubstrView) (character : ℕ) (parts : SubstrView × SubstrView) : Type 0 where
   pub place : ℕ
   pub first : IsFirstPlace text character place
@@ -21,7 +49,7 @@ pub record AreAround (text : List ℕ) (between : ℕ → ℕ → SubstrView) (c
   pub after : parts.1 ≡ between (place + len_utf8 character) (length text)
   pub joined : text_of parts.0 ++ encode_utf8 character ++ text_of parts.1 ≡ text
 
--- the answer of `split_once`: the slices around the first place of the character, exactly where the text has it
+-- the answer of `substr_split_once` at a character: the slices around its first place, exactly where the text has it
 pub record AnswersSplit (text : List ℕ) (between : ℕ → ℕ → SubstrView) (character : ℕ) (answer : Option (SubstrView × SubstrView)) : Type 0 where
   pub found : IsSome answer ↔ Contains (chars text) character
   pub value : IfSome answer (AreAround text between character)

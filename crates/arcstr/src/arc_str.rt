@@ -10,8 +10,10 @@ use std::alloc::Global;
 use std::marker::Model;
 use std::sync::Wait;
 
+mod cloning;
 mod conversions;
 mod cow;
+mod joining;
 mod json;
 mod making;
 mod order;

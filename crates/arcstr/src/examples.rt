@@ -4,5 +4,6 @@ mod arc_str;
 mod json;
 mod macros;
 mod parts;
+mod splitting;
 mod static_str;
 mod substr;

@@ -32,3 +32,18 @@ fn views_of_the_own_text_of_a_slice_are_found(rt: HostRuntime) {
     check_slice(&rt, &slice.substr_from(&rt, cut), "val", 5..8);
     check_slice(&rt, &slice.substr_from(&rt, view), "value", 5..10);
 }
+
+#[test]
+fn parts_of_a_view_of_a_text_are_found(rt: HostRuntime) {
+    let text = made(&rt, "a: --b=c;");
+    let (name, rest) = text.view().split_once(": ").expect(&rt, "no `: `");
+    check_slice(&rt, &text.substr_from(&rt, name), "a", 0..1);
+    let pair = rest.strip_prefix("--").expect(&rt, "no `--`");
+    check_slice(&rt, &text.substr_from(&rt, rest), "--b=c;", 3..9);
+    let pair = pair.strip_suffix(';').expect(&rt, "no `;`");
+    let (_, value) = pair.rsplit_once('=').expect(&rt, "no `=`");
+    check_slice(&rt, &text.substr_from(&rt, value), "c", 7..8);
+    let (_, end) = pair.split_at(1).expect(&rt, "no place");
+    check_slice(&rt, &text.substr_from(&rt, end), "=c", 6..8);
+    check_slice(&rt, &text.substr_from(&rt, pair), "b=c", 5..8);
+}

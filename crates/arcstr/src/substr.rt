@@ -13,6 +13,7 @@ use std::marker::Model;
 use std::ops::Range;
 use std::sync::Wait;
 
+mod cloning;
 mod conversions;
 mod copying;
 mod cow;

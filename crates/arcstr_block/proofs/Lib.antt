@@ -24,3 +24,4 @@ pub mod Copies
 pub mod Crosses
 pub mod Marked
 pub mod InLine
+pub mod Joins

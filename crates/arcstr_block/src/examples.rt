@@ -1,5 +1,5 @@
 //! The examples of the doc comments, each as a test named for its item.
-use crate::{Down, Fixed, Owed, Shared, TextFault};
+use crate::{Down, Fixed, Owed, Shared, TextFault, joined_len};
 use linked_list_allocator::LocalHeap;
 use std::alloc::Global;
 use std::mem::size_of_val;
@@ -36,6 +36,19 @@ fn shared_repeat(rt: HostRuntime) -> Result<(), Fail> {
     let text = Shared::<5, _>::repeat(rt.alloc(), "ab", 3)?;
     assert_eq!(rt; text.as_str(), "ababab");
     Ok(())
+}
+
+#[test]
+fn shared_join(rt: HostRuntime) -> Result<(), Fail> {
+    let text = Shared::<5, _>::join(rt.alloc(), &["a", "b"], ", ", 4)?;
+    assert_eq!(rt; text.as_str(), "a, b");
+    Ok(())
+}
+
+#[test]
+fn joining_joined_len(rt: HostRuntime) {
+    assert_eq!(rt; joined_len(&["a", "b"], ", "), Some(4));
+    assert_eq!(rt; joined_len(&["a"], ", "), Some(1));
 }
 
 #[test]
@@ -84,6 +97,15 @@ fn shared_up(rt: HostRuntime) -> Result<(), Fail> {
     let text = Shared::<5, _>::from_text(rt.alloc(), "aé")?;
     let clone = text.up(&rt);
     assert_eq!(rt; (clone.as_str(), clone.look().0), ("aé", Some(2)));
+    Ok(())
+}
+
+#[test]
+fn shared_try_up(rt: HostRuntime) -> Result<(), Fail> {
+    let text = Shared::<5, _>::from_text(rt.alloc(), "aé")?;
+    let clone = text.try_up(1);
+    assert_eq!(rt; text.look().0, Some(2));
+    assert!(rt; clone.is_some_and(|clone| clone.as_str() == "aé"));
     Ok(())
 }
 

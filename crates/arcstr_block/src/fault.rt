@@ -11,7 +11,8 @@ mod to_io;
 /// The least number of bytes that is too long for a block.
 pub(crate) const TOO_LONG: usize = (1 << 63) - 25;
 
-/// Why a text cannot be had. It is plain data of 16 bytes, and prints what is wrong.
+/// Why a text cannot be had. It is plain data of 16 bytes, and prints what is wrong. By `?` it becomes an `io::Error` and an
+/// `anyhow::Error`.
 ///
 /// ```
 /// let made = Shared::<5, _>::init(rt.alloc(), 3, |bytes| bytes[2] = 255);

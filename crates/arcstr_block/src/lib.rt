@@ -6,6 +6,7 @@
 
 pub use fault::TextFault;
 pub use fixed::Fixed;
+pub use joining::joined_len;
 pub use owed::{Down, Owed};
 pub use seen::Seen;
 pub use shared::Shared;
@@ -15,6 +16,7 @@ mod block;
 mod examples;
 mod fault;
 mod fixed;
+mod joining;
 mod making;
 mod owed;
 mod pointer;

@@ -111,7 +111,7 @@ impl<const LIMIT: u64, A: Allocator + Copy> Shared<LIMIT, A> {
 }
 
 /// The memory of a new block, whose word says one handle, and the places of its bytes.
-fn blank_block<A: Allocator + Copy>(
+pub(crate) fn blank_block<A: Allocator + Copy>(
     alloc: A,
     len: usize,
 ) -> Result<(Blank<A>, Slots<u8>), TextFault>

@@ -189,14 +189,10 @@ impl<const LIMIT: u64, A: Allocator + Copy> Shared<LIMIT, A> {
         ensures block { result.block ≡ self.now.block }
         ensures limit { result.limit ≡ LIMIT }
     {
-        let (found, gained) = self.handle.pointer.find(place_of_word(self.handle.len));
-        if marked(found) {
-            return Shared {
-                handle: self.handle.beside(gained),
-            };
-        }
-        gained.forget();
-        let mut old = found;
+        let mut old = match self.handle.find() {
+            Ok(handle) => return Shared { handle },
+            Err(found) => found,
+        };
         for _ in rt.forever() {
             match self.handle.exchange(old) {
                 Ok(handle) => return Shared { handle },
@@ -204,6 +200,33 @@ impl<const LIMIT: u64, A: Allocator + Copy> Shared<LIMIT, A> {
             }
         }
         unreachable!()
+    }
+
+    /// Another handle, as `up` makes it, with at most `tries` compare-exchanges, so that the call never waits. `None` where each
+    /// of them found the word changed since the load or the exchange before it; then nothing is changed. It takes no memory.
+    ///
+    /// ```
+    /// let text = Shared::<5, _>::from_text(rt.alloc(), "aé")?;
+    /// let clone = text.try_up(1);
+    /// assert_eq!(rt; text.look().0, Some(2));
+    /// assert!(rt; clone.is_some_and(|clone| clone.as_str() == "aé"));
+    /// ```
+    pub fn try_up(&self, tries: u32) -> Option<Shared<LIMIT, A>>
+        ensures text { IfSome result (λ clone. clone.text ≡ self.now.text) }
+        ensures block { IfSome result (λ clone. clone.block ≡ self.now.block) }
+        ensures limit { IfSome result (λ clone. clone.limit ≡ LIMIT) }
+    {
+        let mut old = match self.handle.find() {
+            Ok(handle) => return Some(Shared { handle }),
+            Err(found) => found,
+        };
+        for _ in 0..tries {
+            match self.handle.exchange(old) {
+                Ok(handle) => return Some(Shared { handle }),
+                Err(found) => old = found,
+            }
+        }
+        None
     }
 
     /// The law that two handles on one block have two seats in its history. It hands both back, in their order, and takes no
@@ -318,6 +341,21 @@ impl<const LIMIT: u64, A: Allocator + Copy> Shared<LIMIT, A> {
 
 impl<const LIMIT: u64, A: Allocator + Copy> Counted<LIMIT, A> {
     ghost use Rattle.arcstr_block.specs.Same.{IsSameBlock, IsCloneOf};
+
+    /// The load of a clone: another handle where it finds the mark, else the unmarked word that was found.
+    fn find(&self) -> Result<Counted<LIMIT, A>, u64>
+        ensures clone { IfOk result (λ clone. IsCloneOf clone.pointer self.now.pointer) }
+        ensures unmarked { IfErr result IsUnmarked }
+        ensures word { IfErr result (IsWord LIMIT) }
+    {
+        let (found, gained) = self.pointer.find(place_of_word(self.len));
+        if marked(found) {
+            Ok(self.beside(gained))
+        } else {
+            gained.forget();
+            Err(found)
+        }
+    }
 
     /// One try of a clone from the unmarked word `old`: another handle, or the unmarked word that was found.
     fn exchange(&self, old: u64) -> Result<Counted<LIMIT, A>, u64>

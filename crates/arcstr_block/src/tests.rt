@@ -294,6 +294,19 @@ fn a_limit_marks_the_block(rt: HostRuntime) -> Result<(), Fail> {
 }
 
 #[test]
+fn a_clone_of_few_tries_counts_marks_and_gives_up(rt: HostRuntime) -> Result<(), Fail> {
+    let text = Shared::<1, _>::from_text(rt.alloc(), "aé")?;
+    assert!(rt; text.try_up(0).is_none());
+    assert_eq!(rt; text.look().0, Some(1));
+    let second = text.try_up(1);
+    assert_eq!(rt; (second.is_some(), text.look().0), (true, Some(2)));
+    assert!(rt; text.try_up(1).is_some());
+    assert_eq!(rt; text.look().0, None);
+    assert!(rt; text.try_up(0).is_some());
+    Ok(())
+}
+
+#[test]
 fn a_mark_keeps_the_block(rt: HostRuntime) -> Result<(), Fail> {
     let heap = LocalHeap::new(rt.alloc(), 4096)?;
     assert_eq!(rt; used_after::<5, _>(&rt, &heap, true)? > 0, true);

@@ -1,6 +1,5 @@
-//! Requests for memory of a run, and of a world's steps, refused in turn.
+//! Allocations of a world's steps, refused in turn.
 use crate::faults::RunFault;
-use crate::runs::run;
 use crate::steps::{Reply, Step};
 use crate::worlds::World;
 use linked_list_allocator::LocalHeap;
@@ -49,29 +48,6 @@ const REPLIES: [Reply; 14] = [
     Reply::Count(4),
     Reply::Count(1),
 ];
-
-/// On heaps with more and more room each request that wants more than those before it is once the first
-/// that is refused.
-#[test]
-fn a_run_answers_or_is_out_of_memory(rt: HostRuntime) -> Result<(), Fail> {
-    let mut answered = false;
-    for grains in 1..GRAINS {
-        let heap = LocalHeap::new(rt.alloc(), grains * GRAIN)?;
-        match run(&heap, LIMIT, &STEPS) {
-            Ok(replies) => {
-                assert_eq!(rt; replies.as_slice(), REPLIES.as_slice());
-                answered = true;
-            }
-            Err(fault) => {
-                assert_eq!(rt; fault, RunFault::Memory);
-                assert!(rt; !answered, "{grains}");
-            }
-        }
-        assert_eq!(rt; heap.used(), 0);
-    }
-    assert!(rt; answered);
-    Ok(())
-}
 
 /// A step that was refused: its place in the list, and whether one of the two tables had grown for it.
 #[derive(Clone, Copy, Debug, PartialEq, Eq)]

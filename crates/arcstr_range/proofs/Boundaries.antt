@@ -8,7 +8,7 @@ use Rattle.std.proofs.lemmas.Str.{IsUtf8-take, IsUtf8-between, chars-append, enc
 use Rattle.arcstr_range.specs.Text.{IsFrontLength, SpellsBetween, cut}
 
 -- the characters after a front are characters
-scalars-rest : (front rest : List ℕ) → all_scalars (front ++ rest) ≡ true → all_scalars rest ≡ true
+pub scalars-rest : (front rest : List ℕ) → all_scalars (front ++ rest) ≡ true → all_scalars rest ≡ true
 scalars-rest [] rest h = h
 scalars-rest (c ∷ front) rest h = scalars-rest front rest (grind arith)
 

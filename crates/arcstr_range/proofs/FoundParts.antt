@@ -1,5 +1,5 @@
 -- Parts and trims of a view are found wherever the view is found.
-use Rattle.std.proofs.Common.{◌≡◌, ℕ, zero, suc, ◌+◌, ◌-◌, ◌<◌, ◌≤◌, ◌⊎◌, inl, inr, List, [], length, get_or, take, drop, refl, sym, ap, subst, ◌∙◌, arith}
+use Rattle.std.proofs.Common.{◌≡◌, ℕ, ◌+◌, ◌-◌, ◌<◌, ◌≤◌, ◌⊎◌, inl, inr, List, [], length, get_or, take, drop, refl, sym, ap, subst, ◌∙◌, arith}
 use Rattle.std.specs.Prelude.{◌++◌, encode_utf8_all}
 use Rattle.std.specs.Str.{IsUtf8, IsCharBoundary, chars, trim_end, trim_start}
 use Rattle.std.proofs.lemmas.Bool.{cases_lt}

@@ -1,4 +1,5 @@
 pub mod Ends
+pub mod Pieces
 pub mod RangeFault
 pub mod Substring
 pub mod Text

@@ -135,3 +135,111 @@ fn str_view_is_found_in(rt: HostRuntime) {
     assert!(rt; word.is_found_in("  abc"));
     assert!(rt; !word.is_found_in("abc"));
 }
+
+#[test]
+fn str_view_split_at(rt: HostRuntime) -> Result<(), Fail> {
+    let (name, rest) = StrView::whole("ab=c").split_at(2).ok_or("no place")?;
+    assert_eq!(rt; name.text(), "ab");
+    assert_eq!(rt; (rest.text(), rest.place()), ("=c", 2));
+    assert!(rt; StrView::whole("é").split_at(1).is_none());
+    Ok(())
+}
+
+#[test]
+fn str_view_split_once(rt: HostRuntime) -> Result<(), Fail> {
+    let (name, value) = StrView::whole("a=b=c").split_once('=').ok_or("no `=`")?;
+    assert_eq!(rt; name.text(), "a");
+    assert_eq!(rt; (value.text(), value.place()), ("b=c", 2));
+    assert!(rt; StrView::whole("a=b").split_once("==").is_none());
+    Ok(())
+}
+
+#[test]
+fn str_view_rsplit_once(rt: HostRuntime) -> Result<(), Fail> {
+    let path = StrView::whole("a::b::c");
+    let (crate_path, name) = path.rsplit_once("::").ok_or("no `::`")?;
+    assert_eq!(rt; crate_path.text(), "a::b");
+    assert_eq!(rt; (name.text(), name.place()), ("c", 6));
+    Ok(())
+}
+
+#[test]
+fn str_view_strip_prefix(rt: HostRuntime) -> Result<(), Fail> {
+    let option = StrView::whole("--all");
+    let name = option.strip_prefix("--").ok_or("no `--`")?;
+    assert_eq!(rt; (name.text(), name.place()), ("all", 2));
+    assert!(rt; name.strip_prefix('-').is_none());
+    Ok(())
+}
+
+#[test]
+fn str_view_strip_suffix(rt: HostRuntime) -> Result<(), Fail> {
+    let text = StrView::whole("ab\r\n");
+    let line = text.strip_suffix("\r\n").ok_or("no end")?;
+    assert_eq!(rt; (line.text(), line.place()), ("ab", 0));
+    assert!(rt; line.strip_suffix('\n').is_none());
+    Ok(())
+}
+
+#[test]
+fn str_view_find(rt: HostRuntime) -> Result<(), Fail> {
+    let line = StrView::at("key = é", 10).ok_or("no view")?;
+    assert_eq!(rt; line.find('é'), Some(6));
+    assert_eq!(rt; line.find(" ="), Some(3));
+    assert_eq!(rt; line.find(':'), None);
+    Ok(())
+}
+
+#[test]
+fn str_view_split(rt: HostRuntime) -> Result<(), Fail> {
+    let part = StrView::whole("a,,").split(',').last();
+    let last = part.ok_or("no part")?;
+    assert_eq!(rt; (last.text(), last.range()), ("", 3..3));
+    Ok(())
+}
+
+#[test]
+fn split(rt: HostRuntime) -> Result<(), Fail> {
+    let mut parts = StrView::at("é=1", 4).ok_or("no view")?.split('=');
+    let name = parts.next().ok_or("no part")?;
+    assert_eq!(rt; (name.text(), name.range()), ("é", 4..6));
+    let value = parts.next().ok_or("no part")?;
+    assert_eq!(rt; (value.text(), value.range()), ("1", 7..8));
+    Ok(())
+}
+
+#[test]
+fn str_view_lines(rt: HostRuntime) -> Result<(), Fail> {
+    let line = StrView::whole("a\n\nb").lines().last();
+    let last = line.ok_or("no line")?;
+    assert_eq!(rt; (last.text(), last.range()), ("b", 3..4));
+    Ok(())
+}
+
+#[test]
+fn lines(rt: HostRuntime) -> Result<(), Fail> {
+    let mut lines = StrView::at("é\r\nb", 4).ok_or("no view")?.lines();
+    let first = lines.next().ok_or("no line")?;
+    assert_eq!(rt; (first.text(), first.range()), ("é", 4..6));
+    let second = lines.next().ok_or("no line")?;
+    assert_eq!(rt; (second.text(), second.range()), ("b", 8..9));
+    Ok(())
+}
+
+#[test]
+fn str_view_split_whitespace(rt: HostRuntime) -> Result<(), Fail> {
+    let word = StrView::whole(" a  b ").split_whitespace().last();
+    let last = word.ok_or("no word")?;
+    assert_eq!(rt; (last.text(), last.range()), ("b", 4..5));
+    Ok(())
+}
+
+#[test]
+fn split_whitespace(rt: HostRuntime) -> Result<(), Fail> {
+    let view = StrView::at("é\u{3000}b", 4).ok_or("no view")?;
+    let mut words = view.split_whitespace();
+    let first = words.next().ok_or("no word")?;
+    let second = words.next().ok_or("no word")?;
+    assert_eq!(rt; (first.range(), second.range()), (4..6, 9..10));
+    Ok(())
+}

@@ -5,6 +5,12 @@ ghost use Rattle.arcstr_range.specs.Ends.{IsSliceable};
 ghost use Rattle.arcstr_range.specs.Trim.{Trims, TrimsEnd, TrimsStart};
 ghost use Rattle.arcstr_range.specs.View.{IsFoundAt, end_of, part_of, view_at};
 
+mod between;
+mod find;
+pub mod lines;
+pub mod split;
+pub mod words;
+
 use crate::range::{StrRange, checked_ends, slice};
 use std::marker::Model;
 use std::ops::Range;
@@ -217,5 +223,6 @@ impl<'a> StrView<'a> {
     }
 }
 
+mod parts;
 #[cfg(test)]
 mod tests;

@@ -2,129 +2,118 @@
 
 use crate::machine::Machine;
 use crate::requests::Request;
-use crate::rounds;
 use crate::rounds::Unit;
 use crate::texts::{handles, letters};
+use crate::{families, rounds};
 use anyhow::Result;
 use arcstr::{ArcStr, Substr, literal};
+use std::alloc::AllocError;
 use std::sync::Wait;
 use std::thread;
+use std::time::Instant;
 
-/// Times the figure if it is one of these, and says whether it is.
-pub(crate) fn run<M: Machine>(rt: &M, request: &Request) -> Result<bool> {
-    match request.figure {
-        "clone_drop" => of_one_text(rt, request)?,
-        "clone_drop_bare" => of_one_text_unread(rt, request)?,
-        "clone_drop_slice" => of_a_slice(rt, request)?,
-        "clone_drop_contended" => in_threads(rt, request)?,
-        "clone_drop_contended_bare" => in_threads_unread(rt, request)?,
-        "clone_drop_literal" => {
-            of_handles(
-                rt,
-                request,
-                &literal!("a literal text, in read-only memory"),
-            )?;
-        }
-        "clone_drop_empty" => of_handles(rt, request, &ArcStr::new())?,
-        "clone_drop_fixed" => of_fixed_handles(rt, request)?,
-        "clone_drop_marked" => of_marked_handles(rt, request)?,
-        _ => return Ok(false),
+/// What a round clones.
+#[derive(Drop)]
+enum Clones {
+    OfText(ArcStr, Look),
+    OfSlice(Substr),
+    InThreads(ArcStr, Look),
+    /// Handles in turn.
+    OfHandles(Vec<ArcStr>),
+}
+
+/// What is read of a clone before it is dropped.
+#[derive(Clone, Copy)]
+enum Look {
+    Length,
+    Nothing,
+}
+
+/// Times a figure of this family. A round may start threads, so it is no `Round`.
+pub(crate) fn run<M: Machine>(rt: &M, request: &Request) -> Result<()> {
+    let prepared = prepare(rt, request)?;
+    for _ in 0..request.rounds {
+        let start = Instant::now(rt)?;
+        let sum = prepared.once(rt, request)?;
+        rounds::finish(rt, request, Unit::Operation, start, sum)?;
     }
-    Ok(true)
+    Ok(())
 }
 
-fn text_of<M: Machine>(rt: &M, request: &Request) -> Result<ArcStr> {
+fn prepare<M: Machine>(rt: &M, request: &Request) -> Result<Clones> {
     let text = letters(rt.alloc(), request.size, request.size)?;
-    Ok(ArcStr::from_str(rt.alloc(), text.as_str())?)
+    let text = ArcStr::from_str(rt.alloc(), text.as_str())?;
+    match request.figure {
+        "clone_drop" => Ok(Clones::OfText(text, Look::Length)),
+        "clone_drop_bare" => Ok(Clones::OfText(text, Look::Nothing)),
+        "clone_drop_slice" => Ok(Clones::OfSlice(Substr::full(text))),
+        "clone_drop_contended" => Ok(Clones::InThreads(text, Look::Length)),
+        "clone_drop_contended_bare" => Ok(Clones::InThreads(text, Look::Nothing)),
+        _ => Ok(Clones::OfHandles(prepare_handles(rt, request.figure, text)?)),
+    }
 }
 
-fn of_one_text<M: Machine>(rt: &M, request: &Request) -> Result<()> {
-    let text = text_of(rt, request)?;
-    rounds::run(
-        rt,
-        request,
-        Unit::Operation,
-        || Ok(clones(rt, &text, request.operations)),
-    )
+/// Eight handles of the kind that the figure names.
+fn prepare_handles<M: Machine>(rt: &M, figure: &str, text: ArcStr) -> Result<Vec<ArcStr>> {
+    let one = match figure {
+        "clone_drop_literal" => literal!("a literal text, in read-only memory"),
+        "clone_drop_empty" => ArcStr::new(),
+        "clone_drop_fixed" => text.leak().to_arc_str(),
+        "clone_drop_marked" => return marked_handles(rt, text),
+        _ => return families::no_figure(),
+    };
+    Ok(handles(rt, rt.alloc(), &one, 8)?)
 }
 
-fn of_one_text_unread<M: Machine>(rt: &M, request: &Request) -> Result<()> {
-    let text = text_of(rt, request)?;
-    rounds::run(
-        rt,
-        request,
-        Unit::Operation,
-        || Ok(unread_clones(rt, &text, request.operations)),
-    )
-}
-
-fn of_a_slice<M: Machine>(rt: &M, request: &Request) -> Result<()> {
-    let slice = Substr::full(text_of(rt, request)?);
-    rounds::run(
-        rt,
-        request,
-        Unit::Operation,
-        || Ok(slice_clones(rt, &slice, request.operations)),
-    )
-}
-
-fn in_threads<M: Machine>(rt: &M, request: &Request) -> Result<()> {
-    let text = text_of(rt, request)?;
-    rounds::run(rt, request, Unit::Operation, || {
-        let sums = thread::map_indices(
-            rt,
-            rt.alloc(),
-            request.threads,
-            &|_| { clones(rt, &text, request.operations) },
-        )?;
-        Ok(sums.iter().fold(0, |sum: usize, it| sum.wrapping_add(*it)))
-    })
-}
-
-fn in_threads_unread<M: Machine>(rt: &M, request: &Request) -> Result<()> {
-    let text = text_of(rt, request)?;
-    rounds::run(rt, request, Unit::Operation, || {
-        let sums = thread::map_indices(
-            rt,
-            rt.alloc(),
-            request.threads,
-            &|_| { unread_clones(rt, &text, request.operations) },
-        )?;
-        Ok(sums.iter().fold(0, |sum: usize, it| sum.wrapping_add(*it)))
-    })
-}
-
-/// Clones of 8 handles on one text, in turn.
-fn of_handles<M: Machine>(rt: &M, request: &Request, text: &ArcStr) -> Result<()> {
-    let all = handles(rt, rt.alloc(), text, 8)?;
-    rounds::run(
-        rt,
-        request,
-        Unit::Operation,
-        || Ok(clones_of(rt, &all, request.operations / 8)),
-    )
-}
-
-fn of_fixed_handles<M: Machine>(rt: &M, request: &Request) -> Result<()> {
-    let kept = text_of(rt, request)?.leak();
-    of_handles(rt, request, &kept.to_arc_str())
-}
-
-/// Handles that were counted before their block was marked.
-fn of_marked_handles<M: Machine>(rt: &M, request: &Request) -> Result<()> {
-    let text = text_of(rt, request)?;
+/// Eight handles that were counted before their block was marked.
+fn marked_handles<M: Machine>(rt: &M, text: ArcStr) -> Result<Vec<ArcStr>> {
     let all = handles(rt, rt.alloc(), &text, 8)?;
     let _ = text.leak();
-    rounds::run(
-        rt,
-        request,
-        Unit::Operation,
-        || Ok(clones_of(rt, &all, request.operations / 8)),
-    )
+    Ok(all)
 }
 
-/// Clones a text so many times, reads the length of each clone, and drops it.
-fn clones<R: Wait>(rt: &R, text: &ArcStr, operations: usize) -> usize {
+impl Clones {
+    /// Does one round, and returns the sum of what its operations returned.
+    fn once<M: Machine>(&self, rt: &M, request: &Request) -> Result<usize, AllocError> {
+        let operations = request.operations;
+        match self {
+            Clones::OfText(text, look) => Ok(clone_text(rt, text, *look, operations)),
+            Clones::OfSlice(slice) => Ok(clone_slice(rt, slice, operations)),
+            Clones::InThreads(text, look) => clone_in_threads(rt, request, text, *look),
+            Clones::OfHandles(all) => Ok(clone_each(rt, all, operations / 8)),
+        }
+    }
+}
+
+/// The sum of what each thread of the request finds of its clones of the text.
+fn clone_in_threads<M: Machine>(
+    rt: &M,
+    request: &Request,
+    text: &ArcStr,
+    look: Look,
+) -> Result<usize, AllocError> {
+    let sums = thread::map_indices(
+        rt,
+        rt.alloc(),
+        request.threads,
+        &|_| { clone_text(rt, text, look, request.operations) },
+    )?;
+    let mut sum = 0usize;
+    for it in sums {
+        sum = sum.wrapping_add(it);
+    }
+    Ok(sum)
+}
+
+fn clone_text<R: Wait>(rt: &R, text: &ArcStr, look: Look, operations: usize) -> usize {
+    match look {
+        Look::Length => clone_and_read(rt, text, operations),
+        Look::Nothing => clone_unread(rt, text, operations),
+    }
+}
+
+/// Clones a text, reads the length of each clone, and drops it.
+fn clone_and_read<R: Wait>(rt: &R, text: &ArcStr, operations: usize) -> usize {
     let mut sum = 0usize;
     for _ in 0..operations {
         sum = sum.wrapping_add(text.clone(rt).len());
@@ -132,15 +121,15 @@ fn clones<R: Wait>(rt: &R, text: &ArcStr, operations: usize) -> usize {
     sum
 }
 
-/// Clones a text so many times, and drops each clone unread.
-fn unread_clones<R: Wait>(rt: &R, text: &ArcStr, operations: usize) -> usize {
+/// Clones a text, and drops each clone unread.
+fn clone_unread<R: Wait>(rt: &R, text: &ArcStr, operations: usize) -> usize {
     for _ in 0..operations {
         drop(text.clone(rt));
     }
     operations
 }
 
-fn slice_clones<R: Wait>(rt: &R, slice: &Substr, operations: usize) -> usize {
+fn clone_slice<R: Wait>(rt: &R, slice: &Substr, operations: usize) -> usize {
     let mut sum = 0usize;
     for _ in 0..operations {
         sum = sum.wrapping_add(slice.clone(rt).len());
@@ -148,8 +137,8 @@ fn slice_clones<R: Wait>(rt: &R, slice: &Substr, operations: usize) -> usize {
     sum
 }
 
-/// Clones each of the texts in turn, so many times over.
-fn clones_of<R: Wait>(rt: &R, all: &[ArcStr], times: usize) -> usize {
+/// Clones each of the texts in turn.
+fn clone_each<R: Wait>(rt: &R, all: &[ArcStr], times: usize) -> usize {
     let mut sum = 0usize;
     for _ in 0..times {
         for text in all {

@@ -2,42 +2,54 @@
 
 use crate::machine::Machine;
 use crate::requests::Request;
-use crate::rounds;
-use crate::rounds::Unit;
+use crate::rounds::{Round, Unit};
 use crate::texts::{letters, many};
+use crate::{families, rounds};
 use anyhow::Result;
 use arcstr::ArcStr;
+use std::alloc::AllocError;
 use std::cmp::Ordering;
 use std::hash::{DefaultHasher, Hash, Hasher};
 
-/// Times the figure if it is one of these, and says whether it is: 8 texts in blocks of their own beside one more.
-pub(crate) fn run<M: Machine>(rt: &M, request: &Request) -> Result<bool> {
+/// What a round compares or hashes: 8 texts in blocks of their own, beside one more.
+#[derive(Drop)]
+enum Comparisons {
+    Equal(Vec<ArcStr>, ArcStr),
+    Ordered(Vec<ArcStr>, ArcStr),
+    Hashed(Vec<ArcStr>),
+}
+
+/// Times a figure of this family.
+pub(crate) fn run<M: Machine>(rt: &M, request: &Request) -> Result<()> {
+    rounds::run(rt, request, Unit::Operation, &prepare(rt, request)?)
+}
+
+fn prepare<M: Machine>(rt: &M, request: &Request) -> Result<Comparisons> {
     let text = letters(rt.alloc(), request.size, request.size)?;
     let one = ArcStr::from_str(rt.alloc(), text.as_str())?;
     let others = letters(rt.alloc(), request.size, request.place)?;
     let all = many(rt.alloc(), others.as_str(), 8)?;
-    let times = request.operations / 8;
     match request.figure {
-        "eq" => rounds::run(
-            rt,
-            request,
-            Unit::Operation,
-            || Ok(equal(&all, &one, times)),
-        )?,
-        "cmp" => rounds::run(
-            rt,
-            request,
-            Unit::Operation,
-            || Ok(compared(&all, &one, times)),
-        )?,
-        "hash" => rounds::run(rt, request, Unit::Operation, || Ok(hashes(&all, times)))?,
-        _ => return Ok(false),
+        "eq" => Ok(Comparisons::Equal(all, one)),
+        "cmp" => Ok(Comparisons::Ordered(all, one)),
+        "hash" => Ok(Comparisons::Hashed(all)),
+        _ => families::no_figure(),
     }
-    Ok(true)
+}
+
+impl Round for Comparisons {
+    fn once<M: Machine>(&self, _rt: &M, request: &Request) -> Result<usize, AllocError> {
+        let times = request.operations / 8;
+        Ok(match self {
+            Comparisons::Equal(all, one) => count_equal(all, one, times),
+            Comparisons::Ordered(all, one) => add_orders(all, one, times),
+            Comparisons::Hashed(all) => add_hashes(all, times),
+        })
+    }
 }
 
 /// How often one of the texts is the one.
-fn equal(all: &[ArcStr], one: &ArcStr, times: usize) -> usize {
+fn count_equal(all: &[ArcStr], one: &ArcStr, times: usize) -> usize {
     let mut sum = 0usize;
     for _ in 0..times {
         for text in all {
@@ -50,7 +62,7 @@ fn equal(all: &[ArcStr], one: &ArcStr, times: usize) -> usize {
 }
 
 /// The sum of 1 for each text that comes before the one, 2 for each that is it, and 3 for each after it.
-fn compared(all: &[ArcStr], one: &ArcStr, times: usize) -> usize {
+fn add_orders(all: &[ArcStr], one: &ArcStr, times: usize) -> usize {
     let mut sum = 0usize;
     for _ in 0..times {
         for text in all {
@@ -64,7 +76,7 @@ fn compared(all: &[ArcStr], one: &ArcStr, times: usize) -> usize {
     sum
 }
 
-fn hashes(all: &[ArcStr], times: usize) -> usize {
+fn add_hashes(all: &[ArcStr], times: usize) -> usize {
     let mut sum = 0usize;
     for _ in 0..times {
         for text in all {

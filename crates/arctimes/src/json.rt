@@ -2,35 +2,44 @@
 
 use crate::machine::Machine;
 use crate::requests::Request;
-use crate::rounds;
-use crate::rounds::Unit;
+use crate::rounds::{Round, Unit};
 use crate::texts::{letters, many};
+use crate::{families, rounds};
 use anyhow::Result;
 use arcstr::ArcStr;
 use serde_json::Value;
 use std::alloc::{AllocError, Global};
 
-/// Times the figure if it is one of these, and says whether it is.
-pub(crate) fn run<M: Machine>(rt: &M, request: &Request) -> Result<bool> {
+/// What a round turns into JSON, or makes texts of: 8 texts, or their JSON strings.
+#[derive(Drop)]
+enum Json {
+    To(Vec<ArcStr>),
+    From(Vec<Value>),
+}
+
+/// Times a figure of this family.
+pub(crate) fn run<M: Machine>(rt: &M, request: &Request) -> Result<()> {
+    rounds::run(rt, request, Unit::Operation, &prepare(rt, request)?)
+}
+
+fn prepare<M: Machine>(rt: &M, request: &Request) -> Result<Json> {
     let text = letters(rt.alloc(), request.size, request.place)?;
     let all = many(rt.alloc(), text.as_str(), 8)?;
-    let times = request.operations / 8;
     match request.figure {
-        "to_json" => rounds::run(rt, request, Unit::Operation, || {
-            Ok(written(rt.alloc(), &all, times))
-        })?,
-        "from_json" => {
-            let values = values_of(rt.alloc(), &all)?;
-            rounds::run(
-                rt,
-                request,
-                Unit::Operation,
-                || Ok(read(rt.alloc(), &values, times)),
-            )?;
-        }
-        _ => return Ok(false),
+        "to_json" => Ok(Json::To(all)),
+        "from_json" => Ok(Json::From(values_of(rt.alloc(), &all)?)),
+        _ => families::no_figure(),
     }
-    Ok(true)
+}
+
+impl Round for Json {
+    fn once<M: Machine>(&self, rt: &M, request: &Request) -> Result<usize, AllocError> {
+        let times = request.operations / 8;
+        Ok(match self {
+            Json::To(all) => write_values(rt.alloc(), all, times),
+            Json::From(values) => read_values(rt.alloc(), values, times),
+        })
+    }
 }
 
 fn values_of(alloc: Global, texts: &[ArcStr]) -> Result<Vec<Value>, AllocError> {
@@ -41,7 +50,7 @@ fn values_of(alloc: Global, texts: &[ArcStr]) -> Result<Vec<Value>, AllocError> 
     Ok(values)
 }
 
-fn written(alloc: Global, all: &[ArcStr], times: usize) -> usize {
+fn write_values(alloc: Global, all: &[ArcStr], times: usize) -> usize {
     let mut sum = 0usize;
     for _ in 0..times {
         for text in all {
@@ -53,7 +62,7 @@ fn written(alloc: Global, all: &[ArcStr], times: usize) -> usize {
     sum
 }
 
-fn read(alloc: Global, all: &[Value], times: usize) -> usize {
+fn read_values(alloc: Global, all: &[Value], times: usize) -> usize {
     let mut sum = 0usize;
     for _ in 0..times {
         for value in all {

@@ -2,50 +2,55 @@
 
 use crate::machine::Machine;
 use crate::requests::Request;
-use crate::rounds;
-use crate::rounds::Unit;
+use crate::rounds::{Round, Unit};
 use crate::texts::letters;
+use crate::{families, rounds};
 use anyhow::Result;
 use arcstr::{ArcStr, Substr};
 use std::alloc::{AllocError, Global};
 use std::sync::Wait;
 
-/// Times the figure if it is one of these, and says whether it is.
-pub(crate) fn run<M: Machine>(rt: &M, request: &Request) -> Result<bool> {
-    let text = letters(rt.alloc(), request.size, request.size)?;
-    let text = text.as_str();
-    let count = request.operations;
-    match request.figure {
-        "keep" => rounds::run(
-            rt,
-            request,
-            Unit::Operation,
-            || texts(rt.alloc(), text, count),
-        )?,
-        "keep_clones" => {
-            let one = ArcStr::from_str(rt.alloc(), text)?;
-            rounds::run(
-                rt,
-                request,
-                Unit::Operation,
-                || clones(rt, rt.alloc(), &one, count),
-            )?;
-        }
-        "keep_slices" => {
-            let whole = Substr::full(ArcStr::from_str(rt.alloc(), text)?);
-            rounds::run(
-                rt,
-                request,
-                Unit::Operation,
-                || slices(rt, rt.alloc(), &whole, count),
-            )?;
-        }
-        _ => return Ok(false),
-    }
-    Ok(true)
+/// What a round keeps many of.
+#[derive(Drop)]
+enum Kept {
+    /// Texts in blocks of their own.
+    Texts(String),
+    /// Clones of one text.
+    Clones(ArcStr),
+    /// Clones of one slice.
+    Slices(Substr),
 }
 
-fn texts(alloc: Global, text: &str, count: usize) -> Result<usize, AllocError> {
+/// Times a figure of this family.
+pub(crate) fn run<M: Machine>(rt: &M, request: &Request) -> Result<()> {
+    rounds::run(rt, request, Unit::Operation, &prepare(rt, request)?)
+}
+
+fn prepare<M: Machine>(rt: &M, request: &Request) -> Result<Kept> {
+    let text = letters(rt.alloc(), request.size, request.size)?;
+    match request.figure {
+        "keep" => Ok(Kept::Texts(text)),
+        "keep_clones" => Ok(Kept::Clones(ArcStr::from_str(rt.alloc(), text.as_str())?)),
+        "keep_slices" => {
+            let text = ArcStr::from_str(rt.alloc(), text.as_str())?;
+            Ok(Kept::Slices(Substr::full(text)))
+        }
+        _ => families::no_figure(),
+    }
+}
+
+impl Round for Kept {
+    fn once<M: Machine>(&self, rt: &M, request: &Request) -> Result<usize, AllocError> {
+        let (alloc, count) = (rt.alloc(), request.operations);
+        match self {
+            Kept::Texts(text) => keep_texts(alloc, text.as_str(), count),
+            Kept::Clones(one) => keep_clones(rt, alloc, one, count),
+            Kept::Slices(whole) => keep_slices(rt, alloc, whole, count),
+        }
+    }
+}
+
+fn keep_texts(alloc: Global, text: &str, count: usize) -> Result<usize, AllocError> {
     let mut kept = Vec::with_capacity(alloc, count)?;
     for _ in 0..count {
         if let Ok(made) = ArcStr::from_str(alloc, text) {
@@ -55,7 +60,12 @@ fn texts(alloc: Global, text: &str, count: usize) -> Result<usize, AllocError> {
     Ok(kept.len())
 }
 
-fn clones<R: Wait>(rt: &R, alloc: Global, one: &ArcStr, count: usize) -> Result<usize, AllocError> {
+fn keep_clones<R: Wait>(
+    rt: &R,
+    alloc: Global,
+    one: &ArcStr,
+    count: usize,
+) -> Result<usize, AllocError> {
     let mut kept = Vec::with_capacity(alloc, count)?;
     for _ in 0..count {
         kept.push(one.clone(rt))?;
@@ -63,7 +73,7 @@ fn clones<R: Wait>(rt: &R, alloc: Global, one: &ArcStr, count: usize) -> Result<
     Ok(kept.len())
 }
 
-fn slices<R: Wait>(
+fn keep_slices<R: Wait>(
     rt: &R,
     alloc: Global,
     whole: &Substr,

@@ -2,27 +2,47 @@
 
 use crate::machine::Machine;
 use crate::requests::Request;
-use crate::rounds;
-use crate::rounds::Unit;
+use crate::rounds::{Round, Unit};
 use crate::texts::{letters, many};
+use crate::{families, rounds};
 use anyhow::Result;
 use arcstr::ArcStr;
+use std::alloc::AllocError;
 
-/// Times the figure if it is one of these, and says whether it is: over 8 texts in blocks of their own.
-pub(crate) fn run<M: Machine>(rt: &M, request: &Request) -> Result<bool> {
+/// What a round looks for, in 8 texts in blocks of their own.
+#[derive(Drop)]
+enum Looks {
+    Counts(Vec<ArcStr>),
+    Marks(Vec<ArcStr>),
+}
+
+/// Times a figure of this family.
+pub(crate) fn run<M: Machine>(rt: &M, request: &Request) -> Result<()> {
+    rounds::run(rt, request, Unit::Operation, &prepare(rt, request)?)
+}
+
+fn prepare<M: Machine>(rt: &M, request: &Request) -> Result<Looks> {
     let text = letters(rt.alloc(), request.size, request.size)?;
     let all = many(rt.alloc(), text.as_str(), 8)?;
-    let times = request.operations / 8;
     match request.figure {
-        "strong_count" => rounds::run(rt, request, Unit::Operation, || Ok(counts(&all, times)))?,
-        "is_static" => rounds::run(rt, request, Unit::Operation, || Ok(marks(&all, times)))?,
-        _ => return Ok(false),
+        "strong_count" => Ok(Looks::Counts(all)),
+        "is_static" => Ok(Looks::Marks(all)),
+        _ => families::no_figure(),
     }
-    Ok(true)
+}
+
+impl Round for Looks {
+    fn once<M: Machine>(&self, _rt: &M, request: &Request) -> Result<usize, AllocError> {
+        let times = request.operations / 8;
+        Ok(match self {
+            Looks::Counts(all) => add_counts(all, times),
+            Looks::Marks(all) => count_unmarked(all, times),
+        })
+    }
 }
 
 /// The sum of the counts that were found.
-fn counts(all: &[ArcStr], times: usize) -> usize {
+fn add_counts(all: &[ArcStr], times: usize) -> usize {
     let mut sum = 0usize;
     for _ in 0..times {
         for text in all {
@@ -33,7 +53,7 @@ fn counts(all: &[ArcStr], times: usize) -> usize {
 }
 
 /// How often no mark was found.
-fn marks(all: &[ArcStr], times: usize) -> usize {
+fn count_unmarked(all: &[ArcStr], times: usize) -> usize {
     let mut sum = 0usize;
     for _ in 0..times {
         for text in all {

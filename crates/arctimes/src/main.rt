@@ -10,11 +10,13 @@
 
 mod clones;
 mod comparisons;
+mod families;
 mod json;
 mod kept;
 mod looks;
 mod machine;
 mod makings;
+mod parts;
 mod reads;
 mod requests;
 mod rounds;
@@ -24,9 +26,10 @@ mod table;
 mod texts;
 mod words;
 
+use crate::families::Family;
 use crate::machine::Machine;
 use crate::requests::Request;
-use anyhow::{Result, bail};
+use anyhow::Result;
 use std::env;
 
 fn main(rt: HostRuntime) -> Result<()> {
@@ -39,18 +42,17 @@ fn main(rt: HostRuntime) -> Result<()> {
 
 /// Times the figure, whichever family it is of.
 fn run<M: Machine>(rt: &M, request: &Request) -> Result<()> {
-    let found = clones::run(rt, request)?
-        || makings::run(rt, request)?
-        || slices::run(rt, request)?
-        || comparisons::run(rt, request)?
-        || looks::run(rt, request)?
-        || reads::run(rt, request)?
-        || json::run(rt, request)?
-        || words::run(rt, request)?
-        || kept::run(rt, request)?
-        || scripts::run(rt, request)?;
-    if !found {
-        bail!("there is no figure of this name");
+    match families::family_of(request.figure)? {
+        Family::Clones => clones::run(rt, request),
+        Family::Makings => makings::run(rt, request),
+        Family::Slices => slices::run(rt, request),
+        Family::Comparisons => comparisons::run(rt, request),
+        Family::Looks => looks::run(rt, request),
+        Family::Reads => reads::run(rt, request),
+        Family::Json => json::run(rt, request),
+        Family::Words => words::run(rt, request),
+        Family::Kept => kept::run(rt, request),
+        Family::Scripts => scripts::run(rt, request),
+        Family::Parts => parts::run(rt, request),
     }
-    Ok(())
 }

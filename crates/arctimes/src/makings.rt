@@ -2,35 +2,52 @@
 
 use crate::machine::Machine;
 use crate::requests::Request;
-use crate::rounds;
-use crate::rounds::Unit;
+use crate::rounds::{Round, Unit};
 use crate::texts::letters;
+use crate::{families, rounds};
 use anyhow::Result;
 use arcstr::ArcStr;
-use std::alloc::Global;
+use std::alloc::{AllocError, Global};
 
-/// Times the figure if it is one of these, and says whether it is.
-pub(crate) fn run<M: Machine>(rt: &M, request: &Request) -> Result<bool> {
-    let text = letters(rt.alloc(), request.size, request.size)?;
-    let text = text.as_str();
-    let times = request.operations;
-    match request.figure {
-        "make_drop" => rounds::run(rt, request, Unit::Operation, || {
-            Ok(makings(rt.alloc(), text, times))
-        })?,
-        "from_utf8" => rounds::run(rt, request, Unit::Operation, || {
-            Ok(makings_of_bytes(rt.alloc(), text.as_bytes(), times))
-        })?,
-        "repeat" => rounds::run(rt, request, Unit::Operation, || {
-            Ok(repeats(rt.alloc(), request.size, times))
-        })?,
-        _ => return Ok(false),
-    }
-    Ok(true)
+/// What a round makes.
+#[derive(Drop)]
+enum Makings {
+    /// Texts of a string.
+    OfText(String),
+    /// Texts of a string's bytes.
+    OfBytes(String),
+    /// Copies of one letter.
+    Repeats,
 }
 
-/// Makes a text so many times, reads its length, and drops it.
-fn makings(alloc: Global, text: &str, operations: usize) -> usize {
+/// Times a figure of this family.
+pub(crate) fn run<M: Machine>(rt: &M, request: &Request) -> Result<()> {
+    rounds::run(rt, request, Unit::Operation, &prepare(rt, request)?)
+}
+
+fn prepare<M: Machine>(rt: &M, request: &Request) -> Result<Makings> {
+    let text = letters(rt.alloc(), request.size, request.size)?;
+    match request.figure {
+        "make_drop" => Ok(Makings::OfText(text)),
+        "from_utf8" => Ok(Makings::OfBytes(text)),
+        "repeat" => Ok(Makings::Repeats),
+        _ => families::no_figure(),
+    }
+}
+
+impl Round for Makings {
+    fn once<M: Machine>(&self, rt: &M, request: &Request) -> Result<usize, AllocError> {
+        let (alloc, times) = (rt.alloc(), request.operations);
+        Ok(match self {
+            Makings::OfText(text) => make_texts(alloc, text.as_str(), times),
+            Makings::OfBytes(text) => make_of_bytes(alloc, text.as_bytes(), times),
+            Makings::Repeats => repeat_letter(alloc, request.size, times),
+        })
+    }
+}
+
+/// Makes texts, reads the length of each, and drops it.
+fn make_texts(alloc: Global, text: &str, operations: usize) -> usize {
     let mut sum = 0usize;
     for _ in 0..operations {
         if let Ok(made) = ArcStr::from_str(alloc, text) {
@@ -41,7 +58,7 @@ fn makings(alloc: Global, text: &str, operations: usize) -> usize {
 }
 
 /// The same of bytes, which are tested first.
-fn makings_of_bytes(alloc: Global, bytes: &[u8], operations: usize) -> usize {
+fn make_of_bytes(alloc: Global, bytes: &[u8], operations: usize) -> usize {
     let mut sum = 0usize;
     for _ in 0..operations {
         if let Ok(made) = ArcStr::from_utf8(alloc, bytes) {
@@ -51,8 +68,8 @@ fn makings_of_bytes(alloc: Global, bytes: &[u8], operations: usize) -> usize {
     sum
 }
 
-/// The same of so many copies of one letter.
-fn repeats(alloc: Global, copies: usize, operations: usize) -> usize {
+/// The same of copies of one letter.
+fn repeat_letter(alloc: Global, copies: usize, operations: usize) -> usize {
     let mut sum = 0usize;
     for _ in 0..operations {
         if let Ok(made) = ArcStr::repeat(alloc, "x", copies) {

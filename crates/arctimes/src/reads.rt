@@ -2,9 +2,9 @@
 
 use crate::machine::Machine;
 use crate::requests::Request;
-use crate::rounds;
-use crate::rounds::Unit;
+use crate::rounds::{Round, Unit};
 use crate::texts::{many, mixed};
+use crate::{families, rounds};
 use anyhow::Result;
 use arcstr::{ArcStr, Substr};
 use std::alloc::AllocError;
@@ -12,30 +12,38 @@ use std::alloc::AllocError;
 /// The text of each: 16 bytes.
 const TEXT: &str = "0123456789abcdef";
 
-/// Times the figure if it is one of these, and says whether it is.
-pub(crate) fn run<M: Machine>(rt: &M, request: &Request) -> Result<bool> {
-    let times = request.operations / 1000;
+/// What a round reads.
+#[derive(Drop)]
+enum Reads {
+    Lengths(Vec<ArcStr>),
+    LastBytes(Vec<ArcStr>),
+    LastBytesOfSlices(Vec<Substr>),
+}
+
+/// Times a figure of this family.
+pub(crate) fn run<M: Machine>(rt: &M, request: &Request) -> Result<()> {
+    rounds::run(rt, request, Unit::Read, &prepare(rt, request)?)
+}
+
+fn prepare<M: Machine>(rt: &M, request: &Request) -> Result<Reads> {
+    let all = texts_of(rt, request)?;
     match request.figure {
-        "read" => {
-            let all = texts_of(rt, request)?;
-            rounds::run(rt, request, Unit::Read, || Ok(lengths(&all, times)))?;
-        }
-        "read_byte" => {
-            let all = texts_of(rt, request)?;
-            rounds::run(rt, request, Unit::Read, || Ok(last_bytes(&all, times)))?;
-        }
-        "read_slice" => {
-            let all = slices_of(rt, &texts_of(rt, request)?)?;
-            rounds::run(
-                rt,
-                request,
-                Unit::Read,
-                || Ok(last_bytes_of_slices(&all, times)),
-            )?;
-        }
-        _ => return Ok(false),
+        "read" => Ok(Reads::Lengths(all)),
+        "read_byte" => Ok(Reads::LastBytes(all)),
+        "read_slice" => Ok(Reads::LastBytesOfSlices(slices_of(rt, &all)?)),
+        _ => families::no_figure(),
     }
-    Ok(true)
+}
+
+impl Round for Reads {
+    fn once<M: Machine>(&self, _rt: &M, request: &Request) -> Result<usize, AllocError> {
+        let times = request.operations / 1000;
+        Ok(match self {
+            Reads::Lengths(all) => add_lengths(all, times),
+            Reads::LastBytes(all) => add_last_bytes(all, times),
+            Reads::LastBytesOfSlices(all) => add_last_bytes_of_slices(all, times),
+        })
+    }
 }
 
 fn texts_of<M: Machine>(rt: &M, request: &Request) -> Result<Vec<ArcStr>> {
@@ -52,7 +60,7 @@ fn slices_of<M: Machine>(rt: &M, texts: &[ArcStr]) -> Result<Vec<Substr>> {
     Ok(slices)
 }
 
-fn lengths(all: &[ArcStr], times: usize) -> usize {
+fn add_lengths(all: &[ArcStr], times: usize) -> usize {
     let mut sum = 0usize;
     for _ in 0..times {
         for text in all {
@@ -62,7 +70,7 @@ fn lengths(all: &[ArcStr], times: usize) -> usize {
     sum
 }
 
-fn last_bytes(all: &[ArcStr], times: usize) -> usize {
+fn add_last_bytes(all: &[ArcStr], times: usize) -> usize {
     let mut sum = 0usize;
     for _ in 0..times {
         for text in all {
@@ -74,7 +82,7 @@ fn last_bytes(all: &[ArcStr], times: usize) -> usize {
     sum
 }
 
-fn last_bytes_of_slices(all: &[Substr], times: usize) -> usize {
+fn add_last_bytes_of_slices(all: &[Substr], times: usize) -> usize {
     let mut sum = 0usize;
     for _ in 0..times {
         for slice in all {

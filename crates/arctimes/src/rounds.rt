@@ -17,22 +17,37 @@ pub(crate) enum Unit {
     Sum,
 }
 
-/// Does the rounds of the request, and tells of each.
-pub(crate) fn run<M: Machine, F: Fn() -> Result<usize, AllocError> + Drop>(
+/// What the rounds of a figure work on, prepared before the first. A round of it starts no thread.
+pub(crate) trait Round {
+    /// Does one round, and returns the sum of what its operations returned.
+    fn once<M: Machine>(&self, rt: &M, request: &Request) -> Result<usize, AllocError>;
+}
+
+/// Times each round of the request, and prints it.
+pub(crate) fn run<M: Machine, T: Round>(
     rt: &M,
     request: &Request,
     unit: Unit,
-    round: F,
-) -> Result<()>
-    requires { F.IsAlwaysCallable round }
-{
+    prepared: &T,
+) -> Result<()> {
     for _ in 0..request.rounds {
         let start = Instant::now(rt)?;
-        let sum = round()?;
-        let nanoseconds = start.elapsed(rt)?.as_nanos();
-        tell(rt, request, unit, nanoseconds, sum)?;
+        let sum = prepared.once(rt, request)?;
+        finish(rt, request, unit, start, sum)?;
     }
     Ok(())
+}
+
+/// Reads the clock at the end of a round, and prints the round.
+pub(crate) fn finish<M: Machine>(
+    rt: &M,
+    request: &Request,
+    unit: Unit,
+    start: Instant,
+    sum: usize,
+) -> Result<()> {
+    let nanoseconds = start.elapsed(rt)?.as_nanos();
+    tell(rt, request, unit, nanoseconds, sum)
 }
 
 fn tell<M: Machine>(

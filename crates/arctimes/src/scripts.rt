@@ -3,22 +3,28 @@
 use crate::machine::Machine;
 use crate::requests::Request;
 use crate::rounds;
-use crate::rounds::Unit;
+use crate::rounds::{Round, Unit};
 use anyhow::Result;
 use arcbench_core::script;
 use std::alloc::{AllocError, Global};
 
-/// Times the figure if it is this one, and says whether it is.
-pub(crate) fn run<M: Machine>(rt: &M, request: &Request) -> Result<bool> {
-    if request.figure != "script" {
-        return Ok(false);
+/// The lines of the script that a round answers.
+#[derive(Drop)]
+struct Script(String);
+
+/// Times the figure `script`.
+pub(crate) fn run<M: Machine>(rt: &M, request: &Request) -> Result<()> {
+    let script = Script(script_of(rt.alloc(), request.operations)?);
+    rounds::run(rt, request, Unit::Operation, &script)
+}
+
+impl Round for Script {
+    fn once<M: Machine>(&self, rt: &M, _request: &Request) -> Result<usize, AllocError> {
+        match script::answer(rt.alloc(), self.0.as_bytes()) {
+            Ok(answer) => Ok(answer.len()),
+            Err(_) => Ok(0),
+        }
     }
-    let lines = script_of(rt.alloc(), request.operations)?;
-    rounds::run(rt, request, Unit::Operation, || {
-        let answer = script::answer(rt.alloc(), lines.as_bytes());
-        Ok(answer.map_or(0, |answer| answer.len()))
-    })?;
-    Ok(true)
 }
 
 /// A script of so many steps on one block: clones, and for each clone a look and a drop of two steps.

@@ -2,11 +2,12 @@
 
 use crate::machine::Machine;
 use crate::requests::Request;
-use crate::rounds;
-use crate::rounds::Unit;
+use crate::rounds::{Round, Unit};
 use crate::texts::letters;
+use crate::{families, rounds};
 use anyhow::Result;
 use arcstr::{ArcStr, Substr};
+use std::alloc::AllocError;
 use std::sync::Wait;
 
 /// Where the slices start and end.
@@ -14,40 +15,39 @@ const START: usize = 1000;
 
 const END: usize = 3000;
 
-/// Times the figure if it is one of these, and says whether it is.
-pub(crate) fn run<M: Machine>(rt: &M, request: &Request) -> Result<bool> {
-    match request.figure {
-        "substr" => of_a_text(rt, request)?,
-        "substr_of_substr" => of_a_slice(rt, request)?,
-        _ => return Ok(false),
-    }
-    Ok(true)
+/// What a round takes slices of.
+#[derive(Drop)]
+enum Slices {
+    OfText(ArcStr),
+    OfSlice(Substr),
 }
 
-fn of_a_text<M: Machine>(rt: &M, request: &Request) -> Result<()> {
+/// Times a figure of this family.
+pub(crate) fn run<M: Machine>(rt: &M, request: &Request) -> Result<()> {
+    rounds::run(rt, request, Unit::Operation, &prepare(rt, request)?)
+}
+
+fn prepare<M: Machine>(rt: &M, request: &Request) -> Result<Slices> {
     let text = letters(rt.alloc(), request.size, request.size)?;
     let text = ArcStr::from_str(rt.alloc(), text.as_str())?;
-    rounds::run(
-        rt,
-        request,
-        Unit::Operation,
-        || Ok(slices(rt, &text, request.operations)),
-    )
+    match request.figure {
+        "substr" => Ok(Slices::OfText(text)),
+        "substr_of_substr" => Ok(Slices::OfSlice(Substr::full(text))),
+        _ => families::no_figure(),
+    }
 }
 
-fn of_a_slice<M: Machine>(rt: &M, request: &Request) -> Result<()> {
-    let text = letters(rt.alloc(), request.size, request.size)?;
-    let whole = Substr::full(ArcStr::from_str(rt.alloc(), text.as_str())?);
-    rounds::run(
-        rt,
-        request,
-        Unit::Operation,
-        || Ok(slices_of_slice(rt, &whole, request.operations)),
-    )
+impl Round for Slices {
+    fn once<M: Machine>(&self, rt: &M, request: &Request) -> Result<usize, AllocError> {
+        Ok(match self {
+            Slices::OfText(text) => slice_text(rt, text, request.operations),
+            Slices::OfSlice(whole) => slice_slice(rt, whole, request.operations),
+        })
+    }
 }
 
-/// Takes the slice of a text so many times, reads its length, and drops it.
-fn slices<R: Wait>(rt: &R, text: &ArcStr, operations: usize) -> usize {
+/// Takes slices of a text, reads the length of each, and drops it.
+fn slice_text<R: Wait>(rt: &R, text: &ArcStr, operations: usize) -> usize {
     let mut sum = 0usize;
     for _ in 0..operations {
         if let Ok(slice) = text.substr(rt, START..END) {
@@ -57,7 +57,7 @@ fn slices<R: Wait>(rt: &R, text: &ArcStr, operations: usize) -> usize {
     sum
 }
 
-fn slices_of_slice<R: Wait>(rt: &R, whole: &Substr, operations: usize) -> usize {
+fn slice_slice<R: Wait>(rt: &R, whole: &Substr, operations: usize) -> usize {
     let mut sum = 0usize;
     for _ in 0..operations {
         if let Ok(slice) = whole.substr(rt, START..END) {

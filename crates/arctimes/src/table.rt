@@ -6,7 +6,7 @@ use crate::run as run_figure;
 use anyhow::Result;
 
 /// The figures that take a text of 64 bytes, or none.
-const USUAL: [&str; 22] = [
+const USUAL: [&str; 26] = [
     "clone_drop",
     "clone_drop_bare",
     "clone_drop_slice",
@@ -29,6 +29,10 @@ const USUAL: [&str; 22] = [
     "words",
     "tokens_all",
     "script",
+    "lines",
+    "lines_of_str",
+    "split",
+    "split_of_str",
 ];
 
 /// The figures of slices of a long text.
@@ -37,8 +41,8 @@ const OF_LONG_TEXTS: [&str; 2] = ["substr", "substr_of_substr"];
 /// The figures of two threads on one text.
 const OF_TWO_THREADS: [&str; 2] = ["clone_drop_contended", "clone_drop_contended_bare"];
 
-/// The figures of reads of a thousand texts.
-const OF_MANY_TEXTS: [&str; 3] = ["read", "read_byte", "read_slice"];
+/// The figures of a thousand texts.
+const OF_MANY_TEXTS: [&str; 4] = ["read", "read_byte", "read_slice", "look_up"];
 
 /// A short round of a figure, told as a line of the table.
 fn short(figure: &str) -> Request<'_> {

@@ -2,13 +2,14 @@
 
 use crate::machine::Machine;
 use crate::requests::{Form, Request};
-use crate::rounds;
 use crate::rounds::Unit;
+use crate::{families, rounds};
 use anyhow::Result;
 use arcstr::ArcStr;
 use arctokens::{tokens, tokens_all};
 use std::alloc::{AllocError, Global};
 use std::sync::Wait;
+use std::time::Instant;
 use std::{io, thread};
 
 /// The texts of a table, which reads no input.
@@ -26,52 +27,69 @@ enum Found {
     Slices,
 }
 
-/// Times the figure if it is one of these, and says whether it is.
-pub(crate) fn run<M: Machine>(rt: &M, request: &Request) -> Result<bool> {
-    match request.figure {
-        "count" => find(rt, request, Found::Count)?,
-        "ranges" => find(rt, request, Found::Places)?,
-        "words" => find(rt, request, Found::Slices)?,
-        "tokens_all" => find_all(rt, request)?,
-        _ => return Ok(false),
+/// What a round looks at: each text in turn, or all at once, for their lists.
+#[derive(Drop)]
+enum Words {
+    Each(Vec<ArcStr>, Found),
+    All(Vec<ArcStr>),
+}
+
+/// Times a figure of this family. A round may start threads, so it is no `Round`.
+pub(crate) fn run<M: Machine>(rt: &M, request: &Request) -> Result<()> {
+    let prepared = prepare(rt, request)?;
+    for _ in 0..request.rounds {
+        let start = Instant::now(rt)?;
+        let sum = prepared.once(rt, request)?;
+        rounds::finish(rt, request, Unit::Sum, start, sum)?;
     }
-    Ok(true)
+    Ok(())
 }
 
-fn find<M: Machine>(rt: &M, request: &Request, found: Found) -> Result<()> {
+fn prepare<M: Machine>(rt: &M, request: &Request) -> Result<Words> {
     let texts = texts_of(rt, request)?;
-    rounds::run(rt, request, Unit::Sum, || {
-        let counts = thread::map_indices(
-            rt,
-            rt.alloc(),
-            request.threads,
-            &|worker| { words_of_share(rt, rt.alloc(), &texts, found, worker, request.threads) },
-        )?;
-        let mut sum = 0usize;
-        for count in counts {
-            sum = sum.wrapping_add(count?);
+    match request.figure {
+        "count" => Ok(Words::Each(texts, Found::Count)),
+        "ranges" => Ok(Words::Each(texts, Found::Places)),
+        "words" => Ok(Words::Each(texts, Found::Slices)),
+        "tokens_all" => Ok(Words::All(texts)),
+        _ => families::no_figure(),
+    }
+}
+
+impl Words {
+    /// Does one round, and returns the sum of what its operations returned.
+    fn once<M: Machine>(&self, rt: &M, request: &Request) -> Result<usize, AllocError> {
+        match self {
+            Words::Each(texts, found) => count_each(rt, request, texts, *found),
+            Words::All(texts) => count_all(rt, request, texts),
         }
-        Ok(sum)
-    })
+    }
 }
 
-/// All lists at once, in the order of the texts, by workers in threads of their own.
-fn find_all<M: Machine>(rt: &M, request: &Request) -> Result<()> {
-    let texts = texts_of(rt, request)?;
-    rounds::run(rt, request, Unit::Sum, || {
-        words_of_all(rt, rt.alloc(), &texts, request.threads)
-    })
-}
-
-/// The number of words in all lists of `tokens_all`, found by so many workers, at most 64.
-fn words_of_all<M: Machine>(
+/// The number of words of all texts, found by the threads of the request.
+fn count_each<M: Machine>(
     rt: &M,
-    alloc: Global,
+    request: &Request,
     texts: &[ArcStr],
-    threads: usize,
+    found: Found,
 ) -> Result<usize, AllocError> {
-    let workers = threads.min(64).max(1);
-    let lists = tokens_all(rt, alloc, texts, workers)?;
+    let counts = thread::map_indices(
+        rt,
+        rt.alloc(),
+        request.threads,
+        &|worker| { words_of_share(rt, rt.alloc(), texts, found, worker, request.threads) },
+    )?;
+    let mut sum = 0usize;
+    for count in counts {
+        sum = sum.wrapping_add(count?);
+    }
+    Ok(sum)
+}
+
+/// The number of words in all lists of `tokens_all`, by 1 to 64 workers, as the request has threads.
+fn count_all<M: Machine>(rt: &M, request: &Request, texts: &[ArcStr]) -> Result<usize, AllocError> {
+    let workers = request.threads.min(64).max(1);
+    let lists = tokens_all(rt, rt.alloc(), texts, workers)?;
     let mut sum = 0usize;
     for list in &lists {
         sum = sum.wrapping_add(list.len());

@@ -21,8 +21,8 @@ impl Message {
         ensures found { IsSome result ↔ HasTwoSemicolons text.now }
         ensures fields { IfSome result (IsMessage text.now) }
     {
-        let (sender, rest) = text.split_once(rt, ';')?;
-        let (subject, body) = rest.split_once(rt, ';')?;
+        let (sender, rest) = text.substr_split_once(rt, ';')?;
+        let (subject, body) = rest.substr_split_once(rt, ';')?;
         Some(Message {
             sender,
             subject,
@@ -36,7 +36,7 @@ impl Message {
         ensures subject { self.new.subject ≡ self.old.subject }
         ensures body { IsFirstSentence self.old.body self.new.body }
     {
-        if let Some((first, _)) = self.body.split_once(rt, '.') {
+        if let Some((first, _)) = self.body.substr_split_once(rt, '.') {
             self.body = first;
         }
     }

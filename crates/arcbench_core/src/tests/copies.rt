@@ -3,6 +3,7 @@ use super::fakes::{FakeReader, FakeWriter, NEVER};
 use super::texts::{FIRST_ANSWER, FIRST_SCRIPT};
 use crate::port::Port;
 use crate::script::{CopyFault, answer, copy};
+use linked_list_allocator::LocalHeap;
 use std::alloc::{AllocError, Allocator, Global};
 use std::test::Fail;
 
@@ -56,6 +57,31 @@ fn writes_a_front_before_a_fault_of_writing(rt: HostRuntime) -> Result<(), Fail>
         assert_eq!(rt; found.result, Err(CopyFault::Io), "{write}");
         assert_eq!(rt; found.written.as_slice(), front.as_bytes(), "{write}");
     }
+    Ok(())
+}
+
+/// The least block that a heap hands out, in bytes.
+const GRAIN: usize = 16;
+
+/// With room for a grain, memory is refused while the script is read: a fault of a read before that is
+/// `Io`, and one of a read after it is not met.
+#[test]
+fn the_first_of_reading_and_memory_is_answered(rt: HostRuntime) -> Result<(), Fail> {
+    let mut refused = false;
+    for read in 0..18 {
+        let heap = LocalHeap::new(rt.alloc(), GRAIN)?;
+        let found = copy_first_script(&heap, rt.alloc(), read, NEVER);
+        refused = refused || found.result == Err(CopyFault::Memory);
+        let fault = if refused {
+            CopyFault::Memory
+        } else {
+            CopyFault::Io
+        };
+        assert_eq!(rt; found.result, Err(fault), "{read}");
+        assert_eq!(rt; found.written.len(), 0);
+        assert!(rt; read > 0 || !refused);
+    }
+    assert!(rt; refused);
     Ok(())
 }
 

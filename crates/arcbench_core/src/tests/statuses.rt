@@ -108,31 +108,10 @@ fn refuses_a_limit(rt: HostRuntime) -> Result<(), Fail> {
     Ok(())
 }
 
-/// The 49 bytes of the script take 17 reads of three bytes, and one that finds the end.
+/// The 49 bytes of the script take 17 reads of three bytes, and one that finds the end. The 44 bytes of the
+/// answer take 22 writes of two bytes, and two are taken by each before the fault.
 #[test]
-fn fails_at_each_read(rt: HostRuntime) -> Result<(), Fail> {
-    for read in 0..18 {
-        let at = FailsAt { read, ..NO_FAULT };
-        let found = run_program(&rt, &["script"], FIRST_SCRIPT, at)?;
-        expect(&rt, &found, 4, "", IO);
-    }
-    Ok(())
-}
-
-/// The 44 bytes of the answer take 22 writes of two bytes, and two are taken by each before the fault.
-#[test]
-fn fails_at_each_write(rt: HostRuntime) -> Result<(), Fail> {
-    for write in 0..22 {
-        let at = FailsAt { write, ..NO_FAULT };
-        let found = run_program(&rt, &["script"], FIRST_SCRIPT, at)?;
-        let front = FIRST_ANSWER.get(..2 * write as usize).ok_or("short")?;
-        expect(&rt, &found, 4, front, IO);
-    }
-    Ok(())
-}
-
-#[test]
-fn fails_at_each_pair(rt: HostRuntime) -> Result<(), Fail> {
+fn fails_at_each_read_and_write(rt: HostRuntime) -> Result<(), Fail> {
     for read in 0..20 {
         for write in 0..24 {
             let at = FailsAt {
@@ -141,11 +120,15 @@ fn fails_at_each_pair(rt: HostRuntime) -> Result<(), Fail> {
                 error: NEVER,
             };
             let found = run_program(&rt, &["script"], FIRST_SCRIPT, at)?;
-            let faulty = read < 18 || write < 22;
-            assert_eq!(rt; found.status, if faulty { 4 } else { 0 }, "{read} {write}");
             let taken = if read < 18 { 0 } else { write.min(22) as usize };
-            let front = FIRST_ANSWER.get(..2 * taken).ok_or("short")?;
-            assert_eq!(rt; found.output.as_slice(), front.as_bytes(), "{read} {write}");
+            let prefix = FIRST_ANSWER.get(..2 * taken).ok_or("short")?;
+            let (status, line) = if read < 18 || write < 22 {
+                (4, IO)
+            } else {
+                (0, "")
+            };
+            assert_eq!(rt; found.status, status, "{read} {write}");
+            expect(&rt, &found, status, prefix, line);
         }
     }
     Ok(())

@@ -1,11 +1,6 @@
 //! The words for tokens.
-use super::fakes::{FakeReader, FakeWriter, NEVER};
 use super::statuses::{FailsAt, NO_FAULT, expect, run_on_bytes, run_program};
-use super::texts::{IO, LINES, NO_MEMORY, NOT_UTF8, USAGE, WORDS_OF_LINES};
-use crate::port::Port;
-use crate::program::serve;
-use crate::tokens::{TokensFault, answer};
-use linked_list_allocator::LocalHeap;
+use super::texts::{IO, LINES, NOT_UTF8, USAGE, WORDS_OF_LINES};
 use std::test::Fail;
 
 #[test]
@@ -87,48 +82,5 @@ fn fails_at_each_write(rt: HostRuntime) -> Result<(), Fail> {
         assert_eq!(rt; found.output.as_slice(), front.ok_or("short")?);
         assert_eq!(rt; found.errors.as_slice(), IO.as_bytes());
     }
-    Ok(())
-}
-
-/// The heaps have fewer blocks of 16 bytes than these.
-const GRAINS: usize = 32;
-
-/// The memory for the lines is refused once at each of its requests, by heaps with more and more room.
-#[test]
-fn the_lines_are_out_of_memory(rt: HostRuntime) -> Result<(), Fail> {
-    let mut answered = 0u64;
-    for grains in 1..GRAINS {
-        let heap = LocalHeap::new(rt.alloc(), grains * 16)?;
-        match answer(&rt, &heap, 2, LINES.as_bytes()) {
-            Ok(lines) => {
-                assert_eq!(rt; lines.as_slice(), WORDS_OF_LINES.as_bytes());
-                answered = answered.wrapping_add(1);
-            }
-            Err(fault) => {
-                assert_eq!(rt; fault, TokensFault::Memory);
-                assert_eq!(rt; answered, 0, "{grains}");
-            }
-        }
-        assert_eq!(rt; heap.used(), 0);
-        assert!(rt; grains > 1 || answered == 0);
-    }
-    assert!(rt; answered > 0);
-    Ok(())
-}
-
-#[test]
-fn prints_that_it_is_out_of_memory(rt: HostRuntime) -> Result<(), Fail> {
-    let heap = LocalHeap::new(rt.alloc(), 16)?;
-    let mut words = Vec::new(rt.alloc());
-    words.push(String::from_str(rt.alloc(), "tokens")?)?;
-    words.push(String::from_str(rt.alloc(), "2")?)?;
-    let mut errors = Vec::new(rt.alloc());
-    let mut writer = FakeWriter::new(Vec::new(rt.alloc()), NEVER);
-    let mut input = Port::new(FakeReader::new(LINES.as_bytes(), NEVER));
-    let mut output = Port::new(&mut writer);
-    let status = serve(&rt, &heap, &words, &mut input, &mut output, &mut errors);
-    assert_eq!(rt; status, 3);
-    assert_eq!(rt; writer.taken.len(), 0);
-    assert_eq!(rt; errors.as_slice(), NO_MEMORY.as_bytes());
     Ok(())
 }

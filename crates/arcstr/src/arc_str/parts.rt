@@ -16,8 +16,8 @@ use std::ops::Range;
 use std::sync::Wait;
 
 impl ArcStr {
-    /// The view of the whole text, at place 0. `substr_from` of this text takes it, and its cuts and trims, with no
-    /// test before. Allocates nothing and takes no atomic step.
+    /// The view of the whole text, at place 0. `substr_from` of this text takes it, and its parts, with no test before.
+    /// Allocates nothing and takes no atomic step.
     ///
     /// ```
     /// let text = ArcStr::from_static("key = value");
@@ -82,7 +82,7 @@ impl ArcStr {
     }
 
     /// The slice of this text between two places. The handle is cloned.
-    fn clone_between(&self, rt: &impl Wait, range: Range<usize>) -> Substr
+    pub(crate) fn clone_between(&self, rt: &impl Wait, range: Range<usize>) -> Substr
         requires { IsLawful self.now.text range.start range.end }
         ensures slice { result ≡ slice_of self.now range.start range.end }
         ensures text { text_of result ≡ cut self.now.text range.start range.end }

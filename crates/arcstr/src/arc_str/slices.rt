@@ -74,7 +74,7 @@ impl ArcStr {
     }
 
     /// The slice of this text that a view of it shows; of an empty view `Substr::new()`. That the text has the
-    /// view's text at the view's place is the caller's condition: the text's own `view` and its cuts and trims meet
+    /// view's text at the view's place is the caller's condition: the text's own `view` and its parts meet
     /// it, and `StrView::is_found_in` tests it of others. Takes no memory; the handle is cloned where the view is not
     /// empty, and so it may wait.
     ///

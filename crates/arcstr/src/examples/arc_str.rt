@@ -262,10 +262,10 @@ fn arc_str_try_substr_using(rt: HostRuntime) -> Result<(), Fail> {
 }
 
 #[test]
-fn arc_str_split_once(rt: HostRuntime) -> Result<(), Fail> {
-    let text = ArcStr::from_str(rt.alloc(), "name=a=b")?;
-    let (name, value) = text.split_once(&rt, '=').expect(&rt, "no `=`");
-    assert_eq!(rt; name.as_str(), "name");
-    assert_eq!(rt; value.as_str(), "a=b");
+fn arc_str_join(rt: HostRuntime) -> Result<(), Fail> {
+    let path = ArcStr::join(rt.alloc(), &["usr", "lib", "é"], "/")?;
+    assert_eq!(rt; path.as_str(), "usr/lib/é");
+    let twice = ArcStr::join(rt.alloc(), &[path.clone(&rt), path], "")?;
+    assert_eq!(rt; twice.as_str(), "usr/lib/éusr/lib/é");
     Ok(())
 }

@@ -162,16 +162,6 @@ fn substr_try_substr_using(rt: HostRuntime) -> Result<(), Fail> {
 }
 
 #[test]
-fn substr_split_once(rt: HostRuntime) -> Result<(), Fail> {
-    let pair = literal!("a=b;c=d").substr(&rt, 4..)?;
-    let (name, value) = pair.split_once(&rt, '=').expect(&rt, "not split");
-    assert_eq!(rt; name.as_str(), "c");
-    assert_eq!(rt; value.range(), 6..7);
-    assert!(rt; value.split_once(&rt, '=').is_none());
-    Ok(())
-}
-
-#[test]
 fn substr_eq_str(rt: HostRuntime) -> Result<(), Fail> {
     let slice = literal!("foobar").substr(&rt, 3..)?;
     assert!(rt; slice.eq_str("bar"));

@@ -12,8 +12,8 @@ use arcstr_range::view::StrView;
 use std::sync::Wait;
 
 impl Substr {
-    /// The view of the slice's own text, at place 0. `substr_from` of this slice takes it, and its cuts and trims,
-    /// with no test before. Allocates nothing and takes no atomic step.
+    /// The view of the slice's own text, at place 0. `substr_from` of this slice takes it, and its parts, with no test
+    /// before. Allocates nothing and takes no atomic step.
     ///
     /// ```
     /// let line = literal!("1: key = value").substr(&rt, 3..)?;

@@ -81,7 +81,7 @@ impl Substr {
 
     /// The slice of the same parent that a view of the slice's own text shows; of an empty view `Substr::new()`.
     /// That the slice's own text has the view's text at the view's place, in bytes, is the caller's condition: the
-    /// slice's own `view` and its cuts and trims meet it, and `StrView::is_found_in` tests it of others. Takes no
+    /// slice's own `view` and its parts meet it, and `StrView::is_found_in` tests it of others. Takes no
     /// memory; the parent's handle is cloned where the view is not empty, and so it may wait.
     ///
     /// ```

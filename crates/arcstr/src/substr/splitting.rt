@@ -1,35 +1,175 @@
-//! A `Substr` split in two at a character.
-ghost use Rattle.std.specs.Prelude.{◌≡◌};
+//! A `Substr` taken apart, by its own text: at a place, around a match of a pattern, or without its prefix or suffix.
+//! A pattern is a `char`, a `&str` or another of std's, of which the caller has to know that it can search (as of a closure that it
+//! may be called).
+ghost use Rattle.std.specs.Prelude.{◌≡◌, ◌-◌, ◌≤◌, length, take, drop, IfSome, MatchOption, None};
+ghost use Rattle.std.specs.Str.{IsCharBoundary};
+ghost use Rattle.std.specs.Str.Pattern.{SplitsAroundMatch, StripsPrefix, StripsSuffix};
 ghost use Rattle.arcstr_range.specs.Ends.{IsLawful};
 ghost use Rattle.arcstr_range.specs.Text.{cut};
-ghost use Rattle.arcstr.specs.Splitting.{AnswersSplit};
+ghost use Rattle.arcstr.specs.Splitting.{AnswersSplit, AnswersSplitAt, FindsCharacter, LiesAtEnd, LiesAtStart};
 ghost use Rattle.arcstr.specs.Substr.{slice_within, text_of};
 
-use crate::first_place::first_place;
+use crate::affixes::{prefix_places, suffix_places};
 use crate::substr::Substr;
+use arcstr_range::range::{RangeFault, StrRange, checked_ends};
 use std::ops::Range;
+use std::str::pattern::Pattern;
 use std::sync::Wait;
 
 impl Substr {
-    /// The slices of the same parent before and after the first place of the character in the slice's own
-    /// text, as Rust's `str::split_once`: the first, the character and the second join to that text. `None` exactly
-    /// where it doesn't have the character. Takes no memory; where it has, the parent's handle is cloned once for
-    /// each slice, which also where it is empty keeps the parent, and so it may wait.
+    /// The slices of the same parent before and after a place of the slice's own text, in bytes, as Rust's
+    /// `str::split_at_checked`. Each keeps the parent also where it is empty. Allocates nothing; the parent's handle is
+    /// cloned once for each slice, and so the call may wait.
+    ///
+    /// Refuses as `substr` refuses the range up to the place: first a place past the slice's own text (`PastEnd`), then
+    /// one inside a character (`OffBoundary`).
+    ///
+    /// ```
+    /// let pair = literal!("key: ab").substr(&rt, 5..)?;
+    /// let (a, b) = pair.substr_split_at(&rt, 1)?;
+    /// assert_eq!(rt; (a.as_str(), b.as_str()), ("a", "b"));
+    /// assert_eq!(rt; (a.range(), b.range()), (5..6, 6..7));
+    /// assert!(rt; pair.substr_split_at(&rt, 3).is_err());
+    /// ```
+    #[tactic(auto, using(arcstr_range::proofs::Affixes::slices_of_rests))]
+    pub fn substr_split_at(
+        &self,
+        rt: &impl Wait,
+        place: usize,
+    ) -> Result<(Substr, Substr), RangeFault>
+        ensures { AnswersSplitAt (text_of self.now) (slice_within self.now) place result }
+    {
+        let (start, end) = checked_ends(self.as_str(), StrRange::To(place))?;
+        let before = self.clone_between(rt, start..end);
+        let after = self.clone_between(rt, end..self.len());
+        Ok((before, after))
+    }
+
+    /// The slices of the same parent before and after the first match of the separator in the slice's own text, as
+    /// Rust's `str::split_once`. The separator, a `char` or a `&str`, stands in neither. `None` exactly where there is no
+    /// match, and then no step is taken. Allocates nothing; the parent's handle is cloned once for each slice, which keeps
+    /// the parent also where it is empty, and so the call may wait.
     ///
     /// ```
     /// let pair = literal!("a=b;c=d").substr(&rt, 4..)?;
-    /// let (name, value) = pair.split_once(&rt, '=').expect(&rt, "not split");
+    /// let (name, value) = pair.substr_split_once(&rt, '=').expect(&rt, "not split");
     /// assert_eq!(rt; name.as_str(), "c");
     /// assert_eq!(rt; value.range(), 6..7);
-    /// assert!(rt; value.split_once(&rt, '=').is_none());
+    /// assert!(rt; value.substr_split_once(&rt, '=').is_none());
     /// ```
-    pub fn split_once(&self, rt: &impl Wait, character: char) -> Option<(Substr, Substr)>
-        ensures { AnswersSplit (text_of self.now) (slice_within self.now) character result }
+    pub fn substr_split_once<P: Pattern>(
+        &self,
+        rt: &impl Wait,
+        separator: P,
+    ) -> Option<(Substr, Substr)>
+    where
+        P: Drop,
+        requires { P.can_search separator }
+        ensures texts { MatchOption result (P.find_in_gives separator (text_of self.now) None)
+            (λ parts. SplitsAroundMatch (P.find_in_gives separator) (text_of self.now) (text_of parts.0) (text_of parts.1)) }
+        ensures before { IfSome result (λ parts. LiesAtStart (slice_within self.now) parts.0) }
+        ensures after { IfSome result (λ parts. LiesAtEnd (text_of self.now) (slice_within self.now) parts.1) }
+        ensures at_a_character { IfSome (P.single_char separator) (λ character. FindsCharacter (P.find_in_gives separator) character
+            → AnswersSplit (text_of self.now) (slice_within self.now) character result) }
     {
-        let place = first_place(self.as_str(), character)?;
-        let before = self.clone_between(rt, 0..place);
-        let after = self.clone_between(rt, place + character.len_utf8()..self.len());
-        Some((before, after))
+        let (before, after) = self.as_str().split_once(separator)?;
+        Some((self.clone_prefix(rt, before), self.clone_suffix(rt, after)))
+    }
+
+    /// The slices of the same parent before and after the last match of the separator in the slice's own text, as
+    /// Rust's `str::rsplit_once`. The separator, a `char` or a `&str`, stands in neither. `None` exactly where there is no
+    /// match, and then no step is taken. Allocates nothing; the parent's handle is cloned once for each slice, which keeps
+    /// the parent also where it is empty, and so the call may wait.
+    ///
+    /// ```
+    /// let pair = literal!("x; a=b=c").substr(&rt, 3..)?;
+    /// let (name, value) = pair.substr_rsplit_once(&rt, '=').ok_or("no `=`")?;
+    /// assert_eq!(rt; name.as_str(), "a=b");
+    /// assert_eq!(rt; value.range(), 7..8);
+    /// ```
+    pub fn substr_rsplit_once<P: Pattern>(
+        &self,
+        rt: &impl Wait,
+        separator: P,
+    ) -> Option<(Substr, Substr)>
+    where
+        P: Drop,
+        requires { P.can_search separator }
+        ensures texts { MatchOption result (P.rfind_in_gives separator (text_of self.now) None)
+            (λ parts. SplitsAroundMatch (P.rfind_in_gives separator) (text_of self.now) (text_of parts.0) (text_of parts.1)) }
+        ensures before { IfSome result (λ parts. LiesAtStart (slice_within self.now) parts.0) }
+        ensures after { IfSome result (λ parts. LiesAtEnd (text_of self.now) (slice_within self.now) parts.1) }
+    {
+        let (before, after) = self.as_str().rsplit_once(separator)?;
+        Some((self.clone_prefix(rt, before), self.clone_suffix(rt, after)))
+    }
+
+    /// The slice of the same parent after a prefix of the slice's own text, a `char` or a `&str`, as Rust's
+    /// `str::strip_prefix`. It keeps the parent also where it is empty. `None` exactly where the slice's own text doesn't
+    /// begin with the prefix, and then no step is taken. Allocates nothing; the parent's handle is cloned, and so the call
+    /// may wait.
+    ///
+    /// ```
+    /// let word = literal!("run --all").substr(&rt, 4..)?;
+    /// let name = word.substr_strip_prefix(&rt, "--").ok_or("no `--`")?;
+    /// assert_eq!(rt; name.as_str(), "all");
+    /// assert_eq!(rt; name.range(), 6..9);
+    /// ```
+    pub fn substr_strip_prefix<P: Pattern>(&self, rt: &impl Wait, prefix: P) -> Option<Substr>
+    where
+        P: Drop,
+        requires { P.can_search prefix }
+        ensures text { MatchOption result (P.prefix_len_gives prefix (text_of self.now) None)
+            (λ rest. StripsPrefix (P.prefix_len_gives prefix) (text_of self.now) (text_of rest)) }
+        ensures slice { IfSome result (LiesAtEnd (text_of self.now) (slice_within self.now)) }
+    {
+        let rest = self.as_str().strip_prefix(prefix)?;
+        Some(self.clone_suffix(rt, rest))
+    }
+
+    /// The slice of the same parent before a suffix of the slice's own text, a `char` or a `&str`, as Rust's
+    /// `str::strip_suffix`. It keeps the parent also where it is empty. `None` exactly where the slice's own text doesn't
+    /// end with the suffix, and then no step is taken. Allocates nothing; the parent's handle is cloned, and so the call
+    /// may wait.
+    ///
+    /// ```
+    /// let line = literal!("ab\ncd\n").substr(&rt, 3..)?;
+    /// let word = line.substr_strip_suffix(&rt, '\n').ok_or("no end")?;
+    /// assert_eq!(rt; word.as_str(), "cd");
+    /// assert_eq!(rt; word.range(), 3..5);
+    /// ```
+    pub fn substr_strip_suffix<P: Pattern>(&self, rt: &impl Wait, suffix: P) -> Option<Substr>
+    where
+        P: Drop,
+        requires { P.can_search suffix }
+        ensures text { MatchOption result (P.suffix_len_gives suffix (text_of self.now) None)
+            (λ rest. StripsSuffix (P.suffix_len_gives suffix) (text_of self.now) (text_of rest)) }
+        ensures slice { IfSome result (LiesAtStart (slice_within self.now)) }
+    {
+        let rest = self.as_str().strip_suffix(suffix)?;
+        Some(self.clone_prefix(rt, rest))
+    }
+
+    /// The slice of the same parent that is a prefix of the slice's own text. The parent's handle is cloned.
+    fn clone_prefix(&self, rt: &impl Wait, prefix: &str) -> Substr
+        requires within { length prefix.now ≤ length (text_of self.now) }
+        requires prefix { prefix.now ≡ take (length prefix.now) (text_of self.now) }
+        ensures slice { result ≡ slice_within self.now 0 (length prefix.now) }
+        ensures text { text_of result ≡ prefix.now }
+        ensures boundary { IsCharBoundary (text_of self.now) (length prefix.now) }
+    {
+        self.clone_between(rt, prefix_places(self.as_str(), prefix))
+    }
+
+    /// The slice of the same parent that is a suffix of the slice's own text. The parent's handle is cloned.
+    fn clone_suffix(&self, rt: &impl Wait, suffix: &str) -> Substr
+        requires within { length suffix.now ≤ length (text_of self.now) }
+        requires suffix { suffix.now ≡ drop (length (text_of self.now) - length suffix.now) (text_of self.now) }
+        ensures slice { result ≡ slice_within self.now (length (text_of self.now) - length suffix.now) (length (text_of self.now)) }
+        ensures text { text_of result ≡ suffix.now }
+        ensures boundary { IsCharBoundary (text_of self.now) (length (text_of self.now) - length suffix.now) }
+    {
+        self.clone_between(rt, suffix_places(self.as_str(), suffix))
     }
 
     /// The slice of the same parent between two places of the slice's own text. The parent's handle is cloned.

@@ -1,4 +1,4 @@
-use crate::{Shared, TextFault};
+use crate::{Shared, TextFault, joined_len};
 use linked_list_allocator::LocalHeap;
 use std::alloc::Global;
 use std::test::Fail;
@@ -73,6 +73,19 @@ fn copies_take_exactly_one_block(rt: HostRuntime) -> Result<(), Fail> {
 }
 
 #[test]
+fn joined_texts_take_exactly_one_block(rt: HostRuntime) -> Result<(), Fail> {
+    let heap = LocalHeap::new(rt.alloc(), BLOCK)?;
+    let parts = ["0123456789abcde", "0123456789abcde", "", "23456789abcdef"];
+    assert_eq!(rt; joined_len(&parts, "f01"), Some(53));
+    let made = Shared::<5, _>::join(&heap, &parts, "f01", 53)?;
+    let joined = "0123456789abcdef010123456789abcdef01f0123456789abcdef";
+    assert_eq!(rt; (made.as_str(), heap.used()), (joined, BLOCK));
+    drop(made);
+    assert_eq!(rt; heap.used(), 0);
+    Ok(())
+}
+
+#[test]
 fn a_fill_has_exactly_its_block_before_its_closure(rt: HostRuntime) -> Result<(), Fail> {
     let heap = LocalHeap::new(rt.alloc(), BLOCK)?;
     let mut used = 0;
@@ -98,6 +111,12 @@ fn a_heap_that_is_too_small_refuses_each_making(rt: HostRuntime) -> Result<(), F
     assert!(rt;
         matches!(
             Shared::<5, _>::repeat(&heap, TEXT, 1),
+            Err(TextFault::Memory)
+        )
+    );
+    assert!(rt;
+        matches!(
+            Shared::<5, _>::join(&heap, &[TEXT], "", 64),
             Err(TextFault::Memory)
         )
     );

@@ -7,7 +7,7 @@ use std::fmt;
 mod to_io;
 
 /// Why a range is refused. The tests come in the order of the variants, and the first that fails is
-/// answered. It is shown as a short text, and has no memory of its own.
+/// answered. It is shown as a short text, and has no memory of its own. By `?` it becomes an `io::Error` and an `anyhow::Error`.
 ///
 /// Plain data of 1 byte: it may be copied, sent and shared, and its drop does nothing.
 ///

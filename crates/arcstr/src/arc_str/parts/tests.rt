@@ -24,3 +24,25 @@ fn a_trim_of_white_space_keeps_the_text(rt: HostRuntime) {
     check_kept(&rt, &text, &text.substr_trim_end(&rt), 0);
     check_count(&rt, &text, Some(1));
 }
+
+/// The slices of the last line and the last word, each taken in a loop with no test before. The
+/// proof is automatic, as a user's is: the line and the word are found in the text.
+fn last_slices(rt: &impl Wait, text: &ArcStr) -> [Option<Substr>; 2] {
+    let (mut last_line, mut last_word) = (None, None);
+    for line in text.view().lines() {
+        for word in line.split_whitespace() {
+            last_word = Some(text.substr_from(rt, word));
+        }
+        last_line = Some(text.substr_from(rt, line));
+    }
+    [last_line, last_word]
+}
+
+#[test]
+fn views_in_a_loop_become_slices(rt: HostRuntime) {
+    let text = made(&rt, "é 1\r\n a, b \n");
+    let wanted = [(" a, b ", 6..12), ("b", 10..11)];
+    for (slice, (text, range)) in last_slices(&rt, &text).into_iter().zip(wanted) {
+        check_slice(&rt, &slice.expect(&rt, "no slice"), text, range);
+    }
+}

@@ -1,0 +1,17 @@
+use Rattle.arcstr.proofs.Finding.{not_split_at_single, split_around_single}
+use Rattle.arcstr.specs.Substr.{slice_within, text_of}
+use Rattle.arcstr.proofs.substr.Substr.substr_split_once.Goals as goal
+
+-- there is no match
+pub returns-in_err-before-clause-at_a_character : goal.returns-in_err-before-clause-at_a_character
+returns-in_err-before-clause-at_a_character g c =
+    not_split_at_single (g.P.Pattern.find_in_gives c.args.separator) (text_of c.args.self.now) c.as_str.result.now (slice_within c.args.self.now) c.from_residual.result
+    (g.P.Pattern.single_char c.args.separator) c.in_err-before.ensures.cases c.as_str.ensures.text c.as_str.utf8 c.from_residual.ensures
+
+-- there is one
+pub returns-clause-at_a_character : goal.returns-clause-at_a_character
+returns-clause-at_a_character g c =
+    split_around_single (g.P.Pattern.find_in_gives c.args.separator) (text_of c.args.self.now) c.as_str.result.now c.in_ok-before.before.now c.in_ok-before.after.now
+    (slice_within c.args.self.now) c.clone_prefix.result c.clone_suffix.result
+    (g.P.Pattern.single_char c.args.separator) c.in_ok-before.ensures.cases c.as_str.ensures.text c.as_str.utf8 c.clone_prefix.ensures.boundary c.clone_suffix.ensures.boundary
+    c.clone_prefix.ensures.text c.clone_suffix.ensures.text c.clone_prefix.ensures.slice c.clone_suffix.ensures.slice

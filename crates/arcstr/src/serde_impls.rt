@@ -1,0 +1,98 @@
+//! Texts and slices as values that `serde` writes and reads, as strings, so that its derives serve at structs that hold them. A
+//! slice is written as its own text, and read as the whole of a text of its own.
+ghost use Rattle.std.specs.Prelude.{IfOk, OnOk};
+ghost use Rattle.serde.specs.Event.{Logs, text};
+ghost use Rattle.serde.specs.Steps.{Gives};
+ghost use Rattle.arcstr.specs.Substr.{text_of};
+
+use crate::arc_str::ArcStr;
+use crate::substr::Substr;
+use arcstr_block::TextFault;
+use serde::{
+    Described, Deserialize, DeserializeOwned, Deserializer, Format, Serialize, Serializer,
+};
+use std::alloc::Global;
+
+#[cfg(test)]
+mod tests;
+
+impl Described for ArcStr {
+    ghost writes = { λ shared old new. Logs old new (text shared.text) };
+}
+
+impl Serialize for ArcStr {
+    /// Writes the text as a string. Refused where the format refuses. Takes no memory of its own and no atomic step.
+    fn serialize<S: Serializer>(&self, out: &mut S) -> Result<(), S::Error>
+        ensures written { OnOk result (Logs (S.written out.old) (S.written out.new) (text self.now.text)) }
+    {
+        out.str(ArcStr::as_str(self))
+    }
+}
+
+impl Described for Substr {
+    ghost writes = { λ slice old new. Logs old new (text (text_of slice)) };
+}
+
+impl Serialize for Substr {
+    /// Writes the slice's own text as a string. Refused where the format refuses. Takes no memory of its own and no atomic step.
+    fn serialize<S: Serializer>(&self, out: &mut S) -> Result<(), S::Error>
+        ensures written { OnOk result (Logs (S.written out.old) (S.written out.new) (text (text_of self.now))) }
+    {
+        out.str(Substr::as_str(self))
+    }
+}
+
+impl DeserializeOwned for ArcStr {
+    /// The text of a string, which is read into a `String` and copied into its block: two requests for memory, and one or none
+    /// for the empty text. Refused, in this order: what the format refuses, `2^63 - 25` bytes or more, and want of memory.
+    fn deserialize_owned<F: Format>(
+        alloc: Global,
+        from: &mut Deserializer<'_, '_, F>,
+    ) -> Result<ArcStr, F::Error>
+        ensures read { IfOk result (λ made. Gives F.gives from.old (text made.text) from.new) }
+    {
+        let read = from.string(alloc)?;
+        match ArcStr::from_str(alloc, read.as_str()) {
+            Ok(made) => Ok(made),
+            Err(TextFault::Memory) => Err(from.no_memory()),
+            Err(_) => Err(from.custom("text is too long")),
+        }
+    }
+}
+
+impl<'de> Deserialize<'de> for ArcStr {
+    /// As `deserialize_owned` reads it.
+    fn deserialize<F: Format>(
+        alloc: Global,
+        from: &mut Deserializer<'de, '_, F>,
+    ) -> Result<ArcStr, F::Error>
+        ensures read { IfOk result (λ made. Gives F.gives from.old (text made.text) from.new) }
+    {
+        DeserializeOwned::deserialize_owned(alloc, from)
+    }
+}
+
+impl DeserializeOwned for Substr {
+    /// The slice of all of a text that is read as `ArcStr` reads it.
+    fn deserialize_owned<F: Format>(
+        alloc: Global,
+        from: &mut Deserializer<'_, '_, F>,
+    ) -> Result<Substr, F::Error>
+        ensures read { IfOk result (λ slice. Gives F.gives from.old (text (text_of slice)) from.new) }
+    {
+        let parent: ArcStr = DeserializeOwned::deserialize_owned(alloc, from)?;
+        Ok(Substr::full(parent))
+    }
+}
+
+impl<'de> Deserialize<'de> for Substr {
+    /// As `deserialize_owned` reads it.
+    fn deserialize<F: Format>(
+        alloc: Global,
+        from: &mut Deserializer<'de, '_, F>,
+    ) -> Result<Substr, F::Error>
+        ensures read { IfOk result (λ slice. Gives F.gives from.old (text (text_of slice)) from.new) }
+    {
+        DeserializeOwned::deserialize_owned(alloc, from)
+    }
+}

@@ -1,0 +1,13 @@
+use Rattle.std.proofs.Common.{◌≡◌, length, take}
+use Rattle.std.specs.Prelude.{IsUtf8}
+use Rattle.std.specs.List.{join_by}
+use Rattle.core.specs.Mem.Slots.{SamePlaces}
+use Rattle.core.specs.Mem.Slots.Ownership.{Filled}
+use Rattle.arcstr_block.proofs.joining.write_joined.Given as goal
+
+-- the texts up to now, joined, fill the first places
+abbrev pub invariant-loop-i : goal.invariant-loop-i
+invariant-loop-i g l =
+    SamePlaces l.fn.bytes l.bytes × (l.at ≡ length (join_by g.S.AsStr.text l.separator (take l.i l.texts))) ×
+    (take l.at l.bytes.items ≡ join_by g.S.AsStr.text l.separator (take l.i l.texts)) × IsUtf8 (join_by g.S.AsStr.text l.separator (take l.i l.texts)) ×
+    Filled l.bytes.filled 0 l.at

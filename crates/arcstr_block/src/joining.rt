@@ -1,0 +1,101 @@
+//! Making of a block that holds texts one behind the other, with a separator between each two.
+ghost use Rattle.std.specs.Prelude.{◌≡◌, ◌↔◌, ◌≤◌, ◌<◌, ◌+◌, ◌^◌, [], ◌++◌, length, take, SomeIff, IfOk, IfErr, IsErrOf, IsUtf8};
+ghost use Rattle.std.specs.List.{join_by};
+ghost use Rattle.core.specs.Mem.Slots.{SamePlaces, slots_len, slots_items, slots_filled};
+ghost use Rattle.core.specs.Mem.Slots.Ownership.{Filled};
+ghost use Rattle.arcstr_block.specs.Making.{IsTooLong, IsFaultOfMaking};
+
+use crate::fault::{TOO_LONG, TextFault};
+use crate::making::blank_block;
+use crate::shared::Shared;
+use arcstr_count::RC_MAX;
+use core::slots::Slots;
+use std::alloc::Allocator;
+use std::convert::AsStr;
+
+impl<const LIMIT: u64, A: Allocator + Copy> Shared<LIMIT, A> {
+    /// The first handle on a new block with these texts, joined by the separator: one request for memory. Where nothing
+    /// is joined it has a block too. Refused, in this order: `2^63 - 25` bytes or more (`Length`), and want of memory
+    /// (`Memory`). That `len` is the length of what is joined (`joined_len`), and `LIMIT` at most `RC_MAX`, are the
+    /// caller's conditions.
+    ///
+    /// ```
+    /// let text = Shared::<5, _>::join(rt.alloc(), &["a", "b"], ", ", 4)?;
+    /// assert_eq!(rt; text.as_str(), "a, b");
+    /// ```
+    pub fn join<S: AsStr>(
+        alloc: A,
+        texts: &[S],
+        separator: &str,
+        len: usize,
+    ) -> Result<Shared<LIMIT, A>, TextFault>
+        requires limit { LIMIT ≤ RC_MAX }
+        requires length { len ≡ length (join_by S.text separator.now texts.now) }
+        ensures made { IfOk result (λ made. made.text ≡ join_by S.text separator.now texts.now) }
+        ensures limit { IfOk result (λ made. made.limit ≡ LIMIT) }
+        ensures too_long { IsErrOf result TextFault.Length ↔ IsTooLong len }
+        ensures refused { IfErr result (IsFaultOfMaking len) }
+    {
+        if len >= TOO_LONG {
+            return Err(TextFault::Length);
+        }
+        let (blank, mut bytes) = blank_block(alloc, len)?;
+        write_joined(&mut bytes, texts, separator);
+        Ok(Shared::placed(blank.close(bytes), len, alloc))
+    }
+}
+
+/// The length in bytes of these texts, joined by the separator; `None` where it is past `usize`. It takes no memory.
+///
+/// ```
+/// assert_eq!(rt; joined_len(&["a", "b"], ", "), Some(4));
+/// assert_eq!(rt; joined_len(&["a"], ", "), Some(1));
+/// ```
+pub fn joined_len<S: AsStr>(texts: &[S], separator: &str) -> Option<usize>
+    ensures { SomeIff result (length (join_by S.text separator.now texts.now) < 2 ^ 64) (length (join_by S.text separator.now texts.now)) }
+{
+    let mut len: usize = 0;
+    for i in 0..texts.len() {
+        let text = texts[i].as_str();
+        len = len.checked_add(before(i, separator).len())?;
+        len = len.checked_add(text.len())?;
+    }
+    Some(len)
+}
+
+/// Writes the texts from the first place on, with the separator between each two.
+fn write_joined<S: AsStr>(bytes: &mut Slots<u8>, texts: &[S], separator: &str)
+    requires { slots_len bytes.old ≡ length (join_by S.text separator.now texts.now) }
+    ensures items { slots_items bytes.new ≡ join_by S.text separator.now texts.now }
+    ensures utf8 { IsUtf8 (slots_items bytes.new) }
+    ensures written { Filled (slots_filled bytes.new) 0 (slots_len bytes.old) }
+    ensures places { SamePlaces bytes.old bytes.new }
+{
+    let mut at = 0;
+    for i in 0..texts.len() {
+        let text = texts[i].as_str();
+        at = write(bytes, at, before(i, separator));
+        at = write(bytes, at, text);
+    }
+}
+
+/// What stands before the text of this number: nothing before the first.
+fn before(i: usize, separator: &str) -> &str
+    ensures first { i ≡ 0 → result.now ≡ [] }
+    ensures later { 0 < i → result.now ≡ separator.now }
+{
+    if i == 0 { "" } else { separator }
+}
+
+/// Writes a text behind the first `at` bytes. The answer is where it ends.
+fn write(bytes: &mut Slots<u8>, at: usize, text: &str) -> usize
+    requires room { at + length text.now ≤ slots_len bytes.old }
+    requires written { Filled (slots_filled bytes.old) 0 at }
+    ensures end { result ≡ at + length text.now }
+    ensures items { take result (slots_items bytes.new) ≡ take at (slots_items bytes.old) ++ text.now }
+    ensures written { Filled (slots_filled bytes.new) 0 result }
+    ensures places { SamePlaces bytes.old bytes.new }
+{
+    bytes.copy_in(at, text.as_bytes());
+    at + text.len()
+}

@@ -1,0 +1,242 @@
+-- The parts of a view, one after another.
+use Rattle.std.proofs.Common.{◌≡◌, ℕ, ◌+◌, ◌-◌, ◌<◌, Bool, true, false, cond, ◌==◌, Option, None, Some, IfNone, IfSome, take, drop, eq-eqb, List, [], ◌∷◌, ◌++◌, map, length, All, refl, sym, ap, subst, ◌∙◌, arith}
+use Rattle.std.specs.Prelude.{MatchOption, encode_utf8, encode_utf8_all}
+use Rattle.std.specs.Char.{len_utf8}
+use Rattle.std.specs.List.{filter, onto_first, slice_split}
+use Rattle.std.specs.Str.{IsCharBoundary, IsUtf8, all_scalars, NoCharPasses, NonePass, chars}
+use Rattle.std.specs.Str.Pattern.{FindsChar, MatchBeginsAt}
+use Rattle.std.proofs.lemmas.List.Elements.{All-nil, All-cons, All-head, All-tail}
+use Rattle.std.proofs.lemmas.List.Splits.{length-slice_split, slice_split_at, slice_split_none}
+use Rattle.std.proofs.lemmas.Str.{chars-append, chars_past_char, chars_from_encodes, encodes-chars, length-encode, encodes-append, scalars-chars, IsCharBoundary-at_seam, IsCharBoundary-end, IsCharBoundary-start, IsUtf8-drop, IsUtf8-take}
+use Rattle.std.proofs.lemmas.List.{append-nil, drop_at, length-append, length-drop, length-take-le, take-append-drop, take_all, take_at}
+use Rattle.std.proofs.lemmas.Slice.{between_is}
+use Rattle.arcstr_range.specs.Pieces.{AreFoundWith, laid_out, parts_at, parts_between, separators_of, texts_between}
+use Rattle.arcstr_range.specs.Ends.{IsSliceable}
+use Rattle.arcstr_range.specs.Text.{cut}
+use Rattle.arcstr_range.specs.View.{IsFoundAt, View, part_of, view_at}
+use Rattle.arcstr_range.proofs.Boundaries.{scalars-rest}
+use Rattle.arcstr_range.proofs.FoundParts.{found_part}
+
+module _ (test : ℕ → Bool) where
+  abbrev Fails : ℕ → Type 0
+  Fails c = test c ≡ false
+
+  all_fail : (characters : List ℕ) → NonePass test characters → All Fails characters
+  all_fail [] none = All-nil Fails
+  all_fail (c ∷ cs) none = All-cons Fails c cs none.0 (all_fail cs none.1)
+
+  -- the characters of a text of which none passes
+  chars_fail : (text : List ℕ) → IsUtf8 text → NoCharPasses test text → All Fails (chars text)
+  chars_fail text utf8 none = subst (All Fails) (chars_from_encodes none.0 text utf8 none.1) (all_fail none.0 none.2)
+
+  pub filter_one : (c : ℕ) (cs : List ℕ) (b : Bool) → test c ≡ b → filter test (c ∷ cs) ≡ cond b (c ∷ filter test cs) (filter test cs)
+  filter_one c cs b e = ap (λ (x : Bool). cond x (c ∷ filter test cs) (filter test cs)) e
+
+  pub filter_before : (front : List ℕ) (c : ℕ) (rest : List ℕ) → All Fails front → test c ≡ true → filter test (front ++ c ∷ rest) ≡ c ∷ filter test rest
+  filter_before [] c rest fail pass = filter_one c rest true pass
+  filter_before (x ∷ front) c rest fail pass =
+      filter_one x (front ++ c ∷ rest) false (All-head Fails x front fail) ∙ filter_before front c rest (All-tail Fails x front fail) pass
+
+  pub filter_none : (characters : List ℕ) → All Fails characters → filter test characters ≡ []
+  filter_none [] fail = refl
+  filter_none (x ∷ xs) fail = filter_one x xs false (All-head Fails x xs fail) ∙ filter_none xs (All-tail Fails x xs fail)
+
+  -- the characters of a text that has a front, a character and a rest
+  chars_of_three : (text front rest : List ℕ) (c : ℕ) → IsUtf8 front → IsUtf8 (encode_utf8 c ++ rest) → text ≡ front ++ (encode_utf8 c ++ rest)
+      → chars text ≡ chars front ++ c ∷ chars rest
+  chars_of_three text front rest c front_utf8 behind_utf8 split =
+      ap chars split ∙ chars-append front (encode_utf8 c ++ rest) front_utf8
+      ∙ ap (λ (l : List ℕ). chars front ++ l) (chars_past_char (encode_utf8 c ++ rest) rest c behind_utf8 refl)
+
+  texts_first : (text front rest : List ℕ) (c : ℕ) → IsUtf8 front → IsUtf8 (encode_utf8 c ++ rest) → text ≡ front ++ (encode_utf8 c ++ rest)
+      → NoCharPasses test front → test c ≡ true → texts_between test text ≡ front ∷ texts_between test rest
+  unfolding texts_between
+  texts_first text front rest c front_utf8 behind_utf8 split none pass =
+      ap (λ (l : List ℕ). map encode_utf8_all (slice_split test l)) (chars_of_three text front rest c front_utf8 behind_utf8 split)
+      ∙ ap (map encode_utf8_all) (slice_split_at test (chars front) c (chars rest) (chars_fail front front_utf8 none) pass)
+      ∙ ap (λ (l : List ℕ). l ∷ map encode_utf8_all (slice_split test (chars rest))) (encodes-chars front front_utf8)
+
+  separators_first : (text front rest : List ℕ) (c : ℕ) → IsUtf8 front → IsUtf8 (encode_utf8 c ++ rest) → text ≡ front ++ (encode_utf8 c ++ rest)
+      → NoCharPasses test front → test c ≡ true → separators_of test text ≡ encode_utf8 c ∷ separators_of test rest
+  unfolding separators_of
+  separators_first text front rest c front_utf8 behind_utf8 split none pass =
+      ap (λ (l : List ℕ). map encode_utf8 (filter test l)) (chars_of_three text front rest c front_utf8 behind_utf8 split)
+      ∙ ap (map encode_utf8) (filter_before (chars front) c (chars rest) (chars_fail front front_utf8 none) pass)
+
+  -- the first part ends before the first character that passes
+  pub parts_first : (place : ℕ) (text front rest : List ℕ) (c : ℕ) → IsUtf8 front → IsUtf8 (encode_utf8 c ++ rest) → text ≡ front ++ (encode_utf8 c ++ rest)
+      → NoCharPasses test front → test c ≡ true
+      → parts_between test (view_at text place) ≡ view_at front place ∷ parts_between test (view_at rest (place + length front + length (encode_utf8 c)))
+  unfolding parts_between
+  parts_first place text front rest c front_utf8 behind_utf8 split none pass =
+      ap (λ (l : List (List ℕ)). laid_out place l (separators_of test text)) (texts_first text front rest c front_utf8 behind_utf8 split none pass)
+      ∙ ap (λ (l : List (List ℕ)). laid_out place (front ∷ texts_between test rest) l) (separators_first text front rest c front_utf8 behind_utf8 split none pass)
+
+  -- where no character passes, the one part is the whole
+  pub parts_last : (place : ℕ) (text : List ℕ) → IsUtf8 text → NoCharPasses test text → parts_between test (view_at text place) ≡ view_at text place ∷ []
+  unfolding parts_between texts_between separators_of
+  parts_last place text utf8 none =
+      let fail = chars_fail text utf8 none in
+      ap (λ (l : List (List ℕ)). laid_out place (map encode_utf8_all l) (separators_of test text)) (slice_split_none test (chars text) fail)
+      ∙ ap (λ (l : List ℕ). laid_out place (encode_utf8_all (chars text) ∷ []) (map encode_utf8 l)) (filter_none (chars text) fail)
+      ∙ ap (λ (l : List ℕ). view_at l place ∷ []) (encodes-chars text utf8)
+
+-- ---- the parts have the texts, and are found
+
+texts_laid_out : (place : ℕ) (texts separators : List (List ℕ)) → map (λ view. view.text) (laid_out place texts separators) ≡ texts
+texts_laid_out place [] separators = refl
+texts_laid_out place (text ∷ texts) [] = ap (λ (l : List (List ℕ)). text ∷ l) (texts_laid_out (place + length text) texts [])
+texts_laid_out place (text ∷ texts) (separator ∷ separators) =
+    ap (λ (l : List (List ℕ)). text ∷ l) (texts_laid_out (place + length text + length separator) texts separators)
+
+pub texts_of_parts : (test : ℕ → Bool) (view : View) → map (λ part. part.text) (parts_between test view) ≡ texts_between test view.text
+unfolding parts_between
+texts_of_parts test view = texts_laid_out view.place (texts_between test view.text) (separators_of test view.text)
+
+-- the characters of the parts, with the separators between them
+abbrev joined : List (List ℕ) → List ℕ → List ℕ
+joined [] separators = []
+joined (part ∷ parts) [] = part ++ joined parts []
+joined (part ∷ parts) (separator ∷ separators) = part ++ (separator ∷ joined parts separators)
+
+joined-onto_first : (c : ℕ) (parts : List (List ℕ)) (separators : List ℕ) → 0 < length parts → joined (onto_first c parts) separators ≡ c ∷ joined parts separators
+joined-onto_first c [] separators some = absurd (omega arith)
+joined-onto_first c (part ∷ parts) [] some = refl
+joined-onto_first c (part ∷ parts) (separator ∷ separators) some = refl
+
+module _ (test : ℕ → Bool) where
+  joined_one : (c : ℕ) (cs : List ℕ) (b : Bool) → joined (slice_split test cs) (filter test cs) ≡ cs
+      → joined (cond b ([] ∷ slice_split test cs) (onto_first c (slice_split test cs))) (cond b (c ∷ filter test cs) (filter test cs)) ≡ c ∷ cs
+  joined_one c cs true same = ap (λ (l : List ℕ). c ∷ l) same
+  joined_one c cs false same =
+      joined-onto_first c (slice_split test cs) (filter test cs) (omega (arith, length-slice_split test cs)) ∙ ap (λ (l : List ℕ). c ∷ l) same
+
+  joined_parts : (cs : List ℕ) → joined (slice_split test cs) (filter test cs) ≡ cs
+  joined_parts [] = refl
+  joined_parts (c ∷ cs) = joined_one c cs (test c) (joined_parts cs)
+
+abbrev pub IsIn : List ℕ → View → Type 0
+IsIn parent view = IsFoundAt parent view.text view.place
+
+-- the two halves of a text are found where the text is
+module _ (parent front rest : List ℕ) (place : ℕ) (whole_utf8 : IsUtf8 (front ++ rest)) (rest_utf8 : IsUtf8 rest) (found : IsFoundAt parent (front ++ rest) place) where
+  at_seam : IsCharBoundary (front ++ rest) (length front)
+  at_seam = IsCharBoundary-at_seam (front ++ rest) front rest refl rest_utf8
+
+  found_front : IsFoundAt parent front place
+  found_front =
+      let sliced : IsSliceable (front ++ rest) 0 (length front) = record { in_order = omega arith; within = at_seam.0; at_boundaries = (IsCharBoundary-start (front ++ rest) whole_utf8, at_seam) } in
+      subst (λ (l : List ℕ). IsFoundAt parent l place) (between_is (front ++ rest) 0 (length front) ∙ take_at front rest (length front) refl)
+      (subst (λ (n : ℕ). IsFoundAt parent (cut (front ++ rest) 0 (length front)) n) (omega arith) (found_part parent (front ++ rest) place 0 (length front) sliced found))
+
+  found_rest : IsFoundAt parent rest (place + length front)
+  found_rest =
+      let size = length-append front rest in
+      let sliced : IsSliceable (front ++ rest) (length front) (length (front ++ rest)) = record { in_order = at_seam.0; within = omega arith; at_boundaries = (at_seam, IsCharBoundary-end (front ++ rest)) } in
+      subst (λ (l : List ℕ). IsFoundAt parent l (place + length front))
+      (ap (take (length (front ++ rest) - length front)) (drop_at front rest (length front) refl) ∙ take_all (length (front ++ rest) - length front) rest (omega (arith, size)))
+      (found_part parent (front ++ rest) place (length front) (length (front ++ rest)) sliced found)
+
+-- the text of characters is found in its two halves
+module _ (parent front rest : List ℕ) (place : ℕ) (scalars : all_scalars (front ++ rest) ≡ true) (found : IsFoundAt parent (encode_utf8_all (front ++ rest)) place) where
+  rest_scalars : all_scalars rest ≡ true
+  rest_scalars = scalars-rest front rest scalars
+
+  found_halves : IsFoundAt parent (encode_utf8_all front) place × IsFoundAt parent (encode_utf8_all rest) (place + length (encode_utf8_all front))
+  found_halves =
+      let whole = subst (λ (l : List ℕ). IsFoundAt parent l place) (encodes-append front rest) found in
+      let whole_utf8 : IsUtf8 (encode_utf8_all front ++ encode_utf8_all rest) = (front ++ rest, (scalars, encodes-append front rest)) in
+      let rest_utf8 : IsUtf8 (encode_utf8_all rest) = (rest, (rest_scalars, refl)) in (
+        found_front parent (encode_utf8_all front) (encode_utf8_all rest) place whole_utf8 rest_utf8 whole,
+        found_rest parent (encode_utf8_all front) (encode_utf8_all rest) place whole_utf8 rest_utf8 whole,
+      )
+
+found_laid_out : (parent : List ℕ) (parts : List (List ℕ)) (separators : List ℕ) (place : ℕ) → all_scalars (joined parts separators) ≡ true
+    → IsFoundAt parent (encode_utf8_all (joined parts separators)) place → All (IsIn parent) (laid_out place (map encode_utf8_all parts) (map encode_utf8 separators))
+found_laid_out parent [] separators place scalars found = All-nil (IsIn parent)
+found_laid_out parent (part ∷ parts) [] place scalars found =
+    let halves = found_halves parent part (joined parts []) place scalars found in
+    All-cons (IsIn parent) (view_at (encode_utf8_all part) place) _ halves.0
+    (found_laid_out parent parts [] (place + length (encode_utf8_all part)) (rest_scalars parent part (joined parts []) place scalars found) halves.1)
+found_laid_out parent (part ∷ parts) (separator ∷ separators) place scalars found =
+    let behind = separator ∷ joined parts separators in
+    let halves = found_halves parent part behind place scalars found in
+    let behind_scalars = rest_scalars parent part behind place scalars found in
+    let next = place + length (encode_utf8_all part) in
+    let both = found_halves parent (separator ∷ []) (joined parts separators) next behind_scalars halves.1 in
+    All-cons (IsIn parent) (view_at (encode_utf8_all part) place) _ halves.0
+    (found_laid_out parent parts separators (next + length (encode_utf8 separator)) (rest_scalars parent (separator ∷ []) (joined parts separators) next behind_scalars halves.1)
+    (subst (λ (l : List ℕ). IsFoundAt parent (encode_utf8_all (joined parts separators)) (next + length l)) (append-nil (encode_utf8 separator)) both.1))
+
+pub found_parts : (test : ℕ → Bool) (view : View) → IsUtf8 view.text → (parent : List ℕ) → IsFoundAt parent view.text view.place → All (IsIn parent) (parts_between test view)
+unfolding parts_between texts_between separators_of
+found_parts test view utf8 parent found =
+    let same = joined_parts test (chars view.text) in
+    found_laid_out parent (slice_split test (chars view.text)) (filter test (chars view.text)) view.place (ap all_scalars same ∙ scalars-chars view.text utf8)
+    (subst (λ (l : List ℕ). IsFoundAt parent l view.place) (sym (ap encode_utf8_all same ∙ encodes-chars view.text utf8)) found)
+
+-- ---- at a character, as std's `find` answers
+
+-- where the text has the character
+module _ (c : ℕ) (view : View) (place : ℕ) (utf8 : IsUtf8 view.text) (at : MatchBeginsAt (FindsChar c) view.text place) where
+  around : view.text ≡ take place view.text ++ (encode_utf8 c ++ drop at.0 view.text)
+  around = sym (take-append-drop place view.text) ∙ ap (λ (l : List ℕ). take place view.text ++ l) at.1.1.split
+
+  front_is : part_of view 0 place ≡ view_at (take place view.text) view.place
+  front_is = ap (λ (l : List ℕ). view_at l (view.place + 0)) (between_is view.text 0 place) ∙ ap (λ (n : ℕ). view_at (take place view.text) n) (omega arith)
+
+  behind_is : part_of view (place + len_utf8 c) (length view.text)
+      ≡ view_at (drop at.0 view.text) (view.place + length (take place view.text) + length (encode_utf8 c))
+  behind_is =
+      let cut_is : cut view.text (place + len_utf8 c) (length view.text) ≡ drop at.0 view.text =
+      ap (λ (start : ℕ). cut view.text start (length view.text)) (sym at.1.1.ends) ∙ take_all (length view.text - at.0) (drop at.0 view.text) (omega (arith, length-drop at.0 view.text)) in
+      ap (λ (l : List ℕ). view_at l (view.place + (place + len_utf8 c))) cut_is
+      ∙ ap (λ (n : ℕ). view_at (drop at.0 view.text) n) (omega (arith, length-encode c, length-take-le place view.text at.3.0))
+
+  pub before_place : parts_at c view ≡ part_of view 0 place ∷ parts_at c (part_of view (place + len_utf8 c) (length view.text))
+  unfolding parts_at
+  before_place =
+      parts_first (λ d. d == c) view.place view.text (take place view.text) (drop at.0 view.text) c (IsUtf8-take view.text place utf8 at.3)
+      (subst IsUtf8 at.1.1.split (IsUtf8-drop view.text place utf8 at.3)) around at.1.0 (eq-eqb c c refl)
+      ∙ ap (λ (v : View). v ∷ parts_between (λ d. d == c) (view_at (drop at.0 view.text) (view.place + length (take place view.text) + length (encode_utf8 c)))) (sym front_is)
+      ∙ ap (λ (v : View). part_of view 0 place ∷ parts_between (λ d. d == c) v) (sym behind_is)
+
+pub first_none : (c : ℕ) (view : View) (answer : Option ℕ) → IsUtf8 view.text
+    → MatchOption answer (FindsChar c view.text None) (MatchBeginsAt (FindsChar c) view.text) → IfNone answer (parts_at c view ≡ view ∷ [])
+unfolding parts_at
+first_none c view None utf8 cases = parts_last (λ d. d == c) view.place view.text utf8 cases
+first_none c view (Some place) utf8 cases = tt
+
+pub first_some : (c : ℕ) (view : View) (answer : Option ℕ) → IsUtf8 view.text
+    → MatchOption answer (FindsChar c view.text None) (MatchBeginsAt (FindsChar c) view.text)
+    → IfSome answer (λ place. parts_at c view ≡ part_of view 0 place ∷ parts_at c (part_of view (place + len_utf8 c) (length view.text)))
+first_some c view None utf8 cases = tt
+first_some c view (Some place) utf8 cases = before_place c view place utf8 cases
+
+pub lawful_before : (c : ℕ) (text : List ℕ) (answer : Option ℕ) → IsUtf8 text
+    → MatchOption answer (FindsChar c text None) (MatchBeginsAt (FindsChar c) text) → IfSome answer (λ place. IsSliceable text 0 place)
+lawful_before c text None utf8 cases = tt
+lawful_before c text (Some place) utf8 cases =
+    record { in_order = omega arith; within = cases.3.0; at_boundaries = (IsCharBoundary-start text utf8, cases.3) }
+
+pub lawful_behind : (c : ℕ) (text : List ℕ) (answer : Option ℕ)
+    → MatchOption answer (FindsChar c text None) (MatchBeginsAt (FindsChar c) text) → IfSome answer (λ place. IsSliceable text (place + len_utf8 c) (length text))
+lawful_behind c text None cases = tt
+lawful_behind c text (Some place) cases =
+    let past = subst (IsCharBoundary text) cases.1.1.ends cases.4 in
+    record { in_order = past.0; within = omega arith; at_boundaries = (past, IsCharBoundary-end text) }
+
+pub texts_of_parts_at : (c : ℕ) (view : View) → map (λ part. part.text) (parts_at c view) ≡ texts_between (λ d. d == c) view.text
+unfolding parts_at
+texts_of_parts_at c view = texts_of_parts (λ d. d == c) view
+
+pub found_parts_at : (c : ℕ) (view : View) → IsUtf8 view.text → AreFoundWith view (parts_at c view)
+unfolding parts_at
+found_parts_at c view utf8 = record { each = found_parts (λ d. d == c) view utf8 }
+
+-- named at the functions whose proofs use them
+pub ruleset first_places = (first_none, first_some)
+
+pub ruleset lawful_places = (lawful_before, lawful_behind)
+
+pub ruleset parts_at_facts = (texts_of_parts_at, found_parts_at)

@@ -1,0 +1,29 @@
+//! The whole of a view, and its part between two places that are known to be lawful.
+ghost use Rattle.std.specs.Prelude.{◌≡◌};
+ghost use Rattle.arcstr_range.specs.Ends.{IsSliceable};
+ghost use Rattle.arcstr_range.specs.View.{part_of};
+
+use crate::view::StrView;
+
+impl<'a> StrView<'a> {
+    /// The view once more.
+    pub(super) fn copied(&self) -> StrView<'a>
+        ensures { result ≡ self.now }
+    {
+        StrView {
+            text: self.text,
+            place: self.place,
+        }
+    }
+
+    /// The part between two places of the view's own text, in bytes, without a test.
+    pub(super) fn between(&self, start: usize, end: usize) -> StrView<'a>
+        requires { IsSliceable self.now.text start end }
+        ensures { result ≡ part_of self.now start end }
+    {
+        StrView {
+            text: &self.text[start..end],
+            place: self.place + start,
+        }
+    }
+}

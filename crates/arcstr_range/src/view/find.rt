@@ -1,0 +1,32 @@
+//! Where a pattern first matches in a view.
+ghost use Rattle.std.specs.Prelude.{IfSome, MatchOption, None};
+ghost use Rattle.std.specs.Str.{IsCharBoundary};
+ghost use Rattle.std.specs.Str.Pattern.{MatchBeginsAt};
+
+use crate::view::StrView;
+use std::str::pattern::Pattern;
+
+impl<'a> StrView<'a> {
+    /// The byte offset, within the view's text, of the first match of the pattern, as Rust's `str::find`: `cut` takes it as a
+    /// start or an end. A pattern is a `char`, a `&str` or another of std's patterns. `None` exactly where the text has no
+    /// match. It takes no memory, and time in proportion to the text.
+    ///
+    /// ```
+    /// let line = StrView::at("key = é", 10).ok_or("no view")?;
+    /// assert_eq!(rt; line.find('é'), Some(6));
+    /// assert_eq!(rt; line.find(" ="), Some(3));
+    /// assert_eq!(rt; line.find(':'), None);
+    /// ```
+    pub fn find<P: Pattern>(&self, pattern: P) -> Option<usize>
+    where
+        P: Drop,
+        requires { P.can_search pattern }
+        ensures cases { MatchOption result (P.find_in_gives pattern self.now.text None) (MatchBeginsAt (P.find_in_gives pattern) self.now.text) }
+        ensures boundary { IfSome result (IsCharBoundary self.now.text) }
+    {
+        self.text.find(pattern)
+    }
+}
+
+#[cfg(test)]
+mod tests;

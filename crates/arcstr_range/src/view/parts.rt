@@ -1,0 +1,163 @@
+//! Parts of a view: what lies on either side of a place, or of a match of a pattern. A pattern is a `char`, a `&str` or another
+//! of std's, of which the caller has to know that it can search (as of a closure that it may be called).
+ghost use Rattle.std.specs.Prelude.{◌≡◌, ◌↔◌, ◌-◌, ◌≤◌, ℕ, List, length, take, drop, IsSome, IfSome, MatchOption, None};
+ghost use Rattle.std.specs.Str.{IsCharBoundary};
+ghost use Rattle.std.specs.Str.Pattern.{SplitsAroundMatch, StripsPrefix, StripsSuffix};
+ghost use Rattle.arcstr_range.specs.View.{IsFoundAt, end_of, part_of};
+
+use crate::view::StrView;
+use std::str::pattern::Pattern;
+
+impl<'a> StrView<'a> {
+    /// The parts of the view before and after a place of its own text, in bytes, as Rust's
+    /// `str::split_at_checked`. `None` exactly where the place is past the text or inside a character. It takes
+    /// no memory.
+    ///
+    /// ```
+    /// let (name, rest) = StrView::whole("ab=c").split_at(2).ok_or("no place")?;
+    /// assert_eq!(rt; name.text(), "ab");
+    /// assert_eq!(rt; (rest.text(), rest.place()), ("=c", 2));
+    /// assert!(rt; StrView::whole("é").split_at(1).is_none());
+    /// ```
+    pub fn split_at(&self, place: usize) -> Option<(StrView<'a>, StrView<'a>)>
+        ensures some { IsSome result ↔ IsCharBoundary self.now.text place }
+        ensures before { IfSome result (λ parts. parts.0 ≡ part_of self.now 0 place) }
+        ensures after { IfSome result (λ parts. parts.1 ≡ part_of self.now place (length self.now.text)) }
+        ensures found { (parent : List ℕ) → IsFoundAt parent self.now.text self.now.place
+            → IfSome result (λ parts. IsFoundAt parent parts.0.text parts.0.place × IsFoundAt parent parts.1.text parts.1.place) }
+    {
+        let (before, after) = self.text.split_at_checked(place)?;
+        Some((self.at_start(before), self.at_end(after)))
+    }
+
+    /// The parts of the view before and after the first match of the separator, as Rust's `str::split_once`.
+    /// The first begins where the view begins, and the second ends where it ends. `None` exactly where there is no
+    /// match. It takes no memory.
+    ///
+    /// ```
+    /// let (name, value) = StrView::whole("a=b=c").split_once('=').ok_or("no `=`")?;
+    /// assert_eq!(rt; name.text(), "a");
+    /// assert_eq!(rt; (value.text(), value.place()), ("b=c", 2));
+    /// assert!(rt; StrView::whole("a=b").split_once("==").is_none());
+    /// ```
+    pub fn split_once<P: Pattern>(&self, separator: P) -> Option<(StrView<'a>, StrView<'a>)>
+    where
+        P: Drop,
+        requires { P.can_search separator }
+        ensures texts { MatchOption result (P.find_in_gives separator self.now.text None)
+            (λ parts. SplitsAroundMatch (P.find_in_gives separator) self.now.text parts.0.text parts.1.text) }
+        ensures start { IfSome result (λ parts. parts.0.place ≡ self.now.place) }
+        ensures end { IfSome result (λ parts. end_of parts.1 ≡ end_of self.now) }
+        ensures found { (parent : List ℕ) → IsFoundAt parent self.now.text self.now.place
+            → IfSome result (λ parts. IsFoundAt parent parts.0.text parts.0.place × IsFoundAt parent parts.1.text parts.1.place) }
+    {
+        let (before, after) = self.text.split_once(separator)?;
+        Some((self.at_start(before), self.at_end(after)))
+    }
+
+    /// The parts of the view before and after the last match of the separator, as Rust's `str::rsplit_once`.
+    /// The first begins where the view begins, and the second ends where it ends. `None` exactly where there is no
+    /// match. It takes no memory.
+    ///
+    /// ```
+    /// let path = StrView::whole("a::b::c");
+    /// let (crate_path, name) = path.rsplit_once("::").ok_or("no `::`")?;
+    /// assert_eq!(rt; crate_path.text(), "a::b");
+    /// assert_eq!(rt; (name.text(), name.place()), ("c", 6));
+    /// ```
+    pub fn rsplit_once<P: Pattern>(&self, separator: P) -> Option<(StrView<'a>, StrView<'a>)>
+    where
+        P: Drop,
+        requires { P.can_search separator }
+        ensures texts { MatchOption result (P.rfind_in_gives separator self.now.text None)
+            (λ parts. SplitsAroundMatch (P.rfind_in_gives separator) self.now.text parts.0.text parts.1.text) }
+        ensures start { IfSome result (λ parts. parts.0.place ≡ self.now.place) }
+        ensures end { IfSome result (λ parts. end_of parts.1 ≡ end_of self.now) }
+        ensures found { (parent : List ℕ) → IsFoundAt parent self.now.text self.now.place
+            → IfSome result (λ parts. IsFoundAt parent parts.0.text parts.0.place × IsFoundAt parent parts.1.text parts.1.place) }
+    {
+        let (before, after) = self.text.rsplit_once(separator)?;
+        Some((self.at_start(before), self.at_end(after)))
+    }
+
+    /// The rest of the view after a prefix that matches, as Rust's `str::strip_prefix`. It ends where the
+    /// view ends. `None` exactly where the text doesn't begin with a match. It takes no memory.
+    ///
+    /// ```
+    /// let option = StrView::whole("--all");
+    /// let name = option.strip_prefix("--").ok_or("no `--`")?;
+    /// assert_eq!(rt; (name.text(), name.place()), ("all", 2));
+    /// assert!(rt; name.strip_prefix('-').is_none());
+    /// ```
+    pub fn strip_prefix<P: Pattern>(&self, prefix: P) -> Option<StrView<'a>>
+    where
+        P: Drop,
+        requires { P.can_search prefix }
+        ensures text { MatchOption result (P.prefix_len_gives prefix self.now.text None)
+            (λ rest. StripsPrefix (P.prefix_len_gives prefix) self.now.text rest.text) }
+        ensures end { IfSome result (λ rest. end_of rest ≡ end_of self.now) }
+        ensures found { (parent : List ℕ) → IsFoundAt parent self.now.text self.now.place
+            → IfSome result (λ rest. IsFoundAt parent rest.text rest.place) }
+    {
+        let rest = self.text.strip_prefix(prefix)?;
+        Some(self.at_end(rest))
+    }
+
+    /// The rest of the view before a suffix that matches, as Rust's `str::strip_suffix`. It begins where the
+    /// view begins. `None` exactly where the text doesn't end with a match. It takes no memory.
+    ///
+    /// ```
+    /// let text = StrView::whole("ab\r\n");
+    /// let line = text.strip_suffix("\r\n").ok_or("no end")?;
+    /// assert_eq!(rt; (line.text(), line.place()), ("ab", 0));
+    /// assert!(rt; line.strip_suffix('\n').is_none());
+    /// ```
+    pub fn strip_suffix<P: Pattern>(&self, suffix: P) -> Option<StrView<'a>>
+    where
+        P: Drop,
+        requires { P.can_search suffix }
+        ensures text { MatchOption result (P.suffix_len_gives suffix self.now.text None)
+            (λ rest. StripsSuffix (P.suffix_len_gives suffix) self.now.text rest.text) }
+        ensures start { IfSome result (λ rest. rest.place ≡ self.now.place) }
+        ensures found { (parent : List ℕ) → IsFoundAt parent self.now.text self.now.place
+            → IfSome result (λ rest. IsFoundAt parent rest.text rest.place) }
+    {
+        let rest = self.text.strip_suffix(suffix)?;
+        Some(self.at_start(rest))
+    }
+
+    /// The part that begins where the view begins, of a prefix of its text.
+    #[tactic(auto, using(crate::proofs::Affixes::found_prefixes))]
+    fn at_start(&self, prefix: &'a str) -> StrView<'a>
+        requires within { length prefix.now ≤ length self.now.text }
+        requires prefix { prefix.now ≡ take (length prefix.now) self.now.text }
+        ensures text { result.text ≡ prefix.now }
+        ensures place { result.place ≡ self.now.place }
+        ensures found { (parent : List ℕ) → IsFoundAt parent self.now.text self.now.place
+            → IsFoundAt parent result.text result.place }
+    {
+        StrView {
+            text: prefix,
+            place: self.place,
+        }
+    }
+
+    /// The part that ends where the view ends, of a suffix of its text.
+    #[tactic(auto, using(crate::proofs::Affixes::found_suffixes))]
+    fn at_end(&self, suffix: &'a str) -> StrView<'a>
+        requires within { length suffix.now ≤ length self.now.text }
+        requires suffix { suffix.now ≡ drop (length self.now.text - length suffix.now) self.now.text }
+        ensures text { result.text ≡ suffix.now }
+        ensures end { end_of result ≡ end_of self.now }
+        ensures found { (parent : List ℕ) → IsFoundAt parent self.now.text self.now.place
+            → IsFoundAt parent result.text result.place }
+    {
+        StrView {
+            text: suffix,
+            place: self.place + (self.text.len() - suffix.len()),
+        }
+    }
+}
+
+#[cfg(test)]
+mod tests;

@@ -1,0 +1,92 @@
+//! The words of a view. No call here allocates.
+ghost use Rattle.std.specs.Prelude.{◌≡◌, [], map, IfNone, IfSome};
+ghost use Rattle.std.specs.Char.{is_whitespace};
+ghost use Rattle.std.specs.List.{filter};
+ghost use Rattle.std.specs.Iterator.{YieldsFirst, item_count};
+ghost use Rattle.arcstr_range.specs.Pieces.{AreFoundWith, IsFirstWordAt, is_not_empty, texts_between, words_of};
+
+use crate::view::StrView;
+use std::marker::Model;
+use std::ops::Range;
+
+/// The words of a view, from `StrView::split_whitespace`: an iterator. Its contracts see it as the list of the words that are
+/// still to come, and each `next` takes the first off the list.
+///
+/// ```
+/// let view = StrView::at("é\u{3000}b", 4).ok_or("no view")?;
+/// let mut words = view.split_whitespace();
+/// let first = words.next().ok_or("no word")?;
+/// let second = words.next().ok_or("no word")?;
+/// assert_eq!(rt; (first.range(), second.range()), (4..6, 9..10));
+/// ```
+#[derive(Drop)]
+pub struct SplitWhitespace<'a> {
+    rest: StrView<'a>,
+}
+
+impl<'a> Model for SplitWhitespace<'a> {
+    ghost use Rattle.std.specs.Prelude.{List};
+    ghost use Rattle.arcstr_range.specs.Pieces.{words_of};
+    ghost use Rattle.arcstr_range.specs.View.{View};
+
+    ghost Value = { List View };
+
+    ghost view = { λ it. words_of it.rest };
+}
+
+impl<'a> StrView<'a> {
+    /// The words of the view, in their order, as Rust's `str::split_whitespace`: its parts between white space that are not
+    /// empty. White space is `char::is_whitespace`, past ASCII too. Each word lies at its place, and is found wherever the
+    /// view is found. All words together take time in proportion to the text.
+    ///
+    /// ```
+    /// let word = StrView::whole(" a  b ").split_whitespace().last();
+    /// let last = word.ok_or("no word")?;
+    /// assert_eq!(rt; (last.text(), last.range()), ("b", 4..5));
+    /// ```
+    #[tactic(auto, using(crate::proofs::WordPlaces::facts_of_words))]
+    pub fn split_whitespace(&self) -> SplitWhitespace<'a>
+        ensures value { result ≡ words_of self.now }
+        ensures texts { map (λ word. word.text) result ≡ filter is_not_empty (texts_between is_whitespace self.now.text) }
+        ensures found { AreFoundWith self.now result }
+    {
+        SplitWhitespace {
+            rest: StrView {
+                text: self.text(),
+                place: self.place,
+            },
+        }
+    }
+}
+
+impl<'a> Iterator for SplitWhitespace<'a> {
+    type Item = StrView<'a>;
+
+    ghost next_gives = { YieldsFirst (λ rest. rest) };
+
+    ghost remaining = { item_count (λ rest. rest) };
+
+    fn next(&mut self) -> Option<StrView<'a>> {
+        let place = first_word(&self.rest)?;
+        let end = place.end;
+        let word = self.rest.between(place.start, end);
+        self.rest = self.rest.between(end, self.rest.text().len());
+        Some(word)
+    }
+}
+
+/// The range of the first word in the view's text.
+fn first_word(view: &StrView<'_>) -> Option<Range<usize>>
+    ensures none { IfNone result (words_of view.now ≡ []) }
+    ensures some { IfSome result (λ word. IsFirstWordAt view.now word.start word.end) }
+{
+    let text = view.text();
+    let Some(word) = text.split_whitespace().next() else {
+        return None;
+    };
+    let start = text.len() - text.trim_start().len();
+    Some(start..start + word.len())
+}
+
+#[cfg(test)]
+mod tests;

@@ -1,0 +1,56 @@
+//! A configuration, whose sections, keys and values are slices of one text.
+ghost use Rattle.std.specs.Prelude.{◌≡◌};
+ghost use Rattle.std.specs.Option.{option_copied};
+ghost use Rattle.example_config.specs.Entries.{value_at};
+
+use crate::fault::{Fault, Refusal};
+use crate::line::Line;
+use arcstr::{ArcStr, Substr};
+use std::alloc::{AllocError, Global};
+use std::collections::BTreeMap;
+use std::sync::Wait;
+
+/// The values by their keys, in sections by their names, and the faults of the lines that were not read. What stands before
+/// the first section is in the one with the empty name. Of two entries with one key, the last is kept.
+#[derive(Drop)]
+pub struct Config {
+    pub sections: BTreeMap<Substr, BTreeMap<Substr, Substr>>,
+    pub faults: Vec<Fault>,
+}
+
+impl Config {
+    /// The configuration that the text has. No part of the text is copied.
+    pub fn read(rt: &impl Wait, alloc: Global, text: &ArcStr) -> Result<Config, AllocError> {
+        let mut sections = BTreeMap::new(alloc);
+        let mut faults = Vec::new(alloc);
+        let mut section = Substr::new();
+        let mut number: usize = 0;
+        for line in text.view().lines() {
+            number = number.saturating_add(1);
+            let start = line.place();
+            match Line::read(rt, &text.substr_from(rt, line.trim())) {
+                Ok(Line::Blank) => {}
+                Ok(Line::Section(name)) => section = name,
+                Ok(Line::Pair(entry)) => {
+                    let entries = sections
+                        .entry(section.clone(rt))?
+                        .or_insert(BTreeMap::new(alloc));
+                    entries.insert(entry.key, entry.value)?;
+                }
+                Err(Refusal { reason, place }) => faults.push(Fault {
+                    line: number,
+                    column: text.get(start..place).unwrap_or("").chars().count() + 1,
+                    reason,
+                })?,
+            }
+        }
+        Ok(Config { sections, faults })
+    }
+
+    /// The value of the key in the section. Allocates nothing and takes no atomic step.
+    pub fn get(&self, section: &str, key: &str) -> Option<&Substr>
+        ensures { option_copied result ≡ value_at self.now section.now key.now }
+    {
+        self.sections.get(section)?.get(key)
+    }
+}

@@ -1,0 +1,44 @@
+//! Why a line of a configuration is not read, and where.
+ghost use Rattle.std.specs.Prelude.{◌≡◌};
+
+use arcstr::Substr;
+use thiserror::Error;
+
+/// Why a line is not read.
+#[derive(Clone, Copy, Debug, PartialEq, Eq, Error)]
+pub enum Reason {
+    #[error("no `=`")]
+    NoEqualsSign,
+    #[error("no key before the `=`")]
+    NoKey,
+    #[error("a section that does not end with its one `]`")]
+    OpenSection,
+    #[error("a value that does not end with its second quote")]
+    OpenQuote,
+}
+
+/// A line that is not read. Lines and columns are counted from 1, and columns in characters.
+#[derive(Debug, Drop, Error)]
+#[error("line {line}, column {column}: {reason}")]
+pub struct Fault {
+    pub line: usize,
+    pub column: usize,
+    pub reason: Reason,
+}
+
+/// A reason, and the byte offset of the part of the text that it is about.
+#[derive(Drop)]
+pub struct Refusal {
+    pub reason: Reason,
+    pub place: usize,
+}
+
+impl Refusal {
+    pub fn at(part: &Substr, reason: Reason) -> Refusal
+        ensures reason { result.reason ≡ reason }
+        ensures place { result.place ≡ part.now.start }
+    {
+        let place = part.range().start;
+        Refusal { reason, place }
+    }
+}

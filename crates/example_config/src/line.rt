@@ -1,0 +1,73 @@
+//! What a line of a configuration says.
+ghost use Rattle.std.specs.Prelude.{◌≡◌, ◌↔◌, Contains, IfSome, IsSome};
+ghost use Rattle.std.specs.Str.{chars};
+ghost use Rattle.arcstr.specs.Substr.{text_of};
+ghost use Rattle.example_config.specs.Entries.{IsEnclosed, IsEntry, equals_sign};
+
+use crate::fault::{Reason, Refusal};
+use arcstr::Substr;
+use std::sync::Wait;
+
+/// A line `key = value`.
+#[derive(Drop)]
+pub struct Entry {
+    pub key: Substr,
+    pub value: Substr,
+}
+
+impl Entry {
+    /// The entry that the line is: what stands before and after its first `=`, without the white space around it. `None`
+    /// exactly where the line has no `=`. Allocates nothing.
+    pub fn read(rt: &impl Wait, line: &Substr) -> Option<Entry>
+        ensures found { IsSome result ↔ Contains (chars (text_of line.now)) equals_sign }
+        ensures sides { IfSome result (IsEntry line.now) }
+    {
+        let (key, value) = line.substr_split_once(rt, '=')?;
+        Some(Entry {
+            key: key.substr_trim(rt),
+            value: value.substr_trim(rt),
+        })
+    }
+}
+
+/// What stands between the two characters, of a slice that begins with `first` and ends with the next `last` in it. Allocates
+/// nothing.
+pub fn between(rt: &impl Wait, slice: &Substr, first: char, last: char) -> Option<Substr>
+    ensures text { IfSome result (λ inner. IsEnclosed slice.now first last inner) }
+    ensures kept { IfSome result (λ inner. inner.parent ≡ slice.now.parent) }
+{
+    let (before, rest) = slice.substr_split_once(rt, first)?;
+    let (inner, after) = rest.substr_split_once(rt, last)?;
+    (before.is_empty() && after.is_empty()).then_some(inner)
+}
+
+/// What a line says.
+#[derive(Drop)]
+pub enum Line {
+    Blank,
+    Section(Substr),
+    Pair(Entry),
+}
+
+impl Line {
+    /// What a trimmed line says: nothing where it is empty or begins with `#`, a section where it begins with `[`, and else an
+    /// entry, its value without the quotes around it. Allocates nothing.
+    pub fn read(rt: &impl Wait, line: &Substr) -> Result<Line, Refusal> {
+        if line.is_empty() || line.starts_with('#') {
+            return Ok(Line::Blank);
+        }
+        if line.starts_with('[') {
+            let name = between(rt, line, '[', ']').ok_or(Refusal::at(line, Reason::OpenSection))?;
+            return Ok(Line::Section(name.substr_trim(rt)));
+        }
+        let mut entry = Entry::read(rt, line).ok_or(Refusal::at(line, Reason::NoEqualsSign))?;
+        if entry.key.is_empty() {
+            return Err(Refusal::at(line, Reason::NoKey));
+        }
+        if entry.value.starts_with('"') {
+            let inner = between(rt, &entry.value, '"', '"');
+            entry.value = inner.ok_or(Refusal::at(&entry.value, Reason::OpenQuote))?;
+        }
+        Ok(Line::Pair(entry))
+    }
+}

@@ -1,0 +1,38 @@
+//! Prints the first field of each line of its input, where fields end with a comma.
+#![tactic(auto)]
+
+ghost use Rattle.std.specs.Prelude.{◌≡◌, ◌↔◌, Contains, IfSome, IsSome};
+ghost use Rattle.std.specs.Str.{chars, trim};
+ghost use Rattle.arcstr.specs.Splitting.{AreAround};
+ghost use Rattle.arcstr.specs.Substr.{SubstrView, slice_of, text_of};
+
+use arcstr::{ArcStr, Substr};
+use std::io;
+use std::sync::Wait;
+
+/// The character after each field but the last.
+const COMMA: char = ',';
+
+fn main(rt: HostRuntime) -> io::Result<()> {
+    let alloc = rt.alloc();
+    let input = io::read_to_string(alloc, rt.stdin())?;
+    for line in input.lines() {
+        let line = ArcStr::from_str(alloc, line)?;
+        match first_field(&rt, &line) {
+            Some(field) => println!(rt; "{field}, at byte {}", field.range().start)?,
+            None => println!(rt; "one field: {line}")?,
+        }
+    }
+    Ok(())
+}
+
+/// What stands before the first comma of the line, without the white space around it. `None` exactly where the line has no comma.
+fn first_field(rt: &impl Wait, line: &ArcStr) -> Option<Substr>
+    ensures found { IsSome result ↔ Contains (chars line.now.text) COMMA }
+    ensures text { IfSome result (λ field. (parts : SubstrView × SubstrView)
+        × AreAround line.now.text (slice_of line.now) COMMA parts × (text_of field ≡ trim (text_of parts.0))) }
+    ensures kept { IfSome result (λ field. field.parent ≡ line.now) }
+{
+    let (field, _) = line.substr_split_once(rt, COMMA)?;
+    Some(field.substr_trim(rt))
+}
