@@ -1,6 +1,7 @@
 -- What the calls answer that take a text apart. As in `Slicing`, `between` is the slice between two places of the receiver's
 -- own text. A place is counted in bytes. What a search for a pattern finds, and the parts around it, is said in std's words.
-use Rattle.std.specs.Prelude.{◌≡◌, ◌↔◌, ℕ, ◌+◌, ◌-◌, List, ◌∷◌, ◌++◌, length, take, drop, Contains, encode_utf8, encode_utf8_all, Option, Result, IsSome, IfSome, IsOk, IfOk, IsErrOf}
+use Rattle.std.specs.Prelude.{◌≡◌, ◌↔◌, ℕ, ◌+◌, ◌-◌, List, ◌∷◌, ◌++◌, length, take, drop, Contains, encode_utf8, encode_utf8_all}
+use Rattle.std.specs.Prelude.{Option, Result, IsSome, IfSome, IsOk, IfOk, IsErrOf}
 use Rattle.std.specs.Char.{len_utf8}
 use Rattle.std.specs.Str.{chars}
 use Rattle.std.specs.Str.Pattern.{FindsChar}

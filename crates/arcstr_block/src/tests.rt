@@ -313,8 +313,8 @@ fn a_mark_keeps_the_block(rt: HostRuntime) -> Result<(), Fail> {
     Ok(())
 }
 
-/// How often a thread looks for the others.
-const LOOKS: u32 = 100_000_000;
+/// How often a thread looks for the others: for many seconds, since other programs may keep them from starting.
+const LOOKS: u64 = 10_000_000_000;
 
 /// Two threads that look for each other: each sets its flag and notes whether it saw the other's.
 #[derive(Drop)]

@@ -3,8 +3,8 @@ use arcstr::ArcStr;
 use std::sync::atomic::{AtomicU64, Ordering};
 use std::test::Fail;
 
-/// How often a worker looks for the others.
-const LOOKS: u32 = 100_000_000;
+/// How often a worker looks for the others: for many seconds, since other programs may keep them from starting.
+const LOOKS: u64 = 10_000_000_000;
 
 /// Nothing waits here.
 struct OpenGate;

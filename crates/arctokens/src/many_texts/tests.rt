@@ -12,8 +12,8 @@ use std::sync::atomic::{AtomicU64, Ordering};
 use std::test::Fail;
 use std::thread::Threads;
 
-/// How often a worker looks for the others.
-const LOOKS: u32 = 100_000_000;
+/// How often a worker looks for the others: for many seconds, since other programs may keep them from starting.
+const LOOKS: u64 = 10_000_000_000;
 
 /// Two texts: of two words, and of none.
 fn two_texts(rt: &(impl Abort + AllocGlobal)) -> [ArcStr; 2] {
