@@ -7,7 +7,7 @@ use arcstr::{ArcStr, Substr, format_arcstr};
 use std::alloc::Global;
 
 /// The calls, in the order of their lines.
-pub(crate) const CALLS: [Making; 9] = [
+pub(crate) const CALLS: [Making; 11] = [
     Making::FromStr,
     Making::TryAlloc,
     Making::FromUtf8,
@@ -17,6 +17,8 @@ pub(crate) const CALLS: [Making; 9] = [
     Making::InitWith,
     Making::SubstrFromStr,
     Making::FormatArcstr,
+    Making::Deserialize,
+    Making::SubstrDeserialize,
 ];
 
 #[derive(Clone, Copy)]
@@ -30,6 +32,8 @@ pub(crate) enum Making {
     InitWith,
     SubstrFromStr,
     FormatArcstr,
+    Deserialize,
+    SubstrDeserialize,
 }
 
 impl Making {
@@ -45,6 +49,8 @@ impl Making {
                 "ArcStr::init_with: the text, count 1, no closure runs without memory",
             Making::SubstrFromStr => "Substr::from_str: the text, its range, count 1",
             Making::FormatArcstr => "format_arcstr!: the text, count 1",
+            Making::Deserialize => "ArcStr::deserialize: the text, count 1",
+            Making::SubstrDeserialize => "Substr::deserialize: the text, its range, count 1",
         }
     }
 
@@ -59,6 +65,8 @@ impl Making {
             Making::InitWith => init_with(meter, alloc),
             Making::SubstrFromStr => slice_from_str(meter, alloc),
             Making::FormatArcstr => formatted(meter, alloc),
+            Making::Deserialize => deserialized(meter, alloc),
+            Making::SubstrDeserialize => slice_deserialized(meter, alloc),
         }
     }
 }
@@ -135,6 +143,20 @@ fn formatted(meter: Meter, alloc: Global) -> Result<(), Stop> {
     let made = format_arcstr!(alloc; "cool {} and {}", 123, 456);
     meter.end();
     check_made(meter, made, "cool 123 and 456")
+}
+
+fn deserialized(meter: Meter, alloc: Global) -> Result<(), Stop> {
+    meter.begin();
+    let read: Result<ArcStr, _> = serde_json::from_str(alloc, "\"foobar\"");
+    meter.end();
+    check_made(meter, read, "foobar")
+}
+
+fn slice_deserialized(meter: Meter, alloc: Global) -> Result<(), Stop> {
+    meter.begin();
+    let read: Result<Substr, _> = serde_json::from_str(alloc, "\"foobar\"");
+    meter.end();
+    check_slice_made(meter, read, "foobar")
 }
 
 /// Compares what was made with this text, in a block of its own, where it was not refused, and drops it.

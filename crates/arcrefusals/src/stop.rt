@@ -49,7 +49,7 @@ impl Part {
             Part::Order => "an order",
             Part::Hash => "a hash",
             Part::Reply => "a reply",
-            Part::Given => "how often a block was given back",
+            Part::Given => "how often a block was freed",
             Part::Answer => "an answer",
             Part::Gate => "how often a worker passed its gate",
             Part::Fault => "a fault",
@@ -102,6 +102,16 @@ impl From<JsonFault> for Stop {
         match fault {
             JsonFault::Memory => Stop::Refused,
             _ => Stop::Differs(Part::Fault),
+        }
+    }
+}
+
+impl From<serde_json::Error> for Stop {
+    fn from(fault: serde_json::Error) -> Stop {
+        if fault.is_memory() {
+            Stop::Refused
+        } else {
+            Stop::Differs(Part::Fault)
         }
     }
 }

@@ -96,7 +96,7 @@ const LISTS: [List; 15] = [
         replies: "made 0; handle 1; raw; looked; left; refused 1 NoHandle; unraw; looked; owes; given",
     },
     List {
-        about: "of two blocks one is given back",
+        about: "of two blocks one is freed",
         limit: 5,
         steps: "make; make; clone 0; begin 1; sub 1; back 1; look 0",
         replies: "made 0; made 1; handle 2; looked; owes; given; count 2",
