@@ -1,4 +1,4 @@
--- Beside what is owed no share of a free handle's seat is on its block, so a handle that is lent is on another. Assumes `Logic`.
+-- Beside what is owed there is no share of a free handle's seat on that block, so a borrowed handle is on another one. Assumes `Logic`.
 use Rattle.std.proofs.Common.{◌≡◌, ◌≢◌, ℕ, List, [], ◌∷◌, zero-add, sym, refl, ap}
 use Rattle.std.specs.Prelude.{Some, slice_get}
 use native.Mathlib.Decide.{ℕ_discrete}

@@ -1,4 +1,4 @@
--- `begin` is one load. A drop goes on where it finds no mark.
+-- `begin` is one load. A drop goes on if it finds the word unmarked.
 use Rattle.std.proofs.Common.{◌≡◌, ℕ, ◌+◌, [], ◌∷◌, sym, refl, ap, subst, if◌then◌else◌, lit<, length, arith, w64, ◌^◌, ◌<◌}
 use mir.Syntax.{dcons, dnil, a_type}
 use mir.Val.{Val, vptr, vint}

@@ -1,4 +1,4 @@
--- `load` is one load. A look that finds the mark has a share for good, and a clone that finds it is had.
+-- `load` is one load. A look that finds the word marked has a permanent share, and a clone that finds it marked succeeds.
 use Rattle.std.proofs.Common.{◌≡◌, ℕ, Bool, ◌+◌, List, [], ◌∷◌, sym, refl, ap, ◌∙◌, lit<, length, arith, w64, ◌^◌, ◌<◌}
 use mir.Syntax.{dcons, dnil, a_type, named}
 use mir.Val.{Val, vptr, vint}

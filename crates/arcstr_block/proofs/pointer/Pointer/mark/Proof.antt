@@ -1,4 +1,4 @@
--- `mark` is one fetch-or. Whoever sets or finds the mark has a share for good.
+-- `mark` is one fetch-or. Whoever sets or finds the static flag has a permanent share.
 use Rattle.std.proofs.Common.{◌≡◌, ℕ, ◌+◌, List, [], ◌∷◌, sym, refl, ap, ◌∙◌, lit<, w64, length, arith, ◌^◌, ◌<◌}
 use mir.Syntax.{dcons, dnil, a_type, named}
 use mir.Val.{Val, vint, vptr}

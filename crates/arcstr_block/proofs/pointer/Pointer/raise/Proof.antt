@@ -1,4 +1,4 @@
--- `raise` is one compare-exchange. Where it finds the old word or the mark, a clone is had.
+-- `raise` is one compare-exchange. If it finds the old word or a marked one, the clone succeeds.
 use Rattle.std.proofs.Common.{◌≡◌, ℕ, ◌+◌, List, [], ◌∷◌, sym, refl, ap, ◌∙◌, w64, length, arith}
 use mir.Syntax.{dcons, dnil, a_type, named}
 use mir.Val.{Val, vint, vptr}

@@ -1,4 +1,4 @@
--- `seen` hands out what the pointer knows of the history, which is for good.
+-- `seen` returns what the pointer knows of the history, which is permanent.
 use Rattle.std.proofs.Common.{◌≡◌, ℕ, [], ◌∷◌, refl, length}
 use mir.Syntax.{dcons, dnil, a_type, named}
 use mir.Val.{Val, vptr}
