@@ -47,9 +47,9 @@ pub(crate) enum Fault {
     NotUtf8,
 }
 
-/// Runs the program, and returns its status: 0 if it is done, 1 for other arguments, 2 for a limit that is
-/// too large, 3 for out of memory, 4 for a fault of reading or writing, 5 if a thread could not be
-/// started, 6 if the input of `tokens` is not UTF-8.
+/// Runs the program, and returns its status: 0 if it is done, 1 for arguments that mean no command, 2 for a
+/// limit that is too large, 3 for out of memory, 4 for a fault of reading or writing, 5 if a thread could
+/// not be started, 6 if the input of `tokens` is not UTF-8.
 ///
 /// A status above 0 has a line, which goes to `errors`; a fault in writing it does not change the status.
 /// `rt` permits threads and waits, and provides the machine's allocator for the texts of threads.
@@ -178,7 +178,7 @@ where
 }
 
 /// The status if the program's own arguments could not be read: out of memory, or an argument that is
-/// not a text, which counts as other arguments.
+/// not a text, which counts as no command.
 ///
 /// ```
 /// let mut errors = Vec::new(rt.alloc());

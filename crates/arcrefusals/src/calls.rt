@@ -12,7 +12,7 @@ use std::io;
 use std::sync::Wait;
 use std::thread::Threads;
 
-/// How often a call is made before the program gives up. Two tries suffice if one request is refused.
+/// How often a call is made before the program gives up. Two tries suffice if one allocation is refused.
 pub(crate) const TRIES: usize = 4;
 
 /// A call of the library.

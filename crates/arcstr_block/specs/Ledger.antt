@@ -47,7 +47,7 @@ Names = GName × GName
 abbrev pub names : Id → Names
 names t = (t.2, t.3)
 
--- the block's names, and a beginning of its history
+-- the block's names, and a prefix of its history
 abbrev pub known : Id → Names → List Step → Fml
 known t block history = fsep (fact (names t ≡ block)) (reached t.2 history)
 

@@ -12,7 +12,7 @@ use std::marker::{Model, PhantomData};
 use std::mem::align_of;
 use std::slice;
 
-/// What lies behind the bytes of a text, at the first multiple of 8 past them.
+/// What follows the bytes of a text, at the first multiple of 8 past them.
 pub(crate) struct Tail {
     pub(crate) word: u64,
     pub(crate) length: usize,

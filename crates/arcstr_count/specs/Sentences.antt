@@ -1,6 +1,6 @@
 -- What the definitions on histories mean, each as a sentence about the prefixes of a history.
 --
--- A history is the list of its steps in their natural order, and a prefix of it is the beginning of that list.
+-- A history is the list of its steps in their natural order. A prefix of it has its first n steps, for some n.
 -- The laws in `src/sentences.rt` prove each sentence equal to its definition.
 use Rattle.std.specs.Prelude.{◌≡◌, ℕ, ◌<◌, Bool, true, false, ◌&&◌, ◌==◌, ◌⊎◌, IsTrue, IsFalse, Option, None, Some}
 use Rattle.std.specs.Prelude.{List, [], ◌∷◌, ◌++◌, length, filter, take, slice_get}
@@ -221,9 +221,9 @@ ByFact fact holds fails reply = (fact × (reply ≡ holds)) ⊎ ((¬ fact) × (r
 abbrev pub IsOnMarked : ℕ → List Step → ℕ → Type 0
 IsOnMarked limit history h = IsTrue (marked_after limit history (block_after limit history h))
 
--- What an accepted step answers: a birth answers the number of the handle, which is how many were born before it; a
--- look `Static` at a marked block, else how many handles live on it; a beginning `Ended` on a marked block, else
--- `Looked`; a subtraction `Owes` if its block is unmarked and no other handle lives on it, else `Left`.
+-- What an accepted step answers: `Make` and `Clone` the number of handles born before it; `Look` `Static` at a marked
+-- block, else how many handles live on it; `Begin` `Ended` on a marked block, else `Looked`; `Sub` `Owes` if its block
+-- is unmarked and no other handle lives on it, else `Left`. Each other step has one reply.
 abbrev pub AcceptedAnswer : ℕ → List Step → Step → Reply → Type 0
 AcceptedAnswer limit history Make reply = reply ≡ Made (births_after limit history)
 AcceptedAnswer limit history (Look h) reply =

@@ -1,6 +1,6 @@
 //! What the definitions on histories mean, each as a sentence about the prefixes of a history.
 //!
-//! A history is the list of its steps in their natural order, and a prefix of it is the beginning of that list.
+//! A history is the list of its steps in their natural order. A prefix of it has its first n steps, for some n.
 //! Each function here does nothing: its contract is the law that a definition and its sentence are equal,
 //! for each limit and history. No function here has a precondition.
 

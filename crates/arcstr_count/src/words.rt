@@ -16,7 +16,7 @@ pub const RC_MAX: u64 = (1 << 62) - 1;
 
 /// The count word of a block: the static flag, which says that the block is marked static, and a count.
 ///
-/// It is one `u64`: bit 0 is the flag, the other 63 bits are the count. No call on it takes memory.
+/// It is one `u64`: bit 0 is the flag, the other 63 bits are the count. No call on it allocates.
 ///
 /// Plain data of 8 bytes: it may be copied, sent and shared, and its drop does nothing.
 ///

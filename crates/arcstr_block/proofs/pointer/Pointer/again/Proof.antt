@@ -70,7 +70,7 @@ again_spec 𝓤 𝓛 𝓜 𝓡 wired Y K g d dd met md =
     rewrite ! 1 (λ (ws : List Val). ‵ (cell_at e D.mir ws b o)) (sym ev) refl $ move ! (1 ∷ 0 ∷ 2 ∷ []) $ shuts ! tt D e (p, (tt, tt)) vs b o $
     -- [κ; the fields; the permanent share; the invariant; what is shared; what is known; the others]
     move ! (0 ∷ 6 ∷ []) $ join ! $ move ! (2 ∷ 4 ∷ []) $ fjoin ! $ move ! (4 ∷ []) $ fsplit ! $ fpick ! (λ known. drop ! $
-    -- [the beginning; the right; the tokens; the fields; the invariant]
+    -- [the prefix; the right; the tokens; the fields; the invariant]
     let h' : Row.Denot = record h { right = fixed } in let r : Val = pointer_val p in
     move ! (1 ∷ 4 ∷ 0 ∷ []) $ use3 𝓛 (‵ (Row.own_val h' (pointer_val p ∷ []))) (framed.pointer_in 𝓛 B g h' t known inb) $
     sets ! (agg ! (no_more !)) refl (tt, tt) $ sets ! (is ! (agg ! (and_then ! (get ! refl) (and_then ! (get ! refl) (no_more !)))) (ap pointer_val
