@@ -52,10 +52,10 @@ pub(crate) enum Fault {
 /// not be started, 6 if the input of `tokens` is not UTF-8.
 ///
 /// A status above 0 has a line, which goes to `errors`; a fault in writing it does not change the status.
-/// `rt` permits threads and waits, and provides the machine's allocator for the texts of threads.
+/// `rt` permits it to start threads and to wait, and provides the machine's allocator for the texts of threads.
 ///
 /// The contract does not say that memory is available: the tests `answers_a_script`,
-/// `two_workers_print_their_texts` and `prints_the_words_of_each_line` catch a body that always answers 3.
+/// `two_workers_print_their_texts` and `prints_the_words_of_each_line` catch a body that always answers 3 to a command.
 ///
 /// ```
 /// let words = [String::from_str(rt.alloc(), "script")?];

@@ -4,7 +4,7 @@ use crate::stop::{Part, Stop, check};
 use arcstr::block::{Shared, TextFault};
 use std::alloc::Global;
 
-/// A block that a clone marks when more than five handles live.
+/// A block that a clone marks while more than five handles on it live.
 type Block = Shared<5, Global>;
 
 /// The calls, in the order of their lines.

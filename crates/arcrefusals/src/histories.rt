@@ -151,7 +151,7 @@ fn answer_to_a_script(meter: Meter, alloc: Global) -> Result<(), Stop> {
     Ok(())
 }
 
-/// Runs a script into a buffer of the answer's length. Nothing is written there if the call is refused.
+/// Calls `copy` with a buffer of the answer's length as output. Nothing is written there if the call is refused.
 fn copy_of_a_script(meter: Meter, alloc: Global) -> Result<(), Stop> {
     let mut room = [0; 28];
     let mut input = Port::new(SCRIPT);

@@ -137,7 +137,7 @@ fn formatted(meter: Meter, alloc: Global) -> Result<(), Stop> {
     check_made(meter, made, "cool 123 and 456")
 }
 
-/// Compares the new text with this text, in a block of its own, if the call was not refused, and drops it.
+/// Checks that the new text is this text in a block of its own, if the call was not refused, and drops it.
 pub(crate) fn check_made<E: Into<Stop>>(
     meter: Meter,
     made: Result<ArcStr, E>,
@@ -153,7 +153,7 @@ pub(crate) fn check_made<E: Into<Stop>>(
     }
 }
 
-/// Compares the new slice with all of this text, in a block of its own, if the call was not refused, and
+/// Checks that the new slice is all of this text in a block of its own, if the call was not refused, and
 /// drops it.
 pub(crate) fn check_slice_made<E: Into<Stop>>(
     meter: Meter,

@@ -189,8 +189,8 @@ fn check_lists(meter: Meter, lists: Result<Vec<Vec<Substr>>, AllocError>) -> Res
     Ok(())
 }
 
-/// Compares the words of a text with this many letters from `a` on, each at an even byte offset. Compares the
-/// count of the text with that of its owner and one for each word.
+/// Compares the words of a text with this many letters from `a` on, each at an even byte offset, and the
+/// count of the text with one for its owner and one for each word.
 fn check_words(words: &[Substr], wanted: usize) -> Result<(), Stop> {
     check(Part::Length, words.len() == wanted)?;
     for (at, (word, letter)) in words.iter().zip(["a", "b", "c", "d", "e"]).enumerate() {

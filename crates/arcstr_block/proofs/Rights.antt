@@ -81,7 +81,7 @@ module _ {M : Type 1} {𝓤 : Ura M} (𝓛 : Logic 𝓤) (P : Fml) (L b o : ℕ)
     abbrev Held : ℕ → Right → Fml
     Held h = right_to P L b o t s h
 
-    -- what a right shows by which the block can be read
+    -- what a right that may read the block shows
     pub may_see : (h : ℕ) (right : Right) → MaySee right → (κ : Lft) → ⟦ Shown h right κ ⟧ ⊢ ⟦ fshr_bor κ (λ q. flft a q) ⟧ ∗ ⟦ finv I ⟧ ∗ ⟦ s a ⟧
     may_see h nothing may κ = absurd (may.0 refl)
     may_see h counted may κ = qed 𝓛 (‵ (Shown h counted κ) ∷ []) ∵ fsplit3 ! $ move ! (2 ∷ []) $ fsplit3 ! $ keep ! (3 ∷ 1 ∷ 2 ∷ []) $ done !

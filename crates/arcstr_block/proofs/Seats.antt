@@ -1,4 +1,4 @@
--- The seats of a block's handles: any share reads them, what a handle has moves them, and a new one comes at the end. Assumes `Logic`.
+-- The seats of a block's handles: any share reads a seat, what a handle has changes it, and a new seat comes at the end. Assumes `Logic`.
 use Rattle.std.proofs.Common.{◌≡◌, ℕ, zero, suc, ◌+◌, ◌<◌, List, [], ◌∷◌, ◌++◌, length, set, sym, refl, ap, subst, arith, Some}
 use Rattle.std.specs.Prelude.{slice_get}
 use mathlib.Core.Path.{Path}

@@ -88,6 +88,6 @@ module _ {M : Type 1} {𝓤 : Ura M} (𝓛 : Logic 𝓤) (P : Fml) (L b o : ℕ)
         rewrite ! 0 (λ (k : ℕ). ‵ (Book h.limit k h.block.1 0)) γ refl $ rewrite ! 0 (λ (k : ℕ). ‵ (Book h.limit t.2 k 0)) δ refl $
         by ! (not_marked h.limit Away)
 
-    -- what is owed is another block than one that is known to be marked
+    -- what is owed is a different block from one that is known to be marked
     pub other_block : h.right ≡ owed → names t ≡ block → ⟦ Own ⟧ ∗ ⟦ finv I ⟧ ∗ ⟦ Good ⟧ ⊢ H.⇛ Away
     other_block mine named = by_names mine named (ℕ_discrete h.block.0 block.0) (ℕ_discrete h.block.1 block.1)

@@ -115,7 +115,7 @@ impl<A: Allocator> Sole<A> {
     }
 }
 
-/// The word offset: how many bytes past the address of a block its word lies, the first multiple of 8 past a text of `len` bytes.
+/// The word offset of a block, in bytes past its address: the first multiple of 8 past a text of `len` bytes.
 pub(crate) fn place_of_word(len: usize) -> usize
     requires { Fits len }
     ensures { result ≡ word_place len }

@@ -61,7 +61,7 @@ impl<A: Allocator + Copy> Fixed<A> {
         self.len
     }
 
-    /// The same block once more. The call takes no atomic step and does not allocate.
+    /// Another `Fixed` for the same block. The call takes no atomic step and does not allocate.
     ///
     /// ```
     /// let fixed = Shared::<5, _>::from_text(rt.alloc(), "aé")?.mark();

@@ -1,4 +1,4 @@
-//! One counted block: an atomic count word and a text, in the allocator that made it.
+//! One counted block: an atomic count word and a text, in one piece of memory from its allocator.
 //!
 //! A `Shared` is one handle on a block. Its clone is a compare-exchange, its drop a load and a fetch-sub. A mark, which is
 //! a fetch-or, makes the block permanent. Whoever subtracts last takes the whole memory, as `Owed`.

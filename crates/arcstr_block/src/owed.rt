@@ -110,7 +110,7 @@ impl<A: Allocator + Copy> Owed<A> {
         (owed, other)
     }
 
-    /// The law that a borrowed handle is on another block than the one that is owed. It returns what is owed, and takes no
+    /// The law that a borrowed handle is on a different block from the one that is owed. It returns what is owed, and takes no
     /// atomic step.
     ///
     /// ```

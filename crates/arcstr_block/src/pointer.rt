@@ -3,7 +3,7 @@
 //!
 //! A `Pointer` is one address when it runs. Its right, seat and history are ghost, and the proof of each function
 //! (`proofs/pointer/Pointer/NAME/Proof.antt`) moves them, so a body shows only the machine's step. Each step gets the
-//! word offset, `place`, which is how many bytes past the address the word lies. `make` begins the history with `Make`, and `release`
+//! word offset, `place`: how many bytes past the address the word lies. `make` begins the history with `Make`, and `release`
 //! ends it with `Back`; `IntoRaw` and `FromRaw` never occur in it.
 ghost use Rattle.std.specs.Prelude.{◌≡◌, ◌≢◌, ℕ, Bool, List, length, IsUtf8};
 ghost use Rattle.std.specs.Coded.{coded_list};

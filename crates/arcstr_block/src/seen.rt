@@ -8,8 +8,8 @@ ghost use Rattle.arcstr_block.specs.Handle.{IsFront};
 
 use std::marker::{Model, PhantomData};
 
-/// A prefix of the history of a block, which it stays permanently. It has no bytes, can be sent and shared, and its drop does
-/// nothing. Its one function, a law, does not allocate and does not wait.
+/// A permanent fact: a prefix of the history of a block. It has no bytes, can be sent and shared, and its drop does nothing.
+/// Its one function, a law, does not allocate and does not wait.
 ///
 /// `history` lists the steps in their order, and `block` names the block: its history, and the seats of its handles.
 ///

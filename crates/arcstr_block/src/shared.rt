@@ -286,7 +286,7 @@ impl<const LIMIT: u64, A: Allocator + Copy> Shared<LIMIT, A> {
         (first, other)
     }
 
-    /// The law that what is owed is another block than this handle's. No atomic step.
+    /// The law that what is owed is a different block from this handle's. No atomic step.
     pub(crate) fn alone_from(&self, other: Pointer<A>) -> Pointer<A>
         requires { other.right ≡ owed }
         ensures same { result ≡ other }

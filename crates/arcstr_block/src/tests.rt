@@ -358,7 +358,7 @@ fn up_together<const LIMIT: u64, R: Wait>(
     handle.up(rt)
 }
 
-/// The look after two threads took a clone each, before any drop; whether both clones read the text, and whether the
+/// The look after two threads made one clone each, before any drop; whether both clones read the text, and whether the
 /// two threads ran at once.
 fn look_after_two<const LIMIT: u64, R: Threads + Wait + Sync>(
     rt: &R,

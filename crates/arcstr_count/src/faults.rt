@@ -33,7 +33,7 @@ pub enum StepFault {
 }
 
 impl StepFault {
-    /// The number of the fault, counted from 1. The reply to a line of a script has it. The call takes no memory.
+    /// The number of the fault, counted from 1. A script's reply contains it. The call does not allocate.
     ///
     /// ```
     /// assert_eq!(rt; StepFault::NoHandle.number(), 1);
@@ -52,7 +52,7 @@ impl StepFault {
         }
     }
 
-    /// The name of the fault, as it is printed. The call takes no memory.
+    /// The name of the fault, as it is printed. The call does not allocate.
     ///
     /// ```
     /// assert_eq!(rt; StepFault::IsRaw.name(), "IsRaw");
@@ -100,7 +100,7 @@ pub enum RunFault {
 
 impl RunFault {
     /// The number of the fault, counted from 1, for callers that pass faults on as numbers. In this repository
-    /// only tests read it. The call takes no memory.
+    /// only tests read it. The call does not allocate.
     ///
     /// ```
     /// assert_eq!(rt; RunFault::LimitTooLarge.number(), 1);
@@ -115,7 +115,7 @@ impl RunFault {
         }
     }
 
-    /// The text of the fault, as it is printed. The call takes no memory.
+    /// The text of the fault, as it is printed. The call does not allocate.
     ///
     /// ```
     /// assert_eq!(rt; RunFault::Memory.text(), "out of memory");

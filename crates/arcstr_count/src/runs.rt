@@ -15,8 +15,8 @@ use std::alloc::Allocator;
 /// The reply to each step of a list, starting from the empty history. The limit is the greatest count, in
 /// handles, at which a clone still counts.
 ///
-/// The call allocates the replies and a world, and frees the world. It tests `LimitTooLarge`, a limit above
-/// `RC_MAX`, first. It fails with `Memory` when an allocation fails.
+/// The call allocates the replies and a world, and frees the world. It first checks for `LimitTooLarge`, a limit
+/// above `RC_MAX`; then it fails with `Memory` if an allocation fails.
 ///
 /// ```
 /// let steps = [Step::Make, Step::Clone(0), Step::Look(1)];

@@ -139,7 +139,7 @@ pub fn given_is(limit: u64, history: &[Step], block: u64)
 /// What a step answers. A refused step answers the fault that the table of refusals has for the state of its
 /// handle. `Make` and `Clone` answer the number of births before them. `Look` answers `Static` at a marked
 /// block, else how many handles live on it. `Begin` answers `Ended` on a marked block, else `Looked`. `Sub`
-/// answers `Owes` if its block is unmarked and no other handle lives on it, else `Left`. Any other has one reply.
+/// answers `Owes` if its block is unmarked and no other handle lives on it, else `Left`. Any other step has one reply.
 /// It does nothing when it runs.
 ///
 /// ```

@@ -114,7 +114,7 @@ impl<A: Allocator + Copy> World<A> {
     }
 
     /// How often the block with this number was freed: 0 or 1 times, and 0 for a block that was never made.
-    /// The call takes no memory.
+    /// The call does not allocate.
     ///
     /// ```
     /// let mut world = World::new(rt.alloc(), 2)?;
@@ -345,7 +345,7 @@ impl<A: Allocator + Copy> World<A> {
     }
 }
 
-/// How often a block was freed by what its entry says, and 0 where it has no entry.
+/// How often a block was freed, according to its entry; 0 if it has no entry.
 fn given_by_entry(entry: Option<BlockEntry>) -> u64
     ensures made { IfSome entry (λ found. result ≡ (if found.given then 1 else 0)) }
     ensures unmade { IsNone entry → result ≡ 0 }
