@@ -14,7 +14,7 @@ IsTooLong n = least_too_long ≤ n
 abbrev pub IsFaultOfMaking : ℕ → TextFault → Type 0
 IsFaultOfMaking n fault = ((fault ≡ Length) × IsTooLong n) ⊎ (fault ≡ Memory)
 
--- the byte offset up to which bytes that are not a text are one: no longer prefix of them is a text
+-- bytes that are not UTF-8 are refused with the length of their longest prefix that is UTF-8
 abbrev pub IsFaultOfBytes : List ℕ → TextFault → Type 0
 IsFaultOfBytes bytes fault = (¬ IsUtf8 bytes) × IsValidUpTo bytes (utf8_valid_len bytes) × (fault ≡ Utf8 (utf8_valid_len bytes))
 

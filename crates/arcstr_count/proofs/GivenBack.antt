@@ -54,7 +54,7 @@ module _ (limit : ℕ) (handles : List HandleSummary) (blocks : List BlockEntry)
           let unmade : makes (past_of limit history) ≤ b = let long = ap length are ∙ length-entries_of limit (past_of limit history) in omega arith in
           sym (unmade_block limit (past_of limit history) b (IsPast-past_of limit history) unmade).1
 
-  -- the number is how often the found entry says that the block was given, and 0 where no entry was found
+  -- the number is how often the block was freed according to the entry that was found; 0 if no entry was found
   pub given_of_entry : (known : Option BlockEntry) (n : ℕ) → known ≡ slice_get blocks b
       → IfSome known (λ e. n ≡ (if e.given then 1 else 0)) → (IsNone known → n ≡ 0) → SaysGiven w b n
   given_of_entry None n is made unmade = subst (λ k. SaysGiven w b k) (sym (unmade refl)) (given_of_unmade (sym is))

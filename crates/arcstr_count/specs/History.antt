@@ -1,7 +1,7 @@
 -- Histories of steps on counted blocks: births, the block of a handle, and what was done to it.
 --
 -- A history is the list of its steps in their natural order. A past has the accepted steps of a history,
--- with the latest step first, so that a prefix of the history is a suffix of the past.
+-- with the latest step first, so that a prefix of the history gives a suffix of the past.
 use Rattle.std.specs.Prelude.{ℕ, zero, suc, Bool, true, false, not, ◌&&◌, ◌==◌, if◌then◌else◌, List, [], ◌∷◌, ◌++◌}
 use Rattle.arcstr_count.specs.declared.steps.Step.{Step}
 use Rattle.arcstr_count.specs.declared.steps.Step.TheVariants.{Make, Clone, Begin, Sub, Back, IntoRaw, FromRaw}
