@@ -1,6 +1,6 @@
-//! `arcbench script` answers its input, a script of steps on counted blocks; `arcbench threads N` starts
-//! callers of one text in threads of their own; `arcbench tokens N` prints the words of each line of its
-//! input.
+//! `arcbench script` runs the script in its input, a script of steps on counted blocks; `arcbench threads N`
+//! starts callers of one text in threads of their own; `arcbench tokens N` prints the words of each line of
+//! its input.
 #![tactic(auto)]
 
 use arcbench_core::port::Port;
@@ -29,7 +29,7 @@ fn main(rt: HostRuntime) -> ExitCode {
     ExitCode::from(status)
 }
 
-/// The words after the program's name.
+/// The arguments after the program's name.
 fn words<R: Env + AllocGlobal>(rt: &R) -> io::Result<Vec<String>> {
     Ok(env::args(rt)?.skip(1).collect(rt.alloc())?)
 }

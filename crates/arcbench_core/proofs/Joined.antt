@@ -28,7 +28,7 @@ map-same f g (suc n) same =
     let last : f n ≡ g n = same n (omega arith) in
     rw (map-append f (numbers_below n) (n ∷ []), map-append g (numbers_below n) (n ∷ []), front, last) refl
 
--- a line at the end does not change the answers to those before it
+-- a line at the end does not change the answers to the lines before it
 answer_at-front : (limit : ℕ) (before : List (List ℕ)) (line : List ℕ) (k : ℕ) → k < length before → answer_at limit (before ++ line ∷ []) k ≡ answer_at limit before k
 answer_at-front limit before line k h =
     let le : k ≤ length before = omega arith in

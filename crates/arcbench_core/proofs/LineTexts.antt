@@ -1,4 +1,4 @@
--- A line has a step exactly where it is the text of the step.
+-- A line has a step exactly if it is the text of the step.
 use Rattle.std.proofs.Common.{◌≡◌, ◌==◌, ◌⊎◌, inl, inr, ℕ, zero, suc, ◌^◌, ◌+◌, ◌<◌, ◌≤◌, Bool, true, false, not, if◌then◌else◌, List, [], ◌∷◌, ◌++◌}
 use Rattle.std.proofs.Common.{length, get_or, Option, None, Some, refl, sym, ap, ◌∙◌, arith}
 use Rattle.std.specs.Prelude.{codes, option_and_then, IfSome}
@@ -19,7 +19,7 @@ use Rattle.arcbench_core.proofs.Numbers.{own, is_decimal-true, from_is_decimal}
 
 -- ---- numbers
 
--- the parts of an `if` that gives a value
+-- the two cases of an `if` that gives a value
 chosen : {X : Type 0} (b : Bool) (x y : X) (other : Option X) → (if b then Some x else other) ≡ Some y → ((b ≡ true) × (x ≡ y)) ⊎ (other ≡ Some y)
 chosen true x y other e = inl (refl, cc)
 chosen false x y other e = inr e
@@ -31,7 +31,7 @@ idle_zero text none zero_first some =
       | inr short ↦ omega arith
     ]
 
--- a NUMBER is what `decimal` writes of its value
+-- a NUMBER is the text that `decimal` gives for its value
 pub number_of-Some : (text : List ℕ) (n : ℕ) → number_of text ≡ Some n → (text ≡ decimal n) × (n < 2 ^ 64)
 number_of-Some text n e =
     elim (chosen _ (digits_value 10 text) n None e) [
@@ -62,12 +62,12 @@ number_of-decimal n h =
     let is : is_decimal (decimal n) ≡ true = is_decimal-true (decimal n) (digits_decimal own n h, decimal_nonempty n h, small) in
     rw (is, no_idle_zero n h, value) refl
 
--- ---- words
+-- ---- commands
 
 same_bytes : (xs ys : List ℕ) → bytes_eq xs ys ≡ true → xs ≡ ys
 same_bytes xs ys e = (bytes_eq-Decides xs ys).0 e
 
--- a line with bytes after its word is the word, a space and those bytes
+-- a line with bytes after its command is the command, a space and those bytes
 word_and_rest : (line : List ℕ) → 0 < length (after_word line) → line ≡ word_of line ++ 32 ∷ after_word line
 word_and_rest line some =
     elim (cases_lt (position_or_len (λ b. b == 32) line) (length line)) [
@@ -87,7 +87,7 @@ number_after line n e =
     let some : 0 < length (after_word line) = rw number.0 (decimal_nonempty n number.1) in
     word_and_rest line some ∙ ap (λ rest. word_of line ++ 32 ∷ rest) number.0
 
--- the words of steps
+-- the commands of steps
 step_named-Some : (word : List ℕ) (h : ℕ) (step : Step) → step_named word h ≡ Some step → word ++ 32 ∷ decimal h ≡ line_text step
 step_named-Some word h step e =
     elim (chosen (bytes_eq word (codes "look")) (Look h) step _ e) [
@@ -163,7 +163,7 @@ limit_of-Some line n e = limit_by (bytes_eq (word_of line) (codes "limit")) refl
 pub limit_of-limit_text : (n : ℕ) → n < 2 ^ 64 → limit_of (limit_text n) ≡ Some n
 limit_of-limit_text n h = number_of-decimal n h
 
--- ---- what a function that computes these says
+-- ---- the contracts of functions that compute these definitions
 
 if_some : {X : Type 0} (o : Option X) (P : X → Type 0) → ((x : X) → o ≡ Some x → P x) → IfSome o P
 if_some None P h = tt

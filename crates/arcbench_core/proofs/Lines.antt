@@ -20,7 +20,7 @@ without_empty_last-one : (part : List ℕ) → 0 < length part → without_empty
 without_empty_last-one [] h = absurd (omega arith)
 without_empty_last-one (b ∷ part) h = refl
 
--- no byte passes where the first that does is past the end
+-- no byte passes if the index of the first that does is past the end
 none_passes : (p : ℕ → Bool) (bytes : List ℕ) → length bytes ≤ position_or_len p bytes → All (λ b. p b ≡ false) bytes
 none_passes p bytes h =
     All-from_get_or (λ b. p b ≡ false) bytes 0
@@ -37,7 +37,7 @@ cut p bytes h (inr absent) =
 pub lines_of-first : (bytes : List ℕ) → 0 < length bytes → lines_of bytes ≡ before_first (λ b. b == 10) bytes ∷ lines_of (after_first (λ b. b == 10) bytes)
 lines_of-first bytes h = cut (λ b. b == 10) bytes h (cases_lt (position_or_len (λ b. b == 10) bytes) (length bytes))
 
--- bytes with no byte 10 are one line
+-- bytes without byte 10 are one line
 pub lines_of-none : (bytes : List ℕ) → 0 < length bytes → position_or_len (λ b. b == 10) bytes ≡ length bytes → lines_of bytes ≡ bytes ∷ []
 lines_of-none bytes h absent =
     let past : length bytes ≤ position_or_len (λ b. b == 10) bytes = omega (arith, absent) in

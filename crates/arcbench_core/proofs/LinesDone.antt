@@ -1,4 +1,4 @@
--- What stands after the first lines are answered.
+-- What holds once the first lines are answered.
 use Rattle.std.proofs.Common.{◌≡◌, ℕ, List, [], ◌∷◌, ◌++◌, refl, sym, ◌∙◌}
 use Rattle.std.proofs.lemmas.List.{append_assoc, append-nil}
 use Rattle.arcstr_count.specs.Summary.{WorldView, StandsFor}
@@ -6,7 +6,7 @@ use Rattle.arcbench_core.specs.Line.{step_of}
 use Rattle.arcbench_core.specs.Script.{steps_of, history_with, answer_by, answers}
 use Rattle.arcbench_core.proofs.Joined.{answers-push, steps_of-push}
 
--- of all lines these are done and those are left, and the world and the bytes tell of the ones done
+-- of all lines, `done` are answered and `left` are not; the world and the bytes are those after `done`
 pub record LinesDone (all done left : List (List ℕ)) (first world : WorldView) (start out : List ℕ) : Type 0 where
   pub parts : all ≡ done ++ left
   pub limit : world.summary.limit ≡ first.summary.limit

@@ -1,4 +1,4 @@
--- What `parse` gives of a NUMBER.
+-- What `parse` returns for a NUMBER.
 use Rattle.std.proofs.Common.{◌≡◌, ◌≢◌, ℕ, ◌^◌, ◌<◌, Bool, true, false, if◌then◌else◌, List, length, get_or, None, Some, Result, Ok, Err, refl, ap}
 use Rattle.std.specs.Result.{OkIff, result_ok}
 use Rattle.std.specs.Str.{all_ascii_digits, IsUtf8}
@@ -22,7 +22,7 @@ from_is_decimal text h =
     let front = and_parts _ _ parts.0 in
     (front.0, ltb-true _ _ front.1, ltb-true _ _ parts.1)
 
--- the value where the text is decimal, by what `parse` says
+-- the value, if the text is decimal, according to `parse`
 decimal_by : (text : List ℕ) (b : Bool) → is_decimal text ≡ b → {E : Type 0} → (r : Result ℕ E) → OkIff r ((all_ascii_digits text ≡ true) × (0 < length text) × (digits_value 10 text < 2 ^ 64)) (digits_value 10 text) → result_ok r ≡ (if b then Some (digits_value 10 text) else None)
 decimal_by text true is (Ok x) h = ap Some h.1
 decimal_by text false is (Ok x) h = absurd (let e = is_decimal-true text h.0 in cc)

@@ -1,4 +1,4 @@
--- The lines of slices, one slice and one list at a time, and that they are the lines of the words.
+-- The lines of slices, one slice and one list at a time; they are the lines of the words.
 use Rattle.std.proofs.Common.{◌≡◌, ℕ, ◌+◌, ◌<◌, List, [], ◌∷◌, ◌++◌, length, map, take, get_or, refl, sym, ap, subst, ◌∙◌, arith}
 use Rattle.std.specs.List.{AllZip, concat}
 use Rattle.std.proofs.lemmas.List.{map-append, append-nil, append_assoc, length-take-le, take_more}
@@ -10,7 +10,7 @@ use Rattle.arctokens.specs.Words.{AreWords}
 use Rattle.arcbench_core.specs.Line.{lines_of}
 use Rattle.arcbench_core.specs.TokenLines.{IsTokenAnswer, word_line, word_lines, lines_from, texts_of, slice_line, slice_lines, lines_of_lists}
 
--- one slice more
+-- one more slice
 slice_lines-push : (number : ℕ) (slices : List SubstrView) (slice : SubstrView)
     → slice_lines number (slices ++ slice ∷ []) ≡ slice_lines number slices ++ slice_line number slice
 slice_lines-push number slices slice =
@@ -30,7 +30,7 @@ pub appended-more : (start before after passed line all : List ℕ) → after �
 appended-more start before after passed line all grown so_far more =
     grown ∙ ap (λ front. front ++ line) so_far ∙ append_assoc start passed line ∙ ap (λ lines. start ++ lines) (sym more)
 
--- one list more
+-- one more list
 lines_of_lists-push : (number : ℕ) (lists : List TokenList) (list : TokenList)
     → lines_of_lists number (lists ++ list ∷ []) ≡ lines_of_lists number lists ++ slice_lines (number + length lists) list.items
 lines_of_lists-push number [] list =
@@ -58,7 +58,7 @@ slice_lines-words : (number : ℕ) (text : TextView) (words : List (ℕ × ℕ))
 slice_lines-words number text [] = refl
 slice_lines-words number text (word ∷ words) = ap (λ rest. word_line number text.text word ++ rest) (slice_lines-words number text words)
 
--- the words of each text, and that the lines of all lists are theirs
+-- the words of each text, whose lines are the lines of all lists
 pub record HasWords (number : ℕ) (texts : List TextView) (lists : List TokenList) : Type 0 where
   pub words : List (List (ℕ × ℕ))
   pub are_words : AllZip AreWords (texts_of texts) words
@@ -79,7 +79,7 @@ HasWords-tokens number (text ∷ texts) (list ∷ lists) are =
           ∙ ap (λ rest. word_lines number text.text here.words ++ rest) more.lines;
     }
 
--- the lines of all lists are the answer to the input whose lines the texts are
+-- the lines of all lists are the answer to the input whose lines are the texts
 pub IsTokenAnswer-lists : (input start output : List ℕ) (texts read : List TextView) (lists shown : List TokenList)
     → texts_of texts ≡ lines_of input → read ≡ texts → AreTokensOfEach read lists → shown ≡ lists
     → start ≡ [] → output ≡ start ++ lines_of_lists 0 shown → IsTokenAnswer input output

@@ -1,4 +1,4 @@
--- An input is known to be UTF-8 or not where its bytes are known.
+-- If the bytes of an input are known, it is known whether the input is UTF-8.
 use Rattle.std.proofs.Common.{◌≡◌, ◌≢◌, ◌↔◌, ℕ, List, refl, subst}
 use Rattle.std.specs.Prelude.{Option, None, Some, Result, Ok, Err, IfSome, IfErr, OnOk}
 use Rattle.std.specs.Str.{IsUtf8}
@@ -8,21 +8,21 @@ use Rattle.arcbench_core.specs.declared.script.copies.CopyFault.TheVariants.{Lim
 use Rattle.arcbench_core.specs.declared.pool.PoolFault.TheVariants.{Memory as PoolMemory, NoThread}
 use Rattle.arcbench_core.specs.Program.{status_of}
 
--- the sign says, where the input is known, that it is not UTF-8
+-- if the input is known, the sign holds exactly if the input is not UTF-8
 abbrev pub SaysNotUtf8 : Option (List ℕ) → Type 0 → Type 0
 SaysNotUtf8 known sign = IfSome known (λ bytes. sign ↔ ¬ (IsUtf8 bytes))
 
--- two signs that come together say the same
+-- two equivalent signs say the same
 pub same_sign : (known : Option (List ℕ)) (P Q : Type 0) → SaysNotUtf8 known P → (Q → P) → (P → Q) → SaysNotUtf8 known Q
 same_sign None P Q says there back = tt
 same_sign (Some bytes) P Q says there back = ((λ q. says.0 (there q)), (λ n. back (says.1 n)))
 
--- what is said of the bytes that were read is said of the input
+-- what is said about the bytes that were read is said about the input
 pub says_of_input : (known : Option (List ℕ)) (read : List ℕ) (P : Type 0) → IfSome known (λ bytes. read ≡ bytes) → (P ↔ ¬ (IsUtf8 read)) → SaysNotUtf8 known P
 says_of_input None read P same says = tt
 says_of_input (Some bytes) read P same says = subst (λ (b : List ℕ). P ↔ ¬ (IsUtf8 b)) same says
 
--- the status 6 stands for the fault
+-- the status 6 stands for the fault `NotUtf8`
 pub says_by_status : (known : Option (List ℕ)) (done : Result (Unit {0}) Fault) (status : ℕ) → OnOk done (status ≡ 0)
     → IfErr done (λ fault. status ≡ status_of fault)
     → (done ≢ Err (Copy Memory) → done ≢ Err (Copy Io) → SaysNotUtf8 known (done ≡ Err NotUtf8))

@@ -1,4 +1,4 @@
--- Worked scripts, answered by the definition.
+-- Worked scripts, whose answers are computed by the definition.
 use Rattle.std.proofs.Common.{◌≡◌, [], ◌∷◌, ◌++◌, refl}
 use Rattle.std.specs.Prelude.{None, Some, Ok, Err, codes}
 use Rattle.std.specs.Fmt.{digits}

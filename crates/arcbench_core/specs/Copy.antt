@@ -1,4 +1,4 @@
--- What copying an answer does, and its faults.
+-- What a run of a script writes, and its faults.
 use Rattle.std.specs.Prelude.{◌≡◌, ℕ, List, Option, Ok, codes}
 use Rattle.std.specs.Io.KnownBytes.{Appends}
 use Rattle.arcbench_core.specs.declared.script.copies.CopyFault.{CopyFault}
@@ -21,7 +21,7 @@ copy_fault_text LimitTooLarge = codes "limit too large"
 copy_fault_text Memory = codes "out of memory"
 copy_fault_text Io = codes "io"
 
--- the fault of a copy where its answer met a fault
+-- the fault of a run whose answer met a fault
 abbrev pub copy_fault_from : RunFault → CopyFault
 copy_fault_from RunLimitTooLarge = LimitTooLarge
 copy_fault_from RunMemory = Memory

@@ -9,7 +9,7 @@ use Rattle.arcstr_count.specs.declared.steps.Step.TheVariants.{Make, Look, Clone
 
 -- ---- lines
 
--- a last part is no line where it is empty
+-- a last part that is empty is not a line
 abbrev pub without_empty_last : List (List ℕ) → List (List ℕ)
 without_empty_last [] = []
 without_empty_last ([] ∷ []) = []
@@ -19,31 +19,31 @@ without_empty_last (part ∷ parts) = part ∷ without_empty_last parts
 abbrev pub lines_of : List ℕ → List (List ℕ)
 lines_of bytes = without_empty_last (slice_split (λ b. b == 10) bytes)
 
--- ---- words and numbers
+-- ---- commands and numbers
 
--- what stands before the first space of a line
+-- the command of a line: what is before its first space
 abbrev pub word_of : List ℕ → List ℕ
 word_of line = before_first (λ b. b == 32) line
 
--- what stands after the first space of a line
+-- what is after the first space of a line
 abbrev pub after_word : List ℕ → List ℕ
 after_word line = after_first (λ b. b == 32) line
 
--- one decimal digit or more, whose value is below 2 ^ 64
+-- at least one decimal digit, with a value below 2 ^ 64
 abbrev pub is_decimal : List ℕ → Bool
 is_decimal text = all_ascii_digits text && nat_lt 0 (length text) && nat_lt (digits_value 10 text) (2 ^ 64)
 
--- a 0 in front of other bytes
+-- a 0 before other bytes
 abbrev pub has_idle_zero : List ℕ → Bool
 has_idle_zero text = (slice_index text 0 == 48) && nat_lt 1 (length text)
 
--- the value of a NUMBER, which has no idle zero, and nothing of another text
+-- the value of a NUMBER, which has no idle zero; `None` for any other text
 abbrev pub number_of : List ℕ → Option ℕ
 number_of text = if is_decimal text && not (has_idle_zero text) then Some (digits_value 10 text) else None
 
 -- ---- steps
 
--- the step that a word means of a handle
+-- the step that a command stands for, on a handle
 abbrev pub step_named : List ℕ → ℕ → Option Step
 step_named word h =
     if bytes_eq word (codes "look") then Some (Look h)
@@ -56,12 +56,12 @@ step_named word h =
     else (if bytes_eq word (codes "unraw") then Some (FromRaw h)
     else None)))))))
 
--- the line's step: `make`, or a word, one space, and the number of a handle; another line has none
+-- the step of a line: `make`, or a command, one space, and the number of a handle; any other line has none
 abbrev pub step_of : List ℕ → Option Step
 step_of line =
     if bytes_eq line (codes "make") then Some Make
     else option_and_then (λ h. step_named (word_of line) h) (number_of (after_word line))
 
--- the limit that a first line `limit NUMBER` sets; another line sets none
+-- the limit that a first line `limit NUMBER` sets; any other line sets none
 abbrev pub limit_of : List ℕ → Option ℕ
 limit_of line = if bytes_eq (word_of line) (codes "limit") then number_of (after_word line) else None

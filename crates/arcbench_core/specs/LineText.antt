@@ -18,7 +18,7 @@ line_text (FromRaw h) = codes "unraw " ++ decimal h
 abbrev pub limit_text : ℕ → List ℕ
 limit_text n = codes "limit " ++ decimal n
 
--- the number of the step's handle, where it has one, is below 2 ^ 64
+-- the number of the step's handle, if it has one, is below 2 ^ 64
 abbrev pub HasHandle : Step → Type 0
 HasHandle Make = Unit {0}
 HasHandle (Look h) = h < 2 ^ 64

@@ -1,4 +1,4 @@
--- What a port is seen as.
+-- What contracts see of a port.
 use Rattle.std.specs.Prelude.{Bool}
 
 -- the reader or the writer, and whether it failed

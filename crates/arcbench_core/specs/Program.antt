@@ -1,4 +1,4 @@
--- What the words of the program mean, what each command writes, and the status of each fault.
+-- What the arguments of the program mean, what each command writes, and the status of each fault.
 use Rattle.std.specs.Prelude.{ℕ, ◌≤◌, ◌&&◌, nat_le, if◌then◌else◌, List, [], ◌∷◌, map, ◌≡◌, ◌⊎◌}
 use Rattle.std.specs.Prelude.{Option, None, Some, option_and_then, option_map, IfSome, String, string_bytes, codes}
 use Rattle.std.specs.declared.alloc.Global.{Global}
@@ -15,44 +15,44 @@ use Rattle.arcbench_core.specs.Line.{number_of}
 use Rattle.arcbench_core.specs.Threads.{threads_answer}
 use Rattle.arcbench_core.specs.TokenLines.{WritesTokens}
 
--- a number of workers, where it is lawful: from 1 to 64
+-- a lawful number of workers: from 1 to 64
 abbrev pub lawful_count : ℕ → Option ℕ
 lawful_count n = if nat_le 1 n && nat_le n 64 then Some n else None
 
--- the number of workers that a word means: a NUMBER from 1 to 64
+-- the number of workers that an argument means: a NUMBER from 1 to 64
 abbrev pub worker_count : List ℕ → Option ℕ
 worker_count word = option_and_then (λ n. lawful_count n) (number_of word)
 
--- the command that a word and a number of workers mean: `threads` or `tokens`
+-- the command that a first argument and a number of workers mean: `threads` or `tokens`
 abbrev pub command_for : List ℕ → Option ℕ → Option Command
 command_for word count =
     if bytes_eq word (codes "threads") then option_map (λ n. Threads n) count
     else (if bytes_eq word (codes "tokens") then option_map (λ n. Tokens n) count else None)
 
--- the command that words mean: `script` alone, or `threads` or `tokens` and a number of workers; other words mean none
+-- the command that arguments mean: `script` alone, or `threads` or `tokens` and a number of workers; other arguments mean none
 abbrev pub command_of : List (List ℕ) → Option Command
 command_of [] = None
 command_of (word ∷ []) = if bytes_eq word (codes "script") then Some Script else None
 command_of (word ∷ count ∷ []) = command_for word (worker_count count)
 command_of (word ∷ next ∷ third ∷ more) = None
 
--- the command that the program's words mean
+-- the command that the program's arguments mean
 abbrev pub command_in : List (String Global) → Option Command
 command_in words = command_of (map (λ word. string_bytes word) words)
 
--- the words mean `script`
+-- the arguments mean `script`
 abbrev pub IsForScript : List (String Global) → Type 0
 IsForScript words = command_in words ≡ Some Script
 
--- the words mean `threads` and a number of workers
+-- the arguments mean `threads` and a number of workers
 abbrev pub IsForThreads : List (String Global) → Type 0
 IsForThreads words = (n : ℕ) × (command_in words ≡ Some (Threads n))
 
--- the words mean `tokens` and a number of workers
+-- the arguments mean `tokens` and a number of workers
 abbrev pub IsForTokens : List (String Global) → Type 0
 IsForTokens words = (n : ℕ) × (command_in words ≡ Some (Tokens n))
 
--- the words mean a command that reads its input: `script`, or `tokens` and a number of workers
+-- the arguments mean a command that reads its input: `script`, or `tokens` and a number of workers
 abbrev pub ReadsInput : List (String Global) → Type 0
 ReadsInput words = IsForScript words ⊎ IsForTokens words
 
@@ -62,14 +62,14 @@ HasLawfulCount Script = Unit {0}
 HasLawfulCount (Threads n) = (1 ≤ n) × (n ≤ 64)
 HasLawfulCount (Tokens n) = (1 ≤ n) × (n ≤ 64)
 
--- what a command that is done wrote: the answer to the script that was read, the lines of the workers, or the lines of the words
--- of the input that was read
+-- what a command has written when it is done: the answer to the script that was read, the lines of the workers, or the lines of the
+-- words of the input that was read
 abbrev pub IsDone : Command → Option (List ℕ) → Option (List ℕ) → Option (List ℕ) → Type 0
 IsDone Script input old new = IfSome input (λ script. WritesAnswer script old new)
 IsDone (Threads n) input old new = Appends old new (threads_answer n)
 IsDone (Tokens n) input old new = IfSome input (λ bytes. WritesTokens bytes old new)
 
--- what a command for threads can end in: a fault of the pool or of writing
+-- what a command for threads can fail with: a fault of the pool or of writing
 abbrev pub IsFaultOfThreads : Fault → Type 0
 IsFaultOfThreads Usage = ⊥
 IsFaultOfThreads (Copy LimitTooLarge) = ⊥
@@ -78,7 +78,7 @@ IsFaultOfThreads (Copy Io) = Unit {0}
 IsFaultOfThreads (Pool fault) = Unit {0}
 IsFaultOfThreads NotUtf8 = ⊥
 
--- what a command for tokens can end in: want of memory, a fault of reading or writing, or an input that is not UTF-8
+-- what a command for tokens can fail with: out of memory, a fault of reading or writing, or an input that is not UTF-8
 abbrev pub IsFaultOfTokens : Fault → Type 0
 IsFaultOfTokens Usage = ⊥
 IsFaultOfTokens (Copy LimitTooLarge) = ⊥

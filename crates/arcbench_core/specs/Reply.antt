@@ -5,7 +5,7 @@ use Rattle.arcstr_count.specs.declared.steps.Reply.{Reply}
 use Rattle.arcstr_count.specs.declared.steps.Reply.TheVariants.{Made, Count, Static, Handle, Looked, Ended, Left, Owes, Given, Marked, Raw, Unraw, Refused}
 use Rattle.arcstr_count.specs.Faults.{step_fault_number, step_fault_text}
 
--- a word or two and a number in decimal, without the end of the line
+-- one or two words, and a number in decimal if the reply has one, without the end of the line
 abbrev pub reply_text : Reply → List ℕ
 reply_text (Made h) = codes "made " ++ decimal h
 reply_text (Count n) = codes "count " ++ decimal n

@@ -10,25 +10,25 @@ use Rattle.arcstr_count.specs.Past.{answer_after}
 use Rattle.arcbench_core.specs.Line.{lines_of, step_of, limit_of}
 use Rattle.arcbench_core.specs.Reply.{reply_text}
 
--- the history of lines: the steps of the lawful ones
+-- the history of lines: the steps of the lines that have one
 abbrev pub steps_of : List (List ℕ) → List Step
 steps_of lines = filter_map step_of lines
 
--- the history with a line's step at its end, where the line has one
+-- the history with a line's step at its end, if the line has one
 abbrev pub history_with : List Step → Option Step → List Step
 history_with history None = history
 history_with history (Some step) = history ++ step ∷ []
 
--- what a line is answered by its step: `bad` where it has none, else the text of the answer after a history
+-- the answer to a line, by its step: `bad` if it has none, else the text of the answer after a history
 abbrev pub answer_by : ℕ → List Step → Option Step → List ℕ
 answer_by limit history None = codes "bad"
 answer_by limit history (Some step) = reply_text (answer_after limit history step)
 
--- what a line is answered after the lines before it
+-- the answer to a line after the lines before it
 abbrev pub line_answer : ℕ → List (List ℕ) → List ℕ → List ℕ
 line_answer limit before line = answer_by limit (steps_of before) (step_of line)
 
--- the answer to the line at a place, ended by byte 10
+-- the answer to the line at an index, ended by byte 10
 abbrev pub answer_at : ℕ → List (List ℕ) → ℕ → List ℕ
 answer_at limit lines k = line_answer limit (take k lines) (slice_index_or lines k []) ++ 10 ∷ []
 
@@ -39,7 +39,7 @@ answers limit lines = concat (map (λ k. answer_at limit lines k) (numbers_below
 abbrev pub bad_limit : List ℕ
 bad_limit = codes "bad limit" ++ 10 ∷ []
 
--- what lines are answered where the first one sets this limit, or none
+-- the answer to lines whose first line sets this limit, or none
 abbrev pub answer_under : Option ℕ → List (List ℕ) → Result (List ℕ) RunFault
 answer_under None later = Ok bad_limit
 answer_under (Some limit) later =

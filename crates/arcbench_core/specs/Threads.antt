@@ -21,6 +21,6 @@ worker_line worker = codes "worker " ++ decimal worker ++ codes " " ++ shared_te
 abbrev pub worker_lines : ℕ → List ℕ
 worker_lines workers = concat (map worker_line (numbers_below workers))
 
--- all that is printed of so many workers
+-- all that is printed for this many workers
 abbrev pub threads_answer : ℕ → List ℕ
 threads_answer workers = worker_lines workers ++ codes "done " ++ decimal workers ++ 10 ∷ []

@@ -10,7 +10,7 @@ use Rattle.arctokens.specs.Tokens.{TokenList}
 use Rattle.arctokens.specs.Words.{AreWords}
 use Rattle.arcbench_core.specs.Line.{lines_of}
 
--- the line of a word of a text, `I A..B TEXT`: the number of the text, the places of the word, and its bytes
+-- the line of a word of a text, `I A..B TEXT`: the number of the text, the byte offsets of the word, and its bytes
 abbrev pub word_line : ℕ → List ℕ → ℕ × ℕ → List ℕ
 word_line number text word =
     decimal number ++ codes " " ++ decimal word.0 ++ codes ".." ++ decimal word.1 ++ codes " " ++ cut text word.0 word.1 ++ 10 ∷ []
@@ -19,7 +19,7 @@ word_line number text word =
 abbrev pub word_lines : ℕ → List ℕ → List (ℕ × ℕ) → List ℕ
 word_lines number text words = concat (map (λ word. word_line number text word) words)
 
--- the lines of the words of texts, which are numbered from a number on
+-- the lines of the words of texts, which are numbered from a given number on
 abbrev pub lines_from : ℕ → List (List ℕ) → List (List (ℕ × ℕ)) → List ℕ
 lines_from number [] words = []
 lines_from number (text ∷ texts) [] = []
@@ -35,7 +35,7 @@ pub record IsTokenAnswer (input output : List ℕ) : Type 0 where
 abbrev pub WritesTokens : List ℕ → Option (List ℕ) → Option (List ℕ) → Type 0
 WritesTokens input old new = (answer : List ℕ) × IsTokenAnswer input answer × Appends old new answer
 
--- ---- the same, of slices of shared texts
+-- ---- the same for slices of shared texts
 
 -- the texts of shared texts
 abbrev pub texts_of : List TextView → List (List ℕ)
@@ -48,7 +48,7 @@ slice_line number slice = word_line number slice.parent.text (slice.start, slice
 abbrev pub slice_lines : ℕ → List SubstrView → List ℕ
 slice_lines number slices = concat (map (λ slice. slice_line number slice) slices)
 
--- the lines of lists of slices, which are numbered from a number on
+-- the lines of lists of slices, which are numbered from a given number on
 abbrev pub lines_of_lists : ℕ → List TokenList → List ℕ
 lines_of_lists number [] = []
 lines_of_lists number (list ∷ lists) = slice_lines number list.items ++ lines_of_lists (number + 1) lists

@@ -1,5 +1,5 @@
 //! Scripts of steps on counted blocks, callers of one text in threads of their own, and the program over
-//! its words, a reader and two writers.
+//! its arguments, a reader and two writers.
 #![tactic(auto)]
 
 #[cfg(test)]

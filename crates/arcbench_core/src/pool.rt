@@ -22,7 +22,7 @@ mod tests;
 /// callers(&rt, rt.alloc(), &literal!("foobar"), 2, &Open)?;
 /// ```
 pub trait Gate {
-    /// What is known once a worker of this number has passed: nothing, where it is not given.
+    /// What is known once the worker with this number has passed; by default nothing.
     ghost passed: { Self → ℕ → Type 0 } = { λ _ _. Unit {0} };
 
     /// Called once by each worker, with its number.
@@ -42,12 +42,12 @@ pub trait Gate {
 pub enum PoolFault {
     /// There was no memory for the lists of workers and handles.
     Memory,
-    /// A thread could not be started, for want of memory or otherwise.
+    /// A thread could not be started, because of an allocation failure or otherwise.
     NoThread,
 }
 
 impl PoolFault {
-    /// The number of the fault, from 1.
+    /// The number of the fault, counted from 1.
     ///
     /// ```
     /// assert_eq!(rt; PoolFault::NoThread.number(), 2);
@@ -96,7 +96,7 @@ impl From<AllocError> for PoolFault {
     }
 }
 
-/// Promises a handle on this text, of the worker of this number, which has passed this gate.
+/// Promises a handle on this text, from the worker with this number, which has passed this gate.
 #[derive(Drop)]
 struct HandleOf<'a, G: Gate> {
     text: &'a ArcStr,
@@ -111,12 +111,12 @@ impl<'a, G: Gate> Promise<ArcStr> for HandleOf<'a, G> {
 type Worker<'a, G> = PromisedHandle<ArcStr, HandleOf<'a, G>>;
 
 /// Starts `workers` threads, each of which clones the text, passes the gate once with its number and
-/// hands its clone back. Answers their handles in the order of the workers.
-/// `Memory` comes where there was none for the lists of workers and handles, `NoThread` where a thread
-/// was not started; after either every thread that was started has been joined, and its clone dropped.
+/// returns its clone. The call returns their handles in the order of the workers. It fails with `Memory` if
+/// there was no memory for the lists of workers and handles, and with `NoThread` if a thread was not
+/// started. After either fault every thread that was started has been joined, and its clone dropped.
 ///
-/// No clause can say that memory and a thread could be had: a body that always refuses is caught by the
-/// test `each_worker_hands_its_clone_back`.
+/// The contract does not say that memory and threads are available: the test
+/// `each_worker_hands_its_clone_back` catches a body that always refuses.
 ///
 /// ```
 /// struct Open;
@@ -159,7 +159,7 @@ pub fn callers<R: Threads + Wait + Sync, G: Gate + Sync>(
     )
 }
 
-/// What one worker does: clones the text, passes the gate, and hands the clone back.
+/// What one worker does: clones the text, passes the gate, and returns the clone.
 fn called<R: Wait, G: Gate>(rt: &R, text: &ArcStr, worker: usize, gate: &G) -> ArcStr
     ensures same_text { result ≡ text.now }
     ensures passed { G.passed gate.now worker }
@@ -169,7 +169,7 @@ fn called<R: Wait, G: Gate>(rt: &R, text: &ArcStr, worker: usize, gate: &G) -> A
     handle
 }
 
-/// Joins each thread that was started, also where there is no memory for their handles.
+/// Joins each thread that was started, even if there is no memory for their handles.
 fn joined<'a, R: Threads, G: Gate>(
     rt: &R,
     text: &ArcStr,
@@ -194,7 +194,7 @@ fn joined<'a, R: Threads, G: Gate>(
     }
 }
 
-/// The handles, where there is one of each worker: else why not.
+/// The handles, if there is one for each worker; else the fault.
 fn complete(
     handles: Result<Vec<ArcStr>, AllocError>,
     workers: usize,

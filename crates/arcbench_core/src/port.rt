@@ -8,9 +8,9 @@ use std::io;
 use std::io::{Read, Write};
 use std::marker::Model;
 
-/// A reader or a writer with a flag, which the first error of one of its calls sets for good.
+/// A reader or a writer with a flag, which the first error of one of its calls sets permanently.
 ///
-/// It may be sent and shared where its reader or writer may, and its drop drops this.
+/// It can be sent and shared where its reader or writer can, and its drop drops the reader or writer.
 ///
 /// ```
 /// let mut room = [0; 2];
@@ -63,8 +63,8 @@ impl<T> Port<T> {
 }
 
 impl<R: Read> Port<R> {
-    /// One read of the reader. Which error it is no clause can say: a body that hands out another one is
-    /// caught by the test `remembers_a_fault_after_calls_that_work`.
+    /// One read of the reader. The contract does not say which error it returns: the test
+    /// `remembers_a_fault_after_calls_that_work` catches a body that returns another one.
     ///
     /// ```
     /// let mut port = Port::new(b"abc".as_slice());
@@ -85,7 +85,7 @@ impl<R: Read> Port<R> {
 }
 
 impl<W: Write> Port<W> {
-    /// Writes all the bytes to the writer. Which error it is the same test shows.
+    /// Writes all the bytes to the writer. The same test checks which error it returns.
     ///
     /// ```
     /// let mut bytes = Vec::new(rt.alloc());

@@ -1,4 +1,4 @@
-//! The program over its words, a reader and two writers.
+//! The program over its arguments, a reader and two writers.
 ghost use Rattle.std.specs.Prelude.{◌≡◌, ◌≢◌, ◌≤◌, ◌↔◌, ◌⊎◌, false, IsTrue, IsSome, IfSome, IfOk, IfErr, OnOk, None, Some, Err, vec_len};
 ghost use Rattle.std.specs.Io.KnownBytes.{IsAtEnd, Appends};
 ghost use Rattle.std.specs.IoError.{error_kind};
@@ -23,18 +23,18 @@ use std::sync::Wait;
 use std::thread::Threads;
 use thiserror::Error;
 
-/// What the program can be asked to do.
+/// A command of the program.
 #[derive(Clone, Copy, Debug, PartialEq, Eq)]
 pub(crate) enum Command {
-    /// Answers the script on its input.
+    /// Runs the script in its input.
     Script,
-    /// Starts so many callers of one text, from 1 to 64.
+    /// Starts this many callers of one text, from 1 to 64.
     Threads(usize),
-    /// Prints the words of the lines of its input, which so many workers find, from 1 to 64.
+    /// Prints the words of the lines of its input. This many workers, from 1 to 64, find the words.
     Tokens(usize),
 }
 
-/// Why the program ends with a status above 0, in the words that it prints.
+/// Why the program ends with a status above 0, with the line that it prints.
 #[derive(Debug, Drop, Error)]
 pub(crate) enum Fault {
     #[error("usage: arcbench script, arcbench threads N, arcbench tokens N")]
@@ -47,15 +47,15 @@ pub(crate) enum Fault {
     NotUtf8,
 }
 
-/// Runs the program, and answers its status: 0 where it is done, 1 for other words, 2 for a limit that
-/// is too large, 3 for want of memory, 4 for a fault of reading or writing, 5 where a thread could not
-/// be started, 6 where the input for words is not UTF-8.
+/// Runs the program, and returns its status: 0 if it is done, 1 for arguments that mean no command, 2 for a
+/// limit that is too large, 3 for out of memory, 4 for a fault of reading or writing, 5 if a thread could
+/// not be started, 6 if the input of `tokens` is not UTF-8.
 ///
-/// The line of a status above 0 goes to `errors`, and a fault in writing it changes no status. `rt` is
-/// the leave to start threads and to wait, and lends the texts of threads the machine's allocator.
+/// A status above 0 has a line, which goes to `errors`; a fault in writing it does not change the status.
+/// `rt` permits it to start threads and to wait, and provides the machine's allocator for the texts of threads.
 ///
-/// No clause can say that memory was there: a body that always answers 3 to a command is caught by the
-/// tests `answers_a_script`, `two_workers_print_their_texts` and `prints_the_words_of_each_line`.
+/// The contract does not say that memory is available: the tests `answers_a_script`,
+/// `two_workers_print_their_texts` and `prints_the_words_of_each_line` catch a body that always answers 3 to a command.
 ///
 /// ```
 /// let words = [String::from_str(rt.alloc(), "script")?];
@@ -110,8 +110,8 @@ where
     status_after(errors, done)
 }
 
-/// Writes the lines of callers once they are all there. Where there are no callers, the fault of the pool
-/// is handed on.
+/// Writes the lines of callers once all lines are there. If there are no callers, returns the fault of the
+/// pool.
 pub(crate) fn tell_threads<W: Write>(
     alloc: Global,
     handles: Result<Vec<ArcStr>, PoolFault>,
@@ -137,8 +137,8 @@ pub(crate) fn tell_threads<W: Write>(
     }
 }
 
-/// Reads the input to its end, and writes the lines of its words once they are all there. `rt` lends the
-/// texts and their words the machine's allocator.
+/// Reads the input to its end, and writes the lines of its words once all lines are there. `rt` provides
+/// the machine's allocator for the texts and their words.
 fn tell_tokens<H, A: Allocator + Copy, R: Read, W: Write>(
     rt: &H,
     alloc: A,
@@ -177,8 +177,8 @@ where
     }
 }
 
-/// The status where the program's own words were not to be had: want of memory, or an argument that is
-/// no text, which counts as other words.
+/// The status if the program's own arguments could not be read: out of memory, or an argument that is
+/// not a text, which counts as no command.
 ///
 /// ```
 /// let mut errors = Vec::new(rt.alloc());
@@ -197,7 +197,7 @@ pub fn serve_without_words<E: Write>(errors: &mut E, error: &io::Error) -> u8
     }
 }
 
-/// The status 0 where all is done, else that of the fault, whose line is printed.
+/// The status 0 if all is done, else that of the fault, whose line is printed.
 pub(crate) fn status_after<E: Write>(errors: &mut E, done: Result<(), Fault>) -> u8
     ensures ok { OnOk done (result ≡ 0) }
     ensures silent { OnOk done (errors.new ≡ errors.old) }
@@ -209,7 +209,7 @@ pub(crate) fn status_after<E: Write>(errors: &mut E, done: Result<(), Fault>) ->
     }
 }
 
-/// Prints the line of a fault, and answers its status.
+/// Prints the line of a fault, and returns its status.
 fn report<E: Write>(errors: &mut E, fault: &Fault) -> u8
     ensures { result ≡ status_of fault.now }
 {
@@ -225,7 +225,7 @@ fn report<E: Write>(errors: &mut E, fault: &Fault) -> u8
     }
 }
 
-/// The command that the words mean, and none for other words.
+/// The command that the arguments mean; `None` for other arguments.
 fn command_of(words: &[String]) -> Option<Command>
     ensures value { result ≡ command_in words.now }
     ensures lawful { IfSome result HasLawfulCount }
@@ -242,7 +242,7 @@ fn command_of(words: &[String]) -> Option<Command>
     }
 }
 
-/// The number of workers that a word means: a NUMBER from 1 to 64.
+/// The number of workers that an argument means: a NUMBER from 1 to 64.
 fn worker_count(word: &[u8]) -> Option<usize>
     ensures value { result ≡ worker_count word.now }
     ensures lawful { IfSome result (λ count. (1 ≤ count) × (count ≤ 64)) }

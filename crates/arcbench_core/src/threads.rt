@@ -16,8 +16,8 @@ impl Gate for OpenGate {
     fn pass(&self, _worker: usize) {}
 }
 
-/// Starts callers of one text, and hands out their handles. A body that always refuses is caught by the
-/// test `two_workers_print_their_texts`.
+/// Starts callers of one text, and returns their handles. The test `two_workers_print_their_texts` catches a
+/// body that always refuses.
 ///
 /// ```
 /// let handles = threads::start(&rt, rt.alloc(), 2)?;
@@ -36,7 +36,7 @@ pub fn start<R: Threads + Wait + Sync>(
     start_with(rt, alloc, ArcStr::from_str(alloc, "foobar"), workers)
 }
 
-/// Starts callers of a text that was made, or answers `Memory` where it was not.
+/// Starts callers of a text that was made; returns `Memory` if the text was not made.
 fn start_with<R: Threads + Wait + Sync>(
     rt: &R,
     alloc: Global,
@@ -55,8 +55,8 @@ fn start_with<R: Threads + Wait + Sync>(
     }
 }
 
-/// The lines of callers: one for each with the text as its handle reads it, and a last one with their
-/// number. Where there are no callers, the fault is that of the pool; else it is `Memory`.
+/// The lines of callers: one for each caller, with the text as its handle reads it, and a last one with their
+/// number. If there are no callers, the fault is that of the pool; else it is `Memory`.
 ///
 /// ```
 /// let lines = threads::answer(rt.alloc(), threads::start(&rt, rt.alloc(), 1))?;

@@ -27,11 +27,11 @@ pub enum TokensFault {
     NotUtf8,
 }
 
-/// The lines of the words of an input: each of its lines, cut at byte 10, is a text, and each word of a
-/// text is a line `I A..B TEXT`, with the number of the text from 0, and the places and the bytes of the
-/// word. So many workers find the words.
+/// The lines for the words of an input. Each line of the input, cut at byte 10, is a text. Each word of a
+/// text is a line `I A..B TEXT`, with the number of the text from 0, the byte offsets of the word, and its
+/// bytes. `workers` workers find the words.
 ///
-/// That the input is UTF-8 is tested before all else. A line that is too long for a text is want of memory.
+/// The call first checks that the input is UTF-8. A line that is too long for a text counts as out of memory.
 ///
 /// ```
 /// let lines = tokens::answer(&rt, rt.alloc(), 2, b"foo\n\nbar\n")?;
@@ -58,7 +58,7 @@ where
     }
 }
 
-/// The same of an input that is UTF-8.
+/// The same for an input that is UTF-8.
 fn lines_of_words<H, A: Allocator>(
     rt: &H,
     alloc: A,
@@ -103,7 +103,7 @@ fn first_line(text: &str) -> (&str, &str)
     }
 }
 
-/// A text of its own. One that is too long is want of memory, too.
+/// A text for a line. A line that is too long for a text counts as out of memory, too.
 fn text_of(alloc: Global, line: &str) -> Result<ArcStr, AllocError>
     ensures { IfOk result (λ text. text.text ≡ line.now) }
 {
@@ -113,7 +113,7 @@ fn text_of(alloc: Global, line: &str) -> Result<ArcStr, AllocError>
     }
 }
 
-/// Appends the lines of all slices: those of each list under its number.
+/// Appends the lines of all slices: those of each list under the list's number.
 fn push_lists<A: Allocator>(out: &mut String<A>, lists: &[Vec<Substr>]) -> Result<(), AllocError>
     ensures { OnOk result (string_bytes out.new ≡ string_bytes out.old ++ lines_of_lists 0 lists.now) }
 {

@@ -4,7 +4,7 @@ use crate::stop::{Part, Stop, check};
 use arcstr::block::{Shared, TextFault};
 use std::alloc::Global;
 
-/// A block whose clones beside more than five handles mark it.
+/// A block that a clone marks while more than five handles on it live.
 type Block = Shared<5, Global>;
 
 /// The calls, in the order of their lines.
@@ -42,7 +42,7 @@ fn from_text(meter: Meter, alloc: Global) -> Result<(), Stop> {
     check_block(meter, made, "foobar")
 }
 
-/// Fills a block by a closure, which runs exactly where the call is not refused.
+/// Fills a block with a closure, which runs exactly if the call is not refused.
 fn init(meter: Meter, alloc: Global) -> Result<(), Stop> {
     let mut ran = false;
     meter.begin();
@@ -62,7 +62,7 @@ fn repeat(meter: Meter, alloc: Global) -> Result<(), Stop> {
     check_block(meter, made, "ababab")
 }
 
-/// Compares the text and the count of what was made, where it was not refused, and drops it.
+/// Compares the text and the count of the new block, if the call was not refused, and drops the block.
 fn check_block(meter: Meter, made: Result<Block, TextFault>, wanted: &str) -> Result<(), Stop> {
     let block = made?;
     check(Part::Text, block.as_str() == wanted)?;

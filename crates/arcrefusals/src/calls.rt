@@ -1,4 +1,4 @@
-//! The calls that are made, and the line of each.
+//! The calls that the program makes, and the line of each.
 use crate::blocks::BlockCall;
 use crate::copies::Copying;
 use crate::histories::History;
@@ -12,7 +12,7 @@ use std::io;
 use std::sync::Wait;
 use std::thread::Threads;
 
-/// How often a call is made before it is given up. Twice would do where one request is refused.
+/// How often a call is made before the program gives up. Two tries suffice if one allocation is refused.
 pub(crate) const TRIES: usize = 4;
 
 /// A call of the library.
@@ -27,7 +27,7 @@ pub(crate) enum Call {
 }
 
 impl Call {
-    /// The name of the call, and what is compared of it.
+    /// The name of the call, and what the program compares.
     fn line(self) -> &'static str {
         match self {
             Call::Making(call) => call.line(),
@@ -39,7 +39,7 @@ impl Call {
         }
     }
 
-    /// Makes the call, and compares what there is after it.
+    /// Makes the call, and compares what it leaves.
     fn once<R: Sync + Threads + Wait>(
         self,
         rt: &R,
@@ -56,7 +56,7 @@ impl Call {
         }
     }
 
-    /// Makes the call until it is not refused, and answers how it ended.
+    /// Makes the call until it is not refused, and returns how it ended.
     pub(crate) fn again<R: Sync + Threads + Wait>(
         self,
         rt: &R,
@@ -72,7 +72,7 @@ impl Call {
         Err(Stop::Refused)
     }
 
-    /// Prints the line of the call, and behind it what did not hold.
+    /// Prints the line of the call, followed by what did not hold.
     pub(crate) fn tell(self, rt: &impl Print, ended: Result<(), Stop>) -> io::Result<()> {
         let line = self.line();
         match ended {

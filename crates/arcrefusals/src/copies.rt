@@ -1,5 +1,5 @@
-//! Calls that copy a shared text or a JSON value. What they copy stands after each refusal, and is copied
-//! again.
+//! Calls that copy a shared text or a JSON value. A refusal leaves what they copy unchanged, and they then
+//! copy it again.
 use crate::calls::TRIES;
 use crate::making::{check_made, check_slice_made, check_text};
 use crate::meter::Meter;
@@ -98,7 +98,7 @@ fn text_to_json(meter: Meter, alloc: Global) -> Result<(), Stop> {
     Err(Stop::Refused)
 }
 
-/// Takes one of two handles on a text: a refusal hands it back.
+/// Takes one of two handles on a text; a refusal returns it.
 fn text_into_cow(rt: &impl Wait, meter: Meter, alloc: Global) -> Result<(), Stop> {
     let mut text = ArcStr::from_str(alloc, "foobar")?;
     let other = text.clone(rt);
@@ -163,7 +163,7 @@ fn slice_to_json(meter: Meter, alloc: Global) -> Result<(), Stop> {
     Err(Stop::Refused)
 }
 
-/// Takes one of two slices of a text: a refusal hands it back.
+/// Takes one of two slices of a text; a refusal returns it.
 fn slice_into_cow(rt: &impl Wait, meter: Meter, alloc: Global) -> Result<(), Stop> {
     let mut slice = bar_of_foobar(alloc)?;
     let other = slice.clone(rt);
@@ -219,14 +219,14 @@ fn bar_of_foobar(alloc: Global) -> Result<Substr, Stop> {
     Ok(Substr::from_parts_unchecked(parent, 3..6))
 }
 
-/// Compares a slice with `bar` of `foobar`, and the count of its parent with that of so many handles.
+/// Compares a slice with `bar` of `foobar`, and the count of its parent with this number of handles.
 fn check_bar(slice: &Substr, handles: usize) -> Result<(), Stop> {
     check(Part::Text, slice.as_str() == "bar")?;
     check(Part::Range, slice.range() == (3..6))?;
     check_text(slice.parent(), "foobar", handles)
 }
 
-/// Compares a copy with this text, where there is one, and drops it.
+/// Compares a copy with this text, if there is a copy, and drops it.
 fn check_copy(meter: Meter, copy: Result<String, AllocError>, wanted: &str) -> Result<(), Stop> {
     let copy = copy?;
     check(Part::Copy, copy.as_str() == wanted)?;
@@ -234,7 +234,7 @@ fn check_copy(meter: Meter, copy: Result<String, AllocError>, wanted: &str) -> R
     Ok(())
 }
 
-/// Compares a value with this JSON string, where there is one, and drops it.
+/// Compares a value with this JSON string, if there is a value, and drops it.
 fn check_written(meter: Meter, value: Result<Value, AllocError>, wanted: &str) -> Result<(), Stop> {
     let value = value?;
     check_value(&value, wanted)?;

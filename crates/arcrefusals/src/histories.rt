@@ -9,7 +9,7 @@ use std::alloc::Global;
 
 const LIMIT: u64 = 9;
 
-/// A block is given back, and then handles and blocks are made until both tables have grown again.
+/// Frees a block, then makes handles and blocks until both tables have grown again.
 const STEPS: [Step; 14] = [
     Step::Make,
     Step::Begin(0),
@@ -94,7 +94,7 @@ fn run_of_steps(meter: Meter, alloc: Global) -> Result<(), Stop> {
     Ok(())
 }
 
-/// Takes each step, again while it is refused.
+/// Takes each step, and repeats it while it is refused.
 fn steps_of_a_world(meter: Meter, alloc: Global) -> Result<(), Stop> {
     let mut world = World::new(alloc, LIMIT)?;
     for (step, wanted) in STEPS.iter().zip(REPLIES) {
@@ -105,7 +105,7 @@ fn steps_of_a_world(meter: Meter, alloc: Global) -> Result<(), Stop> {
     Ok(())
 }
 
-/// The reply to a step. After each refusal the world shows what it showed before.
+/// The reply to a step. After each refusal the world shows the same as before.
 fn reply_to(meter: Meter, world: &mut World<Global>, step: Step) -> Result<Reply, Stop> {
     let counts = count_of_each(world)?;
     let given = given_of_each(world);
@@ -123,7 +123,7 @@ fn reply_to(meter: Meter, world: &mut World<Global>, step: Step) -> Result<Reply
     Err(Stop::Refused)
 }
 
-/// The replies to a look through each handle that is made, which change nothing.
+/// The replies to a look through each handle that is made. These looks change nothing.
 fn count_of_each(world: &mut World<Global>) -> Result<[Reply; 9], Stop> {
     let mut counts = [Reply::Left; 9];
     for (handle, count) in (0..9).zip(counts.iter_mut()) {
@@ -132,7 +132,7 @@ fn count_of_each(world: &mut World<Global>) -> Result<[Reply; 9], Stop> {
     Ok(counts)
 }
 
-/// How often each block that is made was given back.
+/// How often each block that is made was freed.
 fn given_of_each(world: &World<Global>) -> [u64; 6] {
     let mut given = [0; 6];
     for (block, times) in (0..6).zip(given.iter_mut()) {
@@ -151,7 +151,7 @@ fn answer_to_a_script(meter: Meter, alloc: Global) -> Result<(), Stop> {
     Ok(())
 }
 
-/// Copies to a room of the answer's length, in which nothing is written where the call is refused.
+/// Calls `copy` with a buffer of the answer's length as output. Nothing is written there if the call is refused.
 fn copy_of_a_script(meter: Meter, alloc: Global) -> Result<(), Stop> {
     let mut room = [0; 28];
     let mut input = Port::new(SCRIPT);

@@ -1,6 +1,7 @@
-//! Makes calls of the library, again while they are refused, and compares after each refusal what must
-//! stand. It prints a line for each call, and the same lines whichever request is refused. The script
-//! `refusals` at the top of the repository refuses each in turn, and counts the allocations of each call.
+//! Makes calls of the library, repeats each while it is refused, and compares after each refusal what must be
+//! unchanged. It prints a line for each call, and the same lines whichever allocation or start of a thread is
+//! refused. The script `refusals` at the top of the repository refuses each in turn, and counts the allocations
+//! of each call.
 #![tactic(auto)]
 
 use calls::Call;

@@ -1,4 +1,4 @@
-//! Calls that make a text of its own.
+//! Calls that make a text in a block of its own.
 ghost use Rattle.std.specs.Prelude.{◌≡◌, OnOk};
 
 use crate::meter::Meter;
@@ -117,7 +117,7 @@ fn join(meter: Meter, alloc: Global) -> Result<(), Stop> {
     check_made(meter, made, "foo, , bar")
 }
 
-/// Fills a text by a closure, which runs exactly where the call is not refused.
+/// Fills a text with a closure, which runs exactly if the call is not refused.
 fn init_with(meter: Meter, alloc: Global) -> Result<(), Stop> {
     let mut ran = false;
     meter.begin();
@@ -137,7 +137,7 @@ fn slice_from_str(meter: Meter, alloc: Global) -> Result<(), Stop> {
     check_slice_made(meter, made, "foobar")
 }
 
-/// Prints more than the text has room for at first.
+/// Formats more than the text first has room for.
 fn formatted(meter: Meter, alloc: Global) -> Result<(), Stop> {
     meter.begin();
     let made = format_arcstr!(alloc; "cool {} and {}", 123, 456);
@@ -159,7 +159,7 @@ fn slice_deserialized(meter: Meter, alloc: Global) -> Result<(), Stop> {
     check_slice_made(meter, read, "foobar")
 }
 
-/// Compares what was made with this text, in a block of its own, where it was not refused, and drops it.
+/// Checks that the new text is this text in a block of its own, if the call was not refused, and drops it.
 pub(crate) fn check_made<E: Into<Stop>>(
     meter: Meter,
     made: Result<ArcStr, E>,
@@ -175,8 +175,8 @@ pub(crate) fn check_made<E: Into<Stop>>(
     }
 }
 
-/// Compares what was made with a slice of all of this text, in a block of its own, where it was not
-/// refused, and drops it.
+/// Checks that the new slice is all of this text in a block of its own, if the call was not refused, and
+/// drops it.
 pub(crate) fn check_slice_made<E: Into<Stop>>(
     meter: Meter,
     made: Result<Substr, E>,
@@ -193,7 +193,7 @@ pub(crate) fn check_slice_made<E: Into<Stop>>(
     }
 }
 
-/// Compares a text with this one, and its count with that of so many handles.
+/// Compares a text with this text, and its count with this number of handles.
 pub(crate) fn check_text(text: &ArcStr, wanted: &str, handles: usize) -> Result<(), Stop>
     ensures { OnOk result (text.now.text ≡ wanted.now) }
 {
@@ -201,7 +201,7 @@ pub(crate) fn check_text(text: &ArcStr, wanted: &str, handles: usize) -> Result<
     check_count(text, handles)
 }
 
-/// Compares the count of a text with that of so many handles.
+/// Compares the count of a text with this number of handles.
 pub(crate) fn check_count(text: &ArcStr, handles: usize) -> Result<(), Stop> {
     check(Part::Count, ArcStr::strong_count(text) == Some(handles))
 }

@@ -1,8 +1,8 @@
-//! The begin and the end of a call whose allocations are counted.
+//! The beginning and the end of a call whose allocations are counted.
 use std::io::{Stdout, Write};
 
-/// Shows the script `refusals` where a call begins and where it ends, by a write of no bytes to standard
-/// output. The library that the script loads below the program sees it; nothing else changes.
+/// Shows the script `refusals` where a call begins and ends, by a write of zero bytes to standard output. The
+/// library that the script loads below the program sees the write; nothing else changes.
 #[derive(Clone, Copy)]
 pub(crate) struct Meter(pub(crate) Stdout);
 

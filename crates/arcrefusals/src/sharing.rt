@@ -1,5 +1,5 @@
-//! Calls that hand out handles on texts: callers in threads, and the words of texts. After each refusal,
-//! and once all that was handed out is dropped, each text has the handle of its owner alone.
+//! Calls that return handles on texts: callers in threads, and the words of texts. After each refusal, and
+//! once everything that was returned is dropped, each text has only the handle of its owner.
 use crate::calls::TRIES;
 use crate::making::{check_count, check_text};
 use crate::meter::Meter;
@@ -81,7 +81,7 @@ impl Passes {
         }
     }
 
-    /// Whether each worker passed so many times.
+    /// Whether each worker passed this many times.
     fn are(&self, times: u64) -> bool {
         self.of_worker
             .iter()
@@ -89,7 +89,7 @@ impl Passes {
     }
 }
 
-/// Finds more words than a list has room for at first.
+/// Finds more words than a list first has room for.
 fn words_of_one(rt: &impl Wait, meter: Meter, alloc: Global) -> Result<(), Stop> {
     let text = ArcStr::from_str(alloc, "a b c d e")?;
     for _ in 0..TRIES {
@@ -136,8 +136,8 @@ fn words_of_two<R: Sync + Threads + Wait>(rt: &R, meter: Meter, alloc: Global) -
     Err(Stop::Refused)
 }
 
-/// Finds the words of two texts by three workers. Where memory is refused each has passed the gate, or
-/// none has.
+/// Finds the words of two texts with three workers. If memory is refused, either all workers have passed the
+/// gate or none has.
 fn words_behind_a_gate<R: Sync + Threads + Wait>(
     rt: &R,
     meter: Meter,
@@ -160,7 +160,7 @@ fn words_behind_a_gate<R: Sync + Threads + Wait>(
     Err(Stop::Refused)
 }
 
-/// Compares two handles on a text that its owner has too, where they were not refused, and drops them.
+/// Compares two handles on a text that its owner has too, if the call was not refused, and drops them.
 fn check_handles(meter: Meter, handles: Result<Vec<ArcStr>, PoolFault>) -> Result<(), Stop> {
     let handles = handles?;
     check(Part::Length, handles.len() == 2)?;
@@ -171,7 +171,7 @@ fn check_handles(meter: Meter, handles: Result<Vec<ArcStr>, PoolFault>) -> Resul
     Ok(())
 }
 
-/// Compares the five words of a text, where they were not refused, and drops them.
+/// Compares the five words of a text, if the call was not refused, and drops them.
 fn check_found(meter: Meter, words: Result<Vec<Substr>, AllocError>) -> Result<(), Stop> {
     let words = words?;
     check_words(&words, 5)?;
@@ -179,7 +179,7 @@ fn check_found(meter: Meter, words: Result<Vec<Substr>, AllocError>) -> Result<(
     Ok(())
 }
 
-/// Compares the words of a text of two and of one of five, where they were not refused, and drops them.
+/// Compares the words of a text of two and of one of five, if the call was not refused, and drops them.
 fn check_lists(meter: Meter, lists: Result<Vec<Vec<Substr>>, AllocError>) -> Result<(), Stop> {
     let lists = lists?;
     check(Part::Length, lists.len() == 2)?;
@@ -189,8 +189,8 @@ fn check_lists(meter: Meter, lists: Result<Vec<Vec<Substr>>, AllocError>) -> Res
     Ok(())
 }
 
-/// Compares the words of a text with so many of the letters from `a` on, each at an even place, and the
-/// count of the text with that of its owner and one for each word.
+/// Compares the words of a text with this many letters from `a` on, each at an even byte offset, and the
+/// count of the text with one for its owner and one for each word.
 fn check_words(words: &[Substr], wanted: usize) -> Result<(), Stop> {
     check(Part::Length, words.len() == wanted)?;
     for (at, (word, letter)) in words.iter().zip(["a", "b", "c", "d", "e"]).enumerate() {

@@ -1,4 +1,4 @@
-//! Why a call was not made and compared to its end.
+//! Why a call was not completed and compared.
 ghost use Rattle.std.specs.Prelude.{◌↔◌, IsOk, IsTrue};
 
 use arcbench_core::pool::PoolFault;
@@ -8,10 +8,10 @@ use arcstr::{JsonFault, TextFault};
 use std::alloc::AllocError;
 use std::fmt;
 
-/// Why a call was not made and compared to its end.
+/// Why a call was not completed and compared.
 #[derive(Clone, Copy)]
 pub(crate) enum Stop {
-    /// It was refused for want of memory, and said so.
+    /// The call ran out of memory, and reported it.
     Refused,
     /// This part is not as it should be.
     Differs(Part),
@@ -66,7 +66,7 @@ impl fmt::Display for Stop {
     }
 }
 
-/// Stops where this part is not as it should be.
+/// Stops if this part is not as it should be.
 pub(crate) fn check(part: Part, as_it_should_be: bool) -> Result<(), Stop>
     ensures { IsOk result ↔ IsTrue as_it_should_be }
 {

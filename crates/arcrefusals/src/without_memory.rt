@@ -1,4 +1,4 @@
-//! Calls that take no memory, and so pass whatever is refused.
+//! Calls that do not allocate, and so succeed whatever is refused.
 use crate::making::{check_count, check_text};
 use crate::meter::Meter;
 use crate::stop::{Part, Stop, check};
@@ -156,7 +156,7 @@ fn parts_of_slice(rt: &impl Wait, meter: Meter, alloc: Global) -> Result<(), Sto
     check_count(foobar.parent(), 1)
 }
 
-/// Compares the text of a slice, and the count of its parent with that of so many handles, and drops it.
+/// Compares the text of a slice, and the count of its parent with this number of handles, and drops the slice.
 fn check_slice(
     meter: Meter,
     made: Option<Substr>,
@@ -172,7 +172,7 @@ fn check_slice(
     Ok(())
 }
 
-/// Marks a text, which then stays.
+/// Marks a text static, permanently.
 fn leak(meter: Meter, alloc: Global) -> Result<(), Stop> {
     let text = ArcStr::from_str(alloc, "foobar")?;
     meter.begin();

@@ -1,4 +1,4 @@
--- Whoever has the word at 0 with its book has the block alone: beside that book no handle has a seat. Assumes `Logic`.
+-- Whoever has the word at 0 with its book has the block alone: no handle has a seat beside that book. Assumes `Logic`.
 use Rattle.std.proofs.Common.{◌≡◌, ℕ, zero, suc, ◌<◌, Bool, true, false, if◌then◌else◌, List, [], ◌∷◌, length, filter, Some, sym, refl, ap, ◌∙◌, arith}
 use Rattle.std.specs.Prelude.{slice_get}
 use Rattle.std.proofs.lemmas.Option.{get_or_from_slice_get, slice_get_within}
@@ -27,7 +27,7 @@ use Rattle.arcstr_block.specs.Ledger.{Id, right_to}
 use Rattle.arcstr_block.proofs.Rights.{has_seat}
 use Rattle.arcstr_block.proofs.Seats.{agrees}
 
--- where an item passes a test, some item does
+-- if an item passes a test, some item does
 some_passes : {X : Type 0} (test : X → Bool) (xs : List X) (i : ℕ) (x : X) → slice_get xs i ≡ Some x → test x ≡ true → 0 < length (filter test xs)
 some_passes test [] i x at passes = let within = slice_get_within [] i x at in absurd (omega (arith, within))
 some_passes test (y ∷ ys) zero x at passes = let same : test y ≡ true = ap test (get_or_from_slice_get (y ∷ ys) 0 x x at) ∙ passes in rw same (omega arith)
@@ -63,12 +63,12 @@ module _ {M : Type 1} {𝓤 : Ura M} (𝓛 : Logic 𝓤) where
   unfolding latest
   one_history γ r r' Z = own_sum 𝓛 (growing steps) γ (some full_share, r) (some full_share, r') Z (λ c m. absurd (not-OpDef-full_share full_share m.0.1.0.0))
 
-  -- and so one book
+  -- so a block has one book
   pub one_book : (L L' : ℕ) (γ δ δ' : GName) (n n' : ℕ) (Z : Pr) → ⟦ Book L γ δ n ⟧ ∗ ⟦ Book L' γ δ' n' ⟧ ⊢ Z
   one_book L L' γ δ δ' n n' Z = qed 𝓛 (‵ (Book L γ δ n) ∷ ‵ (Book L' γ δ' n') ∷ []) ∵ fpick ! (λ x. fsplit3 ! $ move ! (3 ∷ []) $ fpick ! (λ y. fsplit3 ! $
       keep ! (1 ∷ 4 ∷ []) $ by ! (one_history γ y.0 x.0 Z)))
 
-  -- beside the book of the word 0 no seat is a living handle's
+  -- beside the book of the word 0 no seat belongs to a living handle
   no_living_seat : (L : ℕ) (γ δ : GName) (h : ℕ) (state : HandleState) → lives state ≡ true → (Z : Pr) → ⟦ Book L γ δ 0 ⟧ ∗ ⟦ seat δ h state ⟧ ⊢ Z
   no_living_seat L γ δ h state alive Z = qed 𝓛 (‵ (Book L γ δ 0) ∷ ‵ (seat δ h state) ∷ []) ∵ fpick ! (λ x. fsplit3 ! $ fpick ! (λ keeps. drop ! $
       move ! (1 ∷ 2 ∷ []) $
@@ -76,7 +76,7 @@ module _ {M : Type 1} {𝓤 : Ura M} (𝓛 : Logic 𝓤) where
       (Rattle.std.proofs.Common.zero-add h))) $
       learn ! (λ at. absurd (none_lives L x.0 x.1 h state keeps at alive))))
 
-  -- and no right has a seat
+  -- so no right has a seat
   module _ (P : Fml) (L b o : ℕ) (t : Id) (s : Lft → Fml) (laws : denote.Sharing.ShrLaws s) (L₀ h : ℕ) (Z : Pr) where
     abbrev Held : Right → Fml
     Held right = right_to P L b o t s h right

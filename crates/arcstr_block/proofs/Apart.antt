@@ -1,4 +1,4 @@
--- Two pointers that have the seats of their handles: on one block they have two, for a seat has one owner, and beside one that is owed there is none.
+-- Two pointers that have the seats of their handles: on one block they have two seats, since a seat has one owner; beside an owed one there is none.
 -- Assumes `Logic`.
 use Rattle.std.proofs.Common.{◌≡◌, ◌≢◌, ℕ, List, [], ◌∷◌, sym, refl, ap, ◌∙◌, length}
 use native.Mathlib.Decide.{ℕ_discrete}
@@ -40,7 +40,7 @@ module _ {M : Type 1} {𝓤 : Ura M} (𝓛 : Logic 𝓤) (B : RattleType) (g : G
   abbrev Row : RattleType
   Row = C.the_row B g
 
-  -- what a pointer's right is, under names that are its block's
+  -- what a pointer's right is, under the names of its block
   module _ (h : Row.Denot) where
     abbrev P : Fml
     P = block_owns (g.dealloc_token h.home) h.at h.text
@@ -69,7 +69,7 @@ module _ {M : Type 1} {𝓤 : Ura M} (𝓛 : Logic 𝓤) (B : RattleType) (g : G
       (has_seat 𝓛 (P h) h.limit (block_of h.at) (word_at h.at (length h.text)) t (s h) (sl h) h.seat h.right may) $
       rewrite ! 0 (λ (z : Names). ‵ (seat z.1 h.seat (seat_state h.right))) named refl $ done !))
 
-  -- what is owed has the book of the word 0
+  -- a right to what is owed has the book of the word 0
   pub book_of : (h : Row.Denot) (vs : List Val) → h.right ≡ owed → ⟦ Row.own_val h vs ⟧ ⊢ ⟦ Book h.limit h.block.0 h.block.1 0 ⟧
   book_of h vs mine = qed 𝓛 (‵ (Row.own_val h vs) ∷ []) ∵ use1 𝓛 (‵ (fex Id (named_right h))) (right_of h vs) $ fpick ! (λ t. fsplit ! $ fpick ! (λ named.
       drop ! $

@@ -34,7 +34,7 @@ module _ {M : Type 1} {𝓤 : Ura M} (𝓛 : Logic 𝓤) (I : Fml) (b o : ℕ) (
   abbrev pub Closed : ℕ → Pr
   Closed n = ⟦ I ⟧ ∗ ⟦ after n ⟧
 
-  -- after the step nothing ends, or the lifetime d does
+  -- after the step no lifetime ends, or the lifetime d does
   abbrev pub Out : ℕ → Option ℕ → Pr
   Out n None = Closed n
   Out n (Some d) = A.lft (d ∷ []) full_share ∗ (A.dead (d ∷ []) -∗ upd 𝓤 (Closed n))
@@ -78,7 +78,7 @@ module _ {M : Type 1} {𝓤 : Ura M} (𝓛 : Logic 𝓤) (I : Fml) (b o : ℕ) (
       suffices ! _ (ex_i 𝓤 (λ (s : Shift). along 𝓛 s (if_none 𝓛 (T j n)) (L j n)) (picks (Option ℕ) way)) $
       settle 𝓛 (ex 𝓤 S) (some (λ (e : Option ℕ). raw (Out n e))) $ suffices ! _ (upd_i 𝓤 (ex 𝓤 S)) $ pick ! (λ e. show ! S e $ by ! (ways j n e)))))
 
--- what goes beside a step goes beside what follows it
+-- what is kept beside a step is kept beside what follows it
 module _ {M : Type 1} {𝓤 : Ura M} (𝓛 : Logic 𝓤) (I : Fml) (b o : ℕ) (f : ℕ → ℕ) (after beside : ℕ → Fml) (n : ℕ) where
   abbrev pub both_after : ℕ → Fml
   both_after m = fsep (beside m) (after m)

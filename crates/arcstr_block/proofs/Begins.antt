@@ -1,4 +1,4 @@
--- A block begins: its word is 2, its content is lent, and its first handle has one part. Assumes `Logic`.
+-- The beginning of a block: its word is 2, its content is lent, and its first handle has one part. Assumes `Logic`.
 use Rattle.std.proofs.Common.{◌≡◌, ℕ, ◌-◌, ◌^◌, Bool, true, [], ◌∷◌, refl, arith, lit<}
 use seplogic.Ra.Ura.{Ura}
 use base.Fraction.{full_share}

@@ -1,4 +1,4 @@
--- Beside what is owed no share of a free handle's seat is on its block, so a handle that is lent is on another. Assumes `Logic`.
+-- Beside what is owed there is no share of a free handle's seat on that block, so a borrowed handle is on another one. Assumes `Logic`.
 use Rattle.std.proofs.Common.{◌≡◌, ◌≢◌, ℕ, List, [], ◌∷◌, zero-add, sym, refl, ap}
 use Rattle.std.specs.Prelude.{Some, slice_get}
 use native.Mathlib.Decide.{ℕ_discrete}
@@ -46,6 +46,6 @@ module _ {M : Type 1} {𝓤 : Ura M} (𝓛 : Logic 𝓤) where
         use1 𝓛 (‵ (Book h.limit h.block.0 h.block.1 0)) (book_of 𝓛 B g h vs mine) $ rewrite ! 0 (λ (δ : ℕ). ‵ (Book h.limit h.block.0 δ 0)) f refl $
         by ! (no_free_handle h.limit h.block.0 block.1 j q (guard 𝓤 Other Both))
 
-    -- what is owed is another block than that of a free handle
+    -- what is owed is a different block from that of a free handle
     pub other_block : h.right ≡ owed → ent 𝓤 Both (guard 𝓤 Other Both)
     other_block mine = by_names mine (ℕ_discrete h.block.0 block.0) (ℕ_discrete h.block.1 block.1)

@@ -1,4 +1,4 @@
--- Each step on a block prolongs its history by exactly that step. Assumes `Logic`.
+-- Each step on a block extends its history by exactly that step. Assumes `Logic`.
 use Rattle.std.proofs.Common.{◌≡◌, ℕ, ◌+◌, ◌-◌, ◌/◌, ◌%◌, ◌^◌, ◌<◌, Bool, true, false, if◌then◌else◌, List, [], ◌∷◌, ◌++◌, length, set, sym, refl, ap, ◌∙◌}
 use Rattle.std.proofs.Common.{subst, lit<}
 use Rattle.std.specs.Prelude.{bit_or, slice_get, Some}
@@ -76,7 +76,7 @@ module _ {M : Type 1} {𝓤 : Ura M} (𝓛 : Logic 𝓤) where
         nothing ! $ fpack ! (EndsIn L r' s reply) (λ _. ftrue) on.ends $ fjoin ! $ fpack ! (List Step) (ends_in L γ δ s reply) r' $
         move ! (1 ∷ 2 ∷ []) $ use2 𝓛 (‵ (Bk n)) (book_in n r' vs on.keeps) $ done !
 
-    -- a step of a free handle through a share of its seat
+    -- a step of a free handle, by a share of its seat
     by_share : (n n' h : ℕ) (q : Share) (s : Step) (reply : Reply)
         → ((r : List Step) (vs : List HandleState) → Keeps L r (word_of n) vs → slice_get vs h ≡ Some Free → Prolongs L r s reply (word_of n') vs)
         → ⟦ Bk n ⟧ ∗ ⟦ seat_share δ h q Free ⟧ ⊢ upd 𝓤 (⟦ Bk n' ⟧ ∗ ⟦ seat_share δ h q Free ⟧ ∗ ⟦ Said s reply ⟧)

@@ -105,7 +105,7 @@ module _ {M : Type 1} {𝓤 : Ura M} (𝓛 : Logic 𝓤) (P : Fml) (L b o : ℕ)
       lost : (n : ℕ) → n ≢ old → exchanged n ≡ n
       lost n miss = ap (λ y. either y new n) (ne_eqb n old miss)
 
-      -- the word was another
+      -- the word was a different one
       misses : (n : ℕ) → n ≢ old → (s : Phase) → In n s → ⟦ St (exchanged n) ⟧ ∗ ⟦ Keeps s ⟧ ∗ ⟦ Tok ⟧ ⊢ Went n
       misses n miss (unmarked k) h = let h₀ = h.0 in let h₁ = h.1 in let h₂ = h.2 in
           qed 𝓛 (‵ (St (exchanged n)) ∷ ‵ (Keeps (unmarked k)) ∷ ‵ Tok ∷ []) ∵ nothing ! $ move ! (1 ∷ 2 ∷ 3 ∷ 0 ∷ []) $

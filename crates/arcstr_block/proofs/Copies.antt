@@ -1,4 +1,4 @@
--- Copies of a text, one behind the other.
+-- Copies of a text, one after another.
 use Rattle.std.proofs.Common.{◌≡◌, ℕ, zero, suc, ◌*◌, ◌≤◌, List, [], ◌++◌, length, append_assoc, refl, sym, ap, ◌∙◌, arith}
 use Rattle.std.specs.Prelude.{take, IsUtf8}
 use Rattle.std.specs.List.{repeat}
@@ -15,7 +15,7 @@ none_of (suc n) = none_of n
 pub empty_copies : (n : ℕ) (text items : List ℕ) → length text ≡ 0 → length items ≡ 0 → items ≡ repeat n text
 empty_copies n text items e none = nil_from_length items none ∙ sym (ap (repeat n) (nil_from_length text e) ∙ none_of n)
 
--- one more copy stands behind the others
+-- one more copy comes after the others
 one_more : (n : ℕ) (text : List ℕ) → repeat (suc n) text ≡ repeat n text ++ text
 one_more zero text = append-nil text
 one_more (suc n) text = ap (λ rest. text ++ rest) (one_more n text) ∙ sym (append_assoc text (repeat n text) text)

@@ -1,4 +1,4 @@
--- A pointer to a block may cross threads, where its content and its allocator may: no part of what it owns names a thread.
+-- A pointer to a block can cross threads if its content and its allocator can: no part of what it owns names a thread.
 use Rattle.std.proofs.Common.{ℕ, suc, Bool, true, false, List, [], ◌∷◌, length}
 use mir.Raw.{raw}
 use base.Growing.{latest, at_least}

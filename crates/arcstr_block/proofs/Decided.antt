@@ -1,4 +1,4 @@
--- Whether a right is this one.
+-- Decides whether a right is a given one.
 use Rattle.std.proofs.Common.{◌≡◌, refl}
 use Rattle.arcstr_block.specs.Rights.{Right, nothing, counted, uncounted, fixed, dropping, owed}
 

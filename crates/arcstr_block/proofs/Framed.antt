@@ -1,4 +1,5 @@
--- What the steps of a pointer have in common: the share and the seat that a step through `&` borrows, and the pointer that a step hands out. Assumes `Logic`.
+-- What the steps of a pointer have in common: the share and the seat that a step through `&` borrows, and the pointer that a step returns.
+-- Assumes `Logic`.
 use Rattle.std.proofs.Common.{◌≡◌, ℕ, ◌^◌, ◌<◌, List, [], ◌∷◌, ◌++◌, refl, w64, length}
 use mir.Val.{Val, vint, vstruct, of_list}
 use seplogic.Ra.Ura.{Ura}
@@ -54,7 +55,7 @@ module _ {M : Type 1} {𝓤 : Ura M} (𝓛 : Logic 𝓤) where
     abbrev Seat : Share → Fml
     Seat v = seat_share δ h v Free
 
-    -- both borrows are open, each by one half of κ
+    -- both borrows are open, each with one half of κ
     abbrev pub lent_for : Share × Share → Fml
     lent_for x = fsep (fsep (fobor κ (Share.left q) (Token x.0)) (fobor κ (Share.right q) (Seat x.1))) (fsep (Token x.0) (Seat x.1))
 
@@ -71,7 +72,7 @@ module _ {M : Type 1} {𝓤 : Ura M} (𝓛 : Logic 𝓤) where
         move ! (2 ∷ 0 ∷ []) $ obor_close ! tt $ drop ! $ move ! (2 ∷ 1 ∷ []) $ obor_close ! tt $ drop ! $ move ! (1 ∷ 0 ∷ []) $
         use2 𝓛 (‵ (flft κ q)) (𝓛.lfts.lft_join κ q) $ now ! $ done !
 
-  -- ---- the pointer that a step hands out
+  -- ---- the pointer that a step returns
   module _ (B : RattleType) (g : Ghosts B.Denot) where
     abbrev Row : RattleType
     Row = C.the_row B g
@@ -86,7 +87,7 @@ module _ {M : Type 1} {𝓤 : Ura M} (𝓛 : Logic 𝓤) where
       abbrev po : ℕ
       po = word_at h.at (length h.text)
 
-      -- a right, with the names of the block and a beginning of its history
+      -- a right, with the names of the block and a prefix of its history
       pub pointer_in : (t : Id) → names t ≡ h.block → InBlock h.at × IsText h.text
           → ⟦ right_to P h.limit pb po t (block_shares h.at h.text) h.seat h.right ⟧ ∗ ⟦ finv (Inv P h.limit pb po t) ⟧ ∗ ⟦ reached t.2 h.history ⟧
           ⊢ ⟦ Row.own_val h (pointer_val h.at ∷ []) ⟧
@@ -97,7 +98,7 @@ module _ {M : Type 1} {𝓤 : Ura M} (𝓛 : Logic 𝓤) where
           nothing ! $ fpack ! (InBlock h.at × IsText h.text) (λ _. ftrue) inb $ fjoin ! $
           use0 𝓛 (‵ ((Words B g).own_val (h.at, (tt, tt)) (pointer_val h.at ∷ []))) (made B g 𝓛 h.at) $ fjoin ! $ done !
 
-      -- beside the word n that the step found
+      -- the word n that the step found
       abbrev pub found_as : ℕ → Valss (u64 ∷ Row ∷ []) → Fml
       found_as n uss = fsep (feq (List Val) (found_val n h.at ∷ []) (vstruct (of_list (uss.0 ++ (uss.1.0 ++ []))) ∷ [])) (owns (u64 ∷ Row ∷ []) (
         n,

@@ -1,4 +1,4 @@
--- Two beginnings of one block's history are in line: the longer goes on from the other. Assumes `Logic`.
+-- Two prefixes of one block's history are in line: the longer extends the other. Assumes `Logic`.
 use Rattle.std.proofs.Common.{◌≡◌, ◌≤◌, List, [], ◌∷◌, ◌++◌, length, refl, sym, ◌∙◌, ap, arith}
 use mathlib.Core.List.{IsPrefix, cons≢nil, head-eq_of_cons-eq, tail-eq_of_cons-eq}
 use native.Mathlib.Decide.{ℕ_discrete}
@@ -15,7 +15,7 @@ use Rattle.arcstr_count.specs.declared.steps.Step.{Step}
 use Rattle.arcstr_block.specs.Book.{steps, reached}
 use Rattle.arcstr_block.specs.Handle.{IsFront}
 
--- the shorter of two fronts of one list is a front of the other
+-- the shorter of two prefixes of one list is a prefix of the other
 shorter : {X : Type 0} (front other whole : List X) → IsPrefix front whole → IsPrefix other whole → length front ≤ length other
     → (later : List X) × (other ≡ front ++ later)
 shorter [] other whole h k short = (other, refl)
@@ -25,7 +25,7 @@ shorter (x ∷ front) (y ∷ other) (z ∷ whole) h k short =
     let rest = shorter front other whole (h.0, tail-eq_of_cons-eq h.1) (k.0, tail-eq_of_cons-eq k.1) (omega arith) in
     (rest.0, ap (λ first. first ∷ other) (head-eq_of_cons-eq k.1 ∙ sym (head-eq_of_cons-eq h.1)) ∙ ap (λ more. x ∷ more) rest.1)
 
--- the shorter of two histories is a front of the other
+-- the shorter of two histories is a prefix of the other
 abbrev pub InLine : List Step → List Step → Type 0
 InLine r s = (length r ≤ length s → IsFront r s) × (length s ≤ length r → IsFront s r)
 
@@ -42,7 +42,7 @@ module _ {M : Type 1} {𝓤 : Ura M} (𝓛 : Logic 𝓤) where
             shorter s r c least.1 least.0 short),
       ))))
 
-  -- what two names of histories say: where they are one, what was reached is in line
+  -- what two names of histories say: if they are equal, the histories that were reached are in line
   abbrev pub Agrees : GName → GName → List Step → List Step → Type 0
   Agrees γ δ r s = γ ≡ δ → InLine r s
 

@@ -6,7 +6,7 @@ use Rattle.std.proofs.lemmas.List.{length-append}
 use Rattle.std_alloc.proofs.Concat.{separated_first, separated_more}
 
 module _ {X : Type 0} (f : X → List ℕ) (sep : List ℕ) where
-  -- the pieces behind the first, each with its separator, get longer piece by piece
+  -- the pieces after the first, each with its separator, get longer piece by piece
   rest_within : (xs : List X) (n : ℕ) → length (flat_map (λ y. sep ++ f y) (take n xs)) ≤ length (flat_map (λ y. sep ++ f y) xs)
   rest_within [] zero = omega arith
   rest_within [] (suc n) = omega arith
@@ -23,7 +23,7 @@ module _ {X : Type 0} (f : X → List ℕ) (sep : List ℕ) where
       let part = λ (ys : List X). flat_map (λ y. sep ++ f y) ys in
       omega (arith, rest_within xs n, length-append (f x) (part (take n xs)), length-append (f x) (part xs))
 
-  -- one more text stands behind what is joined, and what stands before it behind that
+  -- one more text comes after what is joined, and the gap comes between the two
   pub joined_more : (xs : List X) (i : ℕ) (d : X) (gap : List ℕ) → i < length xs → (i ≡ 0 → gap ≡ []) → (0 < i → gap ≡ sep)
       → join_by f sep (take (i + 1) xs) ≡ (join_by f sep (take i xs) ++ gap) ++ f (get_or xs i d)
   joined_more xs zero d gap within first later =
@@ -32,7 +32,7 @@ module _ {X : Type 0} (f : X → List ℕ) (sep : List ℕ) where
   joined_more xs (suc i) d gap within first later =
       sym (ap (λ g. (join_by f sep (take (suc i) xs) ++ g) ++ f (get_or xs (suc i) d)) (later (omega arith)) ∙ separated_more f sep xs (suc i) d (omega arith) within)
 
-  -- what is joined up to then, the gap and the text are no longer than all that is joined
+  -- what is joined so far, the gap and the text are no longer than all that is joined
   pub joined_room : (xs : List X) (i : ℕ) (d : X) (gap : List ℕ) → i < length xs → (i ≡ 0 → gap ≡ []) → (0 < i → gap ≡ sep)
       → (length (join_by f sep (take i xs)) + length gap) + length (f (get_or xs i d)) ≤ length (join_by f sep xs)
   joined_room xs i d gap within first later =

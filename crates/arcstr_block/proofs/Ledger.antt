@@ -1,4 +1,4 @@
--- How the parts of a token move while the word changes: taken, given back, and kept for good at the mark. Assumes `Logic`.
+-- How the parts of a token move while the word changes: taken, returned, and kept permanently at the mark. Assumes `Logic`.
 use Rattle.std.proofs.Common.{ℕ, ◌+◌, ◌-◌, ◌^◌, ◌<◌, [], ◌∷◌, arith}
 use seplogic.Ra.Ura.{Ura}
 use base.Fraction.{full_share}
@@ -55,7 +55,7 @@ module _ {M : Type 1} {𝓤 : Ura M} (𝓛 : Logic 𝓤) (P : Fml) (L b o : ℕ)
       (omega arith)) $ split ! $
       move ! (0 ∷ 2 ∷ 3 ∷ []) $ fjoin3 ! $ done !
 
-  -- one handle less, and not the last
+  -- one handle less, which is not the last
   pub gives : (k : ℕ) → 1 < k → k < 2 ^ 63 → ⟦ Keeps (unmarked k) ⟧ ∗ ⟦ parts t.0 1 ⟧ ⊢ ⟦ Keeps (unmarked (k - 1)) ⟧
   gives k many small = qed 𝓛 (‵ (Keeps (unmarked k)) ∷ ‵ (parts t.0 1) ∷ []) ∵ fsplit3 ! $ move ! (0 ∷ 3 ∷ []) $
       use2 𝓛 (‵ (parts t.0 (2 ^ 63 - (k - 1)))) (parts_glue 𝓛 t.0 (2 ^ 63 - k) 1 (2 ^ 63 - (k - 1)) (omega arith) (omega arith) (omega arith)) $ fjoin3 ! $
@@ -72,12 +72,12 @@ module _ {M : Type 1} {𝓤 : Ura M} (𝓛 : Logic 𝓤) (P : Fml) (L b o : ℕ)
       use2 𝓛 (‵ (parts t.0 (2 ^ 63 - ((m - 1) + 1)))) (parts_glue 𝓛 t.0 (2 ^ 63 - (m + 1)) 1 (2 ^ 63 - ((m - 1) + 1)) (omega arith) (omega arith)
       (omega arith)) $ fjoin3 ! $ done !
 
-  -- more parts than were out
+  -- more parts than are out
   pub too_many : ⟦ Keeps (marked 0) ⟧ ∗ ⟦ parts t.0 1 ⟧ ⊢ A.lft (t.0 ∷ []) full_share ∗ ⟦ some_share t.0 ⟧
   too_many = qed 𝓛 (‵ (Keeps (marked 0)) ∷ ‵ (parts t.0 1) ∷ []) ∵ fsplit3 ! $ move ! (0 ∷ 3 ∷ []) $
       use2 𝓛 (‵ (flft (t.0 ∷ []) full_share)) (parts_whole 𝓛 t.0) $ keep ! (0 ∷ 1 ∷ []) $ done !
 
-  -- the token of c ends with the mark, and one more part is kept, of which the marker has a share
+  -- the token of c ends with the mark, and one more part is kept, of which the handle that marks has a share
   pub marks : (k : ℕ) → k < 2 ^ 63 - 1
       → ⟦ Keeps (unmarked k) ⟧ ⊢ A.lft (t.1 ∷ []) full_share ∗ ⟦ parts t.0 (2 ^ 63 - (k + 1)) ⟧ ∗ ⟦ some_share t.0 ⟧ ∗ ⟦ some_share t.0 ⟧
   marks k small = qed 𝓛 (‵ (Keeps (unmarked k)) ∷ []) ∵ fsplit3 ! $
@@ -89,7 +89,7 @@ module _ {M : Type 1} {𝓤 : Ura M} (𝓛 : Logic 𝓤) (P : Fml) (L b o : ℕ)
   pub marked_in : (m : ℕ) → ⟦ parts t.0 (2 ^ 63 - (m + 1)) ⟧ ∗ ⟦ some_share t.0 ⟧ ∗ A.dead (t.1 ∷ []) ⊢ ⟦ Keeps (marked m) ⟧
   marked_in m = qed 𝓛 (‵ (parts t.0 (2 ^ 63 - (m + 1))) ∷ ‵ (some_share t.0) ∷ ‵ (fdead (t.1 ∷ [])) ∷ []) ∵ fjoin3 ! $ done !
 
-  -- whoever finds the mark has a share
+  -- every handle that finds the mark has a share
   pub finds_mark : (m : ℕ) → ⟦ Keeps (marked m) ⟧ ⊢ ⟦ Keeps (marked m) ⟧ ∗ ⟦ some_share t.0 ⟧ ∗ A.dead (t.1 ∷ [])
   finds_mark m = qed 𝓛 (‵ (Keeps (marked m)) ∷ []) ∵ fsplit3 ! $ move ! (1 ∷ []) $ use1 𝓛 (‵ (some_share t.0) ⊛ ‵ (some_share t.0)) (share_halves 𝓛 t.0) $
       split ! $

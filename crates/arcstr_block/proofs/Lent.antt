@@ -123,7 +123,7 @@ module _ (P : Fml) (L b o : ℕ) (s : Lft → Fml) (laws : ShrLaws s) (h : ℕ) 
         move ! (1 ∷ 0 ∷ []) $ fjoin ! $
         no_item ! $ fpack ! (right ≡ counted → Counts 63 e 1) (λ _. ftrue) c $ fjoin ! $ fpack ! Share (with_share P L b o t s h right) e $ done !
 
-    -- the share and the seat come back once the borrow ends
+    -- the share and the seat return when the borrow ends
     again : (κ : Lft) (right : Right) (e : Share) → (right ≡ counted → Counts 63 e 1)
         → ⟦ finv I ⟧ ∗ ⟦ knows t right ⟧ ∗ ⟦ s a ⟧ ⊢ ⟦ fwand (fsep (fdead κ) (fseps (flft a e ∷ Mine ∷ []))) (fupd (FreeHolds right)) ⟧
     unfolding fseps

@@ -43,7 +43,7 @@ module _ {M : Type 1} {𝓤 : Ura M} (𝓛 : Logic 𝓤) (P : Fml) (L b o : ℕ)
   abbrev Bk : ℕ → Fml
   Bk = Book L t.2 t.3
 
-  -- what the history has once the load found the word n
+  -- the history after the load found the word n
   abbrev pub entered : Bool → ℕ → Fml
   entered true n = newborn 𝓛 P L b o t s laws (IsMarked n)
   entered false n = Ends L t.2 t.3 (Look h) (look_reply (looked_of (word_of n)))
@@ -53,7 +53,7 @@ module _ {M : Type 1} {𝓤 : Ura M} (𝓛 : Logic 𝓤) (P : Fml) (L b o : ℕ)
   enters true q n = finds 𝓛 L t.2 t.3 h q n
   enters false q n = book_look 𝓛 L t.2 t.3 n h q
 
-  -- a right, of the handle x.0, with the beginning x.1 of the history
+  -- a right of the handle x.0, with the prefix x.1 of the history
   abbrev pub right_after : Bool → ℕ → Right → ℕ × List Step → Fml
   right_after clones n k x = fsep (fact (LoadEnds clones L h n x.1)) (fsep (reached t.2 x.1) (right_to P L b o t s x.0 k))
 

@@ -1,4 +1,4 @@
--- A history of one block that ends in a mark, or in a look that found one, has marked its block.
+-- A history of one block that ends in a mark, or in a look that found the block marked, has marked its block.
 use Rattle.std.proofs.Common.{◌≡◌, ℕ, ◌<◌, Bool, true, false, ◌||◌, ◌==◌, if◌then◌else◌, Option, None, Some, List, [], ◌∷◌, ◌++◌, refl, sym, ap, ◌∙◌, subst}
 use Rattle.std.proofs.Common.{arith}
 use Rattle.arcstr_count.specs.declared.steps.Step.{Step}
@@ -39,7 +39,7 @@ marked_by_leak limit history h ends = let p : List Step = past_of limit ends.fro
     let on : block_of p h ≡ 0 = on_the_block limit history ends.front (Leak h) h ends.one_block past refl (Leak-finds limit p h ends.accepted).born in
     record { one_block = ends.one_block; marked = ap (λ q. is_marked limit q 0) past ∙ ap (λ b. (b == 0) || is_marked limit p 0) on }
 
--- only a look at a marked block is answered so
+-- only a look at a marked block has this answer
 static_was : (refusal : Option StepFault) (marked : Bool) (n : ℕ) → reply_by refusal (if marked then Static else Count n) ≡ Static → marked ≡ true
 static_was None true n e = refl
 static_was None false n e = cc

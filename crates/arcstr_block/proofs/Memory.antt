@@ -57,7 +57,7 @@ module _ {M : Type 1} {𝓤 : Ura M} (𝓛 : Logic 𝓤) where
       (Lends-first 𝓛 (text_lies p xs) (rim holds n p) s l (Lends-lies 𝓛 (Array u8 n) l p xs (Shares-Array 𝓛 u8 tt n l (Shares-less 𝓛 u8 [] l
       (⊑_static l) (byte_laws.shares 𝓛)) xs)))
 
-  -- room for the bytes, the word and the length at these places, and the way back to the block's
+  -- room for the bytes, the word and the length at these addresses, and the way back to the block's room
   abbrev Spreads : ℕ → ℕ → ℕ → ℕ → ℕ → ℕ → Type 1
   Spreads n b o x y z = let parts : Fml = fsep (froom (ty_array (ty_int w8) n) b x) (fsep (froom (ty_int w64) b y) (fsep (froom (ty_int w64) b z) ftrue)) in
       ent 𝓤 (H.room (bare (block_type n)) b o) (sep 𝓤 (sem 𝓛 parts) (sem 𝓛 (fwand parts (froom (bare (block_type n)) b o))))
@@ -70,7 +70,7 @@ module _ {M : Type 1} {𝓤 : Ura M} (𝓛 : Logic 𝓤) where
       subst (λ (at : ℕ × ℕ × ℕ). Spreads n b o at.0 at.1 at.2) (λ i. (ex i, ey i, ez i))
       (𝓛.laws.room_fields [] (tcons (ty_array (ty_int w8) n) (tcons (ty_int w64) (tcons (ty_int w64) tnil))) b o)
 
-  -- a block that one owner has is room again, with the right to give it back
+  -- a block that has one owner is room again, with the right to free it
   pub gathers : (holds : Ty → Ptr → Fml) (b o w : ℕ) (xs : List ℕ)
       → ent 𝓤 (sep 𝓤 (sem 𝓛 (word_lies (block_ptr b o) (length xs) w)) (sem 𝓛 (block_owns holds (block_ptr b o) xs)))
       (sep 𝓤 (H.room (bare (block_type (length xs))) b o) (sem 𝓛 (holds (bare (block_type (length xs))) (block_ptr b o))))

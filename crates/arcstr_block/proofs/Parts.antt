@@ -1,4 +1,4 @@
--- The parts of a token: cut, glued and made whole. Assumes `Logic`.
+-- The parts of a token: how they are cut, joined and made whole. Assumes `Logic`.
 use Rattle.std.proofs.Common.{◌≡◌, ℕ, ◌+◌, ◌-◌, ◌^◌, ◌<◌, ◌≤◌, [], ◌∷◌, refl, subst, arith}
 use seplogic.Ra.Ura.{Ura}
 use base.Share

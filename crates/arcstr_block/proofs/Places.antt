@@ -1,4 +1,4 @@
--- The places of a block's bytes, as a `Slots` at a call: made of room, and given up once each byte is written. Assumes `Logic`.
+-- The slots of a block's bytes, as a `Slots` in a call: made of room, and taken apart once each byte is written. Assumes `Logic`.
 use Rattle.std.proofs.Common.{◌≡◌, ℕ, suc, ◌+◌, ◌*◌, ◌^◌, ◌<◌, Bool, true, false, List, [], ◌∷◌, ◌++◌, length, refl, ap, ◌∙◌, arith}
 use seplogic.Ra.Ura.{Ura}
 use lib.Dec.{T, lit<}
@@ -61,7 +61,7 @@ words_told p n vs is = (
 )
 
 module _ {M : Type 1} {𝓤 : Ura M} (𝓛 : Logic 𝓤) (b : ℕ) where
-  -- where each place holds its byte, they are the bytes
+  -- where each slot holds its byte, the slots are the bytes
   pub to_bytes : (xs : List ℕ) (fs : List Bool) (o : ℕ) → length fs ≡ length xs → ((k : ℕ) → k < length fs → lib.ListN.get_or fs k false ≡ true)
       → ent 𝓤 (sem 𝓛 (slots R (block_ptr b o) xs fs)) (sem 𝓛 (bytes full_share xs b o))
   to_bytes [] fs o e full = id⊢ 𝓤 (emp 𝓤)

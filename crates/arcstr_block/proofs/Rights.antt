@@ -1,4 +1,4 @@
--- A right as it is shown through a `&`, and the right that a step's gain becomes. Assumes `Logic`.
+-- A right as a `&` shows it, and the right that a step's gain becomes. Assumes `Logic`.
 use Rattle.std.proofs.Common.{◌≡◌, ◌≢◌, ℕ, if◌then◌else◌, inl, inr, [], ◌∷◌, refl, ap, arith}
 use Rattle.std.specs.Prelude.{◌⊎◌}
 use mathlib.Core.Logic.{dite}
@@ -35,7 +35,7 @@ counted_of fixed may other = absurd (may.1 refl)
 counted_of dropping may other = absurd (may.2 refl)
 counted_of owed may other = absurd (may.3 refl)
 
--- the state of the seat, of a right that has one
+-- the state of the seat of a right that has one
 abbrev pub seat_state : Right → HandleState
 seat_state dropping = Dropping
 seat_state owed = Owing
@@ -65,7 +65,7 @@ module _ {M : Type 1} {𝓤 : Ura M} (𝓛 : Logic 𝓤) (P : Fml) (L b o : ℕ)
   abbrev I : Fml
   I = Inv P L b o t
 
-  -- a gain that becomes a right, with what that says
+  -- a gain that becomes a right, with what the right says
   pub record Becomes (says : Right → Type 0) (from : Pr) (to : Right → Pr) : Type 1 where
     pub right : Right
     pub said : says right
@@ -81,7 +81,7 @@ module _ {M : Type 1} {𝓤 : Ura M} (𝓛 : Logic 𝓤) (P : Fml) (L b o : ℕ)
     abbrev Held : ℕ → Right → Fml
     Held h = right_to P L b o t s h
 
-    -- what a right by which the block may be read shows
+    -- what a right that may read the block shows
     pub may_see : (h : ℕ) (right : Right) → MaySee right → (κ : Lft) → ⟦ Shown h right κ ⟧ ⊢ ⟦ fshr_bor κ (λ q. flft a q) ⟧ ∗ ⟦ finv I ⟧ ∗ ⟦ s a ⟧
     may_see h nothing may κ = absurd (may.0 refl)
     may_see h counted may κ = qed 𝓛 (‵ (Shown h counted κ) ∷ []) ∵ fsplit3 ! $ move ! (2 ∷ []) $ fsplit3 ! $ keep ! (3 ∷ 1 ∷ 2 ∷ []) $ done !
@@ -101,7 +101,7 @@ module _ {M : Type 1} {𝓤 : Ura M} (𝓛 : Logic 𝓤) (P : Fml) (L b o : ℕ)
     may_step h dropping may κ = absurd (may.2 refl)
     may_step h owed may κ = absurd (may.3 refl)
 
-    -- what lies in a right of a free handle, which is the same of both
+    -- what a free handle's right contains, which is the same for both
     pub is_free : (h : ℕ) (right : Right) → IsFree right → ⟦ Held h right ⟧ ⊢ ⟦ Rattle.arcstr_block.specs.Ledger.free P L b o t s h right ⟧
     is_free h nothing may = absurd (may.0 refl)
     is_free h counted may = id⊢ 𝓤 _
@@ -114,7 +114,7 @@ module _ {M : Type 1} {𝓤 : Ura M} (𝓛 : Logic 𝓤) (P : Fml) (L b o : ℕ)
     free_has_seat h right = qed 𝓛 (‵ (Rattle.arcstr_block.specs.Ledger.free P L b o t s h right) ∷ []) ∵ fpick ! (λ e. fsplit3 ! $ move ! (2 ∷ []) $ fsplit3 ! $
         keep ! (2 ∷ []) $ done !)
 
-    -- each right but to know the block or its mark has the seat of its handle
+    -- each right except nothing and fixed has the seat of its handle
     pub has_seat : (h : ℕ) (right : Right) → HasSeat right → ⟦ Held h right ⟧ ⊢ ⟦ seat t.3 h (seat_state right) ⟧
     has_seat h nothing may = absurd (may.0 refl)
     has_seat h counted may = free_has_seat h counted
@@ -129,7 +129,7 @@ module _ {M : Type 1} {𝓤 : Ura M} (𝓛 : Logic 𝓤) (P : Fml) (L b o : ℕ)
     knows_mark : A.dead (t.1 ∷ []) ⊢ ⟦ knows t uncounted ⟧
     knows_mark = all_i 𝓤 {P = A.dead (t.1 ∷ [])} (λ (_ : uncounted ≡ uncounted). A.dead (t.1 ∷ [])) (λ _. id⊢ 𝓤 (A.dead (t.1 ∷ [])))
 
-    -- a share is had for good once it is borrowed for a lifetime that never ends
+    -- a share becomes permanent when it is borrowed for a lifetime that never ends
     for_good_of : ⟦ gained 𝓛 P L b o t share ⟧ ∗ ⟦ s a ⟧ ⊢ H.⇛ ⟦ Held 0 fixed ⟧
     for_good_of = qed 𝓛 (‵ (gained 𝓛 P L b o t share) ∷ ‵ (s a) ∷ []) ∵ updating ! $ fsplit ! $ fpick ! (λ e. bor_new ! tt [] $ bor_fracture ! tt (λ q.
         flft a q) e $
@@ -157,7 +157,7 @@ module _ {M : Type 1} {𝓤 : Ura M} (𝓛 : Logic 𝓤) (P : Fml) (L b o : ℕ)
     marked share e = record { right = fixed; said = refl; turns = for_good_of }
     marked last e = absurd cc
 
-    -- ---- a clone, where `event` says that it is had
+    -- ---- a clone; `event` says whether it succeeds
     abbrev pub newborn : Type 0 → Fml
     newborn event = fall event (λ _. Born 𝓛 L t.2 t.3)
 
@@ -253,7 +253,7 @@ module _ {M : Type 1} {𝓤 : Ura M} (𝓛 : Logic 𝓤) (P : Fml) (L b o : ℕ)
       }
       raised last ok = absurd (no_last ok)
 
-    -- ---- the drop: its look, and its subtraction
+    -- ---- the drop: its look and its subtraction
     module _ (n h : ℕ) where
       abbrev FromBegin : Share → Pr
       FromBegin e = A.lft a e ∗ ⟦ s a ⟧ ∗ ⟦ seat t.3 h (begun 𝓛 L t.2 t.3 n) ⟧

@@ -1,4 +1,4 @@
--- The seats of a block's handles: read by any share, moved by what a handle has, and a new one at the end. Assumes `Logic`.
+-- The seats of a block's handles: any share reads a seat, what a handle has changes it, and a new seat comes at the end. Assumes `Logic`.
 use Rattle.std.proofs.Common.{◌≡◌, ℕ, zero, suc, ◌+◌, ◌<◌, List, [], ◌∷◌, ◌++◌, length, set, sym, refl, ap, subst, arith, Some}
 use Rattle.std.specs.Prelude.{slice_get}
 use mathlib.Core.Path.{Path}
@@ -58,7 +58,7 @@ module _ {M : Type 1} {𝓤 : Ura M} (𝓛 : Logic 𝓤) (δ : ℕ) where
   together q r s v m = Prod.mk-mem-op Share.op (Ag.op (SetCoded-set (coded itself))) {a = q} {a' = r} {x = s} {b = v} {b' = v} {y = v} m (Ag.idem (SetCoded-set
       (coded itself)) v)
 
-  -- a share of a seat is cut and joined
+  -- a share of a seat can be cut and joined
   pub seat_halves : (h : ℕ) (v : V) → Halves 𝓤 H A (λ q. seat_share δ h q v)
   seat_halves h v = record {
     cut = λ q. entry_cut halved 𝓛 δ h (Share.left q, c v) (Share.right q, c v) (q, c v) (together (Share.left q) (Share.right q) q (c v) (Share.halves q));
@@ -69,7 +69,7 @@ module _ {M : Type 1} {𝓤 : Ura M} (𝓛 : Logic 𝓤) (δ : ℕ) where
         (Share.left q) (Share.right q) q (c v) (Share.halves q)) m) (base.Logic.id⊢ 𝓤 _))));
   }
 
-  -- two shares of a seat say one state
+  -- two shares of a seat have the same state
   both_say : (h : ℕ) (q r : Share) (w v : V)
       → ⟦ seat_share δ h q w ⟧ ∗ ⟦ seat_share δ h r v ⟧ ⊢ guard 𝓤 (w ≡ v) (⟦ seat_share δ h q w ⟧ ∗ ⟦ seat_share δ h r v ⟧)
   both_say h q r w v = let a : Share × Gv = (q, c w) in let b : Share × Gv = (r, c v) in
@@ -84,7 +84,7 @@ module _ {M : Type 1} {𝓤 : Ura M} (𝓛 : Logic 𝓤) (δ : ℕ) where
       via 𝓤 (ex 𝓤 F) (entry_glue halved 𝓛 δ h a b) (ex_e 𝓤 F (λ x. guard_e 𝓤 (x ∈ halved.op a b) ⟦ entry halved δ h x ⟧ (λ m.
       absurd (three_quarters_once m.0.0))))
 
-  -- beyond the last seat there is none
+  -- there is no seat beyond the last one
   no_seat : (h k : ℕ) (q : Share) (v d : V) (Z : Pr) → ◌<◌ h (suc k) → ⟦ seat_share δ k q v ⟧ ∗ ⟦ unused c δ h d ⟧ ⊢ Z
   no_seat h k q v d Z low = qed 𝓛 (‵ (seat_share δ k q v) ∷ ‵ (unused c δ h d) ∷ []) ∵
       use2 𝓛 (given (OpDef halved.op (q, c v) (full_share, c d)) (‵ (seat_share δ k q v) ⊛ ‵ (unused c δ h d))) (entries_beside halved 𝓛 δ h k (λ _.
@@ -104,7 +104,7 @@ module _ {M : Type 1} {𝓤 : Ura M} (𝓛 : Logic 𝓤) (δ : ℕ) where
       use2 𝓛 (given (slice_get ws i ≡ Some v) (‵ (Roster (suc k) ws) ⊛ ‵ (seat_share δ j q v))) (agrees ws (suc k) i j q v (omega arith)) $ learn ! (λ at.
       check ! at $ split ! $ move ! (2 ∷ 0 ∷ []) $ join ! $ done !)
 
-  -- whoever has the whole of a seat sets it, and has its two parts
+  -- whoever has the whole of a seat sets it, and then has its two parts
   resets : (k : ℕ) (v u : V) → ⟦ seat_share δ k full_share v ⟧ ⊢ upd 𝓤 (⟦ Quarter k u ⟧ ∗ ⟦ seat δ k u ⟧)
   resets k v u = let B : Share × Gv → Type 0 = λ x. Path (Share × Gv) x (full_share, c u) in
       let F : Share × Gv → Pr = λ x. guard 𝓤 (B x) ⟦ entry halved δ k x ⟧ in let Z : Pr = ⟦ Quarter k u ⟧ ∗ ⟦ seat δ k u ⟧ in
@@ -122,7 +122,7 @@ module _ {M : Type 1} {𝓤 : Ura M} (𝓛 : Logic 𝓤) (δ : ℕ) where
   abbrev Moved : ℕ → List V → ℕ → ℕ → V → Pr
   Moved k vs i j u = ⟦ Roster k (set vs i u) ⟧ ∗ ⟦ seat δ j u ⟧
 
-  -- a seat and the roster move together
+  -- a seat and the roster change together
   pub moves : (vs : List V) (k i j : ℕ) (v u : V) → j ≡ k + i → ⟦ Roster k vs ⟧ ∗ ⟦ seat δ j v ⟧ ⊢ upd 𝓤 (Moved k vs i j u)
   moves [] k i j v u e = qed 𝓛 (‵ (Roster k []) ∷ ‵ (seat δ j v) ∷ []) ∵ fpick ! (λ d. move ! (1 ∷ 0 ∷ []) $
       by ! (no_seat k j three_quarters v d _ (omega arith)))
@@ -139,7 +139,7 @@ module _ {M : Type 1} {𝓤 : Ura M} (𝓛 : Logic 𝓤) (δ : ℕ) where
   abbrev Added : ℕ → List V → V → Pr
   Added k vs u = ⟦ Roster k (vs ++ u ∷ []) ⟧ ∗ ⟦ seat δ (k + length vs) u ⟧
 
-  -- a new seat, at the end
+  -- a new seat at the end
   pub adds : (vs : List V) (k : ℕ) (u : V) → ⟦ Roster k vs ⟧ ⊢ upd 𝓤 (Added k vs u)
   adds [] k u = let Z : Pr = Added k [] u in let is : k ≡ k + 0 = omega arith in qed 𝓛 (‵ (Roster k []) ∷ []) ∵ fpick ! (λ d.
       use1 𝓛 (‵ (seat_share δ k full_share d) ⊛ ‵ (unused c δ (suc k) d)) (entries_take halved 𝓛 δ k (λ _. (full_share, c d))) $ split ! $

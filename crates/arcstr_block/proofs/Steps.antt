@@ -21,7 +21,7 @@ use Rattle.arcstr_block.specs.Ledger.{fact, parts, some_share, Id, Phase, unmark
 use Rattle.arcstr_block.proofs.Ledger.{phase_in, not_alive, marks, marked_in, finds_mark}
 use Rattle.arcstr_block.proofs.Atomic.{Closed, Out, Lies, asked, frames}
 
--- nothing, a part, a share for good, or the word and what the block owns
+-- nothing, a part, a permanent share, or the word and what the block owns
 pub data Gain : Type 0 where
   none : Gain
   part : Gain
@@ -70,7 +70,7 @@ module _ {M : Type 1} {𝓤 : Ura M} (𝓛 : Logic 𝓤) (P : Fml) (L b o : ℕ)
   gained share = fsep (some_share t.0) (fdead (t.1 ∷ []))
   gained last = fsep (St 0) (fsep (fdead (t.0 ∷ [])) (flent (t.0 ∷ []) P))
 
-  -- The word n becomes f n. `ok` says which gain goes with n, K is what the step takes, and `kept` what it gives back.
+  -- The word n becomes f n. `ok` says which gain goes with n, K is what the step takes, and `kept` is what it returns.
   module _ (f : ℕ → ℕ) (ok : ℕ → Gain → Type 0) (K kept : Fml) where
     abbrev pub told : ℕ → Gain → Fml
     told n g = fsep (fact (ok n g)) (gained g)
@@ -78,7 +78,7 @@ module _ {M : Type 1} {𝓤 : Ura M} (𝓛 : Logic 𝓤) (P : Fml) (L b o : ℕ)
     abbrev pub after : ℕ → Fml
     after n = fsep kept (fex Gain (told n))
 
-    -- with what the history says
+    -- the state after the step, with what the history says
     abbrev pub all_after : (ℕ → Fml) → ℕ → Fml
     all_after said n = fsep (said n) (after n)
 
@@ -113,12 +113,12 @@ module _ {M : Type 1} {𝓤 : Ura M} (𝓛 : Logic 𝓤) (P : Fml) (L b o : ℕ)
         qed 𝓛 (‵ (St (f n)) ∷ ‵ (Keeps (unmarked k)) ∷ ‵ kept ∷ []) ∵ move ! (1 ∷ []) $
         use1 𝓛 (‵ (flft (t.1 ∷ []) full_share) ⊛ ‵ (parts t.0 (2 ^ 63 - (k + 1))) ⊛ ‵ (some_share t.0) ⊛ ‵ (some_share t.0)) (marks 𝓛 P L b o t k small) $
         split3 ! $ move ! (2 ∷ []) $ split ! $
-        -- [a share; a share; the token of c; the parts; the word; what is given back]
+        -- [a share; a share; the token of c; the parts; the word; what is returned]
         suffices ! _ (ending n t.1) $ move ! (2 ∷ []) $ frame ! $ assume ! (‵ (fdead (t.1 ∷ []))) $ suffices ! _ (upd_i 𝓤 (Shut n)) $
         use1 𝓛 (‵ (fdead (t.1 ∷ [])) ⊛ ‵ (fdead (t.1 ∷ []))) (𝓛.lfts.dead_dup (t.1 ∷ [])) $ split ! $ move ! (3 ∷ 0 ∷ []) $ fjoin ! $ move ! (3 ∷ 2 ∷ 1 ∷ []) $
         use3 𝓛 (‵ (Keeps (marked k))) (marked_in 𝓛 P L b o t k) $ move ! (2 ∷ 0 ∷ 3 ∷ 1 ∷ []) $ by ! (shuts n (marked k) h share y)
 
-    -- B is what the history's law takes, and `said` what it gives
+    -- B is what the history's law takes, and `said` is what it gives
     module _ (alive : ⟦ K ⟧ ∗ A.dead (t.0 ∷ []) ⊢ never 𝓤) (law : (n : ℕ) → n < 2 ^ 64 → (s : Phase) → In n s → ⟦ St (f n) ⟧ ∗ ⟦ Keeps s ⟧ ∗ ⟦ K ⟧ ⊢ Stepped n)
         (B : Fml) (said : ℕ → Fml) (turn : (n : ℕ) → n < 2 ^ 64 → ⟦ Bk n ⟧ ∗ ⟦ B ⟧ ⊢ upd 𝓤 (⟦ Bk (f n) ⟧ ∗ ⟦ said n ⟧)) where
       abbrev After : ℕ → Fml

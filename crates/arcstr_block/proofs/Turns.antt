@@ -1,4 +1,4 @@
--- What a clone's steps do to the history, by the word that they find. Assumes `Logic`.
+-- What a clone's steps do to the history, depending on the word that they find. Assumes `Logic`.
 use Rattle.std.proofs.Common.{◌≡◌, ◌≢◌, ℕ, eqb, inl, inr, [], ◌∷◌, refl, sym, ap, subst, arith, eq-eqb, ne_eqb}
 use Rattle.std.specs.Prelude.{◌⊎◌}
 use mathlib.Core.Logic.{dite}
@@ -55,7 +55,7 @@ module _ {M : Type 1} {𝓤 : Ura M} (𝓛 : Logic 𝓤) (L : ℕ) (γ δ : GNam
   no_clone n event none = let Z : Pr = ⟦ Bk n ⟧ ∗ ⟦ Mine ⟧ ∗ ⟦ NewIf event ⟧ in qed 𝓛 (‵ (Bk n) ∷ ‵ Mine ∷ []) ∵ suffices ! _ (upd_i 𝓤 Z) $ nothing ! $
       use1 𝓛 (‵ (NewIf event)) (all_i 𝓤 {P = emp 𝓤} (λ (_ : event). ⟦ New ⟧) (λ y. absurd (none y))) $ move ! (1 ∷ 2 ∷ 0 ∷ []) $ done !
 
-  -- a load: where it finds the mark, the clone is born
+  -- a load: if it finds the word marked, the clone is born
   pub finds : (n : ℕ) → ⟦ Bk n ⟧ ∗ ⟦ Mine ⟧ ⊢ upd 𝓤 (⟦ Bk n ⟧ ∗ ⟦ Mine ⟧ ∗ ⟦ NewIf (IsMarked n) ⟧)
   finds n = elim (odd_or_even n) [
     | inl odd ↦ clone n n (IsMarked n) (word_kept L n odd)

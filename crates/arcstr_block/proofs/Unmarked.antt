@@ -1,4 +1,5 @@
--- A block that is owed is not marked: its book lies with whoever owes it, and that of a block known to be marked lies in its invariant. Assumes `Logic`.
+-- A block that is owed is not marked: whoever owes it has its book, and the book of a block known to be marked lies in its invariant.
+-- Assumes `Logic`.
 use Rattle.std.proofs.Common.{◌≡◌, ◌≢◌, ℕ, Bool, true, false, List, [], ◌∷◌, sym, refl, ap, ◌∙◌}
 use native.Mathlib.Decide.{ℕ_discrete}
 use seplogic.Ra.Ura.{Ura}
@@ -62,7 +63,7 @@ module _ {M : Type 1} {𝓤 : Ura M} (𝓛 : Logic 𝓤) (P : Fml) (L b o : ℕ)
     opened : (u : Share) (Z : Pr) → A.lft a u ∗ ⟦ Book₀ ⟧ ⊢ ⟦ I ⟧ -∗ upd 𝓤 (⟦ I ⟧ ∗ Z)
     opened u Z = qed 𝓛 (‵ (flft a u) ∷ ‵ Book₀ ∷ []) ∵ assume ! (‵ I) $ fpick ! (λ alive. by ! (inside alive u (upd 𝓤 (⟦ I ⟧ ∗ Z))))
 
-    -- and so what knows that the block is marked is not beside another book of it
+    -- so the knowledge that the block is marked does not lie beside another book of it
     not_marked : (Z : Pr) → ⟦ Book₀ ⟧ ∗ ⟦ finv I ⟧ ∗ ⟦ Good ⟧ ⊢ H.⇛ Z
     not_marked Z = qed 𝓛 (‵ Book₀ ∷ ‵ (finv I) ∷ ‵ Good ∷ []) ∵ updating ! $ move ! (2 ∷ []) $ fsplit ! $
         use0 𝓛 (‵ (flft [] full_share)) (𝓛.lfts.lft-nil full_share) $ move ! (1 ∷ 0 ∷ []) $ shr_bor-open ! tt (tokens_halve 𝓛 a) (λ u.
@@ -87,6 +88,6 @@ module _ {M : Type 1} {𝓤 : Ura M} (𝓛 : Logic 𝓤) (P : Fml) (L b o : ℕ)
         rewrite ! 0 (λ (k : ℕ). ‵ (Book h.limit k h.block.1 0)) γ refl $ rewrite ! 0 (λ (k : ℕ). ‵ (Book h.limit t.2 k 0)) δ refl $
         by ! (not_marked h.limit Away)
 
-    -- what is owed is another block than one that is known to be marked
+    -- what is owed is a different block from one that is known to be marked
     pub other_block : h.right ≡ owed → names t ≡ block → ⟦ Own ⟧ ∗ ⟦ finv I ⟧ ∗ ⟦ Good ⟧ ⊢ H.⇛ Away
     other_block mine named = by_names mine named (ℕ_discrete h.block.0 block.0) (ℕ_discrete h.block.1 block.1)

@@ -46,7 +46,7 @@ cloned_below L old new room even more =
     unmarked_word new even ∙ ap (λ c. record { flag = false; count = c }) more ∙ ap (λ b.
     if b then record { flag = true; count = old / 2 } else record { flag = false; count = old / 2 + 1 }) (sym (le-ltb L (old / 2) room))
 
--- a clone above the limit marks
+-- a clone above the limit sets the static flag
 cloned_above : (L old new : ℕ) → L < old / 2 → IsMarked new → new / 2 ≡ old / 2 → word_of new ≡ cloned_of L (record { flag = false; count = old / 2 })
 cloned_above L old new above odd same =
     marked_word new odd ∙ ap (λ c. record { flag = true; count = c }) same ∙ ap (λ b.

@@ -1,4 +1,4 @@
--- The history of a block, kept beside its word: the steps up to now, which only grow, and a seat for each handle that was ever born.
+-- The history of a block, kept beside its word: the steps so far, which only grow, and a seat for each handle that was ever born.
 use Rattle.std.specs.Prelude.{ℕ, List}
 use base.Fraction.{full_share}
 use base.Share.{three_quarters}
@@ -20,11 +20,11 @@ steps = prefixes step_row.coded
 abbrev pub state_code : HandleState → Gv
 state_code = state_row.coded.code
 
--- the history has reached this beginning: a fact for good
+-- a permanent fact: the history has reached this prefix
 abbrev pub reached : GName → List Step → Fml
 reached γ history = at_least steps γ history
 
--- a share of the seat of handle h, which is in this state;  and what a handle has of its seat
+-- a share of the seat of handle h, which is in this state; and what a handle has of its seat
 abbrev pub seat_share : GName → ℕ → Share → HandleState → Fml
 seat_share δ h q state = share_of_seat state_code δ h q state
 
@@ -39,7 +39,7 @@ module _ (L : ℕ) (γ δ : GName) where
   abbrev pub Book : ℕ → Fml
   Book n = fex (List Step × List HandleState) (book n)
 
-  -- the history has reached one that ends in this step, and the core answered so
+  -- the history has reached one that ends in this step, and this reply is the core's answer to it
   abbrev pub ends_in : Step → Reply → List Step → Fml
   ends_in s reply r = fsep (fex (EndsIn L r s reply) (λ _. ftrue)) (reached γ r)
 

@@ -1,4 +1,4 @@
--- How a handle ended, as the core answers it.
+-- How a handle ended, according to the core's answer.
 use Rattle.std.specs.Prelude.{◌≡◌, ℕ, List}
 use Rattle.arcstr_count.specs.declared.steps.Step.{Step}
 use Rattle.arcstr_count.specs.declared.steps.Step.TheVariants.{Begin, Sub}
@@ -8,13 +8,13 @@ use Rattle.arcstr_block.specs.Handle.{Handle}
 use Rattle.arcstr_block.specs.declared.owed.Down.{Down}
 use Rattle.arcstr_block.specs.declared.owed.Down.TheVariants.{Ended, Left, Owes}
 
--- the history ends in the look of the drop of the handle h, or in its subtraction, which the core answers by the same word
+-- the history ends in the look of the drop of handle h, or in its subtraction, and the core's answer has the same name
 abbrev pub EndsAs : {A : Type 0} → ℕ → List Step → ℕ → Down A → Type 0
 EndsAs limit history h Ended = EndsIn limit history (Begin h) EndedReply
 EndsAs limit history h Left = EndsIn limit history (Sub h) LeftReply
 EndsAs limit history h (Owes debt) = EndsIn limit history (Sub h) OwesReply
 
--- what is owed, where something is owed, is the block of this handle, by its seat
+-- if something is owed, it is the block of this handle, with the handle's seat
 abbrev pub OwesAs : {A : Type 0} → Handle → Down A → Type 0
 OwesAs handle Ended = Unit {0}
 OwesAs handle Left = Unit {0}

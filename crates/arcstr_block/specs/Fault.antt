@@ -1,4 +1,4 @@
--- The faults of a text: their numbers, their texts, and their kinds as faults of reading and writing.
+-- The faults of a text: their numbers, their texts, and their kinds as I/O errors.
 use Rattle.std.specs.Prelude.{ℕ, List, ◌++◌, codes}
 use Rattle.std.specs.Fmt.{decimal}
 use Rattle.arcstr_block.specs.declared.fault.TextFault.{TextFault}

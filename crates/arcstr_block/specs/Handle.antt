@@ -1,4 +1,4 @@
--- What a handle on a block is seen as, and what was seen of its block's history.
+-- What contracts see of a handle on a block, and what was seen of its block's history.
 use Rattle.std.specs.Prelude.{◌≡◌, ℕ, IsTrue, List, ◌++◌}
 use Rattle.arcstr_count.specs.declared.steps.Step.{Step}
 use Rattle.arcstr_count.specs.declared.steps.Step.TheVariants.{Look, Leak}
@@ -6,48 +6,48 @@ use Rattle.arcstr_count.specs.declared.steps.Reply.TheVariants.{Count, Static, M
 use Rattle.arcstr_count.specs.OneBlock.{IsOneBlock, EndsIn}
 use Rattle.arcstr_count.specs.After.{marked_after}
 
--- the bytes of the text, the name of the block (of its history, and of the seats of its handles), the number of the handle in it, and the limit on
--- the count of the block
+-- the bytes of the text, the name of the block (of its history, and of the seats of its handles), the number of the handle in it, and the limit
+-- on the count of the block
 pub record Handle : Type 0 where
   pub text : List ℕ
   pub block : ℕ × ℕ
   pub seat : ℕ
   pub limit : ℕ
 
--- what a marked block is seen as, which is kept for good: the bytes of its text, its name, the limit on its count,
--- and the beginning of its history that was seen when it was found or made marked
+-- what contracts see of a permanent block: the bytes of its text, its name, the limit on its count,
+-- and the prefix of its history that was seen when it was marked or found marked
 pub record Kept : Type 0 where
   pub text : List ℕ
   pub block : ℕ × ℕ
   pub limit : ℕ
   pub history : List Step
 
--- the block of this handle, kept for good, with this beginning of its history
+-- the permanent block of this handle, with this prefix of its history
 abbrev pub kept_of : ℕ → Handle → List Step → Kept
 kept_of limit handle history = record { text = handle.text; block = handle.block; limit = limit; history = history }
 
--- what the last subtraction of a block leaves owed: the block, and the handle in it that was subtracted
+-- what the last subtraction on a block leaves owed: the block, and the handle in it that was subtracted
 pub record Debt : Type 0 where
   pub block : ℕ × ℕ
   pub seat : ℕ
 
--- the history ends in a look of the handle h that the core answers by this number of handles
+-- the history ends in a look of handle h, to which the core answers this number of handles
 abbrev pub SawCount : ℕ → List Step → ℕ → ℕ → Type 0
 SawCount limit history h n = EndsIn limit history (Look h) (Count n)
 
--- the history ends in a look of the handle h at a marked block
+-- the history ends in a look of handle h at a marked block
 abbrev pub SawMark : ℕ → List Step → ℕ → Type 0
 SawMark limit history h = EndsIn limit history (Look h) Static
 
--- the history ends in a mark by the handle h
+-- the history ends in a mark by handle h
 abbrev pub SawLeak : ℕ → List Step → ℕ → Type 0
 SawLeak limit history h = EndsIn limit history (Leak h) Marked
 
--- the history is one of one block, number 0, which is marked after it
+-- the history has one block, number 0, which is marked after it
 pub record IsMarkedIn (limit : ℕ) (history : List Step) : Type 0 where
   pub one_block : IsOneBlock limit history
   pub marked : IsTrue (marked_after limit history 0)
 
--- the history goes on from the front, or is the same
+-- the history extends the prefix, or equals it
 abbrev pub IsFront : List Step → List Step → Type 0
 IsFront front history = (later : List Step) × (history ≡ front ++ later)

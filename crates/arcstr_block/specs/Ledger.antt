@@ -1,11 +1,11 @@
 -- Who owns what of a block. Its word lies in an invariant, with the parts of a token that no handle has.
 --     a      the lifetime for which the content is shared. Each counted handle has one part in 2 ^ 63 of its token.
---     c      the lifetime that ends with the mark: its token is beside an unmarked word, and that it has ended is a fact for good.
+--     c      the lifetime that ends with the mark: its token lies beside an unmarked word. That c has ended is a permanent fact.
 --     γ, δ   the names of the block's history and of the seats of its handles, which lie beside the word.
--- An unmarked word that counts k has k parts out, one for each counted handle. A marked word has m parts out, and keeps one part for good, of which
--- each who finds the mark has a share.
--- At the mark m is k, and it is one fewer after each later subtraction, of a drop that looked before the mark. A handle whose drop finds the mark
--- lets its part go, and m stays.
+-- An unmarked word that counts k has k parts out, one for each counted handle. A marked word has m parts out, and keeps one part permanently;
+-- each handle that finds the mark has a share of that part.
+-- When the block is marked, m is k. Each later subtraction, by a drop that looked before the mark, lowers m by one. A handle whose drop finds the
+-- mark drops its part, and m stays.
 use Rattle.std.specs.Prelude.{◌≡◌, ℕ, ◌+◌, ◌-◌, ◌^◌, ◌<◌, ◌≤◌, Bool, true, false, List, [], ◌∷◌, length}
 use base.Fraction.{full_share}
 use base.FractionLaws.{Counts}
@@ -31,7 +31,7 @@ parts a k = fex Share (λ e. fex (Counts 63 e k) (λ _. flft (a ∷ []) e))
 abbrev pub some_share : ℕ → Fml
 some_share a = fex Share (λ s. flft (a ∷ []) s)
 
--- what a block is known by: the lifetime a for which its content is shared, the lifetime c that ends with the mark, the name γ of its history, and
+-- what identifies a block: the lifetime a for which its content is shared, the lifetime c that ends with the mark, the name γ of its history, and
 -- the name δ of the seats of its handles
 abbrev pub Id : Type 0
 Id = ℕ × ℕ × GName × GName
@@ -47,7 +47,7 @@ Names = GName × GName
 abbrev pub names : Id → Names
 names t = (t.2, t.3)
 
--- the block's names, and a beginning of its history
+-- the block's names, and a prefix of its history
 abbrev pub known : Id → Names → List Step → Fml
 known t block history = fsep (fact (names t ≡ block)) (reached t.2 history)
 
@@ -87,7 +87,7 @@ module _ (P : Fml) (L b o : ℕ) (t : Id) where
   abbrev pub Inv : Fml
   Inv = fex Bool if_alive
 
-  -- that the block is marked, with a share of a's token for good
+  -- the block is marked, with a permanent share of a's token
   abbrev pub for_good : Fml
   for_good = fsep (fshr_bor [] (λ q. flft (t.0 ∷ []) q)) (fdead (t.1 ∷ []))
 
@@ -96,11 +96,11 @@ module _ (P : Fml) (L b o : ℕ) (t : Id) where
     abbrev pub with_share : Right → Share → Fml
     with_share right e = fsep (fact (right ≡ counted → Counts 63 e 1)) (fsep (flft (t.0 ∷ []) e) (fsep (knows t right) (fsep (s (t.0 ∷ [])) (seat t.3 h Free))))
 
-    -- a free handle: a share of a's token, which is one part where the handle is counted
+    -- a free handle: a share of a's token, which is one part if the handle is counted
     abbrev pub free : Right → Fml
     free right = fex Share (with_share right)
 
-    -- what lies in a right
+    -- what a right contains
     abbrev pub right_to : Right → Fml
     right_to nothing = s (t.0 ∷ [])
     right_to counted = free counted
@@ -127,8 +127,8 @@ module _ (P : Fml) (L b o : ℕ) (t : Id) where
     shown dropping = no_part
     shown owed = no_part
 
--- what a pointer says of itself: its allocator's right to give back, its limit, its address, its text, its right, its handle's number, its block's
--- names and a beginning of its history
+-- what a pointer owns: its allocator's right to free, its limit, its address, its text, its right, its handle's number, its block's
+-- names and a prefix of its history
 module _ (holds : Ty → Ptr → Fml) (L : ℕ) (p : Ptr) (text : List ℕ) (right : Right) (h : ℕ) (block : Names) (history : List Step) where
   abbrev pub of_block : Id → Fml
   of_block t = fsep (known t block history) (held_with (block_owns holds p text) L (block_of p) (word_at p (length text)) t (block_shares p text) h right)

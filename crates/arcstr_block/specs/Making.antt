@@ -1,4 +1,4 @@
--- When a text is refused.
+-- The errors of making a text.
 use Rattle.std.specs.Prelude.{◌≡◌, ◌≤◌, ◌⊎◌, ℕ, List, length, IsUtf8}
 use Rattle.std.specs.Str.{IsValidUpTo}
 use Rattle.std.specs.Str.Lossy.{utf8_valid_len}
@@ -10,14 +10,14 @@ use Rattle.arcstr_block.specs.declared.fault.TextFault.TheVariants.{Length, Memo
 abbrev pub IsTooLong : ℕ → Type 0
 IsTooLong n = least_too_long ≤ n
 
--- a text of n bytes is refused for its length where it is too long, and else for want of memory alone
+-- a text of n bytes is refused for its length if it is too long, and otherwise only for an allocation failure
 abbrev pub IsFaultOfMaking : ℕ → TextFault → Type 0
 IsFaultOfMaking n fault = ((fault ≡ Length) × IsTooLong n) ⊎ (fault ≡ Memory)
 
--- the place up to which these bytes are a text, where they are none: no longer front of them is one
+-- bytes that are not UTF-8 are refused with the length of their longest prefix that is UTF-8
 abbrev pub IsFaultOfBytes : List ℕ → TextFault → Type 0
 IsFaultOfBytes bytes fault = (¬ IsUtf8 bytes) × IsValidUpTo bytes (utf8_valid_len bytes) × (fault ≡ Utf8 (utf8_valid_len bytes))
 
--- n bytes are refused before they are filled, or for what the closure left in them
+-- n bytes are refused before they are filled, or because of what the closure left in them
 abbrev pub IsFaultOfFilling : (List ℕ → Type 0) → ℕ → TextFault → Type 0
 IsFaultOfFilling Leaves n fault = IsFaultOfMaking n fault ⊎ ((bytes : List ℕ) × Leaves bytes × (length bytes ≡ n) × IsFaultOfBytes bytes fault)

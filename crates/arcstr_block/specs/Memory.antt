@@ -1,5 +1,5 @@
--- The memory of a block: one piece, with the bytes of the text at its address, the word at the first multiple of 8 past them, and the length of the
--- text 8 bytes on.
+-- The memory of a block: one piece, with the bytes of the text at its address, the word at the first multiple of 8 past them, and the length of
+-- the text 8 bytes after the word.
 use Rattle.std.specs.Prelude.{ℕ, ◌+◌, ◌-◌, ◌*◌, ◌/◌, ◌^◌, ◌<◌, List, [], length, IsUtf8}
 use base.Fraction.{full_share}
 use base.Fml.{Lft, Fml, ftrue, fsep, fex, fwand, froom}
@@ -16,27 +16,27 @@ use Rattle.core.specs.Sync.RawAtomic.{word}
 abbrev pub least_too_long : ℕ
 least_too_long = 2 ^ 63 - 25
 
--- a text of n bytes may lie in a block
+-- a text of n bytes fits in a block
 abbrev pub Fits : ℕ → Type 0
 Fits n = n < least_too_long
 
--- the bytes are a text, in UTF-8, that may lie in a block
+-- the bytes are a text, in UTF-8, that fits in a block
 abbrev pub IsText : List ℕ → Type 0
 IsText xs = Fits (length xs) × IsUtf8 xs
 
--- how many bytes past the address of a block its word lies, behind a text of n bytes
+-- the word offset: how many bytes past the address of a block its word lies, after a text of n bytes
 abbrev pub word_place : ℕ → ℕ
 word_place n = (n + 7) / 8 * 8
 
--- the bytes of a block for a text of n bytes: 16 and the text, rounded up to a multiple of 8
+-- the size in bytes of a block for a text of n bytes: 16 plus n, rounded up to a multiple of 8
 abbrev pub block_size : ℕ → ℕ
 block_size n = (16 + n + 7) / 8 * 8
 
--- the type that the machine has for such a block
+-- the machine's type for such a block
 abbrev pub block_type : ℕ → Ty
 block_type n = ty_struct [] (tcons (ty_array (ty_int w8) n) (tcons (ty_int w64) (tcons (ty_int w64) tnil)))
 
--- where the word and the length lie behind a text of n bytes
+-- where the word and the length lie after a text of n bytes
 abbrev pub tail_at : Ptr → ℕ → Ptr
 tail_at p n = p +ₚ word_place n
 
@@ -51,23 +51,23 @@ abbrev pub rooms : ℕ → ℕ → ℕ → Fml
 rooms n b o = let u : ℕ = o + word_place n in
     fsep (froom (ty_array (ty_int w8) n) b o) (fsep (froom (ty_int w64) b (u + 0)) (fsep (froom (ty_int w64) b (u + 8)) ftrue))
 
--- the word w behind a text of n bytes
+-- the word w after a text of n bytes
 abbrev pub word_lies : Ptr → ℕ → ℕ → Fml
 word_lies p n w = word (block_of p) (word_at p n) w
 
--- the length, which says n, and the bytes xs
+-- the length, which is n, and the bytes xs
 abbrev pub length_lies : Ptr → ℕ → Fml
 length_lies p n = lies_at usize full_share (length_at p n) n
 
 abbrev pub text_lies : Ptr → List ℕ → Fml
 text_lies p xs = lies_at (Array u8 (length xs)) full_share p xs
 
--- the address is one in memory, and what is said of the text there
+-- the address is in memory, and the statement about the text holds there
 abbrev pub placed : Ptr → Type 0 → Fml
 placed p said = fex (InBlock p × said) (λ _. ftrue)
 
 module _ (holds : Ty → Ptr → Fml) where
-  -- what is left of a block for n bytes: the way back from its three rooms to the whole, and the right to give it back
+  -- what remains of a block for n bytes: the way back from its three rooms to the whole, and the right to free it
   abbrev pub rim : ℕ → Ptr → Fml
   rim n p = fsep (fwand (rooms n (block_of p) (count_of p)) (froom (raw (block_type n)) (block_of p) (count_of p))) (holds (raw (block_type n)) p)
 
@@ -79,7 +79,7 @@ module _ (holds : Ty → Ptr → Fml) where
   abbrev pub blank_owns : Ptr → ℕ → ℕ → Fml
   blank_owns p w n = fsep (placed p (Fits n)) (fsep (word_lies p n w) (fsep (length_lies p n) (rim n p)))
 
-  -- a block that one owner has alone
+  -- a block that has one owner
   abbrev pub sole_owns : Ptr → ℕ → List ℕ → Fml
   sole_owns p w xs = fsep (placed p (Fits (length xs))) (fsep (word_lies p (length xs) w) (block_owns p xs))
 

@@ -1,23 +1,23 @@
--- The right that a pointer to a block has, and what each step on the word gains.
+-- The right that a pointer to a block has, and the right that each step on the word gains.
 use Rattle.std.specs.Prelude.{◌≡◌, ◌≢◌, ℕ, zero, suc, Bool, true, false, refl}
 use Rattle.std.specs.Coded.{Coded, code_by, coded_ℕ}
 use Rattle.arcstr_block.specs.Word.{IsMarked, IsUnmarked, IsLast}
 
 pub data Right : Type 0 where
-  -- no right but to know the block
+  -- no right except to know the block
   nothing : Right
   -- a free handle that the word counts, or counted once
   counted : Right
-  -- a free handle whose clone found the mark, or whose exchange set it above the limit
+  -- a free handle whose clone found the mark, or whose exchange set the static flag above the limit
   uncounted : Right
-  -- the block is marked, for good
+  -- a permanent block
   fixed : Right
   -- a handle whose drop looked at an unmarked block, and has not subtracted
   dropping : Right
-  -- the last one counted has left, and its memory is owed
+  -- the last counted handle has left, and its memory is owed
   owed : Right
 
--- a right is stored as its place in this list
+-- a right is stored as its index in this list
 abbrev pub place_of : Right → ℕ
 place_of nothing = 0
 place_of counted = 1
@@ -45,31 +45,31 @@ right_at_place owed = refl
 abbrev pub right_code : Coded Right
 right_code = code_by ℕ coded_ℕ place_of right_at right_at_place
 
--- the rights of a free handle, which may step on the block: counted and uncounted
+-- the rights of a free handle, which can step on the block: counted and uncounted
 abbrev pub IsFree : Right → Type 0
 IsFree right = (right ≢ nothing) × (right ≢ fixed) × (right ≢ dropping) × (right ≢ owed)
 
--- the rights by which the block may be read: counted, uncounted and fixed
+-- the rights by which the block can be read: counted, uncounted and fixed
 abbrev pub MaySee : Right → Type 0
 MaySee right = (right ≢ nothing) × (right ≢ dropping) × (right ≢ owed)
 
--- the rights by which a pointer has the seat of its handle: all but to know the block, and that it is marked
+-- the rights with which a pointer has the seat of its handle: all except nothing and fixed
 abbrev pub HasSeat : Right → Type 0
 HasSeat right = (right ≢ nothing) × (right ≢ fixed)
 
--- the rights that stand for nothing in the block's history, and may be let go: nothing and fixed
+-- the rights that stand for nothing in the block's history, and can be dropped: nothing and fixed
 abbrev pub IsIdle : Right → Type 0
 IsIdle right = (right ≢ counted) × (right ≢ uncounted) × (right ≢ dropping) × (right ≢ owed)
 
--- a look that found the word: whoever finds the mark has the block as a fixed one
+-- a look that found the word: at a marked word it gains the permanent block
 abbrev pub Looks : ℕ → Right → Type 0
 Looks word gained = (IsMarked word → gained ≡ fixed) × (IsUnmarked word → gained ≡ nothing)
 
--- the load of a clone that found the word: where it is marked the clone is had
+-- the load of a clone that found the word: if the word is marked, the clone succeeds
 abbrev pub Finds : ℕ → Right → Type 0
 Finds word gained = (IsMarked word → gained ≡ uncounted) × (IsUnmarked word → gained ≡ nothing)
 
--- a load that found the word: of a clone, or a look
+-- a load that found the word, of a clone or as a look
 abbrev pub Loads : Bool → ℕ → Right → Type 0
 Loads true word gained = Finds word gained
 Loads false word gained = Looks word gained
@@ -79,10 +79,10 @@ abbrev pub Gains : ℕ → ℕ → ℕ → Right → Type 0
 Gains old new word gained = (IsMarked word → gained ≡ uncounted) × (IsUnmarked word → word ≢ old → gained ≡ nothing)
     × (word ≡ old → IsUnmarked new → gained ≡ counted) × (word ≡ old → IsMarked new → gained ≡ uncounted)
 
--- the look of a drop that found the word: it goes on where the word is unmarked
+-- the look of a drop that found the word: the drop goes on if the word is unmarked
 abbrev pub Begins : ℕ → Right → Type 0
 Begins word gained = (IsMarked word → gained ≡ nothing) × (IsUnmarked word → gained ≡ dropping)
 
--- a subtraction owes the memory exactly where it was the last one
+-- a subtraction owes the memory exactly if it was the last one
 abbrev pub Leaves : ℕ → Right → Type 0
 Leaves word gained = (IsLast word → gained ≡ owed) × ((¬ IsLast word) → gained ≡ nothing)

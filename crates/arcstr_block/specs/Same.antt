@@ -1,4 +1,4 @@
--- Two pointers to one block, and what a step of one says of the other.
+-- Two pointers to one block, and what a step of one says about the other.
 use Rattle.std.specs.Prelude.{◌≡◌, ℕ, Bool, true, false, List}
 use Rattle.arcstr_count.specs.declared.steps.Step.{Step}
 use Rattle.arcstr_count.specs.declared.steps.Step.TheVariants.{Look, Begin, Sub, Leak}
@@ -10,14 +10,14 @@ use Rattle.arcstr_block.specs.Word.{word_of, IsMarked, IsUnmarked, IsLast}
 use Rattle.arcstr_block.specs.Handle.{IsMarkedIn}
 use Rattle.arcstr_block.specs.declared.pointer.Pointer.{Pointer}
 
--- the history ends in a look of the handle h that found the word, and has marked its block where that is marked; of a clone's load,
--- which gives birth to a handle, nothing is said
+-- the history ends in a look of handle h that found the word, and has marked its block if the word is marked; the load of a clone,
+-- which gives birth to a handle, says nothing
 abbrev pub LoadEnds : Bool → ℕ → ℕ → ℕ → List Step → Type 0
 LoadEnds true limit h word history = Unit {0}
 LoadEnds false limit h word history = EndsIn limit history (Look h) (look_reply (looked_of (word_of word))) × (IsMarked word → IsMarkedIn limit history)
 
 module _ {A : Type 0} where
-  -- They have one allocator, one content, one limit, and one history.
+  -- the two have one allocator, one content, one limit and one history
   abbrev pub IsSameBlock : Pointer A → Pointer A → Type 0
   IsSameBlock q p = (q.home ≡ p.home) × (q.text ≡ p.text) × (q.limit ≡ p.limit) × (q.block ≡ p.block)
 
@@ -25,19 +25,19 @@ module _ {A : Type 0} where
   abbrev pub IsCloneOf : Pointer A → Pointer A → Type 0
   IsCloneOf q p = (q.text ≡ p.text) × (q.block ≡ p.block)
 
-  -- what q has seen ends in this step of p's handle, and the core answered so
+  -- what q has seen ends in this step of p's handle, and the core answered with this reply
   abbrev pub SawStep : Pointer A → Pointer A → Step → Reply → Type 0
   SawStep p q s reply = EndsIn p.limit q.history s reply
 
-  -- a look of p that found the word: a marked one tells that the block is marked
+  -- a look of p that found the word; a marked word means that the block is marked
   abbrev pub Looked : Pointer A → ℕ → Pointer A → Type 0
   Looked p word q = SawStep p q (Look p.seat) (look_reply (looked_of (word_of word))) × (IsMarked word → IsMarkedIn q.limit q.history)
 
-  -- a load of p that found the word, of a clone or a look
+  -- a load of p that found the word, of a clone or as a look
   abbrev pub LoadedAs : Bool → Pointer A → ℕ → Pointer A → Type 0
   LoadedAs clones p word q = LoadEnds clones p.limit p.seat word q.history
 
-  -- the mark by p, by which the block is marked
+  -- the mark by p, which marks the block
   abbrev pub Leaked : Pointer A → Pointer A → Type 0
   Leaked p q = SawStep p q (Leak p.seat) Marked × IsMarkedIn q.limit q.history
 

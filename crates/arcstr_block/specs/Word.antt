@@ -1,14 +1,14 @@
--- What the number of a block's word says: whether the block is marked, and a count. `bits_of` of `arcstr_count` is the encoding, and this file alone
--- tells its numbers.
+-- What the number of a block's word says: whether the block is marked, and a count. `bits_of` of `arcstr_count` is the encoding; only this file
+-- has its numbers.
 use Rattle.std.specs.Prelude.{◌≡◌, ◌≢◌, ℕ, ◌+◌, ◌/◌, ◌%◌, ◌==◌, ◌<◌, ◌≤◌, true, false}
 use Rattle.arcstr_count.specs.Word.{FlagAndCount, bits_of, fresh_word}
 use Rattle.arcstr_count.specs.declared.words.TheConstants.{RC_MAX}
 
--- the number of the mark
+-- the static flag as a number
 abbrev pub mark : ℕ
 mark = bits_of (record { flag = true; count = 0 })
 
--- the number of a count of one: an unmarked word with it is the word of a new block
+-- a count of one as a number, which is also the word of a new block
 abbrev pub one : ℕ
 one = bits_of fresh_word
 
@@ -16,7 +16,7 @@ one = bits_of fresh_word
 abbrev pub counting_word : ℕ → ℕ
 counting_word k = bits_of (record { flag = false; count = k })
 
--- the count that the number says
+-- the count in the number
 abbrev pub count_in : ℕ → ℕ
 count_in n = n / 2
 
@@ -30,7 +30,7 @@ IsMarked word = word % 2 ≡ 1
 abbrev pub IsUnmarked : ℕ → Type 0
 IsUnmarked word = word % 2 ≡ 0
 
--- a subtraction at this word is the last one: it is unmarked with a count of one
+-- a subtraction at this word is the last one: the word is unmarked with a count of one
 abbrev pub IsLast : ℕ → Type 0
 IsLast word = word ≡ one
 
@@ -38,14 +38,14 @@ IsLast word = word ≡ one
 abbrev pub IsLimit : ℕ → Type 0
 IsLimit limit = limit ≤ RC_MAX
 
--- an unmarked word counts from 1 to the limit and one more
+-- an unmarked word counts from 1 to limit + 1
 abbrev pub IsWord : ℕ → ℕ → Type 0
 IsWord limit word = IsUnmarked word → (0 < count_in word) × (count_in word ≤ limit + 1)
 
--- a clone of the unmarked word old: the mark above the limit, else one more
+-- a clone of the unmarked word old: with the static flag if the count is above the limit, else with one more
 abbrev pub IsClone : ℕ → ℕ → ℕ → Type 0
 IsClone limit old new = IsUnmarked old × (limit < count_in old → new ≡ old + mark) × (count_in old ≤ limit → new ≡ old + one)
 
--- the unmarked word that an exchange of old found instead
+-- the unmarked word that an exchange of old found in its place
 abbrev pub IsOtherWord : ℕ → ℕ → ℕ → Type 0
 IsOtherWord limit old found = IsUnmarked found × IsWord limit found × (found ≢ old)

@@ -1,5 +1,5 @@
-//! The memory of a block, in one piece: the bytes of its text, and behind them its word and the length of the text in
-//! bytes. Here one owner has all of it: its maker, or whoever gives it back.
+//! The memory of a block, in one piece: the bytes of its text, then its count word and the length of the text in bytes.
+//! In this module one owner has all of it: its maker, or whoever frees it.
 ghost use Rattle.std.specs.Prelude.{◌≡◌, ℕ, List, length, replicate, IfOk};
 ghost use Rattle.std.specs.Borrow.{sem};
 ghost use Rattle.core.specs.Mem.Slots.{slots_ptr, slots_len, slots_items, slots_filled};
@@ -12,13 +12,13 @@ use std::marker::{Model, PhantomData};
 use std::mem::align_of;
 use std::slice;
 
-/// What lies behind the bytes of a text, at the first multiple of 8 past them.
+/// What follows the bytes of a text, at the first multiple of 8 past them.
 pub(crate) struct Tail {
     pub(crate) word: u64,
     pub(crate) length: usize,
 }
 
-/// The memory of a new block but for its bytes, which its maker has in a `Slots` beside it.
+/// The memory of a new block without its bytes, which its maker has in a separate `Slots`.
 pub(crate) struct Blank<A: Allocator> {
     at: *mut u8,
     marker: PhantomData<A>,
@@ -31,7 +31,7 @@ impl<A: Allocator> Model for Blank<A> {
     ghost also_owns = { λ b. blank_owns (A.dealloc_token b.home) b.at b.word b.length };
 }
 
-/// The memory of a block whose text is written, and which one owner has alone.
+/// The memory of a block whose text is written and which has one owner.
 pub(crate) struct Sole<A: Allocator> {
     pub(crate) at: *mut u8,
     pub(crate) marker: PhantomData<A>,
@@ -45,7 +45,7 @@ impl<A: Allocator> Model for Sole<A> {
 }
 
 impl<A: Allocator> Blank<A> {
-    /// Asks for the memory of a block, `size` bytes for a text of `len`, and writes the word at `place` and the length.
+    /// Allocates a block, `size` bytes for a text of `len`, and writes the word at the word offset `place`, and the length.
     pub(crate) fn make(
         alloc: &A,
         word: u64,
@@ -105,7 +105,7 @@ impl<A: Allocator> Sole<A> {
         unsafe { slice::from_raw_parts_mut(self.at, len) }
     }
 
-    /// Gives the memory back.
+    /// Frees the memory.
     pub(crate) fn give_back(self, alloc: &A, size: usize)
         requires home { self.home ≡ alloc.now }
         requires size { size ≡ block_size (length self.text) }
@@ -115,7 +115,7 @@ impl<A: Allocator> Sole<A> {
     }
 }
 
-/// How many bytes past the address of a block its word lies, behind a text of `len` bytes: the first multiple of 8 there.
+/// The word offset of a block, in bytes past its address: the first multiple of 8 past a text of `len` bytes.
 pub(crate) fn place_of_word(len: usize) -> usize
     requires { Fits len }
     ensures { result ≡ word_place len }
@@ -123,7 +123,7 @@ pub(crate) fn place_of_word(len: usize) -> usize
     (len + 7) / 8 * 8
 }
 
-/// The bytes of a block for a text of `len` bytes: 16 and the text, rounded up to a multiple of 8.
+/// The size in bytes of a block for a text of `len` bytes: 16 plus `len`, rounded up to a multiple of 8.
 pub(crate) fn size_of_block(len: usize) -> usize
     requires { Fits len }
     ensures { result ≡ block_size len }
@@ -131,5 +131,5 @@ pub(crate) fn size_of_block(len: usize) -> usize
     (16 + len + 7) / 8 * 8
 }
 
-// The content is plain bytes, and is given back in whichever thread the owner is.
+// The content is plain bytes, and is freed in whichever thread the owner is.
 unsafe impl<A: Allocator + Send> Send for Sole<A> {}

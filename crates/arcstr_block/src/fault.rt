@@ -1,4 +1,4 @@
-//! Why a text cannot be had, and the length from which it is too long.
+//! Why a text cannot be made, and the length from which it is too long.
 ghost use Rattle.std.specs.Prelude.{◌≡◌, Some};
 ghost use Rattle.arcstr_block.specs.Fault.{text_fault_number, text_fault_text};
 
@@ -11,7 +11,7 @@ mod to_io;
 /// The least number of bytes that is too long for a block.
 pub(crate) const TOO_LONG: usize = (1 << 63) - 25;
 
-/// Why a text cannot be had. It is plain data of 16 bytes, and prints what is wrong. By `?` it becomes an `io::Error` and an
+/// Why a text cannot be made. It is plain data of 16 bytes, and prints what is wrong. `?` converts it to an `io::Error` or an
 /// `anyhow::Error`.
 ///
 /// ```
@@ -26,12 +26,12 @@ pub enum TextFault {
     Length,
     /// There was no memory for the text.
     Memory,
-    /// The bytes are not UTF-8: their longest front that is has this many bytes.
+    /// The bytes are not UTF-8: their longest prefix that is UTF-8 has this many bytes.
     Utf8(usize),
 }
 
 impl TextFault {
-    /// The number of the fault, from 1 on in the order of the variants. It serves tests alone.
+    /// The number of the fault, counted from 1 in the order of the variants. Only tests use it.
     ///
     /// ```
     /// assert_eq!(rt; TextFault::Length.number(), 1);

@@ -1,4 +1,4 @@
-//! A block that is known to be marked.
+//! Permanent blocks: blocks that are known to be marked static.
 ghost use Rattle.std.specs.Prelude.{◌≡◌, length};
 ghost use Rattle.arcstr_block.specs.Rights.{fixed};
 ghost use Rattle.arcstr_block.specs.Handle.{Kept, IsMarkedIn};
@@ -8,10 +8,10 @@ use crate::seen::Seen;
 use std::alloc::Allocator;
 use std::marker::Model;
 
-/// A block that is marked, for good: its text is read as long as its allocator lasts. Contracts see the bytes of
-/// its text, its block's name, the limit on its count, and the beginning of its history in which it was marked.
+/// A permanent block. It is marked static, and its text can be read as long as its allocator lasts. Contracts see the bytes
+/// of its text, its block's name, the limit on its count, and the prefix of its history in which it was marked.
 ///
-/// It has 16 bytes where its allocator has none, and may be sent and shared where its allocator may. Its drop does
+/// It has 16 bytes where its allocator has none, and can be sent and shared where its allocator can. Its drop does
 /// nothing: the block stays. None of its functions waits.
 ///
 /// ```
@@ -22,7 +22,7 @@ use std::marker::Model;
 /// ```
 pub struct Fixed<A: Allocator + Copy> {
     pub(crate) pointer: Pointer<A>,
-    /// The length of the text in bytes, by which the text is read without a load from the block.
+    /// The length of the text in bytes, so that reading the text takes no load from the block.
     pub(crate) len: usize,
     pub(crate) alloc: A,
     ghost right: { pointer.right ≡ fixed },
@@ -37,7 +37,7 @@ impl<A: Allocator + Copy> Model for Fixed<A> {
 }
 
 impl<A: Allocator + Copy> Fixed<A> {
-    /// The text. It takes no step and no memory, and loads nothing from the block.
+    /// The text. The call takes no atomic step, does not allocate, and loads nothing from the block.
     ///
     /// ```
     /// let fixed = Shared::<5, _>::from_text(rt.alloc(), "aé")?.mark();
@@ -49,7 +49,7 @@ impl<A: Allocator + Copy> Fixed<A> {
         self.pointer.text(self.len)
     }
 
-    /// The length of the text, in bytes. It takes no step and no memory.
+    /// The length of the text, in bytes. The call takes no atomic step and does not allocate.
     ///
     /// ```
     /// let fixed = Shared::<5, _>::from_text(rt.alloc(), "aé")?.mark();
@@ -61,7 +61,7 @@ impl<A: Allocator + Copy> Fixed<A> {
         self.len
     }
 
-    /// The same block once more. It takes no step and no memory.
+    /// Another `Fixed` for the same block. The call takes no atomic step and does not allocate.
     ///
     /// ```
     /// let fixed = Shared::<5, _>::from_text(rt.alloc(), "aé")?.mark();
@@ -79,8 +79,8 @@ impl<A: Allocator + Copy> Fixed<A> {
         }
     }
 
-    /// What was seen of the block's history when it was found or made marked: the mark is in it. It takes no step and no
-    /// memory.
+    /// What was seen of the block's history when the block was marked or found marked; it includes the mark. The call takes no
+    /// atomic step and does not allocate.
     ///
     /// ```
     /// let text = Shared::<5, _>::from_text(rt.alloc(), "aé")?;

@@ -1,4 +1,4 @@
-//! Making of a block that holds texts one behind the other, with a separator between each two.
+//! Makes a block that holds texts one after another, with a separator between each two.
 ghost use Rattle.std.specs.Prelude.{◌≡◌, ◌↔◌, ◌≤◌, ◌<◌, ◌+◌, ◌^◌, [], ◌++◌, length, take, SomeIff, IfOk, IfErr, IsErrOf, IsUtf8};
 ghost use Rattle.std.specs.List.{join_by};
 ghost use Rattle.core.specs.Mem.Slots.{SamePlaces, slots_len, slots_items, slots_filled};
@@ -14,10 +14,10 @@ use std::alloc::Allocator;
 use std::convert::AsStr;
 
 impl<const LIMIT: u64, A: Allocator + Copy> Shared<LIMIT, A> {
-    /// The first handle on a new block with these texts, joined by the separator: one request for memory. Where nothing
-    /// is joined it has a block too. Refused, in this order: `2^63 - 25` bytes or more (`Length`), and want of memory
-    /// (`Memory`). That `len` is the length of what is joined (`joined_len`), and `LIMIT` at most `RC_MAX`, are the
-    /// caller's conditions.
+    /// The first handle on a new block with these texts, joined by the separator. The call makes one allocation, and makes a
+    /// block even if nothing is joined. Errors, in this order: `Length`, for `2^63 - 25` bytes or more; `Memory`, for an
+    /// allocation failure. The caller has to ensure that `len` is the length of the joined text (`joined_len`), and that
+    /// `LIMIT` is at most `RC_MAX`.
     ///
     /// ```
     /// let text = Shared::<5, _>::join(rt.alloc(), &["a", "b"], ", ", 4)?;
@@ -45,7 +45,7 @@ impl<const LIMIT: u64, A: Allocator + Copy> Shared<LIMIT, A> {
     }
 }
 
-/// The length in bytes of these texts, joined by the separator; `None` where it is past `usize`. It takes no memory.
+/// The length in bytes of these texts, joined by the separator; `None` if it is past `usize`. The call does not allocate.
 ///
 /// ```
 /// assert_eq!(rt; joined_len(&["a", "b"], ", "), Some(4));
@@ -63,7 +63,7 @@ pub fn joined_len<S: AsStr>(texts: &[S], separator: &str) -> Option<usize>
     Some(len)
 }
 
-/// Writes the texts from the first place on, with the separator between each two.
+/// Writes the texts from the first slot on, with the separator between each two.
 fn write_joined<S: AsStr>(bytes: &mut Slots<u8>, texts: &[S], separator: &str)
     requires { slots_len bytes.old ≡ length (join_by S.text separator.now texts.now) }
     ensures items { slots_items bytes.new ≡ join_by S.text separator.now texts.now }
@@ -79,7 +79,7 @@ fn write_joined<S: AsStr>(bytes: &mut Slots<u8>, texts: &[S], separator: &str)
     }
 }
 
-/// What stands before the text of this number: nothing before the first.
+/// What is written before the text with this index: nothing before the first, else the separator.
 fn before(i: usize, separator: &str) -> &str
     ensures first { i ≡ 0 → result.now ≡ [] }
     ensures later { 0 < i → result.now ≡ separator.now }
@@ -87,7 +87,7 @@ fn before(i: usize, separator: &str) -> &str
     if i == 0 { "" } else { separator }
 }
 
-/// Writes a text behind the first `at` bytes. The answer is where it ends.
+/// Writes a text after the first `at` bytes, and returns where it ends.
 fn write(bytes: &mut Slots<u8>, at: usize, text: &str) -> usize
     requires room { at + length text.now ≤ slots_len bytes.old }
     requires written { Filled (slots_filled bytes.old) 0 at }

@@ -1,7 +1,7 @@
-//! One counted block: an atomic word and a text, in the allocator that made it.
+//! One counted block: an atomic count word and a text, in one piece of memory from its allocator.
 //!
-//! A `Shared` is one handle on a block. Its clone is a compare-exchange, its drop a load and a fetch-sub, and a mark,
-//! a fetch-or, makes the block stay for good. Whoever subtracts last takes the memory out whole, as `Owed`.
+//! A `Shared` is one handle on a block. Its clone is a compare-exchange, its drop a load and a fetch-sub. A mark, which is
+//! a fetch-or, makes the block permanent. Whoever subtracts last takes the whole memory, as `Owed`.
 #![tactic(auto)]
 
 pub use fault::TextFault;

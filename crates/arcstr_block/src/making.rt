@@ -1,4 +1,4 @@
-//! Making: blocks that hold a copy of a text, what a closure leaves, or copies of a text, each asked for with one request for memory.
+//! Makes blocks that hold a copy of a text, what a closure leaves, or copies of a text, each with one allocation.
 ghost use Rattle.std.specs.Prelude.{◌≡◌, ◌↔◌, ◌*◌, ◌≤◌, length, replicate, IfOk, IfErr, IsErrOf, IsUtf8};
 ghost use Rattle.std.specs.Fn.{FnOnceReturnsAtMut, FnOnceTakesAtMut};
 ghost use Rattle.std.specs.List.{repeat};
@@ -19,9 +19,9 @@ use std::alloc::Allocator;
 mod tests;
 
 impl<const LIMIT: u64, A: Allocator + Copy> Shared<LIMIT, A> {
-    /// The first handle on a new block with a copy of this text: one request for memory, of 16 bytes and the text, rounded
-    /// up to a multiple of 8. An empty text has a block too. Refused, in this order: a text of `2^63 - 25` bytes or more
-    /// (`Length`), and want of memory (`Memory`). That `LIMIT` is at most `RC_MAX` is the caller's condition.
+    /// The first handle on a new block with a copy of this text. The call makes one allocation, of 16 bytes plus the text,
+    /// rounded up to a multiple of 8. An empty text has a block too. Errors, in this order: `Length`, for a text of `2^63 - 25`
+    /// bytes or more; `Memory`, for an allocation failure. The caller has to ensure that `LIMIT` is at most `RC_MAX`.
     ///
     /// ```
     /// let text = Shared::<5, _>::from_text(rt.alloc(), "aé")?;
@@ -42,13 +42,13 @@ impl<const LIMIT: u64, A: Allocator + Copy> Shared<LIMIT, A> {
         Ok(Shared::placed(blank.close(bytes), text.len(), alloc))
     }
 
-    /// The first handle on a new block with the text that `fill` leaves in `n` zero bytes: one request for memory, before
-    /// the closure runs. That `LIMIT` is at most `RC_MAX`, and that the closure takes `n` zero bytes, are the caller's
-    /// conditions.
+    /// The first handle on a new block with the text that `fill` leaves in `n` zero bytes. The call makes one allocation, before
+    /// the closure runs. The caller has to ensure that `LIMIT` is at most `RC_MAX`, and that the closure accepts `n` zero
+    /// bytes.
     ///
-    /// Refused, in this order: a length of `2^63 - 25` bytes or more (`Length`) and want of memory (`Memory`), after which
-    /// the closure is not run, and bytes that are not UTF-8 once it has run (`Utf8`, with the length in bytes of their longest
-    /// front that is), after which the memory is given back.
+    /// Errors, in this order: `Length`, for a length of `2^63 - 25` bytes or more, and `Memory`, for an allocation failure; with
+    /// both the closure does not run. `Utf8`, for bytes that are not UTF-8 after the closure ran, with the length in bytes of their
+    /// longest prefix that is UTF-8; the memory is then freed.
     ///
     /// ```
     /// let text = Shared::<5, _>::init(rt.alloc(), 2, |bytes| bytes.fill(b'a'))?;
@@ -85,9 +85,9 @@ impl<const LIMIT: u64, A: Allocator + Copy> Shared<LIMIT, A> {
         }
     }
 
-    /// The first handle on a new block with `n` copies of a text, joined: one request for memory. No copies, and copies of an
-    /// empty text, have a block too. Refused, in this order: `2^63 - 25` bytes or more in all copies (`Length`), and want of
-    /// memory (`Memory`). That `LIMIT` is at most `RC_MAX` is the caller's condition.
+    /// The first handle on a new block with `n` copies of a text, joined. The call makes one allocation. Zero copies, and copies
+    /// of an empty text, have a block too. Errors, in this order: `Length`, for `2^63 - 25` bytes or more in all copies;
+    /// `Memory`, for an allocation failure. The caller has to ensure that `LIMIT` is at most `RC_MAX`.
     ///
     /// ```
     /// let text = Shared::<5, _>::repeat(rt.alloc(), "ab", 3)?;
@@ -110,7 +110,7 @@ impl<const LIMIT: u64, A: Allocator + Copy> Shared<LIMIT, A> {
     }
 }
 
-/// The memory of a new block, whose word says one handle, and the places of its bytes.
+/// The memory of a new block, whose word counts one handle, and the slots of its bytes.
 pub(crate) fn blank_block<A: Allocator + Copy>(
     alloc: A,
     len: usize,
@@ -130,7 +130,7 @@ pub(crate) fn blank_block<A: Allocator + Copy>(
     }
 }
 
-/// Writes 0 in each place.
+/// Writes 0 in each slot.
 fn zero(bytes: &mut Slots<u8>)
     requires { slots_items bytes.old ≡ replicate (slots_len bytes.old) 0 }
     ensures items { slots_items bytes.new ≡ replicate (slots_len bytes.old) 0 }
@@ -142,7 +142,7 @@ fn zero(bytes: &mut Slots<u8>)
     }
 }
 
-/// Writes `n` copies of a text, one behind the other.
+/// Writes `n` copies of a text, one after another.
 fn copies(bytes: &mut Slots<u8>, text: &[u8], n: usize)
     requires places { slots_len bytes.old ≡ n * length text.now }
     requires utf8 { IsUtf8 text.now }
@@ -151,7 +151,7 @@ fn copies(bytes: &mut Slots<u8>, text: &[u8], n: usize)
     ensures written { Filled (slots_filled bytes.new) 0 (slots_len bytes.old) }
     ensures places { SamePlaces bytes.old bytes.new }
 {
-    // Copies of an empty text are not counted out, since there may be `usize::MAX` of them.
+    // Copies of an empty text are not made one by one, since there may be `usize::MAX` of them.
     if text.is_empty() {
         return;
     }
@@ -160,7 +160,7 @@ fn copies(bytes: &mut Slots<u8>, text: &[u8], n: usize)
     }
 }
 
-/// Lets a closure fill the bytes, and tests that it left a text.
+/// Lets a closure fill the bytes, and checks that it left a text.
 fn filled<F: FnOnce(&mut [u8])>(bytes: &mut [u8], fill: F) -> Result<(), TextFault>
     requires { FnOnceTakesAtMut F.FnOnce fill bytes.old }
     ensures left { FnOnceReturnsAtMut F.FnOnce fill bytes.old tt bytes.new }

@@ -1,4 +1,4 @@
-//! What the end of a handle leaves.
+//! What remains after the end of a handle.
 ghost use Rattle.std.specs.Prelude.{◌≡◌, ◌≢◌, length};
 ghost use Rattle.arcstr_block.specs.Rights.{owed};
 ghost use Rattle.arcstr_block.specs.Handle.{Debt};
@@ -11,8 +11,8 @@ use crate::shared::Shared;
 use std::alloc::Allocator;
 use std::marker::Model;
 
-/// How a handle ended. It has 24 bytes where its allocator has none, and may be sent and shared where its allocator may.
-/// It has no drop: what is owed has to be given back by hand.
+/// How a handle ended. It has 24 bytes where its allocator has none, and can be sent and shared where its allocator can.
+/// It has no drop: what is owed has to be freed by hand.
 ///
 /// ```
 /// let text = Shared::<5, _>::from_text(rt.alloc(), "aé")?;
@@ -22,19 +22,19 @@ use std::marker::Model;
 /// }
 /// ```
 pub enum Down<A: Allocator> {
-    /// Its look found the mark: the word is left as it is.
+    /// Its look found the block marked: the word is left as it is.
     Ended,
-    /// It was subtracted, and others are left.
+    /// It was subtracted, but not as the last one.
     Left,
     /// It was subtracted last: the memory is owed.
     Owes(Owed<A>),
 }
 
-/// The memory of a block that nobody else has, to be given back. It has no drop, and cannot be let go otherwise.
+/// The memory of a block that nobody else has, which has to be freed. It has no drop, and cannot be disposed of otherwise.
 /// Contracts see its block's name, and the number of the handle that was subtracted last.
 ///
-/// It has 16 bytes where its allocator has none, and may be sent and shared where its allocator may. None of its functions
-/// waits or takes memory.
+/// It has 16 bytes where its allocator has none, and can be sent and shared where its allocator can. None of its functions
+/// waits or allocates.
 ///
 /// ```
 /// let text = Shared::<5, _>::from_text(rt.alloc(), "aé")?;
@@ -45,7 +45,7 @@ pub enum Down<A: Allocator> {
 /// ```
 pub struct Owed<A: Allocator> {
     pub(crate) pointer: Pointer<A>,
-    /// How many bytes past the address of the block its word and the length of its text lie.
+    /// The word offset: how many bytes past the address of the block its word and the length of its text lie.
     pub(crate) place: usize,
     pub(crate) alloc: A,
     ghost right: { pointer.right ≡ owed },
@@ -60,8 +60,8 @@ impl<A: Allocator> Model for Owed<A> {
 }
 
 impl<A: Allocator> Owed<A> {
-    /// Gives the memory of the block, and of its text, back to the allocator, in one call of it. It takes no step.
-    /// That a heap has it again is shown by the test `all_memory_is_given_back`.
+    /// Frees the memory of the block and of its text, in one call of the allocator. It takes no atomic step.
+    /// The test `all_memory_is_given_back` checks that a heap has the memory again.
     ///
     /// ```
     /// let heap = LocalHeap::new(rt.alloc(), 4096)?;
@@ -82,7 +82,7 @@ impl<A: Allocator> Owed<A> {
 }
 
 impl<A: Allocator + Copy> Owed<A> {
-    /// The law that no handle is left on a block that is owed. It hands both back, and takes no step.
+    /// The law that no handle is left on a block that is owed. It returns both, and takes no atomic step.
     ///
     /// ```
     /// let other = Shared::<5, _>::from_text(rt.alloc(), "b")?;
@@ -110,8 +110,8 @@ impl<A: Allocator + Copy> Owed<A> {
         (owed, other)
     }
 
-    /// The law that a handle that is lent is on another block than what is owed. It hands back what is owed, and takes no
-    /// step.
+    /// The law that a borrowed handle is on a different block from the one that is owed. It returns what is owed, and takes no
+    /// atomic step.
     ///
     /// ```
     /// let other = Shared::<5, _>::from_text(rt.alloc(), "b")?;
@@ -137,7 +137,7 @@ impl<A: Allocator + Copy> Owed<A> {
         }
     }
 
-    /// The law that a block that is owed is not marked. It hands back what is owed, and takes no step.
+    /// The law that a block that is owed is not marked. It returns what is owed, and takes no atomic step.
     ///
     /// ```
     /// let fixed = Shared::<5, _>::from_text(rt.alloc(), "b")?.mark();
@@ -165,7 +165,7 @@ impl<A: Allocator + Copy> Owed<A> {
 }
 
 impl<A: Allocator> Owed<A> {
-    /// The law that a block is owed once. It hands both back, in their order, and takes no step.
+    /// The law that a block is owed once. It returns both, in their order, and takes no atomic step.
     ///
     /// ```
     /// let give_both_back = |owed: Owed<Global>, other: Owed<Global>| {
@@ -205,7 +205,7 @@ impl<A: Allocator> Owed<A> {
 }
 
 impl<A: Allocator> Down<A> {
-    /// Gives back what is owed.
+    /// Frees what is owed.
     pub(crate) fn settle(self) {
         match self {
             Down::Ended => {}

@@ -1,9 +1,9 @@
-//! The pointer to a block. Every atomic step is here, and every pointer through which a block is read or stepped on.
-//! What a number of the word says is in `word.rt`.
+//! The pointer to a block. This module has every atomic step, and every pointer through which a block is read or stepped on.
+//! `word.rt` says what the number in the word means.
 //!
-//! A `Pointer` is one address when it runs. Its right, seat and history are ghost, and are moved by the proof of each
-//! function (`proofs/pointer/Pointer/NAME/Proof.antt`), so a body shows the machine's step alone. A step is told
-//! the place of the word, how many bytes past the address it lies. `make` begins the history with `Make`, and `release`
+//! A `Pointer` is one address when it runs. Its right, seat and history are ghost, and the proof of each function
+//! (`proofs/pointer/Pointer/NAME/Proof.antt`) moves them, so a body shows only the machine's step. Each step gets the
+//! word offset, `place`: how many bytes past the address the word lies. `make` begins the history with `Make`, and `release`
 //! ends it with `Back`; `IntoRaw` and `FromRaw` never occur in it.
 ghost use Rattle.std.specs.Prelude.{◌≡◌, ◌≢◌, ℕ, Bool, List, length, IsUtf8};
 ghost use Rattle.std.specs.Coded.{coded_list};
@@ -26,8 +26,8 @@ use std::slice;
 use std::sync::atomic::Ordering::SeqCst;
 use std::sync::atomic::raw;
 
-/// A pointer to a block, with a right, which `specs/Rights.antt` lists, and with a beginning of the block's history.
-/// `seat` is the number of its handle in that history, and `block` the names of the history and of its seats.
+/// A pointer to a block, with a right, which `specs/Rights.antt` lists, and with a prefix of the block's history.
+/// `seat` is the number of its handle in that history, and `block` has the names of the history and of its seats.
 pub(crate) struct Pointer<A: Allocator> {
     at: *const u8,
     marker: PhantomData<A>,
@@ -49,7 +49,7 @@ impl<A: Allocator> Model for Pointer<A> {
 impl<A: Allocator> Pointer<A> {
     ghost use Rattle.arcstr_block.specs.Same.{IsSameBlock, Looked, LoadedAs, Leaked, BegunAs, SubtractedAs};
 
-    /// The first pointer to a block, whose word counts it alone.
+    /// The first pointer to a block, whose word counts only this pointer.
     pub(crate) fn make(block: Sole<A>) -> Pointer<A>
         ghost limit: { ℕ }
         requires word { block.word ≡ bits_of fresh_word }
@@ -64,7 +64,7 @@ impl<A: Allocator> Pointer<A> {
         Pointer { at, marker }
     }
 
-    /// The bytes of the text, `len` of them. They lie at the address, and nothing is loaded.
+    /// The `len` bytes of the text. They lie at the address, and nothing is loaded.
     fn bytes(&self, len: usize) -> &[u8]
         requires right { MaySee self.now.right }
         requires length { len ≡ length self.now.text }
@@ -96,7 +96,7 @@ impl<A: Allocator> Pointer<A> {
         self.load(place)
     }
 
-    /// The load of a clone: where it finds the mark, the clone is had.
+    /// The load of a clone: if it finds the block marked, the clone succeeds.
     pub(crate) fn find(&self, place: usize) -> (u64, Pointer<A>)
         requires right { IsFree self.now.right }
         requires place { place ≡ word_place (length self.now.text) }
@@ -107,7 +107,7 @@ impl<A: Allocator> Pointer<A> {
         self.load(place)
     }
 
-    /// One load, of a clone or as a look.
+    /// One load, for a clone or as a look.
     fn load(&self, place: usize) -> (u64, Pointer<A>)
         ghost clones: { Bool }
         requires right { IsFree self.now.right }
@@ -131,7 +131,7 @@ impl<A: Allocator> Pointer<A> {
         )
     }
 
-    /// One compare-exchange, from `old` to its clone `new`: where it finds `old` or the mark, the clone is had.
+    /// One compare-exchange, from `old` to its clone `new`: if it finds `old` or a marked word, the clone succeeds.
     pub(crate) fn raise(&self, place: usize, old: u64, new: u64) -> (u64, Pointer<A>)
         requires right { IsFree self.now.right }
         requires place { place ≡ word_place (length self.now.text) }
@@ -154,7 +154,7 @@ impl<A: Allocator> Pointer<A> {
         )
     }
 
-    /// One fetch-or of the mark.
+    /// One fetch-or, which sets the static flag.
     pub(crate) fn mark(&self, place: usize) -> Pointer<A>
         requires right { IsFree self.now.right }
         requires place { place ≡ word_place (length self.now.text) }
@@ -189,7 +189,7 @@ impl<A: Allocator> Pointer<A> {
         (found, Pointer { at, marker })
     }
 
-    /// One fetch-sub of a count.
+    /// One fetch-sub, which lowers the count by one.
     pub(crate) fn leave(self, place: usize) -> (u64, Pointer<A>)
         requires right { self.right ≡ dropping }
         requires place { place ≡ word_place (length self.text) }
@@ -205,7 +205,7 @@ impl<A: Allocator> Pointer<A> {
         (found, Pointer { at, marker })
     }
 
-    /// Another pointer to a fixed block. No step.
+    /// Another pointer to a permanent block. No atomic step.
     pub(crate) fn again(&self) -> Pointer<A>
         requires { self.now.right ≡ fixed }
         ensures right { result.right ≡ fixed }
@@ -219,7 +219,7 @@ impl<A: Allocator> Pointer<A> {
         }
     }
 
-    /// The block, for whoever subtracted last, and the length of its text: it is given back.
+    /// The block and the length of its text, for whoever subtracted last and frees the block.
     pub(crate) fn release(self, place: usize) -> (Sole<A>, usize)
         requires right { self.right ≡ owed }
         requires place { place ≡ word_place (length self.text) }
@@ -247,7 +247,7 @@ impl<A: Allocator> Pointer<A> {
         }
     }
 
-    /// The law of two pointers that have seats: on one block they have two, and a block that is owed has no other. No step.
+    /// The law of two pointers that have seats: on one block they have two, and a block that is owed has no other. No atomic step.
     pub(crate) fn apart(self, other: Pointer<A>) -> (Pointer<A>, Pointer<A>)
         requires first { HasSeat self.right }
         requires second { HasSeat other.right }
@@ -259,7 +259,7 @@ impl<A: Allocator> Pointer<A> {
         (self, other)
     }
 
-    /// The law that a block that is owed has no free handle: a free one is on another block. No step.
+    /// The law that a block that is owed has no free handle: a free one is on another block. No atomic step.
     pub(crate) fn alone(self, other: &Pointer<A>) -> Pointer<A>
         requires owed { self.right ≡ owed }
         requires free { IsFree other.now.right }
@@ -269,7 +269,7 @@ impl<A: Allocator> Pointer<A> {
         self
     }
 
-    /// The law that a block that is owed is not marked: a pointer that knows the mark is on another. No step.
+    /// The law that a block that is owed is not marked: a pointer that knows of a mark is on another block. No atomic step.
     pub(crate) fn unmarked(self, other: &Pointer<A>) -> Pointer<A>
         requires owed { self.right ≡ owed }
         requires fixed { other.now.right ≡ fixed }
@@ -279,7 +279,7 @@ impl<A: Allocator> Pointer<A> {
         self
     }
 
-    /// Lets go of a pointer that stands for nothing in the block's history.
+    /// Drops a pointer that stands for nothing in the block's history.
     pub(crate) fn forget(self)
         requires { IsIdle self.right }
     {
@@ -287,7 +287,7 @@ impl<A: Allocator> Pointer<A> {
     }
 }
 
-// The content is read, and the memory is taken out, in whichever thread the pointer is.
+// The content is read, and the memory is taken, in whichever thread the pointer is.
 unsafe impl<A: Allocator + Send + Sync> Send for Pointer<A> {}
 
 unsafe impl<A: Allocator + Send + Sync> Sync for Pointer<A> {}

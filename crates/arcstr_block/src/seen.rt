@@ -8,8 +8,8 @@ ghost use Rattle.arcstr_block.specs.Handle.{IsFront};
 
 use std::marker::{Model, PhantomData};
 
-/// A beginning of the history of a block, for good. It has no bytes, may be sent and shared, and its drop does nothing.
-/// Its one function, a law, takes no memory and does not wait.
+/// A permanent fact: a prefix of the history of a block. It has no bytes, can be sent and shared, and its drop does nothing.
+/// Its one function, a law, does not allocate and does not wait.
 ///
 /// `history` lists the steps in their order, and `block` names the block: its history, and the seats of its handles.
 ///
@@ -32,7 +32,7 @@ impl Model for Seen {
 }
 
 impl Seen {
-    /// The law that a block has one history: of two beginnings of it, the longer goes on from the other. It takes no step.
+    /// The law that a block has one history: of two prefixes of it, the longer extends the other. It takes no atomic step.
     ///
     /// ```
     /// let text = Shared::<5, _>::from_text(rt.alloc(), "aé")?;

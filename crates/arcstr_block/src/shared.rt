@@ -17,8 +17,8 @@ use std::alloc::Allocator;
 use std::marker::Model;
 use std::sync::Wait;
 
-/// A pointer that may see its block, with the length of the text in bytes, by which the text is read without a load
-/// from the block, with the allocator of the block and the limit on its count.
+/// A pointer that may read its block, with the length of the text in bytes, so that reading the text takes no load from
+/// the block, with the allocator of the block and the limit on its count.
 struct Counted<const LIMIT: u64, A: Allocator + Copy> {
     pointer: Pointer<A>,
     len: usize,
@@ -31,12 +31,12 @@ struct Counted<const LIMIT: u64, A: Allocator + Copy> {
     ghost low: { IsLimit LIMIT },
 }
 
-/// One handle on a block, by which its text is read; the block stays while a handle on it is left. Contracts see the
+/// One handle on a block, through which its text is read; the block stays while a handle on it is left. Contracts see the
 /// bytes of its text, its block's name, its own number in the block's history, and the limit on the block's count.
 ///
-/// A clone at a count above `LIMIT` marks the block, which then stays for good. A handle has 16 bytes where its allocator
-/// has none, and may be sent and shared where its allocator may. Its drop is `down`, and gives back what is then owed. Of
-/// its functions `up` alone may wait.
+/// A clone at a count above `LIMIT` marks the block, which is then permanent. A handle has 16 bytes where its allocator has
+/// none, and can be sent and shared where its allocator can. Its drop is `down`, and frees what is then owed. Of its
+/// functions only `up` may wait.
 ///
 /// ```
 /// let text = Shared::<5, _>::from_text(rt.alloc(), "aé")?;
@@ -58,7 +58,7 @@ impl<const LIMIT: u64, A: Allocator + Copy> Model for Shared<LIMIT, A> {
 impl<const LIMIT: u64, A: Allocator + Copy> Shared<LIMIT, A> {
     ghost use Rattle.arcstr_block.specs.Ending.{EndsAs, OwesAs};
 
-    /// The first handle on a new block, which its maker has alone, with a text of `len` bytes.
+    /// The first handle on a new block, which only its maker has, with a text of `len` bytes.
     pub(crate) fn placed(block: Sole<A>, len: usize, alloc: A) -> Shared<LIMIT, A>
         requires limit { LIMIT ≤ RC_MAX }
         requires word { block.word ≡ bits_of fresh_word }
@@ -79,7 +79,7 @@ impl<const LIMIT: u64, A: Allocator + Copy> Shared<LIMIT, A> {
         }
     }
 
-    /// The text. It takes no step and no memory, and loads nothing from the block.
+    /// The text. The call takes no atomic step, does not allocate, and loads nothing from the block.
     ///
     /// ```
     /// let text = Shared::<5, _>::from_text(rt.alloc(), "aé")?;
@@ -91,7 +91,7 @@ impl<const LIMIT: u64, A: Allocator + Copy> Shared<LIMIT, A> {
         self.handle.pointer.text(self.handle.len)
     }
 
-    /// The length of the text, in bytes. It takes no step and no memory.
+    /// The length of the text, in bytes. The call takes no atomic step and does not allocate.
     ///
     /// ```
     /// let text = Shared::<5, _>::from_text(rt.alloc(), "aé")?;
@@ -103,8 +103,8 @@ impl<const LIMIT: u64, A: Allocator + Copy> Shared<LIMIT, A> {
         self.handle.len
     }
 
-    /// One load: the number of living handles, from 1 to `LIMIT + 1`, or `None` at a marked block. What was seen of the
-    /// history ends in this look. It takes no memory.
+    /// One load: the number of living handles, from 1 to `LIMIT + 1`, or `None` at a marked block. The history that was seen
+    /// ends in this look. The call does not allocate.
     ///
     /// ```
     /// let text = Shared::<5, _>::from_text(rt.alloc(), "aé")?;
@@ -123,8 +123,8 @@ impl<const LIMIT: u64, A: Allocator + Copy> Shared<LIMIT, A> {
         (looked(found), seen)
     }
 
-    /// One load: the block as a fixed one, where it is found marked, else `None`. What was seen of the history ends in this
-    /// look. It takes no memory.
+    /// One load: the permanent block if the block is marked, else `None`. The history that was seen ends in this look. The call
+    /// does not allocate.
     ///
     /// ```
     /// let text = Shared::<5, _>::from_text(rt.alloc(), "aé")?;
@@ -155,8 +155,8 @@ impl<const LIMIT: u64, A: Allocator + Copy> Shared<LIMIT, A> {
         }
     }
 
-    /// One fetch-or: the block is marked, and stays for good. It takes no memory, and the handle stays as it is. What was
-    /// seen of the history ends in this mark.
+    /// One fetch-or: the block is marked static, permanently. The call does not allocate, and the handle stays as it is. The
+    /// history that was seen ends in this mark.
     ///
     /// ```
     /// let text = Shared::<5, _>::from_text(rt.alloc(), "aé")?;
@@ -175,9 +175,9 @@ impl<const LIMIT: u64, A: Allocator + Copy> Shared<LIMIT, A> {
         }
     }
 
-    /// Another handle; it takes no memory. A load, and where it finds no mark a compare-exchange, which is tried again where
-    /// the word changed between, so that the call may wait. An unmarked count above the limit gets the mark, any other grows
-    /// by one, and a marked word is left as it is.
+    /// Another handle. The call does not allocate. It takes a load and, if the block is unmarked, a compare-exchange, which it
+    /// repeats when the word changed in between, so it may wait. An unmarked count above the limit sets the static flag, any
+    /// other unmarked count grows by one, and a marked word is left as it is.
     ///
     /// ```
     /// let text = Shared::<5, _>::from_text(rt.alloc(), "aé")?;
@@ -202,8 +202,8 @@ impl<const LIMIT: u64, A: Allocator + Copy> Shared<LIMIT, A> {
         unreachable!()
     }
 
-    /// Another handle, as `up` makes it, with at most `tries` compare-exchanges, so that the call never waits. `None` where each
-    /// of them found the word changed since the load or the exchange before it; then nothing is changed. It takes no memory.
+    /// Another handle, as `up` makes it, with at most `tries` compare-exchanges, so the call never waits. It returns `None` if each
+    /// of them found that the word changed since the load or the exchange before it; then nothing is changed. It does not allocate.
     ///
     /// ```
     /// let text = Shared::<5, _>::from_text(rt.alloc(), "aé")?;
@@ -229,8 +229,8 @@ impl<const LIMIT: u64, A: Allocator + Copy> Shared<LIMIT, A> {
         None
     }
 
-    /// The law that two handles on one block have two seats in its history. It hands both back, in their order, and takes no
-    /// step and no memory.
+    /// The law that two handles on one block have two seats in its history. It returns both, in their order. It takes no atomic
+    /// step and does not allocate.
     ///
     /// ```
     /// let text = Shared::<5, _>::from_text(rt.alloc(), "aé")?;
@@ -260,8 +260,8 @@ impl<const LIMIT: u64, A: Allocator + Copy> Shared<LIMIT, A> {
         (first, second)
     }
 
-    /// The law of this handle and a pointer that has a seat: on one block they have two, and what is owed is another
-    /// block. No step.
+    /// The law of this handle and a pointer that has a seat: on one block they have two seats, and what is owed is another
+    /// block. No atomic step.
     pub(crate) fn apart_from(self, other: Pointer<A>) -> (Shared<LIMIT, A>, Pointer<A>)
         requires { HasSeat other.right }
         ensures first { result.0 ≡ self }
@@ -286,7 +286,7 @@ impl<const LIMIT: u64, A: Allocator + Copy> Shared<LIMIT, A> {
         (first, other)
     }
 
-    /// The law that what is owed is another block than this handle's. No step.
+    /// The law that what is owed is a different block from this handle's. No atomic step.
     pub(crate) fn alone_from(&self, other: Pointer<A>) -> Pointer<A>
         requires { other.right ≡ owed }
         ensures same { result ≡ other }
@@ -295,9 +295,9 @@ impl<const LIMIT: u64, A: Allocator + Copy> Shared<LIMIT, A> {
         other.alone(&self.handle.pointer)
     }
 
-    /// The end of the handle, as its drop begins: a load, and where it finds no mark a fetch-sub, by which the count falls by
-    /// one. It answers how the handle ended, with what is owed where it was the last, which has to be given back by hand; and
-    /// what was seen of the history, which ends in that load or in that fetch-sub. It takes no memory.
+    /// The end of the handle, with which its drop begins: a load and, if the block is unmarked, a fetch-sub that lowers the count
+    /// by one. It returns how the handle ended, with what is owed if it was the last, which has to be freed by hand; and what was
+    /// seen of the history, which ends in that load or in that fetch-sub. The call does not allocate.
     ///
     /// ```
     /// let text = Shared::<5, _>::from_text(rt.alloc(), "aé")?;
@@ -342,7 +342,7 @@ impl<const LIMIT: u64, A: Allocator + Copy> Shared<LIMIT, A> {
 impl<const LIMIT: u64, A: Allocator + Copy> Counted<LIMIT, A> {
     ghost use Rattle.arcstr_block.specs.Same.{IsSameBlock, IsCloneOf};
 
-    /// The load of a clone: another handle where it finds the mark, else the unmarked word that was found.
+    /// The load of a clone: another handle if the block is marked, else the unmarked word that was found.
     fn find(&self) -> Result<Counted<LIMIT, A>, u64>
         ensures clone { IfOk result (λ clone. IsCloneOf clone.pointer self.now.pointer) }
         ensures unmarked { IfErr result IsUnmarked }
@@ -375,7 +375,7 @@ impl<const LIMIT: u64, A: Allocator + Copy> Counted<LIMIT, A> {
         }
     }
 
-    /// A handle on this block by another pointer to it.
+    /// A handle on this block, through another pointer to it.
     fn beside(&self, pointer: Pointer<A>) -> Counted<LIMIT, A>
         requires same { IsSameBlock pointer self.now.pointer }
         requires free { IsFree pointer.right }
@@ -390,7 +390,7 @@ impl<const LIMIT: u64, A: Allocator + Copy> Counted<LIMIT, A> {
 }
 
 impl<const LIMIT: u64, A: Allocator + Copy> Drop for Shared<LIMIT, A> {
-    /// The end of the handle, and the giving back of what it owes.
+    /// Ends the handle, and frees what it owes.
     fn drop(self) {
         let (down, _) = self.down();
         down.settle();

@@ -70,7 +70,7 @@ fn two_looks_agree(rt: HostRuntime) -> Result<(), Fail> {
     Ok(())
 }
 
-/// 1 where the mark was found, 2 where others are left, 3 where the memory was owed.
+/// 1 if the block was found marked, 2 if the subtraction was not the last, 3 if the memory was owed.
 fn ended(down: Down<Global>) -> u8 {
     match down {
         Down::Ended => 1,
@@ -91,7 +91,7 @@ fn the_last_handle_owes(rt: HostRuntime) -> Result<(), Fail> {
     Ok(())
 }
 
-/// Ends a handle, and gives back what it owes: if anything, it was on another block than the other one.
+/// Ends a handle, and frees what it owes: if it owes anything, its block is not that of the other handle.
 fn owes_beside(handle: Shared<5, Global>, other: Shared<5, Global>) -> (bool, Shared<5, Global>)
     ensures kept { result.1 ≡ other }
     ensures alone { IsTrue result.0 → handle.block ≢ other.block }
@@ -118,7 +118,7 @@ fn no_handle_is_left_on_what_is_owed(rt: HostRuntime) -> Result<(), Fail> {
     Ok(())
 }
 
-/// Ends a handle, and gives back what it owes: if anything, it was on another block than the one that is lent.
+/// Ends a handle, and frees what it owes: if it owes anything, its block is not that of the borrowed handle.
 fn owes_beside_lent(handle: Shared<5, Global>, lent: &Shared<5, Global>) -> bool
     ensures { IsTrue result → handle.block ≢ lent.now.block }
 {
@@ -142,7 +142,7 @@ fn no_lent_handle_is_on_what_is_owed(rt: HostRuntime) -> Result<(), Fail> {
     Ok(())
 }
 
-/// Ends a handle, and gives back what it owes: if anything, it was on another block than the fixed one.
+/// Ends a handle, and frees what it owes: if it owes anything, its block is not the permanent one.
 fn owes_beside_fixed(handle: Shared<5, Global>, fixed: &Fixed<Global>) -> bool
     ensures { IsTrue result → handle.block ≢ fixed.now.block }
 {
@@ -166,7 +166,7 @@ fn what_is_owed_is_not_marked(rt: HostRuntime) -> Result<(), Fail> {
     Ok(())
 }
 
-/// Ends two handles, and gives back what they owe: if both owe, they were on two blocks.
+/// Ends two handles, and frees what they owe: if both owe, they were on two blocks.
 fn both_owe(first: Shared<5, Global>, second: Shared<5, Global>) -> bool
     ensures { IsTrue result → first.block ≢ second.block }
 {
@@ -234,7 +234,7 @@ fn a_marked_block_ends_no_handle(rt: HostRuntime) -> Result<(), Fail> {
     Ok(())
 }
 
-/// Marks the block by one handle and finds it marked by another: both saw a beginning of one history with the mark in it.
+/// Marks the block through one handle and finds it marked through another: both saw a prefix of one history that has the mark.
 fn marks_and_finds(first: &Shared<5, Global>, second: &Shared<5, Global>) -> (Seen, Option<Seen>)
     requires { second.now.block ≡ first.now.block }
     ensures made { IsMarkedIn 5 result.0.history }
@@ -259,7 +259,7 @@ fn what_marked_a_block_has_the_mark(rt: HostRuntime) -> Result<(), Fail> {
     Ok(())
 }
 
-/// What is used of a heap after two clones and three drops of one text.
+/// How many bytes of a heap are in use after two clones and three drops of one text.
 fn used_after<const LIMIT: u64, R: Wait>(
     rt: &R,
     heap: &LocalHeap,
@@ -347,7 +347,7 @@ impl TwoFlags {
     }
 }
 
-/// The clone of a thread that looked for the other one first.
+/// The clone of a thread that first looked for the other one.
 fn up_together<const LIMIT: u64, R: Wait>(
     rt: &R,
     handle: &Shared<LIMIT, Global>,
@@ -358,7 +358,7 @@ fn up_together<const LIMIT: u64, R: Wait>(
     handle.up(rt)
 }
 
-/// What two threads leave that take a clone each, before any drop; whether both clones read the text, and whether the
+/// The look after two threads made one clone each, before any drop; whether both clones read the text, and whether the
 /// two threads ran at once.
 fn look_after_two<const LIMIT: u64, R: Threads + Wait + Sync>(
     rt: &R,
@@ -423,7 +423,7 @@ fn faults_of_reading_print_their_texts(rt: HostRuntime) -> Result<(), Fail> {
     Ok(())
 }
 
-/// Two handles, for which a heap of 16 bytes has no room, end as the fault is made of them.
+/// Two handles that a heap of 16 bytes has no room for are dropped when the error is converted to a fault.
 #[test]
 fn what_could_not_be_stored_is_dropped(rt: HostRuntime) -> Result<(), Fail> {
     let heap = LocalHeap::new(rt.alloc(), 16)?;
@@ -442,7 +442,7 @@ fn marks(handle: Shared<5, Global>) -> Fixed<Global> {
     handle.mark()
 }
 
-/// Whether the text is read after two threads had a handle each: one marked the block, and both ended theirs.
+/// Whether the text can be read after two threads had a handle each: one marked the block, and both ended their handles.
 fn reads_after_threads<R: Threads + Wait + Sync>(rt: &R, alloc: Global) -> Result<bool, TextFault> {
     let first = Shared::<5, Global>::from_text(alloc, "foobar")?;
     let second = first.up(rt);
@@ -458,7 +458,7 @@ fn a_fixed_block_outlives_two_threads(rt: HostRuntime) -> Result<(), Fail> {
     Ok(())
 }
 
-/// Clones and drops, 100,000 times, once four threads have come; whether they came, and the look after it has a count.
+/// Clones and drops 100,000 times once four threads have started; whether they started and the look after it has a count.
 fn clones<R: Wait>(rt: &R, handle: &Shared<1000, Global>, came: &AtomicU64) -> bool {
     came.fetch_add(1, Ordering::SeqCst);
     let mut together = false;
@@ -474,7 +474,7 @@ fn clones<R: Wait>(rt: &R, handle: &Shared<1000, Global>, came: &AtomicU64) -> b
     together && handle.look().0.is_some()
 }
 
-/// What four threads leave that clone and drop at once, and whether each found a count.
+/// The look after four threads cloned and dropped at once, and whether each of them found a count.
 fn look_after_four<R: Threads + Wait + Sync>(
     rt: &R,
     alloc: Global,
@@ -490,7 +490,7 @@ fn look_after_four<R: Threads + Wait + Sync>(
     Ok((first.look().0, one && two && three && four))
 }
 
-/// A compare-exchange that another thread's step makes fail is tried again, and marks nothing.
+/// A compare-exchange that fails because of another thread's step is repeated, and does not mark the block.
 #[test]
 fn four_threads_leave_one(rt: HostRuntime) -> Result<(), Fail> {
     assert_eq!(rt; look_after_four(&rt, rt.alloc())?, (Some(1), true));

@@ -1,15 +1,15 @@
-//! What a step's number says, and what a clone makes of it: the operations of `arcstr_count::Word`, which a step knows
-//! by its number alone.
+//! What the number in a word says, and what a clone makes of it: the operations of `arcstr_count::Word` on the number
+//! alone, which is all that a step knows of the word.
 ghost use Rattle.std.specs.Prelude.{◌≡◌, ◌≤◌, IsTrue, ◌↔◌, MatchOption};
 ghost use Rattle.arcstr_count.specs.Word.{looked_of};
 ghost use Rattle.arcstr_block.specs.Word.{IsMarked, IsUnmarked, IsWord, IsClone, IsLast, word_of};
 
 use arcstr_count::{RC_MAX, Word};
 
-/// The number of the mark, which a fetch-or sets.
+/// The static flag as a number, which a fetch-or sets.
 pub(crate) const MARK: u64 = 1;
 
-/// The number of a count of one, which a fetch-sub takes away.
+/// A count of one as a number, which a fetch-sub subtracts.
 pub(crate) const ONE: u64 = 2;
 
 /// Whether the block is marked.
@@ -19,7 +19,7 @@ pub(crate) fn marked(word: u64) -> bool
     Word::from_bits(word).marked()
 }
 
-/// What a look finds: nothing at a marked word, else the count.
+/// What a look finds: `None` at a marked word, else the count.
 pub(crate) fn looked(word: u64) -> Option<u64>
     ensures value { result ≡ looked_of (word_of word) }
     ensures marked { MatchOption result (IsMarked word) (λ _. IsUnmarked word) }

@@ -1,4 +1,4 @@
--- Counts of the handles on a block by their states: what one step does to them.
+-- The number of handles on a block in given states: what one step does to it.
 use Rattle.std.proofs.Common.{◌≡◌, ◌≢◌, ℕ, zero, suc, ◌+◌, ◌<◌, ◌≤◌, Bool, true, false, ◌&&◌, ◌==◌, if◌then◌else◌, List, [], ◌∷◌, ◌++◌, get_or}
 use Rattle.std.proofs.Common.{length, filter, refl, sym, ◌∙◌, ap, ap₂, ◌⊎◌, inl, inr, arith, ne_eqb, eq-eqb, Contains}
 use Rattle.std.proofs.lemmas.List.{length-append}
@@ -69,7 +69,7 @@ count-le f g (suc n) weaker =
     let here = one-le (f n) (g n) (weaker n) in
     rw (count-push f n, count-push g n) (omega arith)
 
--- a number that passes is among those that do
+-- a number that passes is in the list of the numbers that do
 pub contains_passing : (f : ℕ → Bool) (n i : ℕ) → i < n → f i ≡ true → Contains (filter f (numbers_below n)) i
 contains_passing f zero i below passes = absurd (omega arith)
 contains_passing f (suc n) i below passes = by_place (cases_eq i n) (λ inner. contains_passing f n i inner passes)
@@ -83,7 +83,7 @@ one_place : (k x h : ℕ) → k < 1 → get_or (x ∷ []) k h ≡ h → x ≡ h
 one_place zero x h within here = here
 one_place (suc k) x h within here = absurd (omega arith)
 
--- a member is the one member exactly if the list has length 1
+-- a member is the only member exactly if the list has length 1
 pub is_only-member : (xs : List ℕ) (h : ℕ) → Contains xs h → is_only h xs ≡ (length xs == 1)
 is_only-member [] h member = let none = member.1 in absurd (omega arith)
 is_only-member (x ∷ []) h member = eq-eqb x h (one_place member.0 x h member.1 member.2)
@@ -114,7 +114,7 @@ held_by d test block state = ap₂ (λ b s. (b == d) && test s) block state
 -- ---- steps that change the state of one handle
 
 module _ (limit : ℕ) (p : List Step) (s : Step) (h : ℕ) (old new : HandleState) (c : ChangesOne limit p s h old new) where
-  -- each count of states changes by that one
+  -- each count of states changes by that one handle
   changed_count : (b : ℕ) (test : HandleState → Bool)
       → count (λ k. is_held limit (s ∷ p) b test k) (births p) + one ((block_of p h == b) && test old)
       ≡ held limit p b test + one ((block_of p h == b) && test new)
@@ -187,7 +187,7 @@ count-none : (n : ℕ) → count (λ k. false) n ≡ 0
 count-none zero = refl
 count-none (suc n) = count-push (λ k. false) n ∙ omega (arith, count-none n)
 
--- no handle is on a block that is not yet made
+-- no handle is on a block that is not made yet
 held-unmade : (limit : ℕ) (p : List Step) (b : ℕ) (test : HandleState → Bool) → IsPast limit p → makes p ≤ b
     → held limit p b test ≡ 0
 held-unmade limit p b test past unmade =
@@ -199,7 +199,7 @@ held-unmade limit p b test past unmade =
         let elsewhere : (block_of p k == b) ≡ false = ne_eqb (block_of p k) b (λ same. omega arith) in
         rw elsewhere refl
 
--- so its first handle is alone on a new one
+-- so the first handle of a new block is alone on it
 pub Make_here : (limit : ℕ) (p : List Step) (test : HandleState → Bool) → IsPast limit p
     → held limit (Make ∷ p) (makes p) test ≡ one (test Free)
 Make_here limit p test past =
@@ -215,7 +215,7 @@ dropping-le-living limit p b =
     count-le (λ h. is_held limit p b is_dropping h) (λ h. is_held limit p b lives h) (births p)
     (λ h. dropping_lives (block_of p h == b) (state_of limit p h))
 
--- a handle in a state that passes is among those that pass on its block
+-- a handle in a state that passes is in the list of those that pass on its block
 contains_held : (limit : ℕ) (p : List Step) (h : ℕ) (s : HandleState) (test : HandleState → Bool) → IsIn limit p h s → test s ≡ true
     → Contains (filter (λ k. is_held limit p (block_of p h) test k) (numbers_below (births p))) h
 contains_held limit p h s test found passes =

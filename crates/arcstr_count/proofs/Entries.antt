@@ -18,7 +18,7 @@ use Rattle.arcstr_count.proofs.LawsOfPasts.{word_stands, given_once}
 use Rattle.arcstr_count.proofs.Tables.{length-table, table-at, table-same, table-more, table-set, same_test, other_test, length-words_left, word_at}
 use Rattle.arcstr_count.proofs.Tables.{block_at, unmade_block}
 
--- a list with the values of a function is the function's table
+-- a list that has the values of a function is the function's table
 pub table_from_values : {X : Type 0} (xs : List X) (f : ℕ → X) (n : ℕ) → length xs ≡ n
     → ((k : ℕ) (d : X) → k < n → get_or xs k d ≡ f k) → xs ≡ map f (numbers_below n)
 table_from_values xs f n long value = same_lists xs _ (long ∙ sym (length-table f n))
@@ -26,7 +26,7 @@ table_from_values xs f n long value = same_lists xs _ (long ∙ sym (length-tabl
 
 -- ---- the entry of a block
 
--- what a world's table has of a block after a past
+-- the entry of a block in a world's table after a past
 abbrev pub entry_of : ℕ → List Step → ℕ → BlockEntry
 entry_of limit p b = record { word = word_left limit p b; given = nat_lt 0 (times_given p b) }
 
@@ -36,7 +36,7 @@ entries_of limit p = map (λ b. entry_of limit p b) (numbers_below (makes p))
 abbrev pub entry_with : FlagAndCount → Bool → BlockEntry
 entry_with v g = record { word = v; given = g }
 
--- an entry is known by its word and by how often it says that the block was given
+-- an entry is determined by its word and by how often it says that the block was freed
 pub entry_from_parts : (e : BlockEntry) (w : FlagAndCount) (n : ℕ) → e.word ≡ w → (if e.given then 1 else 0) ≡ n
     → e ≡ record { word = w; given = nat_lt 0 n }
 entry_from_parts e w n word given = by_mark e.given refl
@@ -56,7 +56,7 @@ pub record AreTablesOf (limit : ℕ) (p : List Step) (handles : List HandleSumma
   pub handles_are : handles ≡ handles_of limit p
   pub blocks_are : blocks ≡ entries_of limit p
 
--- a world's view that stands for a history says what its tables are
+-- the tables of a view that stands for a history are the tables of the history's past
 pub tables_from_view : (limit : ℕ) (handles : List HandleSummary) (blocks : List BlockEntry) (history : List Step)
     → StandsFor (view_of limit handles blocks) history → AreTablesOf limit (past_of limit history) handles blocks
 tables_from_view limit handles blocks history stands = record {
@@ -98,7 +98,7 @@ entry_at limit p b d made = table-at (λ k. entry_of limit p k) (makes p) b d ma
 pub length-entries_of : (limit : ℕ) (p : List Step) → length (entries_of limit p) ≡ makes p
 length-entries_of limit p = length-table (λ b. entry_of limit p b) (makes p)
 
--- tables that are those of a history's past make a view that stands for the history
+-- tables of a history's past make a view that stands for the history
 pub view_from_tables : (limit : ℕ) (handles : List HandleSummary) (blocks : List BlockEntry) (history : List Step)
     → AreTablesOf limit (past_of limit history) handles blocks → StandsFor (view_of limit handles blocks) history
 view_from_tables limit handles blocks history tables = record {

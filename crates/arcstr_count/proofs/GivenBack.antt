@@ -1,4 +1,4 @@
--- How often a block was given back, as a world's table of blocks says it.
+-- How often a block was freed, as a world's table of blocks says it.
 use Rattle.std.proofs.Common.{◌≡◌, ℕ, ◌<◌, ◌≤◌, Bool, true, false, nat_lt, if◌then◌else◌, Option, None, Some, IfSome, IsNone, List, length, get_or}
 use Rattle.std.proofs.Common.{refl, sym, ◌∙◌, ap, subst, arith, ltb-true, ltb-false}
 use Rattle.std.specs.List.{slice_get}
@@ -17,7 +17,7 @@ use Rattle.arcstr_count.proofs.LawsOfPasts.{given_once}
 use Rattle.arcstr_count.proofs.Tables.{unmade_block}
 use Rattle.arcstr_count.proofs.Entries.{once_as_mark, entry_of, length-entries_of, entry_at, tables_from_view}
 
--- a world's view determines how often each block was given back
+-- a world's view determines how often each block was freed
 abbrev pub SaysGiven : WorldView → ℕ → ℕ → Type 0
 SaysGiven w b n = (history : List Step) → StandsFor w history → n ≡ given_after w.summary.limit history b
 
@@ -54,7 +54,7 @@ module _ (limit : ℕ) (handles : List HandleSummary) (blocks : List BlockEntry)
           let unmade : makes (past_of limit history) ≤ b = let long = ap length are ∙ length-entries_of limit (past_of limit history) in omega arith in
           sym (unmade_block limit (past_of limit history) b (IsPast-past_of limit history) unmade).1
 
-  -- the number says of the entry that was found how often it was given, and nothing of no entry
+  -- the number is how often the block was freed according to the entry that was found; 0 if no entry was found
   pub given_of_entry : (known : Option BlockEntry) (n : ℕ) → known ≡ slice_get blocks b
       → IfSome known (λ e. n ≡ (if e.given then 1 else 0)) → (IsNone known → n ≡ 0) → SaysGiven w b n
   given_of_entry None n is made unmade = subst (λ k. SaysGiven w b k) (sym (unmade refl)) (given_of_unmade (sym is))

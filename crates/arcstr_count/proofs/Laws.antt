@@ -1,4 +1,4 @@
--- The laws of every interleaving, over the fronts of a history in its natural order.
+-- The laws of every interleaving, over the prefixes of a history in its natural order.
 use Rattle.std.proofs.Common.{ℕ, List}
 use Rattle.arcstr_count.specs.declared.steps.Step.{Step}
 use Rattle.arcstr_count.specs.Past.{past_of}

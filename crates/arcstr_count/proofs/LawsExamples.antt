@@ -14,14 +14,14 @@ Leaves limit history w living dropping owing given =
     × (owing_after limit history 0 ≡ owing)
     × (given_after limit history 0 ≡ given)
 
--- a mark between another drop's look and its subtraction, which takes from the marked word
+-- a mark between another drop's look and its subtraction, which subtracts from the marked word
 crossing_mark-before : Leaves 5 (Make ∷ Clone 0 ∷ Begin 0 ∷ Leak 1 ∷ []) (record { flag = true; count = 2 }) (0 ∷ 1 ∷ []) (0 ∷ []) [] 0
 crossing_mark-before = (refl, refl, refl, refl, refl)
 
 crossing_mark-after : Leaves 5 (Make ∷ Clone 0 ∷ Begin 0 ∷ Leak 1 ∷ Sub 0 ∷ []) (record { flag = true; count = 1 }) (1 ∷ []) [] [] 0
 crossing_mark-after = (refl, refl, refl, refl, refl)
 
--- a drop on a marked block ends at once, and the count of the word is then the number of nothing
+-- a drop on a marked block ends at once, and the count of the word is then no longer the number of handles
 crossing_mark-ended : Leaves 5 (Make ∷ Clone 0 ∷ Begin 0 ∷ Leak 1 ∷ Sub 0 ∷ Begin 1 ∷ []) (record { flag = true; count = 1 }) [] [] [] 0
 crossing_mark-ended = (refl, refl, refl, refl, refl)
 
@@ -29,7 +29,7 @@ crossing_mark-ended = (refl, refl, refl, refl, refl)
 past_the_limit : Leaves 1 (Make ∷ Clone 0 ∷ Clone 0 ∷ Clone 0 ∷ []) (record { flag = true; count = 2 }) (0 ∷ 1 ∷ 2 ∷ 3 ∷ []) [] [] 0
 past_the_limit = (refl, refl, refl, refl, refl)
 
--- two drops that cross: the one that subtracts last owes, and then gives back
+-- two drops that cross: the one that subtracts last owes the block, and then frees it
 crossing_drops-both : Leaves 5 (Make ∷ Clone 0 ∷ Begin 0 ∷ Begin 1 ∷ []) (record { flag = false; count = 2 }) (0 ∷ 1 ∷ []) (0 ∷ 1 ∷ []) [] 0
 crossing_drops-both = (refl, refl, refl, refl, refl)
 
@@ -43,6 +43,6 @@ crossing_drops-given = (refl, refl, refl, refl, refl)
 raw_value : Leaves 5 (Make ∷ Clone 0 ∷ IntoRaw 1 ∷ Begin 0 ∷ Sub 0 ∷ []) (record { flag = false; count = 1 }) (1 ∷ []) [] [] 0
 raw_value = (refl, refl, refl, refl, refl)
 
--- limit 0: the one clone marks, and the block is never given back
+-- limit 0: the first clone marks, and the block is never freed
 limit_zero : Leaves 0 (Make ∷ Clone 0 ∷ Begin 0 ∷ Begin 1 ∷ []) (record { flag = true; count = 1 }) [] [] [] 0
 limit_zero = (refl, refl, refl, refl, refl)

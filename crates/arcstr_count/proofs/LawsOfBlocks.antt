@@ -1,4 +1,4 @@
--- What each past leaves of a block that was made: its word and its mark, against the counts of its handles.
+-- What each past leaves on a block that was made: its word and its mark, against the counts of its handles.
 use Rattle.std.proofs.Common.{◌≡◌, ◌≢◌, ℕ, ◌+◌, ◌<◌, ◌≤◌, Bool, true, false, not, ◌&&◌, ◌||◌, ◌==◌, nat_lt, if◌then◌else◌, List, [], ◌∷◌, refl, sym}
 use Rattle.std.proofs.Common.{subst, subst₂, ◌⊎◌, inl, inr, arith, ne_eqb, eqb-true, ltb-true, ltb-false}
 use Rattle.std.proofs.lemmas.Bool.{cases_eq, eqb-false}
@@ -24,8 +24,8 @@ use Rattle.arcstr_count.proofs.Tables.{unmade_block, marked-Clone_other, given-B
 abbrev pub Counts : Type 0
 Counts = (HandleState → Bool) → ℕ
 
--- an unmarked block: its word counts the living handles, which are at most limit + 1; while one lives
--- it is neither owed nor given back, and once none does it is one of the two, once
+-- an unmarked block: its word counts the living handles, which are at most limit + 1; while one lives, the block
+-- is neither owed nor freed; once none lives, it is either owed by one handle or freed once
 pub record Unmarked (limit : ℕ) (w : FlagAndCount) (n : Counts) (given : ℕ) : Type 0 where
   pub flag : w.flag ≡ false
   pub count : w.count ≡ n lives
@@ -33,8 +33,8 @@ pub record Unmarked (limit : ℕ) (w : FlagAndCount) (n : Counts) (given : ℕ) 
   pub held : 0 < n lives → n is_owing + given ≡ 0
   pub ended : n lives ≡ 0 → n is_owing + given ≡ 1
 
--- a marked block: its word counts no fewer than the dropping handles and at most limit + 1, and it is
--- neither owed nor given back
+-- a marked block: its word counts no fewer than the dropping handles and at most limit + 1, and the block
+-- is neither owed nor freed
 pub record Marked (limit : ℕ) (w : FlagAndCount) (n : Counts) (given : ℕ) : Type 0 where
   pub flag : w.flag ≡ true
   pub covered : n is_dropping ≤ w.count
@@ -47,7 +47,7 @@ Balanced limit w true n given = Marked limit w n given
 
 -- ---- what each step on the block does to them
 
--- the counts change by one handle, from one state to another
+-- the counts change by one handle, which goes from one state to another
 record Moves (n after : Counts) (old new : HandleState) : Type 0 where
   living : after lives + one (lives old) ≡ n lives + one (lives new)
   dropping : after is_dropping + one (is_dropping old) ≡ n is_dropping + one (is_dropping new)
@@ -112,12 +112,12 @@ after_Leak : (limit : ℕ) (w : FlagAndCount) (n : Counts) (g : ℕ) (m : Bool) 
 after_Leak limit w n g true some fewer b = grind arith
 after_Leak limit w n g false some fewer b = grind arith
 
--- ---- so in each past
+-- ---- the same in each past
 
 abbrev pub Balance : ℕ → List Step → ℕ → Type 0
 Balance limit p b = Balanced limit (word_left limit p b) (is_marked limit p b) (λ test. held limit p b test) (times_given p b)
 
--- a step on the block c leaves the others alone
+-- a step on block c leaves the other blocks alone
 on_block : (P Q : ℕ → Type 0) (b c : ℕ) → (P c → Q c) → (b ≢ c → P b → Q b) → P b → Q b
 on_block P Q b c here elsewhere before = by_block (cases_eq b c)
   where
@@ -126,7 +126,7 @@ on_block P Q b c here elsewhere before = by_block (cases_eq b c)
     by_block (inr apart) = elsewhere apart before
 
 module _ (limit : ℕ) (p : List Step) (past : IsPast limit p) where
-  -- where the word, the mark, the counts and the times given stay, all is as before
+  -- where the word, the mark, the counts and the times given stay, everything stays
   unchanged : (q : List Step) (b : ℕ) → word_left limit q b ≡ word_left limit p b → is_marked limit q b ≡ is_marked limit p b
       → ((test : HandleState → Bool) → held limit q b test ≡ held limit p b test) → times_given q b ≡ times_given p b
       → Balance limit p b → Balance limit q b

@@ -1,4 +1,4 @@
--- What an accepted step finds of its handle in a past, and what it leaves of it.
+-- What an accepted step finds about its handle in a past, and what it leaves.
 use Rattle.std.proofs.Common.{◌≡◌, ◌≢◌, ℕ, suc, ◌<◌, ◌≤◌, Bool, true, false, not, ◌&&◌, ◌==◌, nat_lt, if◌then◌else◌, is_none, Option, None, Some}
 use Rattle.std.proofs.Common.{List, [], ◌∷◌, refl, sym, arith, ltb-true, eqb-true, eq-eqb, ne_eqb}
 use Rattle.std.proofs.lemmas.Bool.{eqb-false}
@@ -116,7 +116,7 @@ after_FromRaw : (t raw begun subtracted last given : Bool)
     → InOrder raw begun subtracted last given → InOrder (if t then false else raw) begun subtracted last given
 after_FromRaw t raw begun subtracted last given o = grind arith
 
--- what was done to a handle that was found in a state, at a number that the test takes for it
+-- what was done to a handle that was found in a state, for a number that the test identifies with the handle's
 module _ (limit : ℕ) (p : List Step) (g h : ℕ) (same : (g == h) ≡ true) where
   at_same : {s : HandleState} → IsIn limit p g s → state_of limit p h ≡ s
   at_same i = rw (← eqb-true g h same) i.state
@@ -237,7 +237,7 @@ state-FromRaw_other limit p h k other = rw (other_test h k other) refl
 
 -- ---- steps that change the state of one handle
 
--- the step finds the handle in the state `old` and leaves it in the state `new`, and changes nothing else of handles
+-- the step finds the handle in the state `old` and leaves it in the state `new`, and changes no other handle
 pub record ChangesOne (limit : ℕ) (p : List Step) (s : Step) (h : ℕ) (old new : HandleState) : Type 0 where
   pub found : IsIn limit p h old
   pub left : state_of limit (s ∷ p) h ≡ new
@@ -290,14 +290,14 @@ FromRaw-changes limit p h past a = record {
   blocks = λ k. refl;
 }
 
--- ---- handles that are not yet born
+-- ---- handles that are not born yet
 
 not_yet : (g h n : ℕ) (x b : Bool) → g < n → n ≤ h → b ≡ false → (if g == h then x else b) ≡ false
 not_yet g h n x b born unborn e =
     let apart : (g == h) ≡ false = ne_eqb g h (λ same. omega arith) in
     rw apart e
 
--- nothing was done to a handle that is not yet born
+-- nothing was done to a handle that is not born yet
 unborn_flags : (limit : ℕ) (p : List Step) (h : ℕ) → IsPast limit p → births p ≤ h → (is_raw p h ≡ false) × (has_begun p h ≡ false)
 unborn_flags limit [] h past unborn = (refl, refl)
 unborn_flags limit (Make ∷ p) h past unborn = unborn_flags limit p h past.1 (omega arith)
@@ -316,7 +316,7 @@ unborn_flags limit (FromRaw g ∷ p) h past unborn =
     let before = unborn_flags limit p h past.1 unborn in
     (not_yet g h (births p) false (is_raw p h) (FromRaw-finds limit p g past.0).born unborn before.0, before.1)
 
--- so it is born free
+-- so a handle is born free
 pub state-born : (limit : ℕ) (p : List Step) → IsPast limit p → state_of limit p (births p) ≡ Free
 state-born limit p past =
     let flags = unborn_flags limit p (births p) past (omega arith) in
@@ -340,7 +340,7 @@ block-Clone_other p h k born =
     let apart : (k == births p) ≡ false = ne_eqb k (births p) (λ same. omega arith) in
     rw apart refl
 
--- what holds of the newborn handle's block x and of the earlier one's, y, holds of both
+-- what holds of the newborn handle's block x and of the earlier handle's block y holds of both
 below_both : (t : Bool) (h n x y m : ℕ) → (h == n) ≡ t → h < suc n → x < m → (h < n → y < m) → (if t then x else y) < m
 below_both true h n x y m e born newborn earlier = newborn
 below_both false h n x y m e born newborn earlier =

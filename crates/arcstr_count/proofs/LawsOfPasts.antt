@@ -1,4 +1,4 @@
--- The laws of the counts, in each past: what the word stands for, and when a block is given back.
+-- The laws of the counts in each past: what the word stands for, and when a block is freed.
 use Rattle.std.proofs.Common.{◌≡◌, ◌↔◌, ℕ, zero, suc, ◌+◌, ◌<◌, ◌≤◌, Bool, true, false, not, ◌&&◌, ◌==◌, if◌then◌else◌, IsFalse, Some, List, [], ◌∷◌}
 use Rattle.std.proofs.Common.{length, refl, sym, ◌∙◌, ap, arith, true≢false}
 use Rattle.std.proofs.lemmas.List.{nil_from_length}
@@ -19,7 +19,7 @@ use Rattle.arcstr_count.proofs.LawsOfBlocks.{Balanced, balance}
 
 -- ---- the word
 
--- an unmarked and a marked block, one by one
+-- an unmarked block and a marked one, separately
 module _ (limit : ℕ) (p : List Step) (b : ℕ) where
   stands_by : (m : Bool) → is_marked limit p b ≡ m
       → Balanced limit (word_left limit p b) m (λ test. held limit p b test) (times_given p b)
@@ -50,12 +50,12 @@ pub exact_count : (limit : ℕ) (p : List Step) (b : ℕ) → IsPast limit p →
     → (word_left limit p b).count ≡ length (living limit p b)
 exact_count limit p b past made unmarked = (word_stands limit p b past made).exact unmarked
 
--- no count passes the limit by more than one
+-- a count exceeds the limit by at most one
 pub count_bounded : (limit : ℕ) (p : List Step) (b : ℕ) → IsPast limit p → b < makes p → (word_left limit p b).count ≤ limit + 1
 count_bounded limit p b past made = bounded_by limit p b (is_marked limit p b) (balance limit p b past made)
 
 module _ (limit : ℕ) (p : List Step) (h : ℕ) (past : IsPast limit p) (born : h < births p) where
-  -- where a handle lives on an unmarked block, the count is not 0
+  -- while a handle lives on an unmarked block, the count is not 0
   pub living_counted : lives (state_of limit p h) ≡ true → is_marked limit p (block_of p h) ≡ false
       → 0 < (word_left limit p (block_of p h)).count
   living_counted alive unmarked =
@@ -64,7 +64,7 @@ module _ (limit : ℕ) (p : List Step) (h : ℕ) (past : IsPast limit p) (born :
 
 module _ (limit : ℕ) (p : List Step) (h : ℕ) (past : IsPast limit p) (born : h < births p)
     (drops : state_of limit p h ≡ Dropping) where
-  -- nor is it where one is dropping, also on a marked block
+  -- while a handle is dropping, the count is not 0, also on a marked block
   pub dropping_counted : 0 < (word_left limit p (block_of p h)).count
   dropping_counted = by_mark (is_marked limit p (block_of p h)) (balance limit p (block_of p h) past (block_made limit p h past born))
     where
@@ -77,7 +77,7 @@ module _ (limit : ℕ) (p : List Step) (h : ℕ) (past : IsPast limit p) (born :
       by_mark true x = omega (arith, some_held limit p h Dropping is_dropping found refl)
       by_mark false x = omega (arith, some_held limit p h Dropping lives found refl)
 
-  -- and the word tells whether its subtraction is the last one
+  -- the word says whether the handle's subtraction is the last one
   pub last_owes : is_last (word_left limit p (block_of p h))
       ≡ (not (is_marked limit p (block_of p h)) && is_only h (living limit p (block_of p h)))
   last_owes = by_mark (is_marked limit p (block_of p h)) (balance limit p (block_of p h) past (block_made limit p h past born))
@@ -91,7 +91,7 @@ module _ (limit : ℕ) (p : List Step) (h : ℕ) (past : IsPast limit p) (born :
       by_mark true x = rw x.flag refl
       by_mark false x = rw (x.flag, x.count, is_only-living limit p h Dropping found refl) refl
 
--- so it is where a subtraction is accepted
+-- so the count is not 0 where a subtraction is accepted
 pub Sub_counted : (limit : ℕ) (p : List Step) (h : ℕ) → IsPast limit p → is_accepted limit p (Sub h) ≡ true
     → 0 < (word_left limit p (block_of p h)).count
 Sub_counted limit p h past a = let found = Sub-finds limit p h a in dropping_counted limit p h past found.born found.state
@@ -110,7 +110,7 @@ unmarked_bounded limit p b past made unmarked =
     let exact = stands.exact unmarked in
     omega (arith, count_bounded limit p b past made)
 
--- an unmarked look finds how many handles live
+-- a look at an unmarked word finds how many handles live
 pub look_exact : (limit : ℕ) (p : List Step) (b : ℕ) → IsPast limit p → b < makes p → IsFalse (is_marked limit p b)
     → looked_of (word_left limit p b) ≡ Some (length (living limit p b))
 look_exact limit p b past made unmarked =
@@ -128,7 +128,7 @@ mark_stays limit p (Leak h) b marked = or_right (block_of p h == b) (is_marked l
 mark_stays limit p (IntoRaw h) b marked = marked
 mark_stays limit p (FromRaw h) b marked = marked
 
--- what each step keeps, all of them keep
+-- what each step keeps, a list of steps keeps
 kept_from : (P : List Step → Type 0) → ((p : List Step) (s : Step) → P p → P (s ∷ p)) → (limit : ℕ) (p later : List Step) → P p → P (past_from limit p later)
 kept_from P step limit p [] now = now
 kept_from P step limit p (s ∷ later) now = kept_from P step limit (with_step limit p s) later (by_test (is_accepted limit p s))
@@ -151,14 +151,14 @@ makes_grows p (Leak h) = omega arith
 makes_grows p (IntoRaw h) = omega arith
 makes_grows p (FromRaw h) = omega arith
 
--- a block that was made stays so
+-- a block that was made stays made
 pub made_stays_from : (limit : ℕ) (p later : List Step) (b : ℕ) → b < makes p → b < makes (past_from limit p later)
 made_stays_from limit p later b =
     kept_from (λ q. b < makes q) (λ q s made. let grows = makes_grows q s in omega arith) limit p later
 
--- ---- owing and giving back
+-- ---- owing and freeing
 
--- t is 0 while some of l are left, and 1 once none is
+-- t is 0 while l is above 0, and 1 once l is 0
 ended_or_not : (l t : ℕ) → (0 < l → t ≡ 0) → (l ≡ 0 → t ≡ 1) → (t ≤ 1) × (0 < t → l ≡ 0)
 ended_or_not zero t some none = (omega (arith, none refl), λ h. refl)
 ended_or_not (suc l) t some none = let no = some (omega arith) in (omega arith, λ h. omega arith)
@@ -215,7 +215,7 @@ given_grows_from limit p later b =
     kept_from (λ q. times_given p b ≤ times_given q b) (λ q s before. let grows = given_grows q s b in omega arith)
     limit p later (omega arith)
 
--- once given back, no handle lives on it again
+-- once a block is freed, no handle lives on it again
 pub given_for_good : (limit : ℕ) (p later : List Step) (b : ℕ) → IsPast limit p → b < makes p → times_given p b ≡ 1
     → living limit (past_from limit p later) b ≡ []
 given_for_good limit p later b past made given =

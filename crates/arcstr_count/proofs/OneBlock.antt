@@ -1,4 +1,4 @@
--- What each step makes of a history of one block, its word and the states of its handles.
+-- What each step makes of a history of one block, of its word and of the states of its handles.
 use Rattle.std.proofs.Common.{◌≡◌, ℕ, ◌<◌, Bool, true, false, not, ◌&&◌, ◌==◌, if◌then◌else◌, is_none, None, Some, List, [], ◌∷◌, ◌++◌, map, length}
 use Rattle.std.proofs.Common.{slice_get, get_or, set, refl, sym, ◌∙◌, ap, subst, arith}
 use Rattle.std.proofs.lemmas.Bool.{lt-ltb}
@@ -64,7 +64,7 @@ get_or-column limit p h born =
     ∙ get_or-map state_in (handles_of limit p) h (record { block = 0; state = Gone }) Gone within
     ∙ ap state_in (handle_at limit p h (record { block = 0; state = Gone }) born)
 
--- a handle with a seat was born, and is in the state that the seat holds
+-- a handle that has a seat was born, and is in the state that the seat holds
 seat_is : (limit : ℕ) (r : List Step) (w : FlagAndCount) (seats : List HandleState) (h : ℕ) (state : HandleState)
     → Keeps limit r w seats → slice_get seats h ≡ Some state → IsIn limit (past_of limit r) h state
 seat_is limit r w seats h state keeps seat =
@@ -126,7 +126,7 @@ stands limit r w seats keeps =
     subst (Stands limit (past_of limit r) 0) (sym keeps.left)
     (word_stands limit (past_of limit r) 0 (IsPast-past_of limit r) (made_one limit r w seats keeps))
 
--- a subtraction of a dropping handle is the last one exactly if the word says so, and finds a count to take from
+-- a subtraction of a dropping handle is the last one exactly if the word says so, and the count is above 0
 record Subtracts (limit : ℕ) (p : List Step) (h : ℕ) (w : FlagAndCount) : Type 0 where
   pub counted : 0 < w.count
   pub last : not (is_marked limit p (block_of p h)) && is_only h (living limit p (block_of p h)) ≡ is_last w
@@ -146,7 +146,7 @@ subtracts limit r w seats h keeps i =
 
 -- ---- each step, accepted, with its answer and what it keeps
 
--- a step that wants a free handle is accepted of one
+-- a step that needs a free handle is accepted for one
 accepts_free : (limit : ℕ) (p : List Step) (h : ℕ) → IsIn limit p h Free → unless_free (handle_state limit p h) ≡ None
 accepts_free limit p h i = ap unless_free (found_in limit p h Free i)
 
@@ -155,7 +155,7 @@ pub record Prolongs (limit : ℕ) (r : List Step) (s : Step) (reply : Reply) (w 
   pub keeps : Keeps limit (r ++ s ∷ []) w seats
   pub ends : EndsIn limit (r ++ s ∷ []) s reply
 
--- a step that is accepted after r and answered so prolongs r, where the longer history is kept
+-- a step that is accepted after r, with this answer, prolongs r, if the longer history keeps the new word and seats
 prolonged : {limit : ℕ} {r : List Step} {s : Step} {reply : Reply} {w : FlagAndCount} {seats : List HandleState}
     → Keeps limit (r ++ s ∷ []) w seats → is_accepted limit (past_of limit r) s ≡ true → answer_after limit r s ≡ reply
     → Prolongs limit r s reply w seats

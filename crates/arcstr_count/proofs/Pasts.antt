@@ -4,7 +4,7 @@ use Rattle.arcstr_count.specs.declared.steps.Step.{Step}
 use Rattle.arcstr_count.specs.Answer.{is_accepted}
 use Rattle.arcstr_count.specs.Past.{with_step, past_from, past_of, IsPast}
 
--- the steps of two lists, one after the other
+-- the past that two lists of steps lead to, one list after the other
 pub past_from-append : (limit : ℕ) (p xs ys : List Step) → past_from limit p (xs ++ ys) ≡ past_from limit (past_from limit p xs) ys
 past_from-append limit p [] ys = refl
 past_from-append limit p (x ∷ xs) ys = past_from-append limit (with_step limit p x) xs ys
@@ -16,7 +16,7 @@ past_of-append limit front later = past_from-append limit [] front later
 pub past_of-step : (limit : ℕ) (front : List Step) (s : Step) → past_of limit (front ++ s ∷ []) ≡ with_step limit (past_of limit front) s
 past_of-step limit front s = past_of-append limit front (s ∷ [])
 
--- a past stays one with one more step
+-- a past with one more step is a past
 pub IsPast-with_step : (limit : ℕ) (p : List Step) (s : Step) → IsPast limit p → IsPast limit (with_step limit p s)
 IsPast-with_step limit p s h = kept (is_accepted limit p s) refl
   where
@@ -28,6 +28,6 @@ pub IsPast-past_from : (limit : ℕ) (p xs : List Step) → IsPast limit p → I
 IsPast-past_from limit p [] h = h
 IsPast-past_from limit p (x ∷ xs) h = IsPast-past_from limit (with_step limit p x) xs (IsPast-with_step limit p x h)
 
--- the past of each history is one
+-- the past of each history is a past
 pub IsPast-past_of : (limit : ℕ) (history : List Step) → IsPast limit (past_of limit history)
 IsPast-past_of limit history = IsPast-past_from limit [] history tt

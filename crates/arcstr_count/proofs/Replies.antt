@@ -1,4 +1,4 @@
--- The replies to a list of steps, one after the other, and that they are what the history answers.
+-- The replies to a list of steps, one after another: they are the answers of the history.
 use Rattle.std.proofs.Common.{◌≡◌, ℕ, suc, List, [], ◌∷◌, ◌++◌, length, Some, refl, sym, ◌∙◌, ap, ap₂}
 use Rattle.std.specs.List.{slice_get}
 use Rattle.arcstr_count.specs.declared.steps.Step.{Step}
@@ -9,7 +9,7 @@ use Rattle.arcstr_count.specs.Summary.{WorldView, StandsFor}
 use Rattle.arcstr_count.specs.After.{AnswersEach}
 use Rattle.arcstr_count.specs.Taken.{Answers, Follows}
 
--- what the steps of a list answer, in order
+-- what the steps of a list answer, in their order
 abbrev pub replies_from : ℕ → List Step → List Step → List Reply
 replies_from limit p [] = []
 replies_from limit p (s ∷ later) = answer_of limit p s ∷ replies_from limit (with_step limit p s) later
@@ -39,7 +39,7 @@ replies_answer limit steps = record {
   each = λ front later s is. ap (λ xs. slice_get (replies_of limit xs) (length front)) is ∙ reply_at limit [] front later s;
 }
 
--- ---- a world on the way through a list of steps
+-- ---- a world in the course of a list of steps
 
 -- the world has taken these steps, with these replies
 pub record HasTaken (limit : ℕ) (done : List Step) (w : WorldView) (replies : List Reply) : Type 0 where

@@ -1,4 +1,4 @@
--- How many seats of a history of one block are in which states: as many as the word counts.
+-- How many seats of a history of one block are in which states: their numbers agree with the count of the word.
 use Rattle.std.proofs.Common.{◌≡◌, ℕ, ◌+◌, ◌<◌, ◌≤◌, Bool, true, false, ◌&&◌, ◌==◌, if◌then◌else◌, IsFalse, List, [], ◌∷◌, map, length, filter, refl}
 use Rattle.std.proofs.Common.{sym, ◌∙◌, ap, arith}
 use Rattle.arcstr_count.specs.declared.steps.Step.{Step}
@@ -26,7 +26,7 @@ length-filter_column test f (x ∷ xs) = by_test (test (f x)) (length-filter_col
     by_test true later = omega arith
     by_test false later = later
 
--- the seats that pass a test are as many as the handles on the block whose states pass it
+-- as many seats pass a test as there are handles on the block whose states pass it
 seats-held : (limit : ℕ) (r : List Step) (w : FlagAndCount) (seats : List HandleState) (test : HandleState → Bool)
     → Keeps limit r w seats → length (filter test seats) ≡ held limit (past_of limit r) 0 test
 seats-held limit r w seats test keeps =
@@ -60,7 +60,7 @@ seats-covered limit r w seats keeps marked =
     let same = seats-held limit r w seats is_dropping keeps in
     omega arith
 
--- a count is at most the limit and one
+-- a count is at most limit + 1
 pub seats-bounded : (limit : ℕ) (r : List Step) (w : FlagAndCount) (seats : List HandleState) → Keeps limit r w seats
     → w.count ≤ limit + 1
 seats-bounded limit r w seats keeps =
@@ -76,7 +76,7 @@ seats-one_owes limit r w seats keeps =
     let same = seats-held limit r w seats is_owing keeps in
     omega arith
 
--- where a seat owes, the word is unmarked with count 0, and no seat is a living handle's
+-- where a seat owes, the word is unmarked with count 0, and no seat belongs to a living handle
 pub seats-owed : (limit : ℕ) (r : List Step) (w : FlagAndCount) (seats : List HandleState) → Keeps limit r w seats
     → 0 < length (filter is_owing seats) → IsFalse w.flag × (w.count ≡ 0) × (length (filter lives seats) ≡ 0)
 seats-owed limit r w seats keeps some =

@@ -1,4 +1,4 @@
--- The reply to a step is the one that the sentence on the history says.
+-- The reply to a step is the one that the sentence about the history says.
 use Rattle.std.proofs.Common.{◌≡◌, ◌↔◌, ℕ, Bool, true, false, not, ◌&&◌, if◌then◌else◌, is_none, IsTrue, Option, None, Some, List, ◌⊎◌, inl, inr, refl, sym}
 use Rattle.std.proofs.lemmas.Bool.{not-true, not_from_false, and_parts, and_from}
 use Rattle.arcstr_count.specs.declared.steps.Step.{Step}
@@ -16,7 +16,7 @@ use Rattle.arcstr_count.proofs.SentencesTable.{accepted_sentence}
 
 -- ---- an accepted step
 
--- one reply or another by a test that decides a fact
+-- one of two replies, by a test that decides a fact
 by_test : (b : Bool) (fact : Type 0) → IsTrue b ↔ fact → (holds fails reply : Reply) → ((if b then holds else fails) ≡ reply) ↔ ByFact fact holds fails reply
 by_test true fact decides holds fails reply = (
   (λ e. inl (decides.0 refl, sym e)),
@@ -51,7 +51,7 @@ module _ (limit : ℕ) (history : List Step) where
   accepted_answer_sentence (IntoRaw h) reply = same _ reply
   accepted_answer_sentence (FromRaw h) reply = same _ reply
 
-  -- ---- a refused one
+  -- ---- a refused step
 
   refused_sentence : (s : Step) (fault : StepFault) → (refusal_of limit (past_of limit history) s ≡ Some fault) ↔ RefusedSentence limit history s fault
   refused_sentence Make fault = ((λ e. cc), (λ e. absurd e))
@@ -66,7 +66,7 @@ module _ (limit : ℕ) (history : List Step) where
 
 -- ---- both
 
--- the reply by a refusal
+-- the reply, given a refusal or none
 by_refusal : (o : Option StepFault) (answer reply : Reply) → (reply_by o answer ≡ reply)
     ↔ ((IsTrue (is_none o) × (answer ≡ reply)) ⊎ ((fault : StepFault) × (o ≡ Some fault) × (reply ≡ Refused fault)))
 by_refusal None answer reply = (

@@ -8,15 +8,15 @@ use Rattle.arcstr_count.specs.Past.{past_of}
 use Rattle.arcstr_count.specs.Sentences.{births_after, block_after, BornSentence}
 use Rattle.arcstr_count.proofs.SentencesFronts.{InPast, in_past, in_history}
 
--- h births stand in the past, and b is the number of its `Make`s
+-- there are h births in the past, and b is the number of its `Make`s
 abbrev MakesOn : ℕ → ℕ → List Step → Type 0
 MakesOn h b q = (births q ≡ h) × (makes q ≡ b)
 
--- h births stand in the past, and b is the block of g
+-- there are h births in the past, and b is the block of g
 abbrev ClonesOn : ℕ → ℕ → ℕ → List Step → Type 0
 ClonesOn g h b q = (births q ≡ h) × (block_of q g ≡ b)
 
--- the sentence, said of a past
+-- the sentence, about a past
 abbrev BornIn : List Step → ℕ → ℕ → Type 0
 BornIn p h b = InPast p Make (MakesOn h b) ⊎ ((g : ℕ) × InPast p (Clone g) (ClonesOn g h b))
 

@@ -1,4 +1,4 @@
--- Numbers of accepted steps: births, blocks made, times given back.
+-- Numbers of accepted steps: births, blocks made, blocks freed.
 use Rattle.std.proofs.Common.{◌≡◌, ℕ, zero, suc, ◌<◌, Bool, true, false, ◌&&◌, if◌then◌else◌, Some, List, [], ◌∷◌, ◌++◌, length, filter, take}
 use Rattle.std.proofs.Common.{slice_get, refl, sym, ◌∙◌, ap, arith}
 use Rattle.std.proofs.lemmas.List.{append-nil, length_push, get_or_append_left, get_or_push, take-append-le}
@@ -27,7 +27,7 @@ length_push_if : (xs : List ℕ) (x : ℕ) (b : Bool) → length (xs ++ (if b th
 length_push_if xs x true = omega (arith, length_push xs x)
 length_push_if xs x false = ap length (append-nil xs)
 
--- ---- the places of a history with one more step
+-- ---- the indices of a history with one more step
 
 slice_get-before : (front : List Step) (s : Step) (i : ℕ) → i < length front → slice_get (front ++ s ∷ []) i ≡ slice_get front i
 slice_get-before front s i lt =
@@ -40,7 +40,7 @@ slice_get-last front s =
     slice_get-get_or (front ++ s ∷ []) (length front) s more ∙ ap Some (get_or_push front s s (length front) refl)
 
 module _ (limit : ℕ) (test : List Step → Step → Bool) where
-  -- the step at place i is accepted and passes
+  -- the step at index i is accepted and passes
   abbrev passes_at : List Step → ℕ → Bool
   passes_at history i = passes_after limit (take i history) test (slice_get history i)
 
@@ -67,7 +67,7 @@ module _ (limit : ℕ) (test : List Step → Step → Bool) where
 
 -- ---- a number that grows by one with each accepted step that passes
 
--- what counts the steps of a past that pass counts the accepted ones of a history
+-- a function that counts the steps of a past that pass counts the accepted steps of a history that pass
 count_sentence : (limit : ℕ) (test : List Step → Step → Bool) (count : List Step → ℕ)
     → count [] ≡ 0
     → ((s : Step) (p : List Step) → count (s ∷ p) ≡ (if test p s then suc (count p) else count p))

@@ -1,4 +1,4 @@
--- What was done to a handle, as sentences on the fronts of the history.
+-- What was done to a handle, as sentences about the prefixes of the history.
 use Rattle.std.proofs.Common.{◌≡◌, ◌↔◌, ℕ, Bool, true, false, not, ◌&&◌, ◌==◌, if◌then◌else◌, IsFalse, List, [], ◌∷◌, ◌⊎◌, inl, inr, refl, sym, ap, subst}
 use Rattle.std.proofs.lemmas.Bool.{and_parts, and_from, not-true, not_from_false, false_from_ne_true, eqb-true, eq-eqb, cond-true}
 use Rattle.arcstr_count.specs.declared.steps.Step.{Step}
@@ -14,11 +14,11 @@ use Rattle.arcstr_count.proofs.SentencesFronts.{InPast, in_past, in_history}
 use Rattle.arcstr_count.proofs.SentencesFirst.{tests_owing, state_of_test}
 use Rattle.arcstr_count.proofs.SentencesTable.{free_passes, dropping_passes, handle_state_sentence}
 
--- ---- a test on pasts, and an accepted step
+-- ---- a test of pasts, and an accepted step
 
--- A test says that the step s was accepted after a front of which Q holds, where no past passes at first,
--- each past that passes does so by its latest step or before it, s makes it pass where Q holds, and what
--- passes goes on to pass.
+-- A test of a past says that the step s was accepted after a prefix of which Q holds, under four conditions: the empty
+-- past fails; a past that passes does so by its latest step or passed before it; s makes a past pass where Q holds; and
+-- a past that passes still passes after each further accepted step.
 module _ (limit : ℕ) (s : Step) (Q : List Step → Type 0) (test : List Step → Bool)
     (nil : test [] ≡ false)
     (latest : (x : Step) (p : List Step) → test (x ∷ p) ≡ true → ((x ≡ s) × Q p) ⊎ (test p ≡ true))
@@ -164,7 +164,7 @@ only_one h (x ∷ y ∷ xs) e = cc
 pub is_only_one : (h : ℕ) (xs : List ℕ) → xs ≡ h ∷ [] → is_only h xs ≡ true
 is_only_one h xs e = rw e (eq-eqb h h refl)
 
--- what a subtraction asks of the past before it
+-- what a subtraction requires of the past before it
 abbrev alone : ℕ → ℕ → List Step → Bool
 alone limit h p = not (is_marked limit p (block_of p h)) && is_only h (living limit p (block_of p h))
 
@@ -212,7 +212,7 @@ pub was_last_sentence : (limit : ℕ) (h : ℕ) (history : List Step)
 was_last_sentence limit h history = test_sentence limit (Sub h) (Alone limit h) (λ p. was_last limit p h) refl
     (was_last-latest limit h) (was_last-here limit h) (was_last-kept limit h) history
 
--- ---- tests and sentences, joined
+-- ---- tests and sentences together
 
 pub not_sentence : (b : Bool) (P : Type 0) → (b ≡ true) ↔ P → (not b ≡ true) ↔ (¬ P)
 not_sentence b P e = (

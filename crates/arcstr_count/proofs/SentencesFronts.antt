@@ -1,4 +1,4 @@
--- Fronts of a history, and the rests of its past.
+-- Prefixes of a history, and suffixes of its past.
 use Rattle.std.proofs.Common.{◌≡◌, ℕ, Bool, true, false, if◌then◌else◌, List, [], ◌∷◌, ◌++◌, ◌⊎◌, inl, inr, refl, ◌∙◌, ap, subst, append_assoc}
 use Rattle.std.proofs.lemmas.List.{append-nil}
 use Rattle.arcstr_count.specs.declared.steps.Step.{Step}
@@ -14,7 +14,7 @@ further P step front [] h = rw append-nil h
 further P step front (s ∷ later) h =
     subst P (append_assoc front (s ∷ []) later) (further P step (front ++ s ∷ []) later (step front s h))
 
--- what holds of no step, and with each further one, holds of each history
+-- what holds of the empty history, and still holds with each further step, holds of each history
 pub by_steps : (P : List Step → Type 0) → P [] → ((front : List Step) (s : Step) → P front → P (front ++ s ∷ [])) → (history : List Step) → P history
 by_steps P nil step history = further P step [] history nil
 
@@ -22,7 +22,7 @@ pub none_in_nil : (front : List Step) (s : Step) (later : List Step) → [] ≡ 
 none_in_nil [] s later e = cc
 none_in_nil (x ∷ front) s later e = cc
 
--- a step of a history with one more is the last one, or stands in the history
+-- a step of a history with one more step is the last one, or is a step of the history
 pub last_or_before : (history : List Step) (x : Step) (front : List Step) (s : Step) (later : List Step) → history ++ x ∷ [] ≡ front ++ s ∷ later
     → ((x ≡ s) × (history ≡ front) × (later ≡ [])) ⊎ ((rest : List Step) × (history ≡ front ++ s ∷ rest) × (later ≡ rest ++ x ∷ []))
 last_or_before [] x [] s later e = inl (cc, refl, cc)
@@ -31,9 +31,9 @@ last_or_before (y ∷ history) x [] s later e = inr (history, cc, cc)
 last_or_before (y ∷ history) x (z ∷ front) s later e =
     elim (last_or_before history x front s later (cc)) [ inl w ↦ inl (w.0, cc, w.2) | inr w ↦ inr (w.0, cc, w.2) ]
 
--- ---- rests of a past
+-- ---- suffixes of a past
 
--- the step stands in the past, over a rest of which Q holds
+-- the past has the step, after a suffix of which Q holds
 abbrev pub InPast : List Step → Step → (List Step → Type 0) → Type 0
 InPast [] s Q = ⊥
 InPast (x ∷ p) s Q = ((x ≡ s) × Q p) ⊎ InPast p s Q
@@ -54,7 +54,7 @@ past_of-refused limit front s e = past_of-step limit front s ∙ ap (λ b. if b 
 
 -- ---- between the two
 
--- an accepted step of a history stands in its past
+-- an accepted step of a history is in its past
 pub in_past : (limit : ℕ) (s : Step) (Q : List Step → Type 0) (history : List Step) → AcceptedWhere limit history s (λ front. Q (past_of limit front)) → InPast (past_of limit history) s Q
 in_past limit s Q = by_steps (λ history. AcceptedWhere limit history s (λ front. Q (past_of limit front)) → InPast (past_of limit history) s Q)
     (λ w. absurd (none_in_nil w.front s w.later w.stands))
@@ -69,7 +69,7 @@ in_past limit s Q = by_steps (λ history. AcceptedWhere limit history s (λ fron
           (before (record { front = w.front; later = e.0; stands = e.1; accepted = w.accepted; there = w.there })))
     ]
 
--- an accepted step of a history stands in the history with one more step
+-- an accepted step of a history is an accepted step of the history with one more step
 pub AcceptedWhere-more : (limit : ℕ) (history : List Step) (s x : Step) (P : List Step → Type 0) → AcceptedWhere limit history s P → AcceptedWhere limit (history ++ x ∷ []) s P
 AcceptedWhere-more limit history s x P w = record {
   front = w.front;
@@ -79,7 +79,7 @@ AcceptedWhere-more limit history s x P w = record {
   there = w.there;
 }
 
--- a step of the past of a history is an accepted one of the history
+-- a step in the past of a history is an accepted step of the history
 pub in_history : (limit : ℕ) (s : Step) (Q : List Step → Type 0) (history : List Step) → InPast (past_of limit history) s Q → AcceptedWhere limit history s (λ front. Q (past_of limit front))
 in_history limit s Q = by_steps (λ history. InPast (past_of limit history) s Q → AcceptedWhere limit history s (λ front. Q (past_of limit front)))
     (λ h. absurd h)

@@ -1,4 +1,4 @@
--- The handles that live on a block, and those whose drops are under way, as sentences on single handles.
+-- The handles that live on a block, and those whose drops are under way, as sentences about single handles.
 use Rattle.std.proofs.Common.{◌≡◌, ◌≢◌, ◌↔◌, ℕ, zero, suc, ◌+◌, ◌<◌, Bool, true, false, ◌&&◌, ◌==◌, if◌then◌else◌, Some, List, [], ◌∷◌, length}
 use Rattle.std.proofs.Common.{filter, slice_index, Contains, ◌⊎◌, inl, inr, refl, sym, ◌∙◌, subst, arith}
 use Rattle.std.specs.List.Sorted.{IsStrictlyIncreasing}
@@ -39,7 +39,7 @@ numbers_below-rising n k lt =
     let next : slice_index (numbers_below n) (k + 1) ≡ k + 1 = numbers_below-at n (k + 1) (omega (arith, length-numbers_below n)) in
     omega arith
 
--- ---- those of them that pass a test
+-- ---- those of these numbers that pass a test
 
 filter_one : (test : ℕ → Bool) (n h : ℕ) → Contains (filter test (n ∷ [])) h → (n ≡ h) × (test n ≡ true)
 filter_one test n h c = go (test n) refl c

@@ -1,4 +1,4 @@
--- A block is marked exactly as the sentence on the fronts of the history says.
+-- A block is marked exactly as the sentence about the prefixes of the history says.
 use Rattle.std.proofs.Common.{◌≡◌, ◌↔◌, ℕ, ◌<◌, Bool, true, false, ◌&&◌, ◌==◌, nat_lt, IsTrue, IsFalse, List, [], ◌∷◌, length, ◌⊎◌, inl, inr, refl, sym, subst}
 use Rattle.std.proofs.lemmas.Bool.{or_cases, or_left, or_right, and_parts, and_from, eqb-true, eq-eqb, ltb-true, lt-ltb}
 use Rattle.arcstr_count.specs.declared.steps.Step.{Step}
@@ -14,11 +14,11 @@ use Rattle.arcstr_count.proofs.SentencesFronts.{InPast, in_past, in_history}
 abbrev On : ℕ → ℕ → List Step → Type 0
 On h b q = block_of q h ≡ b
 
--- the block of h is b, which is unmarked, and more than the limit of handles live on it
+-- the block of h is b, which is unmarked, and more than `limit` handles live on it
 abbrev OnFull : ℕ → ℕ → ℕ → List Step → Type 0
 OnFull limit h b q = (block_of q h ≡ b) × IsFalse (is_marked limit q b) × (limit < length (living limit q b))
 
--- the sentence, said of a past
+-- the sentence, about a past
 abbrev MarkedIn : ℕ → List Step → ℕ → Type 0
 MarkedIn limit p b = ((h : ℕ) × InPast p (Leak h) (On h b)) ⊎ ((h : ℕ) × InPast p (Clone h) (OnFull limit h b))
 
@@ -42,7 +42,7 @@ marked_in limit (Clone h ∷ p) b m = by_mark (is_marked limit p b) refl (marked
     ]
 marked_in limit (s ∷ p) b m = MarkedIn-more limit s p b (marked_in limit p b m)
 
--- a mark is for good
+-- a mark stays
 is_marked-more : (limit : ℕ) (x : Step) (p : List Step) (b : ℕ) → is_marked limit p b ≡ true → is_marked limit (x ∷ p) b ≡ true
 is_marked-more limit (Leak h) p b m = or_right (block_of p h == b) (is_marked limit p b) m
 is_marked-more limit (Clone h) p b m =

@@ -1,4 +1,4 @@
--- A handle is raw exactly as the sentence on the fronts of the history says.
+-- A handle is raw exactly as the sentence about the prefixes of the history says.
 use Rattle.std.proofs.Common.{◌≡◌, ◌≢◌, ◌↔◌, ℕ, Bool, true, false, ◌==◌, if◌then◌else◌, IsFalse, List, [], ◌∷◌, ◌++◌, ◌⊎◌, inl, inr, refl, sym, ◌∙◌}
 use Rattle.std.proofs.Common.{ap, subst, append_assoc}
 use Rattle.std.proofs.lemmas.Bool.{eqb-true, eqb-false, eq-eqb, cond-true}
@@ -12,7 +12,7 @@ use Rattle.arcstr_count.proofs.SentencesFronts.{by_steps, none_in_nil, last_or_b
 
 -- ---- one more step of a past
 
--- the latest step made the handle raw, or it was raw and the latest step is none of the two
+-- the latest step made the handle raw, or the handle was raw and the latest step is neither of the two
 pub is_raw-latest : (x : Step) (p : List Step) (h : ℕ) → is_raw (x ∷ p) h ≡ true
     → (x ≡ IntoRaw h) ⊎ ((is_raw p h ≡ true) × (x ≢ IntoRaw h) × (x ≢ FromRaw h))
 is_raw-latest (IntoRaw g) p h r = go (g == h) refl r
@@ -45,7 +45,7 @@ is_raw-kept s p h r n = r
 
 -- ---- one more step of a history
 
--- the last one stays the last, where the new step is none of the two or is refused
+-- the last one stays the last if the new step is neither of the two or is refused
 LastIsIntoRaw-more : (limit : ℕ) (history : List Step) (x : Step) (h : ℕ) → ((x ≡ IntoRaw h) ⊎ (x ≡ FromRaw h) → IsFalse (accepted_after limit history x))
     → LastIsIntoRaw limit history h → LastIsIntoRaw limit (history ++ x ∷ []) h
 LastIsIntoRaw-more limit history x h refused w = record {

@@ -1,4 +1,4 @@
--- The state of a handle is the one that the sentence on the fronts of the history says.
+-- The state of a handle is the one that the sentence about the prefixes of the history says.
 use Rattle.std.proofs.Common.{◌≡◌, ◌↔◌, ℕ, ◌<◌, Bool, true, false, not, Some, List, [], ◌∷◌, inl, inr, refl, sym, subst}
 use Rattle.std.proofs.lemmas.Bool.{not-true, and_parts, false_from_ne_true}
 use Rattle.arcstr_count.specs.declared.steps.Step.{Step}
@@ -76,7 +76,7 @@ state_sentence limit history h s = (
   (λ w. (handle_state_sentence limit (past_of limit history) h s).1 (w.0, (state_of_sentence limit history h s).1 w.1)),
 )
 
--- ---- an owing handle is one that owes
+-- ---- an owing handle is one that owes its block
 
 -- a handle that has subtracted was born, is not raw, and has begun
 subtracted_began : (limit : ℕ) (h : ℕ) (p : List Step) → IsPast limit p → has_subtracted p h ≡ true → (h < births p) × (is_raw p h ≡ false) × (has_begun p h ≡ true)

@@ -1,4 +1,4 @@
--- A step is accepted exactly where the table of refusals lets the state of its handle pass.
+-- A step is accepted exactly where the table of refusals accepts the state of its handle.
 use Rattle.std.proofs.Common.{◌≡◌, ◌↔◌, ℕ, ◌<◌, Bool, true, false, nat_lt, if◌then◌else◌, is_none, IsTrue, Option, None, Some, List, refl, ap}
 use Rattle.std.proofs.lemmas.Bool.{ltb-true, lt-ltb}
 use Rattle.arcstr_count.specs.declared.steps.Step.{Step}

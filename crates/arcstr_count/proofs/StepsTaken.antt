@@ -1,4 +1,4 @@
--- Each accepted step: what the world's tables become when it is taken.
+-- Each accepted step: what it makes of the world's tables.
 use Rattle.std.proofs.Common.{◌≡◌, ℕ, ◌<◌, Bool, true, false, not, ◌&&◌, if◌then◌else◌, None, Some, List, [], ◌∷◌, ◌++◌, length, get_or, set, map}
 use Rattle.std.proofs.Common.{is_none, refl, sym, ◌∙◌, ap, ap₂, subst}
 use Rattle.std.proofs.Math.Logic.{∥∥₁_elim}
@@ -29,14 +29,14 @@ use Rattle.arcstr_count.proofs.Entries.{entries-Clone, entries-Sub, entries-Leak
 use Rattle.arcstr_count.proofs.LawsOfPasts.{word_stands, Sub_counted, Sub_last}
 use Rattle.arcstr_count.proofs.Taking.{FoundIn, found_in_past, handle_state-found, entry_read, Changes, takes_accepted}
 
--- a list with one entry changed, where lists and entries are equal
+-- equal lists with one entry changed in the same way are equal
 set_with : {X : Type 0} {xs ys : List X} {i j : ℕ} {x y : X} → xs ≡ ys → i ≡ j → x ≡ y → set xs i x ≡ set ys j y
 set_with lists places entries = λ t. set (lists t) (places t) (entries t)
 
 pub push_with : {X : Type 0} {xs ys : List X} {x y : X} → xs ≡ ys → x ≡ y → xs ++ x ∷ [] ≡ ys ++ y ∷ []
 push_with lists entries = λ t. lists t ++ entries t ∷ []
 
--- what a look finds says whether the word has the flag, and what it counts
+-- what a look finds determines the flag of the word, and the count of an unmarked one
 looked_none : (w : FlagAndCount) → looked_of w ≡ None → w.flag ≡ true
 looked_none w nothing = by_flag w.flag refl
   where
@@ -79,13 +79,13 @@ takes_make limit handles blocks old born made w new_handles new_blocks view_is b
 
 module _ (limit : ℕ) (handles : List HandleSummary) (blocks : List BlockEntry) (old : WorldView) (h b : ℕ)
     (view_is : view_of limit handles blocks ≡ old) where
-  -- what the tables have of the handle is what the past has
+  -- what the tables have about the handle is what the past has
   found : (s : HandleState) (p : List Step) → IsAt old h b s → AreTablesOf limit p handles blocks → FoundIn limit p h b s
   found s p at tables = found_in_past (view_of limit handles blocks) p h b s tables.handles_are
       (ap (λ es. map word_in es) tables.blocks_are ∙ words_of-entries limit p)
       (subst (λ w. IsAt w h b s) (sym view_is) at)
 
-  -- the entry that the table has of the handle's block is that of the past
+  -- the entry of the handle's block in the table is that of the past
   block_read : (p : List Step) → AreTablesOf limit p handles blocks → b < makes p → get_or blocks b no_block ≡ entry_of limit p b
   block_read p tables made = ap (λ (es : List BlockEntry). get_or es b no_block) tables.blocks_are ∙ entry_at limit p b no_block made
 
@@ -111,7 +111,7 @@ module _ (limit : ℕ) (handles : List HandleSummary) (blocks : List BlockEntry)
       given : (get_or blocks b no_block).given ≡ (entry_of limit p (block_of p h)).given
       given = ap (λ (x : BlockEntry). x.given) (block_read p tables f.made) ∙ ap (λ k. (entry_of limit p k).given) (sym f.block)
 
-  -- the table of blocks with the handle's block given back
+  -- the table of blocks with the handle's block freed
   given_changed : (s : HandleState) (p : List Step) → AreTablesOf limit p handles blocks → FoundIn limit p h b s
       → blocks_with_given blocks b ≡ set (entries_of limit p) (block_of p h) (record { word = word_left limit p (block_of p h); given = true })
   given_changed s p tables f = set_with tables.blocks_are (sym f.block) (ap (λ v. entry_with v true) word)
@@ -123,7 +123,7 @@ module _ (limit : ℕ) (handles : List HandleSummary) (blocks : List BlockEntry)
     entry_is : (p : List Step) → AreTablesOf limit p handles blocks → b < makes p → e ≡ entry_of limit p b
     entry_is p tables made = entry_read limit p blocks b e tables.blocks_are made read
 
-    -- the flag of the entry is the mark of the handle's block
+    -- the flag of the entry says whether the handle's block is marked
     mark_is : (s : HandleState) (p : List Step) → IsPast limit p → AreTablesOf limit p handles blocks → FoundIn limit p h b s
         → is_marked limit p (block_of p h) ≡ e.word.flag
     mark_is s p past tables f = ap (λ k. is_marked limit p k) f.block

@@ -1,4 +1,4 @@
--- How the tables of a past, of its handles, blocks and words, follow from those of the steps before.
+-- How the tables of a past (handles, blocks and words) follow from those of the steps before.
 use Rattle.std.proofs.Common.{◌≡◌, ◌≢◌, ℕ, zero, suc, ◌+◌, ◌<◌, ◌≤◌, Bool, true, false, not, ◌&&◌, ◌||◌, ◌==◌, nat_lt, if◌then◌else◌, List, [], ◌∷◌}
 use Rattle.std.proofs.Common.{◌++◌, map, length, get_or, set, refl, sym, ◌∙◌, ap, ◌⊎◌, inl, inr, arith, ne_eqb}
 use Rattle.std.proofs.lemmas.List.{map_push, length-map, length_push, set_at, set-append_left, get_or_push, get_or_append_left}
@@ -46,7 +46,7 @@ table-at f (suc n) i d below = by_place (cases_eq i n) (λ inner. table-at f n i
         let within : i < length (map f (numbers_below n)) = rw (length-table f n) lower in
         rw (table-push f n, get_or_append_left (map f (numbers_below n)) (f n ∷ []) d i within) (earlier lower)
 
--- two functions that agree have one table
+-- two functions that agree have the same table
 pub table-same : {X : Type 0} (f g : ℕ → X) (n : ℕ) → ((k : ℕ) → k < n → g k ≡ f k) → map g (numbers_below n) ≡ map f (numbers_below n)
 table-same f g zero agree = refl
 table-same f g (suc n) agree =
@@ -54,7 +54,7 @@ table-same f g (suc n) agree =
     let here = agree n (omega arith) in
     rw (table-push g n, table-push f n, before, here) refl
 
--- one more number
+-- a table with one more number
 pub table-more : {X : Type 0} (f g : ℕ → X) (n : ℕ) (x : X) → ((k : ℕ) → k < n → g k ≡ f k) → g n ≡ x
     → map g (numbers_below (suc n)) ≡ map f (numbers_below n) ++ x ∷ []
 table-more f g n x agree here = rw (table-push g n, table-same f g n agree, here) refl
@@ -91,7 +91,7 @@ pub handle_at : (limit : ℕ) (p : List Step) (h : ℕ) (d : HandleSummary) → 
     → get_or (handles_of limit p) h d ≡ handle_summary limit p h
 handle_at limit p h d born = table-at (λ k. handle_summary limit p k) (births p) h d born
 
--- a step that changes the state of one handle writes its entry
+-- a step that changes the state of one handle sets that handle's entry
 handles-set : (limit : ℕ) (p : List Step) (s : Step) (h : ℕ) (old new : HandleState) → ChangesOne limit p s h old new
     → map (λ k. handle_summary limit (s ∷ p) k) (numbers_below (births p))
     ≡ set (handles_of limit p) h (record { block = block_of p h; state = new })
@@ -159,13 +159,13 @@ pub block_at : (limit : ℕ) (p : List Step) (b : ℕ) (d : BlockSummary) → b 
     → get_or (blocks_of limit p) b d ≡ block_summary limit p b
 block_at limit p b d made = table-at (λ c. block_summary limit p c) (makes p) b d made
 
--- a handle stands on no block that is not yet made
+-- no handle stands on a block that is not made yet
 other_block : (limit : ℕ) (p : List Step) (h b : ℕ) → IsPast limit p → h < births p → makes p ≤ b → (block_of p h == b) ≡ false
 other_block limit p h b past born unmade =
     let made = block_made limit p h past born in
     ne_eqb (block_of p h) b (λ same. omega arith)
 
--- no step of a past acts on a block that is not yet made
+-- no step of a past acts on a block that is not made yet
 pub unmade_block : (limit : ℕ) (p : List Step) (b : ℕ) → IsPast limit p → makes p ≤ b
     → (is_marked limit p b ≡ false) × (times_given p b ≡ 0)
 unmade_block limit [] b past unmade = (refl, refl)
@@ -202,7 +202,7 @@ blocks-Make limit p past =
 pub blocks-Look : (limit : ℕ) (p : List Step) (h : ℕ) → blocks_of limit (Look h ∷ p) ≡ blocks_of limit p
 blocks-Look limit p h = refl
 
--- the mark that a clone leaves on its block
+-- whether a clone leaves its block marked
 pub marked-Clone : (limit : ℕ) (p : List Step) (h : ℕ)
     → is_marked limit (Clone h ∷ p) (block_of p h)
     ≡ (is_marked limit p (block_of p h) || nat_lt limit (length (living limit p (block_of p h))))

@@ -1,4 +1,4 @@
--- What it takes for a world to take a step: what is found in its tables, and what they become.
+-- What a world needs to take a step: what is found in its tables, and what they become.
 use Rattle.std.proofs.Common.{◌≡◌, ℕ, ◌<◌, ◌≤◌, Bool, true, false, nat_lt, if◌then◌else◌, Option, None, Some, option_map, List, [], ◌∷◌, ◌++◌, length}
 use Rattle.std.proofs.Common.{get_or, refl, sym, ◌∙◌, ap, subst, arith, is_none, IfSome, lt-ltb, ltb-true, ltb-false}
 use Rattle.std.proofs.Math.Logic.{∥∥₁_map, ∥∥₁_elim}
@@ -36,7 +36,7 @@ pub record FoundIn (limit : ℕ) (p : List Step) (h b : ℕ) (s : HandleState) :
   pub state : state_of limit p h ≡ s
   pub made : b < makes p
 
--- what a world's view has of a handle is what the past has of it
+-- what a world's view has about a handle is what the past has about it
 pub found_in_past : (w : WorldView) (p : List Step) (h b : ℕ) (s : HandleState)
     → w.summary.handles ≡ handles_of w.summary.limit p → w.words ≡ words_left w.summary.limit p → IsAt w h b s
     → FoundIn w.summary.limit p h b s
@@ -57,7 +57,7 @@ found_in_past w p h b s handles words at = record {
     is = sym (handle_at w.summary.limit p h here born) ∙ ap (λ hs. get_or hs h here) (sym handles)
         ∙ get_or_from_slice_get w.summary.handles h here here at.found
 
--- the state that a past has of a handle that was found
+-- the past has the state of a handle that was found
 pub handle_state-found : (limit : ℕ) (p : List Step) (h b : ℕ) (s : HandleState) → FoundIn limit p h b s
     → handle_state limit p h ≡ Some s
 handle_state-found limit p h b s found = rw (lt-ltb h (births p) found.born, found.state) refl
@@ -90,7 +90,7 @@ placed limit handles blocks w h (Some e) world view_is is = record {
         p : List Step
         p = past_of w.summary.limit known.0
 
--- what a world's view says of a handle's state is what the past says
+-- what a world's view says about a handle's state is what the past says
 pub state_at-past : (w : WorldView) (p : List Step) (h : ℕ) → w.summary.handles ≡ handles_of w.summary.limit p
     → state_at w h ≡ handle_state w.summary.limit p h
 state_at-past w p h handles =
@@ -148,7 +148,7 @@ takes_refused w s fault refusal = record {
       words = stands.words ∙ ap (λ p. words_left w.summary.limit p) (sym (same_past history stands));
     }
 
--- a step of a handle that the table of its row refuses
+-- a step of a handle whose state the table's row refuses
 pub takes_refused_by : (unless : Option HandleState → Option StepFault) (w : WorldView) (s : Step) (h : ℕ) (fault : StepFault)
     → ((p : List Step) → refusal_of w.summary.limit p s ≡ unless (handle_state w.summary.limit p h))
     → unless (state_at w h) ≡ Some fault → Takes w s (Refused fault) w
@@ -198,7 +198,7 @@ takes_accepted limit handles blocks old s reply new_handles new_blocks view_is u
 
 -- ---- what every world keeps
 
--- a step that a world takes leaves it a world
+-- a world stays a world when it takes a step
 pub world_kept : (limit : ℕ) (handles : List HandleSummary) (blocks : List BlockEntry) (old : WorldView) (s : Step) (reply : Reply)
     (new_handles : List HandleSummary) (new_blocks : List BlockEntry)
     → IsWorld limit handles blocks → view_of limit handles blocks ≡ old → Takes old s reply (view_of limit new_handles new_blocks)

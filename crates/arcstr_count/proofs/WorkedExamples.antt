@@ -31,7 +31,7 @@ past_the_limit-given : times_given (past_of 1 past_the_limit) 0 ≡ 0
 unfolding past_the_limit
 past_the_limit-given = refl
 
--- two drops that cross: the one that subtracts last owes
+-- two drops that cross: the one that subtracts last owes the block
 crossing_drops : List Step
 crossing_drops = Make ∷ Clone 0 ∷ Begin 0 ∷ Begin 1 ∷ Sub 1 ∷ Sub 0 ∷ Back 1 ∷ Back 0 ∷ Look 0 ∷ []
 
@@ -91,7 +91,7 @@ refusals_on_the_way-given : times_given (past_of 5 refusals_on_the_way) 0 ≡ 1
 unfolding refusals_on_the_way
 refusals_on_the_way-given = refl
 
--- a mark is for good
+-- a mark stays
 marked_twice : List Step
 marked_twice = Make ∷ Leak 0 ∷ Leak 0 ∷ Clone 0 ∷ Look 1 ∷ Begin 1 ∷ Begin 0 ∷ []
 
@@ -103,7 +103,7 @@ marked_twice-given : times_given (past_of 5 marked_twice) 0 ≡ 0
 unfolding marked_twice
 marked_twice-given = refl
 
--- what a raw handle refuses
+-- the steps that a raw handle refuses
 raw_refusals : List Step
 raw_refusals = Make ∷ IntoRaw 0 ∷ IntoRaw 0 ∷ Sub 0 ∷ Back 0 ∷ FromRaw 0 ∷ FromRaw 0 ∷ []
 

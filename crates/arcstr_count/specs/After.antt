@@ -34,7 +34,7 @@ word_after limit history b = word_left limit (past_of limit history) b
 abbrev pub StandsAfter : ℕ → List Step → ℕ → FlagAndCount → Type 0
 StandsAfter limit history b w = Stands limit (past_of limit history) b w
 
--- P holds of every front of the steps and every block made in it
+-- P holds of every prefix of the steps and every block made in it
 abbrev pub AtEachFront : ℕ → List Step → (List Step → ℕ → Type 0) → Type 0
 AtEachFront limit steps P =
     (front later : List Step) (b : ℕ) → steps ≡ front ++ later → IsMade limit front b → P front b

@@ -12,13 +12,13 @@ use Rattle.arcstr_count.specs.declared.faults.StepFault.TheVariants.{NoHandle, I
 use Rattle.arcstr_count.specs.History.{births, block_of}
 use Rattle.arcstr_count.specs.Marks.{is_marked, state_of, living, is_only}
 
--- the state of a handle, and nothing of one that was never born
+-- the state of a handle; `None` for one that was never born
 abbrev pub handle_state : ℕ → List Step → ℕ → Option HandleState
 handle_state limit p h = if nat_lt h (births p) then Some (state_of limit p h) else None
 
 -- ---- the table of refusals, a function for each of its rows
 
--- `Look`, `Clone`, `Begin`, `Leak` and `IntoRaw` want a free handle
+-- `Look`, `Clone`, `Begin`, `Leak` and `IntoRaw` need a free handle
 abbrev pub unless_free : Option HandleState → Option StepFault
 unless_free None = Some NoHandle
 unless_free (Some Free) = None
@@ -27,7 +27,7 @@ unless_free (Some Dropping) = Some InDrop
 unless_free (Some Owing) = Some NoHandle
 unless_free (Some Gone) = Some NoHandle
 
--- `Sub` wants a dropping handle
+-- `Sub` needs a dropping handle
 abbrev pub unless_dropping : Option HandleState → Option StepFault
 unless_dropping None = Some NoHandle
 unless_dropping (Some Free) = Some NotInDrop
@@ -36,7 +36,7 @@ unless_dropping (Some Dropping) = None
 unless_dropping (Some Owing) = Some NoHandle
 unless_dropping (Some Gone) = Some NoHandle
 
--- `Back` wants an owing handle
+-- `Back` needs an owing handle
 abbrev pub unless_owing : Option HandleState → Option StepFault
 unless_owing None = Some NoHandle
 unless_owing (Some Free) = Some NotOwing
@@ -45,7 +45,7 @@ unless_owing (Some Dropping) = Some NotOwing
 unless_owing (Some Owing) = None
 unless_owing (Some Gone) = Some NotOwing
 
--- `FromRaw` wants a raw handle
+-- `FromRaw` needs a raw handle
 abbrev pub unless_raw : Option HandleState → Option StepFault
 unless_raw None = Some NoHandle
 unless_raw (Some Free) = Some NotRaw
@@ -54,7 +54,7 @@ unless_raw (Some Dropping) = Some InDrop
 unless_raw (Some Owing) = Some NoHandle
 unless_raw (Some Gone) = Some NoHandle
 
--- why a step is refused after a past, and nothing where it is accepted
+-- why a step is refused after a past; `None` where it is accepted
 abbrev pub refusal_of : ℕ → List Step → Step → Option StepFault
 refusal_of limit p Make = None
 refusal_of limit p (Look h) = unless_free (handle_state limit p h)
@@ -85,7 +85,7 @@ accepted_answer limit p (Leak h) = Marked
 accepted_answer limit p (IntoRaw h) = RawReply
 accepted_answer limit p (FromRaw h) = Unraw
 
--- the refusal where there is one, else what the accepted step answers
+-- the refusal, if there is one, else the answer of the accepted step
 abbrev pub reply_by : Option StepFault → Reply → Reply
 reply_by None reply = reply
 reply_by (Some fault) reply = Refused fault

@@ -1,7 +1,7 @@
 -- Histories of steps on counted blocks: births, the block of a handle, and what was done to it.
 --
--- A history is the list of its steps in their natural order. A past is what of it was accepted,
--- with the latest step first, so that a front of the history is a tail of the past.
+-- A history is the list of its steps in their natural order. A past has the accepted steps of a history,
+-- with the latest step first, so that a prefix of the history gives a suffix of the past.
 use Rattle.std.specs.Prelude.{ℕ, zero, suc, Bool, true, false, not, ◌&&◌, ◌==◌, if◌then◌else◌, List, [], ◌∷◌, ◌++◌}
 use Rattle.arcstr_count.specs.declared.steps.Step.{Step}
 use Rattle.arcstr_count.specs.declared.steps.Step.TheVariants.{Make, Clone, Begin, Sub, Back, IntoRaw, FromRaw}
@@ -51,7 +51,7 @@ has_subtracted [] h = false
 has_subtracted (Sub g ∷ p) h = if g == h then true else has_subtracted p h
 has_subtracted (s ∷ p) h = has_subtracted p h
 
--- the handle has given its block back
+-- the handle has freed its block
 abbrev pub has_given : List Step → ℕ → Bool
 has_given [] h = false
 has_given (Back g ∷ p) h = if g == h then true else has_given p h
@@ -61,7 +61,7 @@ has_given (s ∷ p) h = has_given p h
 
 -- The state of a handle that was born, from what was done to it: raw; else free, if its drop has not
 -- begun; else dropping, if its drop began on an unmarked block and has not subtracted; else owing, if
--- its subtraction was the last one and it has not given back; else gone.
+-- its subtraction was the last one and it has not freed its block; else gone.
 abbrev pub state_by : (raw begun unmarked subtracted last given : Bool) → HandleState
 state_by raw begun unmarked subtracted last given =
     if raw then Raw
@@ -78,7 +78,7 @@ lives Dropping = true
 lives Owing = false
 lives Gone = false
 
--- the numbers below n, in rising order
+-- the numbers below n, in ascending order
 abbrev pub numbers_below : ℕ → List ℕ
 numbers_below zero = []
 numbers_below (suc n) = numbers_below n ++ n ∷ []

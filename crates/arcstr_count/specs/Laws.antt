@@ -1,21 +1,21 @@
--- What holds in every interleaving of steps: at most once, never while a handle lives, exactly if unmarked.
+-- What holds in every interleaving: a block is freed at most once, never while a handle lives, and exactly if it is unmarked.
 use Rattle.std.specs.Prelude.{◌≡◌, ℕ, ◌+◌, ◌<◌, ◌≤◌, ◌↔◌, IsTrue, IsFalse, Some, List, [], ◌++◌, length}
 use Rattle.arcstr_count.specs.declared.steps.Step.{Step}
 use Rattle.arcstr_count.specs.Word.{looked_of}
 use Rattle.arcstr_count.specs.Summary.{WorldView, StandsFor}
 use Rattle.arcstr_count.specs.After.{AtEachFront, IsMade, StandsAfter, marked_after, living_after, dropping_after, owing_after, given_after, word_after}
 
--- P holds of every front of the steps, every front that goes on from it or is the same, and every block made in the first
+-- P holds of every prefix of the steps, every prefix that extends or equals it, and every block made in the first
 abbrev pub ThenOrLater : ℕ → List Step → (List Step → List Step → ℕ → Type 0) → Type 0
 ThenOrLater limit steps P =
     (front more later : List Step) (b : ℕ) → steps ≡ (front ++ more) ++ later → IsMade limit front b → P front (front ++ more) b
 
--- each word that a front leaves stands for the living handles: its flag is the mark; unmarked, its count is how
--- many live; marked, it is at least how many are dropping and at most limit + 1
+-- each word that a prefix leaves stands for the living handles: its flag says whether the block is marked; unmarked, its
+-- count is how many live; marked, its count is at least how many are dropping and at most limit + 1
 abbrev pub WordsStand : ℕ → List Step → Type 0
 WordsStand limit steps = AtEachFront limit steps (λ front b. StandsAfter limit front b (word_after limit front b))
 
--- at most limit + 1 handles live on an unmarked block, and a look at its word finds exactly how many
+-- at most limit + 1 handles live on an unmarked block, and a look at its word finds exactly their number
 abbrev pub LooksAreExact : ℕ → List Step → Type 0
 LooksAreExact limit steps = AtEachFront limit steps (λ front b. IsFalse (marked_after limit front b)
     → (length (living_after limit front b) ≤ limit + 1)
@@ -32,13 +32,13 @@ AtMostOneOwes limit steps = AtEachFront limit steps (λ front b.
     (length (owing_after limit front b) ≤ 1)
     × (0 < length (owing_after limit front b) → IsFalse (marked_after limit front b) × (living_after limit front b ≡ [])))
 
--- a block is given back at most once; if it was, no handle on it lives then or later
+-- a block is freed at most once; if it was, no handle on it lives then or later
 abbrev pub GivenAtMostOnce : ℕ → List Step → Type 0
 GivenAtMostOnce limit steps = ThenOrLater limit steps (λ front longer b.
     (given_after limit front b ≤ 1)
     × (given_after limit front b ≡ 1 → (living_after limit front b ≡ []) × (living_after limit longer b ≡ [])))
 
--- where no handle on a block lives and no drop of one is under way, it was given back once exactly if it is not marked
+-- where no handle on a block lives and no drop of one is under way, the block was freed once exactly if it is not marked
 abbrev pub GivenExactlyIfUnmarked : ℕ → List Step → Type 0
 GivenExactlyIfUnmarked limit steps = AtEachFront limit steps (λ front b.
     living_after limit front b ≡ [] → dropping_after limit front b ≡ [] → owing_after limit front b ≡ []

@@ -1,6 +1,6 @@
 -- Marked blocks, and the state of each handle.
 --
--- The three of the circle use each other only through shorter pasts.
+-- The three definitions of the mutual block use each other only through shorter pasts.
 use Rattle.std.specs.Prelude.{ℕ, Bool, false, not, ◌&&◌, ◌||◌, ◌==◌, nat_lt, if◌then◌else◌, List, [], ◌∷◌, length, filter}
 use Rattle.arcstr_count.specs.declared.steps.Step.{Step}
 use Rattle.arcstr_count.specs.declared.steps.Step.TheVariants.{Clone, Begin, Sub, Leak}
@@ -12,19 +12,19 @@ abbrev pub state_under : (unmarked last : ℕ → Bool) → List Step → ℕ �
 state_under unmarked last p h =
     state_by (is_raw p h) (has_begun p h) (unmarked h) (has_subtracted p h) (last h) (has_given p h)
 
--- the handles on block b that live, with the same two
+-- the handles on block b that live, by the same two functions
 abbrev pub living_under : (unmarked last : ℕ → Bool) → List Step → ℕ → List ℕ
 living_under unmarked last p b =
     filter (λ h. (block_of p h == b) && lives (state_under unmarked last p h)) (numbers_below (births p))
 
--- h is the one member of the set
+-- h is the only member of the set
 abbrev pub is_only : ℕ → List ℕ → Bool
 is_only h [] = false
 is_only h (x ∷ []) = x == h
 is_only h (x ∷ y ∷ xs) = false
 
 abbrev mutual
-  -- the block is marked: a `Leak` on it, or a `Clone` on it while more than the limit of handles lived on it
+  -- the block is marked: by a `Leak` on it, or by a `Clone` on it while more than `limit` handles lived on it
   pub is_marked : ℕ → List Step → ℕ → Bool
   is_marked limit [] b = false
   is_marked limit (Leak h ∷ p) b = (block_of p h == b) || is_marked limit p b

@@ -1,4 +1,4 @@
--- Histories of one block, told beside its word and the states of its handles: what a running block keeps.
+-- Histories of one block, beside its word and the states of its handles: what a running block keeps.
 use Rattle.std.specs.Prelude.{◌≡◌, ℕ, true, List, [], ◌∷◌, ◌++◌, map, reverse, Option, None, Some}
 use Rattle.arcstr_count.specs.declared.steps.Step.{Step}
 use Rattle.arcstr_count.specs.declared.steps.HandleState.{HandleState}
@@ -27,12 +27,12 @@ pub record Keeps (limit : ℕ) (history : List Step) (word : FlagAndCount) (seat
   pub left : word ≡ word_left limit (past_of limit history) 0
   pub states : seats ≡ states_after limit history
 
--- what a look answers: a number of handles, or nothing at a marked block
+-- what a look answers: a number of handles, or `Static` at a marked block
 abbrev pub look_reply : Option ℕ → Reply
 look_reply (Some n) = Count n
 look_reply None = Static
 
--- the history is one of one block and ends in this step, which is accepted there, and which the core answers so
+-- the history has one block and ends in this step, which is accepted there, and whose answer is this reply
 pub record EndsIn (limit : ℕ) (history : List Step) (s : Step) (reply : Reply) : Type 0 where
   pub one_block : IsOneBlock limit history
   pub front : List Step

@@ -4,7 +4,7 @@ use Rattle.arcstr_count.specs.declared.steps.HandleState.{HandleState}
 use Rattle.arcstr_count.specs.declared.steps.HandleSummary.{HandleSummary}
 use Rattle.arcstr_count.specs.Summary.{WorldView}
 
--- the state that the world keeps of a handle, and nothing of one that was never born
+-- the state that the world keeps of a handle; `None` for one that was never born
 abbrev pub state_at : WorldView → ℕ → Option HandleState
 state_at w h = option_map (λ (found : HandleSummary). found.state) (slice_get w.summary.handles h)
 

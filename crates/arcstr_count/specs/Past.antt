@@ -6,7 +6,7 @@ use Rattle.arcstr_count.specs.declared.steps.Reply.{Reply}
 use Rattle.arcstr_count.specs.History.{block_of}
 use Rattle.arcstr_count.specs.Answer.{is_accepted, answer_of}
 
--- a past with one more step: a refused one leaves it
+-- a past with one more step; a refused step leaves it unchanged
 abbrev pub with_step : ℕ → List Step → Step → List Step
 with_step limit p s = if is_accepted limit p s then s ∷ p else p
 
@@ -28,7 +28,7 @@ IsPast limit (s ∷ p) = (is_accepted limit p s ≡ true) × IsPast limit p
 abbrev pub answer_after : ℕ → List Step → Step → Reply
 answer_after limit history s = answer_of limit (past_of limit history) s
 
--- how often a block was given back
+-- how often a block was freed
 abbrev pub times_given : List Step → ℕ → ℕ
 times_given [] b = 0
 times_given (Back h ∷ p) b = if block_of p h == b then suc (times_given p b) else times_given p b

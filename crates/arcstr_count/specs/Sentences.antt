@@ -1,6 +1,6 @@
--- What the definitions on histories mean, each once more as a sentence over the fronts of a history.
+-- What the definitions on histories mean, each as a sentence about the prefixes of a history.
 --
--- A history is the list of its steps in their natural order, and a front of it is a beginning of it.
+-- A history is the list of its steps in their natural order. A prefix of it has its first n steps, for some n.
 -- The laws in `src/sentences.rt` prove each sentence equal to its definition.
 use Rattle.std.specs.Prelude.{◌≡◌, ℕ, ◌<◌, Bool, true, false, ◌&&◌, ◌==◌, ◌⊎◌, IsTrue, IsFalse, Option, None, Some}
 use Rattle.std.specs.Prelude.{List, [], ◌∷◌, ◌++◌, length, filter, take, slice_get}
@@ -17,7 +17,7 @@ use Rattle.arcstr_count.specs.Answer.{handle_state, is_accepted, unless_free, un
 use Rattle.arcstr_count.specs.Past.{past_of}
 use Rattle.arcstr_count.specs.After.{marked_after, living_after}
 
--- ---- what is defined, after a history in its natural order
+-- ---- the definitions, after a history in its natural order
 
 -- the step is accepted after the history
 abbrev pub accepted_after : ℕ → List Step → Step → Bool
@@ -34,13 +34,13 @@ births_after limit history = births (past_of limit history)
 abbrev pub block_after : ℕ → List Step → ℕ → ℕ
 block_after limit history h = block_of (past_of limit history) h
 
--- the state of a handle, and nothing of one that was never born
+-- the state of a handle; `None` for one that was never born
 abbrev pub state_after : ℕ → List Step → ℕ → Option HandleState
 state_after limit history h = handle_state limit (past_of limit history) h
 
 -- ---- steps in a history
 
--- Somewhere in the history the step is accepted, after a front of which P holds.
+-- Somewhere in the history the step is accepted, after a prefix of which P holds.
 pub record AcceptedWhere (limit : ℕ) (history : List Step) (s : Step) (P : List Step → Type 0) : Type 0 where
   pub front : List Step
   pub later : List Step
@@ -52,13 +52,13 @@ pub record AcceptedWhere (limit : ℕ) (history : List Step) (s : Step) (P : Lis
 abbrev pub HasAccepted : ℕ → List Step → Step → Type 0
 HasAccepted limit history s = AcceptedWhere limit history s (λ front. Unit {0})
 
--- the step at a place of a history is accepted after the front before it, and passes the test there
+-- the step at an index of a history is accepted after the prefix before it, and passes the test there
 abbrev pub passes_after : ℕ → List Step → (List Step → Step → Bool) → Option Step → Bool
 passes_after limit front test None = false
 passes_after limit front test (Some s) = accepted_after limit front s && test front s
 
--- The number of the history's accepted steps that pass the test: of the places i where a step stands that
--- is accepted after the first i steps, and passes the test after them.
+-- The number of the history's accepted steps that pass the test: the number of indices i at which a step stands that
+-- is accepted after the first i steps and passes the test after them.
 abbrev pub accepted_count : ℕ → List Step → (List Step → Step → Bool) → ℕ
 accepted_count limit history test =
     length (filter (λ i. passes_after limit (take i history) test (slice_get history i)) (numbers_below (length history)))
@@ -67,7 +67,7 @@ accepted_count limit history test =
 
 -- A step is accepted after a history if the state of its handle there has 'ok' in the table of refusals:
 -- a free handle for `Look`, `Clone`, `Begin`, `Leak` and `IntoRaw`, a dropping one for `Sub`, an owing one
--- for `Back` and a raw one for `FromRaw`. `Make` always is.
+-- for `Back` and a raw one for `FromRaw`. `Make` is always accepted.
 abbrev pub AcceptedSentence : ℕ → List Step → Step → Type 0
 AcceptedSentence limit history Make = Unit {0}
 AcceptedSentence limit history (Look h) = state_after limit history h ≡ Some Free
@@ -105,25 +105,25 @@ BornSentence limit history h b =
 abbrev pub Leaked : ℕ → List Step → ℕ → Type 0
 Leaked limit history b = (h : ℕ) × AcceptedWhere limit history (Leak h) (λ front. block_after limit front h ≡ b)
 
--- Handle h stands on block b, which is unmarked, and more than the limit of handles live on b.
+-- Handle h stands on block b, which is unmarked, and more than `limit` handles live on b.
 abbrev pub IsFull : ℕ → List Step → ℕ → ℕ → Type 0
 IsFull limit front h b =
     (block_after limit front h ≡ b) × IsFalse (marked_after limit front b) × (limit < length (living_after limit front b))
 
--- The history has an accepted `Clone` of a handle on block b, after a front with b unmarked and more than the
--- limit of handles living on b.
+-- The history has an accepted `Clone` of a handle on block b, after a prefix that leaves b unmarked and more than
+-- `limit` handles living on b.
 abbrev pub ClonedPastLimit : ℕ → List Step → ℕ → Type 0
 ClonedPastLimit limit history b = (h : ℕ) × AcceptedWhere limit history (Clone h) (λ front. IsFull limit front h b)
 
 -- Block b is marked after a history that has an accepted `Leak` on it, or an accepted `Clone` on it after a
--- front with b unmarked and more than the limit of handles living on b.
+-- prefix that leaves b unmarked and more than `limit` handles living on b.
 abbrev pub MarkedSentence : ℕ → List Step → ℕ → Type 0
 MarkedSentence limit history b = Leaked limit history b ⊎ ClonedPastLimit limit history b
 
 -- ---- the state of a handle
 
--- The last accepted one of `IntoRaw h` and `FromRaw h` in the history is `IntoRaw h`: it is accepted after a
--- front, and neither of the two is accepted later.
+-- The last accepted step among `IntoRaw h` and `FromRaw h` in the history is `IntoRaw h`: it is accepted after a
+-- prefix, and neither of the two is accepted later.
 pub record LastIsIntoRaw (limit : ℕ) (history : List Step) (h : ℕ) : Type 0 where
   pub front : List Step
   pub later : List Step
@@ -132,7 +132,7 @@ pub record LastIsIntoRaw (limit : ℕ) (history : List Step) (h : ℕ) : Type 0 
   pub last : (more rest : List Step) (s : Step) → later ≡ more ++ s ∷ rest → (s ≡ IntoRaw h) ⊎ (s ≡ FromRaw h)
       → IsFalse (accepted_after limit (front ++ IntoRaw h ∷ more) s)
 
--- The history has an accepted `Begin h` after a front with the block of h unmarked.
+-- The history has an accepted `Begin h` after a prefix that leaves the block of h unmarked.
 abbrev pub BeganUnmarked : ℕ → List Step → ℕ → Type 0
 BeganUnmarked limit history h =
     AcceptedWhere limit history (Begin h) (λ front. IsFalse (marked_after limit front (block_after limit front h)))
@@ -143,8 +143,8 @@ LivesAlone limit front h =
     IsFalse (marked_after limit front (block_after limit front h))
     × (living_after limit front (block_after limit front h) ≡ h ∷ [])
 
--- Handle h owes its block after a history that has an accepted `Sub h` after a front with the block unmarked
--- and h the only handle living on it, and no accepted `Back h`.
+-- Handle h owes its block after a history that has no accepted `Back h`, and has an accepted `Sub h` after a prefix
+-- that leaves the block unmarked and h the only handle living on it.
 abbrev pub OwesSentence : ℕ → List Step → ℕ → Type 0
 OwesSentence limit history h =
     AcceptedWhere limit history (Sub h) (λ front. LivesAlone limit front h)
@@ -159,9 +159,9 @@ FirstThatHolds raw free dropping owing Dropping = (¬ raw) × (¬ free) × dropp
 FirstThatHolds raw free dropping owing Owing = (¬ raw) × (¬ free) × (¬ dropping) × owing
 FirstThatHolds raw free dropping owing Gone = (¬ raw) × (¬ free) × (¬ dropping) × (¬ owing)
 
--- After a history a handle that was born is raw, if the last accepted one of `IntoRaw h` and `FromRaw h` is
--- `IntoRaw h`; else free, if the history has no accepted `Begin h`; else dropping, if that `Begin h` came
--- where its block was unmarked and the history has no accepted `Sub h`; else owing, if it owes; else gone.
+-- After a history a handle that was born is raw, if the last accepted step among `IntoRaw h` and `FromRaw h` is
+-- `IntoRaw h`; else free, if the history has no accepted `Begin h`; else dropping, if that `Begin h` came while
+-- its block was unmarked and the history has no accepted `Sub h`; else owing, if it owes; else gone.
 abbrev pub StateSentence : ℕ → List Step → ℕ → HandleState → Type 0
 StateSentence limit history h state = FirstThatHolds
     (LastIsIntoRaw limit history h)
@@ -187,21 +187,21 @@ UnderWaySentence limit history b =
     (h : ℕ) × (block_after limit history h ≡ b)
     × ((state_after limit history h ≡ Some Dropping) ⊎ (state_after limit history h ≡ Some Owing))
 
--- ---- times given
+-- ---- how often a block was freed
 
 -- `Back` of a handle whose block is b
 abbrev pub is_back_on : (block : ℕ → ℕ) → ℕ → Step → Bool
 is_back_on block b (Back h) = block h == b
 is_back_on block b s = false
 
--- How often a block was given back: the number of accepted `Back` steps on it.
+-- How often a block was freed: the number of accepted `Back` steps on it.
 abbrev pub given_count : ℕ → List Step → ℕ → ℕ
 given_count limit history b = accepted_count limit history (λ front s. is_back_on (λ h. block_after limit front h) b s)
 
 -- ---- answers
 
 -- Why a step is refused after a history: its row of the table of refusals has this fault for the state of its
--- handle there. `Make` never is.
+-- handle there. `Make` is never refused.
 abbrev pub RefusedSentence : ℕ → List Step → Step → StepFault → Type 0
 RefusedSentence limit history Make fault = ⊥
 RefusedSentence limit history (Look h) fault = unless_free (state_after limit history h) ≡ Some fault
@@ -213,7 +213,7 @@ RefusedSentence limit history (Leak h) fault = unless_free (state_after limit hi
 RefusedSentence limit history (IntoRaw h) fault = unless_free (state_after limit history h) ≡ Some fault
 RefusedSentence limit history (FromRaw h) fault = unless_raw (state_after limit history h) ≡ Some fault
 
--- The first reply where the fact holds, the second one where it does not.
+-- The first reply if the fact holds, else the second one.
 abbrev pub ByFact : Type 0 → (holds fails reply : Reply) → Type 0
 ByFact fact holds fails reply = (fact × (reply ≡ holds)) ⊎ ((¬ fact) × (reply ≡ fails))
 
@@ -221,9 +221,9 @@ ByFact fact holds fails reply = (fact × (reply ≡ holds)) ⊎ ((¬ fact) × (r
 abbrev pub IsOnMarked : ℕ → List Step → ℕ → Type 0
 IsOnMarked limit history h = IsTrue (marked_after limit history (block_after limit history h))
 
--- What an accepted step answers: a birth the number of the handle, which is how many were born before it; a look
--- `Static` at a marked block, else how many handles live on it; a beginning `Ended` on a marked block, else
--- `Looked`; a subtraction `Owes` if its block is unmarked and no other handle lives on it, else `Left`.
+-- What an accepted step answers: `Make` and `Clone` the number of handles born before it; `Look` `Static` at a marked
+-- block, else how many handles live on it; `Begin` `Ended` on a marked block, else `Looked`; `Sub` `Owes` if its block
+-- is unmarked and no other handle lives on it, else `Left`. Each other step has one reply.
 abbrev pub AcceptedAnswer : ℕ → List Step → Step → Reply → Type 0
 AcceptedAnswer limit history Make reply = reply ≡ Made (births_after limit history)
 AcceptedAnswer limit history (Look h) reply =
@@ -236,7 +236,7 @@ AcceptedAnswer limit history (Leak h) reply = reply ≡ Marked
 AcceptedAnswer limit history (IntoRaw h) reply = reply ≡ RawReply
 AcceptedAnswer limit history (FromRaw h) reply = reply ≡ Unraw
 
--- The reply to a step after a history: what it answers if it is accepted, else the fault that it is refused for.
+-- The reply to a step after a history: what it answers if it is accepted, else the fault for which it is refused.
 abbrev pub AnswerSentence : ℕ → List Step → Step → Reply → Type 0
 AnswerSentence limit history s reply =
     (AcceptedSentence limit history s × AcceptedAnswer limit history s reply)

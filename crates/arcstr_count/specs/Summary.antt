@@ -8,7 +8,7 @@ use Rattle.arcstr_count.specs.Marks.{is_marked, state_of}
 use Rattle.arcstr_count.specs.Past.{past_of, times_given}
 use Rattle.arcstr_count.specs.Left.{word_left}
 
--- what a summary keeps of a block: whether it is marked, and how often it was given back
+-- what a summary keeps of a block: whether it is marked, and how often it was freed
 pub record BlockSummary : Type 0 where
   pub marked : Bool
   pub given : ℕ

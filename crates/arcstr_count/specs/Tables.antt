@@ -9,7 +9,7 @@ use Rattle.arcstr_count.specs.Word.{FlagAndCount, fresh_word, marked_of}
 use Rattle.arcstr_count.specs.Summary.{BlockSummary, WorldView}
 use Rattle.arcstr_count.specs.Taken.{HasHistory}
 
--- what a summary keeps of a block, as its entry says it
+-- what a summary keeps of a block, according to the block's entry
 abbrev pub summary_in : BlockEntry → BlockSummary
 summary_in entry = record { marked = entry.word.flag; given = if entry.given then 1 else 0 }
 
@@ -25,14 +25,14 @@ view_of limit handles blocks = record {
 
 -- ---- tables with one entry changed
 
--- what is read past the end of a table; no world reads there
+-- what a read past the end of a table finds; no world reads there
 abbrev pub no_handle : HandleSummary
 no_handle = record { block = 0; state = Gone }
 
 abbrev pub no_block : BlockEntry
 no_block = record { word = fresh_word; given = false }
 
--- the handle is in another state, on the block that it was on
+-- the handle is in another state, on the same block
 abbrev pub handles_with_state : List HandleSummary → ℕ → HandleState → List HandleSummary
 handles_with_state handles h state =
     slice_set handles h (record { block = (slice_index_or handles h no_handle).block; state = state })
@@ -41,15 +41,15 @@ handles_with_state handles h state =
 abbrev pub blocks_with_word : List BlockEntry → ℕ → FlagAndCount → List BlockEntry
 blocks_with_word blocks b word = slice_set blocks b (record { word = word; given = (slice_index_or blocks b no_block).given })
 
--- the word of the block has the mark
+-- the word of the block has the static flag
 abbrev pub blocks_with_mark : List BlockEntry → ℕ → List BlockEntry
 blocks_with_mark blocks b = blocks_with_word blocks b (marked_of (slice_index_or blocks b no_block).word)
 
--- the block was given back
+-- the block was freed
 abbrev pub blocks_with_given : List BlockEntry → ℕ → List BlockEntry
 blocks_with_given blocks b = slice_set blocks b (record { word = (slice_index_or blocks b no_block).word; given = true })
 
--- what every world keeps: its limit is a lawful one, and it stands for a history
+-- what every world keeps: its limit is at most `RC_MAX`, and it stands for a history
 pub record IsWorld (limit : ℕ) (handles : List HandleSummary) (blocks : List BlockEntry) : Type 0 where
   pub limited : limit ≤ RC_MAX
   pub has_history : HasHistory (view_of limit handles blocks)

@@ -6,8 +6,8 @@ ghost use Rattle.arcstr_count.specs.Faults.{step_fault_number, run_fault_number,
 use std::error::Error;
 use std::fmt;
 
-/// Why a step is refused, by the state of the handle that it names. A handle has one state, so no two
-/// faults are due at once. It is shown by its name.
+/// Why a step is refused. The state of the handle that the step names decides the fault. A handle has one
+/// state, so at most one fault applies. A fault is displayed as its name.
 ///
 /// Plain data of 1 byte: it may be copied, sent and shared, and its drop does nothing.
 ///
@@ -18,7 +18,7 @@ use std::fmt;
 /// ```
 #[derive(Clone, Copy, Debug, PartialEq, Eq)]
 pub enum StepFault {
-    /// No handle of this number is there: it was never born, owes its block, or has ended.
+    /// No handle has this number: it was never born, owes its block, or has ended.
     NoHandle,
     /// The handle is dropping.
     InDrop,
@@ -28,12 +28,12 @@ pub enum StepFault {
     NotOwing,
     /// The handle is a raw value.
     IsRaw,
-    /// The handle is no raw value.
+    /// The handle is not a raw value.
     NotRaw,
 }
 
 impl StepFault {
-    /// The number of the fault, from 1, by which the reply to a script's line has it. It takes no memory.
+    /// The number of the fault, counted from 1. A script's reply contains it. The call does not allocate.
     ///
     /// ```
     /// assert_eq!(rt; StepFault::NoHandle.number(), 1);
@@ -52,7 +52,7 @@ impl StepFault {
         }
     }
 
-    /// The name of the fault, as it is printed. It takes no memory.
+    /// The name of the fault, as it is printed. The call does not allocate.
     ///
     /// ```
     /// assert_eq!(rt; StepFault::IsRaw.name(), "IsRaw");
@@ -81,8 +81,8 @@ impl fmt::Display for StepFault {
 
 impl Error for StepFault {}
 
-/// Why a world cannot be made, or a step not be taken. `LimitTooLarge` is tested first, and a world that
-/// was made answers `Memory` alone. It is shown by its text.
+/// Why a world cannot be made or a step cannot be taken. `LimitTooLarge` is tested first. Once a world exists,
+/// its only fault is `Memory`. A fault is displayed as its text.
 ///
 /// Plain data of 1 byte: it may be copied, sent and shared, and its drop does nothing.
 ///
@@ -94,13 +94,13 @@ impl Error for StepFault {}
 pub enum RunFault {
     /// The limit is above `RC_MAX`.
     LimitTooLarge,
-    /// A growth was refused: of a table, of the replies or of an answer.
+    /// Out of memory: a table, the replies or an answer could not grow.
     Memory,
 }
 
 impl RunFault {
-    /// The number of the fault, from 1, for a caller that hands faults on as numbers: here tests alone read
-    /// it. It takes no memory.
+    /// The number of the fault, counted from 1, for callers that pass faults on as numbers. In this repository
+    /// only tests read it. The call does not allocate.
     ///
     /// ```
     /// assert_eq!(rt; RunFault::LimitTooLarge.number(), 1);
@@ -115,7 +115,7 @@ impl RunFault {
         }
     }
 
-    /// The text of the fault, as it is printed. It takes no memory.
+    /// The text of the fault, as it is printed. The call does not allocate.
     ///
     /// ```
     /// assert_eq!(rt; RunFault::Memory.text(), "out of memory");

@@ -1,12 +1,12 @@
-//! The laws of every list of steps, whatever the order of its holders' acts.
+//! The laws that hold for every list of steps, in whatever order the handles act.
 
 ghost use Rattle.arcstr_count.specs.Laws.{WordsStand, LooksAreExact, MarksStay, AtMostOneOwes, GivenAtMostOnce, GivenExactlyIfUnmarked};
 
 use crate::steps::Step;
 
-/// The laws of every interleaving: for any limit, any list of steps, any front of the list and any
-/// block made in that front. It asks nothing of its caller, and does nothing when it runs: its clauses
-/// are what it is for.
+/// The laws of every interleaving: for any limit, any list of steps, any prefix of the list and any
+/// block made in that prefix. The call has no precondition and does nothing when it runs: its clauses
+/// are its purpose.
 ///
 /// ```
 /// let steps = [Step::Make, Step::Clone(0), Step::Leak(1), Step::Begin(0)];

@@ -1,4 +1,4 @@
-//! Allocations of a world's steps, refused in turn.
+//! Tests that refuse the allocations of a world's steps in turn.
 use crate::faults::RunFault;
 use crate::steps::{Reply, Step};
 use crate::worlds::World;
@@ -6,15 +6,15 @@ use linked_list_allocator::LocalHeap;
 use std::process::Abort;
 use std::test::Fail;
 
-/// The least block that a heap hands out, in bytes.
+/// The smallest block that a heap hands out, in bytes.
 const GRAIN: usize = 16;
 
-/// So many grains are room for all the steps.
+/// The number of grains that has room for all the steps.
 const GRAINS: usize = 96;
 
 const LIMIT: u64 = 9;
 
-/// A block is given back, and then handles and blocks are made until both tables have grown again.
+/// Frees a block, then makes handles and blocks until both tables have grown again.
 const STEPS: [Step; 14] = [
     Step::Make,
     Step::Begin(0),
@@ -49,16 +49,16 @@ const REPLIES: [Reply; 14] = [
     Reply::Count(1),
 ];
 
-/// A step that was refused: its place in the list, and whether one of the two tables had grown for it.
+/// A step that was refused: its index in the list, and whether one of the two tables had grown for it.
 #[derive(Clone, Copy, Debug, PartialEq, Eq)]
 struct Refusal {
     place: usize,
     grown: bool,
 }
 
-/// The refusals, from a heap that has room to one that has none. A table has room for four entries at
-/// first, and then for twice as many: so the handles grow at the first step, a `Clone` and the last
-/// `Make`, the blocks at the first step and the `Make` before the last.
+/// The refusals, from a heap with enough room down to one with none. A table first has room for four
+/// entries, and then for twice as many. So the table of handles grows at the first step, a `Clone` and the
+/// last `Make`; the table of blocks grows at the first step and the `Make` before the last.
 const REFUSALS: [Option<Refusal>; 6] = [
     None,
     Some(Refusal {
@@ -97,8 +97,8 @@ fn a_refused_step_answers_as_if_nothing_had_happened(rt: HostRuntime) -> Result<
     Ok(())
 }
 
-/// Takes the steps beside a ballast of so many bytes, which is let go at the first refusal: then the same
-/// step answers. Hands out the refusal, where there was one.
+/// Takes the steps while a ballast of `bytes` bytes is allocated. The first refusal drops the ballast, and
+/// the same step then succeeds. Returns the refusal, if there was one.
 fn first_refusal(rt: &impl Abort, heap: &LocalHeap, bytes: usize) -> Result<Option<Refusal>, Fail> {
     let mut world = World::new(heap, LIMIT)?;
     let mut ballast = Some(Vec::<u8, &LocalHeap>::with_capacity(heap, bytes)?);
@@ -125,7 +125,7 @@ fn first_refusal(rt: &impl Abort, heap: &LocalHeap, bytes: usize) -> Result<Opti
     Ok(refusal)
 }
 
-/// How often each of the six blocks was given back.
+/// How often each of the six blocks was freed.
 fn given_of_each(world: &World<&LocalHeap>) -> [u64; 6] {
     [
         world.given(0),

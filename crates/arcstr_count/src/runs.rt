@@ -12,11 +12,11 @@ use crate::words::RC_MAX;
 use crate::worlds::World;
 use std::alloc::Allocator;
 
-/// The reply to each step of a list, from the empty history on. The limit is the greatest count, in
+/// The reply to each step of a list, starting from the empty history. The limit is the greatest count, in
 /// handles, at which a clone still counts.
 ///
-/// It takes memory for the replies and for a world, which it gives back. `LimitTooLarge`, a limit above
-/// `RC_MAX`, is tested first; then `Memory` comes where memory is refused.
+/// The call allocates the replies and a world, and frees the world. It first checks for `LimitTooLarge`, a limit
+/// above `RC_MAX`; then it fails with `Memory` if an allocation fails.
 ///
 /// ```
 /// let steps = [Step::Make, Step::Clone(0), Step::Look(1)];
@@ -30,10 +30,10 @@ pub fn run<A: Allocator + Copy>(
 ) -> Result<Vec<Reply, A>, RunFault>
     ensures too_large { (result ≡ Err RunFault.LimitTooLarge) ↔ (RC_MAX < limit) }
 
-    // Each reply is the answer of the steps before its own.
+    // Each reply is the answer to its step after the steps before it.
     ensures replies { IfOk result (λ replies. AnswersEach limit steps.now replies.items) }
 
-    // What holds after every front of the steps, of every block made in it.
+    // What holds after every prefix of the steps, for every block made in it.
     ensures words_stand { WordsStand limit steps.now }
     ensures looks_exact { LooksAreExact limit steps.now }
     ensures marks_stay { MarksStay limit steps.now }
@@ -46,7 +46,7 @@ pub fn run<A: Allocator + Copy>(
     replies_of(alloc, world, steps)
 }
 
-/// The reply of a world of the empty history to each step of a list.
+/// The replies of a new world to the steps of a list.
 fn replies_of<A: Allocator + Copy>(
     alloc: A,
     mut world: World<A>,

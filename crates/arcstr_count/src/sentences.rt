@@ -1,8 +1,8 @@
-//! What the definitions on histories mean, each as a sentence over the fronts of a history.
+//! What the definitions on histories mean, each as a sentence about the prefixes of a history.
 //!
-//! A history is the list of its steps in their natural order, and a front of it is a beginning of it.
+//! A history is the list of its steps in their natural order. A prefix of it has its first n steps, for some n.
 //! Each function here does nothing: its contract is the law that a definition and its sentence are equal,
-//! for each limit and history. None asks anything of its caller.
+//! for each limit and history. No function here has a precondition.
 
 ghost use Rattle.std.specs.Prelude.{◌≡◌, ◌≢◌, ◌↔◌, ◌<◌, ◌⊎◌, IsTrue, Some, Contains, []};
 ghost use Rattle.std.specs.List.Sorted.{IsStrictlyIncreasing};
@@ -15,8 +15,8 @@ ghost use Rattle.arcstr_count.specs.Sentences.{StateSentence, OwesSentence, Livi
 
 use crate::steps::{HandleState, Reply, Step};
 
-/// Which steps are accepted: a step whose handle's state has 'ok' in the table of refusals, and `Make`
-/// always. `Look`, `Clone`, `Begin`, `Leak` and `IntoRaw` want a free handle, `Sub` a dropping one,
+/// Which steps are accepted: `Make` always, and any other step whose handle's state has 'ok' in the table
+/// of refusals. `Look`, `Clone`, `Begin`, `Leak` and `IntoRaw` need a free handle, `Sub` a dropping one,
 /// `Back` an owing one and `FromRaw` a raw one.
 /// It does nothing when it runs.
 ///
@@ -27,8 +27,8 @@ pub fn accepted_is(limit: u64, history: &[Step], step: Step)
     ensures { IsTrue (accepted_after limit history.now step) ↔ AcceptedSentence limit history.now step }
 {}
 
-/// How many handles were born and how many blocks were made: as many as the history has accepted
-/// steps `Make` and `Clone`, and accepted steps `Make`.
+/// How many handles were born and how many blocks were made: one handle for each accepted `Make` or
+/// `Clone`, and one block for each accepted `Make`.
 /// It does nothing when it runs.
 ///
 /// ```
@@ -39,9 +39,9 @@ pub fn births_are(limit: u64, history: &[Step])
     ensures blocks { makes_after limit history.now ≡ accepted_count limit history.now (λ front s. is_make s) }
 {}
 
-/// Where a handle is born, and on which block: handle h at the accepted `Make` or `Clone` with h births
-/// before it. A `Make`'s handle stands on a new block, numbered by the `Make`s before it; a `Clone`'s on
-/// the block of the handle that it names.
+/// Where a handle is born, and on which block. Handle h is born at the accepted `Make` or `Clone` with h
+/// births before it. The handle of a `Make` stands on a new block, numbered by the `Make`s before it. The
+/// handle of a `Clone` stands on the block of the handle that the step names.
 /// It does nothing when it runs.
 ///
 /// ```
@@ -53,8 +53,8 @@ pub fn born_is(limit: u64, history: &[Step], handle: u64, block: u64)
         ↔ BornSentence limit history.now handle block }
 {}
 
-/// When a block is marked: exactly after a history that has an accepted `Leak` on it, or an accepted
-/// `Clone` on it after a front with the block unmarked and more than `limit` handles living on it.
+/// When a block is marked: exactly after a history with an accepted `Leak` on it, or with an accepted
+/// `Clone` on it after a prefix that leaves it unmarked, with more than `limit` handles living on it.
 /// It does nothing when it runs.
 ///
 /// ```
@@ -65,8 +65,8 @@ pub fn marked_is(limit: u64, history: &[Step], block: u64)
     ensures { IsTrue (marked_after limit history.now block) ↔ MarkedSentence limit history.now block }
 {}
 
-/// The state of a handle that was born: raw, if the last accepted one of its `IntoRaw` and `FromRaw` is
-/// `IntoRaw`; else free, if it has no accepted `Begin`; else dropping, if that `Begin` came where its
+/// The state of a handle that was born: raw, if the last accepted step among its `IntoRaw` and `FromRaw`
+/// is `IntoRaw`; else free, if it has no accepted `Begin`; else dropping, if that `Begin` came while its
 /// block was unmarked and it has no accepted `Sub`; else owing, if it owes; else gone.
 /// It does nothing when it runs.
 ///
@@ -80,8 +80,8 @@ pub fn state_is(limit: u64, history: &[Step], handle: u64, state: HandleState)
         ↔ ((handle < births_after limit history.now) × StateSentence limit history.now handle state) }
 {}
 
-/// Which handles owe their block: those with an accepted `Sub` after a front with the block unmarked and
-/// no other handle living on it, and with no accepted `Back`.
+/// Which handles owe their block: those with no accepted `Back` and with an accepted `Sub` after a prefix
+/// that leaves the block unmarked and no other handle living on it.
 /// It does nothing when it runs.
 ///
 /// ```
@@ -93,8 +93,8 @@ pub fn owes_is(limit: u64, history: &[Step], handle: u64)
     ensures { (state_after limit history.now handle ≡ Some Owing) ↔ OwesSentence limit history.now handle }
 {}
 
-/// Which handles live on a block: those that stand on it and are free, raw or dropping. Each of them is
-/// listed once, in rising order, so that the list is as long as they are many.
+/// Which handles live on a block: those that stand on it and are free, raw or dropping. The list has each
+/// of them once, in rising order, so its length is their number.
 /// It does nothing when it runs.
 ///
 /// ```
@@ -106,7 +106,7 @@ pub fn living_is(limit: u64, history: &[Step], block: u64, handle: u64)
     ensures once { IsStrictlyIncreasing (living_after limit history.now block) }
 {}
 
-/// When a drop is under way on a block: when some handle on it is dropping or owing. The two lists have
+/// When a drop is under way on a block: when some handle on it is dropping or owing. The two lists contain
 /// exactly these handles.
 /// It does nothing when it runs.
 ///
@@ -124,7 +124,7 @@ pub fn under_way_is(limit: u64, history: &[Step], block: u64, handle: u64)
         ↔ UnderWaySentence limit history.now block }
 {}
 
-/// How often a block was given back: as often as the history has an accepted `Back` of a handle on it.
+/// How often a block was freed: once for each accepted `Back` of a handle on it.
 /// It does nothing when it runs.
 ///
 /// ```
@@ -136,10 +136,10 @@ pub fn given_is(limit: u64, history: &[Step], block: u64)
     ensures { given_after limit history.now block ≡ given_count limit history.now block }
 {}
 
-/// What a step answers. A refused one: the fault that the table of refusals has for the state of its
-/// handle. An accepted one: `Make` and `Clone` the number of births before it; `Look` `Static` at a marked
-/// block, else how many handles live on it; `Begin` `Ended` on a marked block, else `Looked`; `Sub` `Owes`
-/// if its block is unmarked and no other handle lives on it, else `Left`; each other step its one reply.
+/// What a step answers. A refused step answers the fault that the table of refusals has for the state of its
+/// handle. `Make` and `Clone` answer the number of births before them. `Look` answers `Static` at a marked
+/// block, else how many handles live on it. `Begin` answers `Ended` on a marked block, else `Looked`. `Sub`
+/// answers `Owes` if its block is unmarked and no other handle lives on it, else `Left`. Any other step has one reply.
 /// It does nothing when it runs.
 ///
 /// ```

@@ -1,8 +1,8 @@
-//! What holders of handles do, what it answers, and where it leaves their handles.
+//! What handles do, what each act answers, and the state in which it leaves the handle.
 
 use crate::faults::StepFault;
 
-/// One act of one holder. The number is that of the handle that acts.
+/// One act of one handle. The number is that of the handle that acts.
 ///
 /// Handles are numbered from 0 in order of birth over all blocks: `Make` and `Clone` give birth.
 ///
@@ -25,9 +25,9 @@ pub enum Step {
     Begin(u64),
     /// A drop that found its block unmarked takes its handle out of the count.
     Sub(u64),
-    /// The handle that was subtracted last gives the block back.
+    /// The handle that was subtracted last frees the block.
     Back(u64),
-    /// Marks the block static, for good.
+    /// Marks the block static, permanently.
     Leak(u64),
     /// The free handle becomes a raw value, which still lives.
     IntoRaw(u64),
@@ -63,7 +63,7 @@ pub enum Reply {
     Left,
     /// To `Sub` of the last living handle of an unmarked block.
     Owes,
-    /// To `Back`: the block is given back.
+    /// To `Back`: the block is freed.
     Given,
     /// To `Leak`.
     Marked,
@@ -75,7 +75,7 @@ pub enum Reply {
     Refused(StepFault),
 }
 
-/// Where a handle that was born stands. It lives while it is free, raw or dropping.
+/// The state of a handle that was born. The handle lives while it is free, raw or dropping.
 ///
 /// Plain data of 1 byte: it may be copied, sent and shared, and its drop does nothing.
 ///
@@ -92,13 +92,13 @@ pub enum HandleState {
     Raw,
     /// Its drop began, found the block unmarked, and has not subtracted yet.
     Dropping,
-    /// It was subtracted last, and has to give the block back.
+    /// It was subtracted last, and has to free the block.
     Owing,
     /// It has ended.
     Gone,
 }
 
-/// What a summary of a history keeps of a handle that was born. No call answers one: contracts speak of it.
+/// What the summary of a history keeps of a handle that was born. Contracts use it; no call returns one.
 ///
 /// Plain data of 16 bytes: it may be copied, sent and shared, and its drop does nothing.
 ///
@@ -111,6 +111,6 @@ pub enum HandleState {
 pub struct HandleSummary {
     /// The number of the block that the handle stands on.
     pub block: u64,
-    /// Where the handle stands.
+    /// The state of the handle.
     pub state: HandleState,
 }

@@ -1,4 +1,4 @@
-//! The word of a block: one number that holds its mark and its count.
+//! The count word of a block: one number that holds its static flag and its count.
 
 ghost use Rattle.std.specs.Prelude.{◌≡◌, ◌+◌, ◌/◌, ◌%◌, ◌<◌, ◌≤◌, ◌==◌, ◌^◌};
 ghost use Rattle.arcstr_count.specs.Word.{FlagAndCount, bits_of, looked_of, cloned_of, dropped_of, is_last, marked_of, fresh_word};
@@ -14,9 +14,9 @@ use std::marker::Model;
 /// ```
 pub const RC_MAX: u64 = (1 << 62) - 1;
 
-/// The word of a block: a flag, which says that the block is marked static, and a count.
+/// The count word of a block: the static flag, which says that the block is marked static, and a count.
 ///
-/// It is one `u64`: bit 0 is the flag, the other 63 bits are the count. No call on it takes memory.
+/// It is one `u64`: bit 0 is the flag, the other 63 bits are the count. No call on it allocates.
 ///
 /// Plain data of 8 bytes: it may be copied, sent and shared, and its drop does nothing.
 ///
@@ -53,7 +53,7 @@ impl Word {
         Word { bits: 2 }
     }
 
-    /// The word that a number stands for: its lowest bit is the flag, and half of it the count.
+    /// The word that a number stands for: its lowest bit is the flag, and the other 63 bits are the count.
     ///
     /// ```
     /// let word = Word::from_bits(7);
@@ -66,7 +66,7 @@ impl Word {
         Word { bits }
     }
 
-    /// The number that stands for the word: the flag, as 0 or 1, and twice the count.
+    /// The number that stands for the word: twice the count, plus 1 if the flag is set.
     ///
     /// ```
     /// assert_eq!(rt; Word::one().bits(), 2);
@@ -90,7 +90,7 @@ impl Word {
         self.bits % 2 == 1
     }
 
-    /// The count, in handles. Of an unmarked block it is the number of living handles.
+    /// The count, in handles. On an unmarked block it is the number of living handles.
     ///
     /// ```
     /// assert_eq!(rt; Word::from_bits(6).count(), 3);
@@ -103,7 +103,7 @@ impl Word {
         self.bits / 2
     }
 
-    /// What a look finds: nothing at a marked word, else the count.
+    /// What a look finds: `None` at a marked word, else the count.
     ///
     /// ```
     /// assert_eq!(rt; Word::from_bits(6).looked(), Some(3));
@@ -119,8 +119,8 @@ impl Word {
         }
     }
 
-    /// The word after a clone: a marked one as it was; where the count is above the limit, with the
-    /// mark; else with a count one higher. The caller's limit has to be at most `RC_MAX`.
+    /// The word after a clone. A marked word stays as it was; a word whose count is above the limit gets the
+    /// flag; any other word gets a count one higher. The limit has to be at most `RC_MAX`.
     ///
     /// ```
     /// assert_eq!(rt; Word::from_bits(2).cloned(1), Word::from_bits(4));
@@ -139,8 +139,8 @@ impl Word {
         }
     }
 
-    /// The word after a subtraction, whose count is one lower, and whether it was the last one: the
-    /// word was unmarked with count 1. The caller's word has to count a handle: its count is above 0.
+    /// The word after a subtraction, with a count one lower, and whether the subtraction was the last one: the
+    /// word was unmarked with count 1. The word has to count a handle: its count is above 0.
     ///
     /// ```
     /// let (word, last) = Word::one().dropped();
@@ -160,7 +160,7 @@ impl Word {
         )
     }
 
-    /// The word after a mark: the count stays.
+    /// The word with the flag set. The count stays.
     ///
     /// ```
     /// assert_eq!(rt; Word::from_bits(6).with_mark(), Word::from_bits(7));

@@ -19,10 +19,10 @@ use std::marker::Model;
 
 /// Counted blocks and their handles, which answer one step at a time.
 ///
-/// It keeps a table of states by the number of the handle, a table of words by the number of the
-/// block, and the limit on the count of a block: a step costs a fixed time, but for growth. The tables
-/// take memory of the allocator, and give it back when the world is dropped. It may be sent and shared
-/// where its allocator may, and has 56 bytes where that has none.
+/// A world keeps a table of states by the number of the handle, a table of words by the number of the
+/// block, and the limit on the count of a block. A step takes constant time, except when a table grows. The
+/// tables take memory from the allocator, and the drop of the world frees it. A world can be sent and shared
+/// where its allocator can, and has 56 bytes where the allocator has none.
 ///
 /// ```
 /// let mut world = World::new(rt.alloc(), 2)?;
@@ -37,7 +37,7 @@ pub struct World<A: Allocator> {
     blocks: Vec<BlockEntry, A>,
 }
 
-/// The word of a block, and whether the block was given back.
+/// The word of a block, and whether the block was freed.
 #[derive(Clone, Copy)]
 struct BlockEntry {
     word: Word,
@@ -56,8 +56,8 @@ impl<A: Allocator> Model for World<A> {
 }
 
 impl<A: Allocator + Copy> World<A> {
-    /// A world of the empty history, whose clones count up to the limit, in handles. It asks for no memory:
-    /// its one refusal is `LimitTooLarge`, a limit above `RC_MAX`.
+    /// A world of the empty history, whose clones count up to the limit, in handles. The call does not allocate.
+    /// It fails only with `LimitTooLarge`, for a limit above `RC_MAX`.
     ///
     /// ```
     /// assert!(rt; World::new(rt.alloc(), RC_MAX).is_ok());
@@ -79,10 +79,10 @@ impl<A: Allocator + Copy> World<A> {
         })
     }
 
-    /// Answers a step, and takes it where it is accepted. A refused step is answered, and changes nothing.
+    /// Answers a step, and takes it if it is accepted. A refused step has an answer too, and changes nothing.
     ///
-    /// Only an accepted `Make` or `Clone` asks for memory; where there is none the one fault, `Memory`, comes,
-    /// and the world is as it was.
+    /// Only an accepted `Make` or `Clone` allocates. If that fails, the call fails with `Memory`, its only fault,
+    /// and the world is unchanged.
     ///
     /// ```
     /// let mut world = World::new(rt.alloc(), 2)?;
@@ -113,8 +113,8 @@ impl<A: Allocator + Copy> World<A> {
         }
     }
 
-    /// How often the block of this number was given back: 0 or 1 times, and 0 for a block that was never
-    /// made. It takes no memory.
+    /// How often the block with this number was freed: 0 or 1 times, and 0 for a block that was never made.
+    /// The call does not allocate.
     ///
     /// ```
     /// let mut world = World::new(rt.alloc(), 2)?;
@@ -132,8 +132,8 @@ impl<A: Allocator + Copy> World<A> {
     }
 
     /// The law that each world stands for at least one history, and the laws of every interleaving for
-    /// each history that it stands for: what holds after every front of it, of every block made in it.
-    /// It does nothing when it runs: its clauses are what it is for.
+    /// each history that it stands for: what holds after every prefix of it, for every block made in it.
+    /// It does nothing when it runs: its clauses are its purpose.
     ///
     /// ```
     /// let mut world = World::new(rt.alloc(), 2)?;
@@ -150,12 +150,12 @@ impl<A: Allocator + Copy> World<A> {
         ensures given_once { InEachHistoryOf self.now GivenAtMostOnce }
         ensures given_exactly { InEachHistoryOf self.now GivenExactlyIfUnmarked }
     {
-        // A clause has the invariant of what is behind a `&` once the body reads it; without this read
+        // A clause knows the invariant of a value behind a `&` once the body reads the value. Without this read
         // nothing is known of the world.
         let _limit = self.limit;
     }
 
-    /// What the world keeps of a handle, and nothing of one that was never born.
+    /// What the world keeps of a handle; `None` for one that was never born.
     fn known_handle(&self, handle: u64) -> Option<HandleSummary>
         ensures value { result ≡ slice_get self.now.summary.handles handle }
         ensures found { IfSome result (λ found. IsAt self.now handle found.block found.state) }
@@ -163,7 +163,7 @@ impl<A: Allocator + Copy> World<A> {
         entry_at(&self.handles, handle)
     }
 
-    /// Why a step that wants a free handle is refused, or the block of the free handle.
+    /// Why a step that needs a free handle is refused, or the block of the free handle.
     fn free_handle(&self, handle: u64) -> Result<u64, StepFault>
         ensures refused { IfErr result (λ fault. unless_free (state_at self.now handle) ≡ Some fault) }
         ensures found { IfOk result (λ block. IsAt self.now handle block HandleState.Free) }
@@ -345,7 +345,7 @@ impl<A: Allocator + Copy> World<A> {
     }
 }
 
-/// How often a block was given back by what its entry says, and 0 times where it has none.
+/// How often a block was freed, according to its entry; 0 if it has no entry.
 fn given_by_entry(entry: Option<BlockEntry>) -> u64
     ensures made { IfSome entry (λ found. result ≡ (if found.given then 1 else 0)) }
     ensures unmade { IsNone entry → result ≡ 0 }
@@ -356,7 +356,7 @@ fn given_by_entry(entry: Option<BlockEntry>) -> u64
     }
 }
 
-/// What becomes of a free handle whose drop looks at this word, and the reply: it ends at a mark.
+/// The next state of a free handle whose drop looks at this word, and the reply. At a marked word it ends.
 fn after_begin(word: Word) -> (HandleState, Reply)
     ensures state { result.0 ≡ (if word.flag then HandleState.Gone else HandleState.Dropping) }
     ensures reply { result.1 ≡ (if word.flag then Reply.Ended else Reply.Looked) }
@@ -368,7 +368,7 @@ fn after_begin(word: Word) -> (HandleState, Reply)
     }
 }
 
-/// What becomes of a dropping handle that subtracts, and the reply: it owes its block where its
+/// The next state of a dropping handle that subtracts, and the reply. The handle owes its block if its
 /// subtraction was the last one.
 fn after_sub(last: bool) -> (HandleState, Reply)
     ensures state { result.0 ≡ (if last then HandleState.Owing else HandleState.Gone) }
@@ -381,7 +381,7 @@ fn after_sub(last: bool) -> (HandleState, Reply)
     }
 }
 
-/// Room for one more entry in each of the two tables. A refusal comes before either changes.
+/// Makes room for one more entry in each of the two tables. A failure leaves the entries of both unchanged.
 fn make_room<A: Allocator>(
     handles: &mut Vec<HandleSummary, A>,
     blocks: &mut Vec<BlockEntry, A>,
@@ -398,7 +398,7 @@ fn make_room<A: Allocator>(
     Ok(())
 }
 
-/// Puts a free handle of this block at the end of the table, and answers its number.
+/// Appends a free handle on this block to the table, and returns its number.
 fn push_handle<A: Allocator>(handles: &mut Vec<HandleSummary, A>, block: u64) -> u64
     requires { vec_len handles.old < vec_capacity handles.old }
     ensures number { result ≡ length handles.old.items }
@@ -415,14 +415,14 @@ fn push_handle<A: Allocator>(handles: &mut Vec<HandleSummary, A>, block: u64) ->
     number
 }
 
-/// The entry of a table at a number, and nothing past its end.
+/// The entry of a table at a number; `None` past the end of the table.
 fn entry_at<T: Copy>(table: &[T], number: u64) -> Option<T>
     ensures { result ≡ slice_get table.now number }
 {
     table.get(number as usize).copied()
 }
 
-/// Puts an entry at the end of a table that has room for it.
+/// Appends an entry to a table that has room for it.
 fn push_entry<T: Drop, A: Allocator>(table: &mut Vec<T, A>, entry: T)
     requires { vec_len table.old < vec_capacity table.old }
     ensures { table.new.items ≡ table.old.items ++ entry ∷ [] }
@@ -430,7 +430,7 @@ fn push_entry<T: Drop, A: Allocator>(table: &mut Vec<T, A>, entry: T)
     let _ = table.push(entry);
 }
 
-/// Puts a handle into another state.
+/// Sets the state of a handle.
 fn set_state<A: Allocator>(handles: &mut Vec<HandleSummary, A>, handle: u64, state: HandleState)
     requires { handle < vec_len handles.old }
     ensures { handles.new.items ≡ handles_with_state handles.old.items handle state }
@@ -438,7 +438,7 @@ fn set_state<A: Allocator>(handles: &mut Vec<HandleSummary, A>, handle: u64, sta
     handles[handle as usize].state = state;
 }
 
-/// Puts another word on a block.
+/// Sets the word of a block.
 fn set_word<A: Allocator>(blocks: &mut Vec<BlockEntry, A>, block: u64, word: Word)
     requires { block < vec_len blocks.old }
     ensures { blocks.new.items ≡ blocks_with_word blocks.old.items block word }
@@ -455,7 +455,7 @@ fn set_mark<A: Allocator>(blocks: &mut Vec<BlockEntry, A>, block: u64)
     set_word(blocks, block, word.with_mark());
 }
 
-/// Writes down that a block was given back.
+/// Records that a block was freed.
 fn set_given<A: Allocator>(blocks: &mut Vec<BlockEntry, A>, block: u64)
     requires { block < vec_len blocks.old }
     ensures { blocks.new.items ≡ blocks_with_given blocks.old.items block }

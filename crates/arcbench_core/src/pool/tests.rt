@@ -6,15 +6,15 @@ use std::test::Fail;
 /// How often a worker looks for the others: for many seconds, since other programs may keep them from starting.
 const LOOKS: u64 = 10_000_000_000;
 
-/// Nothing waits here.
+/// A gate at which no worker waits.
 struct OpenGate;
 
 impl Gate for OpenGate {
     fn pass(&self, _worker: usize) {}
 }
 
-/// A gate at which each worker waits until all of them have arrived. It counts the workers that then see the
-/// clone of each worker, beside the caller's handle and the gate's own.
+/// A gate at which each worker waits until all workers have arrived. It counts the workers that then see the
+/// clones of all workers, besides the caller's handle and the gate's own.
 #[derive(Drop)]
 struct Meeting {
     text: ArcStr,
@@ -50,7 +50,7 @@ fn each_worker_hands_its_clone_back(rt: HostRuntime) -> Result<(), Fail> {
     Ok(())
 }
 
-/// A body that starts fewer threads than there are workers lets the first worker wait in vain. A worker that
+/// If a body starts fewer threads than there are workers, the first worker waits in vain. A worker that
 /// passes before it clones misses its own clone.
 #[test]
 fn all_workers_meet_with_their_clones(rt: HostRuntime) -> Result<(), Fail> {
@@ -69,8 +69,8 @@ fn all_workers_meet_with_their_clones(rt: HostRuntime) -> Result<(), Fail> {
     Ok(())
 }
 
-/// For `rt try --test --fail-alloc N`, which refuses the request N: all handles, or a fault after which
-/// no clone lives. With ample memory, as in the gate, only the first is seen.
+/// For `rt try --test --fail-alloc N`, which refuses allocation N: the call gives all handles, or a fault after
+/// which no clone lives. With ample memory, as in the gate, the test sees only the first.
 #[test]
 fn a_refused_call_leaves_one_handle(rt: HostRuntime) {
     let Ok(text) = ArcStr::from_str(rt.alloc(), "foobar") else {

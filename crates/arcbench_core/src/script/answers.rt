@@ -10,11 +10,11 @@ use super::reply::push_reply;
 use arcstr::count::{RunFault, World};
 use std::alloc::Allocator;
 
-/// The answer to a script: `bad limit` where its first line sets no limit, else a line for each of the
+/// The answer to a script: `bad limit` if its first line sets no limit, else a line for each of the
 /// other lines, with the reply to its step or `bad`.
 ///
-/// `LimitTooLarge` comes exactly where the limit is above `RC_MAX`, and `Memory` only where a growth was
-/// refused. The time is linear in the length of the script.
+/// The call fails with `LimitTooLarge` exactly if the limit is above `RC_MAX`, and with `Memory` only if an
+/// allocation fails. The time is linear in the length of the script.
 ///
 /// ```
 /// let answer = script::answer(rt.alloc(), b"limit 5\nmake\nlook 0\n")?;
@@ -62,7 +62,7 @@ fn answer_under<A: Allocator + Copy>(
     Ok(out.into_bytes())
 }
 
-/// Appends the answer to each line of bytes, of a world that has taken no step.
+/// Appends the answer to each line of the bytes, by a world that has taken no step.
 fn answer_lines<A: Allocator + Copy>(
     world: &mut World<A>,
     out: &mut String<A>,

@@ -1,4 +1,4 @@
-//! A script from a reader, and its answer to a writer.
+//! Runs a script: reads it from a reader, and writes its answer to a writer.
 ghost use Rattle.std.specs.Prelude.{◌≡◌, ◌≢◌, ◌↔◌, ◌⊎◌, false, IsTrue, IfOk, IfErr, OnOk, IfSome, Some, Err};
 ghost use Rattle.std.specs.Io.KnownBytes.{IsAtEnd};
 ghost use Rattle.arcstr_count.specs.declared.faults.RunFault.TheVariants.{LimitTooLarge as RunLimitTooLarge};
@@ -31,7 +31,7 @@ pub enum CopyFault {
 }
 
 impl CopyFault {
-    /// The number of the fault, from 1.
+    /// The number of the fault, counted from 1.
     ///
     /// ```
     /// assert_eq!(rt; CopyFault::Io.number(), 3);
@@ -85,11 +85,11 @@ impl From<RunFault> for CopyFault {
 
 /// Reads a script to its end and writes its answer.
 ///
-/// While reading, `Io` or `Memory`, whichever comes first; then the faults of `answer`; while writing,
-/// `Io`. All memory is asked for before the first write, so only a fault of writing can leave a part of
-/// the answer written.
+/// Errors, in this order: while reading, `Io` or `Memory`, whichever comes first; then the faults of
+/// `answer`; while writing, `Io`. All allocations come before the first write, so only a fault of writing
+/// can leave a part of the answer written.
 ///
-/// A body that always answers `Memory` is caught by the test `copies_the_answer_to_a_script`.
+/// The test `copies_the_answer_to_a_script` catches a body that always answers `Memory`.
 ///
 /// ```
 /// let mut written = Vec::new(rt.alloc());
@@ -114,7 +114,7 @@ pub fn copy<A: Allocator + Copy, R: Read, W: Write>(
         → IfSome (R.remaining input.old.value) (λ script.
         (result ≡ Err CopyFault.LimitTooLarge) ↔ (answer_to script ≡ Err RunLimitTooLarge)) }
 
-    // Nothing was written after any fault but one of writing.
+    // Nothing was written after any fault except one of writing.
     ensures unwritten { IfErr result (λ fault. fault ≢ CopyFault.Io → output.new ≡ output.old) }
     ensures unwritten_unread { IsTrue input.new.failed → output.new ≡ output.old }
 {
@@ -126,7 +126,7 @@ pub fn copy<A: Allocator + Copy, R: Read, W: Write>(
     }
 }
 
-/// Reads all bytes that are left. Each error of a read ends it, also one of an interrupted read.
+/// Reads all bytes that are left. Any error of a read ends it, including that of an interrupted read.
 pub(crate) fn read_to_end<A: Allocator, R: Read>(
     alloc: A,
     input: &mut Port<R>,

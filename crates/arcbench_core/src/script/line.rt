@@ -11,14 +11,14 @@ ghost use Rattle.arcbench_core.specs.Line.{is_decimal, number_of, step_named, st
 use arcstr::count::Step;
 use std::str;
 
-/// The place of the first `byte`.
+/// The index of the first `byte`.
 fn place_of(bytes: &[u8], byte: u8) -> Option<usize>
     ensures { result ≡ position (λ b. b == byte) bytes.now }
 {
     bytes.iter().position(|b| *b == byte)
 }
 
-/// The bytes before the first `byte` and those after it; all of them and none where it is not there.
+/// The bytes before the first `byte` and those after it; if there is none, all bytes and no bytes.
 fn parts_at(bytes: &[u8], byte: u8) -> (&[u8], &[u8])
     ensures front { result.0.now ≡ before_first (λ b. b == byte) bytes.now }
     ensures back { result.1.now ≡ after_first (λ b. b == byte) bytes.now }
@@ -63,7 +63,7 @@ pub fn number_of(text: &[u8]) -> Option<u64>
     read_number(text)
 }
 
-/// The number that is read, whatever it means in decimal.
+/// The value of a NUMBER, by the definition of `number_of`.
 fn read_number(text: &[u8]) -> Option<u64>
     ensures { result ≡ number_of text.now }
 {
@@ -80,7 +80,7 @@ fn is_text(bytes: &[u8], text: &str) -> bool
     bytes == text.as_bytes()
 }
 
-/// The step that a word means of a handle.
+/// The step that a command stands for, on this handle.
 fn step_named(word: &[u8], handle: u64) -> Option<Step>
     ensures { result ≡ step_named word.now handle }
 {
@@ -105,7 +105,7 @@ fn step_named(word: &[u8], handle: u64) -> Option<Step>
     }
 }
 
-/// The step of a line: `make`, or a word, one space, and the number of a handle. Another line has none.
+/// The step of a line: `make`, or a command, one space, and the number of a handle. Any other line has none.
 pub(crate) fn step_of(line: &[u8]) -> Option<Step>
     ensures value { result ≡ step_of line.now }
     ensures written { IfSome result (λ step. line.now ≡ line_text step) }
@@ -114,7 +114,7 @@ pub(crate) fn step_of(line: &[u8]) -> Option<Step>
     read_step(line)
 }
 
-/// The step that is read, whatever lines there are for it.
+/// The step of a line, by the definition of `step_of`.
 fn read_step(line: &[u8]) -> Option<Step>
     ensures { result ≡ step_of line.now }
 {
@@ -125,7 +125,7 @@ fn read_step(line: &[u8]) -> Option<Step>
     step_named(word, number_of(number)?)
 }
 
-/// The limit that a first line `limit NUMBER` sets. Another line sets none.
+/// The limit that a first line `limit NUMBER` sets. Any other line sets none.
 pub(crate) fn limit_of(line: &[u8]) -> Option<u64>
     ensures value { result ≡ limit_of line.now }
     ensures written { IfSome result (λ n. line.now ≡ limit_text n) }

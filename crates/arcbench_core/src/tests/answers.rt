@@ -3,7 +3,7 @@ use crate::script::answer;
 use std::process::Abort;
 use std::test::Fail;
 
-/// Asserts that the script is answered so.
+/// Asserts that this is the answer to the script.
 fn expect<R: Abort + AllocGlobal>(rt: &R, script: &[u8], want: &str) {
     match answer(rt.alloc(), script) {
         Ok(out) => assert_eq!(rt; out.as_slice(), want.as_bytes(), "{script:?}"),

@@ -1,4 +1,4 @@
-//! Copies of a script's answer, with each read and each write failing in turn, and of a long script.
+//! Runs of a script, with each read and each write failing in turn, and of a long script.
 use super::fakes::{FakeReader, FakeWriter, NEVER};
 use super::texts::{FIRST_ANSWER, FIRST_SCRIPT};
 use crate::port::Port;
@@ -7,14 +7,14 @@ use linked_list_allocator::LocalHeap;
 use std::alloc::{AllocError, Allocator, Global};
 use std::test::Fail;
 
-/// What a copy of the first script answered, and what it wrote.
+/// What a run of the first script returned, and what it wrote.
 #[derive(Drop)]
 pub struct Copied {
     pub result: Result<(), CopyFault>,
     pub written: Vec<u8>,
 }
 
-/// Copies the first script from a reader and to a writer that fail at these calls.
+/// Runs the first script, from a reader and to a writer that fail at these calls.
 pub fn copy_first_script<A: Allocator + Copy>(
     alloc: A,
     global: Global,
@@ -38,7 +38,7 @@ fn copies_the_answer_to_a_script(rt: HostRuntime) {
     assert_eq!(rt; found.written.as_slice(), FIRST_ANSWER.as_bytes());
 }
 
-/// The 49 bytes of the script take 17 reads of three bytes, and one that finds the end.
+/// The 49 bytes of the script take 17 reads of three bytes, and one read that finds the end.
 #[test]
 fn writes_nothing_after_a_fault_of_reading(rt: HostRuntime) {
     for read in 0..18 {
@@ -48,7 +48,7 @@ fn writes_nothing_after_a_fault_of_reading(rt: HostRuntime) {
     }
 }
 
-/// The 44 bytes of the answer take 22 writes of two bytes, and two are taken by each before the fault.
+/// The 44 bytes of the answer take 22 writes of two bytes. Each write before the fault writes two of them.
 #[test]
 fn writes_a_front_before_a_fault_of_writing(rt: HostRuntime) -> Result<(), Fail> {
     for write in 0..22 {
@@ -60,11 +60,11 @@ fn writes_a_front_before_a_fault_of_writing(rt: HostRuntime) -> Result<(), Fail>
     Ok(())
 }
 
-/// The least block that a heap hands out, in bytes.
+/// The smallest block that a heap hands out, in bytes.
 const GRAIN: usize = 16;
 
-/// With room for a grain, memory is refused while the script is read: a fault of a read before that is
-/// `Io`, and one of a read after it is not met.
+/// With room for one grain, an allocation fails while the script is read. A fault of a read before that is
+/// `Io`; a fault of a read after it is not reached.
 #[test]
 fn the_first_of_reading_and_memory_is_answered(rt: HostRuntime) -> Result<(), Fail> {
     let mut refused = false;
@@ -88,7 +88,7 @@ fn the_first_of_reading_and_memory_is_answered(rt: HostRuntime) -> Result<(), Fa
 /// How many clones a script of 100,000 bytes makes.
 const CLONES: u64 = 12_497;
 
-/// A script that clones one handle so often, and looks.
+/// A script that clones one handle this often, and looks.
 fn long_script(alloc: Global) -> Result<String, AllocError> {
     let mut script = String::from_str(alloc, "limit 100000\nmake\n")?;
     for _ in 0..CLONES {

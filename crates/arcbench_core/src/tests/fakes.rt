@@ -1,4 +1,4 @@
-//! A reader and a writer that fail at one call, and work at each other one.
+//! A reader and a writer that fail at one call, and work at every other call.
 use std::io;
 use std::io::{ErrorKind, Read, Write};
 
@@ -28,7 +28,7 @@ impl Read for FakeReader<'_> {
         let number = self.reads;
         self.reads = number.wrapping_add(1);
         if number == self.fails_at {
-            // Whoever tries an interrupted read again gets the other bytes, and no error.
+            // A caller that repeats an interrupted read gets the remaining bytes, and no error.
             return Err(io::Error::from(ErrorKind::Interrupted));
         }
         let count = self.rest.len().min(buf.len()).min(3);

@@ -108,8 +108,8 @@ fn refuses_a_limit(rt: HostRuntime) -> Result<(), Fail> {
     Ok(())
 }
 
-/// The 49 bytes of the script take 17 reads of three bytes, and one that finds the end. The 44 bytes of the
-/// answer take 22 writes of two bytes, and two are taken by each before the fault.
+/// The 49 bytes of the script take 17 reads of three bytes, and one read that finds the end. The 44 bytes of
+/// the answer take 22 writes of two bytes. Each write before the fault writes two of them.
 #[test]
 fn fails_at_each_read_and_write(rt: HostRuntime) -> Result<(), Fail> {
     for read in 0..20 {

@@ -1,4 +1,4 @@
-//! The words for callers in threads.
+//! The arguments for callers in threads.
 use super::fakes::{FakeWriter, NEVER};
 use super::statuses::{NO_FAULT, expect, run_program};
 use super::texts::{NO_MEMORY, NO_THREAD, USAGE};
@@ -50,8 +50,8 @@ fn a_fault_of_writing_ends_the_callers_too(rt: HostRuntime) -> Result<(), Fail> 
     Ok(())
 }
 
-/// A test cannot take the machine's memory or threads away, so what the program does with a fault of the
-/// pool is asked for itself.
+/// A test cannot take the machine's memory or threads away. So this one checks directly what the program does
+/// with a fault of the pool.
 #[test]
 fn faults_of_the_pool_have_their_lines(rt: HostRuntime) -> Result<(), Fail> {
     let faults = [

@@ -1,4 +1,4 @@
-//! The words for tokens.
+//! The arguments for tokens.
 use super::statuses::{FailsAt, NO_FAULT, expect, run_on_bytes, run_program};
 use super::texts::{IO, LINES, NOT_UTF8, USAGE, WORDS_OF_LINES};
 use std::test::Fail;
@@ -60,7 +60,7 @@ fn other_counts_are_other_words(rt: HostRuntime) -> Result<(), Fail> {
     Ok(())
 }
 
-/// The 17 bytes of the lines take six reads of three bytes, and one that finds the end.
+/// The 17 bytes of the lines take six reads of three bytes, and one read that finds the end.
 #[test]
 fn fails_at_each_read(rt: HostRuntime) -> Result<(), Fail> {
     for read in 0..7 {
@@ -71,7 +71,7 @@ fn fails_at_each_read(rt: HostRuntime) -> Result<(), Fail> {
     Ok(())
 }
 
-/// The 42 bytes of the words take 21 writes of two bytes, and two are taken by each before the fault.
+/// The 42 bytes of the words take 21 writes of two bytes. Each write before the fault writes two of them.
 #[test]
 fn fails_at_each_write(rt: HostRuntime) -> Result<(), Fail> {
     for write in 0..21 {

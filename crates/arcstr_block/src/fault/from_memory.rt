@@ -1,4 +1,4 @@
-//! Want of memory as a fault of a text, so that `?` serves in one function for texts and for vectors.
+//! Converts an allocation failure to a fault of a text, so that one function can use `?` for texts and for vectors.
 use crate::fault::TextFault;
 use std::alloc::{AllocError, AllocFailed};
 
@@ -13,7 +13,7 @@ impl From<AllocError> for TextFault {
     }
 }
 
-/// What could not be stored is dropped.
+/// The value that could not be stored is dropped.
 impl<T: Drop> From<AllocFailed<T>> for TextFault {
     ghost use Rattle.std.specs.Prelude.{◌≡◌};
     ghost use Rattle.arcstr_block.specs.declared.fault.TextFault.TheVariants.{Memory};

@@ -1,4 +1,4 @@
-//! A fault of a text as one of reading and writing, so that `?` serves in a function that does both.
+//! Converts a fault of a text to an `io::Error`, so that a function that makes texts and does I/O can use `?` for both.
 use crate::fault::TextFault;
 use std::io;
 use std::io::ErrorKind;
@@ -10,7 +10,7 @@ impl From<TextFault> for io::Error {
 
     ghost from_gives = { λ fault error. error_kind error ≡ text_fault_kind fault };
 
-    /// `InvalidInput` of a text that is too long, `OutOfMemory`, and `InvalidData` of bytes that are not UTF-8.
+    /// `InvalidInput` for a text that is too long, `OutOfMemory`, and `InvalidData` for bytes that are not UTF-8.
     fn from(fault: TextFault) -> io::Error {
         match fault {
             TextFault::Length => io::Error::new(ErrorKind::InvalidInput, "text is too long"),

@@ -10,7 +10,7 @@ fn a_closure_fills_no_bytes(rt: HostRuntime) -> Result<(), Fail> {
     Ok(())
 }
 
-/// There may be `usize::MAX` copies of nothing, and none of them is counted out.
+/// There may be `usize::MAX` copies of an empty text. They are not made one by one.
 #[test]
 fn copies_of_nothing_are_made_at_once(rt: HostRuntime) -> Result<(), Fail> {
     let made = Shared::<5, _>::repeat(rt.alloc(), "", usize::MAX)?;
@@ -44,12 +44,12 @@ fn one_byte_is_filled_and_a_text_is_copied_twice(rt: HostRuntime) -> Result<(), 
     Ok(())
 }
 
-/// A text of 64 bytes. Its block has 80, to which a heap adds nothing: it rounds sizes up to a multiple of 16.
+/// A text of 64 bytes. Its block has 80, to which a heap adds nothing: a heap rounds sizes up to a multiple of 16.
 const TEXT: &str = "0123456789abcdef0123456789abcdef0123456789abcdef0123456789abcdef";
 
 const BLOCK: usize = 80;
 
-/// The greatest heap that does not hold the block.
+/// The size of the largest heap that does not hold the block.
 const TOO_SMALL: usize = 64;
 
 #[test]
@@ -124,7 +124,7 @@ fn a_heap_that_is_too_small_refuses_each_making(rt: HostRuntime) -> Result<(), F
     Ok(())
 }
 
-/// Refused memory comes before bytes that are no text: the closure, which leaves some, is not run.
+/// An allocation failure is reported before bytes that are not UTF-8: the closure that leaves such bytes does not run.
 #[test]
 fn a_fill_without_memory_does_not_run_its_closure(rt: HostRuntime) -> Result<(), Fail> {
     let heap = LocalHeap::new(rt.alloc(), TOO_SMALL)?;
@@ -138,7 +138,7 @@ fn a_fill_without_memory_does_not_run_its_closure(rt: HostRuntime) -> Result<(),
     Ok(())
 }
 
-/// Whether a text of this length, from within a longer one, is read back whole.
+/// Whether a text of this length, taken from a longer one, is read back whole.
 fn is_read_back(alloc: Global, long: &str, len: usize) -> Result<bool, TextFault> {
     let Some(text) = long.get(..len) else {
         return Ok(false);

@@ -1,4 +1,4 @@
--- Each handle keeps the promise of its thread, which is of the worker of its own number.
+-- Each handle keeps the promise of its thread, which is that of the worker with the handle's own number.
 use Rattle.std.proofs.Common.{◌∙◌, ap}
 use Rattle.arcbench_core.proofs.pool.joined.Goals as goal
 

@@ -2,7 +2,7 @@ use Rattle.arcbench_core.proofs.Utf8Known.{says_by_status}
 use Rattle.arcbench_core.proofs.program.serve.Goals.{in-None, in-Some-Script, in-Some-Threads, in-Some-Tokens}
 use Rattle.arcbench_core.proofs.program.serve.Goals as goal
 
--- of the commands only `tokens` asks whether its input is UTF-8
+-- only the command `tokens` checks whether its input is UTF-8
 pub returns-clause-not_utf8 : goal.returns-clause-not_utf8
 returns-clause-not_utf8 g c no_memory no_io (n, tokens) =
     elim c.match-command_of.branch [

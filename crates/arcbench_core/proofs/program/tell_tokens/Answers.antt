@@ -3,7 +3,7 @@ use Rattle.arcbench_core.specs.declared.tokens.TokensFault.TheVariants.{NotUtf8}
 use Rattle.arcbench_core.proofs.Utf8Known.{same_sign, says_of_input}
 use Rattle.arcbench_core.proofs.program.tell_tokens.Goals as goal
 
--- where the lines were written the input was UTF-8
+-- if the lines were written, the input was UTF-8
 pub returns-in-Ok-write_all-clause-not_utf8 : goal.returns-in-Ok-write_all-clause-not_utf8
 returns-in-Ok-write_all-clause-not_utf8 g c no_memory no_io =
     let read = rw c.deref.ensures.value at c.answer.ensures.not_utf8 in

@@ -1,4 +1,4 @@
--- So far the lines of the workers that were passed are appended.
+-- The lines of the workers so far are appended.
 use Rattle.std.proofs.Common.{◌≡◌, ◌++◌, string_bytes}
 use Rattle.arcbench_core.specs.Threads.{worker_lines}
 use Rattle.arcbench_core.proofs.threads.push_lines.Given as goal

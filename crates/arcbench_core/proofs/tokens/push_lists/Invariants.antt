@@ -1,4 +1,4 @@
--- So far the lines of the lists that were passed are appended.
+-- The lines of the lists so far are appended.
 use Rattle.std.proofs.Common.{◌≡◌, ◌++◌, take, string_bytes}
 use Rattle.arcbench_core.specs.TokenLines.{lines_of_lists}
 use Rattle.arcbench_core.proofs.tokens.push_lists.Given as goal

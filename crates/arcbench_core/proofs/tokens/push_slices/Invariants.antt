@@ -1,4 +1,4 @@
--- So far the lines of the slices that were passed are appended.
+-- The lines of the slices so far are appended.
 use Rattle.std.proofs.Common.{◌≡◌, ◌++◌, take, string_bytes}
 use Rattle.arcbench_core.specs.TokenLines.{slice_lines}
 use Rattle.arcbench_core.proofs.tokens.push_slices.Given as goal

@@ -1,4 +1,4 @@
--- So far there is a text for each line that was passed, and the rest has the other lines.
+-- There is a text for each line so far, and the rest has the other lines.
 use Rattle.std.proofs.Common.{◌≡◌, ◌++◌, length}
 use denote.Text.{Utf8}
 use denote.Shadow.{shadow}

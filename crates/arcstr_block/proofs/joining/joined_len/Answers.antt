@@ -1,4 +1,4 @@
--- Where a sum does not fit, what is joined does not either; and at the end all texts are summed.
+-- If a sum does not fit, the joined text does not fit either; at the end the sum has all texts.
 use Rattle.std.proofs.Common.{◌≡◌, ◌<◌, ◌^◌, ◌∙◌, length, ap, sym, subst, arith}
 use Rattle.std.specs.Prelude.{SomeIff}
 use Rattle.std.specs.List.{join_by}

@@ -1,4 +1,4 @@
--- There is room for each text, and it stands behind those before it.
+-- There is room for each text, which comes after those before it.
 use Rattle.std.proofs.Common.{◌≡◌, ◌+◌, ◌∙◌, ◌++◌, length, get_or, ap, sym, subst, arith, length-append}
 use Rattle.std.specs.Prelude.{take, IsUtf8}
 use Rattle.std.specs.List.{join_by}

@@ -5,7 +5,7 @@ use Rattle.core.specs.Mem.Slots.{SamePlaces}
 use Rattle.core.specs.Mem.Slots.Ownership.{Filled}
 use Rattle.arcstr_block.proofs.joining.write_joined.Given as goal
 
--- the texts up to now, joined, fill the first places
+-- the texts so far, joined, fill the first slots
 abbrev pub invariant-loop-i : goal.invariant-loop-i
 invariant-loop-i g l =
     SamePlaces l.fn.bytes l.bytes × (l.at ≡ length (join_by g.S.AsStr.text l.separator (take l.i l.texts))) ×

@@ -1,4 +1,4 @@
--- One more copy behind those that were made, and none of the empty text.
+-- One more copy comes after those that were made; an empty text is not copied.
 use Rattle.std.proofs.Common.{◌≡◌, ◌+◌, ◌*◌, ◌≤◌, ℕ, suc, length, refl, ap, sym, subst, ◌∙◌, arith, eqb-true}
 use Rattle.std.specs.Prelude.{take, drop, IsUtf8}
 use Rattle.std.specs.List.{repeat}

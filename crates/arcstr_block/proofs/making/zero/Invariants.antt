@@ -3,6 +3,6 @@ use Rattle.core.specs.Mem.Slots.{SamePlaces}
 use Rattle.core.specs.Mem.Slots.Ownership.{Filled}
 use Rattle.arcstr_block.proofs.making.zero.Given as goal
 
--- each place below is written, and the items are zeros, as they were said to be
+-- each slot below this one is written, and the items of the slots are zeros
 abbrev pub invariant-loop-place : goal.invariant-loop-place
 invariant-loop-place l = SamePlaces l.fn.bytes l.bytes × (l.bytes.items ≡ replicate l.fn.bytes.len 0) × Filled l.bytes.filled 0 l.place

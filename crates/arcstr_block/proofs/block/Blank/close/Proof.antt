@@ -1,4 +1,4 @@
--- `close` takes the bytes from their `Slots`, once each is written.
+-- `close` takes the bytes from their `Slots` once each is written.
 use Rattle.std.proofs.Common.{◌≡◌, ℕ, ◌^◌, ◌<◌, Bool, List, [], ◌∷◌, length, sym, refl, ap, ◌∙◌, subst, arith, w64}
 use mir.Syntax.{dcons, dnil, a_type, ty_int, ty_ptr, ty_struct, tcons, tnil}
 use mir.Val.{Val, has_ty, WT}
@@ -71,7 +71,7 @@ close_spec 𝓤 𝓛 𝓜 𝓡 wired Y K g d dd met md =
     keep ! (2 ∷ 3 ∷ 4 ∷ 0 ∷ []) $ heard ! (row.ptr ≡ p) (λ here. heard ! (row.len ≡ h.length) (λ long. heard ! Written (λ full. split ! $
     move ! (1 ∷ []) $ fsplit3 ! $ keep ! (0 ∷ 1 ∷ 3 ∷ []) $ fsplit ! $ drop ! $
     fsplit3 ! $ fpick ! (λ inb. drop ! $ let at : p ≡ block_ptr b o = at_block p inb.0 in let counts : h.length ≡ n = sym long ∙ row.ok.0 in
-    -- [the word; the length and the rim; the bytes' places; the tokens]
+    -- [the word; the length and the rim; the bytes' slots; the tokens]
     enter ! 𝓣.C 𝓣.Λ fn (pointer_val p ∷ u ∷ []) Post $ alloc_all ! (λ l. pass_all ! refl (typed p, (words_typed row.ptr row.len small, tt)) $
     let Ev = env fn.locals l in
     sets ! (is ! (of_opd ! (get_in ! (fld ! refl (stop !)) (sub ! 0 refl (whole !)))) (ap ptr_val at)) refl (tt, tt) $

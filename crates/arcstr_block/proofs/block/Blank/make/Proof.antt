@@ -1,4 +1,4 @@
--- `make` asks the allocator for a block's room, cuts it in three, writes the word and the length, and makes places of the bytes.
+-- `make` allocates a block's room, cuts it in three, writes the word and the length, and makes slots of the bytes.
 use Rattle.std.proofs.Common.{◌≡◌, ℕ, ◌+◌, ◌^◌, ◌<◌, Bool, true, false, List, [], ◌∷◌, length, replicate, sym, refl, ap, ◌∙◌, arith, lit<, w64}
 use lib.ListN.{length-replicate}
 use mir.Syntax.{Ty, Body, dcons, dnil, a_type, named, w8, ty_int, ty_array}
@@ -176,7 +176,7 @@ make_spec 𝓤 𝓛 𝓜 𝓡 wired Y K g d dd met md =
     sets ! (agg ! (and_then ! (get ! refl) (and_then ! (get ! refl) (no_more !)))) refl (tt, ((tt, (tt, tt)), (wt.1, tt))) $
     sets_last ! (agg ! (and_then ! (lit ! tt) (and_then ! (get ! refl) (no_more !)))) refl (tt, good) $
     exec ! 𝓣.C 𝓣.Λ Ev (after 2 fn.body) (at_ret Ev Post) $ sets ! (of_opd ! (get ! refl)) refl (tt, good) $
-    -- [the places; the length; nothing; the word; the rim; the tokens]
+    -- [the slots; the length; nothing; the word; the rim; the tokens]
     move ! (1 ∷ []) $ use1 𝓛 (‵ (part_at usize full_share n b (t + 8))) (word_in 𝓛 b (t + 8) n) $ move ! (3 ∷ 0 ∷ 4 ∷ []) $ fjoin3 ! $ nothing ! $
     fpack ! (InBlock p × Fits n) (λ _. ftrue) (tt, fits) $ fjoin ! $
     use0 𝓛 (‵ ((Words B g).own_val (p, (tt, tt)) (pointer_val p ∷ []))) (made B g 𝓛 p) $ fjoin ! $ move ! (0 ∷ 1 ∷ 2 ∷ []) $ fjoin3 ! $

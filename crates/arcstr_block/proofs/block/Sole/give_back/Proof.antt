@@ -1,4 +1,4 @@
--- `give_back` makes room of the block, and hands it to the allocator.
+-- `give_back` makes the block room again, and returns it to the allocator.
 use Rattle.std.proofs.Common.{◌≡◌, ℕ, ◌^◌, ◌<◌, List, [], ◌∷◌, length, sym, refl, ◌∙◌, subst, lit<, w64}
 use mir.Syntax.{Ty, dcons, dnil, a_type, named, ty_unit}
 use mir.Raw.{raw as bare}

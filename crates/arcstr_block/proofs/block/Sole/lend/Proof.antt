@@ -1,4 +1,4 @@
--- `lend` lends the bytes of the text for writing, and the block follows them. Assumes `Logic`.
+-- `lend` lends the bytes of the text for writing, and the block has what is written. Assumes `Logic`.
 use mathlib.Core.Path.{◌≡◌, refl, sym, ap, subst, ◌∙◌}
 use Prim.Native.Nat.{ℕ, ◌+◌, ◌*◌, ◌<◌, ◌^◌}
 use native.Mathlib.Omega.{arith}

@@ -1,4 +1,4 @@
--- `again` takes no step: what is had for good may be had twice.
+-- `again` takes no step: a permanent share can be duplicated.
 use Rattle.std.proofs.Common.{◌≡◌, ℕ, List, [], ◌∷◌, sym, refl, ap, ◌∙◌, length}
 use mir.Syntax.{dcons, dnil, a_type, named}
 use mir.Val.{Val, vptr}
@@ -62,15 +62,15 @@ again_spec 𝓤 𝓛 𝓜 𝓡 wired Y K g d dd met md =
     split ! $ move ! (1 ∷ []) $ unhide ! $ fsplit ! $ fpick ! (λ inb. drop ! $ let at : p ≡ block_ptr pb (count_of p) = at_block p inb.0 in fpick ! (λ t.
     let I : Fml = Inv P lim pb po t in let af : Lft = t.0 ∷ [] in
     fsplit ! $ move ! (1 ∷ []) $ rewrite ! 0 (λ (k : Right). ‵ (shown P lim pb po t s h.seat k κ)) same_right refl $ fsplit3 ! $
-    -- [the share for good; the invariant; what is shared; what is known; the fields; κ; the others]
+    -- [the permanent share; the invariant; what is shared; what is known; the fields; κ; the others]
     move ! (4 ∷ 5 ∷ []) $ looks ! tt D (opened B g 𝓛) (p, (tt, tt)) b o (λ e vs. move ! (1 ∷ []) $ peeks ! D (Is D) (shows 𝓛 D) (p, (tt, tt)) vs (λ so.
     let ev : vs ≡ pointer_val (block_ptr pb (count_of p)) ∷ [] = told B g p vs so ∙ ap (λ (r : Ptr). pointer_val r ∷ []) at in
     rewrite ! 1 (λ (ws : List Val). ‵ (cell_at e D.mir ws b o)) ev refl $
     sets ! (of_opd ! (load ! (through ! refl (fld ! refl (stop !))) (look_in ! 1 (sub ! 0 refl (whole !))))) refl (tt, tt) $
     rewrite ! 1 (λ (ws : List Val). ‵ (cell_at e D.mir ws b o)) (sym ev) refl $ move ! (1 ∷ 0 ∷ 2 ∷ []) $ shuts ! tt D e (p, (tt, tt)) vs b o $
-    -- [κ; the fields; the share for good; the invariant; what is shared; what is known; the others]
+    -- [κ; the fields; the permanent share; the invariant; what is shared; what is known; the others]
     move ! (0 ∷ 6 ∷ []) $ join ! $ move ! (2 ∷ 4 ∷ []) $ fjoin ! $ move ! (4 ∷ []) $ fsplit ! $ fpick ! (λ known. drop ! $
-    -- [the beginning; the right; the tokens; the fields; the invariant]
+    -- [the prefix; the right; the tokens; the fields; the invariant]
     let h' : Row.Denot = record h { right = fixed } in let r : Val = pointer_val p in
     move ! (1 ∷ 4 ∷ 0 ∷ []) $ use3 𝓛 (‵ (Row.own_val h' (pointer_val p ∷ []))) (framed.pointer_in 𝓛 B g h' t known inb) $
     sets ! (agg ! (no_more !)) refl (tt, tt) $ sets ! (is ! (agg ! (and_then ! (get ! refl) (and_then ! (get ! refl) (no_more !)))) (ap pointer_val

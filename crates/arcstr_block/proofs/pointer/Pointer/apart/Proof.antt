@@ -1,4 +1,4 @@
--- `apart` hands both pointers back: nothing is done.
+-- `apart` returns both pointers: it does nothing.
 use Rattle.std.proofs.Common.{◌≡◌, List, [], ◌∷◌, ◌++◌, refl}
 use mir.Syntax.{dcons, dnil, a_type}
 use mir.Val.{Val, vstruct, of_list}

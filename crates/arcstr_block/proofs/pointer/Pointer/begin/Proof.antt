@@ -1,4 +1,4 @@
--- `begin` is one load. A drop goes on where it finds no mark.
+-- `begin` is one load. A drop goes on if it finds the word unmarked.
 use Rattle.std.proofs.Common.{◌≡◌, ℕ, ◌+◌, [], ◌∷◌, sym, refl, ap, subst, if◌then◌else◌, lit<, length, arith, w64, ◌^◌, ◌<◌}
 use mir.Syntax.{dcons, dnil, a_type}
 use mir.Val.{Val, vptr, vint}
@@ -100,7 +100,7 @@ begin_spec 𝓤 𝓛 𝓜 𝓡 wired Y K g d dd met md =
     fsplit ! $ move ! (2 ∷ 3 ∷ 0 ∷ []) $ use3 𝓛 (later (‵ (right_to P lim pb po t s h.seat k))) got.turns $ await ! tt $
     -- [the right; the history's end; the invariant; what was known; the tokens]
     move ! (1 ∷ []) $ fpick ! (λ r'. fsplit ! $ fpick ! (λ ends. drop ! $ move ! (3 ∷ []) $ fsplit ! $ fpick ! (λ named. drop ! $ drop ! $
-    -- [the beginning; the right; the invariant; the tokens]
+    -- [the prefix; the right; the invariant; the tokens]
     let h' : Row.Denot = record h { right = k; history = r' } in let r : Val = found_val n p in
     move ! (1 ∷ 2 ∷ 0 ∷ []) $ use3 𝓛 (‵ (Row.own_val h' (pointer_val p ∷ []))) (framed.pointer_in 𝓛 B g h' t named inb) $
     use1 𝓛 (‵ (fex (Valss (u64 ∷ Row ∷ [])) (framed.found_as 𝓛 B g h' n))) (framed.found_in 𝓛 B g h' n fits) $

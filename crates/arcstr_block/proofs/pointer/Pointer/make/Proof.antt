@@ -64,7 +64,7 @@ make_spec 𝓤 𝓛 𝓜 𝓡 wired Y K g d dd met md =
     (begins 𝓛 P lim b (o + word_place (length xs) + 0) s (shares_laws p xs) small κs.0 (lends_block 𝓛 holds p xs κs.0) κs.0 qs.0 (Incl-refl κs.0)) $
     await ! tt $ split ! $
     fpick ! (λ t. fsplit ! $ move ! (1 ∷ []) $ fsplit ! $
-    -- [the invariant; the right; the beginning; the tokens]
+    -- [the invariant; the right; the prefix; the tokens]
     let h' : Row.Denot = record {
       at = p;
       marker = record {};

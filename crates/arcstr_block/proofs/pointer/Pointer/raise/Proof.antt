@@ -1,4 +1,4 @@
--- `raise` is one compare-exchange. Where it finds the old word or the mark, a clone is had.
+-- `raise` is one compare-exchange. If it finds the old word or a marked one, the clone succeeds.
 use Rattle.std.proofs.Common.{◌≡◌, ℕ, ◌+◌, List, [], ◌∷◌, sym, refl, ap, ◌∙◌, w64, length, arith}
 use mir.Syntax.{dcons, dnil, a_type, named}
 use mir.Val.{Val, vint, vptr}
@@ -131,21 +131,21 @@ raise_spec 𝓤 𝓛 𝓜 𝓡 wired Y K g d dd met md =
     fsplit ! $ move ! (1 ∷ []) $ use1 𝓛 (‵ (fshr_bor κ (λ r. flft af r)) ⊛ ‵ (fshr_bor κ (λ r.
     seat_share t.3 h.seat r Free)) ⊛ ‵ (knows t right) ⊛ ‵ (finv I) ⊛ ‵ (s af)) (rights.may_step 𝓛 P lim pb po t s sl h.seat right may κ) $
     split3 ! $ move ! (2 ∷ []) $ split3 ! $
-    -- [what is known; the invariant; what is shared; the share; the seat; the beginning; the fields; κ; the others]
+    -- [what is known; the invariant; what is shared; the share; the seat; the prefix; the fields; κ; the others]
     move ! (6 ∷ 7 ∷ []) $ looks ! tt D (opened B g 𝓛) (p, (tt, tt)) b o (λ e vs. move ! (1 ∷ []) $ peeks ! D (Is D) (shows 𝓛 D) (p, (tt, tt)) vs (λ so.
     let ev : vs ≡ pointer_val (block_ptr pb (count_of p)) ∷ [] = told B g p vs so ∙ ap (λ (r : Ptr). pointer_val r ∷ []) at in
     rewrite ! 1 (λ (ws : List Val). ‵ (cell_at e D.mir ws b o)) ev refl $
     sets ! (of_opd ! (load ! (through ! refl (fld ! refl (stop !))) (look_in ! 1 (sub ! 0 refl (whole !))))) refl (tt, tt) $
     rewrite ! 1 (λ (ws : List Val). ‵ (cell_at e D.mir ws b o)) (sym ev) refl $ move ! (1 ∷ 0 ∷ 2 ∷ []) $ shuts ! tt D e (p, (tt, tt)) vs b o $
     move ! (1 ∷ []) $ drop ! $ move ! (4 ∷ 5 ∷ 0 ∷ []) $
-    -- [the share; the seat; κ; what is known; the invariant; what is shared; the beginning; the others]
+    -- [the share; the seat; κ; what is known; the invariant; what is shared; the prefix; the others]
     use3 𝓛 (later (‵ (fex (Share × Share) (framed.lent_for 𝓛 t.0 t.3 h.seat κ q)))) (framed.borrows 𝓛 t.0 t.3 h.seat κ q) $ await ! tt $ fpick ! (λ out.
     let u : Share = out.0 in let v : Share = out.1 in let Mine : Fml = seat_share t.3 h.seat v Free in
     fsplit ! $ move ! (1 ∷ []) $ fsplit ! $
-    -- [the token; the seat; the open borrows; what is known; the invariant; what is shared; the beginning; the others]
+    -- [the token; the seat; the open borrows; what is known; the invariant; what is shared; the prefix; the others]
     move ! (4 ∷ []) $ use1 𝓛 (‵ (finv I) ⊛ ‵ (finv I)) (𝓛.invs.inv_dup I) $ split ! $
     let said : ℕ → Fml = λ n. fsep Mine (rights.newborn 𝓛 P lim pb po t s sl (rights.Event 𝓛 P lim pb po t s sl old new n)) in
-    -- [the invariant, twice; the token; the seat; the open borrows; what is known; what is shared; the beginning; the others]
+    -- [the invariant, twice; the token; the seat; the open borrows; what is known; what is shared; the prefix; the others]
     move ! (0 ∷ 2 ∷ 3 ∷ []) $ let after : ℕ → Fml = steps.all_after 𝓛 P lim pb po t (changes.exchanged 𝓛 P lim pb po t u old new asked)
     (changes.Raised 𝓛 P lim pb po t u old new asked) (changes.Tok 𝓛 P lim pb po t u) (flft af u) said in
     use3 𝓛 (raw (𝓣.C _ (vptr pb po ∷ vint w64 old ∷ vint w64 new ∷ []) (λ r. mean 𝓛 (found after r))))
@@ -161,18 +161,18 @@ raise_spec 𝓤 𝓛 𝓜 𝓡 wired Y K g d dd met md =
     sets ! (agg ! (no_more !)) refl (tt, tt) $ sets ! (is ! (agg ! (and_then ! (get ! refl) (and_then ! (get ! refl) (no_more !)))) (ap pointer_val
     (sym at))) refl (typed p) $
     sets ! (agg ! (and_then ! (get ! refl) (and_then ! (get ! refl) (no_more !)))) refl (found_typed n fits p) $
-    -- [what is said; the token; the gain; the invariant; the open borrows; what is known; what is shared; the beginning; the others]
+    -- [what is said; the token; the gain; the invariant; the open borrows; what is known; what is shared; the prefix; the others]
     move ! (3 ∷ []) $ drop ! $
     fsplit3 ! $ fsplit ! $ move ! (2 ∷ 0 ∷ []) $ fjoin ! $ move ! (4 ∷ 0 ∷ []) $ fjoin ! $
     use1 𝓛 (later (‵ (flft κ q))) (framed.restores 𝓛 t.0 t.3 h.seat κ q out) $ await ! tt $
-    -- [κ; what is said; the gain; the invariant; what is shared; the beginning; the others]
+    -- [κ; what is said; the gain; the invariant; what is shared; the prefix; the others]
     move ! (0 ∷ 6 ∷ []) $ join ! $ move ! (2 ∷ []) $ fpick ! (λ w. fsplit ! $ fpick ! (λ ok. drop ! $
-    -- [the gain; the tokens; what is said; the invariant; what is shared; the beginning]
+    -- [the gain; the tokens; what is said; the invariant; what is shared; the prefix]
     let got = rights.raised 𝓛 P lim pb po t s sl old new n w (ok.1, ok.2, ok.3, ok.4) in let k : Right = got.right in
     move ! (0 ∷ 4 ∷ 2 ∷ []) $ use3 𝓛 (later (‵ (fex ℕ (λ j. right_to P lim pb po t s j k)))) got.turns $ await ! tt $ fpick ! (λ j.
-    -- [the right; the tokens; the invariant; the beginning]
+    -- [the right; the tokens; the invariant; the prefix]
     move ! (3 ∷ []) $ fsplit ! $ fpick ! (λ named. drop ! $
-    -- [the beginning; the right; the tokens; the invariant]
+    -- [the prefix; the right; the tokens; the invariant]
     let h' : Row.Denot = record h { right = k; seat = j } in let r : Val = found_val n p in
     move ! (1 ∷ 3 ∷ 0 ∷ []) $ use3 𝓛 (‵ (Row.own_val h' (pointer_val p ∷ []))) (framed.pointer_in 𝓛 B g h' t named inb) $
     use1 𝓛 (‵ (fex (Valss (u64 ∷ Row ∷ [])) (framed.found_as 𝓛 B g h' n))) (framed.found_in 𝓛 B g h' n fits) $

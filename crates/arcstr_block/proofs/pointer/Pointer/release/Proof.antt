@@ -1,4 +1,4 @@
--- `release` takes the block out whole, with its length, and ends its history.
+-- `release` takes the whole block with its length, and ends the history of the block.
 use Rattle.std.proofs.Common.{◌≡◌, ℕ, ◌+◌, ◌^◌, ◌<◌, List, [], ◌∷◌, ◌++◌, length, sym, refl, ap, arith}
 use mir.Syntax.{dcons, dnil, a_type, w64}
 use mir.Val.{Val, vint, vstruct, of_list, vptr}

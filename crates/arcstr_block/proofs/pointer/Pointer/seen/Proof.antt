@@ -1,4 +1,4 @@
--- `seen` hands out what the pointer knows of the history, which is for good.
+-- `seen` returns what the pointer knows of the history, which is permanent.
 use Rattle.std.proofs.Common.{◌≡◌, ℕ, [], ◌∷◌, refl, length}
 use mir.Syntax.{dcons, dnil, a_type, named}
 use mir.Val.{Val, vptr}
@@ -63,7 +63,7 @@ seen_spec 𝓤 𝓛 𝓜 𝓡 wired Y K g d dd met md =
     (lent_out 𝓛 (C.struct B g) (C.the_codes Y.Denot B.coded (Marker.the_row B).coded) (C.the_heap B g) (C.the_lent B g) κ h b o) $
     split ! $ drop ! $ unhide ! $ fsplit ! $ drop ! $ fpick ! (λ t. fsplit ! $ move ! (1 ∷ []) $ drop ! $ fsplit ! $ fpick ! (λ named. drop ! $
     rewrite ! 0 (λ (block : Names). ‵ (reached block.0 h.history)) named refl $
-    -- [the history's beginning; κ; the others]
+    -- [the prefix of the history; κ; the others]
     use0 𝓛 (‵ (D'.own_val (record {}, tt) (token ∷ []))) (token_made unit 𝓛) $ fjoin ! $ sets ! (agg ! (no_more !)) refl (tt, tt) $
     sets ! (agg ! (and_then ! (get ! refl) (no_more !))) refl (tt, (tt, tt)) $
     move ! (1 ∷ 2 ∷ []) $ join ! $ move ! (1 ∷ []) $ let s' : S.Denot = record { marker = record {}; block = h.block; history = h.history } in

@@ -1,4 +1,4 @@
--- `unmarked` hands the owed pointer back: nothing is done.
+-- `unmarked` returns the owed pointer: it does nothing.
 use Rattle.std.proofs.Common.{◌≡◌, ◌≢◌, ℕ, List, [], ◌∷◌, refl, length}
 use mir.Syntax.{dcons, dnil, a_type, named}
 use mir.Val.{Val, vptr}

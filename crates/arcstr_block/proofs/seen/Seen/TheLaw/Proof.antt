@@ -1,4 +1,4 @@
--- A `&` to a `Seen` holds what it has: the fact is had twice. Assumes `Logic`.
+-- A `&` to a `Seen` holds what the `Seen` has: the fact can be duplicated. Assumes `Logic`.
 use base.Before.{before}
 use base.Logic.{snd∗}
 use types.Logic.{sem}

@@ -1,4 +1,4 @@
--- `agree` does nothing: what two `&` to a `Seen` hold says it.
+-- `agree` does nothing: what two `&` to a `Seen` hold proves its law.
 use Rattle.std.proofs.Common.{◌≡◌, ℕ, ◌≤◌, List, [], ◌∷◌, length, refl, ap}
 use mir.Syntax.{named}
 use mir.Val.{Val, vunit, vptr}

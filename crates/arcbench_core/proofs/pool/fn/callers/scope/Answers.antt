@@ -1,4 +1,4 @@
--- What is handed out is what was joined, and as many threads were started as were wanted.
+-- What is returned is what was joined, and as many threads were started as there are workers.
 use Rattle.std.proofs.Common.{◌≡◌, ℕ, ◌<◌, Result, Ok, Err, Vec, vec_len, vec_items, get_or, Global, subst, arith}
 use Rattle.std.specs.Prelude.{IfOk, OnOk}
 use Rattle.std.proofs.lemmas.Result.{IfOk-at_ok}

@@ -1,5 +1,5 @@
--- So far each worker's thread was started, there is room for all, and each promises a handle on the text, by a worker of its
--- own number that has passed the gate.
+-- So far each worker's thread was started, and there is room for all. Each thread promises a handle on the text, from the worker with
+-- its own number, which has passed the gate.
 use Rattle.std.proofs.Common.{◌≡◌, ℕ, ◌<◌, ◌≤◌, vec_len, vec_items, vec_capacity, get_or}
 use Rattle.arcbench_core.proofs.pool.fn.callers.scope.Given as goal
 
