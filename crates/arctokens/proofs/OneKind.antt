@@ -51,7 +51,7 @@ kind_before text start place end white utf8 at_start at_place low high alike =
       kind = kind_within white here.front after here.last _ whole alike.kinds;
     }
 
--- the first character after an offset has only one kind
+-- the character after an offset has only one kind, and so has the character before it
 pub one_after : (text : List ℕ) (place : ℕ) → IsFirstAfter text place true → IsFirstAfter text place false → ⊥
 one_after text place one other =
     let same : one.character ∷ one.rest ≡ other.character ∷ other.rest = sym one.split ∙ other.split in

@@ -30,7 +30,7 @@ rest_rises x xs rising i j d low high = rising (suc i) (suc j) d (omega arith) (
 abbrev AreMembers : List (ℕ × ℕ) → List (ℕ × ℕ) → Type 0
 AreMembers xs ys = (w : ℕ × ℕ) → Contains xs w → Contains ys w
 
--- two lists with the same members have the same first element, since neither can start before the other
+-- if each of two ascending lists contains the first element of the other, their first elements are equal
 same_first : (x y : ℕ × ℕ) (xs ys : List (ℕ × ℕ)) → AllPairs StartsBefore (x ∷ xs) → AllPairs StartsBefore (y ∷ ys)
     → (y ≡ x) ⊎ Contains ys x → (x ≡ y) ⊎ Contains xs y → x ≡ y
 same_first x y xs ys xs_rise ys_rise (inl same) there = sym same

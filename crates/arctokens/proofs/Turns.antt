@@ -16,7 +16,7 @@ same_number workers one other same row =
     sym (div-add-mod' one workers) ∙ ap (λ r. one / workers * workers + r) same ∙ ap (λ q. q * workers + other % workers) row
     ∙ div-add-mod' other workers
 
--- if two numbers belong to one worker, and the second is below the number after the first, the second is the first or below it
+-- a number of the same worker that is below its next number is this number or below it
 pub turn_cases : (workers number other : ℕ) → 0 < workers → other % workers ≡ number % workers → other < number + workers → (other ≡ number) ⊎ (other < number)
 turn_cases workers number other some same below = by_row (cases_order (other / workers) (number / workers))
   where

@@ -22,7 +22,7 @@ pub record IsEntry (line : SubstrView) (entry : Entry) : Type 0 where
   pub key_parent : entry.key.parent ≡ line.parent
   pub value_parent : entry.value.parent ≡ line.parent
 
--- the slice lies between the first occurrence of one character and the next occurrence of another
+-- the slice's text is the first character, the text of `inner` and the last character
 abbrev pub IsEnclosed : SubstrView → ℕ → ℕ → SubstrView → Type 0
 IsEnclosed slice first last inner = text_of slice ≡ encode_utf8 first ++ (text_of inner ++ encode_utf8 last)
 

@@ -30,7 +30,7 @@ impl Entry {
     }
 }
 
-/// Returns the text between the two characters in a slice that begins with `first` and ends with the next `last` in it. Allocates nothing.
+/// Returns the part between the two characters, if the slice begins with `first` and ends with the next `last` in it. Allocates nothing.
 pub fn between(rt: &impl Wait, slice: &Substr, first: char, last: char) -> Option<Substr>
     ensures text { IfSome result (λ inner. IsEnclosed slice.now first last inner) }
     ensures kept { IfSome result (λ inner. inner.parent ≡ slice.now.parent) }
