@@ -32,6 +32,8 @@ mod thread_tests;
 /// Dropping a handle to a block loads its count word and, if the block is not marked static, decrements the count with a fetch-sub. The last handle of an
 /// unmarked block frees its memory. Dropping a literal or a permanent block takes no atomic step. No drop waits.
 ///
+/// No method or trait implementation allocates or takes an atomic step unless its documentation says so.
+///
 /// ```
 /// let text = ArcStr::from_str(rt.alloc(), "foo")?;
 /// let other = text.clone(&rt);
@@ -64,8 +66,8 @@ impl Model for ArcStr {
     ghost view = { λ shared. text_view shared.form };
 }
 
-/// An owned handle without a drop, from `ArcStr::into_raw`. The checker refuses a function that loses it: only `ArcStr::from_raw` ends it. In a contract it
-/// has the text and the kind of the `ArcStr`. It is `Send` and `Sync`, and its size is 24 bytes.
+/// An owned handle without a drop, from `ArcStr::into_raw`. The checker refuses a function that loses it: only `ArcStr::from_raw` consumes it. In a contract
+/// it has the text and the kind of the `ArcStr`. It is `Send` and `Sync`, and its size is 24 bytes.
 ///
 /// ```
 /// let text = ArcStr::from_str(rt.alloc(), "foo")?;
@@ -87,7 +89,7 @@ impl Model for RawArcStr {
 }
 
 impl ArcStr {
-    /// Creates a new empty text, which is a literal. Allocates nothing and takes no atomic step.
+    /// Creates a new empty text, which is a literal.
     ///
     /// ```
     /// let text = ArcStr::new();
@@ -100,7 +102,7 @@ impl ArcStr {
         ArcStr::from_static("")
     }
 
-    /// Creates a literal from a `&'static str`, whose bytes lie in the program. Allocates nothing and takes no atomic step.
+    /// Creates a literal from a `&'static str`, whose bytes lie in the program.
     ///
     /// ```
     /// let text = ArcStr::from_static("foo");
@@ -115,7 +117,7 @@ impl ArcStr {
         }
     }
 
-    /// Makes a clone of the handle: another handle to the same text. Allocates nothing.
+    /// Makes a clone of the handle: another handle to the same text.
     ///
     /// For a block, it loads the count word and, if the block is not marked static, increments the count with a compare-exchange. If the count is past its
     /// limit, the compare-exchange marks the block static instead. It tries again if another thread changed the count word in between, and so can wait. For a
@@ -138,7 +140,7 @@ impl ArcStr {
         ArcStr { form }
     }
 
-    /// Returns the text. Takes no atomic step.
+    /// Returns the text.
     ///
     /// ```
     /// let text = ArcStr::from_str(rt.alloc(), "aé")?;
@@ -154,7 +156,7 @@ impl ArcStr {
         }
     }
 
-    /// Returns the length of the text in bytes. Takes no atomic step, and does not read the bytes.
+    /// Returns the length of the text in bytes. Does not read the bytes.
     ///
     /// ```
     /// let text = ArcStr::from_static("aé");
@@ -166,7 +168,7 @@ impl ArcStr {
         self.as_str().len()
     }
 
-    /// Returns `true` if the text has a length of zero bytes. Takes no atomic step.
+    /// Returns `true` if the text has a length of zero bytes.
     ///
     /// ```
     /// assert!(rt; ArcStr::from_static("").is_empty());
@@ -178,7 +180,7 @@ impl ArcStr {
         self.as_str().is_empty()
     }
 
-    /// Returns the bytes of the text. Takes no atomic step.
+    /// Returns the bytes of the text.
     ///
     /// ```
     /// let text = ArcStr::from_static("aé");
@@ -228,8 +230,8 @@ impl ArcStr {
         }
     }
 
-    /// Makes the text permanent: its memory is never freed, even after every handle is dropped. For a block, one fetch-or sets the static flag in the count
-    /// word, and nothing clears it. For a literal or a permanent block, it takes no atomic step. Allocates nothing.
+    /// Leaks the text, which makes it permanent: its memory is never freed, even after every handle is dropped. For a block, one fetch-or sets the static
+    /// flag in the count word, and nothing clears it. For a literal or a permanent block, it takes no atomic step.
     ///
     /// ```
     /// let text = ArcStr::from_str(rt.alloc(), "foo")?;
@@ -248,7 +250,7 @@ impl ArcStr {
     }
 
     /// Returns the text as a `StaticStr` if it is static already. That is always so for a literal or a permanent block, and takes no atomic step. For another
-    /// block, one load of the count word tests the static flag. Allocates nothing.
+    /// block, one load of the count word tests the static flag.
     ///
     /// ```
     /// let text = ArcStr::from_str(rt.alloc(), "foo")?;
@@ -268,8 +270,7 @@ impl ArcStr {
         }
     }
 
-    /// Consumes the handle and returns it as a raw value. The raw value keeps the text alive and stays counted until `from_raw`. Allocates nothing and takes
-    /// no atomic step.
+    /// Consumes the handle and returns it as a raw value. The raw value keeps the text alive and stays counted until `from_raw`.
     ///
     /// ```
     /// let text = ArcStr::from_str(rt.alloc(), "foo")?;
@@ -284,7 +285,7 @@ impl ArcStr {
         RawArcStr { text: this }
     }
 
-    /// Converts a raw value back into the handle that it was made from. Allocates nothing and takes no atomic step.
+    /// Converts a raw value back into the handle that it was made from.
     ///
     /// ```
     /// let raw = ArcStr::into_raw(ArcStr::from_str(rt.alloc(), "foo")?);
@@ -322,7 +323,7 @@ impl Default for ArcStr {
 
     ghost is_default = { λ text. text ≡ literal_of [] };
 
-    /// Creates a new empty text, as `ArcStr::new()` does. Allocates nothing and takes no atomic step.
+    /// Creates a new empty text, as `ArcStr::new()` does.
     fn default() -> ArcStr {
         ArcStr::new()
     }

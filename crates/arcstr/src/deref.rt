@@ -13,7 +13,7 @@ mod tests;
 impl DerefStr for ArcStr {
     ghost deref_gives = { λ shared bytes. bytes ≡ shared.text };
 
-    /// Returns the text, as `as_str` does: `text.trim()` is `text.as_str().trim()`. Allocates nothing and takes no atomic step.
+    /// Returns the text, as `as_str` does: `text.trim()` is `text.as_str().trim()`.
     fn deref(&self) -> &str
         ensures text { result.now ≡ self.now.text }
     {
@@ -24,7 +24,7 @@ impl DerefStr for ArcStr {
 impl DerefStr for Substr {
     ghost deref_gives = { λ slice bytes. bytes ≡ text_of slice };
 
-    /// Returns the slice's own text, as `as_str` does. Allocates nothing and takes no atomic step.
+    /// Returns the slice's own text, as `as_str` does.
     fn deref(&self) -> &str
         ensures text { result.now ≡ text_of self.now }
     {
@@ -35,7 +35,7 @@ impl DerefStr for Substr {
 impl DerefStr for StaticStr {
     ghost deref_gives = { λ kept bytes. bytes ≡ kept.text };
 
-    /// Returns the text, as `as_str` does. Allocates nothing and takes no atomic step.
+    /// Returns the text, as `as_str` does.
     fn deref(&self) -> &str
         ensures text { result.now ≡ self.now.text }
     {

@@ -12,7 +12,7 @@ mod tests;
 impl From<&'static str> for ArcStr {
     ghost from_gives = { λ text shared. shared ≡ literal_of text.now };
 
-    /// Converts a `&'static str` into a literal, as `ArcStr::from_static` does. Allocates nothing and takes no atomic step.
+    /// Converts a `&'static str` into a literal, as `ArcStr::from_static` does.
     fn from(text: &'static str) -> ArcStr
         ensures literal { result ≡ literal_of text.now }
     {
@@ -23,7 +23,7 @@ impl From<&'static str> for ArcStr {
 impl From<ArcStr> for Substr {
     ghost from_gives = { λ parent slice. slice ≡ whole_of parent };
 
-    /// Converts a text into the slice of all of it, as `Substr::full` does. Consumes the handle. Allocates nothing and takes no atomic step.
+    /// Converts a text into the slice of all of it, as `Substr::full` does. Consumes the handle.
     fn from(parent: ArcStr) -> Substr
         ensures whole { result ≡ whole_of parent }
     {

@@ -12,6 +12,8 @@ mod conversions;
 /// A text that is never freed: a literal or a permanent block. In a contract it has a text and a kind, which is never that of a counted block. It is `Send`
 /// and `Sync`, and its size is 24 bytes. Dropping it takes no atomic step and frees nothing.
 ///
+/// No method or trait implementation allocates or takes an atomic step.
+///
 /// ```
 /// let text = ArcStr::from_str(rt.alloc(), "foo")?;
 /// let kept: StaticStr = text.leak();
@@ -57,7 +59,7 @@ impl StaticStr {
         }
     }
 
-    /// Returns the text. Takes no atomic step.
+    /// Returns the text.
     ///
     /// ```
     /// let kept = ArcStr::from_static("aé").leak();
@@ -72,7 +74,7 @@ impl StaticStr {
         }
     }
 
-    /// Returns the length of the text in bytes. Takes no atomic step, and does not read the bytes.
+    /// Returns the length of the text in bytes. Does not read the bytes.
     ///
     /// ```
     /// let kept = ArcStr::from_static("aé").leak();
@@ -84,7 +86,7 @@ impl StaticStr {
         self.as_str().len()
     }
 
-    /// Always returns `true`, since the text is never freed. Takes no atomic step.
+    /// Always returns `true`, since the text is never freed.
     ///
     /// ```
     /// let kept = ArcStr::from_str(rt.alloc(), "foo")?.leak();
@@ -99,7 +101,7 @@ impl StaticStr {
         }
     }
 
-    /// Returns the text as a `&'static str` exactly if it is a literal. Takes no atomic step.
+    /// Returns the text as a `&'static str` exactly if it is a literal.
     ///
     /// ```
     /// let kept = ArcStr::from_static("foo").leak();
@@ -117,7 +119,7 @@ impl StaticStr {
         }
     }
 
-    /// Returns the same text as an `ArcStr`: a literal for a literal, and otherwise a permanent block. Allocates nothing and takes no atomic step.
+    /// Returns the same text as an `ArcStr`: a literal for a literal, and otherwise a permanent block.
     ///
     /// ```
     /// let kept = ArcStr::from_str(rt.alloc(), "foo")?.leak();

@@ -35,6 +35,8 @@ mod thread_tests;
 /// count word and, if the block is not marked static, decrements the count with a fetch-sub; the last handle frees the memory. For a literal or a permanent
 /// block, it takes no atomic step. No drop waits.
 ///
+/// No method or trait implementation allocates or takes an atomic step unless its documentation says so.
+///
 /// ```
 /// let value = literal!("name=value").substr(&rt, 5..)?;
 /// assert_eq!(rt; value.as_str(), "value");
@@ -59,7 +61,7 @@ impl Model for Substr {
 }
 
 impl Substr {
-    /// Creates a new empty slice: that of the empty literal, from 0 to 0. Allocates nothing and takes no atomic step.
+    /// Creates a new empty slice: that of the empty literal, from 0 to 0.
     ///
     /// ```
     /// let slice = Substr::new();
@@ -91,7 +93,7 @@ impl Substr {
         Ok(Substr::full(ArcStr::from_str(alloc, text)?))
     }
 
-    /// Creates the slice of all of a literal. Allocates nothing and takes no atomic step.
+    /// Creates the slice of all of a literal.
     ///
     /// ```
     /// let slice = Substr::from_static("aé");
@@ -104,7 +106,7 @@ impl Substr {
         Substr::full(ArcStr::from_static(text))
     }
 
-    /// Converts a shared text into the slice of all of it. Consumes the handle. Allocates nothing and takes no atomic step.
+    /// Converts a shared text into the slice of all of it. Consumes the handle.
     ///
     /// ```
     /// let slice = Substr::full(literal!("aé"));
@@ -119,7 +121,7 @@ impl Substr {
     }
 
     /// Converts a shared text into its slice between two byte offsets. Consumes the handle. The caller must ensure that the offsets are in order, at most the
-    /// text's length, and at character boundaries. Allocates nothing and takes no atomic step.
+    /// text's length, and at character boundaries.
     ///
     /// ```
     /// let slice = Substr::from_parts_unchecked(literal!("foobar"), 2..5);
@@ -138,7 +140,7 @@ impl Substr {
         }
     }
 
-    /// Returns the text that the slice is taken from and keeps alive. Allocates nothing and takes no atomic step.
+    /// Returns the text that the slice is taken from and keeps alive.
     ///
     /// ```
     /// let slice = literal!("foobar").substr(&rt, 3..)?;
@@ -150,7 +152,7 @@ impl Substr {
         &self.parent
     }
 
-    /// Returns the byte range of the slice in its parent's text. Allocates nothing and takes no atomic step.
+    /// Returns the byte range of the slice in its parent's text.
     ///
     /// ```
     /// let slice = literal!("aéb").substr(&rt, 3..)?;
@@ -165,8 +167,8 @@ impl Substr {
         self.start..self.end
     }
 
-    /// Makes another slice with the same byte range of the same parent. Allocates nothing. Clones the parent's handle, and so can wait: for a block, it loads
-    /// the count word and, if the block is not marked static, takes a compare-exchange. For a literal or a permanent block, it takes no atomic step.
+    /// Makes another slice with the same byte range of the same parent. Clones the parent's handle, and so can wait: for a block, it loads the count word
+    /// and, if the block is not marked static, takes a compare-exchange. For a literal or a permanent block, it takes no atomic step.
     ///
     /// ```
     /// let slice = Substr::from_str(rt.alloc(), "foobar")?;
@@ -184,7 +186,7 @@ impl Substr {
         }
     }
 
-    /// Returns the slice's own text: the parent's text between the two byte offsets. Allocates nothing and takes no atomic step.
+    /// Returns the slice's own text: the parent's text between the two byte offsets.
     ///
     /// ```
     /// let slice = literal!("foobar").substr(&rt, 3..)?;
@@ -198,7 +200,7 @@ impl Substr {
         &self.parent.as_str()[range.start..range.end]
     }
 
-    /// Returns the length of the slice's own text in bytes. Allocates nothing, takes no atomic step, and does not read the bytes.
+    /// Returns the length of the slice's own text in bytes. Does not read the bytes.
     ///
     /// ```
     /// let slice = literal!("aéb").substr(&rt, 1..3)?;
@@ -211,7 +213,7 @@ impl Substr {
         self.end - self.start
     }
 
-    /// Returns `true` if the slice's own text has a length of zero bytes. Allocates nothing and takes no atomic step.
+    /// Returns `true` if the slice's own text has a length of zero bytes.
     ///
     /// ```
     /// let text = literal!("foobar");
@@ -224,7 +226,7 @@ impl Substr {
         self.start == self.end
     }
 
-    /// Returns the bytes of the slice's own text. Allocates nothing and takes no atomic step.
+    /// Returns the bytes of the slice's own text.
     ///
     /// ```
     /// let slice = literal!("aéb").substr(&rt, 1..3)?;
@@ -242,7 +244,7 @@ impl Default for Substr {
 
     ghost is_default = { λ slice. slice ≡ empty_slice };
 
-    /// Creates a new empty slice, as `Substr::new()` does. Allocates nothing and takes no atomic step.
+    /// Creates a new empty slice, as `Substr::new()` does.
     fn default() -> Substr {
         Substr::new()
     }

@@ -139,7 +139,7 @@ pub(crate) fn check_copied(rt: &impl Abort, copy: Result<String, AllocError>, wa
     check_text(rt, copy.expect(rt, "no memory").as_str(), wanted);
 }
 
-/// Asserts that the text is owned, and checks what it reads as.
+/// Asserts that the text is owned and equals `wanted`.
 pub(crate) fn check_owned(rt: &impl Abort, cow: CowStr<'_>, wanted: &str) {
     match cow {
         CowStr::Owned(copy) => check_text(rt, copy.as_str(), wanted),
@@ -147,7 +147,7 @@ pub(crate) fn check_owned(rt: &impl Abort, cow: CowStr<'_>, wanted: &str) {
     }
 }
 
-/// Asserts that the text is borrowed, and checks what it reads as.
+/// Asserts that the text is borrowed and equals `wanted`.
 pub(crate) fn check_borrowed(rt: &impl Abort, cow: CowStr<'_>, wanted: &str) {
     match cow {
         CowStr::Borrowed(text) => check_text(rt, text, wanted),

@@ -50,7 +50,7 @@ fn is_same_from<const N: usize>(one: &[u8], other: &[u8], start: usize) -> bool
     is_alike_at::<N>(one, other, last)
 }
 
-/// Returns a length at which `one` and `other` still agree, given that their first `start` bytes agree. Each turn compares 128 bytes with one test.
+/// Returns a length up to which `one` and `other` agree, given that their first `start` bytes agree. Each iteration compares 128 bytes with one test.
 fn pass_alike(one: &[u8], other: &[u8], start: usize) -> usize
     requires within { (start ≤ length one.now) × (start ≤ length other.now) }
     requires alike { take start one.now ≡ take start other.now }

@@ -54,7 +54,7 @@ front_of_more true c cs rest white (front, h) = (
 front_of_more false c cs rest black (front, h) =
     ([], record { split = refl; white = AreWhite-nil; longest = no_front c cs black })
 
--- what `skip_leading_whitespace` skips
+-- `skip_leading_whitespace` skips the longest white prefix
 pub IsLongestWhiteFront-skip : (cs : List ℕ) → (front : List ℕ) × IsLongestWhiteFront cs front (skip_leading_whitespace cs)
 IsLongestWhiteFront-skip [] =
     ([], record { split = refl; white = AreWhite-nil; longest = λ other others_rest e w. omega (arith, ap length e, length-append other others_rest) })
@@ -107,7 +107,7 @@ back_of_more false c cs rest kept (back, h) = (
   },
 )
 
--- what `drop_trailing_whitespace` drops
+-- `drop_trailing_whitespace` drops the longest white suffix
 pub IsLongestWhiteBack-drop : (cs : List ℕ) → (back : List ℕ) × IsLongestWhiteBack cs (drop_trailing_whitespace cs) back
 IsLongestWhiteBack-drop [] =
     ([], record { split = refl; white = AreWhite-nil; longest = λ others_rest other e w. end_is_short [] others_rest other e })

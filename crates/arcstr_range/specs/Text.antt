@@ -3,7 +3,7 @@
 use Rattle.std.specs.Prelude.{◌≡◌, ℕ, List, ◌++◌, length, slice_range, encode_utf8_all}
 use Rattle.std.specs.Str.{chars}
 
--- the place is the byte length of a prefix of the text's characters
+-- `place` is the length in bytes of a prefix of the text's characters
 pub record IsFrontLength (text : List ℕ) (place : ℕ) : Type 0 where
   pub front : List ℕ
   pub rest : List ℕ

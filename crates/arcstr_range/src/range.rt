@@ -1,4 +1,4 @@
-//! Ranges of byte offsets in a text, and their tests.
+//! Ranges of byte offsets in a text, and their tests. No call here allocates.
 //!
 //! Offsets and lengths are counted in bytes. An offset is a boundary if `str::is_char_boundary` says so.
 ghost use Rattle.std.specs.Prelude.{◌≡◌, ◌≢◌, ◌↔◌, IsOk, IsErrOf, ◌<◌, nat_le, ◌&&◌, if◌then◌else◌, IfOk, IfErr, MatchOption};
@@ -16,7 +16,7 @@ use std::ops::{Range, RangeFrom, RangeFull, RangeInclusive, RangeTo, RangeToIncl
 
 /// A range of byte offsets in a text, in one of the forms of Rust's ranges over `usize`.
 ///
-/// Each of those forms converts to it. A conversion never fails: only a text or a length can refuse a range. It allocates nothing.
+/// Each of those forms converts to it. A conversion never fails: only a text or a length can refuse a range.
 ///
 /// Its size is 24 bytes. It can be copied, sent to a thread and shared between threads, and its drop does nothing.
 ///
@@ -41,7 +41,7 @@ pub enum StrRange {
 }
 
 impl StrRange {
-    /// Returns the start and the end of the range in a sequence of `len` bytes. Allocates nothing.
+    /// Returns the start and the end of the range in a sequence of `len` bytes.
     ///
     /// Errors, in this order: `OutOfOrder` if the start is after the end; `PastEnd` if the end is greater than `len`. An inclusive end of `usize::MAX` counts
     /// as one more, and so is past the end.

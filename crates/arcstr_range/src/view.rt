@@ -46,7 +46,7 @@ impl<'a> Model for StrView<'a> {
 }
 
 impl<'a> StrView<'a> {
-    /// Returns the view of a whole text, at place 0. Allocates nothing.
+    /// Returns the view of a whole text, at place 0.
     ///
     /// ```
     /// let view = StrView::whole("abc");
@@ -61,8 +61,7 @@ impl<'a> StrView<'a> {
         StrView { text, place: 0 }
     }
 
-    /// Returns the view of a text at a place, in bytes. Returns `None` exactly if the sum of the place and the text's length is above `usize::MAX`. Allocates
-    /// nothing.
+    /// Returns the view of a text at a place, in bytes. Returns `None` exactly if the sum of the place and the text's length is above `usize::MAX`.
     ///
     /// ```
     /// let view = StrView::at("abc", 4).ok_or("no view")?;
@@ -77,7 +76,7 @@ impl<'a> StrView<'a> {
         Some(StrView { text, place })
     }
 
-    /// Returns the view's text. Allocates nothing.
+    /// Returns the view's text.
     ///
     /// ```
     /// assert_eq!(rt; StrView::whole("abc").text(), "abc");
@@ -88,7 +87,7 @@ impl<'a> StrView<'a> {
         self.text
     }
 
-    /// Returns the place of the view's text, in bytes. Allocates nothing.
+    /// Returns the place of the view's text, in bytes.
     ///
     /// ```
     /// let word = StrView::whole("  abc").trim_start();
@@ -101,7 +100,7 @@ impl<'a> StrView<'a> {
         self.place
     }
 
-    /// Returns the byte range of the view: from its place on, as long as its text. Allocates nothing.
+    /// Returns the byte range of the view: from its place on, as long as its text.
     ///
     /// ```
     /// let word = StrView::whole("  abc").trim_start();
@@ -115,7 +114,7 @@ impl<'a> StrView<'a> {
     }
 
     /// Returns the part of the view between two byte offsets of its own text. Returns `None` exactly if they are out of order, past the text or inside a
-    /// character. Allocates nothing.
+    /// character.
     ///
     /// ```
     /// let part = StrView::whole("aéb").cut(1..3).ok_or("no part")?;
@@ -138,7 +137,7 @@ impl<'a> StrView<'a> {
         })
     }
 
-    /// Returns the view with leading white space removed, as `str::trim_start` does. Its place moves by the bytes removed. Allocates nothing.
+    /// Returns the view with leading white space removed, as `str::trim_start` does. Its place moves by the bytes removed.
     ///
     /// ```
     /// let word = StrView::whole("  a ").trim_start();
@@ -160,7 +159,7 @@ impl<'a> StrView<'a> {
         }
     }
 
-    /// Returns the view with trailing white space removed, as `str::trim_end` does. Its place stays the same. Allocates nothing.
+    /// Returns the view with trailing white space removed, as `str::trim_end` does. Its place stays the same.
     ///
     /// ```
     /// let word = StrView::whole("  a ").trim_end();
@@ -180,8 +179,7 @@ impl<'a> StrView<'a> {
         }
     }
 
-    /// Returns the view with leading and trailing white space removed, as `str::trim` does. Its place moves by the bytes removed at the start. Allocates
-    /// nothing.
+    /// Returns the view with leading and trailing white space removed, as `str::trim` does. Its place moves by the bytes removed at the start.
     ///
     /// ```
     /// let word = StrView::whole("  a ").trim();
@@ -197,7 +195,7 @@ impl<'a> StrView<'a> {
         self.trim_start().trim_end()
     }
 
-    /// Tests whether the parent has the view's text at the view's place, in a valid range. An empty view is found in every text. Allocates nothing.
+    /// Tests whether the parent has the view's text at the view's place, in a valid range. An empty view is found in every text.
     ///
     /// ```
     /// let word = StrView::whole("  abc").trim_start();

@@ -85,7 +85,7 @@ impl Clones {
     }
 }
 
-/// Returns the sum of the lengths that the threads of the request read from their clones of the text.
+/// Clones the text in each thread of the request, and returns the sum of their results.
 fn clone_in_threads<M: Machine>(
     rt: &M,
     request: &Request,

@@ -40,7 +40,7 @@ IsScalar-first text rest c (characters, (are_scalars, spelled)) begins =
     let more = cons_from_encodes characters rest c (spelled ∙ begins) in
     (and_parts (scalar c) (all_scalars more.0) (ap all_scalars (sym more.1) ∙ are_scalars)).0
 
--- a character whose bytes stand at the place
+-- a character whose bytes start at `place`
 pub spelled_between : (text rest : List ℕ) (place c : ℕ) → IsUtf8 text → IsCharBoundary text place
     → drop place text ≡ encode_utf8 c ++ rest → IsCharacterBetween text place (place + len_utf8 c) (is_whitespace c)
 spelled_between text rest place c utf8 boundary stands =

@@ -87,7 +87,7 @@ black_after : (text : List ℕ) (place : ℕ) → place < length text → (place
 black_after text place inside (inl all) = absurd (omega arith)
 black_after text place inside (inr next) = next
 
--- no word starts before the end of a run of white space at the place
+-- no word starts between `from` and the end of a run of white space at `from`
 starts_later : (text : List ℕ) (from start a b : ℕ) → IsUtf8 text → IsCharBoundary text from → AreAlike text from start true
     → IsWord text a b → from ≤ a → start ≤ a
 starts_later text from start a b utf8 at_from white word low = of_case (cases_lt a start)

@@ -20,14 +20,14 @@ is_visible byte = nat_lt 32 byte && nat_lt byte 128
 abbrev pub IsVisible : ℕ → Type 0
 IsVisible byte = IsTrue (is_visible byte)
 
--- the first character after the place is white space exactly if `white` is true
+-- the first character after `place` is white space exactly if `white` is true
 pub record IsFirstAfter (text : List ℕ) (place : ℕ) (white : Bool) : Type 0 where
   pub character : ℕ
   pub rest : List ℕ
   pub split : chars (cut text place (length text)) ≡ character ∷ rest
   pub kind : is_whitespace character ≡ white
 
--- the last character before the place is white space exactly if `white` is true
+-- the last character before `place` is white space exactly if `white` is true
 pub record IsLastBefore (text : List ℕ) (place : ℕ) (white : Bool) : Type 0 where
   pub front : List ℕ
   pub character : ℕ
@@ -49,7 +49,7 @@ pub record IsRun (text : List ℕ) (start end : ℕ) (white : Bool) : Type 0 whe
   pub alike : AreAlike text start end white
   pub longest : (end ≡ length text) ⊎ IsFirstAfter text end (not white)
 
--- no word lies across the place: the place is the start or the end of the text, or white space follows it
+-- no word lies across `place`: it is the start or the end of the text, or white space follows it
 abbrev pub IsBetweenWords : List ℕ → ℕ → Type 0
 IsBetweenWords text place = (place ≡ 0) ⊎ ((place ≡ length text) ⊎ IsWhiteAfter text place)
 

@@ -5,14 +5,14 @@ use Rattle.std.specs.Char.{is_whitespace}
 use Rattle.std.specs.Str.{IsCharBoundary, chars}
 use Rattle.arcstr_range.specs.Text.{cut}
 
--- the last character before the place is white space
+-- the last character before `place` is white space
 pub record IsWhiteBefore (text : List ℕ) (place : ℕ) : Type 0 where
   pub front : List ℕ
   pub character : ℕ
   pub split : chars (cut text 0 place) ≡ front ++ character ∷ []
   pub white : IsTrue (is_whitespace character)
 
--- the first character after the place is white space
+-- the first character after `place` is white space
 pub record IsWhiteAfter (text : List ℕ) (place : ℕ) : Type 0 where
   pub character : ℕ
   pub rest : List ℕ

@@ -17,7 +17,7 @@ impl Clone for ArcStr {
 
     ghost is_infallible = { λ text. IsStatic text.kind };
 
-    /// Makes another handle to the same text, as the inherent `clone` does, but never waits. Allocates nothing.
+    /// Makes another handle to the same text, as the inherent `clone` does, but never waits.
     ///
     /// For a block, it tries the compare-exchange at most 1,000 times. Here `AllocError` means that other threads changed the count word each time; nothing
     /// has changed then. For a literal or a permanent block, the clone takes no atomic step and never fails.

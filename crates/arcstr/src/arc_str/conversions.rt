@@ -5,7 +5,7 @@ use std::convert::{AsSlice, AsStr};
 impl AsStr for ArcStr {
     ghost text = { λ shared. shared.text };
 
-    /// Returns the text. Takes no atomic step.
+    /// Returns the text.
     fn as_str(&self) -> &str {
         ArcStr::as_str(self)
     }
@@ -14,7 +14,7 @@ impl AsStr for ArcStr {
 impl AsSlice<u8> for ArcStr {
     ghost items = { λ shared. shared.text };
 
-    /// Returns the bytes of the text. Takes no atomic step.
+    /// Returns the bytes of the text.
     fn as_slice(&self) -> &[u8] {
         self.as_bytes()
     }

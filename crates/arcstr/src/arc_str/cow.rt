@@ -11,7 +11,7 @@ use std::borrow::CowStr;
 mod tests;
 
 impl ArcStr {
-    /// Returns the text, borrowed from this handle. Allocates nothing and takes no atomic step.
+    /// Returns the text, borrowed from this handle.
     ///
     /// ```
     /// let text = ArcStr::from_str(rt.alloc(), "foo")?;
@@ -52,7 +52,7 @@ impl ArcStr {
         }
     }
 
-    /// Returns the text of the literal as the program holds it, or `None` if the text is not a literal. Takes no atomic step.
+    /// Returns the text of the literal as the program holds it, or `None` if the text is not a literal.
     fn literal_text(&self) -> Option<&'static str>
         ensures exactly { IsSome result ↔ (self.now.kind ≡ literal) }
         ensures same { IfSome result (λ text. text.now ≡ self.now.text) }

@@ -12,8 +12,8 @@ mod tests;
 
 impl ArcStr {
     /// Joins the texts in order, with the separator between them, as std's `[S]::join` does. `S` is `&str`, `String`, `ArcStr`, `Substr` or another type with
-    /// `AsStr`. The toolchain's borrow checker does not cover a list of `&ArcStr`: collect the `as_str` of each instead. Makes one allocation, and takes no
-    /// atomic step. An empty result is the empty literal, which needs no allocation.
+    /// `AsStr`. The toolchain's borrow checker does not cover a list of `&ArcStr`: collect the `as_str` of each instead. Makes one allocation. An empty
+    /// result is the empty literal, which needs no allocation.
     ///
     /// Errors, in this order: `Length` if the joined text has `2^63 - 25` bytes or more; `Memory` if the allocation fails.
     ///

@@ -9,7 +9,7 @@ use serde_json::Value;
 use std::alloc::{AllocError, Global};
 
 impl ArcStr {
-    /// Copies the text into a JSON string. Makes one allocation, or none if the text is empty. Takes no atomic step. Fails only if the allocation fails.
+    /// Copies the text into a JSON string. Makes one allocation, or none if the text is empty. Fails only if the allocation fails.
     ///
     /// ```
     /// let value = ArcStr::from_static("a\"é").to_json(rt.alloc())?;
@@ -22,7 +22,7 @@ impl ArcStr {
         Value::try_from_str(alloc, self.as_str())
     }
 
-    /// Copies the text of a JSON string into an `ArcStr`. Makes one allocation, or none if the text is empty. Takes no atomic step.
+    /// Copies the text of a JSON string into an `ArcStr`. Makes one allocation, or none if the text is empty.
     ///
     /// Errors, in this order: `NotText` if the value is not a string; `Length` if the text has `2^63 - 25` bytes or more; `Memory` if the allocation fails.
     ///

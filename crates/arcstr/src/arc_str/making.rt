@@ -1,4 +1,4 @@
-//! Constructors of `ArcStr`. An empty result is always the empty literal, which needs no allocation. No constructor takes an atomic step.
+//! Constructors of `ArcStr`. An empty result is always the empty literal, which needs no allocation.
 ghost use Rattle.std.specs.Prelude.{◌≡◌, ◌↔◌, [], length, replicate, Ok, IsUtf8, OnOk, IfOk, IfErr, IsErrOf};
 ghost use Rattle.std.specs.Fn.{FnOnceReturnsAtMut, FnOnceTakesAtMut};
 ghost use Rattle.std.specs.Str.Lossy.{utf8_valid_len};
@@ -15,7 +15,7 @@ mod tests;
 mod utf8_tests;
 
 impl ArcStr {
-    /// Copies a `&str` into a new `ArcStr`. Makes one allocation, or none if the text is empty. Takes no atomic step.
+    /// Copies a `&str` into a new `ArcStr`. Makes one allocation, or none if the text is empty.
     ///
     /// Errors, in this order: `Length` if the text has `2^63 - 25` bytes or more; `Memory` if the allocation fails.
     ///
@@ -33,7 +33,7 @@ impl ArcStr {
         Ok(ArcStr::from_shared(Shared::from_text(alloc, text)?))
     }
 
-    /// Copies a `&str` into a new `ArcStr`, as `from_str` does. Makes one allocation, or none if the text is empty. Takes no atomic step.
+    /// Copies a `&str` into a new `ArcStr`, as `from_str` does. Makes one allocation, or none if the text is empty.
     ///
     /// Errors, in this order: `Length` if the text has `2^63 - 25` bytes or more; `Memory` if the allocation fails.
     ///
@@ -47,7 +47,7 @@ impl ArcStr {
         ArcStr::from_str(alloc, text)
     }
 
-    /// Converts a slice of bytes to a new `ArcStr`, if they are UTF-8, by a copy. Makes one allocation, or none if there are no bytes. Takes no atomic step.
+    /// Converts a slice of bytes to an `ArcStr`, by a copy. Makes one allocation, or none if there are no bytes.
     ///
     /// Errors, in this order: `Utf8` if the bytes are not UTF-8, with the length in bytes of their longest prefix that is; `Length` if there are `2^63 - 25`
     /// bytes or more; `Memory` if the allocation fails.
@@ -73,8 +73,8 @@ impl ArcStr {
     }
 
     /// Creates a text of `n` bytes, which are zero at first and which `fill` writes. Makes one allocation before it calls the closure. If `n` is 0, it
-    /// allocates nothing and calls the closure on an empty slice. Takes no atomic step. The caller must ensure that the closure can be called on `n` zero
-    /// bytes, unless `n` is too long.
+    /// allocates nothing and calls the closure on an empty slice. The caller must ensure that the closure can be called on `n` zero bytes, unless `n` is too
+    /// long.
     ///
     /// Errors, in this order: `Length` if `n` is `2^63 - 25` or more; `Memory` if the allocation fails; `Utf8` if the bytes are not UTF-8 after the call,
     /// with the length in bytes of their longest prefix that is. The closure is not called after `Length` or `Memory`.
@@ -112,8 +112,7 @@ impl ArcStr {
         }
     }
 
-    /// Creates a new text by repeating a text `n` times. Makes one allocation. If the text is empty or `n` is 0, it allocates nothing and cannot fail. Takes
-    /// no atomic step.
+    /// Creates a new text by repeating a text `n` times. Makes one allocation. If the text is empty or `n` is 0, it allocates nothing and cannot fail.
     ///
     /// Otherwise, errors in this order: `Length` if all copies have `2^63 - 25` bytes or more; `Memory` if the allocation fails.
     ///
@@ -137,7 +136,7 @@ impl ArcStr {
     }
 
     /// Creates a new text by repeating a text `n` times, as `try_repeat` does. Makes one allocation. If the text is empty or `n` is 0, it allocates nothing
-    /// and cannot fail. Takes no atomic step.
+    /// and cannot fail.
     ///
     /// Otherwise, errors in this order: `Length` if all copies have `2^63 - 25` bytes or more; `Memory` if the allocation fails.
     ///

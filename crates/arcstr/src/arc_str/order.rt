@@ -17,7 +17,7 @@ use std::hash::{Hash, Hasher};
 mod tests;
 
 impl ArcStr {
-    /// Tests whether the text equals a `&str`, byte by byte. Allocates nothing and takes no atomic step.
+    /// Tests whether the text equals a `&str`, byte by byte.
     ///
     /// ```
     /// let text = ArcStr::from_str(rt.alloc(), "foo")?;
@@ -36,7 +36,7 @@ impl PartialEq for ArcStr {
 
     ghost laws = { on_per (λ shared. shared.text) (partial_equiv_from_equiv nat_list_eq_equiv) };
 
-    /// Tests whether the two texts are equal, byte by byte, whatever their kinds. Allocates nothing and takes no atomic step.
+    /// Tests whether the two texts are equal, byte by byte, whatever their kinds.
     fn eq(&self, other: &ArcStr) -> bool
         ensures value { result ≡ bytes_eq self.now.text other.now.text }
         ensures same { IsTrue result ↔ (self.now.text ≡ other.now.text) }
@@ -54,7 +54,7 @@ impl PartialOrd for ArcStr {
 
     ghost laws = { on_po (λ shared. shared.text) texts_po };
 
-    /// Compares the two texts as `cmp` does. Always returns `Some`. Allocates nothing and takes no atomic step.
+    /// Compares the two texts as `cmp` does. Always returns `Some`.
     fn partial_cmp(&self, other: &ArcStr) -> Option<Ordering> {
         Some(self.cmp(other))
     }
@@ -70,7 +70,7 @@ impl Ord for ArcStr {
     ghost matches_eq = { λ one other. texts_ties one.text other.text };
 
     /// Compares the two texts byte by byte, whatever their kinds: a proper prefix of a text comes before it, and otherwise the first bytes that differ
-    /// decide. Allocates nothing and takes no atomic step.
+    /// decide.
     fn cmp(&self, other: &ArcStr) -> Ordering
         ensures value { result ≡ slice_cmp nat_cmp self.now.text other.now.text }
         ensures order { IsTextOrder self.now.text other.now.text result }
@@ -84,7 +84,7 @@ impl Hash for ArcStr {
 
     ghost respects_eq = { Prim.search (hashing, rules) };
 
-    /// Feeds the text to the hasher as a `str` does, whatever its kind. Allocates nothing and takes no atomic step.
+    /// Feeds the text to the hasher as a `str` does, whatever its kind.
     fn hash<H: Hasher>(&self, state: &mut H) {
         self.as_str().hash(state);
     }

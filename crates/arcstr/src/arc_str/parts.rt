@@ -16,8 +16,7 @@ use std::ops::Range;
 use std::sync::Wait;
 
 impl ArcStr {
-    /// Returns a view of the whole text, at byte offset 0. `substr_from` of this text accepts this view and its parts without a test. Allocates nothing and
-    /// takes no atomic step.
+    /// Returns a view of the whole text, at byte offset 0. `substr_from` of this text accepts this view and its parts without a test.
     ///
     /// ```
     /// let text = ArcStr::from_static("key = value");
@@ -33,8 +32,8 @@ impl ArcStr {
         StrView::whole(self.as_str())
     }
 
-    /// Returns the slice of this text with leading and trailing white space removed, as `str::trim` does. An empty slice keeps the text alive too. Allocates
-    /// nothing. Clones the handle, and so can wait.
+    /// Returns the slice of this text with leading and trailing white space removed, as `str::trim` does. An empty slice keeps the text alive too. Clones the
+    /// handle, and so can wait.
     ///
     /// ```
     /// let text = ArcStr::from_static("  foo ");
@@ -49,8 +48,8 @@ impl ArcStr {
         self.clone_between(rt, without_white_space(self.as_str()))
     }
 
-    /// Returns the slice of this text with leading white space removed, as `str::trim_start` does. An empty slice keeps the text alive too. Allocates
-    /// nothing. Clones the handle, and so can wait.
+    /// Returns the slice of this text with leading white space removed, as `str::trim_start` does. An empty slice keeps the text alive too. Clones the
+    /// handle, and so can wait.
     ///
     /// ```
     /// let text = ArcStr::from_static("  foo ");
@@ -65,8 +64,8 @@ impl ArcStr {
         self.clone_between(rt, without_leading(self.as_str()))
     }
 
-    /// Returns the slice of this text with trailing white space removed, as `str::trim_end` does. An empty slice keeps the text alive too. Allocates nothing.
-    /// Clones the handle, and so can wait.
+    /// Returns the slice of this text with trailing white space removed, as `str::trim_end` does. An empty slice keeps the text alive too. Clones the handle,
+    /// and so can wait.
     ///
     /// ```
     /// let text = ArcStr::from_static("  foo ");

@@ -10,7 +10,7 @@ use std::fmt;
 mod tests;
 
 impl ArcStr {
-    /// Copies the text into a `String`. Makes one allocation, or none if the text is empty. Takes no atomic step. Fails only if the allocation fails.
+    /// Copies the text into a `String`. Makes one allocation, or none if the text is empty. Fails only if the allocation fails.
     ///
     /// ```
     /// let copy = ArcStr::from_static("foo").to_string(rt.alloc())?;
@@ -28,7 +28,7 @@ impl fmt::Display for ArcStr {
 
     ghost styled_output = { λ shared spec. Some (styled_text spec shared.text) };
 
-    /// Writes the text with padding and precision, as for a `str`. Fails if the writer fails. Allocates nothing itself and takes no atomic step.
+    /// Writes the text with padding and precision, as for a `str`. Fails if the writer fails. Allocates nothing itself.
     fn fmt<W: fmt::Write>(&self, f: &mut fmt::Formatter<W>) -> fmt::Result {
         f.pad(self.as_str())
     }
@@ -37,7 +37,7 @@ impl fmt::Display for ArcStr {
 impl fmt::Debug for ArcStr {
     ghost debug_output = { λ shared. debug_str shared.text };
 
-    /// Writes the text in quotes and escaped, as for a `str`. Fails if the writer fails. Allocates nothing itself and takes no atomic step.
+    /// Writes the text in quotes and escaped, as for a `str`. Fails if the writer fails. Allocates nothing itself.
     fn fmt<W: fmt::Write>(&self, f: &mut fmt::Formatter<W>) -> fmt::Result {
         let text = self.as_str();
         fmt::Debug::fmt(&text, f)

@@ -17,7 +17,6 @@ use std::sync::Wait;
 
 impl ArcStr {
     /// Returns the part of the text in the range, as `str::get` does. Returns `None` if the ends are out of order, past the text or inside a character.
-    /// Allocates nothing and takes no atomic step.
     ///
     /// ```
     /// let text = ArcStr::from_static("aé");
@@ -31,7 +30,7 @@ impl ArcStr {
         slice(self.as_str(), range.into())
     }
 
-    /// Returns the slice of this text in the range. An empty slice keeps the text alive too. Allocates nothing. Clones the handle, and so can wait.
+    /// Returns the slice of this text in the range. An empty slice keeps the text alive too. Clones the handle, and so can wait.
     ///
     /// Errors, in this order: `OutOfOrder` if the start is after the end; `PastEnd` if the end is past the text; `OffBoundary` if the start or the end is not
     /// a character boundary.
@@ -53,7 +52,7 @@ impl ArcStr {
     }
 
     /// Returns the slice of this text that a view shows, or `None` exactly if the text does not have the view's text at the view's place. An empty view is
-    /// found everywhere, and gives `Substr::new()`. Allocates nothing. Clones the handle if it finds a view that is not empty, and so can wait.
+    /// found everywhere, and gives `Substr::new()`. Clones the handle if it finds a view that is not empty, and so can wait.
     ///
     /// ```
     /// let text = ArcStr::from_str(rt.alloc(), "  foo ")?;
@@ -72,8 +71,8 @@ impl ArcStr {
     }
 
     /// Returns the slice of this text that a view shows, or `Substr::new()` for an empty view. The caller must ensure that the text has the view's text at
-    /// the view's place. The text's own `view` and its parts satisfy this, and `StrView::is_found_in` tests it for other views. Allocates nothing. Clones the
-    /// handle if the view is not empty, and so can wait.
+    /// the view's place. The text's own `view` and its parts satisfy this, and `StrView::is_found_in` tests it for other views. Clones the handle if the view
+    /// is not empty, and so can wait.
     ///
     /// ```
     /// let text = ArcStr::from_str(rt.alloc(), "  foo ")?;
@@ -92,8 +91,7 @@ impl ArcStr {
     }
 
     /// Returns the slice of this text between the byte offsets that the closure returns for it. Calls the closure once, first; the caller must ensure that it
-    /// can be called on the text. Equal offsets give `Substr::new()`, wherever they lie. Allocates nothing. Clones the handle for other offsets, and so can
-    /// wait.
+    /// can be called on the text. Equal offsets give `Substr::new()`, wherever they lie. Clones the handle for other offsets, and so can wait.
     ///
     /// Errors for other offsets, in this order: `OutOfOrder` if the start is after the end; `PastEnd` if the end is past the text; `OffBoundary` if the start
     /// or the end is not a character boundary.
@@ -122,8 +120,8 @@ impl ArcStr {
     }
 
     /// Returns the slice of this text between the byte offsets that the closure returns for it, as `substr_using` does. Calls the closure once, first; the
-    /// caller must ensure that it can be called on the text. Equal offsets give `Substr::new()`, wherever they lie. Allocates nothing. Clones the handle for
-    /// other offsets, and so can wait.
+    /// caller must ensure that it can be called on the text. Equal offsets give `Substr::new()`, wherever they lie. Clones the handle for other offsets, and
+    /// so can wait.
     ///
     /// Errors for other offsets, in this order: `OutOfOrder` if the start is after the end; `PastEnd` if the end is past the text; `OffBoundary` if the start
     /// or the end is not a character boundary.

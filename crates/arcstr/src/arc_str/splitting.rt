@@ -14,8 +14,8 @@ use std::str::pattern::Pattern;
 use std::sync::Wait;
 
 impl ArcStr {
-    /// Splits this text at a byte offset into two slices, as `str::split_at_checked` does. Each keeps the text alive, even if it is empty. Allocates nothing.
-    /// Clones the handle once for each slice, and so can wait.
+    /// Splits this text at a byte offset into two slices, as `str::split_at_checked` does. Each keeps the text alive, even if it is empty. Clones the handle
+    /// once for each slice, and so can wait.
     ///
     /// Fails as `substr` does for the range up to the offset: first `PastEnd` if the offset is past the text, then `OffBoundary` if it is inside a character.
     ///
@@ -41,8 +41,8 @@ impl ArcStr {
     }
 
     /// Splits this text around the first match of the separator, as `str::split_once` does. The separator is a `char` or a `&str`, and is part of neither
-    /// slice. Returns `None` exactly if there is no match, and then takes no atomic step. Allocates nothing. Clones the handle once for each slice, and so
-    /// can wait. Each slice keeps the text alive, even if it is empty.
+    /// slice. Returns `None` exactly if there is no match, and then takes no atomic step. Clones the handle once for each slice, and so can wait. Each slice
+    /// keeps the text alive, even if it is empty.
     ///
     /// ```
     /// let text = ArcStr::from_str(rt.alloc(), "name=a=b")?;
@@ -71,8 +71,8 @@ impl ArcStr {
     }
 
     /// Splits this text around the last match of the separator, as `str::rsplit_once` does. The separator is a `char` or a `&str`, and is part of neither
-    /// slice. Returns `None` exactly if there is no match, and then takes no atomic step. Allocates nothing. Clones the handle once for each slice, and so
-    /// can wait. Each slice keeps the text alive, even if it is empty.
+    /// slice. Returns `None` exactly if there is no match, and then takes no atomic step. Clones the handle once for each slice, and so can wait. Each slice
+    /// keeps the text alive, even if it is empty.
     ///
     /// ```
     /// let text = ArcStr::from_static("a::b::c");
@@ -98,8 +98,7 @@ impl ArcStr {
     }
 
     /// Returns the slice of this text with the prefix removed, as `str::strip_prefix` does. The prefix is a `char` or a `&str`. Returns `None` exactly if the
-    /// text does not start with it, and then takes no atomic step. The slice keeps the text alive, even if it is empty. Allocates nothing. Clones the handle,
-    /// and so can wait.
+    /// text does not start with it, and then takes no atomic step. The slice keeps the text alive, even if it is empty. Clones the handle, and so can wait.
     ///
     /// ```
     /// let text = ArcStr::from_static("--all");
@@ -120,8 +119,7 @@ impl ArcStr {
     }
 
     /// Returns the slice of this text with the suffix removed, as `str::strip_suffix` does. The suffix is a `char` or a `&str`. Returns `None` exactly if the
-    /// text does not end with it, and then takes no atomic step. The slice keeps the text alive, even if it is empty. Allocates nothing. Clones the handle,
-    /// and so can wait.
+    /// text does not end with it, and then takes no atomic step. The slice keeps the text alive, even if it is empty. Clones the handle, and so can wait.
     ///
     /// ```
     /// let text = ArcStr::from_static("main.rs");

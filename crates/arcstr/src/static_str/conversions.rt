@@ -5,7 +5,7 @@ use std::convert::{AsSlice, AsStr};
 impl AsStr for StaticStr {
     ghost text = { λ kept. kept.text };
 
-    /// Returns the text. Takes no atomic step.
+    /// Returns the text.
     fn as_str(&self) -> &str {
         StaticStr::as_str(self)
     }
@@ -14,7 +14,7 @@ impl AsStr for StaticStr {
 impl AsSlice<u8> for StaticStr {
     ghost items = { λ kept. kept.text };
 
-    /// Returns the bytes of the text. Takes no atomic step.
+    /// Returns the bytes of the text.
     fn as_slice(&self) -> &[u8] {
         StaticStr::as_str(self).as_bytes()
     }

@@ -13,7 +13,7 @@ impl Clone for Substr {
 
     ghost is_infallible = { λ slice. IsStatic slice.parent.kind };
 
-    /// Makes another slice with the same byte range of the same parent, but never waits. Clones the parent as `Clone` of `ArcStr` does. Allocates nothing.
+    /// Makes another slice with the same byte range of the same parent, but never waits. Clones the parent as `Clone` of `ArcStr` does.
     ///
     /// Here `AllocError` means that other threads changed the count word during each of 1,000 compare-exchanges; nothing has changed then. For a slice of a
     /// literal or a permanent block, the clone takes no atomic step and never fails.

@@ -7,7 +7,7 @@ use std::convert::{AsSlice, AsStr};
 impl AsStr for Substr {
     ghost text = { text_of };
 
-    /// Returns the slice's own text. Allocates nothing and takes no atomic step.
+    /// Returns the slice's own text.
     fn as_str(&self) -> &str {
         Substr::as_str(self)
     }
@@ -16,7 +16,7 @@ impl AsStr for Substr {
 impl AsSlice<u8> for Substr {
     ghost items = { text_of };
 
-    /// Returns the bytes of the slice's own text. Allocates nothing and takes no atomic step.
+    /// Returns the bytes of the slice's own text.
     fn as_slice(&self) -> &[u8] {
         self.as_bytes()
     }

@@ -11,8 +11,8 @@ use std::alloc::Global;
 mod tests;
 
 impl Substr {
-    /// Copies the slice's own text into a new `ArcStr`. Makes one allocation, or none if the text is empty. Fails as `ArcStr::from_str` does. Takes no atomic
-    /// step. The copy does not keep the parent alive: after a copy of a short slice, the long parent can be freed.
+    /// Copies the slice's own text into a new `ArcStr`. Makes one allocation, or none if the text is empty. Fails as `ArcStr::from_str` does. The copy does
+    /// not keep the parent alive: after a copy of a short slice, the long parent can be freed.
     ///
     /// ```
     /// let slice = literal!("foobar").substr(&rt, 3..)?;

@@ -13,7 +13,7 @@ use std::borrow::CowStr;
 mod tests;
 
 impl Substr {
-    /// Returns the slice's own text, borrowed from this slice. Allocates nothing and takes no atomic step.
+    /// Returns the slice's own text, borrowed from this slice.
     ///
     /// ```
     /// let slice = literal!("foobar").substr(&rt, 3..)?;

@@ -10,8 +10,7 @@ use serde_json::Value;
 use std::alloc::{AllocError, Global};
 
 impl Substr {
-    /// Copies the slice's own text into a JSON string. Makes one allocation, or none if the text is empty. Takes no atomic step. Fails only if the allocation
-    /// fails (`AllocError`).
+    /// Copies the slice's own text into a JSON string. Makes one allocation, or none if the text is empty. Fails only if the allocation fails (`AllocError`).
     ///
     /// ```
     /// let slice = literal!("foobar").substr(&rt, 3..)?;

@@ -18,7 +18,7 @@ use std::hash::{Hash, Hasher};
 mod tests;
 
 impl Substr {
-    /// Tests whether the slice's own text equals a `&str`, byte by byte. Allocates nothing and takes no atomic step.
+    /// Tests whether the slice's own text equals a `&str`, byte by byte.
     ///
     /// ```
     /// let slice = literal!("foobar").substr(&rt, 3..)?;
@@ -37,7 +37,7 @@ impl PartialEq for Substr {
 
     ghost laws = { on_per text_of (partial_equiv_from_equiv nat_list_eq_equiv) };
 
-    /// Tests whether the own texts of the two slices are equal, byte by byte, whatever their parents and ranges. Allocates nothing and takes no atomic step.
+    /// Tests whether the own texts of the two slices are equal, byte by byte, whatever their parents and ranges.
     fn eq(&self, other: &Substr) -> bool
         ensures value { result ≡ bytes_eq (text_of self.now) (text_of other.now) }
         ensures same { IsTrue result ↔ (text_of self.now ≡ text_of other.now) }
@@ -55,7 +55,7 @@ impl PartialOrd for Substr {
 
     ghost laws = { on_po text_of texts_po };
 
-    /// Compares the two slices as `cmp` does. Always returns `Some`. Allocates nothing and takes no atomic step.
+    /// Compares the two slices as `cmp` does. Always returns `Some`.
     fn partial_cmp(&self, other: &Substr) -> Option<Ordering> {
         Some(self.cmp(other))
     }
@@ -70,8 +70,7 @@ impl Ord for Substr {
 
     ghost matches_eq = { λ one other. texts_ties (text_of one) (text_of other) };
 
-    /// Compares the own texts of the two slices byte by byte, as `str` does: a proper prefix of a text comes before it. Allocates nothing and takes no atomic
-    /// step.
+    /// Compares the own texts of the two slices byte by byte, as `str` does: a proper prefix of a text comes before it.
     fn cmp(&self, other: &Substr) -> Ordering
         ensures value { result ≡ slice_cmp nat_cmp (text_of self.now) (text_of other.now) }
         ensures order { IsTextOrder (text_of self.now) (text_of other.now) result }
@@ -85,7 +84,7 @@ impl Hash for Substr {
 
     ghost respects_eq = { Prim.search (hashing, rules) };
 
-    /// Feeds the slice's own text to the hasher as a `str` does, so equal slices have equal hashes. Allocates nothing and takes no atomic step.
+    /// Feeds the slice's own text to the hasher as a `str` does, so equal slices have equal hashes.
     fn hash<H: Hasher>(&self, state: &mut H) {
         self.as_str().hash(state);
     }

@@ -12,8 +12,7 @@ use arcstr_range::view::StrView;
 use std::sync::Wait;
 
 impl Substr {
-    /// Returns a view of the slice's own text, at byte offset 0. `substr_from` of this slice accepts this view and its parts without a test. Allocates
-    /// nothing and takes no atomic step.
+    /// Returns a view of the slice's own text, at byte offset 0. `substr_from` of this slice accepts this view and its parts without a test.
     ///
     /// ```
     /// let line = literal!("1: key = value").substr(&rt, 3..)?;
@@ -30,7 +29,7 @@ impl Substr {
     }
 
     /// Returns the slice of the same parent with leading and trailing white space removed, as `str::trim` does. An empty slice keeps the parent alive too.
-    /// Allocates nothing. Clones the parent's handle, and so can wait.
+    /// Clones the parent's handle, and so can wait.
     ///
     /// ```
     /// let value = literal!("key: value ").substr(&rt, 4..)?;
@@ -45,8 +44,8 @@ impl Substr {
         self.clone_between(rt, without_white_space(self.as_str()))
     }
 
-    /// Returns the slice of the same parent with leading white space removed, as `str::trim_start` does. An empty slice keeps the parent alive too. Allocates
-    /// nothing. Clones the parent's handle, and so can wait.
+    /// Returns the slice of the same parent with leading white space removed, as `str::trim_start` does. An empty slice keeps the parent alive too. Clones
+    /// the parent's handle, and so can wait.
     ///
     /// ```
     /// let value = literal!("key: value ").substr(&rt, 4..)?;
@@ -61,8 +60,8 @@ impl Substr {
         self.clone_between(rt, without_leading(self.as_str()))
     }
 
-    /// Returns the slice of the same parent with trailing white space removed, as `str::trim_end` does. An empty slice keeps the parent alive too. Allocates
-    /// nothing. Clones the parent's handle, and so can wait.
+    /// Returns the slice of the same parent with trailing white space removed, as `str::trim_end` does. An empty slice keeps the parent alive too. Clones the
+    /// parent's handle, and so can wait.
     ///
     /// ```
     /// let value = literal!("key: value ").substr(&rt, 4..)?;

@@ -11,8 +11,7 @@ use std::fmt;
 mod tests;
 
 impl Substr {
-    /// Copies the slice's own text into a `String`. Makes one allocation, or none if the text is empty. Takes no atomic step. Fails only if the allocation
-    /// fails (`AllocError`).
+    /// Copies the slice's own text into a `String`. Makes one allocation, or none if the text is empty. Fails only if the allocation fails (`AllocError`).
     ///
     /// ```
     /// let slice = literal!("foobar").substr(&rt, 3..)?;
@@ -31,8 +30,7 @@ impl fmt::Display for Substr {
 
     ghost styled_output = { λ slice spec. Some (styled_text spec (text_of slice)) };
 
-    /// Writes the slice's own text with width, fill, alignment and precision, as for a `str`. Fails exactly if the writer fails. Allocates nothing itself and
-    /// takes no atomic step.
+    /// Writes the slice's own text with width, fill, alignment and precision, as for a `str`. Fails exactly if the writer fails. Allocates nothing itself.
     fn fmt<W: fmt::Write>(&self, f: &mut fmt::Formatter<W>) -> fmt::Result {
         f.pad(self.as_str())
     }
@@ -41,8 +39,7 @@ impl fmt::Display for Substr {
 impl fmt::Debug for Substr {
     ghost debug_output = { λ slice. debug_str (text_of slice) };
 
-    /// Writes the slice's own text in quotes and escaped, as for a `str`. Fails exactly if the writer fails. Allocates nothing itself and takes no atomic
-    /// step.
+    /// Writes the slice's own text in quotes and escaped, as for a `str`. Fails exactly if the writer fails. Allocates nothing itself.
     fn fmt<W: fmt::Write>(&self, f: &mut fmt::Formatter<W>) -> fmt::Result {
         let text = self.as_str();
         fmt::Debug::fmt(&text, f)

@@ -16,7 +16,7 @@ use std::sync::Wait;
 
 impl Substr {
     /// Returns the part of the slice's own text in the byte range, as `str::get` does. Returns `None` exactly if the ends are out of order, past that text or
-    /// inside a character. Allocates nothing and takes no atomic step.
+    /// inside a character.
     ///
     /// ```
     /// let slice = literal!("foobar").substr(&rt, 3..)?;
@@ -31,7 +31,7 @@ impl Substr {
     }
 
     /// Returns the slice of the same parent in the range, which is measured in bytes of the slice's own text. An empty slice keeps the parent alive too.
-    /// Allocates nothing. Clones the parent's handle if the range is valid, and so can wait.
+    /// Clones the parent's handle if the range is valid, and so can wait.
     ///
     /// Errors, in this order: `OutOfOrder` if the start is after the end; `PastEnd` if the end is past the slice's own text; `OffBoundary` if the start or
     /// the end is not a character boundary of that text.
@@ -58,8 +58,8 @@ impl Substr {
     }
 
     /// Returns the slice of the same parent that a view of the slice's own text shows. Returns `None` exactly if that text does not have the view's text at
-    /// the view's place, in bytes. An empty view is found everywhere, and gives `Substr::new()`. Allocates nothing. Clones the parent's handle if it finds a
-    /// view that is not empty, and so can wait.
+    /// the view's place, in bytes. An empty view is found everywhere, and gives `Substr::new()`. Clones the parent's handle if it finds a view that is not
+    /// empty, and so can wait.
     ///
     /// ```
     /// let line = literal!("key: value").substr(&rt, 4..)?;
@@ -80,7 +80,7 @@ impl Substr {
 
     /// Returns the slice of the same parent that a view of the slice's own text shows, or `Substr::new()` for an empty view. The caller must ensure that the
     /// slice's own text has the view's text at the view's place, in bytes. The slice's own `view` and its parts satisfy this, and `StrView::is_found_in`
-    /// tests it for other views. Allocates nothing. Clones the parent's handle if the view is not empty, and so can wait.
+    /// tests it for other views. Clones the parent's handle if the view is not empty, and so can wait.
     ///
     /// ```
     /// let line = literal!("key: value").substr(&rt, 4..)?;
@@ -104,8 +104,8 @@ impl Substr {
     }
 
     /// Returns the slice of the same parent between the byte offsets that the closure returns for the slice's own text. Calls the closure once, first; the
-    /// caller must ensure that it can be called on that text. Equal offsets give `Substr::new()`, wherever they lie. Allocates nothing. Clones the parent's
-    /// handle for other valid offsets, and so can wait.
+    /// caller must ensure that it can be called on that text. Equal offsets give `Substr::new()`, wherever they lie. Clones the parent's handle for other
+    /// valid offsets, and so can wait.
     ///
     /// Errors for other offsets, in this order: `OutOfOrder` if the start is after the end; `PastEnd` if the end is past the slice's own text; `OffBoundary`
     /// if the start or the end is not a character boundary of that text.
@@ -134,8 +134,8 @@ impl Substr {
     }
 
     /// Returns the slice of the same parent between the byte offsets that the closure returns for the slice's own text, as `substr_using` does. Calls the
-    /// closure once, first; the caller must ensure that it can be called on that text. Equal offsets give `Substr::new()`, wherever they lie. Allocates
-    /// nothing. Clones the parent's handle for other valid offsets, and so can wait.
+    /// closure once, first; the caller must ensure that it can be called on that text. Equal offsets give `Substr::new()`, wherever they lie. Clones the
+    /// parent's handle for other valid offsets, and so can wait.
     ///
     /// Errors for other offsets, in this order: `OutOfOrder` if the start is after the end; `PastEnd` if the end is past the slice's own text; `OffBoundary`
     /// if the start or the end is not a character boundary of that text.

@@ -17,7 +17,7 @@ use std::sync::Wait;
 
 impl Substr {
     /// Splits the slice at a byte offset of its own text into two slices of the same parent, as `str::split_at_checked` does. Each keeps the parent alive,
-    /// even if it is empty. Allocates nothing. Clones the parent's handle once for each slice, and so can wait.
+    /// even if it is empty. Clones the parent's handle once for each slice, and so can wait.
     ///
     /// Fails as `substr` does for the range up to the offset: first `PastEnd` if the offset is past the slice's own text, then `OffBoundary` if it is inside
     /// a character.
@@ -44,8 +44,8 @@ impl Substr {
     }
 
     /// Splits the slice around the first match of the separator in its own text, as `str::split_once` does. Both slices have the same parent. The separator
-    /// is a `char` or a `&str`, and is part of neither. Returns `None` exactly if there is no match, and then takes no atomic step. Allocates nothing. Clones
-    /// the parent's handle once for each slice, and so can wait. Each slice keeps the parent alive, even if it is empty.
+    /// is a `char` or a `&str`, and is part of neither. Returns `None` exactly if there is no match, and then takes no atomic step. Clones the parent's
+    /// handle once for each slice, and so can wait. Each slice keeps the parent alive, even if it is empty.
     ///
     /// ```
     /// let pair = literal!("a=b;c=d").substr(&rt, 4..)?;
@@ -74,8 +74,8 @@ impl Substr {
     }
 
     /// Splits the slice around the last match of the separator in its own text, as `str::rsplit_once` does. Both slices have the same parent. The separator
-    /// is a `char` or a `&str`, and is part of neither. Returns `None` exactly if there is no match, and then takes no atomic step. Allocates nothing. Clones
-    /// the parent's handle once for each slice, and so can wait. Each slice keeps the parent alive, even if it is empty.
+    /// is a `char` or a `&str`, and is part of neither. Returns `None` exactly if there is no match, and then takes no atomic step. Clones the parent's
+    /// handle once for each slice, and so can wait. Each slice keeps the parent alive, even if it is empty.
     ///
     /// ```
     /// let pair = literal!("x; a=b=c").substr(&rt, 3..)?;
@@ -102,7 +102,7 @@ impl Substr {
 
     /// Returns the slice of the same parent with the prefix of the slice's own text removed, as `str::strip_prefix` does. The prefix is a `char` or a `&str`.
     /// Returns `None` exactly if the slice's own text does not start with it, and then takes no atomic step. The result keeps the parent alive, even if it is
-    /// empty. Allocates nothing. Clones the parent's handle, and so can wait.
+    /// empty. Clones the parent's handle, and so can wait.
     ///
     /// ```
     /// let word = literal!("run --all").substr(&rt, 4..)?;
@@ -124,7 +124,7 @@ impl Substr {
 
     /// Returns the slice of the same parent with the suffix of the slice's own text removed, as `str::strip_suffix` does. The suffix is a `char` or a `&str`.
     /// Returns `None` exactly if the slice's own text does not end with it, and then takes no atomic step. The result keeps the parent alive, even if it is
-    /// empty. Allocates nothing. Clones the parent's handle, and so can wait.
+    /// empty. Clones the parent's handle, and so can wait.
     ///
     /// ```
     /// let line = literal!("ab\ncd\n").substr(&rt, 3..)?;

@@ -30,7 +30,7 @@ pub enum RangeFault {
 impl RangeFault {
     ghost use Rattle.arcstr_range.specs.RangeFault.{range_fault_number, range_fault_text};
 
-    /// Returns the number of the fault, in the order of the tests from 1 on. No fault has the number 3. Allocates nothing.
+    /// Returns the number of the fault, in the order of the tests from 1 on. No fault has the number 3.
     ///
     /// ```
     /// assert_eq!(rt; RangeFault::OutOfOrder.number(), 1);

@@ -9,8 +9,7 @@ ghost use Rattle.arcstr_range.specs.Substring.{substring_at, text_of, inner_by, 
 use crate::range::{RangeFault, StrRange};
 use std::ops::Range;
 
-/// Tests whether the text can be cut at this byte offset: exactly if the offset is the length in bytes of a prefix of the text's characters. Allocates
-/// nothing.
+/// Tests whether the text can be cut at this byte offset: exactly if the offset is the length in bytes of a prefix of the text's characters.
 ///
 /// ```
 /// assert!(rt; range::is_boundary("aé", 1));
@@ -24,7 +23,7 @@ pub fn is_boundary(text: &str, place: usize) -> bool
     text.is_char_boundary(place)
 }
 
-/// Returns the start and the end of the range in the text, as byte offsets. Allocates nothing.
+/// Returns the start and the end of the range in the text, as byte offsets.
 ///
 /// Errors, in this order: `OutOfOrder` if the start is after the end; `PastEnd` if the end is past the text; `OffBoundary` if the start or the end is not a
 /// character boundary.
@@ -48,7 +47,7 @@ pub fn checked_ends(text: &str, range: StrRange) -> Result<(usize, usize), Range
 }
 
 /// Returns the start and the end, as byte offsets in the parent, of a range in a substring of the parent. `outer` is the range of the substring in the
-/// parent. The caller must ensure that it is valid. Allocates nothing.
+/// parent. The caller must ensure that it is valid.
 ///
 /// The range is measured in the substring's own text. Fails as `checked_ends` of that text does: `OutOfOrder`, then `PastEnd`, then `OffBoundary`. The ends
 /// that it returns are valid in the parent, and cut the same text from it.

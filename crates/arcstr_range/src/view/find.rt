@@ -1,4 +1,4 @@
-//! Where a pattern first matches in a view.
+//! Finds the first match of a pattern in a view.
 ghost use Rattle.std.specs.Prelude.{IfSome, MatchOption, None};
 ghost use Rattle.std.specs.Str.{IsCharBoundary};
 ghost use Rattle.std.specs.Str.Pattern.{MatchBeginsAt};
@@ -8,8 +8,7 @@ use std::str::pattern::Pattern;
 
 impl<'a> StrView<'a> {
     /// Returns the byte offset, within the view's text, of the first match of the pattern, as `str::find` does. `cut` accepts this offset as a start or an
-    /// end. A pattern is a `char`, a `&str` or another of std's patterns. Returns `None` exactly if there is no match. Allocates nothing, and takes time in
-    /// proportion to the text.
+    /// end. A pattern is a `char`, a `&str` or another of std's patterns. Returns `None` exactly if there is no match. Takes time in proportion to the text.
     ///
     /// ```
     /// let line = StrView::at("key = é", 10).ok_or("no view")?;

@@ -10,7 +10,7 @@ use std::str::pattern::Pattern;
 
 impl<'a> StrView<'a> {
     /// Splits the view at a byte offset of its own text, as `str::split_at_checked` does. Returns `None` exactly if the offset is past the text or inside a
-    /// character. Allocates nothing.
+    /// character.
     ///
     /// ```
     /// let (name, rest) = StrView::whole("ab=c").split_at(2).ok_or("no place")?;
@@ -30,7 +30,7 @@ impl<'a> StrView<'a> {
     }
 
     /// Splits the view around the first match of the separator, as `str::split_once` does. The first part starts where the view starts, and the second ends
-    /// where the view ends. Returns `None` exactly if there is no match. Allocates nothing.
+    /// where the view ends. Returns `None` exactly if there is no match.
     ///
     /// ```
     /// let (name, value) = StrView::whole("a=b=c").split_once('=').ok_or("no `=`")?;
@@ -54,7 +54,7 @@ impl<'a> StrView<'a> {
     }
 
     /// Splits the view around the last match of the separator, as `str::rsplit_once` does. The first part starts where the view starts, and the second ends
-    /// where the view ends. Returns `None` exactly if there is no match. Allocates nothing.
+    /// where the view ends. Returns `None` exactly if there is no match.
     ///
     /// ```
     /// let path = StrView::whole("a::b::c");
@@ -78,7 +78,7 @@ impl<'a> StrView<'a> {
     }
 
     /// Returns the view with the prefix removed, as `str::strip_prefix` does. It ends where the view ends. Returns `None` exactly if the text does not start
-    /// with a match. Allocates nothing.
+    /// with a match.
     ///
     /// ```
     /// let option = StrView::whole("--all");
@@ -101,7 +101,7 @@ impl<'a> StrView<'a> {
     }
 
     /// Returns the view with the suffix removed, as `str::strip_suffix` does. It starts where the view starts. Returns `None` exactly if the text does not
-    /// end with a match. Allocates nothing.
+    /// end with a match.
     ///
     /// ```
     /// let text = StrView::whole("ab\r\n");

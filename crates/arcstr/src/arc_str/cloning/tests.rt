@@ -9,7 +9,7 @@ struct Line {
     text: ArcStr,
 }
 
-/// Clones the value through the trait alone.
+/// Clones the value by the trait `Clone`.
 fn cloned<T: Clone>(value: &T) -> Result<T, AllocError> {
     value.clone()
 }

@@ -11,7 +11,7 @@ fn a_literal_and_a_block_of_one_text_are_one_key(rt: HostRuntime) {
     assert!(rt; text.eq_str("bar") && !text.eq_str("ba"));
 }
 
-/// Asserts the order of texts of this many letters that differ only in the letter at `place`, and of a text and one with one letter more.
+/// Asserts the order of texts of this many letters that differ only in the letter at `place`, and of texts whose lengths differ by one letter.
 fn differ_at(rt: &(impl Abort + AllocGlobal), length: usize, place: usize) {
     let text = letters(rt, length, place, 'a');
     check_order(rt, &text, &letters(rt, length, place, 'a'), Ordering::Equal);
