@@ -7,7 +7,7 @@ use Rattle.std.proofs.lemmas.Slice.{between_is}
 use Rattle.std.proofs.lemmas.Str.{IsUtf8-take, IsUtf8-between, chars-append, encodes-chars, scalars-chars, encodes-append, IsCharBoundary-at_seam}
 use Rattle.arcstr_range.specs.Text.{IsFrontLength, SpellsBetween, cut}
 
--- the characters after a prefix are characters
+-- the rest of a list of scalar values after a prefix is a list of scalar values
 pub scalars-rest : (front rest : List ℕ) → all_scalars (front ++ rest) ≡ true → all_scalars rest ≡ true
 scalars-rest [] rest h = h
 scalars-rest (c ∷ front) rest h = scalars-rest front rest (grind arith)

@@ -34,7 +34,7 @@ chars-encode : (c : ℕ) → IsScalar c → chars (encode_utf8 c) ≡ c ∷ []
 chars-encode c scalar =
     chars_past_char (encode_utf8 c) [] c (IsUtf8-encode c scalar) (sym (append-nil (encode_utf8 c))) ∙ ap (λ rest. c ∷ rest) chars-nil
 
--- the first character of a text is a valid character
+-- the first character of a text is a scalar value
 IsScalar-first : (text rest : List ℕ) (c : ℕ) → IsUtf8 text → text ≡ encode_utf8 c ++ rest → IsScalar c
 IsScalar-first text rest c (characters, (are_scalars, spelled)) begins =
     let more = cons_from_encodes characters rest c (spelled ∙ begins) in

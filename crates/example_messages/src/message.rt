@@ -15,7 +15,7 @@ pub struct Message {
 }
 
 impl Message {
-    /// Reads the message in the text, by a cut at its first two semicolons. Returns `None` exactly if it has fewer than two. Copies no field.
+    /// Reads the message in the text, which it cuts at its first two semicolons. Returns `None` exactly if it has fewer than two. Copies no field.
     pub fn read(rt: &impl Wait, text: &ArcStr) -> Option<Message>
         ensures found { IsSome result ↔ HasTwoSemicolons text.now }
         ensures fields { IfSome result (IsMessage text.now) }
@@ -29,7 +29,7 @@ impl Message {
         })
     }
 
-    /// Cuts the body to its first sentence, without the full stop. No text is copied.
+    /// Cuts the body to its first sentence, without the full stop. Copies no text.
     pub fn shorten(&mut self, rt: &impl Wait)
         ensures sender { self.new.sender ≡ self.old.sender }
         ensures subject { self.new.subject ≡ self.old.subject }
