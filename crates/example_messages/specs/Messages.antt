@@ -6,7 +6,7 @@ use Rattle.arcstr.specs.Substr.{SubstrView, slice_of, slice_within, text_of}
 use Rattle.arcstr.specs.TextView.{TextView}
 use Rattle.example_messages.specs.declared.message.Message.{Message}
 
--- the two separators
+-- the semicolon after the sender and after the subject, and the full stop after a sentence
 abbrev pub semicolon : ℕ
 semicolon = 59
 

@@ -7,7 +7,7 @@ use std::process::Abort;
 use std::sync::Wait;
 use std::test::Fail;
 
-/// Asserts the words of a text in a block of its own, and its count while they live and after they are dropped.
+/// Asserts the words of a text in a block of its own. Also asserts the text's count while the words live and after they are dropped.
 fn check_words<R: Abort + AllocGlobal + Wait>(rt: &R, text: &str, wanted: &[Wanted]) {
     let text = made(rt, text);
     let before = ArcStr::strong_count(&text);
