@@ -1,4 +1,4 @@
--- On copies of a text, joined.
+-- Joined copies of a text.
 use Rattle.std.proofs.Common.{◌≡◌, ℕ, zero, suc, List, [], ◌∷◌, length, refl, arith}
 use Rattle.std.specs.List.{repeat}
 

@@ -1,4 +1,4 @@
--- A text that is split around the first match of a character is split at its first place.
+-- A split around the first match of a character is a split at its first byte offset.
 use Rattle.std.proofs.Common.{◌≡◌, ℕ, ◌==◌, Option, None, Some, false, List, [], ◌∷◌, ◌++◌, length, take, drop, All, Contains, IfSome, refl, sym, ap, subst, ◌∙◌, append_assoc, arith}
 use Rattle.std.specs.Prelude.{◌+◌, ◌-◌, encode_utf8}
 use Rattle.std.specs.Char.{len_utf8}
@@ -14,7 +14,7 @@ all_others : (character : ℕ) (characters : List ℕ) → NonePass (λ c. c == 
 all_others character [] none = All-nil (λ c. (c == character) ≡ false)
 all_others character (c ∷ cs) none = All-cons (λ d. (d == character) ≡ false) c cs none.0 (all_others character cs none.1)
 
--- a text of which no character is the wanted one doesn't have it
+-- a text does not contain a character that none of its characters equals
 not_among : (character : ℕ) (text : List ℕ) → IsUtf8 text → NoCharPasses (λ c. c == character) text → ¬ (Contains (chars text) character)
 not_among character text utf8 none among =
     let same : none.0 ≡ chars text = chars_from_encodes none.0 text utf8 none.1 in
@@ -22,7 +22,7 @@ not_among character text utf8 none among =
     All-contains (λ c. (c == character) ≡ false) none.0 character (all_others character none.0 none.2) (subst (λ cs. Contains cs character) (sym same) among) in
     absurd (grind (arith, other))
 
--- where `find` answers a place, the character stands there, and those before it are others
+-- if `find` returns an offset, the character starts there, and no character before it is the same
 first_at : (text : List ℕ) (character place : ℕ) → IsUtf8 text → MatchBeginsAt (FindsChar character) text place → IsFirstPlace text character place
 first_at text character place utf8 at =
     let front_utf8 = IsUtf8-take text place utf8 at.3 in
@@ -41,7 +41,7 @@ has_first : (text : List ℕ) (character place : ℕ) → IsFirstPlace text char
 has_first text character place first =
     subst (λ cs. Contains cs character) (sym first.split) (Contains-append_right first.before (character ∷ first.after) character (0, omega arith, refl))
 
--- a text without a match doesn't have the character. `read` is what was searched
+-- a text without a match does not contain the character; `read` is the text that was searched
 pub not_split : (finds : List ℕ → Option (ℕ × ℕ) → Type 0) (text read : List ℕ) (between : ℕ → ℕ → SubstrView) (answer : Option (SubstrView × SubstrView))
     → (character : ℕ) → FindsCharacter finds character → finds read None → read ≡ text → IsUtf8 read → answer ≡ None
     → AnswersSplit text between character answer
@@ -74,7 +74,7 @@ around finds text before after between parts character utf8 begins ends split is
           ∙ take-append-drop split.0 text;
     }
 
--- where there is a match, the slices with the texts around it lie around the character's first place
+-- if there is a match, the slices with the texts around it lie around the first occurrence of the character
 pub split_around : (finds : List ℕ → Option (ℕ × ℕ) → Type 0) (text read before after : List ℕ) (between : ℕ → ℕ → SubstrView) (one other : SubstrView)
     → (character : ℕ) → FindsCharacter finds character → SplitsAroundMatch finds read before after → read ≡ text → IsUtf8 read
     → IsCharBoundary text (length before) → IsCharBoundary text (length text - length after)
@@ -86,7 +86,7 @@ split_around finds text read before after between one other character at_charact
     let value = around finds text before after between (one, other) character own begins ends parted is_before is_after there there_after at_character in
     record { found = (λ some. has_first text character value.place value.first, λ among. refl); value = value }
 
--- the same of the one character that a pattern looks for, if it looks for just one
+-- the same for the single character of a pattern, if the pattern matches a single character
 
 pub not_split_at_single : (finds : List ℕ → Option (ℕ × ℕ) → Type 0) (text read : List ℕ) (between : ℕ → ℕ → SubstrView) (answer : Option (SubstrView × SubstrView))
     → (single : Option ℕ) → finds read None → read ≡ text → IsUtf8 read → answer ≡ None

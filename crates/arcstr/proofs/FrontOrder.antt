@@ -1,4 +1,4 @@
--- The order of two lists by their fronts: where fronts differ they decide, and where they are alike the rest does.
+-- The order of two lists by their prefixes: prefixes that differ decide, and after equal prefixes the rest decides.
 use Rattle.std.proofs.Common.{◌≡◌, ℕ, zero, suc, ◌+◌, ◌≤◌, ◌<◌, List, [], ◌∷◌, Bool, true, false, ◌&&◌, length, min, take, drop, length-take, take-add, take-take, refl, sym, ap, ◌∙◌, arith}
 use Rattle.std.specs.declared.cmp.Ordering.{Ordering}
 use Rattle.std.specs.declared.cmp.Ordering.TheVariants.{Less, Equal, Greater}
@@ -31,7 +31,7 @@ decided (suc n) (x ∷ xs) [] in_xs in_ys differ = absurd (omega arith)
 decided (suc n) (x ∷ xs) (y ∷ ys) in_xs in_ys differ =
     decided-step n xs ys (nat_cmp x y) (decided n xs ys (omega arith) (omega arith)) differ
 
--- fronts that differ decide
+-- prefixes that differ decide
 pub by_fronts : (n : ℕ) (xs ys : List ℕ) (answer : Ordering) → n ≤ length xs → n ≤ length ys →
     answer ≡ slice_cmp nat_cmp (take n xs) (take n ys) → is_ne answer ≡ true → answer ≡ slice_cmp nat_cmp xs ys
 by_fronts n xs ys answer in_xs in_ys is differ = is ∙ decided n xs ys in_xs in_ys (ap is_ne (sym is) ∙ differ)
@@ -41,25 +41,25 @@ tied Less is = cc
 tied Equal is = refl
 tied Greater is = cc
 
--- what does not compare as different is alike
+-- lists that do not compare as different are equal
 pub alike : (xs ys : List ℕ) (answer : Ordering) → answer ≡ slice_cmp nat_cmp xs ys → is_ne answer ≡ false → xs ≡ ys
 alike xs ys answer is same = equal-of_Equal xs ys (sym is ∙ tied answer same)
 
--- what is alike compares as equal
+-- equal lists compare as `Equal`
 pub alike-Equal : (xs ys : List ℕ) → xs ≡ ys → Equal ≡ slice_cmp nat_cmp xs ys
 alike-Equal xs ys same = sym (ap (slice_cmp nat_cmp xs) (sym same) ∙ tied_itself nat_list_cmp_total xs)
 
--- fronts of alike fronts are alike
+-- prefixes of equal prefixes are equal
 pub alike-front : (m n : ℕ) (xs ys : List ℕ) → m ≤ n → take n xs ≡ take n ys → take m xs ≡ take m ys
 alike-front m n xs ys shorter same = sym (take-take m n xs shorter) ∙ ap (take m) same ∙ take-take m n ys shorter
 
--- past alike fronts the next elements decide
+-- after equal prefixes, the next elements decide
 pub by_next : (i n : ℕ) (xs ys : List ℕ) → take i xs ≡ take i ys →
     slice_cmp nat_cmp (take n (drop i xs)) (take n (drop i ys)) ≡ slice_cmp nat_cmp (take (i + n) xs) (take (i + n) ys)
 by_next i n xs ys same =
     rw (take-add i n xs) (rw (take-add i n ys) (rw (← same) (sym (slice_cmp-front (take i xs) (take n (drop i xs)) (take n (drop i ys))))))
 
--- fronts are alike that go on alike
+-- equal prefixes and equal next elements make longer equal prefixes
 pub alike-next : (i n : ℕ) (xs ys : List ℕ) → take i xs ≡ take i ys → take n (drop i xs) ≡ take n (drop i ys) → take (i + n) xs ≡ take (i + n) ys
 alike-next i n xs ys same next = rw (take-add i n xs) (rw (take-add i n ys) (cc))
 
@@ -71,7 +71,7 @@ by_length-step n x y xs ys same later =
     let rest : take n xs ≡ take n ys = cc in
     rw (← first) (rw (nat_cmp-itself x) (nat_cmp-suc (length xs) (length ys) ∙ later rest))
 
--- lists that are alike as far as the shorter goes compare as their lengths
+-- lists that agree up to the length of the shorter one compare as their lengths
 pub by_length : (n : ℕ) (xs ys : List ℕ) → n ≡ min (length xs) (length ys) → take n xs ≡ take n ys →
     nat_cmp (length xs) (length ys) ≡ slice_cmp nat_cmp xs ys
 by_length zero [] [] shorter same = refl
@@ -82,18 +82,18 @@ by_length (suc n) [] ys shorter same = absurd (omega arith)
 by_length (suc n) (x ∷ xs) [] shorter same = absurd (omega arith)
 by_length (suc n) (x ∷ xs) (y ∷ ys) shorter same = by_length-step n x y xs ys same (by_length n xs ys (omega arith))
 
--- fronts that differ decide for longer fronts
+-- prefixes that differ decide for longer prefixes
 pub by_fronts-within : (n m : ℕ) (xs ys : List ℕ) (answer : Ordering) → n ≤ m → n ≤ length xs → n ≤ length ys →
     answer ≡ slice_cmp nat_cmp (take n xs) (take n ys) → is_ne answer ≡ true → answer ≡ slice_cmp nat_cmp (take m xs) (take m ys)
 by_fronts-within n m xs ys answer shorter in_xs in_ys is differ =
     by_fronts n (take m xs) (take m ys) answer (omega (arith, length-take m xs)) (omega (arith, length-take m ys))
     (rw (take-take n m xs shorter) (rw (take-take n m ys shorter) is)) differ
 
--- fronts that are alike are all, where they go as far as both lists
+-- if equal prefixes cover both lists, the lists are equal
 pub alike-whole : (n : ℕ) (xs ys : List ℕ) → length xs ≤ n → length ys ≤ n → take n xs ≡ take n ys → xs ≡ ys
 alike-whole n xs ys in_xs in_ys same = sym (take_all n xs in_xs) ∙ same ∙ take_all n ys in_ys
 
--- what a test of both says
+-- the conjuncts of a test of both
 pub both-true : (a b : Bool) → a && b ≡ true → (a ≡ true) × (b ≡ true)
 both-true true true is = (refl, refl)
 both-true true false is = cc

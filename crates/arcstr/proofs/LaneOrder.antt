@@ -1,4 +1,4 @@
--- The order of two runs of bytes by a mask of the places where they differ: the lowest bit names the first such place, whose bytes decide.
+-- The order of two byte lists by a mask of the positions where they differ: the lowest set bit is the first such position, and the bytes there decide.
 use Rattle.std.proofs.Common.{◌≡◌, ℕ, zero, suc, ◌+◌, ◌*◌, ◌/◌, ◌%◌, ◌≤◌, ◌<◌, List, [], ◌∷◌, Bool, true, false, not, ◌==◌, length, nat_eq, get_or, take, drop, refl, sym, ap, ◌∙◌, subst, arith}
 use Rattle.std.specs.declared.cmp.Ordering.{Ordering}
 use Rattle.std.specs.declared.cmp.Ordering.TheVariants.{Less, Greater}
@@ -11,18 +11,18 @@ use lib.Count.{count_trailing_zeros, under}
 use Rattle.arcstr.proofs.FrontOrder.{by_next, nat_cmp-above}
 use Rattle.arcstr.proofs.TextOrders.{nat_cmp-below, nat_cmp-itself}
 
--- a lane for each place, true where the two differ
+-- a lane for each position, `true` if the bytes differ
 abbrev pub differing : List ℕ → List ℕ → List Bool
 differing = zip2 (λ (u v : ℕ). not (u == v))
 
--- what a lane says
+-- the meaning of one lane
 alike-lane : (u v : ℕ) → not (u == v) ≡ false → u ≡ v
 alike-lane u v is = grind (arith, nat_tests)
 
 unlike-lane : (u v : ℕ) → not (u == v) ≡ true → u ≡ v → ⊥
 unlike-lane u v is same = grind (arith, nat_tests)
 
--- runs that differ in no lane are alike
+-- lists that differ in no lane are equal
 pub none_differs : (us vs : List ℕ) → length us ≡ length vs → mask_l (differing us vs) ≡ 0 → us ≡ vs
 none_differs [] [] same none = refl
 none_differs [] (v ∷ vs) same none = absurd (omega arith)
@@ -37,7 +37,7 @@ none_differs (u ∷ us) (v ∷ vs) same none = by_lane (not (u == v)) refl none 
 same-lane : (u : ℕ) → not (u == u) ≡ false
 same-lane u = grind (arith, nat_tests)
 
--- runs that are alike differ in no lane
+-- equal lists differ in no lane
 pub alike-none : (us vs : List ℕ) → us ≡ vs → mask_l (differing us vs) ≡ 0
 alike-none us vs same = ap (λ (l : List ℕ). mask_l (differing us l)) (sym same) ∙ itself us
   where
@@ -45,21 +45,21 @@ alike-none us vs same = ap (λ (l : List ℕ). mask_l (differing us l)) (sym sam
     itself [] = refl
     itself (u ∷ us) = rw (same-lane u) (omega (arith, itself us))
 
--- what a test of a mask says
+-- the meaning of a test of a mask
 pub zero-of_test : (mask : ℕ) → nat_eq mask 0 ≡ true → mask ≡ 0
 zero-of_test mask is = grind (arith, nat_tests)
 
 pub test-of_zero : (mask : ℕ) → mask ≡ 0 → nat_eq mask 0 ≡ true
 test-of_zero mask is = grind (arith, nat_tests)
 
--- the two differ at the place `at`, and compare as the bytes there do
+-- the lists differ at position `at`, and compare as the bytes there
 pub record Decides (us vs : List ℕ) (at : ℕ) : Type 0 where
   pub within_one : at < length us
   pub within_other : at < length vs
   pub differ : get_or us at 0 ≡ get_or vs at 0 → ⊥
   pub order : slice_cmp nat_cmp us vs ≡ nat_cmp (get_or us at 0) (get_or vs at 0)
 
--- and the first bytes decide where they differ
+-- first bytes that differ decide
 unlike-order : (u v : ℕ) (rest : Ordering) → not (u == v) ≡ true → ordering_then (nat_cmp u v) rest ≡ nat_cmp u v
 unlike-order u v rest is = grind (arith, nat_tests)
 
@@ -83,7 +83,7 @@ Decides-later u v us vs at same later = record {
 halves : (bit above : ℕ) → bit < 2 → ((bit + 2 * above) % 2 ≡ bit) × ((bit + 2 * above) / 2 ≡ above)
 halves bit above small = omega arith
 
--- the lowest bit that is set names the first place where two runs of at most `width` bytes differ
+-- the lowest set bit is the first position where two lists of at most `width` bytes differ
 pub first_differs : (width : ℕ) (us vs : List ℕ) → length us ≡ length vs → length us ≤ width → 0 < mask_l (differing us vs) →
     Decides us vs (count_trailing_zeros width (mask_l (differing us vs)))
 unfolding count_trailing_zeros
@@ -104,14 +104,14 @@ first_differs (suc width) (u ∷ us) (v ∷ vs) same few some =
         subst (Decides (u ∷ us) (v ∷ vs)) (sym (λ i. under (parts.0 i) (count_trailing_zeros width (parts.1 i))))
         (Decides-later u v us vs _ (alike-lane u v is) (later (omega arith)))
 
--- the same of two longer runs up to `to`
+-- the same for two longer lists up to `to`
 pub record Apart (one other : List ℕ) (to place : ℕ) : Type 0 where
   pub within_one : place < length one
   pub within_other : place < length other
   pub differ : get_or one place 0 ≡ get_or other place 0 → ⊥
   pub order : slice_cmp nat_cmp (take to one) (take to other) ≡ nat_cmp (get_or one place 0) (get_or other place 0)
 
--- runs that are alike up to `from`, of which the next n bytes leave a mask that is not 0
+-- lists that agree up to `from`, and whose next n bytes have a mask that is not 0
 pub first_apart : (from n : ℕ) (one other : List ℕ) (mask : ℕ) → from + n ≤ length one → from + n ≤ length other → n ≤ 64 →
     take from one ≡ take from other → mask ≡ mask_l (differing (take n (drop from one)) (take n (drop from other))) → 0 < mask →
     Apart one other (from + n) (from + count_trailing_zeros 64 mask)
@@ -132,7 +132,7 @@ first_apart from n one other mask in_one in_other few alike is some =
       order = sym (by_next from n one other alike) ∙ first.order ∙ (λ i. nat_cmp (at_one i) (at_other i));
     }
 
--- the bytes at the place decide
+-- the bytes at the position decide
 pub apart-Less : (one other : List ℕ) (to place : ℕ) → Apart one other to place → get_or one place 0 < get_or other place 0 →
     Less ≡ slice_cmp nat_cmp (take to one) (take to other)
 apart-Less one other to place apart below = sym (apart.order ∙ nat_cmp-below (get_or one place 0) (get_or other place 0) below)

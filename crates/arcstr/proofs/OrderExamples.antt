@@ -22,7 +22,7 @@ b-before-e_acute = refl
 ba-is-not-bar : bytes_eq (codes "ba") (codes "bar") ≡ false
 ba-is-not-bar = refl
 
--- a string alone is a text
+-- a JSON string is a text, and no other value is one
 string-is-text : as_str (string (codes "hi")) ≡ Some (codes "hi")
 string-is-text = refl
 

@@ -1,4 +1,4 @@
--- Worked examples of the definitions of slices, by computation: what they say is what was meant.
+-- Worked examples of the definitions of slices, by computation.
 use Rattle.std.proofs.Common.{◌≡◌, [], refl, Ok, Err, ◌↔◌, IsErrOf, rules, arith, lit<}
 use Rattle.std.specs.Prelude.{codes}
 use Rattle.arcstr_range.specs.declared.range.StrRange.TheVariants.{Between, From}
@@ -13,14 +13,14 @@ use Rattle.arcstr.specs.Slicing.{AnswersRange, IsSliceOfView}
 abbrev foobarbaz : TextView
 foobarbaz = literal_of (codes "foobarbaz")
 
--- its slice from 3 to 6
+-- the slice of `foobarbaz` from 3 to 6
 abbrev bar : SubstrView
 bar = slice_of foobarbaz 3 6
 
 own_text : text_of bar ≡ codes "bar"
 own_text = refl
 
--- the places of a slice of a slice are sums
+-- the offsets of a slice of a slice are sums
 within : slice_within bar 1 3 ≡ slice_of foobarbaz 4 6
 within = refl
 
@@ -42,7 +42,7 @@ nothing = refl
 ends_from : ends_in (text_of (slice_of foobarbaz 3 9)) (From 3) ≡ (3, 6)
 ends_from = refl
 
--- an answer for a range of the slice's own text
+-- the result for a range of the slice's own text
 answered : AnswersRange (text_of bar) (slice_within bar) (Between 1 3) (Ok (slice_of foobarbaz 4 6))
 answered = search rules
 
@@ -51,7 +51,7 @@ past_own_end_alone OutOfOrder = (λ other. cc, λ first. absurd (first.broken (o
 past_own_end_alone PastEnd = (λ _. search rules, λ _. refl)
 past_own_end_alone OffBoundary = (λ other. cc, λ first. absurd (omega (arith, first.kept_before PastEnd (lit< tt))))
 
--- 5 is past the end of the slice's own text, though not of the parent
+-- 5 is past the end of the slice's own text, but not of the parent
 past_own_end : AnswersRange (text_of bar) (slice_within bar) (Between 0 5) (Err PastEnd)
 past_own_end = record {
   value = search rules;
@@ -60,10 +60,10 @@ past_own_end = record {
   refused = past_own_end_alone;
 }
 
--- what a view of `bar` at 0 shows, in the slice
+-- the slice that a view of `bar` at 0 shows
 shown : IsSliceOfView (slice_within bar) (view_at (codes "bar") 0) (slice_of foobarbaz 3 6)
 shown = search rules
 
--- an empty view shows the slice of nothing, wherever it says that it stands
+-- an empty view shows the slice of nothing, whatever its place
 shown_empty : IsSliceOfView (slice_within bar) (view_at [] 99) empty_slice
 shown_empty = search rules

@@ -8,7 +8,7 @@ use Rattle.std.specs.Ordering.{nat_cmp, ordering_then, ordering_reverse, MatchOr
 use Rattle.std.proofs.lemmas.Cmp.{nat_list_cmp_total, ranked, tied_itself}
 use Rattle.arcstr.specs.TextOrder.{ComesBefore, IsTextOrder}
 
--- one more byte at the front of both texts
+-- one more byte at the start of both texts
 ComesBefore-cons : (x y : ℕ) (xs ys : List ℕ) → x ≡ y → ComesBefore xs ys → ComesBefore (x ∷ xs) (y ∷ ys)
 ComesBefore-cons x y xs ys same (inl (next, rest, is)) = inl (next, rest, cc)
 ComesBefore-cons x y xs ys same (inr (front, after)) = inr (
@@ -42,7 +42,7 @@ ComesBefore-by_first x y xs ys Less below is later = inr (
 ComesBefore-by_first x y xs ys Equal same is later = ComesBefore-cons x y xs ys same (later is)
 ComesBefore-by_first x y xs ys Greater above is later = cc
 
--- what compares as less comes before
+-- a text that compares as `Less` comes before
 ComesBefore-of_Less : (xs ys : List ℕ) → slice_cmp nat_cmp xs ys ≡ Less → ComesBefore xs ys
 ComesBefore-of_Less [] [] is = cc
 ComesBefore-of_Less [] (y ∷ ys) is = inl (y, ys, refl)
@@ -56,7 +56,7 @@ equal-by_first x y xs ys Less below is later = cc
 equal-by_first x y xs ys Equal same is later = let rest = later is in cc
 equal-by_first x y xs ys Greater above is later = cc
 
--- what compares as equal is one text
+-- texts that compare as `Equal` are equal
 pub equal-of_Equal : (xs ys : List ℕ) → slice_cmp nat_cmp xs ys ≡ Equal → xs ≡ ys
 equal-of_Equal [] [] is = refl
 equal-of_Equal [] (y ∷ ys) is = cc
@@ -79,12 +79,12 @@ pub slice_cmp-front : (front xs ys : List ℕ) → slice_cmp nat_cmp (front ++ x
 slice_cmp-front [] xs ys = refl
 slice_cmp-front (x ∷ front) xs ys = rw (nat_cmp-itself x) (slice_cmp-front front xs ys)
 
--- a proper front compares as less
+-- a proper prefix compares as `Less`
 slice_cmp-longer : (xs : List ℕ) (next : ℕ) (rest : List ℕ) → slice_cmp nat_cmp xs (xs ++ (next ∷ rest)) ≡ Less
 slice_cmp-longer [] next rest = refl
 slice_cmp-longer (x ∷ xs) next rest = rw (nat_cmp-itself x) (slice_cmp-longer xs next rest)
 
--- what comes before compares as less
+-- a text that comes before compares as `Less`
 Less-of_ComesBefore : (xs ys : List ℕ) → ComesBefore xs ys → slice_cmp nat_cmp xs ys ≡ Less
 Less-of_ComesBefore xs ys (inl (next, rest, is)) = rw is (slice_cmp-longer xs next rest)
 Less-of_ComesBefore xs ys (inr (front, after)) =

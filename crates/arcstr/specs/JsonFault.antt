@@ -1,4 +1,4 @@
--- The refusals of reading a text from a JSON value.
+-- The faults of reading a text from a JSON value.
 use Rattle.std.specs.Prelude.{ℕ, List, codes}
 use Rattle.arcstr.specs.declared.json.JsonFault.{JsonFault}
 use Rattle.arcstr.specs.declared.json.JsonFault.TheVariants.{NotText, Length, Memory}
@@ -9,7 +9,7 @@ json_fault_number NotText = 1
 json_fault_number Length = 2
 json_fault_number Memory = 3
 
--- what a fault is shown as
+-- the message of a fault
 abbrev pub json_fault_text : JsonFault → List ℕ
 json_fault_text NotText = codes "value is not a text"
 json_fault_text Length = codes "text is too long"

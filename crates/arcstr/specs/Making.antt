@@ -1,4 +1,4 @@
--- What making answers, and when it refuses.
+-- Results and errors of the calls that make texts.
 use Rattle.std.specs.Prelude.{◌≡◌, ◌*◌, ◌⊎◌, ◌↔◌, ℕ, List, [], length, Result, Ok, IsUtf8, IfOk, IfErr, IsErrOf}
 use Rattle.std.specs.List.{repeat}
 use Rattle.arcstr_block.specs.declared.fault.TextFault.{TextFault}
@@ -6,20 +6,19 @@ use Rattle.arcstr_block.specs.declared.fault.TextFault.TheVariants.{Length}
 use Rattle.arcstr.specs.TextView.{TextView, literal_of, made_of}
 pub use Rattle.arcstr_block.specs.Making.{IsTooLong, IsFaultOfMaking, IsFaultOfBytes, IsFaultOfFilling}
 
--- why no text is made of bytes that are copied: they are no text, or the text is not made
+-- why a copy of bytes fails: they are not UTF-8, or the text cannot be made
 abbrev pub IsFaultOfCopying : List ℕ → TextFault → Type 0
 IsFaultOfCopying bytes fault = IsFaultOfBytes bytes fault ⊎ (IsUtf8 bytes × IsFaultOfMaking (length bytes) fault)
 
--- the answer where this text is copied: the text, and the empty literal of an empty one; or its length where that is too
--- long, or want of memory
+-- the result of copying this text: the text, which is the empty literal if it is empty; an error if it is too long, or if the allocation fails
 pub record AnswersCopy (text : List ℕ) (answer : Result TextView TextFault) : Type 0 where
   pub made : IfOk answer (λ made. made ≡ made_of text)
   pub empty : text ≡ [] → answer ≡ Ok (literal_of [])
   pub too_long : IsErrOf answer Length ↔ IsTooLong (length text)
   pub refused : IfErr answer (IsFaultOfMaking (length text))
 
--- the answer where n copies of this text are joined: the text of them, and the empty literal of none or of an empty
--- text; or their length where that is too long, or want of memory
+-- the result of joining n copies of this text: the joined text, which is the empty literal if n is 0 or the text is empty; an error if it is too long, or if
+-- the allocation fails
 pub record AnswersCopies (n : ℕ) (text : List ℕ) (answer : Result TextView TextFault) : Type 0 where
   pub made : IfOk answer (λ made. made ≡ made_of (repeat n text))
   pub no_copies : n ≡ 0 → answer ≡ Ok (literal_of [])

@@ -1,5 +1,5 @@
--- What the slicing calls answer. Each definition is told of the receiver's own text, and of the slice that lies between
--- two places of that text: `slice_of` of a shared text, `slice_within` of a shared slice.
+-- Results of the slicing calls. Each definition takes the receiver's own text, and the slice between two byte offsets of that text: `slice_of` for a shared
+-- text, `slice_within` for a shared slice.
 use Rattle.std.specs.Prelude.{◌≡◌, ◌≢◌, ◌↔◌, ℕ, List, [], Option, Result, Ok, IsOk, IsErrOf, IsSome, IfOk, IfSome}
 use Rattle.std.specs.declared.ops.Range.{Range}
 use Rattle.arcstr_range.specs.declared.range.StrRange.{StrRange}
@@ -10,27 +10,25 @@ use Rattle.arcstr_range.specs.Text.{SpellsBetween}
 use Rattle.arcstr_range.specs.View.{View, end_of}
 use Rattle.arcstr.specs.Substr.{SubstrView, empty_slice, text_of}
 
--- the answer for a range: the slice between its ends, which has the text between them, exactly where the range is lawful
--- in the text, and else its first fault
+-- the result for a range: the slice between its ends, with the text between them, exactly if the range is valid in the text, and otherwise its first fault
 pub record AnswersRange (text : List ℕ) (between : ℕ → ℕ → SubstrView) (range : StrRange) (answer : Result SubstrView RangeFault) : Type 0 where
   pub value : IfOk answer (λ slice. slice ≡ between (ends_in text range).0 (ends_in text range).1)
   pub same_text : IfOk answer (λ slice. text_of slice ≡ cut_by text range)
   pub lawful : IsOk answer ↔ IsLawfulRange text range
   pub refused : (fault : RangeFault) → IsErrOf answer fault ↔ IsFirstRangeFault text range fault
 
--- the answer for the two places that a closure found: the slice of nothing where they are equal, and else as for that range
+-- the result for the two byte offsets that a closure returns: the slice of nothing if they are equal, and otherwise the result for that range
 pub record AnswersFoundRange (text : List ℕ) (between : ℕ → ℕ → SubstrView) (found : Range ℕ) (answer : Result SubstrView RangeFault) : Type 0 where
   pub equal_ends : found.start ≡ found.end → answer ≡ Ok empty_slice
   pub other_ends : found.start ≢ found.end → AnswersRange text between (Between found.start found.end) answer
 
--- the slice that a found view shows: the slice of nothing of an empty view, and else the one that begins at the view's
--- place; its text is the view's
+-- the slice that a found view shows: the slice of nothing for an empty view, and otherwise the slice that starts at the view's place; its text is the view's
 pub record IsSliceOfView (between : ℕ → ℕ → SubstrView) (view : View) (slice : SubstrView) : Type 0 where
   pub empty : view.text ≡ [] → slice ≡ empty_slice
   pub there : view.text ≢ [] → slice ≡ between view.place (end_of view)
   pub same_text : text_of slice ≡ view.text
 
--- the bytes that `get` answers for a range: those between its ends, exactly where Rust's `str` has a slice there
+-- the bytes that `get` returns for a range: those between its ends, exactly if Rust's `str` has a slice there
 pub record AnswersGet (text : List ℕ) (range : StrRange) (answer : Option (List ℕ)) : Type 0 where
   pub some : IsSome answer ↔ IsSliceRange text range
   pub value : IfSome answer (λ part. part ≡ cut_by text range)

@@ -1,5 +1,5 @@
--- What the calls answer that take a text apart. As in `Slicing`, `between` is the slice between two places of the receiver's
--- own text. A place is counted in bytes. What a search for a pattern finds, and the parts around it, is said in std's words.
+-- Results of the calls that split a text. As in `Slicing`, `between` maps two byte offsets of the receiver's own text to its slice. Definitions of std say
+-- what a search for a pattern finds, and the parts around it.
 use Rattle.std.specs.Prelude.{◌≡◌, ◌↔◌, ℕ, ◌+◌, ◌-◌, List, ◌∷◌, ◌++◌, length, take, drop, Contains, encode_utf8, encode_utf8_all}
 use Rattle.std.specs.Prelude.{Option, Result, IsSome, IfSome, IsOk, IfOk, IsErrOf}
 use Rattle.std.specs.Char.{len_utf8}
@@ -18,8 +18,7 @@ LiesAtStart between slice = slice ≡ between 0 (length (text_of slice))
 abbrev pub LiesAtEnd : List ℕ → (ℕ → ℕ → SubstrView) → SubstrView → Type 0
 LiesAtEnd text between slice = slice ≡ between (length text - length (text_of slice)) (length text)
 
--- the answer of `substr_split_at`: the slices before and after the place, exactly where the range up to the place is lawful,
--- and else that range's first fault
+-- the result of `substr_split_at`: the slices before and after the offset, exactly if the range up to it is valid, and otherwise that range's first fault
 pub record AnswersSplitAt (text : List ℕ) (between : ℕ → ℕ → SubstrView) (place : ℕ) (answer : Result (SubstrView × SubstrView) RangeFault) : Type 0 where
   pub lawful : IsOk answer ↔ IsLawfulRange text (To place)
   pub refused : (fault : RangeFault) → IsErrOf answer fault ↔ IsFirstRangeFault text (To place) fault
@@ -28,13 +27,13 @@ pub record AnswersSplitAt (text : List ℕ) (between : ℕ → ℕ → SubstrVie
   pub text_before : IfOk answer (λ parts. text_of parts.0 ≡ take place text)
   pub text_after : IfOk answer (λ parts. text_of parts.1 ≡ drop place text)
 
--- ---- at a character
+-- ---- splits at a character
 
--- the search finds in each text what a search for the character finds
+-- in each text, the search finds what a search for the character finds
 abbrev pub FindsCharacter : (List ℕ → Option (ℕ × ℕ) → Type 0) → ℕ → Type 0
 FindsCharacter finds character = (text : List ℕ) (answer : Option (ℕ × ℕ)) → finds text answer → FindsChar character text answer
 
--- the character stands at the place, and those before it are others
+-- the character starts at the offset, and no character before it is the same
 pub record IsFirstPlace (text : List ℕ) (character place : ℕ) : Type 0 where
   pub before : List ℕ
   pub after : List ℕ
@@ -42,7 +41,7 @@ pub record IsFirstPlace (text : List ℕ) (character place : ℕ) : Type 0 where
   pub others : ¬ (Contains before character)
   pub measured : length (encode_utf8_all before) ≡ place
 
--- the slices lie before and after the first place of the character, and with its UTF-8 between them they join to the text
+-- the slices lie before and after the first occurrence of the character; the first, the UTF-8 of the character and the second join to the text
 pub record AreAround (text : List ℕ) (between : ℕ → ℕ → SubstrView) (character : ℕ) (parts : SubstrView × SubstrView) : Type 0 where
   pub place : ℕ
   pub first : IsFirstPlace text character place
@@ -50,7 +49,7 @@ pub record AreAround (text : List ℕ) (between : ℕ → ℕ → SubstrView) (c
   pub after : parts.1 ≡ between (place + len_utf8 character) (length text)
   pub joined : text_of parts.0 ++ encode_utf8 character ++ text_of parts.1 ≡ text
 
--- the answer of `substr_split_once` at a character: the slices around its first place, exactly where the text has it
+-- the result of `substr_split_once` at a character: the slices around its first occurrence, exactly if the text has it
 pub record AnswersSplit (text : List ℕ) (between : ℕ → ℕ → SubstrView) (character : ℕ) (answer : Option (SubstrView × SubstrView)) : Type 0 where
   pub found : IsSome answer ↔ Contains (chars text) character
   pub value : IfSome answer (AreAround text between character)

@@ -1,4 +1,4 @@
--- What the forms of a static text are seen as.
+-- How contracts see the forms of a static text.
 use Rattle.arcstr.specs.TextView.{TextView, literal_of, fixed_of}
 use Rattle.arcstr.specs.declared.static_str.StaticForm.{StaticForm}
 use Rattle.arcstr.specs.declared.static_str.StaticForm.TheVariants.{Literal, Fixed}

@@ -1,20 +1,20 @@
--- What a shared slice is seen as: its parent, and the places in the parent's text between which it lies.
+-- How contracts see a shared slice: its parent, and its byte range in the parent's text.
 use Rattle.std.specs.Prelude.{ℕ, ◌+◌, List, [], length}
 use Rattle.arcstr_range.specs.Substring.{Substring, substring_at, IsSound}
 use Rattle.arcstr_range.specs.Substring.{text_of as text_of_substring}
 use Rattle.arcstr.specs.TextView.{TextView, literal_of}
 
--- a shared slice, as contracts see it; the places are counted in bytes of the parent's text
+-- a shared slice in a contract, with byte offsets in the parent's text
 pub record SubstrView : Type 0 where
   pub parent : TextView
   pub start : ℕ
   pub end : ℕ
 
--- the slice of a parent between two places
+-- the slice of a parent between two byte offsets
 abbrev pub slice_of : TextView → ℕ → ℕ → SubstrView
 slice_of parent start end = record { parent = parent; start = start; end = end }
 
--- the slice of a parent that is all of its text
+-- the slice of all of a parent's text
 abbrev pub whole_of : TextView → SubstrView
 whole_of parent = slice_of parent 0 (length parent.text)
 
@@ -30,10 +30,10 @@ substring_of slice = substring_at slice.parent.text slice.start slice.end
 abbrev pub text_of : SubstrView → List ℕ
 text_of slice = text_of_substring (substring_of slice)
 
--- its places are lawful in its parent's text
+-- its byte range is valid in its parent's text
 abbrev pub IsSoundSlice : SubstrView → Type 0
 IsSoundSlice slice = IsSound (substring_of slice)
 
--- the slice between two places of a slice's own text: of the same parent, at the sums of the places
+-- the slice between two byte offsets of a slice's own text: of the same parent, at the sums of the offsets
 abbrev pub slice_within : SubstrView → ℕ → ℕ → SubstrView
 slice_within outer start end = slice_of outer.parent (outer.start + start) (outer.start + end)

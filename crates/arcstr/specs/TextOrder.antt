@@ -1,14 +1,13 @@
--- Order of texts: a text comes before another that it is a proper front of, or that has the higher byte where the two
--- first differ.
+-- The order of texts: a proper prefix of a text comes before it, and otherwise the text with the lower byte at the first difference comes first.
 use Rattle.std.specs.Prelude.{◌≡◌, ◌↔◌, ◌⊎◌, ℕ, ◌<◌, List, ◌∷◌, ◌++◌}
 use Rattle.std.specs.declared.cmp.Ordering.{Ordering}
 use Rattle.std.specs.declared.cmp.Ordering.TheVariants.{Less, Equal, Greater}
 
--- the first text is a front of the second, which goes on
+-- the first text is a prefix of the second, which is longer
 abbrev pub IsProperFront : List ℕ → List ℕ → Type 0
 IsProperFront one other = (next : ℕ) × (rest : List ℕ) × (other ≡ one ++ (next ∷ rest))
 
--- after a front that both have, the first text has the lower byte
+-- after a common prefix, the first text has the lower byte
 pub record HasLowerByteAfter (front one other : List ℕ) : Type 0 where
   pub low : ℕ
   pub high : ℕ
@@ -22,7 +21,7 @@ pub record HasLowerByteAfter (front one other : List ℕ) : Type 0 where
 abbrev pub ComesBefore : List ℕ → List ℕ → Type 0
 ComesBefore one other = IsProperFront one other ⊎ ((front : List ℕ) × HasLowerByteAfter front one other)
 
--- the answer of a comparison of two texts
+-- the result of comparing two texts
 pub record IsTextOrder (one other : List ℕ) (answer : Ordering) : Type 0 where
   pub less : answer ≡ Less ↔ ComesBefore one other
   pub equal : answer ≡ Equal ↔ (one ≡ other)

@@ -1,13 +1,13 @@
--- What a shared text is seen as: its bytes, and where they lie.
+-- How contracts see a shared text: its bytes, and where they lie.
 use Rattle.std.specs.Prelude.{◌≢◌, ◌==◌, if◌then◌else◌, ℕ, List, length}
 
--- where the bytes of a text lie: in the program; in a counted block; in a block that is marked for good
+-- where the bytes of a text lie: in the program, in a counted block, or in a permanent block
 pub data Kind : Type 0 where
   literal : Kind
   block : Kind
   fixed_block : Kind
 
--- a shared text, as contracts see it
+-- a shared text in a contract
 pub record TextView : Type 0 where
   pub text : List ℕ
   pub kind : Kind
@@ -20,24 +20,24 @@ literal_of bytes = record { text = bytes; kind = literal }
 abbrev pub counted_of : List ℕ → TextView
 counted_of bytes = record { text = bytes; kind = block }
 
--- the text of these bytes in a block that is marked for good
+-- the text of these bytes in a permanent block
 abbrev pub fixed_of : List ℕ → TextView
 fixed_of bytes = record { text = bytes; kind = fixed_block }
 
--- what making answers for these bytes: the empty literal, or a block
+-- the text that a making call returns for these bytes: the empty literal, or a text in a counted block
 abbrev pub made_of : List ℕ → TextView
 made_of bytes = record { text = bytes; kind = if length bytes == 0 then literal else block }
 
--- no call on a text of this kind takes a step on a word
+-- no call on a text of this kind takes an atomic step
 abbrev pub IsStatic : Kind → Type 0
 IsStatic kind = kind ≢ block
 
--- where the bytes lie once the text was leaked
+-- where the bytes lie after the text is leaked
 abbrev pub leaked_kind : Kind → Kind
 leaked_kind literal = literal
 leaked_kind block = fixed_block
 leaked_kind fixed_block = fixed_block
 
--- the same text, leaked
+-- the same text after it is leaked
 abbrev pub leaked : TextView → TextView
 leaked view = record { text = view.text; kind = leaked_kind view.kind }

@@ -1,11 +1,11 @@
-//! The places in a text of its prefixes and suffixes.
+//! The byte ranges of the prefixes and suffixes of a text.
 ghost use Rattle.std.specs.Prelude.{◌≡◌, ◌-◌, ◌≤◌, length, take, drop};
 ghost use Rattle.arcstr_range.specs.Ends.{IsLawful};
 ghost use Rattle.arcstr_range.specs.Text.{cut};
 
 use std::ops::Range;
 
-/// Where the text begins with the prefix.
+/// Returns the range of the prefix in the text.
 #[tactic(auto, using(arcstr_range::proofs::Affixes::slices_of_prefixes))]
 pub(crate) fn prefix_places(text: &str, prefix: &str) -> Range<usize>
     requires within { length prefix.now ≤ length text.now }
@@ -19,7 +19,7 @@ pub(crate) fn prefix_places(text: &str, prefix: &str) -> Range<usize>
     0..prefix.len()
 }
 
-/// Where the text ends with the suffix.
+/// Returns the range of the suffix in the text.
 #[tactic(auto, using(arcstr_range::proofs::Affixes::slices_of_suffixes))]
 pub(crate) fn suffix_places(text: &str, suffix: &str) -> Range<usize>
     requires within { length suffix.now ≤ length text.now }

@@ -1,4 +1,4 @@
-//! `ArcStr`: a text that threads share.
+//! `ArcStr`: a reference-counted immutable text that threads share.
 ghost use Rattle.std.specs.Prelude.{◌≡◌, ◌+◌, ◌≤◌, ◌↔◌, [], length, IsTrue, IsSome, IsNone, IfSome};
 ghost use Rattle.arcstr.specs.Forms.{IsLimited};
 ghost use Rattle.arcstr.specs.TextView.{IsStatic, literal_of, fixed_of, counted_of, leaked};
@@ -26,12 +26,13 @@ mod tests;
 #[cfg(test)]
 mod thread_tests;
 
-/// A text that threads share: it may be sent to a thread, and shared between threads. A contract sees its text and its
-/// kind: a literal, a handle on a counted block, or a block that is marked for good. It takes 24 bytes.
+/// A reference-counted immutable text that threads share. It is `Send` and `Sync`, and its size is 24 bytes. In a contract it has a text and a kind: a
+/// literal, a handle to a counted block, or a permanent block.
 ///
-/// The drop of a handle on a block takes one load of its word, and where that found no mark a fetch-sub. The
-/// last one of an unmarked block gives its memory back. The drop of a literal or of a fixed block takes no step. No
-/// drop waits.
+/// Dropping a handle to a block loads its count word and, if the block is not marked static, decrements the count with a fetch-sub. The last handle of an
+/// unmarked block frees its memory. Dropping a literal or a permanent block takes no atomic step. No drop waits.
+///
+/// No method or trait implementation allocates or takes an atomic step unless its documentation says so.
 ///
 /// ```
 /// let text = ArcStr::from_str(rt.alloc(), "foo")?;
@@ -46,9 +47,8 @@ pub struct ArcStr {
     ghost limited: { IsLimited form },
 }
 
-/// Where the bytes of a text lie: in the program, or in a block that is held as one of its counted handles or for
-/// good. Each kind has the address of the text and then its length, so that both are read with no test of the kind.
-/// The counted kind is the first, since clones and drops ask for it alone: a test for 0 takes one branch.
+/// Where the bytes of a text lie: in the program, or in a block, which is counted or permanent. Each kind holds the address of the text and then its length,
+/// so code can read both without testing the kind. The counted kind comes first, since only clones and drops test for it: a test for 0 takes one branch.
 #[derive(Drop)]
 enum Form {
     Counted(Shared<RC_MAX, Global>),
@@ -66,9 +66,8 @@ impl Model for ArcStr {
     ghost view = { λ shared. text_view shared.form };
 }
 
-/// A living handle on a text, outside the type that drops it. It has no drop, and the checker refuses a function that
-/// lets it go: it ends only in `ArcStr::from_raw`. A contract sees the text and its kind. It may be sent to a thread,
-/// and shared between threads. It takes 24 bytes.
+/// An owned handle without a drop, from `ArcStr::into_raw`. The checker refuses a function that loses it: only `ArcStr::from_raw` consumes it. In a contract
+/// it has the text and the kind of the `ArcStr`. It is `Send` and `Sync`, and its size is 24 bytes.
 ///
 /// ```
 /// let text = ArcStr::from_str(rt.alloc(), "foo")?;
@@ -90,7 +89,7 @@ impl Model for RawArcStr {
 }
 
 impl ArcStr {
-    /// The empty literal. Takes no memory, and no step is taken.
+    /// Creates a new empty text, which is a literal.
     ///
     /// ```
     /// let text = ArcStr::new();
@@ -103,7 +102,7 @@ impl ArcStr {
         ArcStr::from_static("")
     }
 
-    /// A literal of this text, which lies in the program. Takes no memory, and no step is taken.
+    /// Creates a literal from a `&'static str`, whose bytes lie in the program.
     ///
     /// ```
     /// let text = ArcStr::from_static("foo");
@@ -118,10 +117,11 @@ impl ArcStr {
         }
     }
 
-    /// Another handle on the same text. Takes no memory. Of a block one load of its word, and where that found
-    /// no mark a compare-exchange that counts the handle, or sets the mark where the count is past its limit; it
-    /// is tried again where the word changed between, and so may wait. Of a literal or a fixed block no step is
-    /// taken.
+    /// Makes a clone of the handle: another handle to the same text.
+    ///
+    /// For a block, it loads the count word and, if the block is not marked static, increments the count with a compare-exchange. If the count is past its
+    /// limit, the compare-exchange marks the block static instead. It tries again if another thread changed the count word in between, and so can wait. For a
+    /// literal or a permanent block, it takes no atomic step.
     ///
     /// ```
     /// let text = ArcStr::from_str(rt.alloc(), "foo")?;
@@ -140,7 +140,7 @@ impl ArcStr {
         ArcStr { form }
     }
 
-    /// The text. No step is taken.
+    /// Returns the text.
     ///
     /// ```
     /// let text = ArcStr::from_str(rt.alloc(), "aé")?;
@@ -156,7 +156,7 @@ impl ArcStr {
         }
     }
 
-    /// The number of bytes of the text. No step is taken, and the bytes are not read.
+    /// Returns the length of the text in bytes. Does not read the bytes.
     ///
     /// ```
     /// let text = ArcStr::from_static("aé");
@@ -168,7 +168,7 @@ impl ArcStr {
         self.as_str().len()
     }
 
-    /// Whether the text has no bytes. No step is taken.
+    /// Returns `true` if the text has a length of zero bytes.
     ///
     /// ```
     /// assert!(rt; ArcStr::from_static("").is_empty());
@@ -180,7 +180,7 @@ impl ArcStr {
         self.as_str().is_empty()
     }
 
-    /// The bytes of the text. No step is taken.
+    /// Returns the bytes of the text.
     ///
     /// ```
     /// let text = ArcStr::from_static("aé");
@@ -192,9 +192,8 @@ impl ArcStr {
         self.as_str().as_bytes()
     }
 
-    /// The number of handles on the text's block, those of its slices too, at the moment of one load of its word,
-    /// where the block was not marked: from 1 to `RC_MAX + 1`. `None` where it was, and without a step for a literal
-    /// and a fixed block.
+    /// Returns the number of handles to the text's block, including those of slices, or `None` if the block is marked static. One load of the count word
+    /// reads both. The number is from 1 to `RC_MAX + 1`. For a literal or a permanent block, returns `None` without an atomic step.
     ///
     /// ```
     /// let text = ArcStr::from_str(rt.alloc(), "foo")?;
@@ -213,8 +212,8 @@ impl ArcStr {
         }
     }
 
-    /// Whether the text lies where it is never given back: always, and without a step, for a literal and a fixed
-    /// block; for another block exactly where one load of its word found the mark.
+    /// Returns `true` if the text is never freed. That is always so for a literal or a permanent block, and takes no atomic step. For another block, one load
+    /// of the count word tests the static flag.
     ///
     /// ```
     /// let text = ArcStr::from_str(rt.alloc(), "foo")?;
@@ -231,8 +230,8 @@ impl ArcStr {
         }
     }
 
-    /// The same text for good: its memory is never given back, whatever ends. Of a block one fetch-or sets the mark
-    /// in its word, which nothing takes away; of a literal or a fixed block no step is taken. Takes no memory.
+    /// Leaks the text, which makes it permanent: its memory is never freed, even after every handle is dropped. For a block, one fetch-or sets the static
+    /// flag in the count word, and nothing clears it. For a literal or a permanent block, it takes no atomic step.
     ///
     /// ```
     /// let text = ArcStr::from_str(rt.alloc(), "foo")?;
@@ -250,8 +249,8 @@ impl ArcStr {
         }
     }
 
-    /// The same text for good, where it lies so already: always, and without a step, for a literal and a fixed block;
-    /// for another block exactly where one load of its word found the mark. Takes no memory.
+    /// Returns the text as a `StaticStr` if it is static already. That is always so for a literal or a permanent block, and takes no atomic step. For another
+    /// block, one load of the count word tests the static flag.
     ///
     /// ```
     /// let text = ArcStr::from_str(rt.alloc(), "foo")?;
@@ -271,8 +270,7 @@ impl ArcStr {
         }
     }
 
-    /// The handle as a raw value, in which it lives on, and is counted, until `from_raw`. Takes no memory, and no step
-    /// is taken.
+    /// Consumes the handle and returns it as a raw value. The raw value keeps the text alive and stays counted until `from_raw`.
     ///
     /// ```
     /// let text = ArcStr::from_str(rt.alloc(), "foo")?;
@@ -287,7 +285,7 @@ impl ArcStr {
         RawArcStr { text: this }
     }
 
-    /// The handle that the raw value was made from. Takes no memory, and no step is taken.
+    /// Converts a raw value back into the handle that it was made from.
     ///
     /// ```
     /// let raw = ArcStr::into_raw(ArcStr::from_str(rt.alloc(), "foo")?);
@@ -325,7 +323,7 @@ impl Default for ArcStr {
 
     ghost is_default = { λ text. text ≡ literal_of [] };
 
-    /// The empty literal, as `ArcStr::new()`. Takes no memory, and no step is taken.
+    /// Creates a new empty text, as `ArcStr::new()` does.
     fn default() -> ArcStr {
         ArcStr::new()
     }

@@ -1,4 +1,4 @@
-//! Calls that ask for a text, for bytes or for a fault by its trait, and are given those of this crate.
+//! Generic calls that take a text, bytes or a fault by a trait, with the types of this crate.
 use crate::test_steps::{check_bytes, check_count, check_part, check_text, made, part};
 use crate::{ArcStr, JsonFault, StrRange, TextFault, literal};
 use serde_json::Value;
@@ -8,7 +8,7 @@ use std::io;
 use std::process::Abort;
 use std::sync::Wait;
 
-/// Asserts what the value lends as a text, and as bytes.
+/// Asserts the text and the bytes that the value lends.
 fn check_lent<T: AsStr + AsSlice<u8>>(rt: &impl Abort, value: &T, wanted: &str) {
     check_text(rt, AsStr::as_str(value), wanted);
     check_bytes(rt, AsSlice::as_slice(value), wanted.as_bytes());
@@ -33,7 +33,7 @@ fn a_slice_lends_its_own_text(rt: HostRuntime) {
     check_count(&rt, slice.parent(), Some(1));
 }
 
-/// The texts of a list, which both ask for memory.
+/// Returns a list of the two texts. Both the list and the texts allocate.
 fn listed(alloc: Global, one: &str, other: &str) -> Result<Vec<ArcStr>, TextFault> {
     let mut texts = Vec::with_capacity(alloc, 1)?;
     texts.push(ArcStr::from_str(alloc, one)?)?;
@@ -48,7 +48,7 @@ fn a_list_and_its_texts_have_one_fault(rt: HostRuntime) {
     check_text(&rt, last.as_str(), "bar");
 }
 
-/// A list of the text of a JSON value, which both ask for memory.
+/// Returns a list with the text of a JSON value. Both the list and the text allocate.
 fn read(alloc: Global, value: &Value) -> Result<Vec<ArcStr>, JsonFault> {
     let mut texts = Vec::with_capacity(alloc, 1)?;
     texts.push(ArcStr::from_json(alloc, value)?)?;
@@ -67,7 +67,7 @@ fn json_text(rt: &(impl Abort + AllocGlobal)) -> Value {
     Value::try_from_str(rt.alloc(), "foo").expect(rt, "no memory")
 }
 
-/// A handle on the text that could not be stored.
+/// Returns the error for a handle to the text that could not be stored.
 fn not_stored(rt: &impl Wait, text: &ArcStr) -> AllocFailed<ArcStr> {
     AllocFailed {
         value: text.clone(rt),
@@ -81,7 +81,7 @@ fn what_was_not_stored_is_dropped(rt: HostRuntime) {
     check_count(&rt, &text, Some(1));
 }
 
-/// What a fault is as one of reading and writing.
+/// Returns the kind of the fault as an `io::Error`.
 fn kind_of(fault: TextFault) -> io::ErrorKind {
     io::Error::from(fault).kind()
 }

@@ -1,5 +1,5 @@
-//! The count of a text after each call of `ArcStr`, and once what the call gave is dropped. A call that takes a
-//! lawful step too many, or forgets a handle, meets its contract and answers the right value: the count shows it.
+//! The count of a text after each call of `ArcStr`, and again after the result of the call is dropped. A call that takes one valid step too many, or forgets
+//! a handle, still meets its contract and returns the right value. Only the count detects it.
 use crate::test_steps::{check_count, made};
 use crate::{ArcStr, Substr, format_arcstr};
 use arcstr_range::view::StrView;
@@ -9,7 +9,7 @@ use std::hash::{DefaultHasher, Hash};
 use std::process::Abort;
 use std::sync::Wait;
 
-/// Asserts that the call gave a slice, that the slice holds the text by one handle, and that its drop ends it.
+/// Asserts that the call returned a slice, that the slice keeps the text by one handle, and that dropping the slice drops that handle.
 fn check_held_once(rt: &impl Abort, text: &ArcStr, slice: Option<Substr>) {
     let slice = slice.expect(rt, "no slice");
     check_count(rt, text, Some(2));
@@ -36,7 +36,7 @@ fn a_found_slice_holds_its_text_once(rt: HostRuntime) {
     check_held_once(&rt, &text, Some(text.substr_from(&rt, whole)));
 }
 
-/// Asserts that the call gave this answer, and that it left the text with its one handle.
+/// Asserts that the call gave the expected result, and that the text has only its own handle afterwards.
 fn check_let_go(rt: &impl Abort, text: &ArcStr, answers: bool) {
     assert!(rt; answers);
     check_count(rt, text, Some(1));
@@ -94,7 +94,7 @@ fn hashing_leaves_the_count(rt: HostRuntime) {
     check_count(&rt, &text, Some(1));
 }
 
-/// Whether the call gave something, which is dropped.
+/// Returns whether the call succeeded, and drops its result.
 fn gave<T: Drop, E: Drop>(answer: Result<T, E>) -> bool {
     answer.is_ok()
 }
@@ -143,7 +143,7 @@ fn a_raw_handle_is_counted(rt: HostRuntime) {
     check_count(&rt, &text, Some(1));
 }
 
-/// Asserts that the text was made, with one handle.
+/// Asserts that the text was made and has one handle.
 fn check_made_once<E: Drop>(rt: &impl Abort, made: Result<ArcStr, E>) {
     check_count(rt, &made.ok().expect(rt, "no text"), Some(1));
 }

@@ -1,5 +1,4 @@
-//! Texts that act as a `str`: every method of `str` can be called on them. A method that the type itself has is called
-//! in place of `str`'s.
+//! The trait `Deref` of the text types: every method of `str` can be called on them. A method of the type itself takes precedence over one of `str`.
 ghost use Rattle.std.specs.Prelude.{◌≡◌};
 ghost use Rattle.arcstr.specs.Substr.{text_of};
 
@@ -14,7 +13,7 @@ mod tests;
 impl DerefStr for ArcStr {
     ghost deref_gives = { λ shared bytes. bytes ≡ shared.text };
 
-    /// The text, as `as_str` answers it: `text.trim()` is `text.as_str().trim()`. Takes no memory and no atomic step.
+    /// Returns the text, as `as_str` does: `text.trim()` is `text.as_str().trim()`.
     fn deref(&self) -> &str
         ensures text { result.now ≡ self.now.text }
     {
@@ -25,7 +24,7 @@ impl DerefStr for ArcStr {
 impl DerefStr for Substr {
     ghost deref_gives = { λ slice bytes. bytes ≡ text_of slice };
 
-    /// The slice's own text, as `as_str` answers it. Takes no memory and no atomic step.
+    /// Returns the slice's own text, as `as_str` does.
     fn deref(&self) -> &str
         ensures text { result.now ≡ text_of self.now }
     {
@@ -36,7 +35,7 @@ impl DerefStr for Substr {
 impl DerefStr for StaticStr {
     ghost deref_gives = { λ kept bytes. bytes ≡ kept.text };
 
-    /// The text, as `as_str` answers it. Takes no memory and no atomic step.
+    /// Returns the text, as `as_str` does.
     fn deref(&self) -> &str
         ensures text { result.now ≡ self.now.text }
     {

@@ -1,4 +1,4 @@
-//! The examples of the doc comments: the body of each test is the example of the item that it is named for.
+//! The examples of the doc comments. The body of each test is the example of the item that the test is named for.
 
 mod arc_str;
 mod json;

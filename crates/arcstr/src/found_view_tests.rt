@@ -1,4 +1,4 @@
-//! Views that are made of a text's own text are found in it: `substr_from` takes them with no test before.
+//! Views that are made from a text are found in it: `substr_from` accepts them without a test.
 use crate::StrView;
 use crate::test_steps::{check_slice, made, part};
 

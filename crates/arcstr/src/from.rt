@@ -1,4 +1,4 @@
-//! Conversions that cannot fail: of a `&'static str` into a text, and of a text into the slice of all of it.
+//! Conversions that cannot fail: from a `&'static str` to a text, and from a text to the slice of all of it.
 ghost use Rattle.std.specs.Prelude.{◌≡◌};
 ghost use Rattle.arcstr.specs.TextView.{literal_of};
 ghost use Rattle.arcstr.specs.Substr.{whole_of};
@@ -12,7 +12,7 @@ mod tests;
 impl From<&'static str> for ArcStr {
     ghost from_gives = { λ text shared. shared ≡ literal_of text.now };
 
-    /// A literal of this text, as `ArcStr::from_static` makes it. Takes no memory and no atomic step.
+    /// Converts a `&'static str` into a literal, as `ArcStr::from_static` does.
     fn from(text: &'static str) -> ArcStr
         ensures literal { result ≡ literal_of text.now }
     {
@@ -23,8 +23,7 @@ impl From<&'static str> for ArcStr {
 impl From<ArcStr> for Substr {
     ghost from_gives = { λ parent slice. slice ≡ whole_of parent };
 
-    /// The slice of all of the text, as `Substr::full` makes it. It takes the handle. Takes no memory and no atomic
-    /// step.
+    /// Converts a text into the slice of all of it, as `Substr::full` does. Consumes the handle.
     fn from(parent: ArcStr) -> Substr
         ensures whole { result ≡ whole_of parent }
     {

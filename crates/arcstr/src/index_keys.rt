@@ -1,5 +1,5 @@
-//! Texts as keys of the maps and sets of `indexmap`, which are looked up by a `&str`: `map.get("foo")`, `set.get_index_of("foo")`,
-//! `map.swap_remove("foo")`. No look-up takes memory or an atomic step.
+//! Texts as keys of the maps and sets of `indexmap`, which can be looked up by a `&str`: `map.get("foo")`, `set.get_index_of("foo")`,
+//! `map.swap_remove("foo")`. A look-up allocates nothing and takes no atomic step.
 ghost use Rattle.std.specs.Prelude.{◌≡◌, ◌↔◌, IsTrue, bytes_eq};
 ghost use Rattle.std.proofs.Common.{ap};
 ghost use Rattle.std.specs.Cmp.Lexicographic.{bytes_decides, nat_list_eq_equiv};
@@ -21,7 +21,7 @@ impl Equivalent<ArcStr> for &str {
 
     ghost respects_eq = { λ word one other. nat_list_eq_equiv.congr word.now one.text other.text };
 
-    /// Whether the key's text is this one, byte by byte.
+    /// Tests whether the key's text equals this `str`, byte by byte.
     fn equivalent(&self, key: &ArcStr) -> bool
         ensures value { result ≡ bytes_eq self.now.now key.now.text }
         ensures same { IsTrue result ↔ (self.now.now ≡ key.now.text) }
@@ -37,7 +37,7 @@ impl Equivalent<Substr> for &str {
 
     ghost respects_eq = { λ word one other. nat_list_eq_equiv.congr word.now (text_of one) (text_of other) };
 
-    /// Whether the key's own text is this one, byte by byte.
+    /// Tests whether the key's own text equals this `str`, byte by byte.
     fn equivalent(&self, key: &Substr) -> bool
         ensures value { result ≡ bytes_eq self.now.now (text_of key.now) }
         ensures same { IsTrue result ↔ (self.now.now ≡ text_of key.now) }

@@ -1,4 +1,4 @@
-//! Texts as JSON values, and why a value is not read as a text.
+//! Texts as JSON values, and the errors of reading a text from a JSON value.
 ghost use Rattle.std.specs.Prelude.{◌≡◌, Some};
 
 use std::error::Error;
@@ -8,8 +8,8 @@ mod from_memory;
 #[cfg(test)]
 mod tests;
 
-/// Why a JSON value is not read as a text. The tests come in the order of the variants. It may be copied, sent to a
-/// thread and shared between threads, and takes one byte. Its drop does nothing.
+/// Why a JSON value cannot be read as a text. The variants are in the order of the tests. It can be copied, sent to a thread and shared between threads. Its
+/// size is one byte, and its drop does nothing.
 ///
 /// ```
 /// let fault = ArcStr::from_json(rt.alloc(), &Value::from(12u8)).err();
@@ -23,14 +23,14 @@ pub enum JsonFault {
     NotText,
     /// The text is too long for a block: it has `2^63 - 25` bytes or more.
     Length,
-    /// There was no memory for the text.
+    /// The allocation for the text failed.
     Memory,
 }
 
 impl JsonFault {
     ghost use Rattle.arcstr.specs.JsonFault.{json_fault_number};
 
-    /// The number of the fault, from 1 to 3 in the order of the tests.
+    /// Returns the number of the fault, from 1 to 3 in the order of the tests.
     ///
     /// ```
     /// assert_eq!(rt; JsonFault::NotText.number(), 1);
@@ -52,7 +52,7 @@ impl fmt::Display for JsonFault {
 
     ghost output = { λ fault. Some (json_fault_text fault) };
 
-    /// Writes what was wrong, in a few words. Refused where the writer refuses. Takes no memory of its own.
+    /// Writes what was wrong, in a few words. Fails if the writer fails. Allocates nothing itself.
     fn fmt<W: fmt::Write>(&self, f: &mut fmt::Formatter<W>) -> fmt::Result {
         f.write_str(match self {
             JsonFault::NotText => "value is not a text",

@@ -1,4 +1,4 @@
-//! Texts that threads share: literals, counted blocks, and blocks that are marked for good.
+//! Reference-counted immutable texts that threads share: literals, counted blocks and permanent blocks.
 #![tactic(auto)]
 
 pub use arc_str::{ArcStr, RawArcStr};

@@ -3,7 +3,7 @@
 #[cfg(test)]
 mod tests;
 
-/// A literal `ArcStr` of any `&'static str`. Takes no memory, and no step is taken.
+/// Creates a literal `ArcStr` from any `&'static str`. Allocates nothing and takes no atomic step.
 ///
 /// ```
 /// let text = literal!("foo");
@@ -17,10 +17,11 @@ macro_rules! literal {
     };
 }
 
-/// What `format!` prints, as an `ArcStr`: first the allocator and a semicolon, then the words of `format!`.
-/// The text is built in memory of its own, and copied into its block; nothing printed takes no block. No step is taken.
-/// Refused, in this order: want of memory while it is built (`Memory`), a text of `2^63 - 25` bytes or more
-/// (`Length`), and want of memory for the block (`Memory`).
+/// Creates an `ArcStr` from a format string, as `format!` creates a `String`. The arguments are the allocator, a semicolon, and then those of `format!`. The
+/// text is first formatted into a buffer and then copied into its block; an empty result needs no block. Takes no atomic step.
+///
+/// Errors, in this order: `Memory` if the buffer cannot be allocated; `Length` if the text has `2^63 - 25` bytes or more; `Memory` if the block cannot be
+/// allocated.
 ///
 /// ```
 /// let text = format_arcstr!(rt.alloc(); "cool {}", 123)?;
@@ -38,7 +39,7 @@ macro_rules! format_arcstr {
     }};
 }
 
-/// A literal `Substr` of any `&'static str`, of the whole of it. Takes no memory, and no step is taken.
+/// Creates a literal `Substr` from any `&'static str`: the slice of all of it. Allocates nothing and takes no atomic step.
 ///
 /// ```
 /// let slice = literal_substr!("foo");

@@ -1,5 +1,5 @@
-//! Texts as keys of std's maps and sets, which are looked up by a `&str`: `map.get("foo")`, `set.contains("foo")`,
-//! `map["foo"]`. No look-up takes memory or an atomic step.
+//! Texts as keys of std's maps and sets, which can be looked up by a `&str`: `map.get("foo")`, `set.contains("foo")`, `map["foo"]`. A look-up allocates
+//! nothing and takes no atomic step.
 ghost use Rattle.std.specs.Prelude.{◌≡◌, ◌↔◌, IsTrue, bytes_eq};
 ghost use Rattle.std.proofs.Common.{ap};
 ghost use Rattle.std.specs.BTreeMap.Comparable.{le_lt_trans};
@@ -25,7 +25,7 @@ impl Equivalent<ArcStr> for &str {
 
     ghost respects_eq = { λ word one other. nat_list_eq_equiv.congr word.now one.text other.text };
 
-    /// Whether the key's text is this one, byte by byte.
+    /// Tests whether the key's text equals this `str`, byte by byte.
     fn equivalent(&self, key: &ArcStr) -> bool
         ensures value { result ≡ bytes_eq self.now.now key.now.text }
         ensures same { IsTrue result ↔ (self.now.now ≡ key.now.text) }
@@ -41,7 +41,7 @@ impl Equivalent<Substr> for &str {
 
     ghost respects_eq = { λ word one other. nat_list_eq_equiv.congr word.now (text_of one) (text_of other) };
 
-    /// Whether the key's own text is this one, byte by byte.
+    /// Tests whether the key's own text equals this `str`, byte by byte.
     fn equivalent(&self, key: &Substr) -> bool
         ensures value { result ≡ bytes_eq self.now.now (text_of key.now) }
         ensures same { IsTrue result ↔ (self.now.now ≡ text_of key.now) }
@@ -57,7 +57,7 @@ impl Comparable<ArcStr> for &str {
 
     ghost below_greater = { λ word one other. le_lt_trans nat_list_cmp_total word.now one.text other.text };
 
-    /// How this text and the key's compare, byte by byte.
+    /// Compares this `str` with the key's text, byte by byte.
     fn compare(&self, key: &ArcStr) -> Ordering
         ensures value { result ≡ slice_cmp nat_cmp self.now.now key.now.text }
     {
@@ -72,7 +72,7 @@ impl Comparable<Substr> for &str {
 
     ghost below_greater = { λ word one other. le_lt_trans nat_list_cmp_total word.now (text_of one) (text_of other) };
 
-    /// How this text and the key's own text compare, byte by byte.
+    /// Compares this `str` with the key's own text, byte by byte.
     fn compare(&self, key: &Substr) -> Ordering
         ensures value { result ≡ slice_cmp nat_cmp self.now.now (text_of key.now) }
     {

@@ -1,5 +1,5 @@
-//! Texts and slices as values that `serde` writes and reads, as strings, so that its derives serve at structs that hold them. A
-//! slice is written as its own text, and read as the whole of a text of its own.
+//! The traits of `serde` for texts and slices, which are written and read as strings, so that structs with texts can derive them. A slice is written as its
+//! own text, and read as the slice of all of a new text.
 ghost use Rattle.std.specs.Prelude.{IfOk, OnOk};
 ghost use Rattle.serde.specs.Event.{Logs, text};
 ghost use Rattle.serde.specs.Steps.{Gives};
@@ -21,7 +21,7 @@ impl Described for ArcStr {
 }
 
 impl Serialize for ArcStr {
-    /// Writes the text as a string. Refused where the format refuses. Takes no memory of its own and no atomic step.
+    /// Writes the text as a string. Fails if the format fails. Allocates nothing itself and takes no atomic step.
     fn serialize<S: Serializer>(&self, out: &mut S) -> Result<(), S::Error>
         ensures written { OnOk result (Logs (S.written out.old) (S.written out.new) (text self.now.text)) }
     {
@@ -34,7 +34,7 @@ impl Described for Substr {
 }
 
 impl Serialize for Substr {
-    /// Writes the slice's own text as a string. Refused where the format refuses. Takes no memory of its own and no atomic step.
+    /// Writes the slice's own text as a string. Fails if the format fails. Allocates nothing itself and takes no atomic step.
     fn serialize<S: Serializer>(&self, out: &mut S) -> Result<(), S::Error>
         ensures written { OnOk result (Logs (S.written out.old) (S.written out.new) (text (text_of self.now))) }
     {
@@ -43,8 +43,9 @@ impl Serialize for Substr {
 }
 
 impl DeserializeOwned for ArcStr {
-    /// The text of a string, which is read into a `String` and copied into its block: two requests for memory, and one or none
-    /// for the empty text. Refused, in this order: what the format refuses, `2^63 - 25` bytes or more, and want of memory.
+    /// Reads a string into a `String`, and copies it into a block. Makes two allocations, or at most one for the empty text.
+    ///
+    /// Errors, in this order: an error of the format; a text of `2^63 - 25` bytes or more; an allocation failure of the block.
     fn deserialize_owned<F: Format>(
         alloc: Global,
         from: &mut Deserializer<'_, '_, F>,
@@ -61,7 +62,7 @@ impl DeserializeOwned for ArcStr {
 }
 
 impl<'de> Deserialize<'de> for ArcStr {
-    /// As `deserialize_owned` reads it.
+    /// Reads the text as `deserialize_owned` does.
     fn deserialize<F: Format>(
         alloc: Global,
         from: &mut Deserializer<'de, '_, F>,
@@ -73,7 +74,7 @@ impl<'de> Deserialize<'de> for ArcStr {
 }
 
 impl DeserializeOwned for Substr {
-    /// The slice of all of a text that is read as `ArcStr` reads it.
+    /// Reads a text as `ArcStr` does, and returns the slice of all of it.
     fn deserialize_owned<F: Format>(
         alloc: Global,
         from: &mut Deserializer<'_, '_, F>,
@@ -86,7 +87,7 @@ impl DeserializeOwned for Substr {
 }
 
 impl<'de> Deserialize<'de> for Substr {
-    /// As `deserialize_owned` reads it.
+    /// Reads the slice as `deserialize_owned` does.
     fn deserialize<F: Format>(
         alloc: Global,
         from: &mut Deserializer<'de, '_, F>,

@@ -1,4 +1,4 @@
-//! The count of a parent after each call of `Substr`, and once what the call gave is dropped.
+//! The count of a parent after each call of `Substr`, and again after the result of the call is dropped.
 use crate::test_steps::{check_count, made, part};
 use crate::{ArcStr, Substr};
 use arcstr_range::view::StrView;
@@ -8,12 +8,12 @@ use std::hash::{DefaultHasher, Hash};
 use std::process::Abort;
 use std::sync::Wait;
 
-/// A slice that holds its parent alone, and has the text `bar`.
+/// Returns a slice with the text `bar`, which has the only handle to its parent.
 fn bar(rt: &(impl Abort + AllocGlobal + Wait)) -> Substr {
     part(rt, &made(rt, "foobarbaz"), 3..6)
 }
 
-/// Asserts that the call gave a slice of the same parent, which holds it by one handle, and that its drop ends it.
+/// Asserts that the call returned a slice of the same parent, that the slice keeps the parent by one handle, and that dropping the slice drops that handle.
 fn check_held_once(rt: &impl Abort, slice: &Substr, inner: Option<Substr>) {
     let inner = inner.expect(rt, "no slice");
     check_count(rt, slice.parent(), Some(2));
@@ -46,7 +46,7 @@ fn a_clone_of_a_slice_holds_the_parent_once(rt: HostRuntime) {
     check_held_once(&rt, &slice, Some(slice.clone(&rt)));
 }
 
-/// Asserts that the call gave this answer, and that it left the parent with its one handle.
+/// Asserts that the call gave the expected result, and that the parent has only its own handle afterwards.
 fn check_let_go(rt: &impl Abort, slice: &Substr, answers: bool) {
     assert!(rt; answers);
     check_count(rt, slice.parent(), Some(1));
@@ -97,7 +97,7 @@ fn hashing_a_slice_leaves_the_count(rt: HostRuntime) {
     check_count(&rt, slice.parent(), Some(1));
 }
 
-/// Whether the call gave something, which is dropped.
+/// Returns whether the call succeeded, and drops its result.
 fn gave<T: Drop, E: Drop>(answer: Result<T, E>) -> bool {
     answer.is_ok()
 }

@@ -1,4 +1,4 @@
-//! `StaticStr`: a text that is never given back.
+//! `StaticStr`: a text that is never freed.
 ghost use Rattle.std.specs.Prelude.{◌≡◌, ◌↔◌, length, IsTrue, IsSome, IfSome};
 ghost use Rattle.arcstr.specs.TextView.{IsStatic, literal, literal_of, fixed_of};
 
@@ -9,9 +9,10 @@ use std::marker::Model;
 
 mod conversions;
 
-/// A text that is never given back: a literal, or a block that is marked for good. A contract sees
-/// its text and its kind, which is never that of a counted block. It may be sent to a thread, and shared between
-/// threads. It takes 24 bytes. Its drop takes no step, and gives nothing back.
+/// A text that is never freed: a literal or a permanent block. In a contract it has a text and a kind, which is never that of a counted block. It is `Send`
+/// and `Sync`, and its size is 24 bytes. Dropping it takes no atomic step and frees nothing.
+///
+/// No method or trait implementation allocates or takes an atomic step.
 ///
 /// ```
 /// let text = ArcStr::from_str(rt.alloc(), "foo")?;
@@ -58,7 +59,7 @@ impl StaticStr {
         }
     }
 
-    /// The text. No step is taken.
+    /// Returns the text.
     ///
     /// ```
     /// let kept = ArcStr::from_static("aé").leak();
@@ -73,7 +74,7 @@ impl StaticStr {
         }
     }
 
-    /// The number of bytes of the text. No step is taken, and the bytes are not read.
+    /// Returns the length of the text in bytes. Does not read the bytes.
     ///
     /// ```
     /// let kept = ArcStr::from_static("aé").leak();
@@ -85,7 +86,7 @@ impl StaticStr {
         self.as_str().len()
     }
 
-    /// Always true: the text is never given back. No step is taken.
+    /// Always returns `true`, since the text is never freed.
     ///
     /// ```
     /// let kept = ArcStr::from_str(rt.alloc(), "foo")?.leak();
@@ -100,7 +101,7 @@ impl StaticStr {
         }
     }
 
-    /// The text as the program has it, exactly where it is a literal. No step is taken.
+    /// Returns the text as a `&'static str` exactly if it is a literal.
     ///
     /// ```
     /// let kept = ArcStr::from_static("foo").leak();
@@ -118,8 +119,7 @@ impl StaticStr {
         }
     }
 
-    /// The same text as an `ArcStr`: a literal of a literal, else a fixed block. Takes no memory, and no step is
-    /// taken.
+    /// Returns the same text as an `ArcStr`: a literal for a literal, and otherwise a permanent block.
     ///
     /// ```
     /// let kept = ArcStr::from_str(rt.alloc(), "foo")?.leak();

@@ -1,4 +1,4 @@
-//! Parts of texts, slices and views as Rust's documentation of `str` gives them, and the rows that it leaves out.
+//! Parts of texts, slices and views: the examples in Rust's documentation of `str`, and the cases that it leaves out.
 use crate::test_steps::{check_part, check_text, made};
 use crate::{ArcStr, RangeFault, StrView, Substr};
 use std::process::Abort;
@@ -6,7 +6,7 @@ use std::sync::Wait;
 
 type Pair = Option<(&'static str, &'static str)>;
 
-/// A text, a separator, and the parts that `split_once` and `rsplit_once` answer.
+/// A text, a separator, and the results of `split_once` and `rsplit_once`.
 const SPLIT_ONCE: [(&str, &str, Pair, Pair); 9] = [
     ("cfg", "=", None, None),
     ("cfg=", "=", Some(("cfg", "")), Some(("cfg", ""))),
@@ -24,7 +24,7 @@ const SPLIT_ONCE: [(&str, &str, Pair, Pair); 9] = [
     ("é老é老", "老", Some(("é", "é老")), Some(("é老é", ""))),
 ];
 
-/// A text, a prefix or suffix, and the rests that `strip_prefix` and `strip_suffix` answer.
+/// A text, a prefix or suffix, and the results of `strip_prefix` and `strip_suffix`.
 const STRIP: [(&str, &str, Option<&str>, Option<&str>); 7] = [
     ("foo:bar", "foo:", Some("bar"), None),
     ("foo:bar", "bar", None, Some("foo:")),
@@ -35,7 +35,7 @@ const STRIP: [(&str, &str, Option<&str>, Option<&str>); 7] = [
     ("foo", "", Some("foo"), Some("foo")),
 ];
 
-/// A text, and what `trim`, `trim_start` and `trim_end` answer.
+/// A text, and the results of `trim`, `trim_start` and `trim_end`.
 const TRIM: [(&str, &str, &str, &str); 4] = [
     (
         "\n Hello\tworld\t\n",
@@ -48,7 +48,7 @@ const TRIM: [(&str, &str, &str, &str); 4] = [
     ("\u{a0}é\u{2009}", "é", "é\u{2009}", "\u{a0}é"),
 ];
 
-/// A text, and its lines.
+/// A text and its lines.
 const LINES: [(&str, &[&str]); 6] = [
     ("foo\r\nbar\n\nbaz\r", &["foo", "bar", "", "baz\r"]),
     ("foo\nbar\n\r\nbaz", &["foo", "bar", "", "baz"]),
@@ -58,7 +58,7 @@ const LINES: [(&str, &[&str]); 6] = [
     ("é\r\r\n\r\n", &["é\r", ""]),
 ];
 
-/// A text, a character, and the parts between its places.
+/// A text, a character, and the parts around its occurrences.
 const SPLIT: [(&str, char, &[&str]); 7] = [
     (
         "Mary had a little lamb",
@@ -77,7 +77,7 @@ const SPLIT: [(&str, char, &[&str]); 7] = [
     ("a𝄞b𝄞", '𝄞', &["a", "b", ""]),
 ];
 
-/// A text, and its words.
+/// A text and its words.
 const WORDS: [(&str, &[&str]); 4] = [
     ("A few words", &["A", "few", "words"]),
     (
@@ -88,7 +88,7 @@ const WORDS: [(&str, &[&str]); 4] = [
     (" \u{3000}\u{85}", &[]),
 ];
 
-/// A text, a pattern, and the byte offset of its first match.
+/// A text, a pattern, and the byte offset of the first match.
 const FIND: [(&str, &str, Option<usize>); 4] = [
     ("Löwe 老虎 Léopard Gepardi", "L", Some(0)),
     ("Löwe 老虎 Léopard Gepardi", "é", Some(14)),
@@ -176,7 +176,7 @@ fn texts_are_trimmed_as_str_is(rt: HostRuntime) {
     }
 }
 
-/// Asserts that the view lies in the text, and has the text that is wanted.
+/// Asserts that the view lies in the text and has the text `wanted`.
 fn check_next(rt: &impl Abort, text: &str, view: &StrView<'_>, wanted: Option<&&'static str>) {
     assert!(rt; view.is_found_in(text));
     check_part(rt, Some(view.text()), wanted.copied());

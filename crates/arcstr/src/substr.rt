@@ -1,4 +1,4 @@
-//! `Substr`: a slice of a shared text, which keeps its parent.
+//! `Substr`: a slice of a shared text, which keeps its parent alive.
 ghost use Rattle.std.specs.Prelude.{◌≡◌, ◌↔◌, [], length, Ok, IsTrue, IsErrOf, IfOk, IfErr};
 ghost use Rattle.arcstr.specs.Making.{IsFaultOfMaking, IsTooLong};
 ghost use Rattle.arcstr_range.specs.Ends.{IsLawful};
@@ -28,13 +28,14 @@ mod tests;
 #[cfg(test)]
 mod thread_tests;
 
-/// A slice of a shared text. It keeps its parent, and so the parent's text, as long as it lives. A
-/// contract sees the parent, and the two places in bytes of the parent's text between which the slice
-/// lies. These are in order, at most the parent's length, and at boundaries of characters.
+/// A slice of a shared text. It keeps its parent, and so the parent's text, alive. In a contract it has the parent and two byte offsets in the parent's text,
+/// which are in order, at most the parent's length, and at character boundaries.
 ///
-/// It takes 40 bytes, a handle of 24 and two places of 8, and may be sent to other threads and shared between them.
-/// Its drop is that of the handle: of a counted block one load of its word, and where that found no mark a
-/// fetch-sub, of which the last gives the memory back; of a literal or a fixed block no step. No drop waits.
+/// It is `Send` and `Sync`, and its size is 40 bytes: a handle of 24 and two offsets of 8. Dropping it drops the handle. For a counted block, that loads the
+/// count word and, if the block is not marked static, decrements the count with a fetch-sub; the last handle frees the memory. For a literal or a permanent
+/// block, it takes no atomic step. No drop waits.
+///
+/// No method or trait implementation allocates or takes an atomic step unless its documentation says so.
 ///
 /// ```
 /// let value = literal!("name=value").substr(&rt, 5..)?;
@@ -60,7 +61,7 @@ impl Model for Substr {
 }
 
 impl Substr {
-    /// The slice of nothing: of the empty literal, from 0 to 0. Takes no memory, and no step is taken.
+    /// Creates a new empty slice: that of the empty literal, from 0 to 0.
     ///
     /// ```
     /// let slice = Substr::new();
@@ -73,9 +74,10 @@ impl Substr {
         Substr::from_static("")
     }
 
-    /// A copy of this text in a block, as a slice of the whole of it, with one request for memory; of the empty
-    /// literal where the text is empty, which takes none. Refused, in this order: a text of `2^63 - 25` bytes or
-    /// more (`Length`), and want of memory (`Memory`).
+    /// Copies a `&str` into a new text, and returns the slice of all of it. Makes one allocation, or none if the text is empty: the slice is then one of the
+    /// empty literal.
+    ///
+    /// Errors, in this order: `Length` if the text has `2^63 - 25` bytes or more; `Memory` if the allocation fails.
     ///
     /// ```
     /// let slice = Substr::from_str(rt.alloc(), "aé")?;
@@ -91,7 +93,7 @@ impl Substr {
         Ok(Substr::full(ArcStr::from_str(alloc, text)?))
     }
 
-    /// A literal of this text, as a slice of the whole of it. Takes no memory, and no step is taken.
+    /// Creates the slice of all of a literal.
     ///
     /// ```
     /// let slice = Substr::from_static("aé");
@@ -104,7 +106,7 @@ impl Substr {
         Substr::full(ArcStr::from_static(text))
     }
 
-    /// The slice that is all of a shared text, whose handle it takes. Takes no memory, and no step is taken.
+    /// Converts a shared text into the slice of all of it. Consumes the handle.
     ///
     /// ```
     /// let slice = Substr::full(literal!("aé"));
@@ -118,9 +120,8 @@ impl Substr {
         Substr::from_parts_unchecked(parent, 0..end)
     }
 
-    /// The slice of a shared text between two places, in bytes; it takes the text's handle. That the places are in
-    /// order, at most the text's length, and at boundaries of characters, is the caller's condition. Takes no
-    /// memory, and no step is taken.
+    /// Converts a shared text into its slice between two byte offsets. Consumes the handle. The caller must ensure that the offsets are in order, at most the
+    /// text's length, and at character boundaries.
     ///
     /// ```
     /// let slice = Substr::from_parts_unchecked(literal!("foobar"), 2..5);
@@ -139,7 +140,7 @@ impl Substr {
         }
     }
 
-    /// The shared text that the slice is of, and keeps. Takes no memory, and no step is taken.
+    /// Returns the text that the slice is taken from and keeps alive.
     ///
     /// ```
     /// let slice = literal!("foobar").substr(&rt, 3..)?;
@@ -151,7 +152,7 @@ impl Substr {
         &self.parent
     }
 
-    /// The places of the slice, in bytes of its parent's text. Takes no memory, and no step is taken.
+    /// Returns the byte range of the slice in its parent's text.
     ///
     /// ```
     /// let slice = literal!("aéb").substr(&rt, 3..)?;
@@ -166,9 +167,8 @@ impl Substr {
         self.start..self.end
     }
 
-    /// Another slice at the same places of the same parent, whose handle is cloned, and so it may wait: of a block
-    /// one load of its word, and where that found no mark a compare-exchange; of a literal or a fixed block no
-    /// step. Takes no memory.
+    /// Makes another slice with the same byte range of the same parent. Clones the parent's handle, and so can wait: for a block, it loads the count word
+    /// and, if the block is not marked static, takes a compare-exchange. For a literal or a permanent block, it takes no atomic step.
     ///
     /// ```
     /// let slice = Substr::from_str(rt.alloc(), "foobar")?;
@@ -186,7 +186,7 @@ impl Substr {
         }
     }
 
-    /// The slice's own text: the parent's characters between the two places. Takes no memory, and no step is taken.
+    /// Returns the slice's own text: the parent's text between the two byte offsets.
     ///
     /// ```
     /// let slice = literal!("foobar").substr(&rt, 3..)?;
@@ -200,7 +200,7 @@ impl Substr {
         &self.parent.as_str()[range.start..range.end]
     }
 
-    /// The number of bytes of the slice's own text. Takes no memory; no step is taken, and the bytes are not read.
+    /// Returns the length of the slice's own text in bytes. Does not read the bytes.
     ///
     /// ```
     /// let slice = literal!("aéb").substr(&rt, 1..3)?;
@@ -213,7 +213,7 @@ impl Substr {
         self.end - self.start
     }
 
-    /// Whether the slice's own text has no bytes. Takes no memory, and no step is taken.
+    /// Returns `true` if the slice's own text has a length of zero bytes.
     ///
     /// ```
     /// let text = literal!("foobar");
@@ -226,7 +226,7 @@ impl Substr {
         self.start == self.end
     }
 
-    /// The bytes of the slice's own text. Takes no memory, and no step is taken.
+    /// Returns the bytes of the slice's own text.
     ///
     /// ```
     /// let slice = literal!("aéb").substr(&rt, 1..3)?;
@@ -244,7 +244,7 @@ impl Default for Substr {
 
     ghost is_default = { λ slice. slice ≡ empty_slice };
 
-    /// The slice of nothing, as `Substr::new()`. Takes no memory, and no step is taken.
+    /// Creates a new empty slice, as `Substr::new()` does.
     fn default() -> Substr {
         Substr::new()
     }

@@ -1,5 +1,4 @@
-//! The steps that tests repeat: a text is made, a slice is taken, an answer is compared. A test of such
-//! steps alone has no branches, and is proved soon.
+//! Steps that tests repeat: make a text, take a slice, compare a result. A test that only calls these steps has no branches, so its proof is fast.
 use crate::{ArcStr, Substr, TextFault};
 use arcstr_range::range::{RangeFault, StrRange};
 use std::alloc::{AllocError, AllocGlobal};
@@ -10,12 +9,12 @@ use std::ops::Range;
 use std::process::Abort;
 use std::sync::Wait;
 
-/// A text of its own, where memory is there.
+/// Copies the text into a new `ArcStr`. Aborts if out of memory.
 pub(crate) fn made(rt: &(impl Abort + AllocGlobal), text: &str) -> ArcStr {
     ArcStr::from_str(rt.alloc(), text).expect(rt, "no memory")
 }
 
-/// The slice in the range, which is lawful.
+/// Returns the slice in the range, which is valid.
 pub(crate) fn part<R: Into<StrRange>>(rt: &(impl Abort + Wait), text: &ArcStr, range: R) -> Substr {
     text.substr(rt, range).expect(rt, "no slice")
 }
@@ -35,7 +34,7 @@ pub(crate) fn check_empty(rt: &impl Abort, text: &ArcStr) {
     check_count(rt, text, None);
 }
 
-/// Asserts the slice's own text and its places in its parent.
+/// Asserts the slice's own text and its byte range in the parent.
 pub(crate) fn check_slice(rt: &impl Abort, slice: &Substr, text: &str, places: Range<usize>) {
     check_text(rt, slice.as_str(), text);
     assert_eq!(rt; slice.range(), places);
@@ -47,7 +46,7 @@ pub(crate) fn check_nothing(rt: &impl Abort, slice: &Substr) {
     check_empty(rt, slice.parent());
 }
 
-/// Asserts that there is a slice, its own text and its places.
+/// Asserts that there is a slice, and checks its own text and its byte range.
 pub(crate) fn check_sliced(
     rt: &impl Abort,
     answer: Result<Substr, RangeFault>,
@@ -68,7 +67,7 @@ pub(crate) fn check_no_slice(
     }
 }
 
-/// Asserts a part of a text, or that there is none.
+/// Asserts a part of a text, or that it is `None`.
 pub(crate) fn check_part(rt: &impl Abort, part: Option<&str>, wanted: Option<&str>) {
     assert_eq!(rt; part, wanted);
 }
@@ -77,7 +76,7 @@ pub(crate) fn check_bytes(rt: &impl Abort, bytes: &[u8], wanted: &[u8]) {
     assert_eq!(rt; bytes, wanted);
 }
 
-/// Asserts that a text was made, and its bytes.
+/// Asserts that a text was made, and checks its bytes.
 pub(crate) fn check_made(rt: &impl Abort, made: Result<ArcStr, TextFault>, wanted: &str) {
     match made {
         Ok(text) => check_text(rt, text.as_str(), wanted),
@@ -92,20 +91,20 @@ pub(crate) fn check_refused(rt: &impl Abort, made: Result<ArcStr, TextFault>, wa
     }
 }
 
-/// What a hasher of std makes of the value.
+/// Returns the value's hash by a hasher of std.
 fn hash_of<T: Hash>(value: &T) -> u64 {
     let mut state = DefaultHasher::new();
     value.hash(&mut state);
     state.finish()
 }
 
-/// Whether the two are equal, and have the hash of this text.
+/// Returns whether the two are equal and both have the hash of this text.
 pub(crate) fn are_one_key<T: Eq + Hash>(one: &T, other: &T, text: &str) -> bool {
     let hash = hash_of(&text);
     one == other && hash_of(one) == hash && hash_of(other) == hash
 }
 
-/// A text of this many letters `b`, with another letter at the place.
+/// Returns a text of this many letters `b`, with another letter at `place`.
 pub(crate) fn letters(
     rt: &(impl Abort + AllocGlobal),
     length: usize,
@@ -120,7 +119,7 @@ pub(crate) fn letters(
     made(rt, text.as_str())
 }
 
-/// The ten digits, over and over: a million bytes.
+/// Returns the ten digits repeated to a million bytes.
 pub(crate) fn many_digits(rt: &(impl Abort + AllocGlobal)) -> String {
     let mut digits = String::new(rt.alloc());
     for _ in 0..100_000 {
@@ -129,18 +128,18 @@ pub(crate) fn many_digits(rt: &(impl Abort + AllocGlobal)) -> String {
     digits
 }
 
-/// Asserts how the two compare, and that they compare the other way round too.
+/// Asserts the order of the two, and that it is reversed if they are swapped.
 pub(crate) fn check_order<T: Ord>(rt: &impl Abort, one: &T, other: &T, wanted: Ordering) {
     assert!(rt; one.cmp(other) == wanted);
     assert!(rt; other.cmp(one) == wanted.reverse());
 }
 
-/// Asserts that a copy was made, and its text.
+/// Asserts that a copy was made, and checks its text.
 pub(crate) fn check_copied(rt: &impl Abort, copy: Result<String, AllocError>, wanted: &str) {
     check_text(rt, copy.expect(rt, "no memory").as_str(), wanted);
 }
 
-/// Asserts that the text is a copy, and reads so.
+/// Asserts that the text is owned and equals `wanted`.
 pub(crate) fn check_owned(rt: &impl Abort, cow: CowStr<'_>, wanted: &str) {
     match cow {
         CowStr::Owned(copy) => check_text(rt, copy.as_str(), wanted),
@@ -148,7 +147,7 @@ pub(crate) fn check_owned(rt: &impl Abort, cow: CowStr<'_>, wanted: &str) {
     }
 }
 
-/// Asserts that the text is no copy, and reads so.
+/// Asserts that the text is borrowed and equals `wanted`.
 pub(crate) fn check_borrowed(rt: &impl Abort, cow: CowStr<'_>, wanted: &str) {
     match cow {
         CowStr::Borrowed(text) => check_text(rt, text, wanted),

@@ -1,4 +1,4 @@
-//! Equality and order of texts, for both types, by vectors of bytes: 16 at a time, or 32 or 64 whose differences are joined before one test.
+//! Equality and order of texts, for both types, by vectors of bytes: 16 at a time, or 32 or 64 whose differences are combined before one test.
 ghost use Rattle.std.specs.Prelude.{◌≡◌, ◌↔◌, ◌+◌, ◌≤◌, ◌<◌, ◌==◌, ℕ, IsTrue, drop, length, not, take};
 ghost use Rattle.std.specs.Cmp.Lexicographic.{slice_cmp};
 ghost use Rattle.std.specs.Ordering.{nat_cmp};
@@ -7,7 +7,7 @@ ghost use Rattle.std.specs.Simd.Lanes.{mask_l, zip2};
 use std::cmp::Ordering;
 use std::simd::prelude::*;
 
-/// Whether two texts are the same, by their bytes. Most of those that differ do so in their first 16 bytes, which are tried before the rest.
+/// Tests whether two texts are equal, byte by byte. Most unequal texts differ in their first 16 bytes, so those are tested first.
 pub(crate) fn is_same(one: &str, other: &str) -> bool
     ensures { IsTrue result ↔ (one.now ≡ other.now) }
 {
@@ -29,7 +29,7 @@ pub(crate) fn is_same(one: &str, other: &str) -> bool
     }
 }
 
-/// Whether two runs of N bytes or more are alike that are as long as each other, and of which the first `start` bytes are alike.
+/// Tests whether `one` and `other` are equal, given that both have the same length of at least N bytes and that their first `start` bytes agree.
 fn is_same_from<const N: usize>(one: &[u8], other: &[u8], start: usize) -> bool
     requires lanes { (0 < N) × (N ≤ 64) }
     requires long { N ≤ length one.now }
@@ -46,11 +46,11 @@ fn is_same_from<const N: usize>(one: &[u8], other: &[u8], start: usize) -> bool
         }
         from += N;
     }
-    // The last N bytes, of which some were compared already.
+    // The last N bytes. Some of them may have been compared already.
     is_alike_at::<N>(one, other, last)
 }
 
-/// How far two runs of bytes go on alike of which the first `start` bytes are alike: 128 bytes a turn, with one test for all of them.
+/// Returns a length up to which `one` and `other` agree, given that their first `start` bytes agree. Each iteration compares 128 bytes with one test.
 fn pass_alike(one: &[u8], other: &[u8], start: usize) -> usize
     requires within { (start ≤ length one.now) × (start ≤ length other.now) }
     requires alike { take start one.now ≡ take start other.now }
@@ -68,8 +68,8 @@ fn pass_alike(one: &[u8], other: &[u8], start: usize) -> usize
     from
 }
 
-/// How two texts compare, by their bytes. The length that is tested first is one that few texts reach: among short texts of
-/// mixed lengths the test always goes the same way, and costs little.
+/// Compares two texts byte by byte. The first test asks for a length that few texts reach, so among short texts of mixed lengths the branch always goes the
+/// same way and costs little.
 pub(crate) fn compare(one: &str, other: &str) -> Ordering
     ensures { result ≡ slice_cmp nat_cmp one.now other.now }
 {
@@ -80,7 +80,7 @@ pub(crate) fn compare(one: &str, other: &str) -> Ordering
     }
 }
 
-/// The same, for short texts. Most pairs differ in their first byte, which is tried before anything longer.
+/// Compares two texts of which at least one is short. Most pairs differ in their first byte, so that is tested before anything longer.
 fn compare_short(one: &str, other: &str) -> Ordering
     ensures { result ≡ slice_cmp nat_cmp one.now other.now }
 {
@@ -92,7 +92,7 @@ fn compare_short(one: &str, other: &str) -> Ordering
     }
 }
 
-/// How two runs of 64 bytes or more compare. The first 64 bytes, which mostly decide, are taken without a loop's tests.
+/// Compares two byte slices of 64 bytes or more. Their first 64 bytes, which usually decide, are compared without the tests of a loop.
 fn compare_long(one: &[u8], other: &[u8]) -> Ordering
     requires { (64 ≤ length one.now) × (64 ≤ length other.now) }
     ensures { result ≡ slice_cmp nat_cmp one.now other.now }
@@ -107,8 +107,8 @@ fn compare_long(one: &[u8], other: &[u8]) -> Ordering
     compare_far(one, other)
 }
 
-/// How two runs of bytes compare of which the first 64 bytes are alike: what is alike is passed by 64 bytes at a time.
-/// Out of line, so that shorter texts do not pay for its calls.
+/// Compares two byte slices of 64 bytes or more, given that their first 64 bytes agree. It skips equal bytes 64 at a time. It is out of line, so that shorter
+/// texts do not pay for its calls.
 #[inline(never)]
 fn compare_far(one: &[u8], other: &[u8]) -> Ordering
     requires long { (64 ≤ length one.now) × (64 ≤ length other.now) }
@@ -123,7 +123,7 @@ fn compare_far(one: &[u8], other: &[u8]) -> Ordering
     compare_from(one, other, from)
 }
 
-/// How two runs of bytes compare of which the first `start` bytes are alike.
+/// Compares two byte slices of 16 bytes or more, given that their first `start` bytes agree.
 fn compare_from(one: &[u8], other: &[u8], start: usize) -> Ordering
     requires within { (start ≤ length one.now) × (start ≤ length other.now) }
     requires a_vector { (16 ≤ length one.now) × (16 ≤ length other.now) }
@@ -139,7 +139,7 @@ fn compare_from(one: &[u8], other: &[u8], start: usize) -> Ordering
         }
         from += 16;
     }
-    // The last 16 bytes, of which some were compared already.
+    // The last 16 bytes. Some of them may have been compared already.
     let found = order_of_lanes::<16>(one, other, last);
     if found.is_ne() {
         return found;
@@ -147,7 +147,7 @@ fn compare_from(one: &[u8], other: &[u8], start: usize) -> Ordering
     one.len().cmp(&other.len())
 }
 
-/// How the first 64 bytes compare: the first 16, then 32 whose differences are joined, then the last 16.
+/// Compares the first 64 bytes: the first 16, then 32 whose differences are combined, then the last 16.
 fn order_of_block(one: &[u8], other: &[u8]) -> Ordering
     requires { (64 ≤ length one.now) × (64 ≤ length other.now) }
     ensures { result ≡ slice_cmp nat_cmp (take 64 one.now) (take 64 other.now) }
@@ -163,7 +163,7 @@ fn order_of_block(one: &[u8], other: &[u8]) -> Ordering
     order_of_lanes::<16>(one, other, 48)
 }
 
-/// How the first `from + N` bytes compare, of which the first `from` are alike: as the first pair of the next N that differs.
+/// Compares the first `from + N` bytes, given that the first `from` bytes agree: the first pair that differs among the next N decides.
 fn order_of_lanes<const N: usize>(one: &[u8], other: &[u8], from: usize) -> Ordering
     requires lanes { N ≤ 64 }
     requires within { (from + N ≤ length one.now) × (from + N ≤ length other.now) }
@@ -182,7 +182,7 @@ fn order_of_lanes<const N: usize>(one: &[u8], other: &[u8], from: usize) -> Orde
     }
 }
 
-/// Whether the N bytes from `from` on are alike.
+/// Tests whether the N bytes at `from` are equal.
 fn is_alike_at<const N: usize>(one: &[u8], other: &[u8], from: usize) -> bool
     requires lanes { N ≤ 64 }
     requires within { (from + N ≤ length one.now) × (from + N ≤ length other.now) }
@@ -191,7 +191,7 @@ fn is_alike_at<const N: usize>(one: &[u8], other: &[u8], from: usize) -> bool
     lanes_that_differ::<N>(one, other, from) == 0
 }
 
-/// A bit for each of the N bytes from `from` on, set where the two differ. The first byte's bit is the lowest.
+/// Returns a bit for each of the N bytes at `from`, which is set if the two bytes differ. The first byte has the lowest bit.
 fn lanes_that_differ<const N: usize>(one: &[u8], other: &[u8], from: usize) -> u64
     requires lanes { N ≤ 64 }
     requires within { (from + N ≤ length one.now) × (from + N ≤ length other.now) }

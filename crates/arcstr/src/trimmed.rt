@@ -1,4 +1,4 @@
-//! The places in a text between which a trim leaves it.
+//! The byte range that remains of a text after a trim.
 ghost use Rattle.std.specs.Prelude.{◌≡◌, ◌+◌, length};
 ghost use Rattle.std.specs.Str.{trim, trim_end, trim_start};
 ghost use Rattle.arcstr_range.specs.Ends.{IsLawful};

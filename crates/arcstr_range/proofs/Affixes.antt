@@ -1,4 +1,4 @@
--- A prefix and a suffix of a text, which are texts themselves: they lie at boundaries, and are found wherever the text is found.
+-- UTF-8 prefixes and suffixes of a text: they lie at boundaries, and are found wherever the text is found.
 use Rattle.std.proofs.Common.{◌≡◌, ℕ, ◌+◌, ◌-◌, ◌≤◌, List, length, take, drop, sym, subst, ◌∙◌, arith}
 use Rattle.std.specs.Str.{IsUtf8}
 use Rattle.std.proofs.lemmas.List.{length-drop, take_all}
@@ -9,7 +9,7 @@ use Rattle.arcstr_range.specs.Ends.{IsLawful, IsSliceable}
 use Rattle.arcstr_range.specs.Text.{cut}
 use Rattle.arcstr_range.specs.View.{IsFoundAt}
 
--- a prefix lies from 0 up to its length
+-- a prefix lies from 0 to its length
 pub lawful_prefix : (text prefix : List ℕ) → IsUtf8 text → IsUtf8 prefix → length prefix ≤ length text → prefix ≡ take (length prefix) text
     → IsLawful text 0 (length prefix)
 lawful_prefix text prefix utf8 own within is =
@@ -30,7 +30,7 @@ found_prefix parent text prefix place utf8 own within is found =
     subst (λ n. IsFoundAt parent prefix n) here
     (subst (λ bytes. IsFoundAt parent bytes (place + 0)) (cut_prefix text prefix is) (found_part parent text place 0 (length prefix) sliced found))
 
--- a suffix lies so far before the end as it is long
+-- a suffix lies from the text's length less its own to the end
 pub lawful_suffix : (text suffix : List ℕ) → IsUtf8 text → IsUtf8 suffix → length suffix ≤ length text → suffix ≡ drop (length text - length suffix) text
     → IsLawful text (length text - length suffix) (length text)
 lawful_suffix text suffix utf8 own within is =
@@ -53,7 +53,7 @@ found_suffix parent text suffix place utf8 own within is found =
     subst (λ bytes. IsFoundAt parent bytes (place + (length text - length suffix))) (cut_suffix text suffix within is)
     (found_part parent text place (length text - length suffix) (length text) sliced found)
 
--- what lies after a place at which a prefix of the text ends
+-- the rest of a text after the end of a prefix has a valid range
 pub lawful_rest : (text : List ℕ) (place : ℕ) → IsLawful text 0 place → IsLawful text place (length text)
 lawful_rest text place lawful =
     record {
@@ -67,7 +67,7 @@ cut_start text place = between_is text 0 place
 pub cut_rest : (text : List ℕ) (place : ℕ) → cut text place (length text) ≡ drop place text
 cut_rest text place = take_all (length text - place) (drop place text) (omega (arith, length-drop place text))
 
--- named at the functions whose proofs use them
+-- the functions whose proofs use these rulesets name them
 pub ruleset found_prefixes = (found_prefix)
 
 pub ruleset found_suffixes = (found_suffix)

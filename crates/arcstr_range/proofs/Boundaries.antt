@@ -1,4 +1,4 @@
--- Boundaries of a text, and its slices, in terms of its characters.
+-- Boundaries and slices of a text in terms of its characters.
 use Rattle.std.proofs.Common.{◌≡◌, ℕ, ◌+◌, ◌-◌, ◌≤◌, true, List, [], ◌∷◌, ◌++◌, length, take, drop, refl, sym, ap, subst, ◌∙◌, arith}
 use Rattle.std.specs.Prelude.{encode_utf8_all}
 use Rattle.std.specs.Str.{chars, all_scalars, IsUtf8, IsCharBoundary}
@@ -7,7 +7,7 @@ use Rattle.std.proofs.lemmas.Slice.{between_is}
 use Rattle.std.proofs.lemmas.Str.{IsUtf8-take, IsUtf8-between, chars-append, encodes-chars, scalars-chars, encodes-append, IsCharBoundary-at_seam}
 use Rattle.arcstr_range.specs.Text.{IsFrontLength, SpellsBetween, cut}
 
--- the characters after a front are characters
+-- the rest of a list of scalar values after a prefix is a list of scalar values
 pub scalars-rest : (front rest : List ℕ) → all_scalars (front ++ rest) ≡ true → all_scalars rest ≡ true
 scalars-rest [] rest h = h
 scalars-rest (c ∷ front) rest h = scalars-rest front rest (grind arith)
@@ -29,7 +29,7 @@ IsCharBoundary-from_front text place utf8 at =
     let rest_utf8 : IsUtf8 (encode_utf8_all at.rest) = (at.rest, (scalars-rest at.front at.rest (ap all_scalars (sym at.split) ∙ scalars-chars text utf8), refl)) in
     subst (λ (n : ℕ). IsCharBoundary text n) at.measured (IsCharBoundary-at_seam text _ _ whole rest_utf8)
 
--- a front of a text is a shorter front and the part between
+-- a prefix of a text is a shorter prefix and the part between
 take-cut : (text : List ℕ) (start end : ℕ) → start ≤ end → take end text ≡ take start text ++ cut text start end
 take-cut text start end in_order =
     sym (take-append-drop start (take end text))
@@ -57,7 +57,7 @@ SpellsBetween-cut text start end utf8 in_order at_start at_end =
       spelled = sym (encodes-chars (cut text start end) (IsUtf8-between text start end utf8 in_order at_start at_end));
     }
 
--- a cut of a cut is one cut of the whole, at the sums of the places
+-- a cut of a cut is one cut of the whole, at the sums of the offsets
 pub cut-cut : (text : List ℕ) (start end from to : ℕ) → start ≤ end → to ≤ length (cut text start end)
     → cut text (start + from) (start + to) ≡ cut (cut text start end) from to
 cut-cut text start end from to in_order within =
@@ -69,7 +69,7 @@ cut-cut text start end from to in_order within =
     ∙ ap (λ front. drop from front) (sym (take-take to (end - start) (drop start text) short))
     ∙ sym (between_is (cut text start end) from to)
 
--- named at the functions whose proofs use them
+-- the functions whose proofs use these rulesets name them
 pub ruleset fronts_at_boundaries = (IsFrontLength-from_boundary, IsCharBoundary-from_front)
 
 pub ruleset slices_by_characters = (SpellsBetween-cut)

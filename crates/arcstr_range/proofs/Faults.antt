@@ -1,4 +1,4 @@
--- The first fault is one.
+-- There is only one first fault.
 use Rattle.std.proofs.Common.{◌≡◌, ◌<◌, ◌⊎◌, inl, inr, refl, ap, arith}
 use Rattle.std.specs.Prelude.{Err, IsErrOf}
 use Rattle.arcstr_range.specs.declared.range.fault.RangeFault.{RangeFault}
@@ -6,7 +6,7 @@ use Rattle.arcstr_range.specs.declared.range.fault.RangeFault.TheVariants.{OutOf
 use Rattle.arcstr_range.specs.Ends.{IsFirstFault}
 use Rattle.arcstr_range.specs.RangeFault.{range_fault_number}
 
--- faults differ in their numbers
+-- different faults have different numbers
 ordered : (given fault : RangeFault) →
     (given ≡ fault) ⊎ (range_fault_number given < range_fault_number fault) ⊎ (range_fault_number fault < range_fault_number given)
 ordered OutOfOrder OutOfOrder = inl refl
@@ -27,7 +27,7 @@ IsFirstFault-unique rule given fault first other =
       ]
     ]
 
--- so who is refused with one first fault is refused with every first fault
+-- so a range that is refused with one first fault is refused with every first fault
 pub refused_with : {T : Type 0} (rule : RangeFault → Type 0) (given : RangeFault) → IsFirstFault rule given
     → (fault : RangeFault) → IsFirstFault rule fault → IsErrOf {T = T} {E = RangeFault} (Err given) fault
 refused_with rule given first fault other = ap Err (IsFirstFault-unique rule given fault first other)

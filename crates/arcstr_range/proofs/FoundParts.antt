@@ -62,7 +62,7 @@ pub found_part : (parent text : List ℕ) (place start end : ℕ) → IsSliceabl
 found_part parent text place start end sliced (inl empty) = inl (ap (λ bytes. cut bytes start end) empty ∙ cut-nil start end)
 found_part parent text place start end sliced (inr at) = inr (stands_part parent text place start end sliced at)
 
--- the new view is the part of the old one between two places of its text
+-- the new view is the part of the old one between two byte offsets of its text
 record IsPart (old new : View) : Type 0 where
   pub start : ℕ
   pub end : ℕ
@@ -80,7 +80,7 @@ stands_IsPart parent old new part at =
     subst (λ n. StandsAt parent new.text n) part.place
     (subst (λ bytes. StandsAt parent bytes (old.place + part.start)) part.text (stands_part parent old.text old.place part.start part.end part.sliced at))
 
--- the text of a list of characters, cut after its front, is the front and the rest
+-- the text of a list of characters, cut after a prefix, is the prefix and the rest
 joined : (text front rest : List ℕ) → IsUtf8 text → chars text ≡ front ++ rest → text ≡ encode_utf8_all front ++ encode_utf8_all rest
 joined text front rest utf8 split = sym (encodes-chars text utf8) ∙ ap encode_utf8_all split ∙ encodes-append front rest
 
@@ -139,7 +139,7 @@ stands_whole text utf8 =
 pub found_whole : (text : List ℕ) → IsUtf8 text → IsFoundAt text text 0
 found_whole text utf8 = inr (stands_whole text utf8)
 
--- the same of std's trims
+-- the same for the trims of std
 pub found_std_trim_start : (parent text trimmed : List ℕ) (place : ℕ) → IsUtf8 text → trimmed ≡ trim_start text
     → IsFoundAt parent text place → IsFoundAt parent trimmed (place + (length text - length trimmed))
 found_std_trim_start parent text trimmed place utf8 same =
@@ -154,7 +154,7 @@ found_std_trim_end parent text trimmed place utf8 same =
     let new = view_at trimmed place in
     found_IsPart parent old new (IsPart-trim_end old new utf8 (TrimsEnd-trim_end old new same refl))
 
--- ---- what a trim leaves of a whole text stands in it, also where nothing is left
+-- ---- what a trim leaves of a whole text stands in that text, even if it is empty
 
 stands_start : (text : List ℕ) (new : View) → IsUtf8 text → TrimsStart (view_at text 0) new → StandsAt text new.text new.place
 stands_start text new utf8 trims =
@@ -190,7 +190,7 @@ lawful_both text new utf8 trims = (stands_both text new utf8 trims).lawful
 pub cut_both : (text : List ℕ) (new : View) → IsUtf8 text → Trims (view_at text 0) new → cut text new.place (end_of new) ≡ new.text
 cut_both text new utf8 trims = (stands_both text new utf8 trims).same
 
--- named at the functions whose proofs use them
+-- the functions whose proofs use these rulesets name them
 pub ruleset whole_texts_are_found = (found_whole)
 
 pub ruleset parts_are_found = (found_part)

@@ -26,14 +26,14 @@ lines_of_parts-cons : (part : List ℕ) (parts : List (List ℕ)) → 0 < length
 lines_of_parts-cons part [] some = absurd (omega arith)
 lines_of_parts-cons part (next ∷ parts) some = refl
 
--- the first line of a text that has a newline, and the lines behind it
+-- the first line of a text that has a newline, and the lines after it
 lines_first : (text front rest : List ℕ) → NoCharPasses is_newline front → text ≡ front ++ (encode_utf8 10 ++ rest) → lines text ≡ strip_carriage_return front ∷ lines rest
 lines_first text front rest none split =
     ap lines (split ∙ ap (λ (l : List ℕ). front ++ (l ++ rest)) (encode_ascii 10 (omega arith)))
     ∙ ap lines_of_parts (slice_split_at (λ byte. byte == 10) front 10 rest (no_newline front none) refl)
     ∙ lines_of_parts-cons front (slice_split (λ byte. byte == 10) rest) (omega (arith, length-slice_split (λ byte. byte == 10) rest))
 
--- the one line of a text without a newline
+-- the only line of a text without a newline
 lines_last : (text : List ℕ) → NoCharPasses is_newline text → 0 < length text → lines text ≡ text ∷ []
 lines_last text none some =
     ap lines_of_parts (slice_split_none (λ byte. byte == 10) text (no_newline text none))
@@ -89,7 +89,7 @@ no_lines view empty = ap (λ (l : List ℕ). placed (lines l) (parts_between is_
 pub no_lines_at_end : (view : View) (n : ℕ) → lines_of (part_of view n n) ≡ []
 no_lines_at_end view n = no_lines (part_of view n n) (grind arith)
 
--- named at the functions whose proofs use them
+-- the functions whose proofs use these rulesets name them
 pub ruleset first_newlines = (first_line_none, first_line_some)
 
 pub ruleset empty_views = (no_lines, no_lines_at_end)

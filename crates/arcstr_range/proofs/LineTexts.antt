@@ -92,9 +92,9 @@ texts_of_lines_of view utf8 =
     let size : length parts ≡ length (parts_of_bytes view.text) = sym (length-map parts (λ (part : View). part.text)) ∙ ap length (texts_by_bytes view utf8) in
     texts_placed (lines view.text) parts (omega (arith, size, lines_of_parts-le (parts_of_bytes view.text)))
 
--- ---- where the lines are found
+-- ---- the lines are found
 
--- what is found begins at a boundary
+-- a text that stands in a parent starts at a boundary
 starts_at_boundary : (parent text : List ℕ) (place : ℕ) → StandsAt parent text place → IsCharBoundary text 0
 starts_at_boundary parent text place at = (
   omega arith,
@@ -147,5 +147,5 @@ found_lines view utf8 =
           (found_placed parent parts (found_parts is_newline view utf8 parent found));
     }
 
--- named at the functions whose proofs use them
+-- the functions whose proofs use these rulesets name them
 pub ruleset facts_of_lines = (texts_of_lines_of, found_lines)

@@ -25,7 +25,7 @@ module _ (test : ℕ → Bool) where
   all_fail [] none = All-nil Fails
   all_fail (c ∷ cs) none = All-cons Fails c cs none.0 (all_fail cs none.1)
 
-  -- the characters of a text of which none passes
+  -- the characters of a text in which none passes
   chars_fail : (text : List ℕ) → IsUtf8 text → NoCharPasses test text → All Fails (chars text)
   chars_fail text utf8 none = subst (All Fails) (chars_from_encodes none.0 text utf8 none.1) (all_fail none.0 none.2)
 
@@ -41,7 +41,7 @@ module _ (test : ℕ → Bool) where
   filter_none [] fail = refl
   filter_none (x ∷ xs) fail = filter_one x xs false (All-head Fails x xs fail) ∙ filter_none xs (All-tail Fails x xs fail)
 
-  -- the characters of a text that has a front, a character and a rest
+  -- the characters of a text that consists of a prefix, a character and a rest
   chars_of_three : (text front rest : List ℕ) (c : ℕ) → IsUtf8 front → IsUtf8 (encode_utf8 c ++ rest) → text ≡ front ++ (encode_utf8 c ++ rest)
       → chars text ≡ chars front ++ c ∷ chars rest
   chars_of_three text front rest c front_utf8 behind_utf8 split =
@@ -72,7 +72,7 @@ module _ (test : ℕ → Bool) where
       ap (λ (l : List (List ℕ)). laid_out place l (separators_of test text)) (texts_first text front rest c front_utf8 behind_utf8 split none pass)
       ∙ ap (λ (l : List (List ℕ)). laid_out place (front ∷ texts_between test rest) l) (separators_first text front rest c front_utf8 behind_utf8 split none pass)
 
-  -- where no character passes, the one part is the whole
+  -- if no character passes, the only part is the whole
   pub parts_last : (place : ℕ) (text : List ℕ) → IsUtf8 text → NoCharPasses test text → parts_between test (view_at text place) ≡ view_at text place ∷ []
   unfolding parts_between texts_between separators_of
   parts_last place text utf8 none =
@@ -81,7 +81,7 @@ module _ (test : ℕ → Bool) where
       ∙ ap (λ (l : List ℕ). laid_out place (encode_utf8_all (chars text) ∷ []) (map encode_utf8 l)) (filter_none (chars text) fail)
       ∙ ap (λ (l : List ℕ). view_at l place ∷ []) (encodes-chars text utf8)
 
--- ---- the parts have the texts, and are found
+-- ---- the texts of the parts, and where they are found
 
 texts_laid_out : (place : ℕ) (texts separators : List (List ℕ)) → map (λ view. view.text) (laid_out place texts separators) ≡ texts
 texts_laid_out place [] separators = refl
@@ -137,7 +137,7 @@ module _ (parent front rest : List ℕ) (place : ℕ) (whole_utf8 : IsUtf8 (fron
       (ap (take (length (front ++ rest) - length front)) (drop_at front rest (length front) refl) ∙ take_all (length (front ++ rest) - length front) rest (omega (arith, size)))
       (found_part parent (front ++ rest) place (length front) (length (front ++ rest)) sliced found)
 
--- the text of characters is found in its two halves
+-- the text of a list of characters is found in its two halves
 module _ (parent front rest : List ℕ) (place : ℕ) (scalars : all_scalars (front ++ rest) ≡ true) (found : IsFoundAt parent (encode_utf8_all (front ++ rest)) place) where
   rest_scalars : all_scalars rest ≡ true
   rest_scalars = scalars-rest front rest scalars
@@ -175,9 +175,9 @@ found_parts test view utf8 parent found =
     found_laid_out parent (slice_split test (chars view.text)) (filter test (chars view.text)) view.place (ap all_scalars same ∙ scalars-chars view.text utf8)
     (subst (λ (l : List ℕ). IsFoundAt parent l view.place) (sym (ap encode_utf8_all same ∙ encodes-chars view.text utf8)) found)
 
--- ---- at a character, as std's `find` answers
+-- ---- parts at a character, from the results of std's `find`
 
--- where the text has the character
+-- if the text has the character
 module _ (c : ℕ) (view : View) (place : ℕ) (utf8 : IsUtf8 view.text) (at : MatchBeginsAt (FindsChar c) view.text place) where
   around : view.text ≡ take place view.text ++ (encode_utf8 c ++ drop at.0 view.text)
   around = sym (take-append-drop place view.text) ∙ ap (λ (l : List ℕ). take place view.text ++ l) at.1.1.split
@@ -234,7 +234,7 @@ pub found_parts_at : (c : ℕ) (view : View) → IsUtf8 view.text → AreFoundWi
 unfolding parts_at
 found_parts_at c view utf8 = record { each = found_parts (λ d. d == c) view utf8 }
 
--- named at the functions whose proofs use them
+-- the functions whose proofs use these rulesets name them
 pub ruleset first_places = (first_none, first_some)
 
 pub ruleset lawful_places = (lawful_before, lawful_behind)

@@ -7,7 +7,7 @@ use Rattle.arcstr_range.proofs.WhiteSpace.{IsLongestWhiteFront-skip, IsLongestWh
 use Rattle.arcstr_range.specs.Trim.{TrimsStart, TrimsEnd}
 use Rattle.arcstr_range.specs.View.{View}
 
--- the place moves by what the text loses
+-- the place moves by the bytes that the text loses
 pub TrimsStart-trim_start : (old new : View) → IsUtf8 old.text → new.text ≡ trim_start old.text
     → new.place ≡ old.place + (length old.text - length new.text) → TrimsStart old new
 unfolding trim_start
@@ -36,7 +36,7 @@ TrimsEnd-trim_end old new text place =
       place = place;
     }
 
--- named at the functions whose proofs use them
+-- the functions whose proofs use these rulesets name them
 pub ruleset trims_of_starts = (TrimsStart-trim_start)
 
 pub ruleset trims_of_ends = (TrimsEnd-trim_end)

@@ -1,4 +1,4 @@
--- What std's words on white space leave out is the longest front, or the longest end, that is white space alone.
+-- The trims of std remove the longest prefix, or the longest suffix, that is all white space.
 use Rattle.std.proofs.Common.{◌≡◌, ℕ, zero, suc, ◌+◌, ◌<◌, ◌≤◌, ◌⊎◌, inl, inr, Bool, true, false, cond, ◌&&◌, nat_eq, List, [], ◌∷◌, ◌++◌, length}
 use Rattle.std.proofs.Common.{refl, ap, arith, length-append}
 use Rattle.std.specs.Char.{is_whitespace}
@@ -24,7 +24,7 @@ AreWhite-rest c cs white k d below = white (suc k) d (omega arith)
 AreWhite-first : (c : ℕ) (cs : List ℕ) → AreWhite (c ∷ cs) → is_whitespace c ≡ true
 AreWhite-first c cs white = white 0 0 (omega arith)
 
--- the front of one more character
+-- the longest white prefix after one more character is added
 longest_front : (c : ℕ) (cs front rest : List ℕ) → IsLongestWhiteFront cs front rest
     → (other others_rest : List ℕ) → c ∷ cs ≡ other ++ others_rest → AreWhite other → length other ≤ length front + 1
 longest_front c cs front rest h [] others_rest e white = omega arith
@@ -54,17 +54,17 @@ front_of_more true c cs rest white (front, h) = (
 front_of_more false c cs rest black (front, h) =
     ([], record { split = refl; white = AreWhite-nil; longest = no_front c cs black })
 
--- what `skip_leading_whitespace` skips
+-- `skip_leading_whitespace` skips the longest white prefix
 pub IsLongestWhiteFront-skip : (cs : List ℕ) → (front : List ℕ) × IsLongestWhiteFront cs front (skip_leading_whitespace cs)
 IsLongestWhiteFront-skip [] =
     ([], record { split = refl; white = AreWhite-nil; longest = λ other others_rest e w. omega (arith, ap length e, length-append other others_rest) })
 IsLongestWhiteFront-skip (c ∷ cs) = front_of_more (is_whitespace c) c cs (skip_leading_whitespace cs) refl (IsLongestWhiteFront-skip cs)
 
--- an end of a list is no longer than the list
+-- a suffix of a list is no longer than the list
 end_is_short : (cs others_rest other : List ℕ) → cs ≡ others_rest ++ other → length other ≤ length cs
 end_is_short cs others_rest other e = omega (arith, ap length e, length-append others_rest other)
 
--- the end of one more character, where white space alone follows it
+-- the longest white suffix after one more character is added, if only white space follows that character
 all_back : (c : ℕ) (cs rest back : List ℕ) → is_whitespace c ≡ true → length rest ≡ 0 → IsLongestWhiteBack cs rest back → IsLongestWhiteBack (c ∷ cs) [] (c ∷ back)
 all_back c cs [] back white empty h =
     record {
@@ -74,7 +74,7 @@ all_back c cs [] back white empty h =
     }
 all_back c cs (x ∷ rest) back white empty h = absurd (omega arith)
 
--- and where it does not end the text with white space
+-- otherwise that suffix does not grow
 same_back : (c : ℕ) (cs rest back : List ℕ) → (is_whitespace c ≡ false) ⊎ (0 < length rest) → IsLongestWhiteBack cs rest back
     → (others_rest other : List ℕ) → c ∷ cs ≡ others_rest ++ other → AreWhite other → length other ≤ length back
 same_back c cs rest back kept h [] [] e w = omega arith
@@ -107,7 +107,7 @@ back_of_more false c cs rest kept (back, h) = (
   },
 )
 
--- what `drop_trailing_whitespace` drops
+-- `drop_trailing_whitespace` drops the longest white suffix
 pub IsLongestWhiteBack-drop : (cs : List ℕ) → (back : List ℕ) × IsLongestWhiteBack cs (drop_trailing_whitespace cs) back
 IsLongestWhiteBack-drop [] =
     ([], record { split = refl; white = AreWhite-nil; longest = λ others_rest other e w. end_is_short [] others_rest other e })

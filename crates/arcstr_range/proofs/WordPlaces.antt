@@ -23,7 +23,7 @@ IsBlack c = is_whitespace c ≡ false
 abbrev IsWhite : ℕ → Type 0
 IsWhite c = is_whitespace c ≡ true
 
--- ---- words of characters that begin at a place
+-- ---- words of characters that start at a place
 
 abbrev words_from : ℕ → List ℕ → List View
 words_from place cs = filter has_text (laid_out place (map encode_utf8_all (slice_split is_whitespace cs)) (map encode_utf8 (filter is_whitespace cs)))
@@ -32,7 +32,7 @@ words_of_is : (view : View) → words_of view ≡ words_from view.place (chars v
 unfolding words_of parts_between texts_between separators_of
 words_of_is view = refl
 
--- white space moves the place alone
+-- white space only moves the place
 words_past_one : (place c : ℕ) (cs : List ℕ) → IsWhite c → words_from place (c ∷ cs) ≡ words_from (place + length (encode_utf8 c)) cs
 words_past_one place c cs white =
     ap (λ (parts : List (List ℕ)). filter has_text (laid_out place (map encode_utf8_all parts) (map encode_utf8 (filter is_whitespace (c ∷ cs))))) (slice_split-cons_yes is_whitespace c cs white)
@@ -49,7 +49,7 @@ words_past place (c ∷ gap) cs white =
 keep_one : (view : View) (views : List View) (b : Bool) → has_text view ≡ b → filter has_text (view ∷ views) ≡ cond b (view ∷ filter has_text views) (filter has_text views)
 keep_one view views b is = ap (λ (x : Bool). cond x (view ∷ filter has_text views) (filter has_text views)) is
 
--- the characters are none, or begin with white space
+-- there are no characters, or the first is white space
 abbrev IsEndOrWhite : List ℕ → Type 0
 IsEndOrWhite [] = Unit {0}
 IsEndOrWhite (c ∷ cs) = IsWhite c
@@ -69,9 +69,9 @@ words_at_word place word (c ∷ rest) black white some =
     ∙ keep_one (view_at (encode_utf8_all word) place) (laid_out (place + length (encode_utf8_all word) + length (encode_utf8 c)) (map encode_utf8_all (slice_split is_whitespace rest)) (map encode_utf8 (filter is_whitespace rest))) true some
     ∙ ap (λ (l : List View). view_at (encode_utf8_all word) place ∷ l) (sym (words_past_one (place + length (encode_utf8_all word)) c rest white))
 
--- ---- from std's cuts of bytes to characters
+-- ---- from std's cuts of bytes to cuts of characters
 
--- a front of the bytes of characters that spells characters is a front of the characters
+-- a prefix of the characters' bytes that spells characters is a prefix of the characters
 record FrontOf (cs front : List ℕ) (behind : List ℕ) : Type 0 where
   pub rest : List ℕ
   pub split : cs ≡ front ++ rest
@@ -206,7 +206,7 @@ no_words view utf8 none =
     let same : none.0 ≡ chars view.text = chars_from_encodes none.0 view.text utf8 none.1 in
     words_of_is view ∙ ap (words_from view.place) (sym same ∙ sym (append-nil none.0)) ∙ words_past view.place none.0 [] (all_white none.0 none.2)
 
--- what std's `split_whitespace` answers first
+-- the first result of std's `split_whitespace`
 pub first_word_none : (view : View) (s t : SplitWhitespace) → IsUtf8 view.text → split_whitespace_rest s ≡ view.text → split_whitespace_steps s None t → words_of view ≡ []
 first_word_none view s t utf8 rest steps = no_words view utf8 (subst (NoCharPasses is_not_whitespace) rest steps.1)
 
@@ -235,5 +235,5 @@ unfolding words_of
 found_words view utf8 =
     record { each = λ parent found. All-filter has_text (IsIn parent) (parts_between is_whitespace view) (found_parts is_whitespace view utf8 parent found) }
 
--- named at the function whose proof uses them
+-- the function whose proof uses these rulesets names them
 pub ruleset facts_of_words = (texts_of_words, found_words)

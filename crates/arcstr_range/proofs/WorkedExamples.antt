@@ -1,4 +1,4 @@
--- Worked examples of the definitions, by computation: what they say is what was meant.
+-- Worked examples of the definitions, by computation.
 use lib.Utf8.{encode}
 use Rattle.std.proofs.Common.{◌≡◌, ℕ, ◌-◌, ◌^◌, List, [], ◌∷◌, get_or, refl, ap, inl, inr, arith, rules}
 use Rattle.std.specs.Prelude.{codes}
@@ -39,7 +39,7 @@ ends_unbounded = refl
 ends_wide : ends_of (ToInclusive 4294967295) 4294967296 ≡ (0, 4294967296)
 ends_wide = refl
 
--- lengths, also those that 32 bits do not hold
+-- lengths, including some that do not fit in 32 bits
 fits_wide : FitsLength 4294967296 0 4294967296
 fits_wide = search rules
 
@@ -104,7 +104,7 @@ found_elsewhere (inr stands) = omega (arith, ap (λ (l : List ℕ). get_or l 0 0
 empty_anywhere : IsFoundAt (codes "abab") [] greatest
 empty_anywhere = inl refl
 
--- white space, also of two bytes
+-- white space, including some of two bytes
 trimmed : trim (codes "  a ") ≡ codes "a"
 unfolding trim_start trim_end chars encode
 trimmed = refl

@@ -1,4 +1,4 @@
--- The ends of a range, the rules that they keep, and the first fault where they break one.
+-- The ends of a range, the rules for them, and the first fault of ends that break one.
 use Rattle.std.specs.Prelude.{ℕ, ◌+◌, ◌<◌, ◌≤◌, List, length, ⊤}
 use Rattle.std.specs.Str.{IsCharBoundary}
 use Rattle.arcstr_range.specs.declared.range.StrRange.{StrRange}
@@ -8,7 +8,7 @@ use Rattle.arcstr_range.specs.declared.range.fault.RangeFault.TheVariants.{OutOf
 use Rattle.arcstr_range.specs.RangeFault.{range_fault_number}
 use Rattle.arcstr_range.specs.Text.{cut}
 
--- the start and the end of a range in something of that length, as whole numbers without a bound
+-- the start and the end of a range in a sequence of this length, as unbounded natural numbers
 abbrev pub ends_of : StrRange → ℕ → ℕ × ℕ
 ends_of (Between start end) len = (start, end)
 ends_of (From start) len = (start, len)
@@ -17,35 +17,34 @@ ends_of Full len = (0, len)
 ends_of (Inclusive start last) len = (start, last + 1)
 ends_of (ToInclusive last) len = (0, last + 1)
 
--- the rule of each fault, for a start and an end in something of that length: where it is broken, the fault is there.
--- A length has no characters to cut
+-- the rule of each fault, for a start and an end in a sequence of this length: the fault occurs if the rule is broken. A length has no characters to cut
 abbrev pub length_rule : ℕ → ℕ → ℕ → RangeFault → Type 0
 length_rule len start end OutOfOrder = start ≤ end
 length_rule len start end PastEnd = end ≤ len
 length_rule len start end OffBoundary = ⊤
 
--- the rule of each fault, for a start and an end in that text
+-- the rule of each fault, for a start and an end in this text
 abbrev pub text_rule : List ℕ → ℕ → ℕ → RangeFault → Type 0
 text_rule text start end OutOfOrder = length_rule (length text) start end OutOfOrder
 text_rule text start end PastEnd = length_rule (length text) start end PastEnd
 text_rule text start end OffBoundary = IsCharBoundary text start × IsCharBoundary text end
 
--- the first fault, in the order of their numbers: its rule is broken, and each rule before it is kept
+-- the first fault in the order of their numbers: its rule is broken, and each earlier rule holds
 pub record IsFirstFault (rule : RangeFault → Type 0) (fault : RangeFault) : Type 0 where
   pub broken : ¬ (rule fault)
   pub kept_before : (earlier : RangeFault) → range_fault_number earlier < range_fault_number fault → rule earlier
 
--- each rule of a length is kept
+-- each rule of a length holds
 pub record FitsLength (len start end : ℕ) : Type 0 where
   pub in_order : length_rule len start end OutOfOrder
   pub within : length_rule len start end PastEnd
 
--- the ends are lawful in that text: each of its rules is kept
+-- the ends are valid in this text: each of its rules holds
 pub record IsLawful (text : List ℕ) (start end : ℕ) : Type 0 where
   pub fits : FitsLength (length text) start end
   pub at_boundaries : text_rule text start end OffBoundary
 
--- the ends are those of a slice of Rust's `str`: each rule of the text is kept, as by lawful ends
+-- the ends are those of a slice of Rust's `str`: each rule of the text holds, as for valid ends
 pub record IsSliceable (text : List ℕ) (start end : ℕ) : Type 0 where
   pub in_order : text_rule text start end OutOfOrder
   pub within : text_rule text start end PastEnd

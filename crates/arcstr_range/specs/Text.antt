@@ -1,20 +1,20 @@
--- Texts, their boundaries and their slices. A text is seen as the bytes of a `&str`, which spell its characters,
--- and a place in it as a number of bytes. Boundaries are those of Rust's `str::is_char_boundary`.
+-- Texts, their boundaries and their slices. A text is the list of the bytes of a `&str`, which spell its characters, and a place in it is a byte offset.
+-- Boundaries are those of Rust's `str::is_char_boundary`.
 use Rattle.std.specs.Prelude.{◌≡◌, ℕ, List, ◌++◌, length, slice_range, encode_utf8_all}
 use Rattle.std.specs.Str.{chars}
 
--- the place is the byte length of a front of the text's characters
+-- `place` is the length in bytes of a prefix of the text's characters
 pub record IsFrontLength (text : List ℕ) (place : ℕ) : Type 0 where
   pub front : List ℕ
   pub rest : List ℕ
   pub split : chars text ≡ front ++ rest
   pub measured : length (encode_utf8_all front) ≡ place
 
--- the bytes of a text from one place up to another
+-- the bytes of a text between two byte offsets
 abbrev pub cut : List ℕ → ℕ → ℕ → List ℕ
 cut text start end = slice_range text start end
 
--- the slice spells the text's characters between two places
+-- the slice spells the text's characters between two byte offsets
 pub record SpellsBetween (text : List ℕ) (start end : ℕ) (slice : List ℕ) : Type 0 where
   pub before : List ℕ
   pub between : List ℕ

@@ -1,23 +1,23 @@
--- White space at the start and at the end of a view. White space is Rust's `char::is_whitespace`.
+-- White space at the start and at the end of a view. White space is that of Rust's `char::is_whitespace`.
 use Rattle.std.specs.Prelude.{◌≡◌, ℕ, ◌+◌, ◌≤◌, List, ◌++◌, length, encode_utf8_all}
 use Rattle.std.specs.Char.{is_whitespace}
 use Rattle.std.specs.List.{AllPass}
 use Rattle.std.specs.Str.{chars}
 use Rattle.arcstr_range.specs.View.{View}
 
--- the front is the longest front of the characters that is white space alone, and the rest follows it
+-- `front` is the longest prefix of the characters that is all white space, and the rest follows it
 pub record IsLongestWhiteFront (characters front rest : List ℕ) : Type 0 where
   pub split : characters ≡ front ++ rest
   pub white : AllPass is_whitespace front
   pub longest : (other others_rest : List ℕ) → characters ≡ other ++ others_rest → AllPass is_whitespace other → length other ≤ length front
 
--- the back is the longest end of the characters that is white space alone, and the rest stands before it
+-- `back` is the longest suffix of the characters that is all white space, and the rest precedes it
 pub record IsLongestWhiteBack (characters rest back : List ℕ) : Type 0 where
   pub split : characters ≡ rest ++ back
   pub white : AllPass is_whitespace back
   pub longest : (others_rest other : List ℕ) → characters ≡ others_rest ++ other → AllPass is_whitespace other → length other ≤ length back
 
--- the new view is the old one without the longest front of white space, and its place moves by the bytes of that
+-- the new view is the old one without the longest prefix of white space, and its place moves by the bytes of that prefix
 pub record TrimsStart (old new : View) : Type 0 where
   pub front : List ℕ
   pub rest : List ℕ
@@ -25,7 +25,7 @@ pub record TrimsStart (old new : View) : Type 0 where
   pub text : new.text ≡ encode_utf8_all rest
   pub place : new.place ≡ old.place + length (encode_utf8_all front)
 
--- the new view is the old one without the longest end of white space, at the old place
+-- the new view is the old one without the longest suffix of white space, at the old place
 pub record TrimsEnd (old new : View) : Type 0 where
   pub rest : List ℕ
   pub back : List ℕ
@@ -33,7 +33,7 @@ pub record TrimsEnd (old new : View) : Type 0 where
   pub text : new.text ≡ encode_utf8_all rest
   pub place : new.place ≡ old.place
 
--- first the start, and then the end
+-- a trim of the start, and then of the end
 pub record Trims (old new : View) : Type 0 where
   pub middle : View
   pub start : TrimsStart old middle

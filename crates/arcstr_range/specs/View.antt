@@ -1,4 +1,4 @@
--- Views: texts that remember the place at which they stand, and where a view is found.
+-- Views: texts with their place in a parent, and where a view is found.
 use Rattle.std.specs.Prelude.{◌≡◌, ℕ, ◌+◌, ◌⊎◌, List, [], length}
 use Rattle.arcstr_range.specs.Text.{cut}
 use Rattle.arcstr_range.specs.Ends.{IsLawful}
@@ -11,15 +11,15 @@ pub record View : Type 0 where
 abbrev pub view_at : List ℕ → ℕ → View
 view_at text place = record { text = text; place = place }
 
--- where the view ends, by its own place
+-- where the view ends, as measured by its place
 abbrev pub end_of : View → ℕ
 end_of view = view.place + length view.text
 
--- the view of the text between two places of the view's own text
+-- the view of the text between two byte offsets of the view's own text
 abbrev pub part_of : View → ℕ → ℕ → View
 part_of view start end = view_at (cut view.text start end) (view.place + start)
 
--- the parent has the text at the place, as a lawful slice
+-- the parent has the text at the place, as a valid slice
 pub record StandsAt (parent text : List ℕ) (place : ℕ) : Type 0 where
   pub lawful : IsLawful parent place (place + length text)
   pub same : cut parent place (place + length text) ≡ text

@@ -1,4 +1,4 @@
-//! The examples of the doc comments: each is the body of the test that is named for its item.
+//! The examples of the doc comments. The body of each test is the example of the item that the test is named for.
 use crate::range::{self, RangeFault, StrRange};
 use crate::view::StrView;
 use std::test::Fail;

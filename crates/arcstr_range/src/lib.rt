@@ -1,5 +1,4 @@
-//! Ranges of texts and views of them: where a range begins and ends, which ranges are lawful in a
-//! text, and texts that remember their place.
+//! Ranges and views of texts: the ends of a range, which ranges are valid in a text, and views, which remember their place in a parent.
 #![tactic(auto)]
 
 #[cfg(test)]

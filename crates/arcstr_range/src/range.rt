@@ -1,7 +1,6 @@
-//! Ranges of places in a text, and the tests that they pass.
+//! Ranges of byte offsets in a text, and their tests. No call here allocates.
 //!
-//! Places and lengths are counted in bytes, and a place is a boundary where Rust's
-//! `str::is_char_boundary` says so.
+//! Offsets and lengths are counted in bytes. An offset is a boundary if `str::is_char_boundary` says so.
 ghost use Rattle.std.specs.Prelude.{◌≡◌, ◌≢◌, ◌↔◌, IsOk, IsErrOf, ◌<◌, nat_le, ◌&&◌, if◌then◌else◌, IfOk, IfErr, MatchOption};
 ghost use Rattle.std.specs.Range.{range_inclusive_start, range_inclusive_end, range_inclusive_exhausted};
 ghost use Rattle.arcstr_range.specs.declared.range.StrRange.TheVariants.{Between, From as FromStart, To, Full, Inclusive, ToInclusive};
@@ -15,12 +14,11 @@ pub use fault::RangeFault;
 pub use places::{checked_ends, inner_ends, is_boundary, slice};
 use std::ops::{Range, RangeFrom, RangeFull, RangeInclusive, RangeTo, RangeToInclusive};
 
-/// A range of places in a text, in bytes, in one of the forms of Rust's ranges over `usize`.
+/// A range of byte offsets in a text, in one of the forms of Rust's ranges over `usize`.
 ///
-/// Each of those converts to it. No range is refused before it is laid on a text or a length, and none
-/// takes memory.
+/// Each of those forms converts to it. A conversion never fails: only a text or a length can refuse a range.
 ///
-/// Plain data of 24 bytes: it may be copied, sent and shared, and its drop does nothing.
+/// Its size is 24 bytes. It can be copied, sent to a thread and shared between threads, and its drop does nothing.
 ///
 /// ```
 /// assert_eq!(rt; StrRange::from(1..3), StrRange::Between(1, 3));
@@ -43,11 +41,10 @@ pub enum StrRange {
 }
 
 impl StrRange {
-    /// The start and the end, in bytes, in something of `len` bytes. It takes no memory.
+    /// Returns the start and the end of the range in a sequence of `len` bytes.
     ///
-    /// Refuses the first that fails: the start is at most the end (`OutOfOrder`), and the end at most
-    /// `len` (`PastEnd`). An inclusive end of `usize::MAX` counts as one place more, and so is past the
-    /// end.
+    /// Errors, in this order: `OutOfOrder` if the start is after the end; `PastEnd` if the end is greater than `len`. An inclusive end of `usize::MAX` counts
+    /// as one more, and so is past the end.
     ///
     /// ```
     /// assert_eq!(rt; StrRange::From(1).ends(3), Ok((1, 3)));
@@ -76,7 +73,7 @@ impl StrRange {
         Ok((start, end))
     }
 
-    // The start and the end, untested. `None` where the end, one after an inclusive one, passes `usize`.
+    // Returns the start and the end, without a test. Returns `None` if the end overflows `usize`, as an inclusive end of `usize::MAX` does.
     pub(crate) fn usize_ends(self, len: usize) -> Option<(usize, usize)>
         ensures { let ends = ends_of self len in
             MatchOption result (usize.MAX < ends.1) (λ found. found ≡ ends) }
@@ -124,8 +121,7 @@ impl From<RangeFull> for StrRange {
     }
 }
 
-/// Once `next` has given the last value, the range ends before that value, as std's `RangeBounds` has
-/// it: a spent `a..=a` is `a..a`.
+/// After `next` has returned the last value, the range ends before that value, as std's `RangeBounds` says: a spent `a..=a` is `a..a`.
 impl From<RangeInclusive<usize>> for StrRange {
     ghost from_gives = { λ range given.
         let start = range_inclusive_start range in

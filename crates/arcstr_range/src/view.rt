@@ -1,4 +1,4 @@
-//! Views of a text, which remember the place where it stands.
+//! Views of a text that remember their place in a parent.
 ghost use Rattle.std.specs.Prelude.{◌≡◌, ℕ, List, ◌↔◌, ◌+◌, ◌≤◌, length, IsTrue, IsSome, IfSome};
 ghost use Rattle.std.specs.Str.{trim, trim_end, trim_start};
 ghost use Rattle.arcstr_range.specs.Ends.{IsSliceable};
@@ -15,13 +15,12 @@ use crate::range::{StrRange, checked_ends, slice};
 use std::marker::Model;
 use std::ops::Range;
 
-/// A text and the place, in bytes, where it says that it stands in a longer text, its parent. The
-/// parent is not kept: `is_found_in` tells whether a text has the view there.
+/// A text and its place: the byte offset at which it claims to stand in a longer text, its parent. The view does not keep the parent: `is_found_in` tests
+/// whether a text has the view at that place.
 ///
-/// The place and the text's length have a sum of at most `usize::MAX`. A view borrows its text, and no
-/// call on it takes memory.
+/// The sum of the place and the text's length is at most `usize::MAX`. A view borrows its text, and no call on it allocates.
 ///
-/// It has 24 bytes, may be sent and shared, and its drop does nothing.
+/// Its size is 24 bytes. It can be sent to a thread and shared between threads, and its drop does nothing.
 ///
 /// ```
 /// let line = "key = value";
@@ -47,7 +46,7 @@ impl<'a> Model for StrView<'a> {
 }
 
 impl<'a> StrView<'a> {
-    /// The view of a whole text, at place 0. It takes no memory.
+    /// Returns the view of a whole text, at place 0.
     ///
     /// ```
     /// let view = StrView::whole("abc");
@@ -62,8 +61,7 @@ impl<'a> StrView<'a> {
         StrView { text, place: 0 }
     }
 
-    /// The view of a text that stands at a place, in bytes. `None` exactly where the place and the text's
-    /// length have a sum above `usize::MAX`. It takes no memory.
+    /// Returns the view of a text at a place, in bytes. Returns `None` exactly if the sum of the place and the text's length is above `usize::MAX`.
     ///
     /// ```
     /// let view = StrView::at("abc", 4).ok_or("no view")?;
@@ -78,7 +76,7 @@ impl<'a> StrView<'a> {
         Some(StrView { text, place })
     }
 
-    /// The view's text. It takes no memory.
+    /// Returns the view's text.
     ///
     /// ```
     /// assert_eq!(rt; StrView::whole("abc").text(), "abc");
@@ -89,7 +87,7 @@ impl<'a> StrView<'a> {
         self.text
     }
 
-    /// The place, in bytes, where the view's text stands. It takes no memory.
+    /// Returns the place of the view's text, in bytes.
     ///
     /// ```
     /// let word = StrView::whole("  abc").trim_start();
@@ -102,8 +100,7 @@ impl<'a> StrView<'a> {
         self.place
     }
 
-    /// The range of places, in bytes, that the view takes: from its place on, as long as its text. It takes
-    /// no memory.
+    /// Returns the byte range of the view: from its place on, as long as its text.
     ///
     /// ```
     /// let word = StrView::whole("  abc").trim_start();
@@ -116,8 +113,8 @@ impl<'a> StrView<'a> {
         self.place..self.place + self.text.len()
     }
 
-    /// The part of the view between two places of its own text, in bytes. `None` exactly where these are
-    /// out of order, past the text or inside a character. It takes no memory.
+    /// Returns the part of the view between two byte offsets of its own text. Returns `None` exactly if they are out of order, past the text or inside a
+    /// character.
     ///
     /// ```
     /// let part = StrView::whole("aéb").cut(1..3).ok_or("no part")?;
@@ -140,8 +137,7 @@ impl<'a> StrView<'a> {
         })
     }
 
-    /// The view without the white space in front, as Rust's `str::trim_start`. Its place moves by the bytes
-    /// of that. It takes no memory.
+    /// Returns the view with leading white space removed, as `str::trim_start` does. Its place moves by the bytes removed.
     ///
     /// ```
     /// let word = StrView::whole("  a ").trim_start();
@@ -163,8 +159,7 @@ impl<'a> StrView<'a> {
         }
     }
 
-    /// The view without the white space behind, as Rust's `str::trim_end`. Its place stays. It takes no
-    /// memory.
+    /// Returns the view with trailing white space removed, as `str::trim_end` does. Its place stays the same.
     ///
     /// ```
     /// let word = StrView::whole("  a ").trim_end();
@@ -184,8 +179,7 @@ impl<'a> StrView<'a> {
         }
     }
 
-    /// The view without the white space in front and behind, as Rust's `str::trim`. Its place moves by the
-    /// bytes in front. It takes no memory.
+    /// Returns the view with leading and trailing white space removed, as `str::trim` does. Its place moves by the bytes removed at the start.
     ///
     /// ```
     /// let word = StrView::whole("  a ").trim();
@@ -201,8 +195,7 @@ impl<'a> StrView<'a> {
         self.trim_start().trim_end()
     }
 
-    /// Whether the parent has the view's text at the view's place, in a lawful range. An empty view is
-    /// found in every text. It takes no memory.
+    /// Tests whether the parent has the view's text at the view's place, in a valid range. An empty view is found in every text.
     ///
     /// ```
     /// let word = StrView::whole("  abc").trim_start();

@@ -18,18 +18,18 @@ enum Clones {
     OfText(ArcStr, Look),
     OfSlice(Substr),
     InThreads(ArcStr, Look),
-    /// Handles in turn.
+    /// Several handles in turn.
     OfHandles(Vec<ArcStr>),
 }
 
-/// What is read of a clone before it is dropped.
+/// What a round reads of a clone before it drops the clone.
 #[derive(Clone, Copy)]
 enum Look {
     Length,
     Nothing,
 }
 
-/// Times a figure of this family. A round may start threads, so it is no `Round`.
+/// Times a figure of this family. A round can start threads, so this family does not use `Round`.
 pub(crate) fn run<M: Machine>(rt: &M, request: &Request) -> Result<()> {
     let prepared = prepare(rt, request)?;
     for _ in 0..request.rounds {
@@ -53,7 +53,7 @@ fn prepare<M: Machine>(rt: &M, request: &Request) -> Result<Clones> {
     }
 }
 
-/// Eight handles of the kind that the figure names.
+/// Returns eight handles of the kind that the figure names.
 fn prepare_handles<M: Machine>(rt: &M, figure: &str, text: ArcStr) -> Result<Vec<ArcStr>> {
     let one = match figure {
         "clone_drop_literal" => literal!("a literal text, in read-only memory"),
@@ -65,7 +65,7 @@ fn prepare_handles<M: Machine>(rt: &M, figure: &str, text: ArcStr) -> Result<Vec
     Ok(handles(rt, rt.alloc(), &one, 8)?)
 }
 
-/// Eight handles that were counted before their block was marked.
+/// Returns eight handles that were counted before their block was marked static.
 fn marked_handles<M: Machine>(rt: &M, text: ArcStr) -> Result<Vec<ArcStr>> {
     let all = handles(rt, rt.alloc(), &text, 8)?;
     let _ = text.leak();
@@ -85,7 +85,7 @@ impl Clones {
     }
 }
 
-/// The sum of what each thread of the request finds of its clones of the text.
+/// Clones the text in each thread of the request, and returns the sum of their results.
 fn clone_in_threads<M: Machine>(
     rt: &M,
     request: &Request,

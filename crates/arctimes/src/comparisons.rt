@@ -11,7 +11,7 @@ use std::alloc::AllocError;
 use std::cmp::Ordering;
 use std::hash::{DefaultHasher, Hash, Hasher};
 
-/// What a round compares or hashes: 8 texts in blocks of their own, beside one more.
+/// What a round compares or hashes: 8 texts, each in its own block, and one more text.
 #[derive(Drop)]
 enum Comparisons {
     Equal(Vec<ArcStr>, ArcStr),
@@ -48,7 +48,7 @@ impl Round for Comparisons {
     }
 }
 
-/// How often one of the texts is the one.
+/// Returns how often one of the texts equals `one`.
 fn count_equal(all: &[ArcStr], one: &ArcStr, times: usize) -> usize {
     let mut sum = 0usize;
     for _ in 0..times {
@@ -61,7 +61,7 @@ fn count_equal(all: &[ArcStr], one: &ArcStr, times: usize) -> usize {
     sum
 }
 
-/// The sum of 1 for each text that comes before the one, 2 for each that is it, and 3 for each after it.
+/// Returns a sum of 1 for each text that comes before `one`, 2 for each that equals it, and 3 for each that comes after it.
 fn add_orders(all: &[ArcStr], one: &ArcStr, times: usize) -> usize {
     let mut sum = 0usize;
     for _ in 0..times {

@@ -1,10 +1,10 @@
-//! The figures by their names, in families: a module each, which prepares what the rounds of its figures need.
+//! The figures by name, in families. One module for each family prepares what the rounds of its figures need.
 //!
-//! A new figure takes a line of `FIGURES`, an arm of its module's `prepare` and `once`, and its name in `table`.
+//! A new figure needs a line of `FIGURES`, an arm of its module's `prepare` and `once`, and its name in `table`.
 
 use anyhow::{Result, bail};
 
-/// Figures that one module times.
+/// The figures that one module times.
 #[derive(Clone, Copy)]
 pub(crate) enum Family {
     Clones,
@@ -20,7 +20,7 @@ pub(crate) enum Family {
     Parts,
 }
 
-/// Each figure's name, with its family.
+/// The name of each figure, with its family.
 const FIGURES: [(&str, Family); 37] = [
     ("clone_drop", Family::Clones),
     ("clone_drop_bare", Family::Clones),
@@ -61,7 +61,7 @@ const FIGURES: [(&str, Family); 37] = [
     ("look_up", Family::Parts),
 ];
 
-/// The family of the figure of this name.
+/// Returns the family of the figure with this name.
 pub(crate) fn family_of(figure: &str) -> Result<Family> {
     for (name, family) in FIGURES {
         if name == figure {
@@ -71,7 +71,7 @@ pub(crate) fn family_of(figure: &str) -> Result<Family> {
     no_figure()
 }
 
-/// Refuses a name that no figure has.
+/// Returns an error for a name that no figure has.
 pub(crate) fn no_figure<T>() -> Result<T> {
     bail!("there is no figure of this name");
 }

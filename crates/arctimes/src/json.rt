@@ -10,7 +10,7 @@ use arcstr::ArcStr;
 use serde_json::Value;
 use std::alloc::{AllocError, Global};
 
-/// What a round turns into JSON, or makes texts of: 8 texts, or their JSON strings.
+/// What a round converts: 8 texts to JSON strings, or their JSON strings to texts.
 #[derive(Drop)]
 enum Json {
     To(Vec<ArcStr>),

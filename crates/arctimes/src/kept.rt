@@ -1,4 +1,4 @@
-//! Many values kept at once, by which bytes and requests for memory are counted from outside.
+//! Many values kept at once, so that their bytes and allocations can be counted from outside.
 
 use crate::machine::Machine;
 use crate::requests::Request;
@@ -10,10 +10,10 @@ use arcstr::{ArcStr, Substr};
 use std::alloc::{AllocError, Global};
 use std::sync::Wait;
 
-/// What a round keeps many of.
+/// The values that a round keeps.
 #[derive(Drop)]
 enum Kept {
-    /// Texts in blocks of their own.
+    /// Texts, each in its own block.
     Texts(String),
     /// Clones of one text.
     Clones(ArcStr),

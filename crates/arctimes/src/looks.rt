@@ -1,4 +1,4 @@
-//! Calls that look at a block's word, and change nothing.
+//! Calls that read the count word of a block, and change nothing.
 
 use crate::machine::Machine;
 use crate::requests::Request;
@@ -9,7 +9,7 @@ use anyhow::Result;
 use arcstr::ArcStr;
 use std::alloc::AllocError;
 
-/// What a round looks for, in 8 texts in blocks of their own.
+/// What a round looks for in 8 texts, each in its own block.
 #[derive(Drop)]
 enum Looks {
     Counts(Vec<ArcStr>),
@@ -41,7 +41,7 @@ impl Round for Looks {
     }
 }
 
-/// The sum of the counts that were found.
+/// Returns the sum of the counts.
 fn add_counts(all: &[ArcStr], times: usize) -> usize {
     let mut sum = 0usize;
     for _ in 0..times {
@@ -52,7 +52,7 @@ fn add_counts(all: &[ArcStr], times: usize) -> usize {
     sum
 }
 
-/// How often no mark was found.
+/// Returns how often the static flag is not set.
 fn count_unmarked(all: &[ArcStr], times: usize) -> usize {
     let mut sum = 0usize;
     for _ in 0..times {

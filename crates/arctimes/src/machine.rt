@@ -1,10 +1,10 @@
-//! What the program asks of the system that it runs on.
+//! What the program needs from its system.
 
 use std::rt::{Clock, Env};
 use std::sync::Wait;
 use std::thread::Threads;
 
-/// A clock, memory, standard streams, threads, and the leave to wait for them.
+/// A clock, memory, standard streams, threads, and the permission to wait for them.
 pub(crate) trait Machine: Clock
     + Env
     + AllocGlobal

@@ -1,11 +1,11 @@
-//! Times of the calls of `arcstr`, `arctokens` and the scripts of `arcbench`, one figure after another.
+//! Times the calls of `arcstr` and `arctokens` and the scripts of `arcbench`, one figure after another.
 //!
-//! `arctimes FIGURE N ROUNDS THREADS SIZE AT COUNT` times one figure, and prints a line for each round:
-//! `FIGURE THREADS SIZE NANOSECONDS N SUM`. Words that are left out have the values of `Request::of`. Figures of
-//! words read their texts from standard input, with a byte 1 between them. `docs/SPEED.md` says what each figure is.
+//! `arctimes FIGURE N ROUNDS THREADS SIZE AT COUNT` times one figure, and prints a line for each round: `FIGURE THREADS SIZE NANOSECONDS N SUM`. Arguments
+//! that are left out have the values of `Request::of`. Figures of words read their texts from standard input, separated by a byte 1. `docs/SPEED.md`
+//! describes each figure.
 //!
-//! With no word it does a short round of each figure. Standard output then has the name and SUM of each, the same at
-//! every run, and standard error the table of times.
+//! Without arguments, it does a short round of each figure. Standard output then has the name and SUM of each, which are the same in every run, and standard
+//! error has the table of times.
 #![tactic(auto)]
 
 mod clones;
@@ -40,7 +40,7 @@ fn main(rt: HostRuntime) -> Result<()> {
     }
 }
 
-/// Times the figure, whichever family it is of.
+/// Times the figure by the module of its family.
 fn run<M: Machine>(rt: &M, request: &Request) -> Result<()> {
     match families::family_of(request.figure)? {
         Family::Clones => clones::run(rt, request),

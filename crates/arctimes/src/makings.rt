@@ -1,4 +1,4 @@
-//! Making and letting go.
+//! Making and dropping of texts.
 
 use crate::machine::Machine;
 use crate::requests::Request;
@@ -12,9 +12,9 @@ use std::alloc::{AllocError, Global};
 /// What a round makes.
 #[derive(Drop)]
 enum Makings {
-    /// Texts of a string.
+    /// Texts from a string.
     OfText(String),
-    /// Texts of a string's bytes.
+    /// Texts from a string's bytes.
     OfBytes(String),
     /// Copies of one letter.
     Repeats,
@@ -57,7 +57,7 @@ fn make_texts(alloc: Global, text: &str, operations: usize) -> usize {
     sum
 }
 
-/// The same of bytes, which are tested first.
+/// Makes texts from bytes, which are tested first.
 fn make_of_bytes(alloc: Global, bytes: &[u8], operations: usize) -> usize {
     let mut sum = 0usize;
     for _ in 0..operations {
@@ -68,7 +68,7 @@ fn make_of_bytes(alloc: Global, bytes: &[u8], operations: usize) -> usize {
     sum
 }
 
-/// The same of copies of one letter.
+/// Makes texts of copies of one letter.
 fn repeat_letter(alloc: Global, copies: usize, operations: usize) -> usize {
     let mut sum = 0usize;
     for _ in 0..operations {

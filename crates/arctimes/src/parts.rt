@@ -1,4 +1,4 @@
-//! The lines and parts of a text as views, beside those of `str`, and look-ups by a `&str`.
+//! The lines and parts of a text as views, compared with those of `str`, and look-ups by a `&str`.
 
 use crate::machine::Machine;
 use crate::requests::Request;
@@ -9,10 +9,10 @@ use arcstr::{ArcStr, StrView};
 use std::alloc::{AllocError, Global};
 use std::collections::HashMap;
 
-/// Each line, and each part, has so many bytes with the character after it.
+/// The number of bytes of each line and each part, with the character after it.
 const STEP: usize = 40;
 
-/// What a round goes through.
+/// What a round iterates over.
 #[derive(Drop)]
 enum Parts {
     Lines(String),
@@ -54,7 +54,7 @@ impl Round for Parts {
     }
 }
 
-/// So many letters, of which each 40th is the end of a row.
+/// Returns this many letters, with `end` in place of each 40th.
 fn rows(alloc: Global, size: usize, end: char) -> Result<String, AllocError> {
     let mut text = String::with_capacity(alloc, size)?;
     for place in 1..size + 1 {
@@ -63,7 +63,7 @@ fn rows(alloc: Global, size: usize, end: char) -> Result<String, AllocError> {
     Ok(text)
 }
 
-/// So many words, each with its number.
+/// Returns this many words, each with its number.
 fn words(alloc: Global, count: usize) -> Result<Vec<String>, AllocError> {
     let mut words = Vec::new(alloc);
     for number in 0..count {
@@ -72,7 +72,7 @@ fn words(alloc: Global, count: usize) -> Result<Vec<String>, AllocError> {
     Ok(words)
 }
 
-/// The place of each word, by its text.
+/// Returns a map from each word to its position.
 fn places(alloc: Global, words: &[String]) -> Result<HashMap<ArcStr, usize>> {
     let mut places = HashMap::new(alloc);
     for (place, word) in words.iter().enumerate() {
@@ -81,7 +81,7 @@ fn places(alloc: Global, words: &[String]) -> Result<HashMap<ArcStr, usize>> {
     Ok(places)
 }
 
-/// The sum of the lengths of the lines, and of their places.
+/// Returns the sum of the lengths and the places of the lines.
 fn add_lines(text: &str, times: usize) -> usize {
     let mut sum = 0usize;
     for _ in 0..times {
@@ -104,7 +104,7 @@ fn add_lines_of_str(text: &str, times: usize) -> usize {
     sum
 }
 
-/// The sum of the lengths of the parts, and of their places.
+/// Returns the sum of the lengths and the places of the parts.
 fn add_parts(text: &str, times: usize) -> usize {
     let mut sum = 0usize;
     for _ in 0..times {
@@ -127,7 +127,7 @@ fn add_parts_of_str(text: &str, times: usize) -> usize {
     sum
 }
 
-/// The sum of what the map has at the words.
+/// Returns the sum of the map's values at the words.
 fn add_places(places: &HashMap<ArcStr, usize>, words: &[String], times: usize) -> usize {
     let mut sum = 0usize;
     for _ in 0..times {

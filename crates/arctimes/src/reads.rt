@@ -51,7 +51,7 @@ fn texts_of<M: Machine>(rt: &M, request: &Request) -> Result<Vec<ArcStr>> {
     Ok(mixed(rt, rt.alloc(), &texts)?)
 }
 
-/// The bytes 1..15 of each text.
+/// Returns the slice `1..15` of each text.
 fn slices_of<M: Machine>(rt: &M, texts: &[ArcStr]) -> Result<Vec<Substr>> {
     let mut slices = Vec::new(rt.alloc());
     for text in texts {

@@ -1,8 +1,8 @@
-//! What is asked of the program: a figure, and how much of it.
+//! A request to the program: a figure, and how much of it.
 
 use anyhow::{Context, Result};
 
-/// How the rounds of a figure are told.
+/// The form in which the rounds of a figure are printed.
 #[derive(Clone, Copy, PartialEq, Eq)]
 pub(crate) enum Form {
     /// A line on standard output for each round, with all numbers.
@@ -11,25 +11,25 @@ pub(crate) enum Form {
     Table,
 }
 
-/// A figure by its name, and how much of it is done.
+/// A figure by its name, and how much of it to do.
 #[derive(Clone, Copy)]
 pub(crate) struct Request<'a> {
     pub(crate) figure: &'a str,
-    /// How many operations a round has (N).
+    /// The number of operations in a round (N).
     pub(crate) operations: usize,
     pub(crate) rounds: usize,
     pub(crate) threads: usize,
     /// The length of a text, in bytes.
     pub(crate) size: usize,
-    /// The place of the byte in which two texts differ (AT); none where it is the size.
+    /// The byte offset at which two texts differ (AT). If it equals the size, the texts are equal.
     pub(crate) place: usize,
-    /// How many texts there are, for figures of reads.
+    /// The number of texts, for figures of reads.
     pub(crate) count: usize,
     pub(crate) form: Form,
 }
 
 impl<'a> Request<'a> {
-    /// A thousand operations in three rounds, of one thread on a text of 64 bytes.
+    /// Returns a request for a thousand operations in three rounds, of one thread on a text of 64 bytes.
     pub(crate) fn of(figure: &'a str) -> Request<'a> {
         Request {
             figure,
@@ -43,7 +43,7 @@ impl<'a> Request<'a> {
         }
     }
 
-    /// The request that the words spell, in the order FIGURE N ROUNDS THREADS SIZE AT COUNT.
+    /// Parses a request from the arguments, in the order FIGURE N ROUNDS THREADS SIZE AT COUNT.
     pub(crate) fn from_words(words: &'a [String]) -> Result<Request<'a>> {
         let figure = words.first().map_or("", |word| word.as_str());
         let usual = Request::of(figure);
@@ -61,7 +61,7 @@ impl<'a> Request<'a> {
     }
 }
 
-/// The number at a place of the words, or the usual one where there is no such word.
+/// Returns the number at this position of the arguments, or the default if there is no such argument.
 fn number(words: &[String], place: usize, usual: usize) -> Result<usize> {
     match words.get(place) {
         None => Ok(usual),

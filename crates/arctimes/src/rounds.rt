@@ -1,4 +1,4 @@
-//! The rounds of a figure: the clock, and the lines that tell of them.
+//! The rounds of a figure: they read the clock and print the results.
 
 use crate::machine::Machine;
 use crate::requests::{Form, Request};
@@ -6,18 +6,18 @@ use anyhow::Result;
 use std::alloc::AllocError;
 use std::time::Instant;
 
-/// What a round's time is shared out among, where a person reads it.
+/// The unit by which a round's time is divided in the table.
 #[derive(Clone, Copy)]
 pub(crate) enum Unit {
-    /// So many operations as the request has.
+    /// The operations of the request.
     Operation,
-    /// So many texts as were read: N / 1000 rounds over COUNT texts.
+    /// The texts that were read: N / 1000 rounds over COUNT texts.
     Read,
-    /// So many as the round's sum, for words.
+    /// The round's sum, for figures of words.
     Sum,
 }
 
-/// What the rounds of a figure work on, prepared before the first. A round of it starts no thread.
+/// The data that the rounds of a figure work on, prepared before the first round. A round starts no thread.
 pub(crate) trait Round {
     /// Does one round, and returns the sum of what its operations returned.
     fn once<M: Machine>(&self, rt: &M, request: &Request) -> Result<usize, AllocError>;

@@ -1,4 +1,4 @@
-//! Scripts of steps, as `arcbench script` answers them.
+//! Scripts of steps, run as `arcbench script` runs them.
 
 use crate::machine::Machine;
 use crate::requests::Request;
@@ -8,7 +8,7 @@ use anyhow::Result;
 use arcbench_core::script;
 use std::alloc::{AllocError, Global};
 
-/// The lines of the script that a round answers.
+/// The lines of the script that a round runs.
 #[derive(Drop)]
 struct Script(String);
 
@@ -27,7 +27,7 @@ impl Round for Script {
     }
 }
 
-/// A script of so many steps on one block: clones, and for each clone a look and a drop of two steps.
+/// Returns a script of this many steps on one block: clones, and for each clone a look and a drop of two steps.
 fn script_of(alloc: Global, steps: usize) -> Result<String, AllocError> {
     let mut lines = String::from_str(alloc, "limit 1000000\nmake\n")?;
     for step in 1..steps {

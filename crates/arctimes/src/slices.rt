@@ -10,12 +10,12 @@ use arcstr::{ArcStr, Substr};
 use std::alloc::AllocError;
 use std::sync::Wait;
 
-/// Where the slices start and end.
+/// The start and the end of the slices.
 const START: usize = 1000;
 
 const END: usize = 3000;
 
-/// What a round takes slices of.
+/// What a round slices.
 #[derive(Drop)]
 enum Slices {
     OfText(ArcStr),

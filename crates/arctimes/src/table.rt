@@ -1,11 +1,11 @@
-//! A short round of each figure, for a person.
+//! A short round of each figure, for a reader.
 
 use crate::machine::Machine;
 use crate::requests::{Form, Request};
 use crate::run as run_figure;
 use anyhow::Result;
 
-/// The figures that take a text of 64 bytes, or none.
+/// The figures with a text of 64 bytes, or with none.
 const USUAL: [&str; 26] = [
     "clone_drop",
     "clone_drop_bare",
@@ -44,7 +44,7 @@ const OF_TWO_THREADS: [&str; 2] = ["clone_drop_contended", "clone_drop_contended
 /// The figures of a thousand texts.
 const OF_MANY_TEXTS: [&str; 4] = ["read", "read_byte", "read_slice", "look_up"];
 
-/// A short round of a figure, told as a line of the table.
+/// Returns a request for a short round of a figure, printed as a line of the table.
 fn short(figure: &str) -> Request<'_> {
     Request {
         figure,

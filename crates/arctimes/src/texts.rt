@@ -1,10 +1,10 @@
-//! The texts that figures are measured on.
+//! The texts that figures use.
 
 use arcstr::{ArcStr, TextFault};
 use std::alloc::{AllocError, Global};
 use std::sync::Wait;
 
-/// So many letters `x`, of which the one at the place, if there is one, is `y`.
+/// Returns this many letters `x`, with a `y` at `place` if that is in the text.
 pub(crate) fn letters(alloc: Global, size: usize, place: usize) -> Result<String, AllocError> {
     let mut text = String::with_capacity(alloc, size)?;
     for at in 0..size {
@@ -13,7 +13,7 @@ pub(crate) fn letters(alloc: Global, size: usize, place: usize) -> Result<String
     Ok(text)
 }
 
-/// So many texts that are alike, each in a block of its own.
+/// Returns this many equal texts, each in its own block.
 pub(crate) fn many(alloc: Global, text: &str, count: usize) -> Result<Vec<ArcStr>, TextFault> {
     let mut texts = Vec::new(alloc);
     for _ in 0..count {
@@ -24,7 +24,7 @@ pub(crate) fn many(alloc: Global, text: &str, count: usize) -> Result<Vec<ArcStr
     Ok(texts)
 }
 
-/// So many handles on one text.
+/// Returns this many handles to one text.
 pub(crate) fn handles<R: Wait>(
     rt: &R,
     alloc: Global,
@@ -38,10 +38,10 @@ pub(crate) fn handles<R: Wait>(
     Ok(handles)
 }
 
-/// How far the next text lies from the one before it.
+/// The distance from a text to the next one in the list.
 const STEP: usize = 7919;
 
-/// Handles on the same texts in steps of 7919, so that neighbours in the list are none in memory.
+/// Returns handles to the same texts in steps of 7919, so that neighbours in the list are not neighbours in memory.
 pub(crate) fn mixed<R: Wait>(
     rt: &R,
     alloc: Global,

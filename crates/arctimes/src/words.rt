@@ -1,4 +1,4 @@
-//! The words of texts, found by threads: text i by thread i % THREADS.
+//! The words of texts, found by threads: thread `i % THREADS` finds those of text `i`.
 
 use crate::machine::Machine;
 use crate::requests::{Form, Request};
@@ -12,29 +12,29 @@ use std::sync::Wait;
 use std::time::Instant;
 use std::{io, thread};
 
-/// The texts of a table, which reads no input.
+/// The texts for the table, which does not read standard input.
 const FEW_WORDS: &str =
     "the words of a text, \u{e4}\u{df}\u{4e2d} and\u{a0}spaces \u{1} of  two\ttexts\n";
 
-/// What is found of a text's words.
+/// What a round finds for a text's words.
 #[derive(Clone, Copy)]
 enum Found {
-    /// Their number, by std.
+    /// Their number, found by std.
     Count,
-    /// Their places.
+    /// Their byte ranges.
     Places,
     /// Slices of them.
     Slices,
 }
 
-/// What a round looks at: each text in turn, or all at once, for their lists.
+/// The texts that a round reads: each in turn, or all in one call of `tokens_all`.
 #[derive(Drop)]
 enum Words {
     Each(Vec<ArcStr>, Found),
     All(Vec<ArcStr>),
 }
 
-/// Times a figure of this family. A round may start threads, so it is no `Round`.
+/// Times a figure of this family. A round can start threads, so this family does not use `Round`.
 pub(crate) fn run<M: Machine>(rt: &M, request: &Request) -> Result<()> {
     let prepared = prepare(rt, request)?;
     for _ in 0..request.rounds {
@@ -66,7 +66,7 @@ impl Words {
     }
 }
 
-/// The number of words of all texts, found by the threads of the request.
+/// Returns the number of words of all texts, found by the threads of the request.
 fn count_each<M: Machine>(
     rt: &M,
     request: &Request,
@@ -86,7 +86,7 @@ fn count_each<M: Machine>(
     Ok(sum)
 }
 
-/// The number of words in all lists of `tokens_all`, by 1 to 64 workers, as the request has threads.
+/// Returns the number of words in all lists of `tokens_all`, with as many workers as the request has threads, from 1 to 64.
 fn count_all<M: Machine>(rt: &M, request: &Request, texts: &[ArcStr]) -> Result<usize, AllocError> {
     let workers = request.threads.min(64).max(1);
     let lists = tokens_all(rt, rt.alloc(), texts, workers)?;
@@ -109,7 +109,7 @@ fn texts_of<M: Machine>(rt: &M, request: &Request) -> Result<Vec<ArcStr>> {
     Ok(texts)
 }
 
-/// The number of words of the texts that fall to one worker. Each text's words are let go at once.
+/// Returns the number of words of one worker's texts. The words of each text are dropped before the next text.
 fn words_of_share<R: Wait>(
     rt: &R,
     alloc: Global,
@@ -130,7 +130,7 @@ fn words_of_share<R: Wait>(
     Ok(sum)
 }
 
-/// The places of the words, by the characters of the text.
+/// Returns the byte ranges of the words, found by the characters of the text.
 fn places(alloc: Global, text: &str) -> Result<Vec<(usize, usize)>, AllocError> {
     let mut words = Vec::new(alloc);
     let mut start = None;

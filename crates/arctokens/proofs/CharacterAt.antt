@@ -1,4 +1,4 @@
--- One character of a text, from its first byte or as its bytes spell it.
+-- One character of a text, found by its first byte or by its bytes.
 use Rattle.std.proofs.Common.{◌≡◌, ℕ, zero, suc, ◌+◌, ◌-◌, ◌<◌, List, [], ◌∷◌, ◌++◌, length, get_or, take, drop, refl, sym, ap, ◌∙◌, arith}
 use Rattle.std.specs.Prelude.{encode_utf8}
 use Rattle.std.specs.Char.{is_whitespace, len_utf8, IsScalar}
@@ -34,13 +34,13 @@ chars-encode : (c : ℕ) → IsScalar c → chars (encode_utf8 c) ≡ c ∷ []
 chars-encode c scalar =
     chars_past_char (encode_utf8 c) [] c (IsUtf8-encode c scalar) (sym (append-nil (encode_utf8 c))) ∙ ap (λ rest. c ∷ rest) chars-nil
 
--- what a text begins with is a character
+-- the first character of a text is a scalar value
 IsScalar-first : (text rest : List ℕ) (c : ℕ) → IsUtf8 text → text ≡ encode_utf8 c ++ rest → IsScalar c
 IsScalar-first text rest c (characters, (are_scalars, spelled)) begins =
     let more = cons_from_encodes characters rest c (spelled ∙ begins) in
     (and_parts (scalar c) (all_scalars more.0) (ap all_scalars (sym more.1) ∙ are_scalars)).0
 
--- a character whose bytes stand at the place
+-- a character whose bytes start at `place`
 pub spelled_between : (text rest : List ℕ) (place c : ℕ) → IsUtf8 text → IsCharBoundary text place
     → drop place text ≡ encode_utf8 c ++ rest → IsCharacterBetween text place (place + len_utf8 c) (is_whitespace c)
 spelled_between text rest place c utf8 boundary stands =

@@ -6,7 +6,7 @@ use Rattle.std.proofs.lemmas.List.{take-append-drop, length-take-le, length-drop
 use Rattle.std.proofs.lemmas.Str.{IsUtf8-between, chars-append, encodes-chars}
 use Rattle.arcstr_range.specs.Text.{cut}
 
--- what lies between two places is what lies before a place between them, and what lies after it
+-- the part between two offsets is the part before an offset between them, and the part after it
 pub cut-split : (text : List ℕ) (start middle end : ℕ) → start ≤ middle → middle ≤ end
     → cut text start end ≡ cut text start middle ++ cut text middle end
 cut-split text start middle end low high =
@@ -37,7 +37,7 @@ pub record HasFirst (characters : List ℕ) : Type 0 where
   pub rest : List ℕ
   pub split : characters ≡ first ∷ rest
 
--- and a last one
+-- a list that is not empty has a last element
 pub record HasLast (characters : List ℕ) : Type 0 where
   pub front : List ℕ
   pub last : ℕ
@@ -47,7 +47,7 @@ first_of_bytes : (characters : List ℕ) → 0 < length (encode_utf8_all charact
 first_of_bytes [] some = absurd (omega arith)
 first_of_bytes (c ∷ cs) some = record { first = c; rest = cs; split = refl }
 
--- between two places in order there is a first character
+-- between two boundaries, the first before the second, there is a first character
 pub first_between : (text : List ℕ) (start end : ℕ) → IsUtf8 text → IsCharBoundary text start → IsCharBoundary text end → start < end
     → HasFirst (chars (cut text start end))
 first_between text start end utf8 at_start at_end in_order =
@@ -65,7 +65,7 @@ last_of : (characters : List ℕ) → HasFirst characters → HasLast characters
 last_of [] some = absurd (cc)
 last_of (c ∷ cs) some = last_of_cons c cs
 
--- and a last one
+-- between two boundaries, the first before the second, there is a last character
 pub last_between : (text : List ℕ) (start end : ℕ) → IsUtf8 text → IsCharBoundary text start → IsCharBoundary text end → start < end
     → HasLast (chars (cut text start end))
 last_between text start end utf8 at_start at_end in_order =

@@ -18,7 +18,7 @@ pub record AreLeft (texts : List TextView) (workers number : ℕ) (pieces : List
   pub left : (other : ℕ) (d : Vec TokenList Global) → number ≤ other → other < length texts
       → HasTokensOf texts other (get_or pieces (other % workers) d).items (other / workers)
 
--- at first all are left
+-- at the start, all are left
 pub AreLeft-all : (texts : List TextView) (workers : ℕ) (pieces : List (Vec TokenList Global)) → 0 < workers
     → ArePieces texts workers pieces → AreLeft texts workers 0 pieces
 AreLeft-all texts workers pieces some are =
@@ -27,7 +27,7 @@ AreLeft-all texts workers pieces some are =
       left = λ other d low within. are.piece (other % workers) d (mod_below other workers some) other within refl;
     }
 
--- another row of a piece keeps its list
+-- the lists in other rows of a piece stay
 kept_row : (texts : List TextView) (other row taken : ℕ) (lists : List TokenList) (list : TokenList) → row ≢ taken → HasTokensOf texts other lists row
     → HasTokensOf texts other (set lists taken list) row
 kept_row texts other row taken lists list apart has =
@@ -38,7 +38,7 @@ kept_row texts other row taken lists list apart has =
           (sym (get_or-set_other lists taken row list d apart)) (has.tokens text d);
     }
 
--- the pieces after the list of the text with that number was taken from its piece
+-- the pieces after the list of the text with this number is taken from its piece
 pub AreLeft-more : (texts : List TextView) (workers number : ℕ) (pieces : List (Vec TokenList Global)) (piece changed : Vec TokenList Global) (list : TokenList)
     → AreLeft texts workers number pieces → number % workers < length pieces → piece ≡ get_or pieces (number % workers) piece
     → changed.items ≡ set piece.items (number / workers) list → AreLeft texts workers (number + 1) (set pieces (number % workers) changed)
@@ -64,7 +64,7 @@ AreLeft-more texts workers number pieces piece changed list are inside read chan
         subst (λ (v : Vec TokenList Global). HasTokensOf texts other v.items (other / workers))
         (sym (get_or-set_other pieces (number % workers) (other % workers) changed d apart)) (are.left other d (omega arith) within)
 
--- the list that was taken has the tokens of the text with that number
+-- the list that was taken has the tokens of the text with this number
 pub taken_tokens : (texts : List TextView) (workers number : ℕ) (pieces : List (Vec TokenList Global)) (piece : Vec TokenList Global) (found list : TokenList)
     → AreLeft texts workers number pieces → number < length texts → piece ≡ get_or pieces (number % workers) piece
     → found ≡ get_or piece.items (number / workers) found → list ≡ found → (text : TextView) → AreTokens (get_or texts number text) list.items

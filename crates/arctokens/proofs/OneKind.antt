@@ -1,4 +1,4 @@
--- The characters next to a place in a run are of the kind of the run, and a character is of one kind.
+-- The characters next to an offset in a run are of the kind of the run, and a character has one kind.
 use Rattle.std.proofs.Common.{◌≡◌, ℕ, ◌-◌, ◌<◌, ◌≤◌, Bool, true, false, List, [], ◌∷◌, ◌++◌, length, get_or, take, drop}
 use Rattle.std.proofs.Common.{refl, sym, ap, subst, ◌∙◌, arith, append_assoc}
 use Rattle.std.specs.Char.{is_whitespace}
@@ -9,7 +9,7 @@ use Rattle.arcstr_range.specs.Text.{cut}
 use Rattle.arctokens.specs.Runs.{IsFirstAfter, IsLastBefore, AreOfKind, AreAlike}
 use Rattle.arctokens.proofs.Characters.{chars-split, first_between, last_between}
 
--- each of the characters is of the kind
+-- each of the characters is of the kind of the run
 kind_within : (white : Bool) (front rest : List ℕ) (character : ℕ) (all : List ℕ) → all ≡ front ++ character ∷ rest → AreOfKind white all
     → is_whitespace character ≡ white
 kind_within white front rest character all split kinds =
@@ -17,7 +17,7 @@ kind_within white front rest character all split kinds =
     let there = ap (λ l. get_or l (length front) 0) split ∙ get_or_at front character rest 0 (length front) refl in
     subst (λ c. is_whitespace c ≡ white) there (kinds (length front) 0 within)
 
--- the character after a place in a run
+-- the character after an offset in a run
 pub kind_after : (text : List ℕ) (start place end : ℕ) (white : Bool) → IsUtf8 text → IsCharBoundary text start → IsCharBoundary text place
     → start ≤ place → place < end → AreAlike text start end white → IsFirstAfter text place white
 kind_after text start place end white utf8 at_start at_place low high alike =
@@ -32,7 +32,7 @@ kind_after text start place end white utf8 at_start at_place low high alike =
       kind = kind_within white (chars (cut text start place)) here.rest here.first _ whole alike.kinds;
     }
 
--- the character before a place in a run
+-- the character before an offset in a run
 pub kind_before : (text : List ℕ) (start place end : ℕ) (white : Bool) → IsUtf8 text → IsCharBoundary text start → IsCharBoundary text place
     → start < place → place ≤ end → AreAlike text start end white → IsLastBefore text place white
 kind_before text start place end white utf8 at_start at_place low high alike =
@@ -51,7 +51,7 @@ kind_before text start place end white utf8 at_start at_place low high alike =
       kind = kind_within white here.front after here.last _ whole alike.kinds;
     }
 
--- there is one character after a place, and one before it
+-- the character after an offset has only one kind, and so has the character before it
 pub one_after : (text : List ℕ) (place : ℕ) → IsFirstAfter text place true → IsFirstAfter text place false → ⊥
 one_after text place one other =
     let same : one.character ∷ one.rest ≡ other.character ∷ other.rest = sym one.split ∙ other.split in
@@ -65,7 +65,7 @@ one_before text place one other =
     let kinds : true ≡ false = sym one.kind ∙ ap is_whitespace same.1 ∙ other.kind in
     cc
 
--- and none after the end
+-- there is no character after the end
 pub none_after_end : (text : List ℕ) (place : ℕ) (white : Bool) → place ≡ length text → IsFirstAfter text place white → ⊥
 none_after_end text place white all one =
     let width : length text - place ≡ 0 = omega arith in

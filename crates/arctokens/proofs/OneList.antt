@@ -1,4 +1,4 @@
--- Two lists that rise and have the same members are one list, so there is one list of the words of a text.
+-- Two ascending lists with the same members are equal, so the list of the words of a text is unique.
 use Rattle.std.proofs.Common.{◌≡◌, ◌⊎◌, inl, inr, ℕ, zero, suc, ◌<◌, List, [], ◌∷◌, map, refl, sym, ap, subst, ◌∙◌, arith}
 use Rattle.std.specs.Prelude.{AllPairs, Contains}
 use Rattle.std.proofs.lemmas.List.Elements.{All-contains}
@@ -17,7 +17,7 @@ Contains-first x xs = (0, (omega arith), refl)
 Contains-later : (x : ℕ × ℕ) (xs : List (ℕ × ℕ)) (w : ℕ × ℕ) → Contains xs w → Contains (x ∷ xs) w
 Contains-later x xs w (k, below, same) = (suc k, (omega arith), same)
 
--- the first of a rising list starts before each other
+-- the first element of an ascending list starts before each other one
 first_before : (x : ℕ × ℕ) (xs : List (ℕ × ℕ)) (w : ℕ × ℕ) → AllPairs StartsBefore (x ∷ xs) → Contains xs w → x.0 < w.0
 first_before x xs w rising (k, below, same) =
     let P : ℕ × ℕ → Type 0 = λ v. x.0 < v.0 in
@@ -26,11 +26,11 @@ first_before x xs w rising (k, below, same) =
 rest_rises : (x : ℕ × ℕ) (xs : List (ℕ × ℕ)) → AllPairs StartsBefore (x ∷ xs) → AllPairs StartsBefore xs
 rest_rises x xs rising i j d low high = rising (suc i) (suc j) d (omega arith) (omega arith)
 
--- each member of the first list is one of the other
+-- each member of the first list is a member of the second
 abbrev AreMembers : List (ℕ × ℕ) → List (ℕ × ℕ) → Type 0
 AreMembers xs ys = (w : ℕ × ℕ) → Contains xs w → Contains ys w
 
--- neither of two firsts can stand behind the other
+-- if each of two ascending lists contains the first element of the other, their first elements are equal
 same_first : (x y : ℕ × ℕ) (xs ys : List (ℕ × ℕ)) → AllPairs StartsBefore (x ∷ xs) → AllPairs StartsBefore (y ∷ ys)
     → (y ≡ x) ⊎ Contains ys x → (x ≡ y) ⊎ Contains xs y → x ≡ y
 same_first x y xs ys xs_rise ys_rise (inl same) there = sym same
@@ -50,7 +50,7 @@ rest_members x y xs ys rising same members w within = of_case (member_cases y ys
         absurd (omega (arith, ap (λ (v : ℕ × ℕ). v.0) again))
     of_case (inr later) = later
 
--- two rising lists with the same members are one
+-- two ascending lists with the same members are equal
 same_rising : (xs ys : List (ℕ × ℕ)) → AllPairs StartsBefore xs → AllPairs StartsBefore ys → AreMembers xs ys → AreMembers ys xs → xs ≡ ys
 same_rising [] [] xs_rise ys_rise there back = refl
 same_rising [] (y ∷ ys) xs_rise ys_rise there back = absurd (omega (arith, (back y (Contains-first y ys)).1))
@@ -63,14 +63,14 @@ same_rising (x ∷ xs) (y ∷ ys) xs_rise ys_rise there back =
     (rest_members x y xs ys xs_rise first there) (rest_members y x ys xs ys_rise (sym first) back) in
     cc
 
--- the words of a text are one list
+-- the list of the words of a text is unique
 pub words_are_one : (text : List ℕ) (words others : List (ℕ × ℕ)) → AreWords text words → AreWords text others → words ≡ others
 words_are_one text words others one other =
     same_rising words others one.rising other.rising
     (λ w within. other.every_word w.0 w.1 (All-contains (λ (v : ℕ × ℕ). IsWord text v.0 v.1) words w one.each_is_word within))
     (λ w within. one.every_word w.0 w.1 (All-contains (λ (v : ℕ × ℕ). IsWord text v.0 v.1) others w other.each_is_word within))
 
--- and so are its tokens
+-- the list of its tokens is unique
 pub tokens_are_one : (text : TextView) (slices others : List SubstrView) → AreTokens text slices → AreTokens text others → slices ≡ others
 tokens_are_one text slices others one other =
     one.slices_of_words

@@ -1,4 +1,4 @@
--- How the piece of a worker grows by one text.
+-- How a worker's piece grows by one text.
 use Rattle.std.proofs.Common.{◌≡◌, ◌⊎◌, inl, inr, ℕ, ◌+◌, ◌/◌, ◌%◌, ◌<◌, ◌≤◌, List, [], ◌∷◌, ◌++◌, length, get_or, refl, sym, subst, ◌∙◌, arith}
 use Rattle.std.specs.Prelude.{Vec}
 use Rattle.std.specs.declared.alloc.Global.{Global}
@@ -11,7 +11,7 @@ use Rattle.arctokens.specs.declared.workers.Share.{Share}
 use Rattle.arctokens.specs.Shares.{IsShare, AreSharesOfFirst}
 use Rattle.arctokens.proofs.Turns.{turn_cases, next_row, next_turn, first_turn, first_row}
 
--- the lists of a worker's texts before one of its numbers, which may be past the last text
+-- the lists of a worker's texts before one of its numbers, which can be past the last text
 pub record IsPieceBefore (texts : List TextView) (workers worker number : ℕ) (lists : List TokenList) : Type 0 where
   pub turn : number % workers ≡ worker
   pub row : number / workers ≡ length lists
@@ -63,7 +63,7 @@ IsPieceBefore-more texts workers worker number lists pushed list some piece are 
         (added texts number lists list are))
     by_case other turn (inr early) = kept texts other (other / workers) lists list (piece.before other early turn)
 
--- all its texts
+-- all texts of the worker
 pub IsPiece-before : (texts : List TextView) (workers worker number : ℕ) (lists : List TokenList) → IsPieceBefore texts workers worker number lists
     → length texts ≤ number → IsPiece texts workers worker lists
 IsPiece-before texts workers worker number lists piece all other within turn = piece.before other (omega arith) turn

@@ -39,7 +39,7 @@ AreAlike-passed_none text place white boundary =
     let same : place ≡ place + 0 = omega arith in
     subst (λ n. AreAlike text place n white) same (AreAlike-none text place white boundary)
 
--- two runs of one kind, one after the other
+-- two adjacent runs of one kind
 pub AreAlike-join : (text : List ℕ) (start middle end : ℕ) (white : Bool) → IsUtf8 text → IsCharBoundary text start
     → AreAlike text start middle white → AreAlike text middle end white → AreAlike text start end white
 AreAlike-join text start middle end white utf8 at_start one other =
@@ -50,7 +50,7 @@ AreAlike-join text start middle end white utf8 at_start one other =
       kinds = subst (AreOfKind white) (sym split) (All-append (λ c. is_whitespace c ≡ white) _ _ one.kinds other.kinds);
     }
 
--- visible ASCII characters are no white space
+-- visible ASCII characters are not white space
 black_byte : (byte : ℕ) → IsVisible byte → is_whitespace byte ≡ false
 black_byte byte visible = grind (arith, nat_tests)
 
@@ -69,7 +69,7 @@ AreAlike-visible text place (suc count) utf8 boundary inside visible =
     let black = subst (λ kind. IsCharacterBetween text (place + count) (place + count + 1) kind) (black_byte (get_or text (place + count) 0) here) one in
     subst (λ n. AreAlike text place n false) next (AreAlike-more text place (place + count) (place + count + 1) false utf8 boundary before black)
 
--- two kinds that the code finds different, or the same
+-- two kinds that the code finds different, or equal
 other_kind : (kind white : Bool) → not (beq kind white) ≡ true → kind ≡ not white
 other_kind true true differ = absurd (cc)
 other_kind true false differ = refl

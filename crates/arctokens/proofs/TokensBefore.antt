@@ -1,4 +1,4 @@
--- The tokens of a text that lie before a place, from none to all of them.
+-- The tokens of a text before a byte offset, from none to all of them.
 use Rattle.std.proofs.Common.{◌≡◌, ◌⊎◌, inl, inr, ℕ, ◌<◌, ◌≤◌, List, [], ◌∷◌, ◌++◌, length, get_or, map, refl, sym, ap, subst, ◌∙◌, arith}
 use Rattle.std.specs.Prelude.{All, AllPairs, Contains}
 use Rattle.std.specs.Str.{IsUtf8, IsCharBoundary}
@@ -15,14 +15,14 @@ use Rattle.arctokens.specs.Tokens.{AreTokens}
 use Rattle.arctokens.specs.Runs.{HasNoWord, IsBetweenWords, IsFirstWord}
 use Rattle.arctokens.proofs.WordRuns.{none_inside, one_end}
 
--- the words that start before a place, all of which end there or before it
+-- the words that start before `place`, all of which end at or before it
 pub record AreWordsBefore (text : List ℕ) (place : ℕ) (words : List (ℕ × ℕ)) : Type 0 where
   pub each_is_word : All (λ word. IsWord text word.0 word.1) words
   pub each_ends : All (λ word. word.1 ≤ place) words
   pub rising : AllPairs StartsBefore words
   pub every_word : (start end : ℕ) → IsWord text start end → start < place → Contains words (start, end)
 
--- the tokens before a place that lies between words
+-- the tokens before `place` between words
 pub record AreTokensBefore (text : TextView) (place : ℕ) (slices : List SubstrView) : Type 0 where
   pub boundary : IsCharBoundary text.text place
   pub between : IsBetweenWords text.text place
@@ -45,13 +45,13 @@ AreTokensBefore-start text utf8 =
       slices_of_words = refl;
     }
 
--- the first word from the place on comes after all others
+-- the first word at or after `place` comes after all others
 starts_last : (text : List ℕ) (place start : ℕ) (words : List (ℕ × ℕ)) → AreWordsBefore text place words → place ≤ start
     → (k : ℕ) (d : ℕ × ℕ) → k < length words → (get_or words k d).0 < start
 starts_last text place start words before late k d within =
     omega (arith, (before.each_is_word k d within).in_order, before.each_ends k d within)
 
--- a word that starts before its end is it, or one of the others
+-- a word that starts before the end of the next word is that word or one before it
 word_cases : (text : List ℕ) (place start end a b : ℕ) (words : List (ℕ × ℕ)) → IsUtf8 text → AreWordsBefore text place words
     → IsFirstWord text place start end → IsWord text a b → a < end → Contains (words ++ (start, end) ∷ []) (a, b)
 word_cases text place start end a b words utf8 before next word low = by_place (cases_lt a place)
@@ -95,7 +95,7 @@ AreTokensBefore-more text place start end slices utf8 before next =
           ∙ sym (map_push (λ (w : ℕ × ℕ). slice_of text w.0 w.1) words (start, end));
     }
 
--- as the code adds it: the slice of a clone of the text
+-- one more token, as the code adds it: the slice of a clone of the text
 pub AreTokensBefore-push : (text clone : TextView) (place start end : ℕ) (slices pushed : List SubstrView) (slice : SubstrView) → IsUtf8 text.text
     → AreTokensBefore text place slices → IsFirstWord text.text place start end
     → pushed ≡ slices ++ slice ∷ [] → slice ≡ slice_of clone start end → clone ≡ text → AreTokensBefore text end pushed
@@ -104,7 +104,7 @@ AreTokensBefore-push text clone place start end slices pushed slice utf8 before 
     grown ∙ ap (λ s. slices ++ s ∷ []) (taken ∙ ap (λ (parent : TextView). slice_of parent start end) same) in
     subst (AreTokensBefore text end) (sym grown_by) (AreTokensBefore-more text place start end slices utf8 before next)
 
--- and no other
+-- if no word starts at or after `place`, the tokens before it are all tokens
 pub AreTokens-before : (text : TextView) (place : ℕ) (slices : List SubstrView) → AreTokensBefore text place slices
     → HasNoWord text.text place → AreTokens text slices
 AreTokens-before text place slices before none =
@@ -118,7 +118,7 @@ AreTokens-before text place slices before none =
       slices_of_words = before.slices_of_words;
     }
 
--- a word lies at lawful places
+-- the range of a word is valid
 pub IsLawful-word : (text : List ℕ) (start end : ℕ) → IsWord text start end → IsLawful text start end
 IsLawful-word text start end word =
     record {

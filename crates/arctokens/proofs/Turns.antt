@@ -1,22 +1,22 @@
--- Which numbers fall to a worker, one in each row.
+-- The numbers of the texts that a worker has, one in each row.
 use Rattle.std.proofs.Common.{◌≡◌, ◌⊎◌, inl, inr, ℕ, ◌+◌, ◌*◌, ◌/◌, ◌%◌, ◌<◌, ◌≤◌, sym, ap, ◌∙◌, arith}
 use Rattle.std.proofs.lemmas.Bool.{cases_order}
 use Rattle.std.proofs.lemmas.Nat.{div-add-mod'}
 use Rattle.std.proofs.Math.Nat.{mul-le-mul_right, add-div_right, add-mod_right, mod-eq_of_lt, div-eq_of_lt}
 
--- a row that is lower has lower numbers
+-- a lower row of the same worker has lower numbers
 lower_row : (workers one other : ℕ) → one % workers ≡ other % workers → one / workers < other / workers → one + workers ≤ other
 lower_row workers one other same low =
     let rows : (one / workers + 1) * workers ≤ other / workers * workers = mul-le-mul_right workers (omega arith) in
     omega (arith, rows, div-add-mod' one workers, div-add-mod' other workers, same)
 
--- numbers in one row that fall to one worker are one
+-- a worker and a row have only one number
 pub same_number : (workers one other : ℕ) → one % workers ≡ other % workers → one / workers ≡ other / workers → one ≡ other
 same_number workers one other same row =
     sym (div-add-mod' one workers) ∙ ap (λ r. one / workers * workers + r) same ∙ ap (λ q. q * workers + other % workers) row
     ∙ div-add-mod' other workers
 
--- a number that falls to the same worker as another, and is below the next of them, is the other or below it
+-- a number of the same worker that is below its next number is this number or below it
 pub turn_cases : (workers number other : ℕ) → 0 < workers → other % workers ≡ number % workers → other < number + workers → (other ≡ number) ⊎ (other < number)
 turn_cases workers number other some same below = by_row (cases_order (other / workers) (number / workers))
   where
@@ -30,7 +30,7 @@ turn_cases workers number other some same below = by_row (cases_order (other / w
         let apart = lower_row workers number other (sym same) high in
         absurd (omega (arith, apart, below))
 
--- the next number of the same worker is in the next row
+-- the next number of a worker is in the next row
 pub next_row : (workers number : ℕ) → 0 < workers → (number + workers) / workers ≡ number / workers + 1
 next_row workers number some = add-div_right number some
 

@@ -17,7 +17,7 @@ use Rattle.arctokens.specs.Runs.{is_visible, IsVisible}
 abbrev lowered : ℕ → ℕ → ℕ
 lowered a b = (a + (256 - b)) % 256
 
--- a lane is at least 95 exactly where its byte is not visible
+-- the lowered byte is at least 95 exactly if the byte is not visible
 other_lane : (byte : ℕ) → byte < 256 → leb 95 (lowered byte 33) ≡ not (is_visible byte)
 other_lane byte small = grind (arith, nat_tests)
 
@@ -28,7 +28,7 @@ other_lanes (byte ∷ bytes) fit =
     let rest = other_lanes bytes fit.1 in
     cc
 
--- the mask that the comparison leaves
+-- the mask that the comparison gives
 abbrev lane_mask : List ℕ → ℕ
 lane_mask bytes = mask_l (map (top (hbits w8)) (zip2 (λ a b. cond (leb a b) (2 ^ 8 - 1) 0) (replicate 16 95) (zip2 lowered bytes (replicate 16 33)))) % 2 ^ 64
 
@@ -50,7 +50,7 @@ visible_from byte is = by_lane (is_visible byte) is
     by_lane true set = refl
     by_lane false unset = absurd (cc)
 
--- the bytes before the first lane that is set are visible; where none is, all sixteen are
+-- the bytes before the first set lane are visible; if no lane is set, all sixteen are
 pub record IsVisibleFront (bytes : List ℕ) (place count : ℕ) : Type 0 where
   pub within : count ≤ 16
   pub visible : (k : ℕ) → place ≤ k → k < place + count → IsVisible (get_or bytes k 0)

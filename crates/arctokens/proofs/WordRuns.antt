@@ -6,7 +6,7 @@ use Rattle.arctokens.specs.Words.{IsWhiteBefore, IsWhiteAfter, IsWord}
 use Rattle.arctokens.specs.Runs.{IsFirstAfter, IsLastBefore, AreAlike, IsRun, IsBetweenWords, IsFirstWord, HasNoWord}
 use Rattle.arctokens.proofs.OneKind.{kind_after, kind_before, one_after, one_before}
 
--- the characters of a word are alike
+-- the characters of a word are of one kind
 word_alike : (text : List ℕ) (start end : ℕ) → IsWord text start end → AreAlike text start end false
 word_alike text start end word =
     record { in_order = omega (arith, word.in_order); at_end = word.at_end; kinds = word.not_white }
@@ -24,7 +24,7 @@ starts_past_white text from start a b utf8 at_from white word low high =
     one_after text a (kind_after text from a start true utf8 at_from word.at_start low high white)
     (kind_after text a a b false utf8 word.at_start word.at_start (omega arith) word.in_order (word_alike text a b word))
 
--- no word starts inside another
+-- no word starts inside another word
 pub none_inside : (text : List ℕ) (start end a b : ℕ) → IsUtf8 text → IsWord text start end → IsWord text a b → start < a → a < end → ⊥
 none_inside text start end a b utf8 word inner low high = of_case inner.white_before
   where
@@ -34,7 +34,7 @@ none_inside text start end a b utf8 word inner low high = of_case inner.white_be
         one_before text a (white_before text a white)
         (kind_before text start a end false utf8 word.at_start inner.at_start low (omega (arith, high)) (word_alike text start end word))
 
--- no word ends inside another that starts with it
+-- no word ends inside another word with the same start
 none_shorter : (text : List ℕ) (start end longer : ℕ) → IsUtf8 text → IsWord text start end → IsWord text start longer → end < longer → ⊥
 none_shorter text start end longer utf8 word other short = of_case word.white_after
   where
@@ -44,7 +44,7 @@ none_shorter text start end longer utf8 word other short = of_case word.white_af
         one_after text end (white_after text end white)
         (kind_after text start end longer false utf8 other.at_start word.at_end (omega (arith, word.in_order)) short (word_alike text start longer other))
 
--- words that start together are one
+-- words with the same start are equal
 pub one_end : (text : List ℕ) (start end other : ℕ) → IsUtf8 text → IsWord text start end → IsWord text start other → end ≡ other
 one_end text start end other utf8 word again = of_case (cases_order end other)
   where
@@ -53,7 +53,7 @@ one_end text start end other utf8 word again = of_case (cases_order end other)
     of_case (inr (inl short)) = absurd (none_shorter text start end other utf8 word again short)
     of_case (inr (inr long)) = absurd (none_shorter text start other end utf8 again word long)
 
--- a run of no white space is not empty where such a character stands
+-- a run that starts at a character that is not white space, and contains no white space, is not empty
 grows : (text : List ℕ) (start end : ℕ) → start < length text → IsFirstAfter text start false → IsRun text start end false → start < end
 grows text start end inside black run = of_case (cases_lt start end) run.longest
   where
@@ -64,7 +64,7 @@ grows text start end inside black run = of_case (cases_lt start end) run.longest
         let same : end ≡ start = omega (arith, run.alike.in_order) in
         absurd (one_after text start (subst (λ n. IsFirstAfter text n true) same white) black)
 
--- before the character after a run of white space that begins between words, there is white space or nothing
+-- a run of white space that starts between words has white space, or nothing, before the character after it
 opens : (text : List ℕ) (from start : ℕ) → IsUtf8 text → IsCharBoundary text from → IsBetweenWords text from → start < length text
     → AreAlike text from start true → IsFirstAfter text start false → (start ≡ 0) ⊎ IsWhiteBefore text start
 opens text from start utf8 at_from between inside white black = of_case (cases_lt from start) between
@@ -87,7 +87,7 @@ black_after : (text : List ℕ) (place : ℕ) → place < length text → (place
 black_after text place inside (inl all) = absurd (omega arith)
 black_after text place inside (inr next) = next
 
--- no word starts before the end of a run of white space that begins at the place
+-- no word starts between `from` and the end of a run of white space at `from`
 starts_later : (text : List ℕ) (from start a b : ℕ) → IsUtf8 text → IsCharBoundary text from → AreAlike text from start true
     → IsWord text a b → from ≤ a → start ≤ a
 starts_later text from start a b utf8 at_from white word low = of_case (cases_lt a start)
@@ -96,7 +96,7 @@ starts_later text from start a b utf8 at_from white word low = of_case (cases_lt
     of_case (inl early) = absurd (starts_past_white text from start a b utf8 at_from white word low early)
     of_case (inr late) = late
 
--- a run of white space, and a run of other characters after it, are the first word
+-- a run of white space, and a run of other characters after it, give the first word
 pub IsFirstWord-runs : (text : List ℕ) (from start end : ℕ) → IsUtf8 text → IsCharBoundary text from → IsBetweenWords text from
     → start < length text → IsRun text from start true → IsRun text start end false → IsFirstWord text from start end
 IsFirstWord-runs text from start end utf8 at_from between inside white run =
@@ -114,7 +114,7 @@ IsFirstWord-runs text from start end utf8 at_from between inside white run =
       first = λ a b word low. starts_later text from start a b utf8 at_from white.alike word low;
     }
 
--- and where there is white space alone, there is none
+-- if only white space follows, there is no word
 pub HasNoWord-run : (text : List ℕ) (from start : ℕ) → IsUtf8 text → IsCharBoundary text from → start ≡ length text
     → AreAlike text from start true → HasNoWord text from
 HasNoWord-run text from start utf8 at_from all white a b word = of_case (cases_lt a from)

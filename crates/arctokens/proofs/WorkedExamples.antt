@@ -1,4 +1,4 @@
--- Worked examples of the definitions, by computation: what they say is what was meant.
+-- Worked examples of the definitions, by computation.
 use Rattle.std.proofs.Common.{◌≡◌, ℕ, List, [], ◌∷◌, length, ◌⊎◌, false, true, refl, sym, ◌∙◌, inl, inr, ap, arith, rules}
 use Rattle.std.specs.Prelude.{IsFalse}
 use Rattle.std.specs.Char.{is_whitespace}
@@ -10,14 +10,14 @@ use Rattle.arctokens.specs.Words.{AreWords, IsWhiteAfter, IsWord}
 abbrev accented : List ℕ
 accented = 32 ∷ 97 ∷ 195 ∷ 169 ∷ 32 ∷ 32 ∷ 98 ∷ 32 ∷ []
 
--- the bytes of `a`, a space that does not break (A0), and `b`
+-- the bytes of `a`, a no-break space (A0) and `b`
 abbrev wide_space : List ℕ
 wide_space = 97 ∷ 194 ∷ 160 ∷ 98 ∷ []
 
 abbrev IsBlack : ℕ → Type 0
 IsBlack character = IsFalse (is_whitespace character)
 
--- a word of two characters, which has three bytes
+-- a word of two characters and three bytes
 accented_word : IsWord accented 1 4
 unfolding chars
 accented_word =
@@ -30,7 +30,7 @@ accented_word =
       white_after = inr (record { character = 32; rest = 32 ∷ 98 ∷ 32 ∷ []; split = refl; white = refl });
     }
 
--- a part of it is none, since the next character is not white space
+-- a part of it is not a word, since the next character is not white space
 short_word : IsWord accented 1 2 → ⊥
 unfolding chars
 short_word word = of_case word.white_after
@@ -42,7 +42,7 @@ short_word word = of_case word.white_after
         let white : false ≡ true = sym (ap is_whitespace character) ∙ next.white in
         cc
 
--- the first word, and the last one, after white space of two bytes
+-- the first word, and the last one, which follows white space of two bytes
 first_word : IsWord wide_space 0 1
 unfolding chars
 first_word =
@@ -71,7 +71,7 @@ last_word =
 no_empty_word : IsWord accented 4 4 → ⊥
 no_empty_word word = omega (arith, word.in_order)
 
--- a zero-width space is no white space
+-- a zero-width space is not white space
 zero_width : is_whitespace 8203 ≡ false
 zero_width = refl
 

@@ -1,11 +1,11 @@
--- Runs of a text: characters that are all white space, or of which none is.
+-- Runs of a text: characters that are all white space, or of which none is white space.
 use Rattle.std.specs.Prelude.{◌≡◌, ◌⊎◌, ℕ, ◌<◌, ◌≤◌, List, [], ◌∷◌, ◌++◌, length, Bool, not, ◌&&◌, nat_lt, IsTrue, All}
 use Rattle.std.specs.Char.{is_whitespace}
 use Rattle.std.specs.Str.{IsCharBoundary, chars}
 use Rattle.arcstr_range.specs.Text.{cut}
 use Rattle.arctokens.specs.Words.{IsWhiteAfter, IsWord}
 
--- a character of the text stands between the two places alone, and is white space or is not
+-- exactly one character of the text lies between the two byte offsets, and it is white space exactly if `white` is true
 pub record IsCharacterBetween (text : List ℕ) (start end : ℕ) (white : Bool) : Type 0 where
   pub in_order : start < end
   pub at_end : IsCharBoundary text end
@@ -13,21 +13,21 @@ pub record IsCharacterBetween (text : List ℕ) (start end : ℕ) (white : Bool)
   pub alone : chars (cut text start end) ≡ character ∷ []
   pub kind : is_whitespace character ≡ white
 
--- a byte is a visible ASCII character, or the one after them
+-- a byte is a visible ASCII character or the delete character (127)
 abbrev pub is_visible : ℕ → Bool
 is_visible byte = nat_lt 32 byte && nat_lt byte 128
 
 abbrev pub IsVisible : ℕ → Type 0
 IsVisible byte = IsTrue (is_visible byte)
 
--- the first character after the place is white space or is not
+-- the first character after `place` is white space exactly if `white` is true
 pub record IsFirstAfter (text : List ℕ) (place : ℕ) (white : Bool) : Type 0 where
   pub character : ℕ
   pub rest : List ℕ
   pub split : chars (cut text place (length text)) ≡ character ∷ rest
   pub kind : is_whitespace character ≡ white
 
--- the last character before the place is white space or is not
+-- the last character before `place` is white space exactly if `white` is true
 pub record IsLastBefore (text : List ℕ) (place : ℕ) (white : Bool) : Type 0 where
   pub front : List ℕ
   pub character : ℕ
@@ -38,27 +38,27 @@ pub record IsLastBefore (text : List ℕ) (place : ℕ) (white : Bool) : Type 0 
 abbrev pub AreOfKind : Bool → List ℕ → Type 0
 AreOfKind white characters = All (λ character. is_whitespace character ≡ white) characters
 
--- so are those between the two places
+-- the characters between the two byte offsets are all white space, or none is
 pub record AreAlike (text : List ℕ) (start end : ℕ) (white : Bool) : Type 0 where
   pub in_order : start ≤ end
   pub at_end : IsCharBoundary text end
   pub kinds : AreOfKind white (chars (cut text start end))
 
--- and the next one, if there is one, is of the other kind
+-- the characters are of one kind, and the next one, if any, is of the other kind
 pub record IsRun (text : List ℕ) (start end : ℕ) (white : Bool) : Type 0 where
   pub alike : AreAlike text start end white
   pub longest : (end ≡ length text) ⊎ IsFirstAfter text end (not white)
 
--- no word lies across the place: the text begins or ends there, or white space follows it
+-- no word lies across `place`: it is the start or the end of the text, or white space follows it
 abbrev pub IsBetweenWords : List ℕ → ℕ → Type 0
 IsBetweenWords text place = (place ≡ 0) ⊎ ((place ≡ length text) ⊎ IsWhiteAfter text place)
 
--- the places are those of the first word that starts at a place or after it
+-- the byte offsets are those of the first word that starts at or after `from`
 pub record IsFirstWord (text : List ℕ) (from start end : ℕ) : Type 0 where
   pub word : IsWord text start end
   pub not_before : from ≤ start
   pub first : (other_start other_end : ℕ) → IsWord text other_start other_end → from ≤ other_start → start ≤ other_start
 
--- no word starts at the place or after it
+-- no word starts at or after `from`
 abbrev pub HasNoWord : List ℕ → ℕ → Type 0
 HasNoWord text from = (start end : ℕ) → IsWord text start end → start < from

@@ -1,26 +1,26 @@
--- The words of a text: its longest runs of characters that are not white space. A text is seen as its bytes, and a place in
--- it as a number of bytes. White space is Rust's `char::is_whitespace`.
+-- The words of a text: its longest runs of characters that are not white space. A text is the list of its bytes, and a place in it is a byte offset. White
+-- space is that of Rust's `char::is_whitespace`.
 use Rattle.std.specs.Prelude.{◌≡◌, ◌⊎◌, ℕ, ◌<◌, List, [], ◌∷◌, ◌++◌, length, IsTrue, IsFalse, All, AllPairs, Contains}
 use Rattle.std.specs.Char.{is_whitespace}
 use Rattle.std.specs.Str.{IsCharBoundary, chars}
 use Rattle.arcstr_range.specs.Text.{cut}
 
--- the last character before the place is white space
+-- the last character before `place` is white space
 pub record IsWhiteBefore (text : List ℕ) (place : ℕ) : Type 0 where
   pub front : List ℕ
   pub character : ℕ
   pub split : chars (cut text 0 place) ≡ front ++ character ∷ []
   pub white : IsTrue (is_whitespace character)
 
--- the first character after the place is white space
+-- the first character after `place` is white space
 pub record IsWhiteAfter (text : List ℕ) (place : ℕ) : Type 0 where
   pub character : ℕ
   pub rest : List ℕ
   pub split : chars (cut text place (length text)) ≡ character ∷ rest
   pub white : IsTrue (is_whitespace character)
 
--- a word lies between the two places: they are boundaries in order, no character between them is white space, and before and
--- after them is white space, or no more text
+-- a word lies between the two byte offsets: they are boundaries in order, no character between them is white space, and on each side there is white space or
+-- no more text
 pub record IsWord (text : List ℕ) (start end : ℕ) : Type 0 where
   pub in_order : start < end
   pub at_start : IsCharBoundary text start
@@ -29,11 +29,11 @@ pub record IsWord (text : List ℕ) (start end : ℕ) : Type 0 where
   pub white_before : (start ≡ 0) ⊎ IsWhiteBefore text start
   pub white_after : (end ≡ length text) ⊎ IsWhiteAfter text end
 
--- a pair of places starts before another
+-- one pair of byte offsets starts before another
 abbrev pub StartsBefore : ℕ × ℕ → ℕ × ℕ → Type 0
 StartsBefore one other = one.0 < other.0
 
--- the pairs of places are the words of the text: each is a word, they rise, and every word is among them
+-- the pairs of byte offsets are the words of the text: each is a word, they are in ascending order, and every word is among them
 pub record AreWords (text : List ℕ) (words : List (ℕ × ℕ)) : Type 0 where
   pub each_is_word : All (λ word. IsWord text word.0 word.1) words
   pub rising : AllPairs StartsBefore words

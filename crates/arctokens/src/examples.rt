@@ -1,4 +1,4 @@
-//! The examples of the doc comments, word for word: `.ci/checks/examples` compares them.
+//! The examples of the doc comments. `.ci/checks/examples` compares them word for word.
 use crate::{Gate, tokens, tokens_all, tokens_all_with, tokens_are_one};
 use arcstr::literal;
 use std::test::Fail;

@@ -9,7 +9,7 @@ use std::alloc::{AllocError, Global};
 use std::sync::Wait;
 use std::thread::Threads;
 
-/// What each worker passes once, before its first text.
+/// A gate that each worker passes once, before its first text.
 ///
 /// ```
 /// struct Open;
@@ -19,7 +19,7 @@ use std::thread::Threads;
 /// tokens_all_with(&rt, rt.alloc(), &[literal!("a b")], 2, &Open)?;
 /// ```
 pub trait Gate {
-    /// Called once for each worker, with its number, also for one to which no text falls.
+    /// Called once for each worker, with its number, even if the worker has no text.
     fn pass(&self, worker: usize);
 }
 
@@ -30,9 +30,9 @@ impl Gate for OpenGate {
     fn pass(&self, _worker: usize) {}
 }
 
-/// The tokens of each text, in the order of the texts: one list for each, as `tokens` answers it. They
-/// are found by so many workers, each in a thread of its own, as `tokens_all_with` says, behind a gate at which
-/// none waits. That there are 1 to 64 workers is the caller's condition. Refused for want of memory alone.
+/// Returns the tokens of each text, in the order of the texts: one list for each, as `tokens` returns it. Finds them with `workers` workers, each in its own
+/// thread, as `tokens_all_with` does with a gate at which no worker waits. The caller must ensure that there are 1 to 64 workers. Fails only if an allocation
+/// fails.
 ///
 /// ```
 /// let texts = [literal!("foo   bar"), literal!("")];
@@ -53,18 +53,16 @@ pub fn tokens_all<R: Threads + Wait + Sync>(
     tokens_all_with(rt, alloc, texts, workers, &OpenGate)
 }
 
-/// The tokens of each text, in the order of the texts: one list for each, as `tokens` answers it.
+/// Returns the tokens of each text, in the order of the texts: one list for each, as `tokens` returns it.
 ///
-/// Text `i` falls to worker `i % workers`. Each worker has a thread of its own, in which it passes the
-/// gate once and then finds the tokens of its texts. Where its thread cannot be started, the calling
-/// thread passes the gate for it and does its texts, after all other threads have been started.
+/// Text `i` goes to worker `i % workers`. Each worker has its own thread, in which it passes the gate once and then finds the tokens of its texts. If its
+/// thread cannot be started, the calling thread passes the gate for it and processes its texts, after it has started all other threads.
 ///
-/// That there are 1 to 64 workers is the caller's condition. It joins all threads, and so it may wait. Refused
-/// for want of memory alone: that a thread could not be started is no fault.
+/// The caller must ensure that there are 1 to 64 workers. The call joins all threads, and so can wait. It fails only if an allocation fails: a thread that
+/// cannot be started is not an error.
 ///
-/// After a refusal every thread that was started has been joined, and no slice that was made is left.
-/// That threads run at once, that each passes the gate once, and that a call succeeds where memory is
-/// there, no clause can say: tests show it.
+/// After an error, every started thread has been joined, and no slice is left. Tests check what the contract does not say: that the threads run at once, that
+/// each passes the gate once, and that a call succeeds if memory is available.
 ///
 /// ```
 /// struct Open;

@@ -1,12 +1,12 @@
-//! The steps that tests repeat.
+//! Steps that tests repeat.
 use arcstr::{ArcStr, Substr};
 use std::alloc::AllocGlobal;
 use std::process::Abort;
 
-/// A word as a test wants it: its start, its end and its text.
+/// A word that a test expects: its start, its end and its text.
 pub(crate) type Wanted<'a> = (usize, usize, &'a str);
 
-/// A text of its own, where memory is there.
+/// Copies the text into a new `ArcStr`. Aborts if out of memory.
 pub(crate) fn made(rt: &(impl Abort + AllocGlobal), text: &str) -> ArcStr {
     ArcStr::from_str(rt.alloc(), text).expect(rt, "no memory")
 }
@@ -21,7 +21,7 @@ fn check_token(rt: &impl Abort, token: &Substr, wanted: Wanted) {
     assert_eq!(rt; token.range(), start..end);
 }
 
-/// Asserts the places and the texts of all tokens.
+/// Asserts the ranges and the texts of all tokens.
 pub(crate) fn check_tokens(rt: &impl Abort, tokens: &[Substr], wanted: &[Wanted]) {
     assert_eq!(rt; tokens.len(), wanted.len());
     for (token, word) in tokens.iter().zip(wanted) {

@@ -1,4 +1,4 @@
-//! The lists of all workers, put into the order of the texts.
+//! Puts the lists of all workers into the order of the texts.
 ghost use Rattle.std.specs.Prelude.{◌≤◌, IfOk};
 ghost use Rattle.arctokens.specs.Pieces.{ArePieces};
 ghost use Rattle.arctokens.specs.Tokens.{AreTokensOfEach};
@@ -7,7 +7,7 @@ use arcstr::{ArcStr, Substr};
 use std::alloc::{AllocError, Global};
 use std::mem;
 
-/// The lists of all pieces in the order of the texts, which fell to the workers in turn.
+/// Returns the lists of all pieces in the order of the texts, which the workers took in turn.
 pub(crate) fn woven(
     alloc: Global,
     texts: &[ArcStr],

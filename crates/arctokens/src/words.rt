@@ -1,4 +1,4 @@
-//! Where the words of a text lie.
+//! Finds the words of a text.
 ghost use Rattle.std.specs.Prelude.{◌≡◌, ◌+◌, ◌≢◌, ℕ, ◌<◌, ◌≤◌, IfSome, IfNone, not, length, slice_index, map, take, drop};
 ghost use Rattle.std.specs.Simd.Lanes.{mask_l};
 ghost use Rattle.std.specs.Char.{is_whitespace};
@@ -8,16 +8,16 @@ ghost use Rattle.arctokens.specs.Runs.{AreAlike, HasNoWord, IsBetweenWords, IsCh
 use std::ops::Range;
 use std::simd::prelude::*;
 
-/// A character of a text, as far as words need it.
+/// The properties of a character that matter for words.
 #[derive(Clone, Copy)]
 struct Character {
     /// Whether it is white space.
     white: bool,
-    /// How many bytes it takes.
+    /// Its length in bytes.
     width: usize,
 }
 
-/// The range of the first word of the text that starts at a place or after it. No word lies across the place.
+/// Returns the range of the first word that starts at or after `from`. No word may lie across `from`.
 pub(crate) fn next_word(text: &str, from: usize) -> Option<Range<usize>>
     requires boundary { IsCharBoundary text.now from }
     requires between { IsBetweenWords text.now from }
@@ -32,8 +32,7 @@ pub(crate) fn next_word(text: &str, from: usize) -> Option<Range<usize>>
     Some(start..end)
 }
 
-/// Where the run that begins at a place ends: the first place from there on, after which stands a character that is not
-/// of the wanted kind, white space or other, or else the end of the text.
+/// Returns the end of the run of the given kind that starts at `from`: the start of the first character of the other kind, or the end of the text.
 fn run_end(text: &str, from: usize, white: bool) -> usize
     requires { IsCharBoundary text.now from }
     ensures { IsRun text.now from result white }
@@ -54,8 +53,8 @@ fn run_end(text: &str, from: usize, white: bool) -> usize
     at
 }
 
-/// How many bytes can be passed at once in a run of the wanted kind: in one of other characters than white
-/// space the visible ASCII characters of the next vector of bytes, else none.
+/// Returns how many bytes a run of the given kind can pass at once. In a run of white space, that is none. In a run of other characters, it is the number of
+/// visible ASCII characters at the start of the next vector.
 fn passed_at(text: &str, place: usize, white: bool) -> usize
     requires inside { place < length text.now }
     requires boundary { IsCharBoundary text.now place }
@@ -69,11 +68,11 @@ fn passed_at(text: &str, place: usize, white: bool) -> usize
     }
 }
 
-/// How many bytes a vector has.
+/// The number of bytes in a vector.
 const LANES: usize = 16;
 
-/// How many visible ASCII characters, of which none is white space, stand from a place on, in the next
-/// vector of bytes; none where fewer bytes are left.
+/// Returns how many bytes at `place` are visible ASCII characters, which are never white space, within one vector. Returns 0 if fewer bytes than a vector are
+/// left.
 fn visible_front(bytes: &[u8], place: usize) -> usize
     requires { place < length bytes.now }
     ensures within { result ≤ LANES }
@@ -92,8 +91,7 @@ fn visible_front(bytes: &[u8], place: usize) -> usize
     }
 }
 
-/// A bit for each of the next 16 bytes, set where it is not a visible ASCII character. The first byte's
-/// bit is the lowest.
+/// Returns a bit for each of the next 16 bytes, which is set if the byte is not a visible ASCII character. The first byte has the lowest bit.
 fn other_bytes(bytes: &[u8], place: usize) -> u64
     requires { place + LANES ≤ length bytes.now }
     ensures { result ≡ mask_l (map (λ byte. not (is_visible byte)) (take 16 (drop place bytes.now))) }
@@ -102,7 +100,7 @@ fn other_bytes(bytes: &[u8], place: usize) -> u64
     from_first.simd_ge(u8x16::splat(95)).to_bitmask()
 }
 
-/// The character at a place of the text.
+/// Returns the character at `place`.
 fn character_at(text: &str, place: usize) -> Character
     requires inside { place < length text.now }
     requires boundary { IsCharBoundary text.now place }
@@ -124,7 +122,7 @@ fn character_at(text: &str, place: usize) -> Character
     }
 }
 
-/// Whether an ASCII character is white space.
+/// Tests whether an ASCII character is white space.
 fn is_white_byte(byte: u8) -> bool
     requires { byte < 128 }
     ensures { result ≡ is_whitespace byte }

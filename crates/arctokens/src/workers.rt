@@ -13,10 +13,10 @@ use std::sync::Wait;
 use std::thread;
 use std::thread::{Promise, PromisedHandle, Threads};
 
-/// The lists of the texts that fall to one worker, or that memory was refused.
+/// The lists of one worker's texts, or an allocation failure.
 type Piece = Result<Vec<Vec<Substr>>, AllocError>;
 
-/// Promises the piece of one of so many workers.
+/// Promises one worker's piece when there are `workers` of them.
 #[derive(Clone, Copy)]
 struct PieceOf<'a> {
     texts: &'a [ArcStr],
@@ -30,17 +30,17 @@ impl<'a> Promise<Piece> for PieceOf<'a> {
 
 type Worker<'a> = PromisedHandle<Piece, PieceOf<'a>>;
 
-/// Where the piece of a worker comes from.
+/// Where a worker's piece comes from.
 #[derive(Drop)]
 enum Share<'a> {
-    /// A thread that is still to be joined.
+    /// A thread that is not yet joined.
     Thread(Worker<'a>),
-    /// The calling thread, which did the texts of a worker whose thread could not be started.
+    /// A piece from the calling thread, which processed the texts of a worker whose thread could not be started.
     Own(Piece),
 }
 
 impl<'a> Share<'a> {
-    /// The piece, once the thread that finds it has been joined.
+    /// Returns the piece, after joining the thread that finds it.
     fn into_piece<R: Threads>(self, rt: &R) -> Piece
         ensures { (texts : List TextView) (workers worker : ℕ) → IsShare texts workers worker self.entry → IsPieceOf texts workers worker result }
     {
@@ -51,8 +51,8 @@ impl<'a> Share<'a> {
     }
 }
 
-/// Starts a thread for each worker, and joins them all. Answers their pieces in the order of the workers.
-/// Room for the handles is asked for before the first thread is started, so that each can be joined.
+/// Starts a thread for each worker, and joins them all. Returns their pieces in the order of the workers. Allocates the list of thread handles before it
+/// starts the first thread, so that it can join each.
 pub(crate) fn pieces_of_all<R: Threads + Wait + Sync, G: Gate + Sync>(
     rt: &R,
     alloc: Global,
@@ -93,8 +93,7 @@ pub(crate) fn pieces_of_all<R: Threads + Wait + Sync, G: Gate + Sync>(
     )
 }
 
-/// The shares of all workers: their threads, or where none could be started what the calling thread does
-/// in its place. It joins none.
+/// Returns the shares of all workers: their threads, or for a worker without a thread the piece that the calling thread finds instead. Joins no thread.
 fn shares_of_all<'a, R: Wait, G: Gate>(
     rt: &R,
     alloc: Global,
@@ -119,7 +118,7 @@ fn shares_of_all<'a, R: Wait, G: Gate>(
     shares
 }
 
-/// The share of one worker.
+/// Returns the share of one worker.
 fn share_of<'a, R: Wait, G: Gate>(
     rt: &R,
     alloc: Global,
@@ -140,7 +139,7 @@ fn share_of<'a, R: Wait, G: Gate>(
     }
 }
 
-/// What one worker does: passes the gate, and then finds the tokens of each text that falls to it.
+/// Does the work of one worker: passes the gate, and then finds the tokens of each of its texts.
 fn piece_of<R: Wait, G: Gate>(
     rt: &R,
     alloc: Global,
@@ -163,7 +162,7 @@ fn piece_of<R: Wait, G: Gate>(
     Ok(lists)
 }
 
-/// The tokens of the text with this number.
+/// Returns the tokens of the text with this number.
 fn tokens_of_one<R: Wait>(
     rt: &R,
     alloc: Global,
@@ -176,7 +175,7 @@ fn tokens_of_one<R: Wait>(
     tokens(rt, alloc, &texts[number])
 }
 
-/// Joins each thread, and only then tells whether memory was refused to any worker.
+/// Joins every thread first, and then returns an error if an allocation of any worker failed.
 fn joined<'a, R: Threads>(
     rt: &R,
     texts: &[ArcStr],

@@ -1,4 +1,4 @@
--- Which entry a line of a configuration is, and which value a configuration has.
+-- The entry of a line of a configuration, and the value of a key in a configuration.
 use Rattle.std.specs.Prelude.{◌≡◌, ℕ, List, ◌++◌, Option, encode_utf8, option_and_then}
 use Rattle.std.specs.BTreeMap.{BTreeMap, get_by}
 use Rattle.std.specs.Cmp.Lexicographic.{slice_cmp}
@@ -12,8 +12,8 @@ use Rattle.example_config.specs.declared.line.Entry.{Entry}
 abbrev pub equals_sign : ℕ
 equals_sign = 61
 
--- the sides lie before and after the first `=` of the line; without the white space around them, they are the key and the
--- value, which are slices of the same text as the line
+-- the sides lie before and after the first `=` of the line; without the white space around them, they are the key and the value, which are slices of the same
+-- text as the line
 pub record IsEntry (line : SubstrView) (entry : Entry) : Type 0 where
   pub sides : SubstrView × SubstrView
   pub around : AreAround (text_of line) (slice_within line) equals_sign sides
@@ -22,11 +22,11 @@ pub record IsEntry (line : SubstrView) (entry : Entry) : Type 0 where
   pub key_parent : entry.key.parent ≡ line.parent
   pub value_parent : entry.value.parent ≡ line.parent
 
--- the slice is the inner one between two characters
+-- the slice's text is the first character, the text of `inner` and the last character
 abbrev pub IsEnclosed : SubstrView → ℕ → ℕ → SubstrView → Type 0
 IsEnclosed slice first last inner = text_of slice ≡ encode_utf8 first ++ (text_of inner ++ encode_utf8 last)
 
--- what a map has at the key with this text
+-- the value of a map at the key with this text
 abbrev pub at_text : {X : Type 0} → BTreeMap SubstrView X → List ℕ → Option X
 at_text map text = get_by (λ key. slice_cmp nat_cmp text (text_of key)) map
 

@@ -10,8 +10,8 @@ use std::alloc::{AllocError, Global};
 use std::collections::BTreeMap;
 use std::sync::Wait;
 
-/// The values by their keys, in sections by their names, and the faults of the lines that were not read. What stands before
-/// the first section is in the one with the empty name. Of two entries with one key, the last is kept.
+/// The values by their keys, in sections by their names, and the faults of the lines that cannot be read. Entries before the first section are in the section
+/// with the empty name. If two entries have the same key, the last is kept.
 #[derive(Drop)]
 pub struct Config {
     pub sections: BTreeMap<Substr, BTreeMap<Substr, Substr>>,
@@ -19,7 +19,7 @@ pub struct Config {
 }
 
 impl Config {
-    /// The configuration that the text has. No part of the text is copied.
+    /// Reads the configuration in the text. Copies no part of the text.
     pub fn read(rt: &impl Wait, alloc: Global, text: &ArcStr) -> Result<Config, AllocError> {
         let mut sections = BTreeMap::new(alloc);
         let mut faults = Vec::new(alloc);
@@ -47,7 +47,7 @@ impl Config {
         Ok(Config { sections, faults })
     }
 
-    /// The value of the key in the section. Allocates nothing and takes no atomic step.
+    /// Returns the value of the key in the section. Allocates nothing and takes no atomic step.
     pub fn get(&self, section: &str, key: &str) -> Option<&Substr>
         ensures { option_copied result ≡ value_at self.now section.now key.now }
     {

@@ -1,10 +1,10 @@
-//! Why a line of a configuration is not read, and where.
+//! Why a line of a configuration cannot be read, and where.
 ghost use Rattle.std.specs.Prelude.{◌≡◌};
 
 use arcstr::Substr;
 use thiserror::Error;
 
-/// Why a line is not read.
+/// Why a line cannot be read.
 #[derive(Clone, Copy, Debug, PartialEq, Eq, Error)]
 pub enum Reason {
     #[error("no `=`")]
@@ -17,7 +17,7 @@ pub enum Reason {
     OpenQuote,
 }
 
-/// A line that is not read. Lines and columns are counted from 1, and columns in characters.
+/// A line that cannot be read. Lines and columns are counted from 1, and columns in characters.
 #[derive(Debug, Drop, Error)]
 #[error("line {line}, column {column}: {reason}")]
 pub struct Fault {
@@ -26,7 +26,7 @@ pub struct Fault {
     pub reason: Reason,
 }
 
-/// A reason, and the byte offset of the part of the text that it is about.
+/// A reason, and the byte offset of the part of the text that causes it.
 #[derive(Drop)]
 pub struct Refusal {
     pub reason: Reason,

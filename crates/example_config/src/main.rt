@@ -1,5 +1,4 @@
-//! Reads a configuration from its input, prints each line that it cannot read and the entries of the others, and has four
-//! threads look values up in it.
+//! Reads a configuration from its input. Prints each line that it cannot read, and the entries of the others. Then four threads look up values in it.
 #![tactic(auto)]
 
 mod config;

@@ -26,7 +26,7 @@ fn main(rt: HostRuntime) -> io::Result<()> {
     Ok(())
 }
 
-/// What stands before the first comma of the line, without the white space around it. `None` exactly where the line has no comma.
+/// Returns the text before the first comma of the line, without the white space around it. Returns `None` exactly if the line has no comma.
 fn first_field(rt: &impl Wait, line: &ArcStr) -> Option<Substr>
     ensures found { IsSome result ↔ Contains (chars line.now.text) COMMA }
     ensures text { IfSome result (λ field. (parts : SubstrView × SubstrView)

@@ -1,4 +1,4 @@
--- What a search among rising texts finds, and what an insertion at that place does.
+-- The result of a search in ascending texts, and the list after an insertion at that position.
 use Rattle.std.proofs.Common.{◌≡◌, ℕ, zero, suc, ◌+◌, ◌-◌, ◌<◌, ◌≤◌, List, [], ◌∷◌, length, get_or, Ok, Err, Result, IfOk, IfErr, sym, ap, subst, ◌∙◌, inl, inr, refl, arith}
 use Rattle.std.specs.Prelude.{AllPairs, Contains}
 use Rattle.std.specs.Cmp.Lexicographic.{slice_cmp, nat_list_cmp_total}
@@ -14,12 +14,12 @@ use Rattle.arcstr.specs.TextOrder.{ComesBefore, IsTextOrder}
 use Rattle.arcstr.specs.TextView.{TextView}
 use Rattle.example_interner.specs.Words.{AreRising, IsAt, IsGapFor, Keeps}
 
--- the order by which the search compares is that of the texts
+-- the order of the search is the order of texts
 ordered : (one other : List ℕ) → IsTextOrder one other (slice_cmp nat_cmp one other)
 ordered one other = IsTextOrder-slice_cmp one other (slice_cmp nat_cmp one other) refl
 
 module _ (texts : List TextView) (rising : AreRising texts) (word : List ℕ) where
-  -- the comparisons with the word rise, as a binary search asks
+  -- the comparisons with the word ascend, as a binary search requires
   comparisons_rise : IsNonDecreasingBy (λ text. ordering_index (slice_cmp nat_cmp text.text word)) texts
   comparisons_rise = searchable_from_sorted nat_list_cmp_total (λ text. text.text) texts word
       (λ k d low within. ap is_lt ((ordered (get_or texts (k + 1) d).text (get_or texts k d).text).greater.1 (rising k (k + 1) d (omega arith) within)))
@@ -40,7 +40,7 @@ module _ (texts : List TextView) (rising : AreRising texts) (word : List ℕ) wh
     };
   }
 
--- what holds of each element and each later one, holds after an insertion between what it holds of
+-- a relation that holds between each element and each later one still holds after an insertion that it fits
 module _ {X : Type 0} (R : X → X → Type 0) (xs : List X) (at : ℕ) (x : X) (within : at ≤ length xs) where
   here : (d : X) (i : ℕ) → i ≡ at → get_or (insert xs at x) i d ≡ x
   here d i same = subst (λ k. get_or (insert xs at x) k d ≡ x) (sym same) (get_or-insert_at xs at x d within)
@@ -68,13 +68,13 @@ module _ {X : Type 0} (R : X → X → Type 0) (xs : List X) (at : ℕ) (x : X) 
         ]
       ]
 
--- the text of a word in its gap keeps the order
+-- an insertion of the word's text in its gap keeps the order
 pub rising_insert : (texts : List TextView) (word : List ℕ) (at : ℕ) (text : TextView) → text.text ≡ word → IsGapFor texts word at → AreRising texts
     → AreRising (insert texts at text)
 rising_insert texts word at text same gap rising =
     all_pairs_insert (λ one other. ComesBefore one.text other.text) texts at text gap.within (rw same gap.after) (rw same gap.before) rising
 
--- and every text
+-- an insertion keeps every text
 pub keeps_insert : (texts : List TextView) (at : ℕ) (text answer : TextView) → text ≡ answer → Keeps texts (insert texts at text) answer
 keeps_insert texts at text answer same =
     let moved = IsPermutation-insert texts at text in
@@ -92,6 +92,6 @@ keeps_insert texts at text answer same =
     only text other (zero, within, same) = sym same
     only text other (suc k, within, same) = absurd (omega (arith, within))
 
--- a text that is there already changes nothing
+-- if the text is there already, nothing changes
 pub keeps_there : (texts : List TextView) (at : ℕ) (d : TextView) → at < length texts → Keeps texts texts (get_or texts at d)
 keeps_there texts at d within = record { this = Contains-get_or texts at d within; earlier = λ other among. among; no_more = λ other among. inl among }

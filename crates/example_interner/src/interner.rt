@@ -1,4 +1,4 @@
-//! Texts of which each is made once.
+//! An interner: it makes each distinct text once.
 ghost use Rattle.std.specs.Prelude.{◌≡◌, [], length, IfOk, IfErr, OnErr};
 ghost use Rattle.arcstr.specs.Making.{IsFaultOfMaking};
 ghost use Rattle.example_interner.specs.Words.{AreRising, IsAt, IsGapFor, Keeps};
@@ -8,7 +8,7 @@ use std::alloc::Global;
 use std::marker::Model;
 use std::sync::Wait;
 
-/// One text for each word that was asked for, in the order of the words. A contract sees the list of texts.
+/// One text for each distinct word, in the order of the words. In a contract it is the list of the texts.
 #[derive(Drop)]
 pub struct Interner {
     texts: Vec<ArcStr>,
@@ -27,7 +27,7 @@ impl Model for Interner {
 }
 
 impl Interner {
-    /// No words yet. Takes no memory.
+    /// Creates an interner without words. Allocates nothing.
     pub fn new(alloc: Global) -> Interner
         ensures { result ≡ [] }
     {
@@ -36,14 +36,14 @@ impl Interner {
         }
     }
 
-    /// How many distinct words were asked for.
+    /// Returns the number of distinct words.
     pub fn len(&self) -> usize
         ensures { result ≡ length self.now }
     {
         self.texts.len()
     }
 
-    /// The one text of this word, which is made where it is asked for the first time, and kept.
+    /// Returns the only text of this word. The first call for a word makes the text, and the interner keeps it.
     pub fn intern(&mut self, rt: &impl Wait, alloc: Global, word: &str) -> Result<ArcStr, TextFault>
         ensures word { IfOk result (λ text. text.text ≡ word.now) }
         ensures kept { IfOk result (Keeps self.old self.new) }
@@ -60,7 +60,7 @@ impl Interner {
         Ok(text)
     }
 
-    /// Where the text of this word stands, or else where it would.
+    /// Returns the position of the text of this word, or else the position at which it would be inserted.
     fn search(&self, word: &str) -> Result<usize, usize>
         ensures found { IfOk result (IsAt self.now word.now) }
         ensures absent { IfErr result (IsGapFor self.now word.now) }

@@ -1,5 +1,4 @@
-//! Prints the ten most frequent words of its input, with how often each occurs. Each distinct word is made
-//! once, and shared from then on.
+//! Prints the ten most frequent words of its input, with how often each occurs. Makes each distinct word once, and shares it from then on.
 #![tactic(auto)]
 
 mod interner;
@@ -10,7 +9,7 @@ use std::alloc::{AllocError, Global};
 use std::collections::HashMap;
 use std::io;
 
-/// How many words are printed.
+/// The number of words that are printed.
 const PRINTED: usize = 10;
 
 fn main(rt: HostRuntime) -> io::Result<()> {
@@ -29,7 +28,7 @@ fn main(rt: HostRuntime) -> io::Result<()> {
     println!(rt; "{} distinct words", interner.len())
 }
 
-/// The texts and their counts, the greatest count first, and equal counts in the order of their texts.
+/// Returns the texts and their counts, by descending count, and for equal counts in the order of the texts.
 fn by_count(alloc: Global, counts: HashMap<ArcStr, u64>) -> Result<Vec<(ArcStr, u64)>, AllocError> {
     let mut list: Vec<(ArcStr, u64)> = counts.into_iter().collect(alloc)?;
     list.sort_by(|one, other| other.1.cmp(&one.1).then(one.0.cmp(&other.0)))?;

@@ -1,4 +1,4 @@
--- A text is split at the first place of a character in one way alone.
+-- There is only one way to split a text at the first occurrence of a character.
 use Rattle.std.proofs.Common.{◌≡◌, ℕ, ◌+◌, List, [], ◌∷◌, ◌++◌, length, Option, None, Some, IsSome, IfSome, refl, sym, ap, subst, ◌∙◌, arith}
 use Rattle.std.specs.Prelude.{Contains, encode_utf8_all}
 use Rattle.std.specs.Char.{len_utf8}
@@ -9,7 +9,7 @@ use Rattle.arcstr.specs.Substr.{SubstrView, slice_of, slice_within, text_of}
 use Rattle.arcstr.specs.TextView.{TextView}
 use Rattle.example_messages.specs.Messages.{HasTwoSemicolons, IsFirstSentence, full_stop, semicolon}
 
--- of two fronts without the character, that it follows in the same list, each is the other
+-- if one list splits at a character in two ways, and neither prefix contains the character, the prefixes are equal
 same_front : (c : ℕ) (xs ys us vs : List ℕ) → xs ++ c ∷ us ≡ ys ++ c ∷ vs → ¬ (Contains xs c) → ¬ (Contains ys c) → xs ≡ ys
 same_front c [] [] us vs same no_x no_y = refl
 same_front c [] (y ∷ ys) us vs same no_x no_y = absurd (no_y (0, omega arith, grind (arith, same)))
@@ -18,7 +18,7 @@ same_front c (x ∷ xs) (y ∷ ys) us vs same no_x no_y =
     let tails : xs ≡ ys = same_front c xs ys us vs (grind (arith, same)) (λ among. no_x (Contains-append_right (x ∷ []) xs c among)) (λ among. no_y (Contains-append_right (y ∷ []) ys c among)) in
     grind (arith, same, tails)
 
--- a character has one first place
+-- a character has only one first byte offset
 same_place : (text : List ℕ) (c place other : ℕ) → IsFirstPlace text c place → IsFirstPlace text c other → place ≡ other
 same_place text c place other one two =
     let fronts = same_front c one.before two.before one.after two.after (sym one.split ∙ two.split) one.others two.others in
@@ -28,21 +28,21 @@ has_first : (text : List ℕ) (c place : ℕ) → IsFirstPlace text c place → 
 has_first text c place first =
     subst (λ cs. Contains cs c) (sym first.split) (Contains-append_right first.before (c ∷ first.after) c (0, omega arith, refl))
 
--- what lies after it is one slice
+-- the slice after it is unique
 same_rest : (text : List ℕ) (between : ℕ → ℕ → SubstrView) (c : ℕ) (parts others : SubstrView × SubstrView)
     → AreAround text between c parts → AreAround text between c others → parts.1 ≡ others.1
 same_rest text between c parts others one two =
     let place = same_place text c one.place two.place one.first two.first in
     one.after ∙ ap (λ k. between (k + len_utf8 c) (length text)) place ∙ sym two.after
 
--- a text that is not split at a semicolon doesn't have two
+-- a text that cannot be split at a semicolon does not have two semicolons
 pub not_two_where_none : (text : TextView) (answer : Option (SubstrView × SubstrView)) → AnswersSplit text.text (slice_of text) semicolon answer → answer ≡ None
     → ¬ (HasTwoSemicolons text)
 not_two_where_none text answer split none two =
     let some : IsSome answer = split.found.1 (has_first text.text semicolon two.first.place two.first.first) in
     absurd (grind (arith, some, none))
 
--- nor does one of which what lies after the first semicolon is not split at another
+-- a text whose rest after the first semicolon cannot be split at another one does not have two semicolons
 pub not_two_where_none_after : (text : TextView) (answer : Option (SubstrView × SubstrView)) (before rest : SubstrView) (next : Option (SubstrView × SubstrView))
     → AnswersSplit text.text (slice_of text) semicolon answer → answer ≡ Some (before, rest)
     → AnswersSplit (text_of rest) (slice_within rest) semicolon next → next ≡ None → ¬ (HasTwoSemicolons text)
@@ -62,7 +62,7 @@ sentence_of_part body answer first rest split is =
       whole = λ none. absurd (none (has_first (text_of body) full_stop around.place around.first));
     }
 
--- and where there is none, the whole body
+-- if there is no full stop, the whole body is the first sentence
 pub sentence_of_whole : (body : SubstrView) (answer : Option (SubstrView × SubstrView))
     → AnswersSplit (text_of body) (slice_within body) full_stop answer → answer ≡ None → IsFirstSentence body body
 sentence_of_whole body answer split none =

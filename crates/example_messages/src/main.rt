@@ -1,5 +1,5 @@
-//! Reads a message from each line of its input, sends the messages to four clerks in threads of their own, who
-//! cut each to its first sentence, and prints what comes back.
+//! Reads a message from each line of its input, and sends the messages to four clerks in their own threads. They cut each message to its first sentence. Then
+//! it prints the results.
 #![tactic(auto)]
 
 mod message;
@@ -11,7 +11,7 @@ use std::sync::Wait;
 use std::thread::Threads;
 use std::{array, io, thread};
 
-/// How many threads there are.
+/// The number of threads.
 const CLERKS: usize = 4;
 
 fn main(rt: HostRuntime) -> io::Result<()> {
@@ -36,7 +36,7 @@ fn main(rt: HostRuntime) -> io::Result<()> {
     Ok(())
 }
 
-/// Each pile, once a clerk in a thread of its own is through with it.
+/// Returns each pile after a clerk in its own thread has processed it.
 fn answered<R: Threads + Wait + Sync>(
     rt: &R,
     alloc: Global,
@@ -59,7 +59,7 @@ fn answered<R: Threads + Wait + Sync>(
     )
 }
 
-/// What a clerk does with a pile.
+/// Does a clerk's work on one pile.
 fn shortened(rt: &impl Wait, mut pile: Vec<Message>) -> Vec<Message> {
     for message in pile.iter_mut() {
         message.shorten(rt);

@@ -5,8 +5,8 @@ ghost use Rattle.example_messages.specs.Messages.{HasTwoSemicolons, IsFirstSente
 use arcstr::{ArcStr, Substr};
 use std::sync::Wait;
 
-/// A message, written as its sender, its subject and its body with a semicolon after each of the first two.
-/// Its fields share one text, which is kept while one of them is.
+/// A message, written as its sender, its subject and its body with a semicolon after each of the first two. Its fields share one text, which stays alive as
+/// long as any of them.
 #[derive(Drop)]
 pub struct Message {
     pub sender: Substr,
@@ -15,8 +15,7 @@ pub struct Message {
 }
 
 impl Message {
-    /// The message that the text is, cut at its first two semicolons. `None` exactly where it has less than two. No
-    /// field is copied.
+    /// Reads the message in the text, which it cuts at its first two semicolons. Returns `None` exactly if it has fewer than two. Copies no field.
     pub fn read(rt: &impl Wait, text: &ArcStr) -> Option<Message>
         ensures found { IsSome result ↔ HasTwoSemicolons text.now }
         ensures fields { IfSome result (IsMessage text.now) }
@@ -30,7 +29,7 @@ impl Message {
         })
     }
 
-    /// Cuts the body to its first sentence, without the full stop. No text is copied.
+    /// Cuts the body to its first sentence, without the full stop. Copies no text.
     pub fn shorten(&mut self, rt: &impl Wait)
         ensures sender { self.new.sender ≡ self.old.sender }
         ensures subject { self.new.subject ≡ self.old.subject }

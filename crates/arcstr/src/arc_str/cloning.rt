@@ -1,5 +1,5 @@
-//! The trait `Clone` of `ArcStr`, for `#[derive(Clone)]`, `Vec<ArcStr>::clone` and generic code. Where an `rt` is at hand the
-//! inherent `clone` is the one to call: it always answers a handle.
+//! The trait `Clone` of `ArcStr`, for `#[derive(Clone)]`, `Vec<ArcStr>::clone` and generic code. Code that has an `rt` calls the inherent `clone`, which
+//! always succeeds.
 ghost use Rattle.std.specs.Prelude.{◌≡◌, MatchResult};
 ghost use Rattle.arcstr.specs.TextView.{IsStatic};
 
@@ -9,7 +9,7 @@ use std::alloc::AllocError;
 #[cfg(test)]
 mod tests;
 
-/// How many compare-exchanges a clone tries that may not wait.
+/// The number of compare-exchanges that a clone tries if it must not wait.
 const TRIES: u32 = 1_000;
 
 impl Clone for ArcStr {
@@ -17,9 +17,10 @@ impl Clone for ArcStr {
 
     ghost is_infallible = { λ text. IsStatic text.kind };
 
-    /// Another handle on the same text, as the inherent `clone` makes it, that never waits: the compare-exchange of a block is
-    /// tried at most 1,000 times. `AllocError` means here that each of them found the word changed by other threads; then
-    /// nothing is changed. Takes no memory. A literal or a fixed block takes no step, and is never refused.
+    /// Makes another handle to the same text, as the inherent `clone` does, but never waits.
+    ///
+    /// For a block, it tries the compare-exchange at most 1,000 times. Here `AllocError` means that other threads changed the count word each time; nothing
+    /// has changed then. For a literal or a permanent block, the clone takes no atomic step and never fails.
     fn clone(&self) -> Result<ArcStr, AllocError>
         ensures cases { MatchResult result (λ copy. copy ≡ self.now) (λ _. ¬ (IsStatic self.now.kind)) }
     {

@@ -1,11 +1,11 @@
-//! `ArcStr` where a text or bytes are asked for.
+//! Conversions of `ArcStr` to `&str` and `&[u8]` by std's traits.
 use crate::arc_str::ArcStr;
 use std::convert::{AsSlice, AsStr};
 
 impl AsStr for ArcStr {
     ghost text = { λ shared. shared.text };
 
-    /// The text. No step is taken.
+    /// Returns the text.
     fn as_str(&self) -> &str {
         ArcStr::as_str(self)
     }
@@ -14,7 +14,7 @@ impl AsStr for ArcStr {
 impl AsSlice<u8> for ArcStr {
     ghost items = { λ shared. shared.text };
 
-    /// The bytes of the text. No step is taken.
+    /// Returns the bytes of the text.
     fn as_slice(&self) -> &[u8] {
         self.as_bytes()
     }

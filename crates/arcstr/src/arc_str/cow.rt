@@ -1,4 +1,4 @@
-//! `ArcStr` as a text that is borrowed or owned.
+//! `ArcStr` as a copy-on-write text, borrowed or owned.
 ghost use Rattle.std.specs.Prelude.{◌≡◌, ◌↔◌, IsOk, IsSome, IfErr, IfOk, IfSome};
 ghost use Rattle.std.specs.Cow.{IsBorrowedStr, cow_str_bytes};
 ghost use Rattle.arcstr.specs.TextView.{literal};
@@ -11,7 +11,7 @@ use std::borrow::CowStr;
 mod tests;
 
 impl ArcStr {
-    /// The text, borrowed from this handle. Takes no memory, and no step is taken.
+    /// Returns the text, borrowed from this handle.
     ///
     /// ```
     /// let text = ArcStr::from_str(rt.alloc(), "foo")?;
@@ -26,9 +26,10 @@ impl ArcStr {
         CowStr::Borrowed(self.as_str())
     }
 
-    /// The text without its handle: a literal's is borrowed, any other is copied, with one request for
-    /// memory where it is not empty, and its handle is dropped. Refused for want of memory alone, and then the text
-    /// itself comes back. No step is taken but those of the drop.
+    /// Converts the handle into a text that does not depend on it. Borrows the text of a literal, and copies any other text with one allocation, or none if
+    /// it is empty. Drops the handle, and takes only the atomic steps of that drop.
+    ///
+    /// Returns the `ArcStr` itself if the allocation fails, and only then.
     ///
     /// ```
     /// let borrowed = ArcStr::from_static("foo").into_cow(rt.alloc())?;
@@ -51,7 +52,7 @@ impl ArcStr {
         }
     }
 
-    /// The text as the program has it, exactly where it is a literal. No step is taken.
+    /// Returns the text of the literal as the program holds it, or `None` if the text is not a literal.
     fn literal_text(&self) -> Option<&'static str>
         ensures exactly { IsSome result ↔ (self.now.kind ≡ literal) }
         ensures same { IfSome result (λ text. text.now ≡ self.now.text) }

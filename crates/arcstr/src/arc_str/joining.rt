@@ -1,4 +1,4 @@
-//! Texts joined into one, with a separator between each two.
+//! Texts joined into one, with a separator between them.
 ghost use Rattle.std.specs.List.{join_by};
 ghost use Rattle.arcstr.specs.Making.{AnswersCopy};
 
@@ -11,11 +11,11 @@ use std::convert::AsStr;
 mod tests;
 
 impl ArcStr {
-    /// The texts in their order, with the separator between each two, as `[S]::join` of std joins them: `&str`, `String`,
-    /// `ArcStr`, `Substr` and whatever else lends its text by `AsStr`. The toolchain's borrow checker does not cover a list of
-    /// `&ArcStr`: take the `as_str` of each. One request for memory; where the joined text is empty it is the empty literal,
-    /// which takes none. Refused, in this order: `2^63 - 25` bytes or more in all (`Length`),
-    /// and want of memory (`Memory`). No step is taken.
+    /// Joins the texts in order, with the separator between them, as std's `[S]::join` does. `S` is `&str`, `String`, `ArcStr`, `Substr` or another type with
+    /// `AsStr`. The toolchain's borrow checker does not cover a list of `&ArcStr`: collect the `as_str` of each instead. Makes one allocation. An empty
+    /// result is the empty literal, which needs no allocation.
+    ///
+    /// Errors, in this order: `Length` if the joined text has `2^63 - 25` bytes or more; `Memory` if the allocation fails.
     ///
     /// ```
     /// let path = ArcStr::join(rt.alloc(), &["usr", "lib", "é"], "/")?;

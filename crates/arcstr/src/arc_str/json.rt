@@ -9,8 +9,7 @@ use serde_json::Value;
 use std::alloc::{AllocError, Global};
 
 impl ArcStr {
-    /// A copy of the text, as a JSON string, with one request for memory where it is not empty. Refused for want of
-    /// memory alone. No step is taken.
+    /// Copies the text into a JSON string. Makes one allocation, or none if the text is empty. Fails only if the allocation fails.
     ///
     /// ```
     /// let value = ArcStr::from_static("a\"é").to_json(rt.alloc())?;
@@ -23,9 +22,9 @@ impl ArcStr {
         Value::try_from_str(alloc, self.as_str())
     }
 
-    /// A copy of the text of a JSON string: one request for memory, and none where it is empty. Refused, in this order:
-    /// a value that is not a string (`NotText`), a text of `2^63 - 25` bytes or more (`Length`), and want of memory
-    /// (`Memory`). No step is taken.
+    /// Copies the text of a JSON string into an `ArcStr`. Makes one allocation, or none if the text is empty.
+    ///
+    /// Errors, in this order: `NotText` if the value is not a string; `Length` if the text has `2^63 - 25` bytes or more; `Memory` if the allocation fails.
     ///
     /// ```
     /// let value = Value::try_from_str(rt.alloc(), "foo")?;

@@ -1,5 +1,4 @@
-//! The ways of making an `ArcStr`. An empty result is always the empty literal, and takes no memory. No way of making
-//! takes a step.
+//! Constructors of `ArcStr`. An empty result is always the empty literal, which needs no allocation.
 ghost use Rattle.std.specs.Prelude.{◌≡◌, ◌↔◌, [], length, replicate, Ok, IsUtf8, OnOk, IfOk, IfErr, IsErrOf};
 ghost use Rattle.std.specs.Fn.{FnOnceReturnsAtMut, FnOnceTakesAtMut};
 ghost use Rattle.std.specs.Str.Lossy.{utf8_valid_len};
@@ -16,8 +15,9 @@ mod tests;
 mod utf8_tests;
 
 impl ArcStr {
-    /// A copy of this text: one request for memory, and none where it is empty. No step is taken. Refused, in this
-    /// order: a text of `2^63 - 25` bytes or more (`Length`), and want of memory (`Memory`).
+    /// Copies a `&str` into a new `ArcStr`. Makes one allocation, or none if the text is empty.
+    ///
+    /// Errors, in this order: `Length` if the text has `2^63 - 25` bytes or more; `Memory` if the allocation fails.
     ///
     /// ```
     /// let text = ArcStr::from_str(rt.alloc(), "foo")?;
@@ -33,8 +33,9 @@ impl ArcStr {
         Ok(ArcStr::from_shared(Shared::from_text(alloc, text)?))
     }
 
-    /// A copy of this text, as `from_str` makes it: one request for memory, and none where it is empty. No step is
-    /// taken. Refused, in this order: a text of `2^63 - 25` bytes or more (`Length`), and want of memory (`Memory`).
+    /// Copies a `&str` into a new `ArcStr`, as `from_str` does. Makes one allocation, or none if the text is empty.
+    ///
+    /// Errors, in this order: `Length` if the text has `2^63 - 25` bytes or more; `Memory` if the allocation fails.
     ///
     /// ```
     /// let text = ArcStr::try_alloc(rt.alloc(), "foo")?;
@@ -46,9 +47,10 @@ impl ArcStr {
         ArcStr::from_str(alloc, text)
     }
 
-    /// The text of these bytes, which are copied: one request for memory, and none where there are none. No step is
-    /// taken. Refused, in this order: bytes that are not UTF-8 (`Utf8`, with the length in bytes of their longest front
-    /// that is), `2^63 - 25` bytes or more (`Length`), and want of memory (`Memory`).
+    /// Converts a slice of bytes to an `ArcStr`, by a copy. Makes one allocation, or none if there are no bytes.
+    ///
+    /// Errors, in this order: `Utf8` if the bytes are not UTF-8, with the length in bytes of their longest prefix that is; `Length` if there are `2^63 - 25`
+    /// bytes or more; `Memory` if the allocation fails.
     ///
     /// ```
     /// let text = ArcStr::from_utf8(rt.alloc(), b"a\xc3\xa9")?;
@@ -70,16 +72,15 @@ impl ArcStr {
         }
     }
 
-    /// The text that `fill` leaves in `n` zero bytes: one request for memory, before the closure runs, and none
-    /// for no bytes, where it runs on an empty slice. That it takes `n` zero bytes, where `n` is not too long, is the
-    /// caller's condition. No step is taken.
+    /// Creates a text of `n` bytes, which are zero at first and which `fill` writes. Makes one allocation before it calls the closure. If `n` is 0, it
+    /// allocates nothing and calls the closure on an empty slice. The caller must ensure that the closure can be called on `n` zero bytes, unless `n` is too
+    /// long.
     ///
-    /// Refused, in this order: a length of `2^63 - 25` bytes or more (`Length`) and want of memory (`Memory`),
-    /// after which the closure is not run, and bytes that are not UTF-8 once it has run (`Utf8`, with the length
-    /// in bytes of their longest front that is).
+    /// Errors, in this order: `Length` if `n` is `2^63 - 25` or more; `Memory` if the allocation fails; `Utf8` if the bytes are not UTF-8 after the call,
+    /// with the length in bytes of their longest prefix that is. The closure is not called after `Length` or `Memory`.
     ///
-    /// The `requires` lets the closure run only on a length that is not too long. The contract does not say that it is
-    /// not run without memory: the test `a_closure_is_not_run_without_memory` shows it.
+    /// The `requires` clause allows a call of the closure only if the length is not too long. The contract does not say that the closure is not called if the
+    /// allocation fails: the test `a_closure_is_not_run_without_memory` checks that.
     ///
     /// ```
     /// let text = ArcStr::init_with(rt.alloc(), 3, |bytes| bytes.copy_from_slice(b"foo"))?;
@@ -111,9 +112,9 @@ impl ArcStr {
         }
     }
 
-    /// `n` copies of the text, joined: one request for memory. An empty text or no copies take none, and are
-    /// never refused. Else refused, in this order: `2^63 - 25` bytes or more in all copies (`Length`), and want of
-    /// memory (`Memory`). No step is taken.
+    /// Creates a new text by repeating a text `n` times. Makes one allocation. If the text is empty or `n` is 0, it allocates nothing and cannot fail.
+    ///
+    /// Otherwise, errors in this order: `Length` if all copies have `2^63 - 25` bytes or more; `Memory` if the allocation fails.
     ///
     /// ```
     /// let text = ArcStr::try_repeat(rt.alloc(), "ab", 3)?;
@@ -134,9 +135,10 @@ impl ArcStr {
         }
     }
 
-    /// `n` copies of the text, joined, as `try_repeat` makes them: one request for memory. An empty text or no
-    /// copies take none, and are never refused. Else refused, in this order: `2^63 - 25` bytes or more in all
-    /// copies (`Length`), and want of memory (`Memory`). No step is taken.
+    /// Creates a new text by repeating a text `n` times, as `try_repeat` does. Makes one allocation. If the text is empty or `n` is 0, it allocates nothing
+    /// and cannot fail.
+    ///
+    /// Otherwise, errors in this order: `Length` if all copies have `2^63 - 25` bytes or more; `Memory` if the allocation fails.
     ///
     /// ```
     /// let text = ArcStr::repeat(rt.alloc(), "é", 3)?;
@@ -149,7 +151,7 @@ impl ArcStr {
     }
 }
 
-/// Runs the closure on these bytes.
+/// Calls the closure on these bytes.
 fn fill_slice<F: FnOnce(&mut [u8])>(bytes: &mut [u8], fill: F)
     requires { FnOnceTakesAtMut F.FnOnce fill bytes.old }
     ensures { FnOnceReturnsAtMut F.FnOnce fill bytes.old tt bytes.new }

@@ -1,4 +1,4 @@
-//! Equality, order and hash of `ArcStr`: those of its text, of whatever kind.
+//! Equality, order and hash of `ArcStr`. They depend only on the text, not on its kind.
 ghost use Rattle.std.specs.Prelude.{◌≡◌, ◌↔◌, Some, IsTrue, bytes_eq, refl};
 ghost use Rattle.std.proofs.Common.{rules};
 ghost use Rattle.std.specs.Cmp.{on_equiv, on_per, on_po, on_total, partial_equiv_from_equiv};
@@ -17,7 +17,7 @@ use std::hash::{Hash, Hasher};
 mod tests;
 
 impl ArcStr {
-    /// Whether the text is this one, byte by byte. Takes no memory, and no step is taken.
+    /// Tests whether the text equals a `&str`, byte by byte.
     ///
     /// ```
     /// let text = ArcStr::from_str(rt.alloc(), "foo")?;
@@ -36,7 +36,7 @@ impl PartialEq for ArcStr {
 
     ghost laws = { on_per (λ shared. shared.text) (partial_equiv_from_equiv nat_list_eq_equiv) };
 
-    /// Whether the two texts are the same, byte by byte, of whatever kinds. Takes no memory, and no step is taken.
+    /// Tests whether the two texts are equal, byte by byte, whatever their kinds.
     fn eq(&self, other: &ArcStr) -> bool
         ensures value { result ≡ bytes_eq self.now.text other.now.text }
         ensures same { IsTrue result ↔ (self.now.text ≡ other.now.text) }
@@ -54,7 +54,7 @@ impl PartialOrd for ArcStr {
 
     ghost laws = { on_po (λ shared. shared.text) texts_po };
 
-    /// How the two texts compare, as `cmp` says it: always `Some`. Takes no memory, and no step is taken.
+    /// Compares the two texts as `cmp` does. Always returns `Some`.
     fn partial_cmp(&self, other: &ArcStr) -> Option<Ordering> {
         Some(self.cmp(other))
     }
@@ -69,8 +69,8 @@ impl Ord for ArcStr {
 
     ghost matches_eq = { λ one other. texts_ties one.text other.text };
 
-    /// How the two texts compare by their bytes, of whatever kinds: a text comes before each that goes on after it, and
-    /// else the one with the lower byte where they first differ. Takes no memory, and no step is taken.
+    /// Compares the two texts byte by byte, whatever their kinds: a proper prefix of a text comes before it, and otherwise the first bytes that differ
+    /// decide.
     fn cmp(&self, other: &ArcStr) -> Ordering
         ensures value { result ≡ slice_cmp nat_cmp self.now.text other.now.text }
         ensures order { IsTextOrder self.now.text other.now.text result }
@@ -84,7 +84,7 @@ impl Hash for ArcStr {
 
     ghost respects_eq = { Prim.search (hashing, rules) };
 
-    /// The hash of the text, as a `str` of these bytes has it, of whatever kind. Takes no memory, and no step is taken.
+    /// Feeds the text to the hasher as a `str` does, whatever its kind.
     fn hash<H: Hasher>(&self, state: &mut H) {
         self.as_str().hash(state);
     }

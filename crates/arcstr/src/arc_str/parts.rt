@@ -16,8 +16,7 @@ use std::ops::Range;
 use std::sync::Wait;
 
 impl ArcStr {
-    /// The view of the whole text, at place 0. `substr_from` of this text takes it, and its parts, with no test before.
-    /// Allocates nothing and takes no atomic step.
+    /// Returns a view of the whole text, at byte offset 0. `substr_from` of this text accepts this view and its parts without a test.
     ///
     /// ```
     /// let text = ArcStr::from_static("key = value");
@@ -33,8 +32,8 @@ impl ArcStr {
         StrView::whole(self.as_str())
     }
 
-    /// The slice of this text without the white space at its start and end, as Rust's `str::trim`. It keeps the text
-    /// also where it is empty. Allocates nothing; the handle is cloned, and so the call may wait.
+    /// Returns the slice of this text with leading and trailing white space removed, as `str::trim` does. An empty slice keeps the text alive too. Clones the
+    /// handle, and so can wait.
     ///
     /// ```
     /// let text = ArcStr::from_static("  foo ");
@@ -49,8 +48,8 @@ impl ArcStr {
         self.clone_between(rt, without_white_space(self.as_str()))
     }
 
-    /// The slice of this text without the white space at its start, as Rust's `str::trim_start`. It keeps the text
-    /// also where it is empty. Allocates nothing; the handle is cloned, and so the call may wait.
+    /// Returns the slice of this text with leading white space removed, as `str::trim_start` does. An empty slice keeps the text alive too. Clones the
+    /// handle, and so can wait.
     ///
     /// ```
     /// let text = ArcStr::from_static("  foo ");
@@ -65,8 +64,8 @@ impl ArcStr {
         self.clone_between(rt, without_leading(self.as_str()))
     }
 
-    /// The slice of this text without the white space at its end, as Rust's `str::trim_end`. It keeps the text also
-    /// where it is empty. Allocates nothing; the handle is cloned, and so the call may wait.
+    /// Returns the slice of this text with trailing white space removed, as `str::trim_end` does. An empty slice keeps the text alive too. Clones the handle,
+    /// and so can wait.
     ///
     /// ```
     /// let text = ArcStr::from_static("  foo ");
@@ -81,7 +80,7 @@ impl ArcStr {
         self.clone_between(rt, without_trailing(self.as_str()))
     }
 
-    /// The slice of this text between two places. The handle is cloned.
+    /// Returns the slice of this text between two byte offsets. Clones the handle.
     pub(crate) fn clone_between(&self, rt: &impl Wait, range: Range<usize>) -> Substr
         requires { IsLawful self.now.text range.start range.end }
         ensures slice { result ≡ slice_of self.now range.start range.end }

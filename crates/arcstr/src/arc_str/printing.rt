@@ -1,4 +1,4 @@
-//! What `ArcStr` prints as: its text, as Rust prints a `str`.
+//! The output of an `ArcStr`: its text, formatted as a `str` is.
 ghost use Rattle.std.specs.Prelude.{◌≡◌, Some, IfOk, string_bytes};
 ghost use Rattle.std.specs.Fmt.{debug_str, styled_text};
 
@@ -10,8 +10,7 @@ use std::fmt;
 mod tests;
 
 impl ArcStr {
-    /// A copy of the text, with one request for memory where it is not empty. Refused for want of memory
-    /// alone. No step is taken.
+    /// Copies the text into a `String`. Makes one allocation, or none if the text is empty. Fails only if the allocation fails.
     ///
     /// ```
     /// let copy = ArcStr::from_static("foo").to_string(rt.alloc())?;
@@ -29,8 +28,7 @@ impl fmt::Display for ArcStr {
 
     ghost styled_output = { λ shared spec. Some (styled_text spec shared.text) };
 
-    /// Writes the text, padded or cut as a `str` is. Refused where the writer refuses. Takes no memory of its own, and
-    /// no step is taken.
+    /// Writes the text with padding and precision, as for a `str`. Fails if the writer fails. Allocates nothing itself.
     fn fmt<W: fmt::Write>(&self, f: &mut fmt::Formatter<W>) -> fmt::Result {
         f.pad(self.as_str())
     }
@@ -39,8 +37,7 @@ impl fmt::Display for ArcStr {
 impl fmt::Debug for ArcStr {
     ghost debug_output = { λ shared. debug_str shared.text };
 
-    /// Writes the text between quotes, escaped as a `str` is. Refused where the writer refuses. Takes no memory of its
-    /// own, and no step is taken.
+    /// Writes the text in quotes and escaped, as for a `str`. Fails if the writer fails. Allocates nothing itself.
     fn fmt<W: fmt::Write>(&self, f: &mut fmt::Formatter<W>) -> fmt::Result {
         let text = self.as_str();
         fmt::Debug::fmt(&text, f)

@@ -1,4 +1,4 @@
-//! The slices of an `ArcStr`, each of which keeps it as its parent.
+//! Slices of an `ArcStr`. Each keeps the text as its parent.
 ghost use Rattle.std.specs.Prelude.{◌↔◌, ℕ, IsSome, IfSome};
 ghost use Rattle.std.specs.Fn.{FnOnceReturnsAt, FnOnceTakesAt};
 ghost use Rattle.std.specs.Option.{option_copied};
@@ -16,8 +16,7 @@ use std::ops::Range;
 use std::sync::Wait;
 
 impl ArcStr {
-    /// The part of the text in the range, as Rust's `str::get`: `None` where the ends are out of order,
-    /// past the text or inside a character. Takes no memory, and no step is taken.
+    /// Returns the part of the text in the range, as `str::get` does. Returns `None` if the ends are out of order, past the text or inside a character.
     ///
     /// ```
     /// let text = ArcStr::from_static("aé");
@@ -31,11 +30,10 @@ impl ArcStr {
         slice(self.as_str(), range.into())
     }
 
-    /// The slice of this text in the range, also where it is empty. Takes no memory; the handle is cloned, and so
-    /// it may wait.
+    /// Returns the slice of this text in the range. An empty slice keeps the text alive too. Clones the handle, and so can wait.
     ///
-    /// Refuses the first that fails: the start is at most the end (`OutOfOrder`), the end at most the
-    /// length (`PastEnd`), and both are boundaries (`OffBoundary`).
+    /// Errors, in this order: `OutOfOrder` if the start is after the end; `PastEnd` if the end is past the text; `OffBoundary` if the start or the end is not
+    /// a character boundary.
     ///
     /// ```
     /// let text = ArcStr::from_str(rt.alloc(), "foo bar")?;
@@ -53,9 +51,8 @@ impl ArcStr {
         Ok(Substr::from_parts_unchecked(self.clone(rt), start..end))
     }
 
-    /// The slice of this text that a view of it shows. `None` exactly where the text doesn't have the
-    /// view's text at the view's place. An empty view is found everywhere, and gives `Substr::new()`. Takes no
-    /// memory; the handle is cloned where a view that is not empty is found, and so it may wait.
+    /// Returns the slice of this text that a view shows, or `None` exactly if the text does not have the view's text at the view's place. An empty view is
+    /// found everywhere, and gives `Substr::new()`. Clones the handle if it finds a view that is not empty, and so can wait.
     ///
     /// ```
     /// let text = ArcStr::from_str(rt.alloc(), "  foo ")?;
@@ -73,10 +70,9 @@ impl ArcStr {
         Some(self.substr_from(rt, view))
     }
 
-    /// The slice of this text that a view of it shows; of an empty view `Substr::new()`. That the text has the
-    /// view's text at the view's place is the caller's condition: the text's own `view` and its parts meet
-    /// it, and `StrView::is_found_in` tests it of others. Takes no memory; the handle is cloned where the view is not
-    /// empty, and so it may wait.
+    /// Returns the slice of this text that a view shows, or `Substr::new()` for an empty view. The caller must ensure that the text has the view's text at
+    /// the view's place. The text's own `view` and its parts satisfy this, and `StrView::is_found_in` tests it for other views. Clones the handle if the view
+    /// is not empty, and so can wait.
     ///
     /// ```
     /// let text = ArcStr::from_str(rt.alloc(), "  foo ")?;
@@ -94,12 +90,11 @@ impl ArcStr {
         Substr::from_parts_unchecked(self.clone(rt), view.range())
     }
 
-    /// The slice of this text between the places that the closure finds in it. The closure is called once,
-    /// first; that it takes the text is the caller's condition. Equal places give `Substr::new()` wherever they
-    /// lie. Takes no memory; for other places the handle is cloned, and so it may wait.
+    /// Returns the slice of this text between the byte offsets that the closure returns for it. Calls the closure once, first; the caller must ensure that it
+    /// can be called on the text. Equal offsets give `Substr::new()`, wherever they lie. Clones the handle for other offsets, and so can wait.
     ///
-    /// Of other places it refuses the first that fails: the start is at most the end (`OutOfOrder`), the end at
-    /// most the length (`PastEnd`), and both are boundaries (`OffBoundary`).
+    /// Errors for other offsets, in this order: `OutOfOrder` if the start is after the end; `PastEnd` if the end is past the text; `OffBoundary` if the start
+    /// or the end is not a character boundary.
     ///
     /// ```
     /// let text = ArcStr::from_static("name=value");
@@ -124,12 +119,12 @@ impl ArcStr {
         self.substr(rt, found)
     }
 
-    /// The slice of this text between the places that the closure finds in it, as `substr_using` answers it. The
-    /// closure is called once, first; that it takes the text is the caller's condition. Equal places give `Substr::new()`
-    /// wherever they lie. Takes no memory; for other places the handle is cloned, and so it may wait.
+    /// Returns the slice of this text between the byte offsets that the closure returns for it, as `substr_using` does. Calls the closure once, first; the
+    /// caller must ensure that it can be called on the text. Equal offsets give `Substr::new()`, wherever they lie. Clones the handle for other offsets, and
+    /// so can wait.
     ///
-    /// Of other places it refuses the first that fails: the start is at most the end (`OutOfOrder`), the end at
-    /// most the length (`PastEnd`), and both are boundaries (`OffBoundary`).
+    /// Errors for other offsets, in this order: `OutOfOrder` if the start is after the end; `PastEnd` if the end is past the text; `OffBoundary` if the start
+    /// or the end is not a character boundary.
     ///
     /// ```
     /// let text = ArcStr::from_static("name=value");

@@ -1,6 +1,5 @@
-//! An `ArcStr` taken apart: at a place, around a match of a pattern, or without its prefix or suffix.
-//! A pattern is a `char`, a `&str` or another of std's, of which the caller has to know that it can search (as of a closure that it
-//! may be called).
+//! Splits of an `ArcStr` at a byte offset or around a match of a pattern, and slices without a prefix or suffix. A pattern is a `char`, a `&str` or another
+//! of std's patterns. The caller must ensure that the pattern can search, as it must ensure that a closure can be called.
 ghost use Rattle.std.specs.Prelude.{◌≡◌, ◌-◌, ◌≤◌, length, take, drop, IfSome, MatchOption, None};
 ghost use Rattle.std.specs.Str.{IsCharBoundary};
 ghost use Rattle.std.specs.Str.Pattern.{SplitsAroundMatch, StripsPrefix, StripsSuffix};
@@ -15,11 +14,10 @@ use std::str::pattern::Pattern;
 use std::sync::Wait;
 
 impl ArcStr {
-    /// The slices of this text before and after a place, in bytes, as Rust's `str::split_at_checked`. Each keeps the
-    /// text also where it is empty. Allocates nothing; the handle is cloned once for each slice, and so the call may wait.
+    /// Splits this text at a byte offset into two slices, as `str::split_at_checked` does. Each keeps the text alive, even if it is empty. Clones the handle
+    /// once for each slice, and so can wait.
     ///
-    /// Refuses as `substr` refuses the range up to the place: first a place past the text (`PastEnd`), then one inside
-    /// a character (`OffBoundary`).
+    /// Fails as `substr` does for the range up to the offset: first `PastEnd` if the offset is past the text, then `OffBoundary` if it is inside a character.
     ///
     /// ```
     /// let text = ArcStr::from_static("foobar");
@@ -42,10 +40,9 @@ impl ArcStr {
         Ok((before, after))
     }
 
-    /// The slices of this text before and after the first match of the separator, as Rust's `str::split_once`. The
-    /// separator, a `char` or a `&str`, stands in neither. `None` exactly where there is no match, and then no step is
-    /// taken. Allocates nothing; the handle is cloned once for each slice, which keeps the text also where it is empty,
-    /// and so the call may wait.
+    /// Splits this text around the first match of the separator, as `str::split_once` does. The separator is a `char` or a `&str`, and is part of neither
+    /// slice. Returns `None` exactly if there is no match, and then takes no atomic step. Clones the handle once for each slice, and so can wait. Each slice
+    /// keeps the text alive, even if it is empty.
     ///
     /// ```
     /// let text = ArcStr::from_str(rt.alloc(), "name=a=b")?;
@@ -73,10 +70,9 @@ impl ArcStr {
         Some((self.clone_prefix(rt, before), self.clone_suffix(rt, after)))
     }
 
-    /// The slices of this text before and after the last match of the separator, as Rust's `str::rsplit_once`. The
-    /// separator, a `char` or a `&str`, stands in neither. `None` exactly where there is no match, and then no step is
-    /// taken. Allocates nothing; the handle is cloned once for each slice, which keeps the text also where it is empty,
-    /// and so the call may wait.
+    /// Splits this text around the last match of the separator, as `str::rsplit_once` does. The separator is a `char` or a `&str`, and is part of neither
+    /// slice. Returns `None` exactly if there is no match, and then takes no atomic step. Clones the handle once for each slice, and so can wait. Each slice
+    /// keeps the text alive, even if it is empty.
     ///
     /// ```
     /// let text = ArcStr::from_static("a::b::c");
@@ -101,9 +97,8 @@ impl ArcStr {
         Some((self.clone_prefix(rt, before), self.clone_suffix(rt, after)))
     }
 
-    /// The slice of this text after a prefix, a `char` or a `&str`, as Rust's `str::strip_prefix`. It keeps the text also
-    /// where it is empty. `None` exactly where the text doesn't begin with the prefix, and then no step is taken. Allocates
-    /// nothing; the handle is cloned, and so the call may wait.
+    /// Returns the slice of this text with the prefix removed, as `str::strip_prefix` does. The prefix is a `char` or a `&str`. Returns `None` exactly if the
+    /// text does not start with it, and then takes no atomic step. The slice keeps the text alive, even if it is empty. Clones the handle, and so can wait.
     ///
     /// ```
     /// let text = ArcStr::from_static("--all");
@@ -123,9 +118,8 @@ impl ArcStr {
         Some(self.clone_suffix(rt, rest))
     }
 
-    /// The slice of this text before a suffix, a `char` or a `&str`, as Rust's `str::strip_suffix`. It keeps the text
-    /// also where it is empty. `None` exactly where the text doesn't end with the suffix, and then no step is taken.
-    /// Allocates nothing; the handle is cloned, and so the call may wait.
+    /// Returns the slice of this text with the suffix removed, as `str::strip_suffix` does. The suffix is a `char` or a `&str`. Returns `None` exactly if the
+    /// text does not end with it, and then takes no atomic step. The slice keeps the text alive, even if it is empty. Clones the handle, and so can wait.
     ///
     /// ```
     /// let text = ArcStr::from_static("main.rs");
@@ -145,7 +139,7 @@ impl ArcStr {
         Some(self.clone_prefix(rt, rest))
     }
 
-    /// The slice of this text that is a prefix of it. The handle is cloned.
+    /// Returns the slice of this text that holds the prefix. Clones the handle.
     fn clone_prefix(&self, rt: &impl Wait, prefix: &str) -> Substr
         requires within { length prefix.now ≤ length self.now.text }
         requires prefix { prefix.now ≡ take (length prefix.now) self.now.text }
@@ -156,7 +150,7 @@ impl ArcStr {
         self.clone_between(rt, prefix_places(self.as_str(), prefix))
     }
 
-    /// The slice of this text that is a suffix of it. The handle is cloned.
+    /// Returns the slice of this text that holds the suffix. Clones the handle.
     fn clone_suffix(&self, rt: &impl Wait, suffix: &str) -> Substr
         requires within { length suffix.now ≤ length self.now.text }
         requires suffix { suffix.now ≡ drop (length self.now.text - length suffix.now) self.now.text }

@@ -38,7 +38,7 @@ fn a_clone_shares_the_count(rt: HostRuntime) {
     check_count(&rt, &text, Some(1));
 }
 
-/// As many handles as this leave a text counted. Its limit, `RC_MAX`, is too great for a test.
+/// A number of handles at which a text is still counted. The limit, `RC_MAX`, is too large for a test.
 const HANDLES: usize = 70_000;
 
 #[test]
@@ -71,7 +71,7 @@ fn a_raw_handle_comes_back(rt: HostRuntime) {
     check_count(&rt, &back, Some(1));
 }
 
-/// Asserts that the text is static and reads so, and that no handles are counted.
+/// Asserts that the text is static, that it reads as `wanted`, and that its handles are not counted.
 fn check_leaked(rt: &impl Abort, text: &ArcStr, wanted: &str) {
     assert!(rt; ArcStr::is_static(text));
     check_count(rt, text, None);

@@ -7,7 +7,7 @@ use std::thread;
 
 const ROUNDS: u32 = 100_000;
 
-/// Clones the text and drops the clone, many times over, and answers the length that the last clone had.
+/// Clones the text and drops the clone many times. Returns the length of the last clone.
 fn cloned_often(rt: &impl Wait, text: &ArcStr) -> usize {
     let mut length = 0;
     for _ in 0..ROUNDS {
@@ -37,7 +37,7 @@ fn two_threads_clone_and_drop_one_text(rt: HostRuntime) {
     check_count(&rt, &text, Some(1));
 }
 
-/// The value, which may be sent to a thread and shared between threads.
+/// Returns the value, whose type must be `Send` and `Sync`.
 fn crossing<T: Send + Sync>(value: T) -> T {
     value
 }

@@ -1,4 +1,4 @@
-//! Methods of `str` called on a counted text, a literal and a slice. None takes a handle or sets a mark.
+//! Methods of `str` called on a counted text, a literal and a slice. None of them clones a handle or sets the static flag.
 use crate::literal;
 use crate::test_steps::{check_count, check_part, check_text, made, part};
 

@@ -1,4 +1,4 @@
-//! The examples of views of whole texts, and of trims.
+//! The examples of views of whole texts and of trims.
 use crate::{ArcStr, literal};
 use std::test::Fail;
 

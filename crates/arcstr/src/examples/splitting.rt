@@ -1,4 +1,4 @@
-//! The examples of texts and slices that are taken apart.
+//! The examples of splits and of slices without a prefix or suffix.
 use crate::{ArcStr, RangeFault, literal};
 use std::test::Fail;
 

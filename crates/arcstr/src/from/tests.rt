@@ -1,4 +1,4 @@
-//! What `from` and `into` make of a literal, a counted text and a permanent one, and their counts.
+//! The results of `from` and `into` for a literal, a counted text and a permanent one, and their counts.
 use crate::test_steps::{check_count, check_empty, check_nothing, check_slice, check_text, made};
 use crate::{ArcStr, Substr};
 

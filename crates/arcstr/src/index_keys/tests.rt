@@ -1,11 +1,11 @@
-//! Maps and sets of `indexmap` whose keys are texts or slices, looked up by a `&str`, and the counts of their keys.
+//! Maps and sets of `indexmap` with texts or slices as keys, looked up by a `&str`, and the counts of their keys.
 use crate::test_steps::{check_count, made, part};
 use crate::{ArcStr, Substr, literal};
 use indexmap::{IndexMap, IndexSet};
 use std::alloc::AllocGlobal;
 use std::process::Abort;
 
-/// A map of this text and of two literals.
+/// Returns a map with this text and two literals as keys.
 fn map_of(rt: &(impl Abort + AllocGlobal), text: ArcStr) -> IndexMap<ArcStr, u8> {
     let mut map = IndexMap::new(rt.alloc());
     map.insert(text, 1).expect(rt, "no memory");

@@ -1,4 +1,4 @@
-//! Want of memory as a fault of reading JSON, so that `?` serves in one function for texts and for vectors.
+//! Conversions of allocation failures into `JsonFault`, so that `?` works in a function that reads texts and fills vectors.
 use crate::json::JsonFault;
 use std::alloc::{AllocError, AllocFailed};
 
@@ -8,7 +8,7 @@ impl From<AllocError> for JsonFault {
 
     ghost from_gives = { λ _ fault. fault ≡ Memory };
 
-    /// `Memory`, whatever was asked for. Takes no memory.
+    /// Returns `Memory`, whatever allocation failed. Allocates nothing.
     fn from(_refused: AllocError) -> JsonFault {
         JsonFault::Memory
     }
@@ -20,7 +20,7 @@ impl<T: Drop> From<AllocFailed<T>> for JsonFault {
 
     ghost from_gives = { λ _ fault. fault ≡ Memory };
 
-    /// `Memory`, whatever was asked for. Takes no memory; what was not stored is dropped.
+    /// Returns `Memory`, whatever allocation failed. Allocates nothing. Drops the value that was not stored.
     fn from(refused: AllocFailed<T>) -> JsonFault {
         JsonFault::from(AllocError::from(refused))
     }

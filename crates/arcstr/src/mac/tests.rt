@@ -1,4 +1,4 @@
-//! What the macros make, stated of functions that do nothing else, and run.
+//! The results of the macros, as contracts of functions that only call a macro, and as tests.
 ghost use Rattle.std.specs.Prelude.{◌≡◌, ◌++◌, IfSome, codes, encode_utf8, if◌then◌else◌};
 ghost use Rattle.std.specs.Fmt.{decimal};
 ghost use Rattle.arcstr.specs.Printing.{AnswersPrinted};
@@ -22,7 +22,7 @@ fn literal_slice(text: &'static str) -> Substr
     literal_substr!(text)
 }
 
-/// Of any value that states what it prints.
+/// Formats any value whose output a contract states.
 fn printed_value<T: fmt::Display>(alloc: Global, value: &T) -> Result<ArcStr, TextFault>
     ensures { IfSome (T.output value.now) (λ text. AnswersPrinted text result) }
 {

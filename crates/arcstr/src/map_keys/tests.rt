@@ -1,17 +1,17 @@
-//! Maps and sets of std whose keys are texts or slices, looked up by a `&str`, and the counts of their keys.
+//! Maps and sets of std with texts or slices as keys, looked up by a `&str`, and the counts of their keys.
 use crate::test_steps::{check_count, made, part};
 use crate::{ArcStr, Substr, literal};
 use std::alloc::AllocGlobal;
 use std::collections::{BTreeMap, BTreeSet, HashMap, HashSet};
 use std::process::Abort;
 
-/// Inserts the key, where memory is there.
+/// Inserts the key. Aborts if out of memory.
 fn insert(rt: &impl Abort, map: &mut HashMap<ArcStr, u8>, key: ArcStr, value: u8) {
     let inserted: Result<_, _> = map.insert(key, value);
     inserted.expect(rt, "no memory");
 }
 
-/// A map of this text and of two literals.
+/// Returns a map with this text and two literals as keys.
 fn map_of(rt: &(impl Abort + AllocGlobal), text: ArcStr) -> HashMap<ArcStr, u8> {
     let mut map = HashMap::new(rt.alloc());
     insert(rt, &mut map, text, 1);
@@ -51,7 +51,7 @@ fn a_hash_set_of_slices_is_read_by_a_str(rt: HostRuntime) {
     check_count(&rt, &text, Some(1));
 }
 
-/// Inserts the key, where memory is there.
+/// Inserts the key. Aborts if out of memory.
 fn insert_sorted(rt: &impl Abort, map: &mut BTreeMap<Substr, u8>, key: Substr, value: u8) {
     let inserted: Result<_, _> = map.insert(key, value);
     inserted.expect(rt, "no memory");

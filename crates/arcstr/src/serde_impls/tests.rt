@@ -1,4 +1,4 @@
-//! Structs of texts and slices that derive the traits of `serde`, written and read as JSON.
+//! Structs of texts and slices that derive the traits of `serde`, written to JSON and read from it.
 use crate::test_steps::{check_count, check_slice, check_text, made, part};
 use crate::{ArcStr, Substr, literal};
 use serde::{Deserialize, Serialize};

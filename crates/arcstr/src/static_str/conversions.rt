@@ -1,11 +1,11 @@
-//! `StaticStr` where a text or bytes are asked for.
+//! Conversions of `StaticStr` to `&str` and `&[u8]` by std's traits.
 use crate::static_str::StaticStr;
 use std::convert::{AsSlice, AsStr};
 
 impl AsStr for StaticStr {
     ghost text = { λ kept. kept.text };
 
-    /// The text. No step is taken.
+    /// Returns the text.
     fn as_str(&self) -> &str {
         StaticStr::as_str(self)
     }
@@ -14,7 +14,7 @@ impl AsStr for StaticStr {
 impl AsSlice<u8> for StaticStr {
     ghost items = { λ kept. kept.text };
 
-    /// The bytes of the text. No step is taken.
+    /// Returns the bytes of the text.
     fn as_slice(&self) -> &[u8] {
         StaticStr::as_str(self).as_bytes()
     }

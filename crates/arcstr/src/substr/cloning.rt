@@ -13,9 +13,10 @@ impl Clone for Substr {
 
     ghost is_infallible = { λ slice. IsStatic slice.parent.kind };
 
-    /// Another slice at the same places of the same parent, which is cloned as `Clone` of `ArcStr` clones it: it never waits.
-    /// `AllocError` means here that 1,000 compare-exchanges found the word changed by other threads; then nothing is changed.
-    /// Takes no memory. A slice of a literal or a fixed block takes no step, and is never refused.
+    /// Makes another slice with the same byte range of the same parent, but never waits. Clones the parent as `Clone` of `ArcStr` does.
+    ///
+    /// Here `AllocError` means that other threads changed the count word during each of 1,000 compare-exchanges; nothing has changed then. For a slice of a
+    /// literal or a permanent block, the clone takes no atomic step and never fails.
     fn clone(&self) -> Result<Substr, AllocError>
         ensures cases { MatchResult result (λ copy. copy ≡ self.now) (λ _. ¬ (IsStatic self.now.parent.kind)) }
     {

@@ -1,4 +1,4 @@
-//! `Substr` where a text or bytes are asked for.
+//! Conversions of `Substr` to `&str` and `&[u8]` by std's traits.
 ghost use Rattle.arcstr.specs.Substr.{text_of};
 
 use crate::substr::Substr;
@@ -7,7 +7,7 @@ use std::convert::{AsSlice, AsStr};
 impl AsStr for Substr {
     ghost text = { text_of };
 
-    /// The slice's own text. Takes no memory, and no step is taken.
+    /// Returns the slice's own text.
     fn as_str(&self) -> &str {
         Substr::as_str(self)
     }
@@ -16,7 +16,7 @@ impl AsStr for Substr {
 impl AsSlice<u8> for Substr {
     ghost items = { text_of };
 
-    /// The bytes of the slice's own text. Takes no memory, and no step is taken.
+    /// Returns the bytes of the slice's own text.
     fn as_slice(&self) -> &[u8] {
         self.as_bytes()
     }

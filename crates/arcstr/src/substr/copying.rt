@@ -1,4 +1,4 @@
-//! A slice as a text of its own.
+//! Copies a slice into a text of its own.
 ghost use Rattle.arcstr.specs.Making.{AnswersCopy};
 ghost use Rattle.arcstr.specs.Substr.{text_of};
 
@@ -11,8 +11,8 @@ use std::alloc::Global;
 mod tests;
 
 impl Substr {
-    /// A copy of the slice's own text in a block of its own: one allocation, and none where it is empty. The copy does
-    /// not keep the parent, so a short slice lets a long text go. Refused as `ArcStr::from_str` is. Takes no atomic step.
+    /// Copies the slice's own text into a new `ArcStr`. Makes one allocation, or none if the text is empty. Fails as `ArcStr::from_str` does. The copy does
+    /// not keep the parent alive: after a copy of a short slice, the long parent can be freed.
     ///
     /// ```
     /// let slice = literal!("foobar").substr(&rt, 3..)?;

@@ -1,4 +1,4 @@
-//! `Substr` as a text that is borrowed or owned.
+//! `Substr` as a copy-on-write text, borrowed or owned.
 ghost use Rattle.std.specs.Prelude.{◌≡◌, ◌↔◌, IsOk, IsSome, IfErr, IfOk, IfSome};
 ghost use Rattle.std.specs.Cow.{IsBorrowedStr, cow_str_bytes};
 ghost use Rattle.arcstr.specs.Substr.{text_of};
@@ -13,7 +13,7 @@ use std::borrow::CowStr;
 mod tests;
 
 impl Substr {
-    /// The slice's own text, borrowed. Takes no memory, and no step is taken.
+    /// Returns the slice's own text, borrowed from this slice.
     ///
     /// ```
     /// let slice = literal!("foobar").substr(&rt, 3..)?;
@@ -26,10 +26,10 @@ impl Substr {
         CowStr::Borrowed(self.as_str())
     }
 
-    /// The slice's own text without its parent: of a literal's slice it is borrowed, of any other it is
-    /// copied, with one request for memory where it is not empty, and the slice is dropped. For want of memory the
-    /// slice itself comes back. Of a parent in a counted block one load of its word is taken, and the steps of the
-    /// drop.
+    /// Converts the slice into a text that does not depend on it. Borrows the text of a literal's slice, and copies any other text with one allocation, or
+    /// none if it is empty. Drops the slice. For a parent in a counted block, it takes one load of the count word and the atomic steps of the drop.
+    ///
+    /// Returns the `Substr` itself if the allocation fails, and only then.
     ///
     /// ```
     /// let slice = literal!("foobar").substr(&rt, 3..)?;
@@ -51,8 +51,8 @@ impl Substr {
         }
     }
 
-    /// The slice's own text as the program has it, exactly where its parent is a literal. Of a parent in a
-    /// counted block one load of its word is taken.
+    /// Returns the slice's own text as the program holds it, or `None` if the parent is not a literal. For a parent in a counted block, it takes one load of
+    /// the count word.
     fn look_for_literal(&self) -> Option<&'static str>
         ensures exactly { IsSome result ↔ (self.now.parent.kind ≡ literal) }
         ensures same { IfSome result (λ text. text.now ≡ text_of self.now) }

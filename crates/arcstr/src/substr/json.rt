@@ -10,8 +10,7 @@ use serde_json::Value;
 use std::alloc::{AllocError, Global};
 
 impl Substr {
-    /// A copy of the slice's own text, as a JSON string, with one request for memory where it is not empty. Refused
-    /// for want of memory alone (`AllocError`). No step is taken.
+    /// Copies the slice's own text into a JSON string. Makes one allocation, or none if the text is empty. Fails only if the allocation fails (`AllocError`).
     ///
     /// ```
     /// let slice = literal!("foobar").substr(&rt, 3..)?;
@@ -24,9 +23,10 @@ impl Substr {
         Value::try_from_str(alloc, self.as_str())
     }
 
-    /// A copy of the text of a JSON string in a block, as a slice of the whole of it, with one request for memory; of
-    /// the empty literal where the text is empty, which takes none. Refused, in this order: a value that is not a
-    /// string (`NotText`), a text of `2^63 - 25` bytes or more (`Length`), and want of memory (`Memory`).
+    /// Copies the text of a JSON string, and returns the slice of all of it. Makes one allocation, or none if the text is empty: the slice is then one of the
+    /// empty literal.
+    ///
+    /// Errors, in this order: `NotText` if the value is not a string; `Length` if the text has `2^63 - 25` bytes or more; `Memory` if the allocation fails.
     ///
     /// ```
     /// let value = Value::try_from_str(rt.alloc(), "bar")?;

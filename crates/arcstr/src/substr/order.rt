@@ -1,4 +1,4 @@
-//! Equality, order and hash of `Substr`: those of its own text, of whatever parent.
+//! Equality, order and hash of `Substr`. They depend only on the slice's own text, not on its parent.
 ghost use Rattle.std.specs.Prelude.{◌≡◌, ◌↔◌, Some, IsTrue, bytes_eq, refl};
 ghost use Rattle.std.proofs.Common.{rules};
 ghost use Rattle.std.specs.Cmp.{on_equiv, on_per, on_po, on_total, partial_equiv_from_equiv};
@@ -18,7 +18,7 @@ use std::hash::{Hash, Hasher};
 mod tests;
 
 impl Substr {
-    /// Whether the slice's own text is this one, byte by byte. Takes no memory, and no step is taken.
+    /// Tests whether the slice's own text equals a `&str`, byte by byte.
     ///
     /// ```
     /// let slice = literal!("foobar").substr(&rt, 3..)?;
@@ -37,8 +37,7 @@ impl PartialEq for Substr {
 
     ghost laws = { on_per text_of (partial_equiv_from_equiv nat_list_eq_equiv) };
 
-    /// Whether the two slices have the same text, byte by byte, whatever their parents and places. Takes no memory, and
-    /// no step is taken.
+    /// Tests whether the own texts of the two slices are equal, byte by byte, whatever their parents and ranges.
     fn eq(&self, other: &Substr) -> bool
         ensures value { result ≡ bytes_eq (text_of self.now) (text_of other.now) }
         ensures same { IsTrue result ↔ (text_of self.now ≡ text_of other.now) }
@@ -56,7 +55,7 @@ impl PartialOrd for Substr {
 
     ghost laws = { on_po text_of texts_po };
 
-    /// What `cmp` answers; never `None`. Takes no memory, and no step is taken.
+    /// Compares the two slices as `cmp` does. Always returns `Some`.
     fn partial_cmp(&self, other: &Substr) -> Option<Ordering> {
         Some(self.cmp(other))
     }
@@ -71,8 +70,7 @@ impl Ord for Substr {
 
     ghost matches_eq = { λ one other. texts_ties (text_of one) (text_of other) };
 
-    /// How the slices' own texts compare, byte by byte, a proper front first, as Rust's `str` compares. Takes no
-    /// memory, and no step is taken.
+    /// Compares the own texts of the two slices byte by byte, as `str` does: a proper prefix of a text comes before it.
     fn cmp(&self, other: &Substr) -> Ordering
         ensures value { result ≡ slice_cmp nat_cmp (text_of self.now) (text_of other.now) }
         ensures order { IsTextOrder (text_of self.now) (text_of other.now) result }
@@ -86,8 +84,7 @@ impl Hash for Substr {
 
     ghost respects_eq = { Prim.search (hashing, rules) };
 
-    /// Feeds the hasher the slice's own text, as a `str` feeds it, and so equal slices alike. Takes no memory, and no
-    /// step is taken.
+    /// Feeds the slice's own text to the hasher as a `str` does, so equal slices have equal hashes.
     fn hash<H: Hasher>(&self, state: &mut H) {
         self.as_str().hash(state);
     }

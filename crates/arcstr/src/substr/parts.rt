@@ -12,8 +12,7 @@ use arcstr_range::view::StrView;
 use std::sync::Wait;
 
 impl Substr {
-    /// The view of the slice's own text, at place 0. `substr_from` of this slice takes it, and its parts, with no test
-    /// before. Allocates nothing and takes no atomic step.
+    /// Returns a view of the slice's own text, at byte offset 0. `substr_from` of this slice accepts this view and its parts without a test.
     ///
     /// ```
     /// let line = literal!("1: key = value").substr(&rt, 3..)?;
@@ -29,9 +28,8 @@ impl Substr {
         StrView::whole(self.as_str())
     }
 
-    /// The slice of the same parent without the white space at the start and the end of the slice's own text, as
-    /// Rust's `str::trim`. It keeps the parent also where it is empty. Allocates nothing; the parent's handle is
-    /// cloned, and so the call may wait.
+    /// Returns the slice of the same parent with leading and trailing white space removed, as `str::trim` does. An empty slice keeps the parent alive too.
+    /// Clones the parent's handle, and so can wait.
     ///
     /// ```
     /// let value = literal!("key: value ").substr(&rt, 4..)?;
@@ -46,9 +44,8 @@ impl Substr {
         self.clone_between(rt, without_white_space(self.as_str()))
     }
 
-    /// The slice of the same parent without the white space at the start of the slice's own text, as Rust's
-    /// `str::trim_start`. It keeps the parent also where it is empty. Allocates nothing; the parent's handle is
-    /// cloned, and so the call may wait.
+    /// Returns the slice of the same parent with leading white space removed, as `str::trim_start` does. An empty slice keeps the parent alive too. Clones
+    /// the parent's handle, and so can wait.
     ///
     /// ```
     /// let value = literal!("key: value ").substr(&rt, 4..)?;
@@ -63,9 +60,8 @@ impl Substr {
         self.clone_between(rt, without_leading(self.as_str()))
     }
 
-    /// The slice of the same parent without the white space at the end of the slice's own text, as Rust's
-    /// `str::trim_end`. It keeps the parent also where it is empty. Allocates nothing; the parent's handle is cloned,
-    /// and so the call may wait.
+    /// Returns the slice of the same parent with trailing white space removed, as `str::trim_end` does. An empty slice keeps the parent alive too. Clones the
+    /// parent's handle, and so can wait.
     ///
     /// ```
     /// let value = literal!("key: value ").substr(&rt, 4..)?;

@@ -1,4 +1,4 @@
-//! What `Substr` prints as: its own text, as Rust prints a `str`.
+//! The output of a `Substr`: its own text, formatted as a `str` is.
 ghost use Rattle.std.specs.Prelude.{◌≡◌, Some, IfOk, string_bytes};
 ghost use Rattle.std.specs.Fmt.{debug_str, styled_text};
 ghost use Rattle.arcstr.specs.Substr.{text_of};
@@ -11,8 +11,7 @@ use std::fmt;
 mod tests;
 
 impl Substr {
-    /// A copy of the slice's own text, with one request for memory where it is not empty. Refused for want of memory
-    /// alone (`AllocError`). No step is taken.
+    /// Copies the slice's own text into a `String`. Makes one allocation, or none if the text is empty. Fails only if the allocation fails (`AllocError`).
     ///
     /// ```
     /// let slice = literal!("foobar").substr(&rt, 3..)?;
@@ -31,8 +30,7 @@ impl fmt::Display for Substr {
 
     ghost styled_output = { λ slice spec. Some (styled_text spec (text_of slice)) };
 
-    /// Writes the slice's own text, with width, fill, alignment and precision as Rust prints a `str`. Fails exactly
-    /// where the writer does. Takes no memory of its own, and no step is taken.
+    /// Writes the slice's own text with width, fill, alignment and precision, as for a `str`. Fails exactly if the writer fails. Allocates nothing itself.
     fn fmt<W: fmt::Write>(&self, f: &mut fmt::Formatter<W>) -> fmt::Result {
         f.pad(self.as_str())
     }
@@ -41,8 +39,7 @@ impl fmt::Display for Substr {
 impl fmt::Debug for Substr {
     ghost debug_output = { λ slice. debug_str (text_of slice) };
 
-    /// Writes the slice's own text between quotes, escaped as Rust prints a `str`. Fails exactly where the writer does.
-    /// Takes no memory of its own, and no step is taken.
+    /// Writes the slice's own text in quotes and escaped, as for a `str`. Fails exactly if the writer fails. Allocates nothing itself.
     fn fmt<W: fmt::Write>(&self, f: &mut fmt::Formatter<W>) -> fmt::Result {
         let text = self.as_str();
         fmt::Debug::fmt(&text, f)

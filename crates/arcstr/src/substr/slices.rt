@@ -1,4 +1,4 @@
-//! The slices of a `Substr`, at places of its own text. Each keeps the parent of the slice that it is of.
+//! Slices of a `Substr`, in byte offsets of its own text. Each keeps the parent of the slice that it is taken from.
 ghost use Rattle.std.specs.Prelude.{◌↔◌, ℕ, IsSome, IfSome};
 ghost use Rattle.std.specs.Fn.{FnOnceReturnsAt, FnOnceTakesAt};
 ghost use Rattle.std.specs.Option.{option_copied};
@@ -15,8 +15,8 @@ use std::ops::Range;
 use std::sync::Wait;
 
 impl Substr {
-    /// The part of the slice's own text in the range, in bytes, as Rust's `str::get`: `None` exactly where the
-    /// ends are out of order, past that text or inside a character. Takes no memory, and no step is taken.
+    /// Returns the part of the slice's own text in the byte range, as `str::get` does. Returns `None` exactly if the ends are out of order, past that text or
+    /// inside a character.
     ///
     /// ```
     /// let slice = literal!("foobar").substr(&rt, 3..)?;
@@ -30,11 +30,11 @@ impl Substr {
         slice(self.as_str(), range.into())
     }
 
-    /// The slice of the same parent in the range, which is measured in bytes of the slice's own text, also where it
-    /// is empty. Takes no memory; the parent's handle is cloned where the range is not refused, and so it may wait.
+    /// Returns the slice of the same parent in the range, which is measured in bytes of the slice's own text. An empty slice keeps the parent alive too.
+    /// Clones the parent's handle if the range is valid, and so can wait.
     ///
-    /// Refuses the first that fails: the start is at most the end (`OutOfOrder`), the end at most the
-    /// length of the slice's own text (`PastEnd`), and both are boundaries of it (`OffBoundary`).
+    /// Errors, in this order: `OutOfOrder` if the start is after the end; `PastEnd` if the end is past the slice's own text; `OffBoundary` if the start or
+    /// the end is not a character boundary of that text.
     ///
     /// ```
     /// let slice = literal!("foobarbaz").substr(&rt, 3..6)?;
@@ -57,10 +57,9 @@ impl Substr {
         Ok(Substr::from_parts_unchecked(self.parent().clone(rt), start..end))
     }
 
-    /// The slice of the same parent that a view of the slice's own text shows. `None` exactly where that
-    /// text doesn't have the view's text at the view's place, in bytes. An empty view is found everywhere, and
-    /// gives `Substr::new()`. Takes no memory; the parent's handle is cloned where a view that is not empty is
-    /// found, and so it may wait.
+    /// Returns the slice of the same parent that a view of the slice's own text shows. Returns `None` exactly if that text does not have the view's text at
+    /// the view's place, in bytes. An empty view is found everywhere, and gives `Substr::new()`. Clones the parent's handle if it finds a view that is not
+    /// empty, and so can wait.
     ///
     /// ```
     /// let line = literal!("key: value").substr(&rt, 4..)?;
@@ -79,10 +78,9 @@ impl Substr {
         Some(self.substr_from(rt, view))
     }
 
-    /// The slice of the same parent that a view of the slice's own text shows; of an empty view `Substr::new()`.
-    /// That the slice's own text has the view's text at the view's place, in bytes, is the caller's condition: the
-    /// slice's own `view` and its parts meet it, and `StrView::is_found_in` tests it of others. Takes no
-    /// memory; the parent's handle is cloned where the view is not empty, and so it may wait.
+    /// Returns the slice of the same parent that a view of the slice's own text shows, or `Substr::new()` for an empty view. The caller must ensure that the
+    /// slice's own text has the view's text at the view's place, in bytes. The slice's own `view` and its parts satisfy this, and `StrView::is_found_in`
+    /// tests it for other views. Clones the parent's handle if the view is not empty, and so can wait.
     ///
     /// ```
     /// let line = literal!("key: value").substr(&rt, 4..)?;
@@ -105,13 +103,12 @@ impl Substr {
         )
     }
 
-    /// The slice of the same parent between the places, in bytes, that the closure finds in the slice's own text. The
-    /// closure is called once, first; that it takes that text is the caller's condition. Equal places give
-    /// `Substr::new()` wherever they lie. Takes no memory; for other places that are not refused the parent's handle
-    /// is cloned, and so it may wait.
+    /// Returns the slice of the same parent between the byte offsets that the closure returns for the slice's own text. Calls the closure once, first; the
+    /// caller must ensure that it can be called on that text. Equal offsets give `Substr::new()`, wherever they lie. Clones the parent's handle for other
+    /// valid offsets, and so can wait.
     ///
-    /// Of other places it refuses the first that fails: the start is at most the end (`OutOfOrder`), the end at
-    /// most the length of the slice's own text (`PastEnd`), and both are boundaries of it (`OffBoundary`).
+    /// Errors for other offsets, in this order: `OutOfOrder` if the start is after the end; `PastEnd` if the end is past the slice's own text; `OffBoundary`
+    /// if the start or the end is not a character boundary of that text.
     ///
     /// ```
     /// let slice = literal!("foobarbaz").substr(&rt, 3..6)?;
@@ -136,13 +133,12 @@ impl Substr {
         self.substr(rt, found)
     }
 
-    /// The slice of the same parent between the places, in bytes, that the closure finds in the slice's own text, as
-    /// `substr_using` answers it. The closure is called once, first; that it takes that text is the caller's
-    /// condition. Equal places give `Substr::new()` wherever they lie. Takes no memory; for other places that are
-    /// not refused the parent's handle is cloned, and so it may wait.
+    /// Returns the slice of the same parent between the byte offsets that the closure returns for the slice's own text, as `substr_using` does. Calls the
+    /// closure once, first; the caller must ensure that it can be called on that text. Equal offsets give `Substr::new()`, wherever they lie. Clones the
+    /// parent's handle for other valid offsets, and so can wait.
     ///
-    /// Of other places it refuses the first that fails: the start is at most the end (`OutOfOrder`), the end at
-    /// most the length of the slice's own text (`PastEnd`), and both are boundaries of it (`OffBoundary`).
+    /// Errors for other offsets, in this order: `OutOfOrder` if the start is after the end; `PastEnd` if the end is past the slice's own text; `OffBoundary`
+    /// if the start or the end is not a character boundary of that text.
     ///
     /// ```
     /// let slice = literal!("foobarbaz").substr(&rt, 3..6)?;

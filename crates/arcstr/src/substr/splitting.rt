@@ -1,6 +1,5 @@
-//! A `Substr` taken apart, by its own text: at a place, around a match of a pattern, or without its prefix or suffix.
-//! A pattern is a `char`, a `&str` or another of std's, of which the caller has to know that it can search (as of a closure that it
-//! may be called).
+//! Splits of a `Substr` by its own text, at a byte offset or around a match of a pattern, and slices without a prefix or suffix. A pattern is a `char`, a
+//! `&str` or another of std's patterns. The caller must ensure that the pattern can search, as it must ensure that a closure can be called.
 ghost use Rattle.std.specs.Prelude.{◌≡◌, ◌-◌, ◌≤◌, length, take, drop, IfSome, MatchOption, None};
 ghost use Rattle.std.specs.Str.{IsCharBoundary};
 ghost use Rattle.std.specs.Str.Pattern.{SplitsAroundMatch, StripsPrefix, StripsSuffix};
@@ -17,12 +16,11 @@ use std::str::pattern::Pattern;
 use std::sync::Wait;
 
 impl Substr {
-    /// The slices of the same parent before and after a place of the slice's own text, in bytes, as Rust's
-    /// `str::split_at_checked`. Each keeps the parent also where it is empty. Allocates nothing; the parent's handle is
-    /// cloned once for each slice, and so the call may wait.
+    /// Splits the slice at a byte offset of its own text into two slices of the same parent, as `str::split_at_checked` does. Each keeps the parent alive,
+    /// even if it is empty. Clones the parent's handle once for each slice, and so can wait.
     ///
-    /// Refuses as `substr` refuses the range up to the place: first a place past the slice's own text (`PastEnd`), then
-    /// one inside a character (`OffBoundary`).
+    /// Fails as `substr` does for the range up to the offset: first `PastEnd` if the offset is past the slice's own text, then `OffBoundary` if it is inside
+    /// a character.
     ///
     /// ```
     /// let pair = literal!("key: ab").substr(&rt, 5..)?;
@@ -45,10 +43,9 @@ impl Substr {
         Ok((before, after))
     }
 
-    /// The slices of the same parent before and after the first match of the separator in the slice's own text, as
-    /// Rust's `str::split_once`. The separator, a `char` or a `&str`, stands in neither. `None` exactly where there is no
-    /// match, and then no step is taken. Allocates nothing; the parent's handle is cloned once for each slice, which keeps
-    /// the parent also where it is empty, and so the call may wait.
+    /// Splits the slice around the first match of the separator in its own text, as `str::split_once` does. Both slices have the same parent. The separator
+    /// is a `char` or a `&str`, and is part of neither. Returns `None` exactly if there is no match, and then takes no atomic step. Clones the parent's
+    /// handle once for each slice, and so can wait. Each slice keeps the parent alive, even if it is empty.
     ///
     /// ```
     /// let pair = literal!("a=b;c=d").substr(&rt, 4..)?;
@@ -76,10 +73,9 @@ impl Substr {
         Some((self.clone_prefix(rt, before), self.clone_suffix(rt, after)))
     }
 
-    /// The slices of the same parent before and after the last match of the separator in the slice's own text, as
-    /// Rust's `str::rsplit_once`. The separator, a `char` or a `&str`, stands in neither. `None` exactly where there is no
-    /// match, and then no step is taken. Allocates nothing; the parent's handle is cloned once for each slice, which keeps
-    /// the parent also where it is empty, and so the call may wait.
+    /// Splits the slice around the last match of the separator in its own text, as `str::rsplit_once` does. Both slices have the same parent. The separator
+    /// is a `char` or a `&str`, and is part of neither. Returns `None` exactly if there is no match, and then takes no atomic step. Clones the parent's
+    /// handle once for each slice, and so can wait. Each slice keeps the parent alive, even if it is empty.
     ///
     /// ```
     /// let pair = literal!("x; a=b=c").substr(&rt, 3..)?;
@@ -104,10 +100,9 @@ impl Substr {
         Some((self.clone_prefix(rt, before), self.clone_suffix(rt, after)))
     }
 
-    /// The slice of the same parent after a prefix of the slice's own text, a `char` or a `&str`, as Rust's
-    /// `str::strip_prefix`. It keeps the parent also where it is empty. `None` exactly where the slice's own text doesn't
-    /// begin with the prefix, and then no step is taken. Allocates nothing; the parent's handle is cloned, and so the call
-    /// may wait.
+    /// Returns the slice of the same parent with the prefix of the slice's own text removed, as `str::strip_prefix` does. The prefix is a `char` or a `&str`.
+    /// Returns `None` exactly if the slice's own text does not start with it, and then takes no atomic step. The result keeps the parent alive, even if it is
+    /// empty. Clones the parent's handle, and so can wait.
     ///
     /// ```
     /// let word = literal!("run --all").substr(&rt, 4..)?;
@@ -127,10 +122,9 @@ impl Substr {
         Some(self.clone_suffix(rt, rest))
     }
 
-    /// The slice of the same parent before a suffix of the slice's own text, a `char` or a `&str`, as Rust's
-    /// `str::strip_suffix`. It keeps the parent also where it is empty. `None` exactly where the slice's own text doesn't
-    /// end with the suffix, and then no step is taken. Allocates nothing; the parent's handle is cloned, and so the call
-    /// may wait.
+    /// Returns the slice of the same parent with the suffix of the slice's own text removed, as `str::strip_suffix` does. The suffix is a `char` or a `&str`.
+    /// Returns `None` exactly if the slice's own text does not end with it, and then takes no atomic step. The result keeps the parent alive, even if it is
+    /// empty. Clones the parent's handle, and so can wait.
     ///
     /// ```
     /// let line = literal!("ab\ncd\n").substr(&rt, 3..)?;
@@ -150,7 +144,7 @@ impl Substr {
         Some(self.clone_prefix(rt, rest))
     }
 
-    /// The slice of the same parent that is a prefix of the slice's own text. The parent's handle is cloned.
+    /// Returns the slice of the same parent that holds the prefix of the slice's own text. Clones the parent's handle.
     fn clone_prefix(&self, rt: &impl Wait, prefix: &str) -> Substr
         requires within { length prefix.now ≤ length (text_of self.now) }
         requires prefix { prefix.now ≡ take (length prefix.now) (text_of self.now) }
@@ -161,7 +155,7 @@ impl Substr {
         self.clone_between(rt, prefix_places(self.as_str(), prefix))
     }
 
-    /// The slice of the same parent that is a suffix of the slice's own text. The parent's handle is cloned.
+    /// Returns the slice of the same parent that holds the suffix of the slice's own text. Clones the parent's handle.
     fn clone_suffix(&self, rt: &impl Wait, suffix: &str) -> Substr
         requires within { length suffix.now ≤ length (text_of self.now) }
         requires suffix { suffix.now ≡ drop (length (text_of self.now) - length suffix.now) (text_of self.now) }
@@ -172,7 +166,7 @@ impl Substr {
         self.clone_between(rt, suffix_places(self.as_str(), suffix))
     }
 
-    /// The slice of the same parent between two places of the slice's own text. The parent's handle is cloned.
+    /// Returns the slice of the same parent between two byte offsets of the slice's own text. Clones the parent's handle.
     #[tactic(auto, using(arcstr_range::proofs::Boundaries::cuts_of_cuts))]
     pub(crate) fn clone_between(&self, rt: &impl Wait, range: Range<usize>) -> Substr
         requires { IsLawful (text_of self.now) range.start range.end }

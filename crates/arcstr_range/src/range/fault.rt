@@ -6,10 +6,10 @@ use std::fmt;
 
 mod to_io;
 
-/// Why a range is refused. The tests come in the order of the variants, and the first that fails is
-/// answered. It is shown as a short text, and has no memory of its own. By `?` it becomes an `io::Error` and an `anyhow::Error`.
+/// Why a range is refused. The variants are in the order of the tests, and the first test that fails is reported. Its message is a short text, and it owns no
+/// memory. By `?` it becomes an `io::Error` or an `anyhow::Error`.
 ///
-/// Plain data of 1 byte: it may be copied, sent and shared, and its drop does nothing.
+/// Its size is 1 byte. It can be copied, sent to a thread and shared between threads, and its drop does nothing.
 ///
 /// ```
 /// let ends = range::checked_ends("aé", StrRange::To(2));
@@ -30,8 +30,7 @@ pub enum RangeFault {
 impl RangeFault {
     ghost use Rattle.arcstr_range.specs.RangeFault.{range_fault_number, range_fault_text};
 
-    /// The number of the fault, from 1 on in the order of the tests. No fault has the number 3. It takes no
-    /// memory.
+    /// Returns the number of the fault, in the order of the tests from 1 on. No fault has the number 3.
     ///
     /// ```
     /// assert_eq!(rt; RangeFault::OutOfOrder.number(), 1);
@@ -47,7 +46,7 @@ impl RangeFault {
         }
     }
 
-    /// What is wrong, in a few words.
+    /// Returns what is wrong, in a few words.
     fn text(&self) -> &'static str
         ensures { result.now ≡ range_fault_text self.now }
     {

@@ -1,4 +1,4 @@
-//! Ranges and places on a text.
+//! Ranges and byte offsets in a text.
 ghost use Rattle.std.specs.Prelude.{◌≡◌, ◌+◌, ◌↔◌, OnOk, length, IsTrue, IsOk, IsErrOf, IfOk, IfErr, IsSome, IfSome};
 ghost use Rattle.std.specs.Str.{IsCharBoundary};
 ghost use Rattle.arcstr_range.specs.Text.{IsFrontLength, SpellsBetween};
@@ -9,8 +9,7 @@ ghost use Rattle.arcstr_range.specs.Substring.{substring_at, text_of, inner_by, 
 use crate::range::{RangeFault, StrRange};
 use std::ops::Range;
 
-/// Whether the text may be cut at the place, in bytes: exactly if the place is the byte length of a front
-/// of the text's characters. It takes no memory.
+/// Tests whether the text can be cut at this byte offset: exactly if the offset is the length in bytes of a prefix of the text's characters.
 ///
 /// ```
 /// assert!(rt; range::is_boundary("aé", 1));
@@ -24,10 +23,10 @@ pub fn is_boundary(text: &str, place: usize) -> bool
     text.is_char_boundary(place)
 }
 
-/// The start and the end of the range in the text, in bytes. It takes no memory.
+/// Returns the start and the end of the range in the text, as byte offsets.
 ///
-/// Refuses the first that fails: the start is at most the end (`OutOfOrder`), the end at most the
-/// text's length (`PastEnd`), and both are boundaries (`OffBoundary`).
+/// Errors, in this order: `OutOfOrder` if the start is after the end; `PastEnd` if the end is past the text; `OffBoundary` if the start or the end is not a
+/// character boundary.
 ///
 /// ```
 /// assert_eq!(rt; range::checked_ends("aé", StrRange::From(1)), Ok((1, 3)));
@@ -47,12 +46,11 @@ pub fn checked_ends(text: &str, range: StrRange) -> Result<(usize, usize), Range
     Ok((start, end))
 }
 
-/// The start and the end, in the parent and in bytes, of a range in a substring of it, the parent's
-/// `outer`. The caller's `outer` has to be lawful in the parent. It takes no memory.
+/// Returns the start and the end, as byte offsets in the parent, of a range in a substring of the parent. `outer` is the range of the substring in the
+/// parent. The caller must ensure that it is valid.
 ///
-/// The range is measured in the substring's own text, and refused as `checked_ends` of that text
-/// refuses it: `OutOfOrder`, then `PastEnd`, then `OffBoundary`. The ends that are found are lawful in the
-/// parent, and cut the same text from it.
+/// The range is measured in the substring's own text. Fails as `checked_ends` of that text does: `OutOfOrder`, then `PastEnd`, then `OffBoundary`. The ends
+/// that it returns are valid in the parent, and cut the same text from it.
 ///
 /// ```
 /// let ends = range::inner_ends("foobarbaz", 3..6, StrRange::From(1));
@@ -86,8 +84,8 @@ pub fn inner_ends(
     Ok((outer.start + start, outer.start + end))
 }
 
-/// The slice of the text between the ends of the range, as Rust's `str::get`: `None` exactly where
-/// the ends are out of order, past the text or inside a character. The slice is borrowed from the text.
+/// Returns the slice of the text between the ends of the range, as `str::get` does. Returns `None` exactly if the ends are out of order, past the text or
+/// inside a character. The slice is borrowed from the text.
 ///
 /// ```
 /// assert_eq!(rt; range::slice("aé", StrRange::From(1)), Some("é"));

@@ -2,12 +2,12 @@ use super::*;
 use std::io;
 use std::test::Fail;
 
-/// The least place that 32 bits do not hold.
+/// The smallest offset that does not fit in 32 bits.
 const WIDE: usize = 4294967296;
 
 const MAX: usize = usize::MAX;
 
-// Through the bound, as the text types take a range.
+// Takes the range by `Into<StrRange>`, as the text types do.
 fn found<R: Into<StrRange> + Drop>(text: &str, range: R) -> Result<(usize, usize), RangeFault> {
     checked_ends(text, range.into())
 }

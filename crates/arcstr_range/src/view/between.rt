@@ -1,4 +1,4 @@
-//! The whole of a view, and its part between two places that are known to be lawful.
+//! A copy of a view, and its part between two byte offsets that are known to be valid.
 ghost use Rattle.std.specs.Prelude.{◌≡◌};
 ghost use Rattle.arcstr_range.specs.Ends.{IsSliceable};
 ghost use Rattle.arcstr_range.specs.View.{part_of};
@@ -6,7 +6,7 @@ ghost use Rattle.arcstr_range.specs.View.{part_of};
 use crate::view::StrView;
 
 impl<'a> StrView<'a> {
-    /// The view once more.
+    /// Returns a copy of the view.
     pub(super) fn copied(&self) -> StrView<'a>
         ensures { result ≡ self.now }
     {
@@ -16,7 +16,7 @@ impl<'a> StrView<'a> {
         }
     }
 
-    /// The part between two places of the view's own text, in bytes, without a test.
+    /// Returns the part between two byte offsets of the view's own text, without a test.
     pub(super) fn between(&self, start: usize, end: usize) -> StrView<'a>
         requires { IsSliceable self.now.text start end }
         ensures { result ≡ part_of self.now start end }

@@ -1,4 +1,4 @@
-//! Where a pattern first matches in a view.
+//! Finds the first match of a pattern in a view.
 ghost use Rattle.std.specs.Prelude.{IfSome, MatchOption, None};
 ghost use Rattle.std.specs.Str.{IsCharBoundary};
 ghost use Rattle.std.specs.Str.Pattern.{MatchBeginsAt};
@@ -7,9 +7,8 @@ use crate::view::StrView;
 use std::str::pattern::Pattern;
 
 impl<'a> StrView<'a> {
-    /// The byte offset, within the view's text, of the first match of the pattern, as Rust's `str::find`: `cut` takes it as a
-    /// start or an end. A pattern is a `char`, a `&str` or another of std's patterns. `None` exactly where the text has no
-    /// match. It takes no memory, and time in proportion to the text.
+    /// Returns the byte offset, within the view's text, of the first match of the pattern, as `str::find` does. `cut` accepts this offset as a start or an
+    /// end. A pattern is a `char`, a `&str` or another of std's patterns. Returns `None` exactly if there is no match. Takes time in proportion to the text.
     ///
     /// ```
     /// let line = StrView::at("key = é", 10).ok_or("no view")?;

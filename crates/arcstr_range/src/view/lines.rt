@@ -10,8 +10,8 @@ ghost use Rattle.arcstr_range.specs.View.{part_of, view_at};
 use crate::view::StrView;
 use std::marker::Model;
 
-/// The lines of a view, from `StrView::lines`: an iterator. Its contracts see it as the list of the lines that are still to
-/// come, and each `next` takes the first off the list.
+/// An iterator over the lines of a view, from `StrView::lines`. In a contract it is the list of the lines that remain, and each `next` removes the first of
+/// them.
 ///
 /// ```
 /// let mut lines = StrView::at("é\r\nb", 4).ok_or("no view")?.lines();
@@ -36,10 +36,9 @@ impl<'a> Model for Lines<'a> {
 }
 
 impl<'a> StrView<'a> {
-    /// The lines of the view, in their order, as Rust's `str::lines`. A line ends by `\n` or `\r\n`, which is no part of it, or
-    /// by the end of the text; a `\r` elsewhere stays. An empty text has no line, and neither has the end of a text behind its
-    /// last `\n`. Each line lies at its place, and is found wherever the view is found. All lines together take time in
-    /// proportion to the text.
+    /// Returns an iterator over the lines of the view, in order, as `str::lines` does. A line ends at `\n` or `\r\n`, which is not part of it, or at the end
+    /// of the text; a `\r` elsewhere stays. An empty text has no line, and neither has the end of a text after its last `\n`. Each line has its own place,
+    /// and is found wherever the view is found. A pass over all lines takes time in proportion to the text.
     ///
     /// ```
     /// let line = StrView::whole("a\n\nb").lines().last();
@@ -79,7 +78,7 @@ impl<'a> Iterator for Lines<'a> {
     }
 }
 
-/// The first line, and what follows its newline.
+/// Returns the first line, and the view after its newline.
 #[tactic(auto, using(crate::proofs::LinePlaces::empty_views))]
 fn first_line<'a>(view: &StrView<'a>) -> (StrView<'a>, StrView<'a>)
     requires { 0 < length view.now.text }
@@ -97,7 +96,7 @@ fn first_line<'a>(view: &StrView<'a>) -> (StrView<'a>, StrView<'a>)
     (stripped, view.between(place + 1, end))
 }
 
-/// The first place of a newline in the view's text.
+/// Returns the byte offset of the first newline in the view's text.
 #[tactic(auto, using(crate::proofs::LinePlaces::first_newlines, crate::proofs::Pieces::lawful_places))]
 fn first_newline(view: &StrView<'_>) -> Option<usize>
     ensures none { IfNone result (0 < length view.now.text → lines_of view.now ≡ view.now ∷ []) }
@@ -109,7 +108,7 @@ fn first_newline(view: &StrView<'_>) -> Option<usize>
     view.text().find('\n')
 }
 
-/// The line without the one carriage return at its end, if it has one.
+/// Returns the line without a carriage return at its end, if it has one.
 fn without_return(line: &str) -> &str
     ensures value { result.now ≡ strip_carriage_return line.now }
     ensures bound { length result.now ≤ length line.now }

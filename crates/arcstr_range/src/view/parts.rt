@@ -1,5 +1,5 @@
-//! Parts of a view: what lies on either side of a place, or of a match of a pattern. A pattern is a `char`, a `&str` or another
-//! of std's, of which the caller has to know that it can search (as of a closure that it may be called).
+//! Parts of a view on either side of a byte offset or of a match of a pattern. A pattern is a `char`, a `&str` or another of std's patterns. The caller must
+//! ensure that the pattern can search, as it must ensure that a closure can be called.
 ghost use Rattle.std.specs.Prelude.{◌≡◌, ◌↔◌, ◌-◌, ◌≤◌, ℕ, List, length, take, drop, IsSome, IfSome, MatchOption, None};
 ghost use Rattle.std.specs.Str.{IsCharBoundary};
 ghost use Rattle.std.specs.Str.Pattern.{SplitsAroundMatch, StripsPrefix, StripsSuffix};
@@ -9,9 +9,8 @@ use crate::view::StrView;
 use std::str::pattern::Pattern;
 
 impl<'a> StrView<'a> {
-    /// The parts of the view before and after a place of its own text, in bytes, as Rust's
-    /// `str::split_at_checked`. `None` exactly where the place is past the text or inside a character. It takes
-    /// no memory.
+    /// Splits the view at a byte offset of its own text, as `str::split_at_checked` does. Returns `None` exactly if the offset is past the text or inside a
+    /// character.
     ///
     /// ```
     /// let (name, rest) = StrView::whole("ab=c").split_at(2).ok_or("no place")?;
@@ -30,9 +29,8 @@ impl<'a> StrView<'a> {
         Some((self.at_start(before), self.at_end(after)))
     }
 
-    /// The parts of the view before and after the first match of the separator, as Rust's `str::split_once`.
-    /// The first begins where the view begins, and the second ends where it ends. `None` exactly where there is no
-    /// match. It takes no memory.
+    /// Splits the view around the first match of the separator, as `str::split_once` does. The first part starts where the view starts, and the second ends
+    /// where the view ends. Returns `None` exactly if there is no match.
     ///
     /// ```
     /// let (name, value) = StrView::whole("a=b=c").split_once('=').ok_or("no `=`")?;
@@ -55,9 +53,8 @@ impl<'a> StrView<'a> {
         Some((self.at_start(before), self.at_end(after)))
     }
 
-    /// The parts of the view before and after the last match of the separator, as Rust's `str::rsplit_once`.
-    /// The first begins where the view begins, and the second ends where it ends. `None` exactly where there is no
-    /// match. It takes no memory.
+    /// Splits the view around the last match of the separator, as `str::rsplit_once` does. The first part starts where the view starts, and the second ends
+    /// where the view ends. Returns `None` exactly if there is no match.
     ///
     /// ```
     /// let path = StrView::whole("a::b::c");
@@ -80,8 +77,8 @@ impl<'a> StrView<'a> {
         Some((self.at_start(before), self.at_end(after)))
     }
 
-    /// The rest of the view after a prefix that matches, as Rust's `str::strip_prefix`. It ends where the
-    /// view ends. `None` exactly where the text doesn't begin with a match. It takes no memory.
+    /// Returns the view with the prefix removed, as `str::strip_prefix` does. It ends where the view ends. Returns `None` exactly if the text does not start
+    /// with a match.
     ///
     /// ```
     /// let option = StrView::whole("--all");
@@ -103,8 +100,8 @@ impl<'a> StrView<'a> {
         Some(self.at_end(rest))
     }
 
-    /// The rest of the view before a suffix that matches, as Rust's `str::strip_suffix`. It begins where the
-    /// view begins. `None` exactly where the text doesn't end with a match. It takes no memory.
+    /// Returns the view with the suffix removed, as `str::strip_suffix` does. It starts where the view starts. Returns `None` exactly if the text does not
+    /// end with a match.
     ///
     /// ```
     /// let text = StrView::whole("ab\r\n");
@@ -126,7 +123,7 @@ impl<'a> StrView<'a> {
         Some(self.at_start(rest))
     }
 
-    /// The part that begins where the view begins, of a prefix of its text.
+    /// Returns the part with this prefix of the view's text. It starts where the view starts.
     #[tactic(auto, using(crate::proofs::Affixes::found_prefixes))]
     fn at_start(&self, prefix: &'a str) -> StrView<'a>
         requires within { length prefix.now ≤ length self.now.text }
@@ -142,7 +139,7 @@ impl<'a> StrView<'a> {
         }
     }
 
-    /// The part that ends where the view ends, of a suffix of its text.
+    /// Returns the part with this suffix of the view's text. It ends where the view ends.
     #[tactic(auto, using(crate::proofs::Affixes::found_suffixes))]
     fn at_end(&self, suffix: &'a str) -> StrView<'a>
         requires within { length suffix.now ≤ length self.now.text }

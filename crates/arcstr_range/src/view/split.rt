@@ -1,4 +1,4 @@
-//! The parts of a view between the places of a character. No call here allocates.
+//! The parts of a view between the occurrences of a character. No call here allocates.
 ghost use Rattle.std.specs.Prelude.{◌≡◌, ◌+◌, ◌==◌, List, [], ◌∷◌, length, map, IfNone, IfSome};
 ghost use Rattle.std.specs.Iterator.{YieldsFirst, item_count};
 ghost use Rattle.std.specs.Char.{len_utf8};
@@ -10,8 +10,8 @@ ghost use Rattle.arcstr_range.specs.View.{part_of};
 use crate::view::StrView;
 use std::marker::Model;
 
-/// The parts of a view between the places of a character, from `StrView::split`: an iterator. Its contracts see it as the
-/// list of the parts that are still to come, and each `next` takes the first off the list.
+/// An iterator over the parts of a view between the occurrences of a character, from `StrView::split`. In a contract it is the list of the parts that remain,
+/// and each `next` removes the first of them.
 ///
 /// ```
 /// let mut parts = StrView::at("é=1", 4).ok_or("no view")?.split('=');
@@ -38,10 +38,9 @@ impl<'a> Model for Split<'a> {
 }
 
 impl<'a> StrView<'a> {
-    /// The parts of the view between the places of the character, in their order, as Rust's `str::split`: one more than the
-    /// text has the character. Parts before a first, after a last and between two neighbouring places are empty, and an
-    /// empty text is one empty part. Each part lies at its place, and is found wherever the view is found. All parts
-    /// together take time in proportion to the text.
+    /// Returns an iterator over the parts of the view between the occurrences of the separator, in order, as `str::split` does. There is one part more than
+    /// there are separators. The parts before a first, after a last and between two adjacent separators are empty, and an empty text is one empty part. Each
+    /// part has its own place, and is found wherever the view is found. A pass over all parts takes time in proportion to the text.
     ///
     /// ```
     /// let part = StrView::whole("a,,").split(',').last();
@@ -78,7 +77,7 @@ impl<'a> Iterator for Split<'a> {
     }
 }
 
-/// The part before the first separator, and what follows the separator, if the view has one.
+/// Returns the part before the first separator, and the view after the separator, if the view has one.
 fn first_part<'a>(view: StrView<'a>, separator: char) -> (StrView<'a>, Option<StrView<'a>>)
     ensures { parts_at separator view.entry ≡ result.0 ∷ option_map_or (parts_at separator) result.1 [] }
 {
@@ -90,7 +89,7 @@ fn first_part<'a>(view: StrView<'a>, separator: char) -> (StrView<'a>, Option<St
     (part, Some(rest))
 }
 
-/// The first place of the separator in the view's text.
+/// Returns the byte offset of the first separator in the view's text.
 #[tactic(auto, using(crate::proofs::Pieces::first_places, crate::proofs::Pieces::lawful_places))]
 fn first_place(view: &StrView<'_>, separator: char) -> Option<usize>
     ensures none { IfNone result (parts_at separator view.now ≡ view.now ∷ []) }

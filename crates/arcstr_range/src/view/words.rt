@@ -9,8 +9,8 @@ use crate::view::StrView;
 use std::marker::Model;
 use std::ops::Range;
 
-/// The words of a view, from `StrView::split_whitespace`: an iterator. Its contracts see it as the list of the words that are
-/// still to come, and each `next` takes the first off the list.
+/// An iterator over the words of a view, from `StrView::split_whitespace`. In a contract it is the list of the words that remain, and each `next` removes the
+/// first of them.
 ///
 /// ```
 /// let view = StrView::at("é\u{3000}b", 4).ok_or("no view")?;
@@ -35,9 +35,9 @@ impl<'a> Model for SplitWhitespace<'a> {
 }
 
 impl<'a> StrView<'a> {
-    /// The words of the view, in their order, as Rust's `str::split_whitespace`: its parts between white space that are not
-    /// empty. White space is `char::is_whitespace`, past ASCII too. Each word lies at its place, and is found wherever the
-    /// view is found. All words together take time in proportion to the text.
+    /// Returns an iterator over the words of the view, in order, as `str::split_whitespace` does: its parts between white space that are not empty. White
+    /// space is that of `char::is_whitespace`, not only of ASCII. Each word has its own place, and is found wherever the view is found. A pass over all words
+    /// takes time in proportion to the text.
     ///
     /// ```
     /// let word = StrView::whole(" a  b ").split_whitespace().last();
@@ -75,7 +75,7 @@ impl<'a> Iterator for SplitWhitespace<'a> {
     }
 }
 
-/// The range of the first word in the view's text.
+/// Returns the range of the first word in the view's text.
 fn first_word(view: &StrView<'_>) -> Option<Range<usize>>
     ensures none { IfNone result (words_of view.now ≡ []) }
     ensures some { IfSome result (λ word. IsFirstWordAt view.now word.start word.end) }

@@ -12,10 +12,10 @@ use std::sync::atomic::{AtomicU64, Ordering};
 use std::test::Fail;
 use std::thread::Threads;
 
-/// How often a worker looks for the others: for many seconds, since other programs may keep them from starting.
+/// How often a worker checks for the others: for many seconds, since other programs can delay their start.
 const LOOKS: u64 = 10_000_000_000;
 
-/// Two texts: of two words, and of none.
+/// Returns two texts: one with two words, and one without words.
 fn two_texts(rt: &(impl Abort + AllocGlobal)) -> [ArcStr; 2] {
     [made(rt, "a b"), made(rt, "")]
 }
@@ -49,7 +49,7 @@ fn more_workers_than_texts(rt: HostRuntime) -> Result<(), Fail> {
     Ok(())
 }
 
-/// Texts of other words each, so that a list in another's place is seen.
+/// Texts with different words, so that a test detects a list in another's position.
 const TEXTS: [&str; 7] = ["a", "b c", "", "d  e f", " g", "\u{2003}", "h i j k"];
 
 fn seven_texts<R: Abort + AllocGlobal>(rt: &R) -> Result<Vec<ArcStr>, AllocError> {
@@ -60,7 +60,7 @@ fn seven_texts<R: Abort + AllocGlobal>(rt: &R) -> Result<Vec<ArcStr>, AllocError
     Ok(texts)
 }
 
-/// Asserts that one list is the other, by the places and the texts of its slices.
+/// Asserts that the two lists are equal, by the ranges and the texts of their slices.
 fn check_same(rt: &impl Abort, list: &[Substr], other: &[Substr]) {
     assert_eq!(rt; list.len(), other.len());
     for (one, another) in list.iter().zip(other) {
@@ -69,8 +69,7 @@ fn check_same(rt: &impl Abort, list: &[Substr], other: &[Substr]) {
     }
 }
 
-/// Asserts that so many workers answer for each text what one thread does, and that each text has one
-/// handle again once their answer is dropped.
+/// Asserts that this many workers return for each text what one thread returns, and that each text has only one handle after the result is dropped.
 fn check_workers<R: Abort + AllocGlobal + Threads + Wait + Sync>(
     rt: &R,
     texts: &[ArcStr],
@@ -115,7 +114,7 @@ fn counts_of_texts_while_their_tokens_live(rt: HostRuntime) -> Result<(), Fail> 
     Ok(())
 }
 
-/// A gate at which each worker waits until all of them have arrived. It counts the workers that saw this.
+/// A gate at which each worker waits until all of them have arrived. It counts the workers that saw all arrive.
 #[derive(Drop)]
 struct Meeting {
     workers: u64,
@@ -135,7 +134,7 @@ impl Gate for Meeting {
     }
 }
 
-/// A body that starts fewer threads than there are workers lets the first worker wait in vain.
+/// If the body starts fewer threads than there are workers, the first worker waits in vain.
 #[test]
 fn all_workers_run_at_once(rt: HostRuntime) -> Result<(), Fail> {
     let texts = two_texts(&rt);
@@ -154,8 +153,8 @@ fn all_workers_run_at_once(rt: HostRuntime) -> Result<(), Fail> {
     Ok(())
 }
 
-/// Notes how often workers pass, and which ones; and of the first worker how many handles its text has
-/// then, one of which is the gate's.
+/// Counts the passes and records which workers pass. For the first worker, it also records the number of handles to its text at that moment, one of which is
+/// the gate's.
 #[derive(Drop)]
 struct Noted {
     text: ArcStr,
@@ -198,8 +197,8 @@ fn check_one_list(rt: &impl Abort, lists: &[Vec<Substr>]) {
     }
 }
 
-/// For `rt try --test --fail-alloc N`, which refuses the request N: all lists, or a refusal; either way no
-/// slice is left. With ample memory, as in the gate, only the lists are seen.
+/// For `rt try --test --fail-alloc N`, which makes allocation N fail. The call returns all lists or an error; in either case no slice is left. With ample
+/// memory, as in the gate, the test only checks the lists.
 #[test]
 fn a_refused_call_leaves_no_slice(rt: HostRuntime) {
     let Ok(text) = ArcStr::from_str(rt.alloc(), "foo bar") else {

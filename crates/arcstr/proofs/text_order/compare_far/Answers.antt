@@ -1,4 +1,4 @@
--- What is alike goes on alike.
+-- Equal prefixes grow by equal bytes.
 use Rattle.std.proofs.Common.{arith}
 use Rattle.arcstr.proofs.FrontOrder.{alike-next}
 use Rattle.arcstr.proofs.text_order.compare_far.Goals as goal

@@ -1,7 +1,7 @@
 use Rattle.std.proofs.Common.{◌≡◌, ◌≤◌, ◌+◌, ◌-◌, take}
 use Rattle.arcstr.proofs.text_order.compare_far.Given as goal
 
--- what was passed is alike
+-- the bytes passed so far are equal
 abbrev pub invariant-loop-from : goal.invariant-loop-from
 invariant-loop-from l = record { within : l.from ≤ l.last + 64; alike : take l.from l.one ≡ take l.from l.other }
 

@@ -1,4 +1,4 @@
--- The first run of lanes that differs decides, and else the lengths do.
+-- The first vector that differs decides, and otherwise the lengths do.
 use Rattle.std.proofs.Common.{◌≡◌, ℕ, ◌+◌, ◌-◌, take, sym, ◌∙◌, subst, arith}
 use Rattle.arcstr.proofs.FrontOrder.{alike, alike-front, by_fronts, by_length}
 use Rattle.arcstr.proofs.text_order.compare_from.Goals as goal

@@ -1,4 +1,4 @@
--- The first 64 bytes decide, or they are alike.
+-- The first 64 bytes decide, or they are equal.
 use Rattle.std.proofs.Common.{sym, ◌∙◌, arith}
 use Rattle.arcstr.proofs.FrontOrder.{alike, by_fronts, by_length}
 use Rattle.arcstr.proofs.text_order.compare_long.Goals as goal

@@ -1,4 +1,4 @@
--- The mask is 0 exactly where no lane differs.
+-- The mask is 0 exactly if no lane differs.
 use Rattle.std.proofs.Common.{sym, ◌∙◌, arith}
 use Rattle.std.proofs.lemmas.Simd.{length-chunk}
 use Rattle.arcstr.proofs.LaneOrder.{alike-none, none_differs, test-of_zero, zero-of_test}

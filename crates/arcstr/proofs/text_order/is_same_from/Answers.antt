@@ -1,4 +1,4 @@
--- What is alike goes on alike, and the last run of lanes is the rest.
+-- Equal prefixes grow by equal bytes, and the last vector covers the rest.
 use Rattle.std.proofs.Common.{◌+◌, ◌-◌, List, ℕ, length, take, drop, ap, arith}
 use Rattle.arcstr.proofs.FrontOrder.{alike-front, alike-next, alike-whole}
 use Rattle.arcstr.proofs.text_order.is_same_from.Goals as goal

@@ -1,7 +1,7 @@
 use Rattle.std.proofs.Common.{◌≡◌, ◌≤◌, ◌-◌, length, take}
 use Rattle.arcstr.proofs.text_order.is_same_from.Given as goal
 
--- what was passed is alike
+-- the bytes passed so far are equal
 abbrev pub invariant-loop-from : goal.invariant-loop-from
 invariant-loop-from g l = record { within : l.from ≤ length l.one; alike : take l.from l.one ≡ take l.from l.other }
 

@@ -1,4 +1,4 @@
--- A lane of the mask is set where the two bytes differ.
+-- A bit of the mask is set if the two bytes differ.
 use Rattle.std.proofs.Common.{◌≡◌, ℕ, ◌==◌, not, ◌%◌, ◌^◌, ap, ◌∙◌, take, drop, length, arith, w8}
 use Rattle.std.specs.Simd.Lanes.{mask_l, zip2}
 use Rattle.std.proofs.lemmas.Simd.{length-chunk, mask_l-mod, tops_compared}

@@ -1,4 +1,4 @@
--- The first run of lanes that differs decides.
+-- The first vector that differs decides.
 use Rattle.std.proofs.Common.{sym, ◌∙◌, arith}
 use Rattle.arcstr.proofs.FrontOrder.{alike, by_fronts-within}
 use Rattle.arcstr.proofs.text_order.order_of_block.Goals as goal

@@ -1,4 +1,4 @@
--- The first lane that differs decides, and lanes that are alike decide nothing.
+-- The first lane that differs decides, and equal lanes decide nothing.
 use Rattle.std.proofs.Common.{sym, ◌∙◌, arith}
 use Rattle.std.proofs.lemmas.Simd.{length-chunk}
 use Rattle.arcstr.proofs.FrontOrder.{alike-Equal, alike-next}

@@ -1,4 +1,4 @@
--- What is alike goes on alike, by two runs of 64 bytes.
+-- Equal prefixes grow by two equal vectors of 64 bytes.
 use Rattle.std.proofs.Common.{◌≡◌, ℕ, ◌+◌, take, subst, arith}
 use Rattle.arcstr.proofs.FrontOrder.{alike-next, both-true}
 use Rattle.arcstr.proofs.text_order.pass_alike.Goals as goal

@@ -5,7 +5,7 @@ use Rattle.arcstr_range.specs.View.{end_of}
 use Rattle.arcstr_range.proofs.FoundParts.{lawful_both}
 use Rattle.arcstr.proofs.trimmed.without_white_space.Goals as goal
 
--- what the trim leaves lies in the whole text, also where it is empty
+-- the range that remains is valid in the whole text, even if it is empty
 pub returns-clause-lawful : goal.returns-clause-lawful
 returns-clause-lawful c =
     let text = c.args.text.now in

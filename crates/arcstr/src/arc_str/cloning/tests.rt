@@ -1,4 +1,4 @@
-//! The trait `Clone` of texts: by a derive, by a `Vec`, and by generic code.
+//! The trait `Clone` of texts: derived, in a `Vec` and in generic code.
 use crate::test_steps::{check_count, check_text, made};
 use crate::{ArcStr, literal};
 use std::alloc::AllocError;
@@ -9,7 +9,7 @@ struct Line {
     text: ArcStr,
 }
 
-/// A clone, by the trait alone.
+/// Clones the value by the trait `Clone`.
 fn cloned<T: Clone>(value: &T) -> Result<T, AllocError> {
     value.clone()
 }

@@ -4,7 +4,7 @@ use crate::test_steps::{check_borrowed, check_owned, made};
 use std::alloc::AllocGlobal;
 use std::process::Abort;
 
-/// Asserts that the text gives a copy of itself.
+/// Asserts that `into_cow` returns a copy of the text.
 fn is_copied(rt: &(impl Abort + AllocGlobal), text: ArcStr, wanted: &str) {
     check_owned(
         rt,

@@ -1,10 +1,10 @@
-//! Texts of each kind, joined.
+//! Joins of texts of each kind.
 use crate::test_steps::{check_count, check_empty, check_made, made, part};
 use crate::{ArcStr, Substr};
 use std::alloc::AllocGlobal;
 use std::process::Abort;
 
-/// Asserts what these texts are, joined.
+/// Asserts the result of joining these texts.
 fn check_joined(rt: &(impl Abort + AllocGlobal), texts: &[&str], separator: &str, wanted: &str) {
     check_made(rt, ArcStr::join(rt.alloc(), texts, separator), wanted);
 }

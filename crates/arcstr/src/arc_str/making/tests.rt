@@ -1,7 +1,7 @@
 use crate::test_steps::{check_empty, check_made, check_refused, many_digits};
 use crate::{ArcStr, TextFault, format_arcstr};
 
-/// The least length that is too long.
+/// The smallest length that is too long.
 const TOO_LONG: usize = 9_223_372_036_854_775_783;
 
 #[test]

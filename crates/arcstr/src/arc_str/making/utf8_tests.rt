@@ -1,4 +1,4 @@
-//! One character at each edge of the ranges of RFC 3629, and one step past each.
+//! One character at each edge of the ranges of RFC 3629, and one just outside each edge.
 use crate::test_steps::{check_bytes, check_refused};
 use crate::{ArcStr, TextFault};
 use std::alloc::AllocGlobal;

@@ -11,8 +11,7 @@ fn a_literal_and_a_block_of_one_text_are_one_key(rt: HostRuntime) {
     assert!(rt; text.eq_str("bar") && !text.eq_str("ba"));
 }
 
-/// Asserts the order of texts of this many bytes that differ in the byte at the place alone, and of a text
-/// that goes on.
+/// Asserts the order of texts of this many letters that differ only in the letter at `place`, and of texts whose lengths differ by one letter.
 fn differ_at(rt: &(impl Abort + AllocGlobal), length: usize, place: usize) {
     let text = letters(rt, length, place, 'a');
     check_order(rt, &text, &letters(rt, length, place, 'a'), Ordering::Equal);
@@ -26,7 +25,7 @@ fn differ_at(rt: &(impl Abort + AllocGlobal), length: usize, place: usize) {
     );
 }
 
-/// Texts are compared by bytes, by words and by vectors, as long as they are.
+/// Depending on their length, texts are compared by bytes, by machine words or by vectors.
 #[test]
 fn texts_of_any_length_differ_at_any_place(rt: HostRuntime) {
     for length in [1, 7, 8, 15, 16, 17, 24, 63, 64, 65, 80, 127, 128, 129, 200] {

@@ -10,7 +10,7 @@ fn each_trim_has_its_places(rt: HostRuntime) {
     check_slice(&rt, &text.substr_trim_end(&rt), "\u{a0}a b", 0..5);
 }
 
-/// Asserts an empty slice at the place, while the text has one more handle.
+/// Asserts that the slice is empty and starts at `place`, and that the text has one more handle.
 fn check_kept(rt: &impl Abort, text: &ArcStr, slice: &Substr, place: usize) {
     check_slice(rt, slice, "", place..place);
     check_count(rt, text, Some(2));
@@ -25,8 +25,8 @@ fn a_trim_of_white_space_keeps_the_text(rt: HostRuntime) {
     check_count(&rt, &text, Some(1));
 }
 
-/// The slices of the last line and the last word, each taken in a loop with no test before. The
-/// proof is automatic, as a user's is: the line and the word are found in the text.
+/// Returns the slices of the last line and of the last word, each found in a loop without a test. As in user code, the proof that the text has them is
+/// automatic.
 fn last_slices(rt: &impl Wait, text: &ArcStr) -> [Option<Substr>; 2] {
     let (mut last_line, mut last_word) = (None, None);
     for line in text.view().lines() {

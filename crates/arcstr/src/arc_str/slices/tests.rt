@@ -16,12 +16,12 @@ fn slices_keep_their_parent(rt: HostRuntime) {
     check_count(&rt, &text, Some(2));
 }
 
-/// Asserts that `aé` has no slice in the range, and why.
+/// Asserts that `substr` of `aé` refuses the range with this fault.
 fn refuses<R: Into<StrRange>>(rt: &(impl Abort + Wait), range: R, wanted: RangeFault) {
     check_no_slice(rt, literal!("aé").substr(rt, range), wanted);
 }
 
-/// Asserts the slice of `aé` in the range, and its places.
+/// Asserts the text and the byte range of the slice of `aé`.
 fn gives<R: Into<StrRange>>(rt: &(impl Abort + Wait), range: R, text: &str, places: Range<usize>) {
     check_sliced(rt, literal!("aé").substr(rt, range), text, places);
 }
@@ -45,7 +45,7 @@ fn a_range_of_each_form_is_refused(rt: HostRuntime) {
     refuses(&rt, ..=3, RangeFault::PastEnd);
 }
 
-/// The slice of the text that shows this at the place, where there is one.
+/// Returns the slice of the text that a view of `shown` at `place` shows, if there is one.
 fn found(rt: &(impl Abort + Wait), text: &ArcStr, shown: &str, place: usize) -> Option<Substr> {
     let view = StrView::at(shown, place).expect(rt, "no view");
     text.try_substr_from(rt, view)

@@ -3,14 +3,14 @@ use crate::literal;
 use crate::test_steps::{check_count, check_slice, check_text, made};
 use std::process::Abort;
 
-/// Asserts a slice's own text, and where it begins.
+/// Asserts the slice's own text and its start.
 fn check_part(rt: &impl Abort, slice: &Substr, text: &str, start: usize) {
     check_text(rt, slice.as_str(), text);
     assert_eq!(rt; slice.range().start, start);
 }
 
-/// Asserts the texts of both slices of a text with one handle, that the first begins at 0 and where the second begins. Each keeps
-/// the text until it is dropped.
+/// Asserts the texts of both slices of a text with one handle, that the first starts at 0, and the start of the second. Each slice keeps the text alive until
+/// it is dropped.
 fn check_pair(
     rt: &impl Abort,
     text: &ArcStr,
@@ -75,7 +75,7 @@ fn a_separator_of_several_bytes_stands_in_neither_part(rt: HostRuntime) {
     check_pair(&rt, &text, text.substr_rsplit_once(&rt, '😀'), "a", "b", 5);
 }
 
-/// Asserts the text of the only slice of a text, and where it begins. It keeps the text until it is dropped.
+/// Asserts the text and the start of the only slice of a text. The slice keeps the text alive until it is dropped.
 fn check_rest(rt: &impl Abort, text: &ArcStr, rest: Option<Substr>, wanted: &str, start: usize) {
     let rest = rest.expect(rt, "no rest");
     check_part(rt, &rest, wanted, start);
@@ -115,7 +115,7 @@ fn a_text_without_a_match_takes_no_clone(rt: HostRuntime) {
     assert!(rt; literal!("").substr_split_once(&rt, '=').is_none());
 }
 
-/// Asserts that both slices of the text `a=b` are of a static text.
+/// Asserts that both slices of the text `a=b` have a static text as parent.
 fn check_static(rt: &impl Abort, pair: Option<(Substr, Substr)>) {
     let (first, second) = pair.expect(rt, "not split");
     check_slice(rt, &first, "a", 0..1);

@@ -1,4 +1,4 @@
-//! Copies of slices, and the counts of what was copied.
+//! Copies of slices, and the counts of the texts that were copied.
 use crate::test_steps::{check_count, check_empty, check_made, check_text, made, part};
 use crate::{ArcStr, Substr, literal};
 

@@ -3,7 +3,7 @@ use crate::test_steps::{check_borrowed, check_owned, made, part};
 use std::alloc::AllocGlobal;
 use std::process::Abort;
 
-/// Asserts that the slice gives a copy of its own text.
+/// Asserts that `into_cow` returns a copy of the slice's own text.
 fn is_copied(rt: &(impl Abort + AllocGlobal), slice: Substr, wanted: &str) {
     check_owned(
         rt,

@@ -11,7 +11,7 @@ fn slices_of_one_text_are_equal_whatever_their_parents(rt: HostRuntime) {
     assert!(rt; slice.eq_str("bar") && !slice.eq_str("ba") && !slice.eq_str("foobar"));
 }
 
-/// The slice of these letters behind the first, which is not the letter at the place.
+/// Returns the slice of these letters after the first one, with another letter at `place`.
 fn behind_one<R: Abort + AllocGlobal + Wait>(
     rt: &R,
     length: usize,
@@ -21,7 +21,7 @@ fn behind_one<R: Abort + AllocGlobal + Wait>(
     part(rt, &letters(rt, length, place, letter), 1..)
 }
 
-/// Asserts the order of slices of texts of this many bytes that differ in the byte at the place alone.
+/// Asserts the order of slices of texts of this many letters that differ only in the letter at `place`.
 fn differ_at<R: Abort + AllocGlobal + Wait>(rt: &R, length: usize, place: usize) {
     let slice = behind_one(rt, length, place, 'a');
     check_order(
@@ -38,7 +38,7 @@ fn differ_at<R: Abort + AllocGlobal + Wait>(rt: &R, length: usize, place: usize)
     );
 }
 
-/// The bytes of a slice may begin at any address.
+/// The bytes of a slice can start at any address.
 #[test]
 fn slices_of_any_length_differ_at_any_place(rt: HostRuntime) {
     for length in [9, 17, 18, 64, 65, 66, 131] {

@@ -3,7 +3,7 @@ use crate::literal;
 use crate::test_steps::{check_nothing, check_slice, check_sliced, check_text, made, part};
 use std::process::Abort;
 
-/// The slice `bar` of `foobarbaz`.
+/// Returns the slice `bar` of `foobarbaz`.
 fn bar(rt: &(impl Abort + Wait)) -> Substr {
     part(rt, &literal!("foobarbaz"), 3..6)
 }
@@ -15,7 +15,7 @@ fn a_slice_of_a_slice_keeps_the_parent(rt: HostRuntime) {
     check_text(&rt, inner.parent().as_str(), "foobarbaz");
 }
 
-/// What `bar` has at the place, where it shows this text there.
+/// Returns the slice of `bar` that a view of `shown` at `place` shows, if there is one.
 fn found(rt: &(impl Abort + Wait), shown: &str, place: usize) -> Option<Substr> {
     let view = StrView::at(shown, place).expect(rt, "no view");
     bar(rt).try_substr_from(rt, view)

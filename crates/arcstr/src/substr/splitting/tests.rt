@@ -4,12 +4,12 @@ use crate::test_steps::{check_count, check_slice, made, part};
 use std::alloc::AllocGlobal;
 use std::process::Abort;
 
-/// The slice `a=b=c` inside a text, with the text's only handle.
+/// Returns the slice `a=b=c` of a longer text, with the only handle to that text.
 fn list(rt: &(impl Abort + AllocGlobal + Wait)) -> Substr {
     part(rt, &made(rt, "x: a=b=c=d"), 3..8)
 }
 
-/// Asserts the texts and places of both slices of `list`, each of which keeps the parent until it is dropped.
+/// Asserts the texts and byte ranges of both slices of `list`. Each keeps the parent alive until it is dropped.
 fn check_pair(
     rt: &impl Abort,
     list: &Substr,
@@ -41,7 +41,7 @@ fn a_slice_is_split_by_its_own_text(rt: HostRuntime) {
     check_pair(&rt, &list, parts, ("a=b=c", 3..8), ("", 8..8));
 }
 
-/// Asserts the text and the places of a slice of `list`, which keeps the parent until it is dropped.
+/// Asserts the text and the byte range of a slice of `list`, which keeps the parent alive until it is dropped.
 fn check_rest(
     rt: &impl Abort,
     list: &Substr,

@@ -1,4 +1,4 @@
-//! A fault of a range as one of reading and writing, so that `?` serves in a function that does both.
+//! Converts a fault of a range into an `io::Error`, so that `?` works in a function that also does I/O.
 use crate::range::RangeFault;
 use std::io;
 use std::io::ErrorKind;
@@ -10,7 +10,7 @@ impl From<RangeFault> for io::Error {
 
     ghost from_gives = { λ _ error. error_kind error ≡ InvalidInput };
 
-    /// `InvalidInput`, with the text of the fault. Takes no memory.
+    /// Returns an `InvalidInput` error with the message of the fault. Allocates nothing.
     fn from(fault: RangeFault) -> io::Error {
         io::Error::new(ErrorKind::InvalidInput, fault.text())
     }

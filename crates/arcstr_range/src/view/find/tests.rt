@@ -1,7 +1,7 @@
 use super::*;
 use std::test::Fail;
 
-/// Where a text and a pattern of it are searched.
+/// Texts, and patterns to find in them.
 const PATTERNS: [(&str, &str); 8] = [
     ("", ""),
     ("", "a"),

@@ -2,7 +2,7 @@ use super::*;
 use std::process::Abort;
 use std::test::Fail;
 
-/// Texts, and the places of their lines.
+/// Texts, and the byte offsets of their lines.
 const TEXTS: [(&str, [usize; 3]); 13] = [
     ("", [0, 0, 0]),
     ("a", [0, 0, 0]),
@@ -19,7 +19,7 @@ const TEXTS: [(&str, [usize; 3]); 13] = [
     ("é\r\n…\n😀", [0, 4, 8]),
 ];
 
-/// Asserts that the lines of the text at a place are those of `str::lines`, each at its own place.
+/// Asserts that the lines of the text at this place are those of `str::lines`, each at its own place.
 fn check(rt: &impl Abort, text: &str, places: [usize; 3], start: usize) -> Result<(), Fail> {
     let mut lines = StrView::at(text, start).ok_or("no view")?.lines();
     let mut offsets = places.iter();

@@ -1,19 +1,19 @@
 use super::*;
 use std::process::Abort;
 
-/// A view that begins at byte 4 of its parent.
+/// Returns a view that starts at byte 4 of its parent.
 fn view<'a>(rt: &impl Abort, text: &'a str) -> StrView<'a> {
     StrView::at(text, 4).expect(rt, "no view")
 }
 
-/// Asserts a part's text and its place in the parent.
+/// Asserts the text of a part and its place in the parent.
 fn check(rt: &impl Abort, part: Option<StrView<'_>>, text: &str, place: usize) {
     let part = part.expect(rt, "no part");
     assert_eq!(rt; part.text(), text);
     assert_eq!(rt; part.place(), place);
 }
 
-/// Asserts the texts of both parts, that the first begins at byte 4 and where the second begins.
+/// Asserts the texts of both parts, that the first starts at byte 4, and the start of the second.
 fn check_both(
     rt: &impl Abort,
     parts: Option<(StrView<'_>, StrView<'_>)>,

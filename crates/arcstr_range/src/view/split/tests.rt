@@ -18,7 +18,7 @@ const TEXTS: [(&str, char); 12] = [
     ("a\u{0}b", '\u{0}'),
 ];
 
-/// Asserts that the parts of the text at a place are those of `str::split`, one after another with a separator between.
+/// Asserts that the parts of the text at this place are those of `str::split`, one after another with a separator between them.
 fn check(rt: &impl Abort, text: &str, separator: char, start: usize) -> Result<(), Fail> {
     let mut parts = StrView::at(text, start).ok_or("no view")?.split(separator);
     let mut offset = 0usize;

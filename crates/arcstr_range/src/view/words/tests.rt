@@ -2,7 +2,7 @@ use super::*;
 use std::process::Abort;
 use std::test::Fail;
 
-/// Texts, and the places of their words.
+/// Texts, and the byte offsets of their words.
 const TEXTS: [(&str, [usize; 3]); 9] = [
     ("", [0, 0, 0]),
     ("  \t\n", [0, 0, 0]),
@@ -15,7 +15,7 @@ const TEXTS: [(&str, [usize; 3]); 9] = [
     ("a\r\nb\x0bc", [0, 3, 5]),
 ];
 
-/// Asserts that the words of the text at a place are those of `str::split_whitespace`, each at its own place.
+/// Asserts that the words of the text at this place are those of `str::split_whitespace`, each at its own place.
 fn check(rt: &impl Abort, text: &str, places: [usize; 3], start: usize) -> Result<(), Fail> {
     let mut words = StrView::at(text, start)
         .ok_or("no view")?

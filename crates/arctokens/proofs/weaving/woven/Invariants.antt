@@ -1,4 +1,4 @@
--- So far the lists of the texts before a number are in their order, the others are left, and there is room for them.
+-- So far, the lists of the texts before a number are in order, the others are left, and there is capacity for them.
 use Rattle.std.proofs.Common.{◌≡◌, ◌≤◌, take, length, vec_len, vec_capacity}
 use Rattle.arctokens.specs.Tokens.{AreTokensOfEach}
 use Rattle.arctokens.proofs.ListsTaken.{AreLeft}

@@ -6,13 +6,13 @@ use Rattle.arctokens.proofs.words.run_end.Goals as goal
 pub loop-at-init : goal.loop-at-init
 loop-at-init c = AreAlike-none c.args.text.now c.args.from c.args.white c.requires
 
--- sixteen bytes were passed at once
+-- sixteen bytes are passed at once
 pub loop-at-preserved-then-passed-eq-LANES : goal.loop-at-preserved-then-passed-eq-LANES
 loop-at-preserved-then-passed-eq-LANES c =
     AreAlike-join c.args.text.now c.args.from c.loop-at.at (c.loop-at.at + c.passed_at-passed.result) c.args.white c.utf8.text c.requires c.loop-at.invariant
     c.passed_at-passed.ensures.alike
 
--- the character after those that were passed is of the other kind
+-- the character after the passed bytes is of the other kind
 pub returns-then-next-white : goal.returns-then-next-white
 returns-then-next-white c =
     let next = c.character_at-next in
@@ -22,7 +22,7 @@ returns-then-next-white c =
     c.passed_at-passed.ensures.alike in
     IsRun-stopped c.args.text.now c.args.from at (at + next.result.width) c.args.white next.result.white c.utf8.text alike next.ensures c.if-next-white.true
 
--- or of the run's own
+-- the character after the passed bytes is of the kind of the run
 pub loop-at-preserved : goal.loop-at-preserved
 loop-at-preserved c =
     let next = c.character_at-next in

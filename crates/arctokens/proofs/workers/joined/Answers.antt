@@ -8,7 +8,7 @@ use Rattle.arctokens.specs.declared.workers.Share.{Share}
 use Rattle.arctokens.proofs.PieceSteps.{ArePiecesOfFirst-more}
 use Rattle.arctokens.proofs.workers.joined.Goals as goal
 
--- the share is that of the next worker, and so is its piece
+-- the share and its piece belong to the next worker
 pub loop-share-preserved-in-Ok : goal.loop-share-preserved-in-Ok
 loop-share-preserved-in-Ok g c =
     let before = c.loop-share.invariant in

@@ -1,4 +1,4 @@
--- So far there is a piece for each share, or some share was refused memory; and there is room for the rest.
+-- So far, there is a piece for each share, or an allocation of some share failed; and there is capacity for the rest.
 use Rattle.std.proofs.Common.{◌≡◌, ◌≤◌, length, vec_len, vec_capacity}
 use Rattle.arctokens.specs.Pieces.{ArePiecesOfFirst}
 use Rattle.arctokens.proofs.workers.joined.Given as goal

@@ -4,7 +4,7 @@ use Rattle.arctokens.specs.Shares.{AreSharesOfFirst, IsShare}
 use Rattle.arctokens.proofs.PieceSteps.{AreSharesOfFirst-more}
 use Rattle.arctokens.proofs.workers.shares_of_all.Goals as goal
 
--- the share is that of the next worker
+-- the share belongs to the next worker
 pub loop-thread-preserved : goal.loop-thread-preserved
 loop-thread-preserved g c =
     let before = c.loop-thread.invariant in

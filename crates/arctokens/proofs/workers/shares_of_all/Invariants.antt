@@ -1,4 +1,4 @@
--- So far each worker has its share, and there is room for the rest.
+-- So far, each worker has its share, and there is capacity for the rest.
 use Rattle.std.proofs.Common.{◌≤◌, length, vec_capacity}
 use Rattle.arctokens.specs.Shares.{AreSharesOfFirst}
 use Rattle.arctokens.proofs.workers.shares_of_all.Given as goal

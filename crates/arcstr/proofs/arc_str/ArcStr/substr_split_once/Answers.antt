@@ -8,7 +8,7 @@ returns-in_err-before-clause-at_a_character g c =
     not_split_at_single (g.P.Pattern.find_in_gives c.args.separator) c.args.self.now.text c.as_str.result.now (slice_of c.args.self.now) c.from_residual.result
     (g.P.Pattern.single_char c.args.separator) c.in_err-before.ensures.cases c.as_str.ensures c.as_str.utf8 c.from_residual.ensures
 
--- there is one
+-- there is a match
 pub returns-clause-at_a_character : goal.returns-clause-at_a_character
 returns-clause-at_a_character g c =
     split_around_single (g.P.Pattern.find_in_gives c.args.separator) c.args.self.now.text c.as_str.result.now c.in_ok-before.before.now c.in_ok-before.after.now

@@ -1,4 +1,4 @@
--- The first word is the one that std's `split_whitespace` answers, behind what `trim_start` takes away.
+-- The first word is the first result of std's `split_whitespace`, after the white space that `trim_start` removes.
 use Rattle.std.proofs.Common.{ℕ, ◌+◌, ◌-◌, length, sym, ap, subst, ◌∙◌}
 use Rattle.std.specs.Str.{IsUtf8, trim_start}
 use Rattle.arcstr_range.specs.Pieces.{IsFirstWordAt}

@@ -3,7 +3,7 @@ use Rattle.example_interner.specs.Words.{AreRising}
 use Rattle.example_interner.proofs.Places.{keeps_insert, rising_insert}
 use Rattle.example_interner.proofs.interner.Interner.intern.Goals as goal
 
--- the texts are those of before
+-- the texts stay the same
 pub returns-in-Ok-clause-once : goal.returns-in-Ok-clause-once
 returns-in-Ok-clause-once g c = subst AreRising c.self.view_is c.self.invariant
 
@@ -16,7 +16,7 @@ invariant_of-self g c = rw c.in_err-insert.ensures.items c.self.invariant
 pub returns-in_err-insert-clause-once : goal.returns-in_err-insert-clause-once
 returns-in_err-insert-clause-once g c = rw c.in_err-insert.ensures.items c.self.invariant
 
--- a new one stands in its gap
+-- a new text stands in its gap
 pub invariant_of-self-2 : goal.invariant_of-self-2
 invariant_of-self-2 g c =
     rw c.in_ok-insert.ensures.items (rising_insert _ c.args.word.now _ _ (search rules) (rw c.self.view_is c.in-Err.ensures.absent) c.self.invariant)

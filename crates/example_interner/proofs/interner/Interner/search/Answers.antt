@@ -5,7 +5,7 @@ use Rattle.std.proofs.lemmas.Fn.{always_returns_same}
 use Rattle.example_interner.proofs.Places.{searched}
 use Rattle.example_interner.proofs.interner.Interner.search.Goals as goal
 
--- the closure compares a text with the word, and the slice is the interner's texts
+-- the closure compares a text with the word, and the slice holds the interner's texts
 pub returns-clause-found : goal.returns-clause-found
 returns-clause-found c =
     let facts = c.binary_search_by.ensures in

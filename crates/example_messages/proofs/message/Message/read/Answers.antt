@@ -8,14 +8,14 @@ returns-in_err-sender-clause-found g c =
     let split = c.substr_split_once.ensures.at_a_character (λ text answer finds. finds) in
     (λ some. search rules, λ two. absurd (not_two_where_none _ _ split (search rules) two))
 
--- there is none after the first
+-- there is no second semicolon
 pub returns-in_err-subject-clause-found : goal.returns-in_err-subject-clause-found
 returns-in_err-subject-clause-found g c =
     let split = c.substr_split_once.ensures.at_a_character (λ text answer finds. finds) in
     let split_next = c.substr_split_once-2.ensures.at_a_character (λ text answer finds. finds) in
     (λ some. search rules, λ two. absurd (not_two_where_none_after _ _ c.in_ok-sender.sender c.in_ok-sender.rest _ split (search rules) split_next (search rules) two))
 
--- there are both
+-- there are two semicolons
 pub returns-clause-found : goal.returns-clause-found
 returns-clause-found g c =
     let split = c.in_ok-sender.ensures.at_a_character (λ text answer finds. finds) in
