@@ -87,14 +87,16 @@ def files_of(crate):
 
 @dataclass(eq=False)
 class Function:
-    """A function: its type or trait where it has one, its `ensures` clauses by name (`None` for a clause without one), and its body. A function of
-    a trait for a reference, as `impl Equivalent<ArcStr> for &str`, has the trait as its type."""
+    """A function: its type or trait where it has one, where it stands in its file, its `ensures` clauses by name (`None` for a clause without one),
+    and its body. A function of a trait for a reference, as `impl Equivalent<ArcStr> for &str`, has the trait as its type."""
 
     name: str
     owner: str | None
     is_public: bool
     attributes: list
     file: Path
+    start: int = 0
+    end: int = 0
     ensures: dict = field(default_factory=dict)
     body: str = ""
     raw_body: str = ""
@@ -115,8 +117,9 @@ def end_of_group(text, start):
 
 def read_contract(function, text, shown, source, start):
     """Reads the clauses and the body after the parameters. `shown` is the source without its comments, and `text` also without literals."""
+    function.end = start
     while (found := re.compile(r"[{;]").search(text, start)) and found[0] == "{":
-        end = end_of_group(text, found.start())
+        function.end = end = end_of_group(text, found.start())
         clause = CLAUSE.search(text, start, found.start())
         if not clause:
             function.body, function.raw_body = shown[found.end():end - 1], source[found.end():end - 1]
@@ -126,9 +129,9 @@ def read_contract(function, text, shown, source, start):
         start = end
 
 
-def functions(file):
-    """The functions of a file. One of a trait, or of its implementation, is as public as the trait."""
-    source = file.read_text()
+def functions(file, source=None):
+    """The functions of a file, or of another text of it. One of a trait, or of its implementation, is as public as the trait."""
+    source = file.read_text() if source is None else source
     shown = without_comments(source)
     text = without_comments(source, literals=False)
     owners = [(found, end_of_group(text, found.end() - 1)) for found in OWNER.finditer(text)]
@@ -136,6 +139,7 @@ def functions(file):
         owner = next((owner for owner, end in owners if owner.start() < found.start() < end), None)
         is_public = bool(found["public"] or owner and (owner["trait"] or owner["own"] or owner["new"]))
         attributes = re.findall(r"#\[(.*)\]", found["attributes"])
-        function = Function(found["name"], owner and (owner["type"] or owner["own"] or owner["new"]), is_public, attributes, file)
+        owned_by = owner and (owner["type"] or owner["own"] or owner["new"])
+        function = Function(found["name"], owned_by, is_public, attributes, file, found.start())
         read_contract(function, text, shown, source, end_of_group(text, text.index("(", found.end())))
         yield function
