@@ -2,6 +2,7 @@
 use crate::blocks::BlockCall;
 use crate::copies::Copying;
 use crate::histories::History;
+use crate::interning::Interning;
 use crate::making::Making;
 use crate::meter::Meter;
 use crate::sharing::Sharing;
@@ -21,6 +22,7 @@ pub(crate) enum Call {
     Making(Making),
     Block(BlockCall),
     Copying(Copying),
+    Interning(Interning),
     WithoutMemory(WithoutMemory),
     History(History),
     Sharing(Sharing),
@@ -33,6 +35,7 @@ impl Call {
             Call::Making(call) => call.line(),
             Call::Block(call) => call.line(),
             Call::Copying(call) => call.line(),
+            Call::Interning(call) => call.line(),
             Call::WithoutMemory(call) => call.line(),
             Call::History(call) => call.line(),
             Call::Sharing(call) => call.line(),
@@ -50,6 +53,7 @@ impl Call {
             Call::Making(call) => call.once(meter, alloc),
             Call::Block(call) => call.once(meter, alloc),
             Call::Copying(call) => call.once(rt, meter, alloc),
+            Call::Interning(call) => call.once(rt, meter, alloc),
             Call::WithoutMemory(call) => call.once(rt, meter, alloc),
             Call::History(call) => call.once(meter, alloc),
             Call::Sharing(call) => call.once(rt, meter, alloc),

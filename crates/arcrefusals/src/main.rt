@@ -14,6 +14,7 @@ mod blocks;
 mod calls;
 mod copies;
 mod histories;
+mod interning;
 mod making;
 mod meter;
 mod sharing;
@@ -30,6 +31,9 @@ fn main(rt: HostRuntime) -> io::Result<()> {
     }
     for call in copies::CALLS {
         make(&rt, meter, Call::Copying(call))?;
+    }
+    for call in interning::CALLS {
+        make(&rt, meter, Call::Interning(call))?;
     }
     for call in without_memory::CALLS {
         make(&rt, meter, Call::WithoutMemory(call))?;

@@ -3,6 +3,7 @@ ghost use Rattle.std.specs.Prelude.{◌↔◌, IsOk, IsTrue};
 
 use arcbench_core::pool::PoolFault;
 use arcbench_core::script::CopyFault;
+use arcintern::InternFault;
 use arcstr::count::RunFault;
 use arcstr::{JsonFault, TextFault};
 use std::alloc::AllocError;
@@ -112,6 +113,15 @@ impl From<serde_json::Error> for Stop {
             Stop::Refused
         } else {
             Stop::Differs(Part::Fault)
+        }
+    }
+}
+
+impl From<InternFault> for Stop {
+    fn from(fault: InternFault) -> Stop {
+        match fault {
+            InternFault::Memory => Stop::Refused,
+            _ => Stop::Differs(Part::Fault),
         }
     }
 }

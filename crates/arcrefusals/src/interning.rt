@@ -1,0 +1,137 @@
+//! Calls of an interner. A refusal leaves it without texts, and the same call then succeeds.
+use crate::calls::TRIES;
+use crate::making::{check_count, check_text};
+use crate::meter::Meter;
+use crate::stop::{Part, Stop, check};
+use arcintern::{InternFault, Interner, Symbol};
+use arcstr::ArcStr;
+use std::alloc::Global;
+use std::sync::Wait;
+
+/// The calls, in the order of their lines.
+pub(crate) const CALLS: [Interning; 4] = [
+    Interning::WithCapacity,
+    Interning::Intern,
+    Interning::InternArc,
+    Interning::InternSubstr,
+];
+
+#[derive(Clone, Copy)]
+pub(crate) enum Interning {
+    WithCapacity,
+    Intern,
+    InternArc,
+    InternSubstr,
+}
+
+impl Interning {
+    pub(crate) fn line(self) -> &'static str {
+        match self {
+            Interning::WithCapacity => "Interner::with_capacity: an empty interner",
+            Interning::Intern => "Interner::intern: a copy of the word, count 1",
+            Interning::InternArc => "Interner::intern_arc: a clone of the text, count 2, then 1",
+            Interning::InternSubstr =>
+                "Interner::intern_substr: a copy of the slice, count 1, the text stands",
+        }
+    }
+
+    pub(crate) fn once(self, rt: &impl Wait, meter: Meter, alloc: Global) -> Result<(), Stop> {
+        match self {
+            Interning::WithCapacity => with_capacity(meter, alloc),
+            Interning::Intern => intern(meter, alloc),
+            Interning::InternArc => intern_arc(rt, meter, alloc),
+            Interning::InternSubstr => intern_substr(rt, meter, alloc),
+        }
+    }
+}
+
+fn with_capacity(meter: Meter, alloc: Global) -> Result<(), Stop> {
+    meter.begin();
+    let made = Interner::with_capacity(alloc, 100);
+    meter.end();
+    let interner = made?;
+    check(Part::Length, interner.is_empty())?;
+    meter.drop_counted(interner);
+    Ok(())
+}
+
+fn intern(meter: Meter, alloc: Global) -> Result<(), Stop> {
+    let mut interner = Interner::new(alloc);
+    for _ in 0..TRIES {
+        meter.begin();
+        let interned = interner.intern("foobar");
+        meter.end();
+        match interned {
+            Ok(symbol) => {
+                check_interned(&interner, symbol, "foobar", 1)?;
+                meter.drop_counted(interner);
+                return Ok(());
+            }
+            Err(fault) => check_unchanged(&interner, fault)?,
+        }
+    }
+    Err(Stop::Refused)
+}
+
+fn intern_arc(rt: &impl Wait, meter: Meter, alloc: Global) -> Result<(), Stop> {
+    let text = ArcStr::from_str(alloc, "foobar")?;
+    let mut interner = Interner::new(alloc);
+    for _ in 0..TRIES {
+        meter.begin();
+        let interned = interner.intern_arc(rt, &text);
+        meter.end();
+        match interned {
+            Ok(symbol) => {
+                check_interned(&interner, symbol, "foobar", 2)?;
+                meter.drop_counted(interner);
+                return check_count(&text, 1);
+            }
+            Err(fault) => check_unchanged(&interner, fault)?,
+        }
+        check_count(&text, 1)?;
+    }
+    Err(Stop::Refused)
+}
+
+fn intern_substr(rt: &impl Wait, meter: Meter, alloc: Global) -> Result<(), Stop> {
+    let text = ArcStr::from_str(alloc, "foobar")?;
+    let slice = text.view().cut(0..3).map(|part| text.substr_from(rt, part));
+    let slice = slice.ok_or(Stop::Differs(Part::Range))?;
+    let mut interner = Interner::new(alloc);
+    for _ in 0..TRIES {
+        meter.begin();
+        let interned = interner.intern_substr(rt, &slice);
+        meter.end();
+        match interned {
+            Ok(symbol) => {
+                check_interned(&interner, symbol, "foo", 1)?;
+                meter.drop_counted(interner);
+                return check_count(&text, 2);
+            }
+            Err(fault) => check_unchanged(&interner, fault)?,
+        }
+        check_count(&text, 2)?;
+    }
+    Err(Stop::Refused)
+}
+
+/// Compares the one text of an interner, and its symbol, with this text in a block of so many handles.
+fn check_interned(
+    interner: &Interner,
+    symbol: Symbol,
+    wanted: &str,
+    handles: usize,
+) -> Result<(), Stop> {
+    check(Part::Length, interner.len() == 1)?;
+    check(Part::Order, interner.get(wanted) == Some(symbol))?;
+    match interner.resolve(symbol) {
+        Some(text) => check_text(text, wanted, handles),
+        None => Err(Stop::Differs(Part::Text)),
+    }
+}
+
+/// Checks that a refused call was out of memory, and left no text behind.
+fn check_unchanged(interner: &Interner, fault: InternFault) -> Result<(), Stop> {
+    check(Part::Fault, fault == InternFault::Memory)?;
+    check(Part::Length, interner.is_empty())
+}
