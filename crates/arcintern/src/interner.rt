@@ -1,0 +1,150 @@
+//! `Interner`: each distinct text once.
+//!
+//! No call here allocates, clones a handle or takes an atomic step unless it says so.
+ghost use Rattle.std.specs.Prelude.{◌≡◌, ◌^◌, ◌<◌, ◌≤◌, ◌↔◌, [], length, IfErr, IfOk, IsTrue};
+ghost use Rattle.std.specs.Map.Iter.{ShowsInOrder, ShowsInReverse, deref};
+ghost use Rattle.arcstr.specs.TextView.{TextView};
+ghost use Rattle.arcintern.specs.Texts.{HasEachOnce};
+
+use crate::fault::InternFault;
+use arcstr::ArcStr;
+use indexmap::IndexSet;
+use indexmap::set::Iter;
+use std::alloc::Global;
+use std::hash::{BuildHasher, BuildHasherDefault, FoldHasher};
+use std::marker::Model;
+
+mod interning;
+mod lookup;
+
+/// The number of texts that an interner can hold.
+///
+/// ```
+/// assert_eq!(rt; MOST_TEXTS, 4_294_967_295);
+/// ```
+pub const MOST_TEXTS: usize = (1 << 32) - 1;
+
+/// Keeps each distinct text once, as an `ArcStr`, in the order in which the texts came. A text is interned and looked up in constant
+/// time, whatever the number of texts. A contract sees the list of the texts.
+///
+/// The default hasher has a fixed seed. Where an attacker picks the texts, make the interner by `with_hasher`.
+///
+/// ```
+/// let mut interner = Interner::new(rt.alloc());
+/// let symbol = interner.intern("foo")?;
+/// assert_eq!(rt; interner[symbol].as_str(), "foo");
+/// assert!(rt; interner.intern("foo")? == symbol);
+/// assert!(rt; interner.get("foo") == Some(symbol));
+/// ```
+#[derive(Drop)]
+pub struct Interner<S: BuildHasher = BuildHasherDefault<FoldHasher>> {
+    texts: IndexSet<ArcStr, S>,
+}
+
+impl<S: BuildHasher> Model for Interner<S> {
+    ghost use Rattle.std.specs.Prelude.{List, ◌≤◌, length};
+    ghost use Rattle.arcintern.specs.declared.interner.TheConstants.{MOST_TEXTS};
+    ghost use Rattle.arcstr.specs.TextView.{TextView};
+    ghost use Rattle.arcintern.specs.Texts.{HasEachOnce};
+
+    ghost Value = { List TextView };
+
+    ghost view = { λ interner. interner.texts.keys };
+
+    ghost invariant = { λ interner. HasEachOnce interner.texts.keys × (length interner.texts.keys ≤ MOST_TEXTS) };
+}
+
+impl Interner<BuildHasherDefault<FoldHasher>> {
+    /// An interner without texts.
+    ///
+    /// ```
+    /// let interner = Interner::new(rt.alloc());
+    /// assert!(rt; interner.is_empty());
+    /// ```
+    pub fn new(alloc: Global) -> Interner
+        ensures { result ≡ [] }
+    {
+        Interner::with_hasher(alloc, BuildHasherDefault::new())
+    }
+
+    /// An interner without texts, whose table has room for this many. It is allocated here, and none is for no texts. `Memory` is the
+    /// only fault.
+    ///
+    /// ```
+    /// let interner = Interner::with_capacity(rt.alloc(), 100)?;
+    /// assert_eq!(rt; interner.len(), 0);
+    /// ```
+    pub fn with_capacity(alloc: Global, texts: usize) -> Result<Interner, InternFault>
+        ensures empty { IfOk result (λ interner. interner ≡ []) }
+        ensures refused { IfErr result (λ fault. fault ≡ InternFault.Memory) }
+    {
+        let texts = IndexSet::with_capacity(alloc, texts)?;
+        Ok(Interner { texts })
+    }
+}
+
+impl<S: BuildHasher> Interner<S> {
+    /// An interner without texts, which hashes by `hash_builder`.
+    ///
+    /// ```
+    /// let mut interner = Interner::with_hasher(rt.alloc(), RandomState::new(&rt)?);
+    /// let symbol = interner.intern("foo")?;
+    /// assert!(rt; interner.get("foo") == Some(symbol));
+    /// ```
+    pub fn with_hasher(alloc: Global, hash_builder: S) -> Interner<S>
+        ensures { result ≡ [] }
+    {
+        Interner {
+            texts: IndexSet::with_hasher(alloc, hash_builder),
+        }
+    }
+
+    /// The number of texts.
+    ///
+    /// ```
+    /// let mut interner = Interner::new(rt.alloc());
+    /// interner.intern("foo")?;
+    /// interner.intern("foo")?;
+    /// assert_eq!(rt; interner.len(), 1);
+    /// ```
+    pub fn len(&self) -> usize
+        ensures len { result ≡ length self.now }
+        ensures most { result ≤ MOST_TEXTS }
+        ensures once { HasEachOnce self.now }
+    {
+        self.texts.len()
+    }
+
+    /// Whether there are no texts.
+    ///
+    /// ```
+    /// let mut interner = Interner::new(rt.alloc());
+    /// interner.intern("")?;
+    /// assert!(rt; !interner.is_empty());
+    /// ```
+    pub fn is_empty(&self) -> bool
+        ensures { IsTrue result ↔ (self.now ≡ []) }
+    {
+        self.texts.is_empty()
+    }
+
+    /// The texts, in the order of their symbols.
+    ///
+    /// ```
+    /// let mut interner = Interner::new(rt.alloc());
+    /// interner.intern("foo")?;
+    /// interner.intern("bar")?;
+    /// let mut texts = interner.iter();
+    /// assert!(rt; texts.next().is_some_and(|text| text.eq_str("foo")));
+    /// ```
+    pub fn iter(&self) -> Iter<'_, ArcStr>
+        ensures rest { result ≡ self.now }
+        ensures len { length result ≡ length self.now }
+        ensures once { HasEachOnce self.now }
+        ensures runs { ShowsInOrder (deref {X = TextView}) }
+        ensures runs_back { ShowsInReverse (deref {X = TextView}) }
+        ensures fits { length self.now < 2 ^ 63 }
+    {
+        self.texts.iter()
+    }
+}

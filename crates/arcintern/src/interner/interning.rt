@@ -1,0 +1,160 @@
+//! The calls that intern a text.
+ghost use Rattle.std.specs.Prelude.{◌≡◌, ◌<◌, ◌≤◌, ◌↔◌, ◌++◌, [], ◌∷◌, length, IfErr, IfOk, IfSome, IsErrOf, IsNone, IsOk, IsSome, IsTrue, OnErr, OnOk};
+ghost use Rattle.arcstr.specs.Making.{IsTooLong};
+ghost use Rattle.arcstr.specs.Substr.{text_of};
+ghost use Rattle.arcstr.specs.TextView.{made_of};
+ghost use Rattle.arcintern.specs.Texts.{HasEachOnce, HasWord, IsWhole, IsWordAt, KeepsTexts};
+
+use crate::fault::InternFault;
+use crate::interner::{Interner, MOST_TEXTS};
+use crate::symbol::Symbol;
+use arcstr::{ArcStr, Substr, TextFault};
+use std::alloc::Global;
+use std::hash::BuildHasher;
+use std::sync::Wait;
+
+impl<S: BuildHasher> Interner<S> {
+    /// The symbol of the text that spells this word. If there is none, a copy of the word becomes the last text: that allocates the
+    /// copy, which an empty word does not need, and more room if the table is full. A word that is there is never refused. Another one is
+    /// refused, in this order: by an interner of `MOST_TEXTS` texts (`Full`), if it has `2^63 - 25` bytes or more (`Length`), and out of
+    /// memory (`Memory`). A refused call leaves the texts as they were.
+    ///
+    /// ```
+    /// let mut interner = Interner::new(rt.alloc());
+    /// let symbol = interner.intern("foo")?;
+    /// assert!(rt; interner.intern("foo")? == symbol);
+    /// assert!(rt; interner.intern("bar")? != symbol);
+    /// ```
+    pub fn intern(&mut self, word: &str) -> Result<Symbol, InternFault>
+        ensures word { IfOk result (λ symbol. IsWordAt self.new symbol word.now) }
+        ensures known { HasWord self.old word.now → IsOk result }
+        ensures same { HasWord self.old word.now → self.new ≡ self.old }
+        ensures added { (¬ HasWord self.old word.now) → OnOk result (self.new ≡ self.old ++ made_of word.now ∷ []) }
+        ensures kept { KeepsTexts self.old self.new }
+        ensures once { HasEachOnce self.new }
+        ensures refused { OnErr result (self.new ≡ self.old) }
+        ensures full { IsErrOf result InternFault.Full ↔ ((¬ HasWord self.old word.now) × (MOST_TEXTS ≤ length self.old)) }
+        ensures too_long { IsErrOf result InternFault.Length ↔ ((¬ HasWord self.old word.now) × (length self.old < MOST_TEXTS) × IsTooLong (length word.now)) }
+    {
+        match self.known(word)? {
+            Some(symbol) => Ok(symbol),
+            None => {
+                let text = copied(*self.texts.allocator(), word)?;
+                self.push(text)
+            }
+        }
+    }
+
+    /// The symbol of the text that spells the same as this one. If there is none, a clone of this text becomes the last: that takes the
+    /// steps of `ArcStr::clone`, which can wait, and it allocates if the table is full. A text that is there is never refused. Another
+    /// one is refused, in this order: by an interner of `MOST_TEXTS` texts (`Full`), and out of memory (`Memory`). A refused call
+    /// leaves the texts as they were.
+    ///
+    /// ```
+    /// let mut interner = Interner::new(rt.alloc());
+    /// let text = ArcStr::from_str(rt.alloc(), "foo")?;
+    /// let symbol = interner.intern_arc(&rt, &text)?;
+    /// assert!(rt; interner.get("foo") == Some(symbol));
+    /// assert_eq!(rt; ArcStr::strong_count(&text), Some(2));
+    /// ```
+    pub fn intern_arc(&mut self, rt: &impl Wait, text: &ArcStr) -> Result<Symbol, InternFault>
+        ensures word { IfOk result (λ symbol. IsWordAt self.new symbol text.now.text) }
+        ensures known { HasWord self.old text.now.text → IsOk result }
+        ensures same { HasWord self.old text.now.text → self.new ≡ self.old }
+        ensures added { (¬ HasWord self.old text.now.text) → OnOk result (self.new ≡ self.old ++ text.now ∷ []) }
+        ensures kept { KeepsTexts self.old self.new }
+        ensures once { HasEachOnce self.new }
+        ensures refused { OnErr result (self.new ≡ self.old) }
+        ensures full { IsErrOf result InternFault.Full ↔ ((¬ HasWord self.old text.now.text) × (MOST_TEXTS ≤ length self.old)) }
+        ensures never_too_long { ¬ (IsErrOf result InternFault.Length) }
+    {
+        match self.known(text.as_str())? {
+            Some(symbol) => Ok(symbol),
+            None => self.push(text.clone(rt)),
+        }
+    }
+
+    /// The symbol of the text that spells the same as this slice. If there is none, the last text becomes a clone of the slice's parent
+    /// where the slice is all of it, as by `intern_arc`, and else a copy of the slice, as by `intern`. So a slice keeps no longer text
+    /// alive. Refused as these two are.
+    ///
+    /// ```
+    /// let mut interner = Interner::new(rt.alloc());
+    /// let text = ArcStr::from_str(rt.alloc(), "foobar")?;
+    /// let symbol = interner.intern_substr(&rt, &text.substr(&rt, 3..)?)?;
+    /// assert!(rt; interner[symbol].eq_str("bar"));
+    /// assert_eq!(rt; ArcStr::strong_count(&text), Some(1));
+    /// ```
+    pub fn intern_substr(&mut self, rt: &impl Wait, slice: &Substr) -> Result<Symbol, InternFault>
+        ensures word { IfOk result (λ symbol. IsWordAt self.new symbol (text_of slice.now)) }
+        ensures known { HasWord self.old (text_of slice.now) → IsOk result }
+        ensures same { HasWord self.old (text_of slice.now) → self.new ≡ self.old }
+        ensures added_whole { (¬ HasWord self.old (text_of slice.now)) → IsWhole slice.now → OnOk result (self.new ≡ self.old ++ slice.now.parent ∷ []) }
+        ensures added_part { (¬ HasWord self.old (text_of slice.now)) → (¬ IsWhole slice.now) → OnOk result (self.new ≡ self.old ++ made_of (text_of slice.now) ∷ []) }
+        ensures kept { KeepsTexts self.old self.new }
+        ensures once { HasEachOnce self.new }
+        ensures refused { OnErr result (self.new ≡ self.old) }
+        ensures full { IsErrOf result InternFault.Full ↔ ((¬ HasWord self.old (text_of slice.now)) × (MOST_TEXTS ≤ length self.old)) }
+        ensures too_long_part { (¬ IsWhole slice.now) → (IsErrOf result InternFault.Length ↔ ((¬ HasWord self.old (text_of slice.now)) × (length self.old < MOST_TEXTS) × IsTooLong (length (text_of slice.now)))) }
+        ensures never_too_long_whole { IsWhole slice.now → ¬ (IsErrOf result InternFault.Length) }
+    {
+        if is_whole(slice) {
+            self.intern_arc(rt, slice.parent())
+        } else {
+            self.intern(slice.as_str())
+        }
+    }
+
+    /// The symbol of this word, where it has a text. Without one, `Full` where the interner has no room for it.
+    fn known(&self, word: &str) -> Result<Option<Symbol>, InternFault>
+        ensures found { IfOk result (λ found. IfSome found (λ symbol. IsWordAt self.now symbol word.now)) }
+        ensures there { IfOk result (λ found. IsSome found ↔ HasWord self.now word.now) }
+        ensures once { HasEachOnce self.now }
+        ensures room { IfOk result (λ found. IsNone found → length self.now < MOST_TEXTS) }
+        ensures full { IfErr result (λ fault. (fault ≡ InternFault.Full) × (¬ HasWord self.now word.now) × (MOST_TEXTS ≤ length self.now)) }
+    {
+        match self.get(word) {
+            Some(symbol) => Ok(Some(symbol)),
+            None if self.len() < MOST_TEXTS => Ok(None),
+            None => Err(InternFault::Full),
+        }
+    }
+
+    /// Adds a text whose word is new.
+    fn push(&mut self, text: ArcStr) -> Result<Symbol, InternFault>
+        requires absent { ¬ HasWord self.old text.text }
+        requires room { length self.old < MOST_TEXTS }
+        ensures word { IfOk result (λ symbol. IsWordAt self.new symbol text.text) }
+        ensures kept { KeepsTexts self.old self.new }
+        ensures added { OnOk result (self.new ≡ self.old ++ text ∷ []) }
+        ensures once { HasEachOnce self.new }
+        ensures refused { OnErr result (self.new ≡ self.old) }
+        ensures fault { IfErr result (λ fault. fault ≡ InternFault.Memory) }
+    {
+        let symbol = Symbol::at(self.texts.len());
+        self.texts.insert(text)?;
+        Ok(symbol)
+    }
+}
+
+/// A copy of the word.
+fn copied(alloc: Global, word: &str) -> Result<ArcStr, InternFault>
+    ensures made { IfOk result (λ text. text ≡ made_of word.now) }
+    ensures too_long { IsErrOf result InternFault.Length ↔ IsTooLong (length word.now) }
+    ensures never_full { IfErr result (λ fault. ¬ (fault ≡ InternFault.Full)) }
+{
+    match ArcStr::from_str(alloc, word) {
+        Ok(text) => Ok(text),
+        Err(TextFault::Length) => Err(InternFault::Length),
+        Err(_) => Err(InternFault::Memory),
+    }
+}
+
+/// Whether the slice is all of its parent.
+fn is_whole(slice: &Substr) -> bool
+    ensures whole { IsTrue result ↔ IsWhole slice.now }
+    ensures text { IsWhole slice.now → text_of slice.now ≡ slice.now.parent.text }
+{
+    let range = slice.range();
+    range.start == 0 && range.end == slice.parent().len()
+}

@@ -1,0 +1,14 @@
+//! An interner: it keeps each distinct text once, as an `ArcStr`, and numbers the texts in the order in which they came.
+#![tactic(auto)]
+
+pub use fault::InternFault;
+pub use interner::{Interner, MOST_TEXTS};
+pub use symbol::Symbol;
+
+#[cfg(test)]
+mod examples;
+mod fault;
+mod interner;
+mod symbol;
+#[cfg(test)]
+mod tests;
