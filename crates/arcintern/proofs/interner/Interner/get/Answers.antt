@@ -1,4 +1,4 @@
-use Rattle.std.proofs.Common.{◌≡◌, ◌∙◌, Some, ap, is_some, position, refl, subst, sym}
+use Rattle.std.proofs.Common.{arith, ◌≡◌, ◌∙◌, Some, ap, is_some, position, refl, subst, sym}
 use Rattle.std.specs.Prelude.{IsSome, ◌↔◌, bytes_eq}
 use Rattle.arcintern.specs.Texts.{HasWord}
 use Rattle.arcintern.proofs.Lookups.{found_exactly, word_at_position}
@@ -21,4 +21,5 @@ returns-clause-word g c =
     let found : position (λ text. bytes_eq c.args.word.now text.text) c.args.self.now ≡ Some c.in_ok-index.index =
     subst (λ texts. position (λ text. bytes_eq c.args.word.now text.text) texts ≡ Some c.in_ok-index.index) c.self.view_is
     (sym c.get_index_of.ensures.index ∙ c.in_ok-index.was) in
-    rw c.at.ensures (word_at_position _ c.args.word.now _ found)
+    let number : c.at.result ≡ c.in_ok-index.index = omega arith in
+    rw number (word_at_position _ c.args.word.now _ found)

@@ -1,4 +1,4 @@
-use Rattle.std.proofs.Common.{◌≡◌, ◌∙◌, ap, length, subst, sym}
+use Rattle.std.proofs.Common.{◌≡◌, ap, arith, length, subst, sym}
 use Rattle.arcintern.specs.Texts.{HasEachOnce, IsWordAt, KeepsTexts}
 use Rattle.arcintern.proofs.Lookups.{insert_key-new, once-push, IsWordAt-push, KeepsTexts-push}
 use Rattle.arcintern.proofs.interner.Interner.push.Goals as goal
@@ -17,6 +17,6 @@ returns-clause-kept g c = subst (KeepsTexts c.args.self.now) (sym (returns-claus
 
 pub returns-clause-word : goal.returns-clause-word
 returns-clause-word g c =
-    let last : c.at-symbol.result ≡ length c.args.self.now = c.at-symbol.ensures ∙ c.len.ensures.len ∙ ap length c.self.view_is in
+    let last : c.at-symbol.result ≡ length c.args.self.now = omega (arith, c.len.ensures.len, ap length c.self.view_is) in
     let word = IsWordAt-push c.args.self.now c.args.text in
     rw last (subst (λ texts. IsWordAt texts (length c.args.self.now) c.args.text.text) (sym (returns-clause-added g c)) word)
