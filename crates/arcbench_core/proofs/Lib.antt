@@ -1,8 +1,8 @@
 pub mod Lines
 pub mod Numbers
 pub mod WorkedExamples
-pub mod Joined
-pub mod LinesDone
+pub mod JoinedAnswers
+pub mod AnsweredLines
 pub mod LineTexts
 pub mod TokensPrinted
-pub mod Utf8Known
+pub mod KnownUtf8

@@ -19,8 +19,8 @@ is_decimal-true text h = rw (h.0, lt-ltb _ _ h.1, lt-ltb _ _ h.2) refl
 pub from_is_decimal : (text : List ℕ) → is_decimal text ≡ true → (all_ascii_digits text ≡ true) × (0 < length text) × (digits_value 10 text < 2 ^ 64)
 from_is_decimal text h =
     let parts = and_parts _ _ h in
-    let front = and_parts _ _ parts.0 in
-    (front.0, ltb-true _ _ front.1, ltb-true _ _ parts.1)
+    let prefix = and_parts _ _ parts.0 in
+    (prefix.0, ltb-true _ _ prefix.1, ltb-true _ _ parts.1)
 
 -- the value, if the text is decimal, according to `parse`
 decimal_by : (text : List ℕ) (b : Bool) → is_decimal text ≡ b → {E : Type 0} → (r : Result ℕ E) → OkIff r ((all_ascii_digits text ≡ true) × (0 < length text) × (digits_value 10 text < 2 ^ 64)) (digits_value 10 text) → result_ok r ≡ (if b then Some (digits_value 10 text) else None)

@@ -28,7 +28,7 @@ slice_lines-more number slices k slice within read =
 pub appended-more : (start before after passed line all : List ℕ) → after ≡ before ++ line
     → before ≡ start ++ passed → all ≡ passed ++ line → after ≡ start ++ all
 appended-more start before after passed line all grown so_far more =
-    grown ∙ ap (λ front. front ++ line) so_far ∙ append_assoc start passed line ∙ ap (λ lines. start ++ lines) (sym more)
+    grown ∙ ap (λ prefix. prefix ++ line) so_far ∙ append_assoc start passed line ∙ ap (λ lines. start ++ lines) (sym more)
 
 -- one more list
 lines_of_lists-push : (number : ℕ) (lists : List TokenList) (list : TokenList)
@@ -75,7 +75,7 @@ HasWords-tokens number (text ∷ texts) (list ∷ lists) are =
       words = here.words ∷ more.words;
       are_words = (here.are_words, more.are_words);
       lines =
-          ap (λ front. front ++ lines_of_lists (number + 1) lists) (ap (slice_lines number) here.slices_of_words ∙ slice_lines-words number text here.words)
+          ap (λ prefix. prefix ++ lines_of_lists (number + 1) lists) (ap (slice_lines number) here.slices_of_words ∙ slice_lines-words number text here.words)
           ∙ ap (λ rest. word_lines number text.text here.words ++ rest) more.lines;
     }
 

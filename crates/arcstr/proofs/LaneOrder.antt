@@ -8,7 +8,7 @@ use Rattle.std.specs.Simd.Lanes.{mask_l, zip2}
 use Rattle.std.proofs.lemmas.Bool.Decides.{nat_tests}
 use Rattle.std.proofs.lemmas.Simd.{length-chunk, get_or-chunk}
 use lib.Count.{count_trailing_zeros, under}
-use Rattle.arcstr.proofs.FrontOrder.{by_next, nat_cmp-above}
+use Rattle.arcstr.proofs.PrefixOrder.{by_next, nat_cmp-above}
 use Rattle.arcstr.proofs.TextOrders.{nat_cmp-below, nat_cmp-itself}
 
 -- a lane for each position, `true` if the bytes differ

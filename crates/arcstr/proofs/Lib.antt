@@ -1,8 +1,8 @@
 pub mod Copies
-pub mod Finding
+pub mod FirstMatches
 pub mod Places
 pub mod SubstrExamples
 pub mod TextOrders
 pub mod OrderExamples
-pub mod FrontOrder
+pub mod PrefixOrder
 pub mod LaneOrder

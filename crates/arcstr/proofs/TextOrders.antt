@@ -11,8 +11,8 @@ use Rattle.arcstr.specs.TextOrder.{ComesBefore, IsTextOrder}
 -- one more byte at the start of both texts
 ComesBefore-cons : (x y : ℕ) (xs ys : List ℕ) → x ≡ y → ComesBefore xs ys → ComesBefore (x ∷ xs) (y ∷ ys)
 ComesBefore-cons x y xs ys same (inl (next, rest, is)) = inl (next, rest, cc)
-ComesBefore-cons x y xs ys same (inr (front, after)) = inr (
-  x ∷ front,
+ComesBefore-cons x y xs ys same (inr (prefix, after)) = inr (
+  x ∷ prefix,
   record {
     low = after.low;
     high = after.high;
@@ -75,9 +75,9 @@ nat_cmp-below x y below = by_ranked (nat_cmp x y) (ranked x y (nat_cmp x y) refl
     by_ranked Equal is = absurd (omega arith)
     by_ranked Greater is = absurd (omega arith)
 
-pub slice_cmp-front : (front xs ys : List ℕ) → slice_cmp nat_cmp (front ++ xs) (front ++ ys) ≡ slice_cmp nat_cmp xs ys
-slice_cmp-front [] xs ys = refl
-slice_cmp-front (x ∷ front) xs ys = rw (nat_cmp-itself x) (slice_cmp-front front xs ys)
+pub slice_cmp-prefix : (prefix xs ys : List ℕ) → slice_cmp nat_cmp (prefix ++ xs) (prefix ++ ys) ≡ slice_cmp nat_cmp xs ys
+slice_cmp-prefix [] xs ys = refl
+slice_cmp-prefix (x ∷ prefix) xs ys = rw (nat_cmp-itself x) (slice_cmp-prefix prefix xs ys)
 
 -- a proper prefix compares as `Less`
 slice_cmp-longer : (xs : List ℕ) (next : ℕ) (rest : List ℕ) → slice_cmp nat_cmp xs (xs ++ (next ∷ rest)) ≡ Less
@@ -87,8 +87,8 @@ slice_cmp-longer (x ∷ xs) next rest = rw (nat_cmp-itself x) (slice_cmp-longer 
 -- a text that comes before compares as `Less`
 Less-of_ComesBefore : (xs ys : List ℕ) → ComesBefore xs ys → slice_cmp nat_cmp xs ys ≡ Less
 Less-of_ComesBefore xs ys (inl (next, rest, is)) = rw is (slice_cmp-longer xs next rest)
-Less-of_ComesBefore xs ys (inr (front, after)) =
-    rw after.one_is (rw after.other_is (rw (slice_cmp-front front) (rw (nat_cmp-below after.low after.high after.below))))
+Less-of_ComesBefore xs ys (inr (prefix, after)) =
+    rw after.one_is (rw after.other_is (rw (slice_cmp-prefix prefix) (rw (nat_cmp-below after.low after.high after.below))))
 
 -- the comparison of two texts by their bytes is the order of texts
 pub IsTextOrder-slice_cmp : (xs ys : List ℕ) (answer : Ordering) → answer ≡ slice_cmp nat_cmp xs ys → IsTextOrder xs ys answer

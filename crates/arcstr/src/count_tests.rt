@@ -37,7 +37,7 @@ fn a_found_slice_holds_its_text_once(rt: HostRuntime) {
 }
 
 /// Asserts that the call gave the expected result, and that the text has only its own handle afterwards.
-fn check_let_go(rt: &impl Abort, text: &ArcStr, answers: bool) {
+fn check_dropped(rt: &impl Abort, text: &ArcStr, answers: bool) {
     assert!(rt; answers);
     check_count(rt, text, Some(1));
 }
@@ -45,45 +45,45 @@ fn check_let_go(rt: &impl Abort, text: &ArcStr, answers: bool) {
 #[test]
 fn a_refused_slice_holds_nothing(rt: HostRuntime) {
     let text = made(&rt, "aé");
-    check_let_go(&rt, &text, text.substr(&rt, 0..2).is_err());
-    check_let_go(&rt, &text, text.substr_using(&rt, |_| 0..9).is_err());
+    check_dropped(&rt, &text, text.substr(&rt, 0..2).is_err());
+    check_dropped(&rt, &text, text.substr_using(&rt, |_| 0..9).is_err());
     let view = StrView::at("b", 0).expect(&rt, "no view");
-    check_let_go(&rt, &text, text.try_substr_from(&rt, view).is_none());
+    check_dropped(&rt, &text, text.try_substr_from(&rt, view).is_none());
 }
 
 #[test]
 fn the_slice_of_nothing_holds_no_text(rt: HostRuntime) {
     let text = made(&rt, "foo");
     let nothing = text.substr_using(&rt, |_| 2..2).expect(&rt, "no slice");
-    check_let_go(&rt, &text, nothing.is_empty());
+    check_dropped(&rt, &text, nothing.is_empty());
     let view = StrView::at("", 1).expect(&rt, "no view");
     let nothing = text.substr_from(&rt, view);
-    check_let_go(&rt, &text, nothing.is_empty());
+    check_dropped(&rt, &text, nothing.is_empty());
 }
 
 #[test]
 fn reading_leaves_the_count(rt: HostRuntime) {
     let text = made(&rt, "foo");
-    check_let_go(&rt, &text, text.as_str() == "foo");
-    check_let_go(&rt, &text, text.as_bytes().len() == text.len());
-    check_let_go(&rt, &text, !text.is_empty());
-    check_let_go(&rt, &text, text.get(1..) == Some("oo"));
+    check_dropped(&rt, &text, text.as_str() == "foo");
+    check_dropped(&rt, &text, text.as_bytes().len() == text.len());
+    check_dropped(&rt, &text, !text.is_empty());
+    check_dropped(&rt, &text, text.get(1..) == Some("oo"));
 }
 
 #[test]
 fn asking_for_a_mark_leaves_the_count(rt: HostRuntime) {
     let text = made(&rt, "foo");
-    check_let_go(&rt, &text, !ArcStr::is_static(&text));
-    check_let_go(&rt, &text, ArcStr::as_static(&text).is_none());
-    check_let_go(&rt, &text, ArcStr::strong_count(&text) == Some(1));
+    check_dropped(&rt, &text, !ArcStr::is_static(&text));
+    check_dropped(&rt, &text, ArcStr::as_static(&text).is_none());
+    check_dropped(&rt, &text, ArcStr::strong_count(&text) == Some(1));
 }
 
 #[test]
 fn comparing_leaves_the_counts(rt: HostRuntime) {
     let (one, other) = (made(&rt, "foo"), made(&rt, "bar"));
-    check_let_go(&rt, &one, one != other && other.eq_str("bar"));
-    check_let_go(&rt, &one, one.cmp(&other) == Ordering::Greater);
-    check_let_go(&rt, &one, other.partial_cmp(&one) == Some(Ordering::Less));
+    check_dropped(&rt, &one, one != other && other.eq_str("bar"));
+    check_dropped(&rt, &one, one.cmp(&other) == Ordering::Greater);
+    check_dropped(&rt, &one, other.partial_cmp(&one) == Some(Ordering::Less));
     check_count(&rt, &other, Some(1));
 }
 
@@ -102,10 +102,10 @@ fn gave<T: Drop, E: Drop>(answer: Result<T, E>) -> bool {
 #[test]
 fn printing_leaves_the_count(rt: HostRuntime) {
     let text = made(&rt, "foo");
-    check_let_go(&rt, &text, gave(text.to_string(rt.alloc())));
-    check_let_go(&rt, &text, gave(format!(in rt.alloc(); "{text}")));
-    check_let_go(&rt, &text, gave(format!(in rt.alloc(); "{text:>5}")));
-    check_let_go(&rt, &text, gave(format!(in rt.alloc(); "{text:?}")));
+    check_dropped(&rt, &text, gave(text.to_string(rt.alloc())));
+    check_dropped(&rt, &text, gave(format!(in rt.alloc(); "{text}")));
+    check_dropped(&rt, &text, gave(format!(in rt.alloc(); "{text:>5}")));
+    check_dropped(&rt, &text, gave(format!(in rt.alloc(); "{text:?}")));
 }
 
 #[test]
@@ -122,14 +122,14 @@ fn a_json_value_holds_no_text(rt: HostRuntime) {
 fn a_borrowed_text_is_counted_once(rt: HostRuntime) {
     let text = made(&rt, "foo");
     let cow = text.to_cow();
-    check_let_go(&rt, &text, cow.as_str() == "foo");
+    check_dropped(&rt, &text, cow.as_str() == "foo");
 }
 
 #[test]
 fn a_copied_text_gives_its_handle_back(rt: HostRuntime) {
     let text = made(&rt, "foo");
     let cow = text.clone(&rt).into_cow(rt.alloc());
-    check_let_go(&rt, &text, cow.is_ok());
+    check_dropped(&rt, &text, cow.is_ok());
 }
 
 #[test]

@@ -47,7 +47,7 @@ fn a_clone_of_a_slice_holds_the_parent_once(rt: HostRuntime) {
 }
 
 /// Asserts that the call gave the expected result, and that the parent has only its own handle afterwards.
-fn check_let_go(rt: &impl Abort, slice: &Substr, answers: bool) {
+fn check_dropped(rt: &impl Abort, slice: &Substr, answers: bool) {
     assert!(rt; answers);
     check_count(rt, slice.parent(), Some(1));
 }
@@ -55,38 +55,38 @@ fn check_let_go(rt: &impl Abort, slice: &Substr, answers: bool) {
 #[test]
 fn a_refused_slice_of_a_slice_holds_nothing(rt: HostRuntime) {
     let slice = bar(&rt);
-    check_let_go(&rt, &slice, slice.substr(&rt, 0..5).is_err());
-    check_let_go(&rt, &slice, slice.substr_using(&rt, |_| 0..9).is_err());
+    check_dropped(&rt, &slice, slice.substr(&rt, 0..5).is_err());
+    check_dropped(&rt, &slice, slice.substr_using(&rt, |_| 0..9).is_err());
     let view = StrView::at("b", 3).expect(&rt, "no view");
-    check_let_go(&rt, &slice, slice.try_substr_from(&rt, view).is_none());
+    check_dropped(&rt, &slice, slice.try_substr_from(&rt, view).is_none());
 }
 
 #[test]
 fn the_slice_of_nothing_of_a_slice_holds_no_parent(rt: HostRuntime) {
     let slice = bar(&rt);
     let nothing = slice.substr_using(&rt, |_| 2..2).expect(&rt, "no slice");
-    check_let_go(&rt, &slice, nothing.is_empty());
+    check_dropped(&rt, &slice, nothing.is_empty());
     let view = StrView::at("", 1).expect(&rt, "no view");
     let nothing = slice.substr_from(&rt, view);
-    check_let_go(&rt, &slice, nothing.is_empty());
+    check_dropped(&rt, &slice, nothing.is_empty());
 }
 
 #[test]
 fn reading_a_slice_leaves_the_count(rt: HostRuntime) {
     let slice = bar(&rt);
-    check_let_go(&rt, &slice, slice.as_str() == "bar");
-    check_let_go(&rt, &slice, slice.as_bytes().len() == slice.len());
-    check_let_go(&rt, &slice, !slice.is_empty());
-    check_let_go(&rt, &slice, slice.get(1..) == Some("ar"));
-    check_let_go(&rt, &slice, slice.range() == (3..6));
+    check_dropped(&rt, &slice, slice.as_str() == "bar");
+    check_dropped(&rt, &slice, slice.as_bytes().len() == slice.len());
+    check_dropped(&rt, &slice, !slice.is_empty());
+    check_dropped(&rt, &slice, slice.get(1..) == Some("ar"));
+    check_dropped(&rt, &slice, slice.range() == (3..6));
 }
 
 #[test]
 fn comparing_slices_leaves_the_counts(rt: HostRuntime) {
     let (one, other) = (bar(&rt), bar(&rt));
-    check_let_go(&rt, &one, one == other && other.eq_str("bar"));
-    check_let_go(&rt, &one, one.cmp(&other) == Ordering::Equal);
-    check_let_go(&rt, &one, other.partial_cmp(&one) == Some(Ordering::Equal));
+    check_dropped(&rt, &one, one == other && other.eq_str("bar"));
+    check_dropped(&rt, &one, one.cmp(&other) == Ordering::Equal);
+    check_dropped(&rt, &one, other.partial_cmp(&one) == Some(Ordering::Equal));
     check_count(&rt, other.parent(), Some(1));
 }
 
@@ -105,10 +105,10 @@ fn gave<T: Drop, E: Drop>(answer: Result<T, E>) -> bool {
 #[test]
 fn printing_a_slice_leaves_the_count(rt: HostRuntime) {
     let slice = bar(&rt);
-    check_let_go(&rt, &slice, gave(slice.to_string(rt.alloc())));
-    check_let_go(&rt, &slice, gave(format!(in rt.alloc(); "{slice}")));
-    check_let_go(&rt, &slice, gave(format!(in rt.alloc(); "{slice:>5}")));
-    check_let_go(&rt, &slice, gave(format!(in rt.alloc(); "{slice:?}")));
+    check_dropped(&rt, &slice, gave(slice.to_string(rt.alloc())));
+    check_dropped(&rt, &slice, gave(format!(in rt.alloc(); "{slice}")));
+    check_dropped(&rt, &slice, gave(format!(in rt.alloc(); "{slice:>5}")));
+    check_dropped(&rt, &slice, gave(format!(in rt.alloc(); "{slice:?}")));
 }
 
 #[test]
@@ -125,12 +125,12 @@ fn a_json_value_holds_no_parent(rt: HostRuntime) {
 fn a_borrowed_slice_is_counted_once(rt: HostRuntime) {
     let slice = bar(&rt);
     let cow = slice.to_cow();
-    check_let_go(&rt, &slice, cow.as_str() == "bar");
+    check_dropped(&rt, &slice, cow.as_str() == "bar");
 }
 
 #[test]
 fn a_copied_slice_gives_its_handle_back(rt: HostRuntime) {
     let slice = bar(&rt);
     let cow = slice.clone(&rt).into_cow(rt.alloc());
-    check_let_go(&rt, &slice, cow.is_ok());
+    check_dropped(&rt, &slice, cow.is_ok());
 }

@@ -23,8 +23,8 @@ one_more (suc n) text = ap (λ rest. text ++ rest) (one_more n text) ∙ sym (ap
 pub next_copy : (k m : ℕ) (old text rest : List ℕ) → length text ≡ m → k * m ≤ length old → take (k * m) old ≡ repeat k text
     → take (suc k * m) ((take (k * m) old ++ text) ++ rest) ≡ repeat (suc k) text
 next_copy k m old text rest long within made =
-    let front : List ℕ = take (k * m) old in let all : List ℕ = front ++ text in
-    let end : suc k * m ≡ length all = omega (arith, suc-mul k m, length-append front text, length-take-le (k * m) old within, long) in
+    let prefix : List ℕ = take (k * m) old in let all : List ℕ = prefix ++ text in
+    let end : suc k * m ≡ length all = omega (arith, suc-mul k m, length-append prefix text, length-take-le (k * m) old within, long) in
     ap (λ n. take n (all ++ rest)) end ∙ take-append_seam all rest ∙ ap (λ xs. xs ++ text) made ∙ sym (one_more k text)
 
 pub copies_are_text : (n : ℕ) (text : List ℕ) → IsUtf8 text → IsUtf8 (repeat n text)

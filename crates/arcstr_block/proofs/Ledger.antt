@@ -8,7 +8,7 @@ use types.Logic.{Logic, sem}
 use types.Kit.{‵, ◌⊛◌, ◌$◌, ◌∵◌, !, qed, by, move, keep, split, fsplit3, fjoin, fjoin3, fpick, fpack, use1, use2, done}
 use denote.Steps.{nothing}
 use Rattle.arcstr_block.specs.Ledger.{parts, some_share, Id, Phase, unmarked, marked, Fits, rest, phase, Ledger}
-use Rattle.arcstr_block.proofs.Parts.{parts_cut, parts_glue, parts_whole, share_halves, part_share}
+use Rattle.arcstr_block.proofs.TokenParts.{parts_cut, parts_glue, parts_whole, share_halves, part_share}
 
 module _ {M : Type 1} {𝓤 : Ura M} (𝓛 : Logic 𝓤) (P : Fml) (L b o : ℕ) (t : Id) where
   open 𝓛 use {H, A}

@@ -18,8 +18,8 @@ use Rattle.arcstr_block.specs.Rights.{Right, Loads}
 use Rattle.arcstr_block.specs.Book.{Book, reached, seat_share, Ends}
 use Rattle.arcstr_block.specs.Ledger.{Id, fact, right_to}
 use Rattle.arcstr_block.proofs.Book.{book_look}
-use Rattle.arcstr_block.proofs.Marked.{marked_by_word}
-use Rattle.arcstr_block.proofs.Turns.{finds}
+use Rattle.arcstr_block.proofs.MarkedHistories.{marked_by_word}
+use Rattle.arcstr_block.proofs.CloneSteps.{finds}
 use Rattle.arcstr_block.proofs.Steps.{Gain, none, share, gained}
 use Rattle.arcstr_block.proofs.Rights.{Becomes, newborn, looked, found}
 

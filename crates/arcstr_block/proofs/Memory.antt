@@ -28,7 +28,7 @@ use denote.Struct.Laws.{u8-laws, u8-copy, u64-laws, u64-copy}
 use denote.Struct.Lending.{lent_at, lent_at_shr_laws, Lends, Lends-both, Lends-first, Lends-lies}
 use Rattle.core.specs.Sync.RawAtomic.{word}
 use Rattle.core.proofs.tally.Steps.{word_out}
-use Rattle.arcstr_block.specs.Memory.{Fits, word_place, block_size, block_type, length_at, rooms, word_lies, length_lies, text_lies, rim, block_owns}
+use Rattle.arcstr_block.specs.Memory.{Fits, word_offset, block_size, block_type, length_at, rooms, word_lies, length_lies, text_lies, rim, block_owns}
 use Rattle.arcstr_block.specs.Memory.{block_shares}
 
 pub block_bytes : (n : ℕ) → Fits n → capped (size (bare (block_type n))) ≡ block_size n
@@ -65,7 +65,7 @@ module _ {M : Type 1} {𝓤 : Ura M} (𝓛 : Logic 𝓤) where
   pub spreads : (n b o : ℕ)
       → ent 𝓤 (H.room (bare (block_type n)) b o) (sep 𝓤 (sem 𝓛 (rooms n b o)) (sem 𝓛 (fwand (rooms n b o) (froom (bare (block_type n)) b o))))
   spreads n b o = let x : ℕ = o + up 1 0 in let y : ℕ = o + up 8 (up 1 0 + n * 1) in let z : ℕ = o + up 8 (up 8 (up 1 0 + n * 1) + 8) in
-      let u : ℕ = o + word_place n in
+      let u : ℕ = o + word_offset n in
       let ex : x ≡ o = omega arith in let ey : y ≡ u + 0 = omega arith in let ez : z ≡ u + 8 = omega arith in
       subst (λ (at : ℕ × ℕ × ℕ). Spreads n b o at.0 at.1 at.2) (λ i. (ex i, ey i, ez i))
       (𝓛.laws.room_fields [] (tcons (ty_array (ty_int w8) n) (tcons (ty_int w64) (tcons (ty_int w64) tnil))) b o)
@@ -74,7 +74,7 @@ module _ {M : Type 1} {𝓤 : Ura M} (𝓛 : Logic 𝓤) where
   pub gathers : (holds : Ty → Ptr → Fml) (b o w : ℕ) (xs : List ℕ)
       → ent 𝓤 (sep 𝓤 (sem 𝓛 (word_lies (block_ptr b o) (length xs) w)) (sem 𝓛 (block_owns holds (block_ptr b o) xs)))
       (sep 𝓤 (H.room (bare (block_type (length xs))) b o) (sem 𝓛 (holds (bare (block_type (length xs))) (block_ptr b o))))
-  gathers holds b o w xs = let n : ℕ = length xs in let τ : Ty = bare (block_type n) in let u : ℕ = o + word_place n in
+  gathers holds b o w xs = let n : ℕ = length xs in let τ : Ty = bare (block_type n) in let u : ℕ = o + word_offset n in
       qed 𝓛 (‵ (word b (u + 0) w) ∷ ‵ (block_owns holds (block_ptr b o) xs) ∷ []) ∵
       use1 𝓛 (‵ (froom (ty_int w64) b (u + 0))) (𝓛.laws.at_room (ty_int w64) b (u + 0) (vint w64 w)) $ move ! (1 ∷ []) $ fsplit3 ! $
       -- [the length; the bytes; the rim; room for the word]

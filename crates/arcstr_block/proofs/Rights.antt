@@ -19,11 +19,11 @@ use Rattle.arcstr_count.specs.Word.{FlagAndCount}
 use Rattle.arcstr_block.specs.Word.{IsMarked, IsUnmarked, IsLast, one}
 use Rattle.arcstr_block.specs.Rights.{MaySee, IsFree, HasSeat, counted, uncounted, Looks, Finds, Gains, Begins, Leaves, Right, nothing, fixed, dropping, owed}
 use Rattle.arcstr_block.specs.Book.{seat, seat_share}
-use Rattle.arcstr_block.specs.Ledger.{Id, parts, some_share, Inv, stated, for_good, right_to, shown, knows}
-use Rattle.arcstr_block.proofs.Parts.{parts_in}
+use Rattle.arcstr_block.specs.Ledger.{Id, parts, some_share, Inv, stated, permanent, right_to, shown, knows}
+use Rattle.arcstr_block.proofs.TokenParts.{parts_in}
 use Rattle.arcstr_block.proofs.Words.{odd_or_even, unmarked_word, last_two}
 use Rattle.arcstr_block.proofs.Book.{begun, left_in, Born}
-use Rattle.arcstr_block.proofs.Lent.{free_in}
+use Rattle.arcstr_block.proofs.PointerShares.{free_in}
 use Rattle.arcstr_block.proofs.Steps.{Gain, none, part, share, last, gained}
 
 -- a free handle that is not uncounted is counted
@@ -130,8 +130,8 @@ module _ {M : Type 1} {𝓤 : Ura M} (𝓛 : Logic 𝓤) (P : Fml) (L b o : ℕ)
     knows_mark = all_i 𝓤 {P = A.dead (t.1 ∷ [])} (λ (_ : uncounted ≡ uncounted). A.dead (t.1 ∷ [])) (λ _. id⊢ 𝓤 (A.dead (t.1 ∷ [])))
 
     -- a share becomes permanent when it is borrowed for a lifetime that never ends
-    for_good_of : ⟦ gained 𝓛 P L b o t share ⟧ ∗ ⟦ s a ⟧ ⊢ H.⇛ ⟦ Held 0 fixed ⟧
-    for_good_of = qed 𝓛 (‵ (gained 𝓛 P L b o t share) ∷ ‵ (s a) ∷ []) ∵ updating ! $ fsplit ! $ fpick ! (λ e. bor_new ! tt [] $ bor_fracture ! tt (λ q.
+    permanent_of : ⟦ gained 𝓛 P L b o t share ⟧ ∗ ⟦ s a ⟧ ⊢ H.⇛ ⟦ Held 0 fixed ⟧
+    permanent_of = qed 𝓛 (‵ (gained 𝓛 P L b o t share) ∷ ‵ (s a) ∷ []) ∵ updating ! $ fsplit ! $ fpick ! (λ e. bor_new ! tt [] $ bor_fracture ! tt (λ q.
         flft a q) e $
         move ! (0 ∷ 2 ∷ []) $ fjoin ! $ move ! (0 ∷ 2 ∷ []) $ fjoin ! $ now ! $ keep ! (0 ∷ []) $ done !)
 
@@ -148,13 +148,13 @@ module _ {M : Type 1} {𝓤 : Ura M} (𝓛 : Logic 𝓤) (P : Fml) (L b o : ℕ)
     pub looked : (n : ℕ) (g : Gain) → (IsMarked n → g ≡ share) → (IsUnmarked n → g ≡ none) → Becomes (Looks n) (FromLook g) ToIdle
     looked n none m u = record { right = nothing; said = ((λ odd. let e = m odd in absurd cc), (λ _. refl)); turns = nothing_of ftrue }
     looked n part m u = record { right = nothing; said = ((λ odd. let e = m odd in absurd cc), (λ _. refl)); turns = nothing_of (parts t.0 1) }
-    looked n share m u = record { right = fixed; said = ((λ _. refl), (λ even. let e = u even in absurd cc)); turns = for_good_of }
+    looked n share m u = record { right = fixed; said = ((λ _. refl), (λ even. let e = u even in absurd cc)); turns = permanent_of }
     looked n last m u = record { right = nothing; said = ((λ odd. let e = m odd in absurd cc), (λ _. refl)); turns = nothing_of (gained 𝓛 P L b o t last) }
 
     pub marked : (g : Gain) → g ≡ share → Becomes (λ k. k ≡ fixed) (FromLook g) ToIdle
     marked none e = absurd cc
     marked part e = absurd cc
-    marked share e = record { right = fixed; said = refl; turns = for_good_of }
+    marked share e = record { right = fixed; said = refl; turns = permanent_of }
     marked last e = absurd cc
 
     -- ---- a clone; `event` says whether it succeeds

@@ -13,7 +13,7 @@ use types.Kit.{suffices, settle, use1, use2, use3, done}
 use denote.RawPtr.{block_ptr}
 use denote.Steps.{nothing}
 use Rattle.core.specs.Sync.RawAtomic.{asks, always, word}
-use Rattle.arcstr_block.proofs.Decided.{uncounted_or_not}
+use Rattle.arcstr_block.proofs.RightTests.{uncounted_or_not}
 use Rattle.arcstr_block.specs.Word.{IsMarked, IsUnmarked, IsWord}
 use Rattle.arcstr_block.specs.Rights.{uncounted, Right}
 use Rattle.arcstr_block.specs.Book.{Book}

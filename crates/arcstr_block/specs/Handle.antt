@@ -1,5 +1,5 @@
 -- What contracts see of a handle on a block, and what was seen of its block's history.
-use Rattle.std.specs.Prelude.{◌≡◌, ℕ, IsTrue, List, ◌++◌}
+use Rattle.std.specs.Prelude.{◌≡◌, ℕ, IsTrue, List}
 use Rattle.arcstr_count.specs.declared.steps.Step.{Step}
 use Rattle.arcstr_count.specs.declared.steps.Step.TheVariants.{Look, Leak}
 use Rattle.arcstr_count.specs.declared.steps.Reply.TheVariants.{Count, Static, Marked}
@@ -47,7 +47,3 @@ SawLeak limit history h = EndsIn limit history (Leak h) Marked
 pub record IsMarkedIn (limit : ℕ) (history : List Step) : Type 0 where
   pub one_block : IsOneBlock limit history
   pub marked : IsTrue (marked_after limit history 0)
-
--- the history extends the prefix, or equals it
-abbrev pub IsFront : List Step → List Step → Type 0
-IsFront front history = (later : List Step) × (history ≡ front ++ later)

@@ -88,8 +88,8 @@ module _ (P : Fml) (L b o : ℕ) (t : Id) where
   Inv = fex Bool if_alive
 
   -- the block is marked, with a permanent share of a's token
-  abbrev pub for_good : Fml
-  for_good = fsep (fshr_bor [] (λ q. flft (t.0 ∷ []) q)) (fdead (t.1 ∷ []))
+  abbrev pub permanent : Fml
+  permanent = fsep (fshr_bor [] (λ q. flft (t.0 ∷ []) q)) (fdead (t.1 ∷ []))
 
   -- s is what is shared, and h the number of the handle
   module _ (s : Lft → Fml) (h : ℕ) where
@@ -105,7 +105,7 @@ module _ (P : Fml) (L b o : ℕ) (t : Id) where
     right_to nothing = s (t.0 ∷ [])
     right_to counted = free counted
     right_to uncounted = free uncounted
-    right_to fixed = fsep for_good (s (t.0 ∷ []))
+    right_to fixed = fsep permanent (s (t.0 ∷ []))
     right_to dropping = fsep (parts t.0 1) (fsep (s (t.0 ∷ [])) (seat t.3 h Dropping))
     right_to owed = fsep (stated (counting_word 0)) (fsep P (seat t.3 h Owing))
 
@@ -123,7 +123,7 @@ module _ (P : Fml) (L b o : ℕ) (t : Id) where
     shown nothing = no_part
     shown counted = free_shown counted
     shown uncounted = free_shown uncounted
-    shown fixed = beside (said for_good) seen
+    shown fixed = beside (said permanent) seen
     shown dropping = no_part
     shown owed = no_part
 

@@ -25,8 +25,8 @@ abbrev pub IsText : List ℕ → Type 0
 IsText xs = Fits (length xs) × IsUtf8 xs
 
 -- the word offset: how many bytes past the address of a block its word lies, after a text of n bytes
-abbrev pub word_place : ℕ → ℕ
-word_place n = (n + 7) / 8 * 8
+abbrev pub word_offset : ℕ → ℕ
+word_offset n = (n + 7) / 8 * 8
 
 -- the size in bytes of a block for a text of n bytes: 16 plus n, rounded up to a multiple of 8
 abbrev pub block_size : ℕ → ℕ
@@ -38,17 +38,17 @@ block_type n = ty_struct [] (tcons (ty_array (ty_int w8) n) (tcons (ty_int w64) 
 
 -- where the word and the length lie after a text of n bytes
 abbrev pub tail_at : Ptr → ℕ → Ptr
-tail_at p n = p +ₚ word_place n
+tail_at p n = p +ₚ word_offset n
 
 abbrev pub word_at : Ptr → ℕ → ℕ
-word_at p n = count_of p + word_place n + 0
+word_at p n = count_of p + word_offset n + 0
 
 abbrev pub length_at : Ptr → ℕ → Ptr
 length_at p n = tail_at p n +ₚ 8
 
 -- room for the bytes, the word and the length, o bytes into the memory b
 abbrev pub rooms : ℕ → ℕ → ℕ → Fml
-rooms n b o = let u : ℕ = o + word_place n in
+rooms n b o = let u : ℕ = o + word_offset n in
     fsep (froom (ty_array (ty_int w8) n) b o) (fsep (froom (ty_int w64) b (u + 0)) (fsep (froom (ty_int w64) b (u + 8)) ftrue))
 
 -- the word w after a text of n bytes

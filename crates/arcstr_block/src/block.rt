@@ -4,7 +4,7 @@ ghost use Rattle.std.specs.Prelude.{◌≡◌, ℕ, List, length, replicate, IfO
 ghost use Rattle.std.specs.Borrow.{sem};
 ghost use Rattle.core.specs.Mem.Slots.{slots_ptr, slots_len, slots_items, slots_filled};
 ghost use Rattle.core.specs.Mem.Slots.Ownership.{Filled};
-ghost use Rattle.arcstr_block.specs.Memory.{Fits, word_place, block_size, blank_owns, sole_owns};
+ghost use Rattle.arcstr_block.specs.Memory.{Fits, word_offset, block_size, blank_owns, sole_owns};
 
 use core::slots::Slots;
 use std::alloc::{AllocError, Allocator};
@@ -53,7 +53,7 @@ impl<A: Allocator> Blank<A> {
         place: usize,
         size: usize,
     ) -> Result<(Blank<A>, Slots<u8>), AllocError>
-        requires place { place ≡ word_place len }
+        requires place { place ≡ word_offset len }
         requires size { size ≡ block_size len }
         requires fits { Fits len }
         ensures home { IfOk result (λ made. made.0.home ≡ alloc.now) }
@@ -116,9 +116,9 @@ impl<A: Allocator> Sole<A> {
 }
 
 /// The word offset of a block, in bytes past its address: the first multiple of 8 past a text of `len` bytes.
-pub(crate) fn place_of_word(len: usize) -> usize
+pub(crate) fn offset_of_word(len: usize) -> usize
     requires { Fits len }
-    ensures { result ≡ word_place len }
+    ensures { result ≡ word_offset len }
 {
     (len + 7) / 8 * 8
 }

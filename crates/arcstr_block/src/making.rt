@@ -8,7 +8,7 @@ ghost use Rattle.arcstr_count.specs.Word.{bits_of, fresh_word};
 ghost use Rattle.arcstr_block.specs.Memory.{Fits};
 ghost use Rattle.arcstr_block.specs.Making.{IsTooLong, IsFaultOfMaking, IsFaultOfBytes, IsFaultOfFilling};
 
-use crate::block::{Blank, place_of_word, size_of_block};
+use crate::block::{Blank, offset_of_word, size_of_block};
 use crate::fault::{TOO_LONG, TextFault};
 use crate::shared::Shared;
 use arcstr_count::{RC_MAX, Word};
@@ -123,7 +123,7 @@ pub(crate) fn blank_block<A: Allocator + Copy>(
     ensures empty { IfOk result (λ made. slots_items made.1 ≡ replicate len 0) }
     ensures refused { IfErr result (λ fault. fault ≡ TextFault.Memory) }
 {
-    let place = place_of_word(len);
+    let place = offset_of_word(len);
     match Blank::make(&alloc, Word::one().bits(), len, place, size_of_block(len)) {
         Ok(made) => Ok(made),
         Err(_) => Err(TextFault::Memory),

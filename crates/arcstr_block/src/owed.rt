@@ -2,7 +2,7 @@
 ghost use Rattle.std.specs.Prelude.{◌≡◌, ◌≢◌, length};
 ghost use Rattle.arcstr_block.specs.Rights.{owed};
 ghost use Rattle.arcstr_block.specs.Handle.{Debt};
-ghost use Rattle.arcstr_block.specs.Memory.{word_place};
+ghost use Rattle.arcstr_block.specs.Memory.{word_offset};
 
 use crate::block::size_of_block;
 use crate::fixed::Fixed;
@@ -49,7 +49,7 @@ pub struct Owed<A: Allocator> {
     pub(crate) place: usize,
     pub(crate) alloc: A,
     ghost right: { pointer.right ≡ owed },
-    ghost placed: { place ≡ word_place (length pointer.text) },
+    ghost placed: { place ≡ word_offset (length pointer.text) },
     ghost home: { alloc ≡ pointer.home },
 }
 
@@ -76,7 +76,7 @@ impl<A: Allocator> Owed<A> {
             place,
             alloc,
         } = self;
-        let (block, len) = pointer.release(place);
+        let (block, len) = pointer.back(place);
         block.give_back(&alloc, size_of_block(len));
     }
 }

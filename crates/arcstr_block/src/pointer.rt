@@ -3,7 +3,7 @@
 //!
 //! A `Pointer` is one address when it runs. Its right, seat and history are ghost, and the proof of each function
 //! (`proofs/pointer/Pointer/NAME/Proof.antt`) moves them, so a body shows only the machine's step. Each step gets the
-//! word offset, `place`: how many bytes past the address the word lies. `make` begins the history with `Make`, and `release`
+//! word offset, `place`: how many bytes past the address the word lies. `make` begins the history with `Make`, and `back`
 //! ends it with `Back`; `IntoRaw` and `FromRaw` never occur in it.
 ghost use Rattle.std.specs.Prelude.{◌≡◌, ◌≢◌, ℕ, Bool, List, length, IsUtf8};
 ghost use Rattle.std.specs.Coded.{coded_list};
@@ -13,7 +13,7 @@ ghost use Rattle.arcstr_count.specs.Word.{bits_of, fresh_word};
 ghost use Rattle.arcstr_block.specs.Word.{IsLimit, IsWord, IsClone};
 ghost use Rattle.arcstr_block.specs.Rights.{Right, right_code, nothing, counted, fixed, dropping, owed};
 ghost use Rattle.arcstr_block.specs.Rights.{IsFree, HasSeat, MaySee, IsIdle, Looks, Finds, Loads, Gains, Begins, Leaves};
-ghost use Rattle.arcstr_block.specs.Memory.{Fits, word_place};
+ghost use Rattle.arcstr_block.specs.Memory.{Fits, word_offset};
 ghost use Rattle.arcstr_block.specs.Ledger.{pointer_owns, pointer_shares};
 
 use crate::block::{Sole, Tail};
@@ -87,7 +87,7 @@ impl<A: Allocator> Pointer<A> {
     /// The look of a free handle: one load.
     pub(crate) fn look(&self, place: usize) -> (u64, Pointer<A>)
         requires right { IsFree self.now.right }
-        requires place { place ≡ word_place (length self.now.text) }
+        requires place { place ≡ word_offset (length self.now.text) }
         ensures word { IsWord self.now.limit result.0 }
         ensures right { Looks result.0 result.1.right }
         ensures history { Looked self.now result.0 result.1 }
@@ -97,9 +97,9 @@ impl<A: Allocator> Pointer<A> {
     }
 
     /// The load of a clone: if it finds the block marked, the clone succeeds.
-    pub(crate) fn find(&self, place: usize) -> (u64, Pointer<A>)
+    pub(crate) fn clone_load(&self, place: usize) -> (u64, Pointer<A>)
         requires right { IsFree self.now.right }
-        requires place { place ≡ word_place (length self.now.text) }
+        requires place { place ≡ word_offset (length self.now.text) }
         ensures word { IsWord self.now.limit result.0 }
         ensures right { Finds result.0 result.1.right }
         ensures same { IsSameBlock result.1 self.now }
@@ -111,7 +111,7 @@ impl<A: Allocator> Pointer<A> {
     fn load(&self, place: usize) -> (u64, Pointer<A>)
         ghost clones: { Bool }
         requires right { IsFree self.now.right }
-        requires place { place ≡ word_place (length self.now.text) }
+        requires place { place ≡ word_offset (length self.now.text) }
         ensures word { IsWord self.now.limit result.0 }
         ensures right { Loads clones result.0 result.1.right }
         ensures history { LoadedAs clones self.now result.0 result.1 }
@@ -132,9 +132,9 @@ impl<A: Allocator> Pointer<A> {
     }
 
     /// One compare-exchange, from `old` to its clone `new`: if it finds `old` or a marked word, the clone succeeds.
-    pub(crate) fn raise(&self, place: usize, old: u64, new: u64) -> (u64, Pointer<A>)
+    pub(crate) fn clone_exchange(&self, place: usize, old: u64, new: u64) -> (u64, Pointer<A>)
         requires right { IsFree self.now.right }
-        requires place { place ≡ word_place (length self.now.text) }
+        requires place { place ≡ word_offset (length self.now.text) }
         requires clone { IsClone self.now.limit old new }
         ensures word { IsWord self.now.limit result.0 }
         ensures right { Gains old new result.0 result.1.right }
@@ -155,9 +155,9 @@ impl<A: Allocator> Pointer<A> {
     }
 
     /// One fetch-or, which sets the static flag.
-    pub(crate) fn mark(&self, place: usize) -> Pointer<A>
+    pub(crate) fn leak(&self, place: usize) -> Pointer<A>
         requires right { IsFree self.now.right }
-        requires place { place ≡ word_place (length self.now.text) }
+        requires place { place ≡ word_offset (length self.now.text) }
         ensures right { result.right ≡ fixed }
         ensures history { Leaked self.now result }
         ensures same { IsSameBlock result self.now }
@@ -176,7 +176,7 @@ impl<A: Allocator> Pointer<A> {
     /// The look of a drop: one load.
     pub(crate) fn begin(self, place: usize) -> (u64, Pointer<A>)
         requires right { IsFree self.right }
-        requires place { place ≡ word_place (length self.text) }
+        requires place { place ≡ word_offset (length self.text) }
         ensures right { Begins result.0 result.1.right }
         ensures history { BegunAs self result.0 result.1 }
         ensures same { IsSameBlock result.1 self }
@@ -190,9 +190,9 @@ impl<A: Allocator> Pointer<A> {
     }
 
     /// One fetch-sub, which lowers the count by one.
-    pub(crate) fn leave(self, place: usize) -> (u64, Pointer<A>)
+    pub(crate) fn sub(self, place: usize) -> (u64, Pointer<A>)
         requires right { self.right ≡ dropping }
-        requires place { place ≡ word_place (length self.text) }
+        requires place { place ≡ word_offset (length self.text) }
         ensures right { Leaves result.0 result.1.right }
         ensures history { SubtractedAs self result.0 result.1 }
         ensures same { IsSameBlock result.1 self }
@@ -220,9 +220,9 @@ impl<A: Allocator> Pointer<A> {
     }
 
     /// The block and the length of its text, for whoever subtracted last and frees the block.
-    pub(crate) fn release(self, place: usize) -> (Sole<A>, usize)
+    pub(crate) fn back(self, place: usize) -> (Sole<A>, usize)
         requires right { self.right ≡ owed }
-        requires place { place ≡ word_place (length self.text) }
+        requires place { place ≡ word_offset (length self.text) }
         ensures home { result.0.home ≡ self.home }
         ensures text { result.0.text ≡ self.text }
         ensures length { result.1 ≡ length self.text }

@@ -4,7 +4,7 @@ ghost use Rattle.std.specs.Coded.{coded_list};
 ghost use Rattle.arcstr_count.specs.declared.steps.Step.{Step};
 ghost use Rattle.arcstr_count.specs.contracts.steps.Step.{the_row as step_row};
 ghost use Rattle.arcstr_block.specs.Book.{reached};
-ghost use Rattle.arcstr_block.specs.Handle.{IsFront};
+ghost use mathlib.Core.List.{IsPrefix};
 
 use std::marker::{Model, PhantomData};
 
@@ -41,8 +41,8 @@ impl Seen {
     /// first.agree(&second);
     /// ```
     pub fn agree(&self, other: &Seen)
-        ensures front { self.now.block ≡ other.now.block → length self.now.history ≤ length other.now.history → IsFront self.now.history other.now.history }
-        ensures longer { self.now.block ≡ other.now.block → length other.now.history ≤ length self.now.history → IsFront other.now.history self.now.history }
+        ensures prefix { self.now.block ≡ other.now.block → length self.now.history ≤ length other.now.history → IsPrefix self.now.history other.now.history }
+        ensures longer { self.now.block ≡ other.now.block → length other.now.history ≤ length self.now.history → IsPrefix other.now.history self.now.history }
     {}
 }
 

@@ -6,7 +6,7 @@ ghost use Rattle.arcstr_block.specs.Word.{IsLimit, IsUnmarked, IsWord, IsOtherWo
 ghost use Rattle.arcstr_block.specs.Rights.{owed, IsFree, HasSeat};
 ghost use Rattle.arcstr_block.specs.Handle.{Handle, SawCount, SawMark, SawLeak, kept_of};
 
-use crate::block::{Sole, place_of_word};
+use crate::block::{Sole, offset_of_word};
 use crate::fixed::Fixed;
 use crate::owed::{Down, Owed};
 use crate::pointer::Pointer;
@@ -117,7 +117,7 @@ impl<const LIMIT: u64, A: Allocator + Copy> Shared<LIMIT, A> {
         ensures seen { MatchOption result.0 (SawMark LIMIT result.1.history self.now.seat) (λ count. SawCount LIMIT result.1.history self.now.seat count) }
         ensures block { result.1.block ≡ self.now.block }
     {
-        let (found, gained) = self.handle.pointer.look(place_of_word(self.handle.len));
+        let (found, gained) = self.handle.pointer.look(offset_of_word(self.handle.len));
         let seen = gained.seen();
         gained.forget();
         (looked(found), seen)
@@ -137,7 +137,7 @@ impl<const LIMIT: u64, A: Allocator + Copy> Shared<LIMIT, A> {
         ensures seen { MatchOption result.0 ((n : ℕ) × SawCount LIMIT result.1.history self.now.seat n) (λ _. SawMark LIMIT result.1.history self.now.seat) }
         ensures block { result.1.block ≡ self.now.block }
     {
-        let (found, gained) = self.handle.pointer.look(place_of_word(self.handle.len));
+        let (found, gained) = self.handle.pointer.look(offset_of_word(self.handle.len));
         let seen = gained.seen();
         match looked(found) {
             None => {
@@ -169,7 +169,7 @@ impl<const LIMIT: u64, A: Allocator + Copy> Shared<LIMIT, A> {
         ensures step { SawLeak LIMIT result.history self.now.seat }
     {
         Fixed {
-            pointer: self.handle.pointer.mark(place_of_word(self.handle.len)),
+            pointer: self.handle.pointer.leak(offset_of_word(self.handle.len)),
             len: self.handle.len,
             alloc: self.handle.alloc,
         }
@@ -317,14 +317,14 @@ impl<const LIMIT: u64, A: Allocator + Copy> Shared<LIMIT, A> {
             len,
             alloc,
         } = handle;
-        let place = place_of_word(len);
+        let place = offset_of_word(len);
         let (found, pointer) = pointer.begin(place);
         if marked(found) {
             let seen = pointer.seen();
             pointer.forget();
             return (Down::Ended, seen);
         }
-        let (found, pointer) = pointer.leave(place);
+        let (found, pointer) = pointer.sub(place);
         let seen = pointer.seen();
         if is_last(found) {
             let owed = Owed {
@@ -348,7 +348,7 @@ impl<const LIMIT: u64, A: Allocator + Copy> Counted<LIMIT, A> {
         ensures unmarked { IfErr result IsUnmarked }
         ensures word { IfErr result (IsWord LIMIT) }
     {
-        let (found, gained) = self.pointer.find(place_of_word(self.len));
+        let (found, gained) = self.pointer.clone_load(offset_of_word(self.len));
         if marked(found) {
             Ok(self.beside(gained))
         } else {
@@ -366,7 +366,7 @@ impl<const LIMIT: u64, A: Allocator + Copy> Counted<LIMIT, A> {
     {
         let (found, gained) = self
             .pointer
-            .raise(place_of_word(self.len), old, next(LIMIT, old));
+            .clone_exchange(offset_of_word(self.len), old, next(LIMIT, old));
         if found == old || marked(found) {
             Ok(self.beside(gained))
         } else {

@@ -1,6 +1,7 @@
 ghost use Rattle.std.specs.Prelude.{◌≡◌, ◌≢◌, ◌≤◌, IsTrue, IfSome, length};
 ghost use Rattle.arcstr_count.specs.declared.words.TheConstants.{RC_MAX};
-ghost use Rattle.arcstr_block.specs.Handle.{IsFront, IsMarkedIn};
+ghost use mathlib.Core.List.{IsPrefix};
+ghost use Rattle.arcstr_block.specs.Handle.{IsMarkedIn};
 
 use crate::{Down, Fixed, Owed, Seen, Shared, TextFault};
 use linked_list_allocator::LocalHeap;
@@ -48,8 +49,8 @@ fn apart_hands_both_back_in_order(rt: HostRuntime) -> Result<(), Fail> {
 
 /// What two looks at one block saw of its one history.
 fn looked_twice(handle: &Shared<5, Global>) -> (Seen, Seen)
-    ensures front { length result.0.history ≤ length result.1.history → IsFront result.0.history result.1.history }
-    ensures longer { length result.1.history ≤ length result.0.history → IsFront result.1.history result.0.history }
+    ensures prefix { length result.0.history ≤ length result.1.history → IsPrefix result.0.history result.1.history }
+    ensures longer { length result.1.history ≤ length result.0.history → IsPrefix result.1.history result.0.history }
     ensures block { result.1.block ≡ result.0.block }
 {
     let (_, first) = handle.look();

@@ -50,8 +50,8 @@ count-set f g (suc n) i below agree = by_place (cases_eq i n) (λ inner. count-s
     by_place : (i ≡ n) ⊎ (i ≢ n) → (i < n → count g n + one (f i) ≡ count f n + one (g i))
         → count g (suc n) + one (f i) ≡ count f (suc n) + one (g i)
     by_place (inl last) earlier =
-        let front = count-same f g n (λ k lower. agree k (λ same. omega arith)) in
-        rw (count-push g n, count-push f n, last, front) (omega arith)
+        let prefix = count-same f g n (λ k lower. agree k (λ same. omega arith)) in
+        rw (count-push g n, count-push f n, last, prefix) (omega arith)
     by_place (inr inner) earlier =
         let before = earlier (omega arith) in
         let here : g n ≡ f n = agree n (λ same. inner (sym same)) in

@@ -216,9 +216,9 @@ given_grows_from limit p later b =
     limit p later (omega arith)
 
 -- once a block is freed, no handle lives on it again
-pub given_for_good : (limit : ℕ) (p later : List Step) (b : ℕ) → IsPast limit p → b < makes p → times_given p b ≡ 1
+pub given_permanently : (limit : ℕ) (p later : List Step) (b : ℕ) → IsPast limit p → b < makes p → times_given p b ≡ 1
     → living limit (past_from limit p later) b ≡ []
-given_for_good limit p later b past made given =
+given_permanently limit p later b past made given =
     let later_past = IsPast-past_from limit p later past in
     let later_made = made_stays_from limit p later b made in
     let at_most = given_once limit (past_from limit p later) b later_past later_made in

@@ -8,7 +8,7 @@ pub mod LawsOfBlocks
 pub mod Seats
 pub mod LawsOfPasts
 pub mod Laws
-mod SentencesFronts
+mod SentencesPrefixes
 mod SentencesMarked
 mod SentencesRaw
 mod SentencesTable
@@ -21,7 +21,7 @@ mod SentencesAnswer
 mod SentencesBirths
 mod LawsExamples
 pub mod Entries
-pub mod Taking
+pub mod StepTaking
 pub mod StepsTaken
-pub mod GivenBack
+pub mod TimesFreed
 pub mod Replies

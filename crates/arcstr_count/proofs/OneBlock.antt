@@ -161,7 +161,7 @@ prolonged : {limit : ℕ} {r : List Step} {s : Step} {reply : Reply} {w : FlagAn
     → Prolongs limit r s reply w seats
 prolonged {r = r} keeps accepted answered = record {
   keeps = keeps;
-  ends = record { one_block = keeps.one_block; front = r; ends = refl; accepted = accepted; answered = answered };
+  ends = record { one_block = keeps.one_block; prefix = r; ends = refl; accepted = accepted; answered = answered };
 }
 
 pub keeps-make : (limit : ℕ) → Keeps limit (Make ∷ []) fresh_word (Free ∷ [])

@@ -9,12 +9,12 @@ pub past_from-append : (limit : ℕ) (p xs ys : List Step) → past_from limit p
 past_from-append limit p [] ys = refl
 past_from-append limit p (x ∷ xs) ys = past_from-append limit (with_step limit p x) xs ys
 
-pub past_of-append : (limit : ℕ) (front later : List Step) → past_of limit (front ++ later) ≡ past_from limit (past_of limit front) later
-past_of-append limit front later = past_from-append limit [] front later
+pub past_of-append : (limit : ℕ) (prefix later : List Step) → past_of limit (prefix ++ later) ≡ past_from limit (past_of limit prefix) later
+past_of-append limit prefix later = past_from-append limit [] prefix later
 
 -- one more step at the end
-pub past_of-step : (limit : ℕ) (front : List Step) (s : Step) → past_of limit (front ++ s ∷ []) ≡ with_step limit (past_of limit front) s
-past_of-step limit front s = past_of-append limit front (s ∷ [])
+pub past_of-step : (limit : ℕ) (prefix : List Step) (s : Step) → past_of limit (prefix ++ s ∷ []) ≡ with_step limit (past_of limit prefix) s
+past_of-step limit prefix s = past_of-append limit prefix (s ∷ [])
 
 -- a past with one more step is a past
 pub IsPast-with_step : (limit : ℕ) (p : List Step) (s : Step) → IsPast limit p → IsPast limit (with_step limit p s)

@@ -28,15 +28,15 @@ length-replies_from : (limit : ℕ) (p xs : List Step) → length (replies_from 
 length-replies_from limit p [] = refl
 length-replies_from limit p (x ∷ xs) = ap suc (length-replies_from limit (with_step limit p x) xs)
 
-reply_at : (limit : ℕ) (p front later : List Step) (s : Step)
-    → slice_get (replies_from limit p (front ++ s ∷ later)) (length front) ≡ Some (answer_of limit (past_from limit p front) s)
+reply_at : (limit : ℕ) (p prefix later : List Step) (s : Step)
+    → slice_get (replies_from limit p (prefix ++ s ∷ later)) (length prefix) ≡ Some (answer_of limit (past_from limit p prefix) s)
 reply_at limit p [] later s = refl
-reply_at limit p (x ∷ front) later s = reply_at limit (with_step limit p x) front later s
+reply_at limit p (x ∷ prefix) later s = reply_at limit (with_step limit p x) prefix later s
 
 pub replies_answer : (limit : ℕ) (steps : List Step) → AnswersEach limit steps (replies_of limit steps)
 replies_answer limit steps = record {
   count = length-replies_from limit [] steps;
-  each = λ front later s is. ap (λ xs. slice_get (replies_of limit xs) (length front)) is ∙ reply_at limit [] front later s;
+  each = λ prefix later s is. ap (λ xs. slice_get (replies_of limit xs) (length prefix)) is ∙ reply_at limit [] prefix later s;
 }
 
 -- ---- a world in the course of a list of steps

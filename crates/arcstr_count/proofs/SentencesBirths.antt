@@ -6,7 +6,7 @@ use Rattle.arcstr_count.specs.declared.steps.Step.TheVariants.{Make, Clone}
 use Rattle.arcstr_count.specs.History.{makes, births, block_of}
 use Rattle.arcstr_count.specs.Past.{past_of}
 use Rattle.arcstr_count.specs.Sentences.{births_after, block_after, BornSentence}
-use Rattle.arcstr_count.proofs.SentencesFronts.{InPast, in_past, in_history}
+use Rattle.arcstr_count.proofs.SentencesPrefixes.{InPast, in_past, in_history}
 
 -- there are h births in the past, and b is the number of its `Make`s
 abbrev MakesOn : ℕ → ℕ → List Step → Type 0

@@ -12,7 +12,7 @@ use Rattle.arcstr_count.specs.Answer.{is_accepted}
 use Rattle.arcstr_count.specs.Past.{past_of, times_given}
 use Rattle.arcstr_count.specs.After.{given_after}
 use Rattle.arcstr_count.specs.Sentences.{accepted_after, passes_after, accepted_count, births_after, makes_after, is_make, is_birth, is_back_on, given_count}
-use Rattle.arcstr_count.proofs.SentencesFronts.{by_steps, past_of-accepted, past_of-refused}
+use Rattle.arcstr_count.proofs.SentencesPrefixes.{by_steps, past_of-accepted, past_of-refused}
 
 -- ---- the numbers below another
 
@@ -29,41 +29,41 @@ length_push_if xs x false = ap length (append-nil xs)
 
 -- ---- the indices of a history with one more step
 
-slice_get-before : (front : List Step) (s : Step) (i : ℕ) → i < length front → slice_get (front ++ s ∷ []) i ≡ slice_get front i
-slice_get-before front s i lt =
-    let more : i < length (front ++ s ∷ []) = omega (arith, length_push front s) in
-    slice_get-get_or (front ++ s ∷ []) i s more ∙ ap Some (get_or_append_left front (s ∷ []) s i lt) ∙ sym (slice_get-get_or front i s lt)
+slice_get-before : (prefix : List Step) (s : Step) (i : ℕ) → i < length prefix → slice_get (prefix ++ s ∷ []) i ≡ slice_get prefix i
+slice_get-before prefix s i lt =
+    let more : i < length (prefix ++ s ∷ []) = omega (arith, length_push prefix s) in
+    slice_get-get_or (prefix ++ s ∷ []) i s more ∙ ap Some (get_or_append_left prefix (s ∷ []) s i lt) ∙ sym (slice_get-get_or prefix i s lt)
 
-slice_get-last : (front : List Step) (s : Step) → slice_get (front ++ s ∷ []) (length front) ≡ Some s
-slice_get-last front s =
-    let more : length front < length (front ++ s ∷ []) = omega (arith, length_push front s) in
-    slice_get-get_or (front ++ s ∷ []) (length front) s more ∙ ap Some (get_or_push front s s (length front) refl)
+slice_get-last : (prefix : List Step) (s : Step) → slice_get (prefix ++ s ∷ []) (length prefix) ≡ Some s
+slice_get-last prefix s =
+    let more : length prefix < length (prefix ++ s ∷ []) = omega (arith, length_push prefix s) in
+    slice_get-get_or (prefix ++ s ∷ []) (length prefix) s more ∙ ap Some (get_or_push prefix s s (length prefix) refl)
 
 module _ (limit : ℕ) (test : List Step → Step → Bool) where
   -- the step at index i is accepted and passes
   abbrev passes_at : List Step → ℕ → Bool
   passes_at history i = passes_after limit (take i history) test (slice_get history i)
 
-  passes_at-before : (front : List Step) (s : Step) (i : ℕ) → i < length front → passes_at (front ++ s ∷ []) i ≡ passes_at front i
-  passes_at-before front s i lt =
-      let there : take i (front ++ s ∷ []) ≡ take i front = take-append-le i front (s ∷ []) (omega arith) in
-      rw (there, slice_get-before front s i lt) refl
+  passes_at-before : (prefix : List Step) (s : Step) (i : ℕ) → i < length prefix → passes_at (prefix ++ s ∷ []) i ≡ passes_at prefix i
+  passes_at-before prefix s i lt =
+      let there : take i (prefix ++ s ∷ []) ≡ take i prefix = take-append-le i prefix (s ∷ []) (omega arith) in
+      rw (there, slice_get-before prefix s i lt) refl
 
-  passes_at-last : (front : List Step) (s : Step) → passes_at (front ++ s ∷ []) (length front) ≡ (accepted_after limit front s && test front s)
-  passes_at-last front s = rw (take-append_seam front (s ∷ []), slice_get-last front s) refl
+  passes_at-last : (prefix : List Step) (s : Step) → passes_at (prefix ++ s ∷ []) (length prefix) ≡ (accepted_after limit prefix s && test prefix s)
+  passes_at-last prefix s = rw (take-append_seam prefix (s ∷ []), slice_get-last prefix s) refl
 
-  accepted_count-step : (front : List Step) (s : Step) → accepted_count limit (front ++ s ∷ []) test
-      ≡ (if accepted_after limit front s && test front s then suc (accepted_count limit front test) else accepted_count limit front test)
-  accepted_count-step front s =
-      let count : List ℕ → ℕ = λ below. length (filter (λ i. passes_at (front ++ s ∷ []) i) below) in
-      let places : length (front ++ s ∷ []) ≡ suc (length front) = omega (arith, length_push front s) in
-      let before : filter (λ i. passes_at (front ++ s ∷ []) i) (numbers_below (length front)) ≡ filter (λ i. passes_at front i) (numbers_below (length front))
-      = filter_same_below (λ i. passes_at (front ++ s ∷ []) i) (λ i. passes_at front i) (length front) (passes_at-before front s) in
+  accepted_count-step : (prefix : List Step) (s : Step) → accepted_count limit (prefix ++ s ∷ []) test
+      ≡ (if accepted_after limit prefix s && test prefix s then suc (accepted_count limit prefix test) else accepted_count limit prefix test)
+  accepted_count-step prefix s =
+      let count : List ℕ → ℕ = λ below. length (filter (λ i. passes_at (prefix ++ s ∷ []) i) below) in
+      let places : length (prefix ++ s ∷ []) ≡ suc (length prefix) = omega (arith, length_push prefix s) in
+      let before : filter (λ i. passes_at (prefix ++ s ∷ []) i) (numbers_below (length prefix)) ≡ filter (λ i. passes_at prefix i) (numbers_below (length prefix))
+      = filter_same_below (λ i. passes_at (prefix ++ s ∷ []) i) (λ i. passes_at prefix i) (length prefix) (passes_at-before prefix s) in
       ap (λ n. count (numbers_below n)) places
-      ∙ ap length (filter-append (λ i. passes_at (front ++ s ∷ []) i) (numbers_below (length front)) (length front ∷ []))
-      ∙ ap (λ xs. length (xs ++ (if passes_at (front ++ s ∷ []) (length front) then length front ∷ [] else []))) before
-      ∙ ap (λ b. length (filter (λ i. passes_at front i) (numbers_below (length front)) ++ (if b then length front ∷ [] else []))) (passes_at-last front s)
-      ∙ length_push_if (filter (λ i. passes_at front i) (numbers_below (length front))) (length front) (accepted_after limit front s && test front s)
+      ∙ ap length (filter-append (λ i. passes_at (prefix ++ s ∷ []) i) (numbers_below (length prefix)) (length prefix ∷ []))
+      ∙ ap (λ xs. length (xs ++ (if passes_at (prefix ++ s ∷ []) (length prefix) then length prefix ∷ [] else []))) before
+      ∙ ap (λ b. length (filter (λ i. passes_at prefix i) (numbers_below (length prefix)) ++ (if b then length prefix ∷ [] else []))) (passes_at-last prefix s)
+      ∙ length_push_if (filter (λ i. passes_at prefix i) (numbers_below (length prefix))) (length prefix) (accepted_after limit prefix s && test prefix s)
 
 -- ---- a number that grows by one with each accepted step that passes
 
@@ -71,38 +71,38 @@ module _ (limit : ℕ) (test : List Step → Step → Bool) where
 count_sentence : (limit : ℕ) (test : List Step → Step → Bool) (count : List Step → ℕ)
     → count [] ≡ 0
     → ((s : Step) (p : List Step) → count (s ∷ p) ≡ (if test p s then suc (count p) else count p))
-    → (history : List Step) → count (past_of limit history) ≡ accepted_count limit history (λ front s. test (past_of limit front) s)
-count_sentence limit test count nil more = by_steps (λ history. count (past_of limit history) ≡ accepted_count limit history (λ front s. test (past_of limit front) s))
+    → (history : List Step) → count (past_of limit history) ≡ accepted_count limit history (λ prefix s. test (past_of limit prefix) s)
+count_sentence limit test count nil more = by_steps (λ history. count (past_of limit history) ≡ accepted_count limit history (λ prefix s. test (past_of limit prefix) s))
     nil
     step
   where
-    step : (front : List Step) (s : Step) → count (past_of limit front) ≡ accepted_count limit front (λ q t. test (past_of limit q) t)
-        → count (past_of limit (front ++ s ∷ [])) ≡ accepted_count limit (front ++ s ∷ []) (λ q t. test (past_of limit q) t)
-    step front s before = go (is_accepted limit (past_of limit front) s) refl
+    step : (prefix : List Step) (s : Step) → count (past_of limit prefix) ≡ accepted_count limit prefix (λ q t. test (past_of limit q) t)
+        → count (past_of limit (prefix ++ s ∷ [])) ≡ accepted_count limit (prefix ++ s ∷ []) (λ q t. test (past_of limit q) t)
+    step prefix s before = go (is_accepted limit (past_of limit prefix) s) refl
       where
-        counted : (b : Bool) → is_accepted limit (past_of limit front) s ≡ b → accepted_count limit (front ++ s ∷ []) (λ q t. test (past_of limit q) t)
-            ≡ (if b && test (past_of limit front) s then suc (count (past_of limit front)) else count (past_of limit front))
-        counted b e = accepted_count-step limit (λ q t. test (past_of limit q) t) front s
-            ∙ ap (λ c. if c && test (past_of limit front) s then suc (accepted_count limit front (λ q t. test (past_of limit q) t)) else accepted_count limit front (λ q t. test (past_of limit q) t)) e
-            ∙ ap (λ n. if b && test (past_of limit front) s then suc n else n) (sym before)
+        counted : (b : Bool) → is_accepted limit (past_of limit prefix) s ≡ b → accepted_count limit (prefix ++ s ∷ []) (λ q t. test (past_of limit q) t)
+            ≡ (if b && test (past_of limit prefix) s then suc (count (past_of limit prefix)) else count (past_of limit prefix))
+        counted b e = accepted_count-step limit (λ q t. test (past_of limit q) t) prefix s
+            ∙ ap (λ c. if c && test (past_of limit prefix) s then suc (accepted_count limit prefix (λ q t. test (past_of limit q) t)) else accepted_count limit prefix (λ q t. test (past_of limit q) t)) e
+            ∙ ap (λ n. if b && test (past_of limit prefix) s then suc n else n) (sym before)
 
-        go : (b : Bool) → is_accepted limit (past_of limit front) s ≡ b → count (past_of limit (front ++ s ∷ [])) ≡ accepted_count limit (front ++ s ∷ []) (λ q t. test (past_of limit q) t)
-        go true e = ap count (past_of-accepted limit front s e) ∙ more s (past_of limit front) ∙ sym (counted true e)
-        go false e = ap count (past_of-refused limit front s e) ∙ sym (counted false e)
+        go : (b : Bool) → is_accepted limit (past_of limit prefix) s ≡ b → count (past_of limit (prefix ++ s ∷ [])) ≡ accepted_count limit (prefix ++ s ∷ []) (λ q t. test (past_of limit q) t)
+        go true e = ap count (past_of-accepted limit prefix s e) ∙ more s (past_of limit prefix) ∙ sym (counted true e)
+        go false e = ap count (past_of-refused limit prefix s e) ∙ sym (counted false e)
 
 births-more : (s : Step) (p : List Step) → births (s ∷ p) ≡ (if is_birth s then suc (births p) else births p)
 births-more Make p = refl
 births-more (Clone h) p = refl
 births-more s p = refl
 
-pub births_sentence : (limit : ℕ) (history : List Step) → births_after limit history ≡ accepted_count limit history (λ front s. is_birth s)
+pub births_sentence : (limit : ℕ) (history : List Step) → births_after limit history ≡ accepted_count limit history (λ prefix s. is_birth s)
 births_sentence limit history = count_sentence limit (λ p s. is_birth s) births refl births-more history
 
 makes-more : (s : Step) (p : List Step) → makes (s ∷ p) ≡ (if is_make s then suc (makes p) else makes p)
 makes-more Make p = refl
 makes-more s p = refl
 
-pub makes_sentence : (limit : ℕ) (history : List Step) → makes_after limit history ≡ accepted_count limit history (λ front s. is_make s)
+pub makes_sentence : (limit : ℕ) (history : List Step) → makes_after limit history ≡ accepted_count limit history (λ prefix s. is_make s)
 makes_sentence limit history = count_sentence limit (λ p s. is_make s) makes refl makes-more history
 
 times_given-more : (b : ℕ) (s : Step) (p : List Step) → times_given (s ∷ p) b ≡ (if is_back_on (λ h. block_of p h) b s then suc (times_given p b) else times_given p b)

@@ -10,7 +10,7 @@ use Rattle.arcstr_count.specs.Answer.{is_accepted, handle_state}
 use Rattle.arcstr_count.specs.Past.{IsPast, past_of}
 use Rattle.arcstr_count.specs.Sentences.{AcceptedWhere, HasAccepted, BeganUnmarked, OwesSentence}
 use Rattle.arcstr_count.proofs.Pasts.{IsPast-past_of}
-use Rattle.arcstr_count.proofs.SentencesFronts.{InPast, in_past, in_history}
+use Rattle.arcstr_count.proofs.SentencesPrefixes.{InPast, in_past, in_history}
 use Rattle.arcstr_count.proofs.SentencesFirst.{tests_owing, state_of_test}
 use Rattle.arcstr_count.proofs.SentencesTable.{free_passes, dropping_passes, handle_state_sentence}
 
@@ -33,7 +33,7 @@ module _ (limit : ℕ) (s : Step) (Q : List Step → Type 0) (test : List Step �
   to_test (x ∷ p) past (inl w) = subst (λ y. test (y ∷ p) ≡ true) (sym w.0) (here p w.1)
   to_test (x ∷ p) past (inr w) = kept x p past.0 (to_test p past.1 w)
 
-  pub test_sentence : (history : List Step) → (test (past_of limit history) ≡ true) ↔ AcceptedWhere limit history s (λ front. Q (past_of limit front))
+  pub test_sentence : (history : List Step) → (test (past_of limit history) ≡ true) ↔ AcceptedWhere limit history s (λ prefix. Q (past_of limit prefix))
   test_sentence history = (
     (λ e. in_history limit s Q history (from_test (past_of limit history) e)),
     (λ w. to_test (past_of limit history) (IsPast-past_of limit history) (in_past limit s Q history w)),
@@ -208,7 +208,7 @@ was_last-here limit h p q = here_if h (alone limit h p) (was_last limit p h)
     (not_from_false (is_marked limit p (block_of p h)) q.0) (is_only_one h (living limit p (block_of p h)) q.1))
 
 pub was_last_sentence : (limit : ℕ) (h : ℕ) (history : List Step)
-    → (was_last limit (past_of limit history) h ≡ true) ↔ AcceptedWhere limit history (Sub h) (λ front. Alone limit h (past_of limit front))
+    → (was_last limit (past_of limit history) h ≡ true) ↔ AcceptedWhere limit history (Sub h) (λ prefix. Alone limit h (past_of limit prefix))
 was_last_sentence limit h history = test_sentence limit (Sub h) (Alone limit h) (λ p. was_last limit p h) refl
     (was_last-latest limit h) (was_last-here limit h) (was_last-kept limit h) history
 
@@ -228,5 +228,5 @@ and_not_sentence a b P Q d e = (
 
 pub owes_test : (limit : ℕ) (history : List Step) (h : ℕ) → (tests_owing limit (past_of limit history) h ≡ true) ↔ OwesSentence limit history h
 owes_test limit history h = and_not_sentence (was_last limit (past_of limit history) h) (has_given (past_of limit history) h)
-    (AcceptedWhere limit history (Sub h) (λ front. Alone limit h (past_of limit front))) (HasAccepted limit history (Back h))
+    (AcceptedWhere limit history (Sub h) (λ prefix. Alone limit h (past_of limit prefix))) (HasAccepted limit history (Back h))
     (was_last_sentence limit h history) (given_sentence limit h history)

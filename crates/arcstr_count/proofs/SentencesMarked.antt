@@ -8,7 +8,7 @@ use Rattle.arcstr_count.specs.Marks.{is_marked, living}
 use Rattle.arcstr_count.specs.Past.{past_of}
 use Rattle.arcstr_count.specs.After.{marked_after}
 use Rattle.arcstr_count.specs.Sentences.{MarkedSentence}
-use Rattle.arcstr_count.proofs.SentencesFronts.{InPast, in_past, in_history}
+use Rattle.arcstr_count.proofs.SentencesPrefixes.{InPast, in_past, in_history}
 
 -- the block of h is b
 abbrev On : ℕ → ℕ → List Step → Type 0

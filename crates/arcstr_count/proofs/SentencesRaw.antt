@@ -8,7 +8,7 @@ use Rattle.arcstr_count.specs.History.{is_raw}
 use Rattle.arcstr_count.specs.Answer.{is_accepted}
 use Rattle.arcstr_count.specs.Past.{past_of}
 use Rattle.arcstr_count.specs.Sentences.{accepted_after, LastIsIntoRaw}
-use Rattle.arcstr_count.proofs.SentencesFronts.{by_steps, none_in_nil, last_or_before, past_of-accepted, past_of-refused}
+use Rattle.arcstr_count.proofs.SentencesPrefixes.{by_steps, none_in_nil, last_or_before, past_of-accepted, past_of-refused}
 
 -- ---- one more step of a past
 
@@ -49,17 +49,17 @@ is_raw-kept s p h r n = r
 LastIsIntoRaw-more : (limit : ℕ) (history : List Step) (x : Step) (h : ℕ) → ((x ≡ IntoRaw h) ⊎ (x ≡ FromRaw h) → IsFalse (accepted_after limit history x))
     → LastIsIntoRaw limit history h → LastIsIntoRaw limit (history ++ x ∷ []) h
 LastIsIntoRaw-more limit history x h refused w = record {
-  front = w.front;
+  prefix = w.prefix;
   later = w.later ++ x ∷ [];
-  stands = ap (λ t. t ++ x ∷ []) w.stands ∙ append_assoc w.front (IntoRaw h ∷ w.later) (x ∷ []);
+  stands = ap (λ t. t ++ x ∷ []) w.stands ∙ append_assoc w.prefix (IntoRaw h ∷ w.later) (x ∷ []);
   accepted = w.accepted;
   last = last;
 }
   where
     last : (more rest : List Step) (s : Step) → w.later ++ x ∷ [] ≡ more ++ s ∷ rest → (s ≡ IntoRaw h) ⊎ (s ≡ FromRaw h)
-        → IsFalse (accepted_after limit (w.front ++ IntoRaw h ∷ more) s)
+        → IsFalse (accepted_after limit (w.prefix ++ IntoRaw h ∷ more) s)
     last more rest s e which = elim (last_or_before w.later x more s rest e) [
-      | inl d ↦ (let same : history ≡ w.front ++ IntoRaw h ∷ more = w.stands ∙ ap (λ t. w.front ++ IntoRaw h ∷ t) d.1 in
+      | inl d ↦ (let same : history ≡ w.prefix ++ IntoRaw h ∷ more = w.stands ∙ ap (λ t. w.prefix ++ IntoRaw h ∷ t) d.1 in
           subst (λ t. IsFalse (accepted_after limit t s)) same
           (subst (λ t. IsFalse (accepted_after limit history t)) d.0
           (refused (subst (λ t. (t ≡ IntoRaw h) ⊎ (t ≡ FromRaw h)) (sym d.0) which))))
@@ -67,9 +67,9 @@ LastIsIntoRaw-more limit history x h refused w = record {
     ]
 
 LastIsIntoRaw-before : (limit : ℕ) (history : List Step) (x : Step) (h : ℕ) (w : LastIsIntoRaw limit (history ++ x ∷ []) h) (rest : List Step)
-    → history ≡ w.front ++ IntoRaw h ∷ rest → w.later ≡ rest ++ x ∷ [] → LastIsIntoRaw limit history h
+    → history ≡ w.prefix ++ IntoRaw h ∷ rest → w.later ≡ rest ++ x ∷ [] → LastIsIntoRaw limit history h
 LastIsIntoRaw-before limit history x h w rest e f = record {
-  front = w.front;
+  prefix = w.prefix;
   later = rest;
   stands = e;
   accepted = w.accepted;
@@ -80,43 +80,43 @@ LastIsIntoRaw-before limit history x h w rest e f = record {
 
 raw_from_last : (limit : ℕ) (h : ℕ) (history : List Step) → LastIsIntoRaw limit history h → is_raw (past_of limit history) h ≡ true
 raw_from_last limit h = by_steps (λ history. LastIsIntoRaw limit history h → is_raw (past_of limit history) h ≡ true)
-    (λ w. absurd (none_in_nil w.front (IntoRaw h) w.later w.stands))
+    (λ w. absurd (none_in_nil w.prefix (IntoRaw h) w.later w.stands))
     step
   where
-    step : (front : List Step) (x : Step) → (LastIsIntoRaw limit front h → is_raw (past_of limit front) h ≡ true)
-        → LastIsIntoRaw limit (front ++ x ∷ []) h → is_raw (past_of limit (front ++ x ∷ [])) h ≡ true
-    step front x before w = elim (last_or_before front x w.front (IntoRaw h) w.later w.stands) [
-      | inl e ↦ (let accepted : is_accepted limit (past_of limit front) x ≡ true = rw (e.0, e.1) w.accepted in
-          rw (past_of-accepted limit front x accepted) (rw (e.0) (is_raw-into (past_of limit front) h)))
-      | inr e ↦ go e.0 e.1 e.2 (before (LastIsIntoRaw-before limit front x h w e.0 e.1 e.2)) (is_accepted limit (past_of limit front) x) refl
+    step : (prefix : List Step) (x : Step) → (LastIsIntoRaw limit prefix h → is_raw (past_of limit prefix) h ≡ true)
+        → LastIsIntoRaw limit (prefix ++ x ∷ []) h → is_raw (past_of limit (prefix ++ x ∷ [])) h ≡ true
+    step prefix x before w = elim (last_or_before prefix x w.prefix (IntoRaw h) w.later w.stands) [
+      | inl e ↦ (let accepted : is_accepted limit (past_of limit prefix) x ≡ true = rw (e.0, e.1) w.accepted in
+          rw (past_of-accepted limit prefix x accepted) (rw (e.0) (is_raw-into (past_of limit prefix) h)))
+      | inr e ↦ go e.0 e.1 e.2 (before (LastIsIntoRaw-before limit prefix x h w e.0 e.1 e.2)) (is_accepted limit (past_of limit prefix) x) refl
     ]
       where
-        go : (rest : List Step) → front ≡ w.front ++ IntoRaw h ∷ rest → w.later ≡ rest ++ x ∷ [] → is_raw (past_of limit front) h ≡ true
-            → (b : Bool) → is_accepted limit (past_of limit front) x ≡ b → is_raw (past_of limit (front ++ x ∷ [])) h ≡ true
-        go rest e f r false refused = rw (past_of-refused limit front x refused) r
-        go rest e f r true accepted = rw (past_of-accepted limit front x accepted) (is_raw-kept x (past_of limit front) h r
-            (λ d. let no : IsFalse (accepted_after limit front x) = rw e (w.last rest [] x f (inr d)) in cc))
+        go : (rest : List Step) → prefix ≡ w.prefix ++ IntoRaw h ∷ rest → w.later ≡ rest ++ x ∷ [] → is_raw (past_of limit prefix) h ≡ true
+            → (b : Bool) → is_accepted limit (past_of limit prefix) x ≡ b → is_raw (past_of limit (prefix ++ x ∷ [])) h ≡ true
+        go rest e f r false refused = rw (past_of-refused limit prefix x refused) r
+        go rest e f r true accepted = rw (past_of-accepted limit prefix x accepted) (is_raw-kept x (past_of limit prefix) h r
+            (λ d. let no : IsFalse (accepted_after limit prefix x) = rw e (w.last rest [] x f (inr d)) in cc))
 
 last_from_raw : (limit : ℕ) (h : ℕ) (history : List Step) → is_raw (past_of limit history) h ≡ true → LastIsIntoRaw limit history h
 last_from_raw limit h = by_steps (λ history. is_raw (past_of limit history) h ≡ true → LastIsIntoRaw limit history h)
     (λ r. absurd (cc))
     step
   where
-    step : (front : List Step) (x : Step) → (is_raw (past_of limit front) h ≡ true → LastIsIntoRaw limit front h)
-        → is_raw (past_of limit (front ++ x ∷ [])) h ≡ true → LastIsIntoRaw limit (front ++ x ∷ []) h
-    step front x before r = go (is_accepted limit (past_of limit front) x) refl
+    step : (prefix : List Step) (x : Step) → (is_raw (past_of limit prefix) h ≡ true → LastIsIntoRaw limit prefix h)
+        → is_raw (past_of limit (prefix ++ x ∷ [])) h ≡ true → LastIsIntoRaw limit (prefix ++ x ∷ []) h
+    step prefix x before r = go (is_accepted limit (past_of limit prefix) x) refl
       where
-        go : (b : Bool) → is_accepted limit (past_of limit front) x ≡ b → LastIsIntoRaw limit (front ++ x ∷ []) h
-        go false e = LastIsIntoRaw-more limit front x h (λ _. e) (before (rw (past_of-refused limit front x e) at r))
-        go true e = elim (is_raw-latest x (past_of limit front) h (rw (past_of-accepted limit front x e) at r)) [
+        go : (b : Bool) → is_accepted limit (past_of limit prefix) x ≡ b → LastIsIntoRaw limit (prefix ++ x ∷ []) h
+        go false e = LastIsIntoRaw-more limit prefix x h (λ _. e) (before (rw (past_of-refused limit prefix x e) at r))
+        go true e = elim (is_raw-latest x (past_of limit prefix) h (rw (past_of-accepted limit prefix x e) at r)) [
           | inl f ↦ record {
-            front = front;
+            prefix = prefix;
             later = [];
-            stands = ap (λ t. front ++ t ∷ []) f;
+            stands = ap (λ t. prefix ++ t ∷ []) f;
             accepted = rw f at e;
             last = λ more rest s d which. absurd (none_in_nil more s rest d);
           }
-          | inr f ↦ LastIsIntoRaw-more limit front x h
+          | inr f ↦ LastIsIntoRaw-more limit prefix x h
               (λ which. absurd (elim which [ inl i ↦ f.1 i | inr o ↦ f.2 o ]))
               (before f.0)
         ]

@@ -27,7 +27,7 @@ use Rattle.arcstr_count.proofs.Tables.{handles-IntoRaw, handles-FromRaw}
 use Rattle.arcstr_count.proofs.Entries.{AreTablesOf, entry_of, entries_of, entry_at, entry_with, with_word, tables_from_view, length-entries_of, entries-Make}
 use Rattle.arcstr_count.proofs.Entries.{entries-Clone, entries-Sub, entries-Leak, entries-Back, words_of-entries}
 use Rattle.arcstr_count.proofs.LawsOfPasts.{word_stands, Sub_counted, Sub_last}
-use Rattle.arcstr_count.proofs.Taking.{FoundIn, found_in_past, handle_state-found, entry_read, Changes, takes_accepted}
+use Rattle.arcstr_count.proofs.StepTaking.{FoundIn, found_in_past, handle_state-found, entry_read, Changes, takes_accepted}
 
 -- equal lists with one entry changed in the same way are equal
 set_with : {X : Type 0} {xs ys : List X} {i j : ℕ} {x y : X} → xs ≡ ys → i ≡ j → x ≡ y → set xs i x ≡ set ys j y

@@ -69,9 +69,9 @@ table-set f g (suc n) i x below agree here =
     by_place : (i ≡ n) ⊎ (i ≢ n) → (i < n → map g (numbers_below n) ≡ set (map f (numbers_below n)) i x)
         → map g (numbers_below (suc n)) ≡ set (map f (numbers_below (suc n))) i x
     by_place (inl last) earlier =
-        let front = table-same f g n (λ k lower. agree k (λ same. omega arith)) in
+        let prefix = table-same f g n (λ k lower. agree k (λ same. omega arith)) in
         let value : g n ≡ x = ap g (sym last) ∙ here in
-        rw (table-push f n, set_at (map f (numbers_below n)) (f n) [] x i (length-table f n ∙ sym last), table-push g n, front, value) refl
+        rw (table-push f n, set_at (map f (numbers_below n)) (f n) [] x i (length-table f n ∙ sym last), table-push g n, prefix, value) refl
     by_place (inr inner) earlier =
         let lower : i < n = omega arith in
         let within : i < length (map f (numbers_below n)) = rw (length-table f n) lower in

@@ -35,12 +35,12 @@ abbrev pub StandsAfter : ℕ → List Step → ℕ → FlagAndCount → Type 0
 StandsAfter limit history b w = Stands limit (past_of limit history) b w
 
 -- P holds of every prefix of the steps and every block made in it
-abbrev pub AtEachFront : ℕ → List Step → (List Step → ℕ → Type 0) → Type 0
-AtEachFront limit steps P =
-    (front later : List Step) (b : ℕ) → steps ≡ front ++ later → IsMade limit front b → P front b
+abbrev pub AtEachPrefix : ℕ → List Step → (List Step → ℕ → Type 0) → Type 0
+AtEachPrefix limit steps P =
+    (prefix later : List Step) (b : ℕ) → steps ≡ prefix ++ later → IsMade limit prefix b → P prefix b
 
 -- each reply is the answer of its step after the steps before it, and there is one for each step
 pub record AnswersEach (limit : ℕ) (steps : List Step) (replies : List Reply) : Type 0 where
   pub count : length replies ≡ length steps
-  pub each : (front later : List Step) (s : Step) → steps ≡ front ++ s ∷ later
-      → slice_get replies (length front) ≡ Some (answer_after limit front s)
+  pub each : (prefix later : List Step) (s : Step) → steps ≡ prefix ++ s ∷ later
+      → slice_get replies (length prefix) ≡ Some (answer_after limit prefix s)

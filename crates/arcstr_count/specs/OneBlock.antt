@@ -35,7 +35,7 @@ look_reply None = Static
 -- the history has one block and ends in this step, which is accepted there, and whose answer is this reply
 pub record EndsIn (limit : ℕ) (history : List Step) (s : Step) (reply : Reply) : Type 0 where
   pub one_block : IsOneBlock limit history
-  pub front : List Step
-  pub ends : history ≡ front ++ s ∷ []
-  pub accepted : is_accepted limit (past_of limit front) s ≡ true
-  pub answered : answer_after limit front s ≡ reply
+  pub prefix : List Step
+  pub ends : history ≡ prefix ++ s ∷ []
+  pub accepted : is_accepted limit (past_of limit prefix) s ≡ true
+  pub answered : answer_after limit prefix s ≡ reply

@@ -42,20 +42,20 @@ state_after limit history h = handle_state limit (past_of limit history) h
 
 -- Somewhere in the history the step is accepted, after a prefix of which P holds.
 pub record AcceptedWhere (limit : ℕ) (history : List Step) (s : Step) (P : List Step → Type 0) : Type 0 where
-  pub front : List Step
+  pub prefix : List Step
   pub later : List Step
-  pub stands : history ≡ front ++ s ∷ later
-  pub accepted : IsTrue (accepted_after limit front s)
-  pub there : P front
+  pub stands : history ≡ prefix ++ s ∷ later
+  pub accepted : IsTrue (accepted_after limit prefix s)
+  pub there : P prefix
 
 -- The history has an accepted step s.
 abbrev pub HasAccepted : ℕ → List Step → Step → Type 0
-HasAccepted limit history s = AcceptedWhere limit history s (λ front. Unit {0})
+HasAccepted limit history s = AcceptedWhere limit history s (λ prefix. Unit {0})
 
 -- the step at an index of a history is accepted after the prefix before it, and passes the test there
 abbrev pub passes_after : ℕ → List Step → (List Step → Step → Bool) → Option Step → Bool
-passes_after limit front test None = false
-passes_after limit front test (Some s) = accepted_after limit front s && test front s
+passes_after limit prefix test None = false
+passes_after limit prefix test (Some s) = accepted_after limit prefix s && test prefix s
 
 -- The number of the history's accepted steps that pass the test: the number of indices i at which a step stands that
 -- is accepted after the first i steps and passes the test after them.
@@ -96,24 +96,24 @@ is_birth s = false
 -- `Make`s before it; or at an accepted `Clone` with h births before it, of a handle on b.
 abbrev pub BornSentence : ℕ → List Step → ℕ → ℕ → Type 0
 BornSentence limit history h b =
-    AcceptedWhere limit history Make (λ front. (births_after limit front ≡ h) × (makes_after limit front ≡ b))
-    ⊎ ((g : ℕ) × AcceptedWhere limit history (Clone g) (λ front. (births_after limit front ≡ h) × (block_after limit front g ≡ b)))
+    AcceptedWhere limit history Make (λ prefix. (births_after limit prefix ≡ h) × (makes_after limit prefix ≡ b))
+    ⊎ ((g : ℕ) × AcceptedWhere limit history (Clone g) (λ prefix. (births_after limit prefix ≡ h) × (block_after limit prefix g ≡ b)))
 
 -- ---- marked
 
 -- The history has an accepted `Leak` of a handle on block b.
 abbrev pub Leaked : ℕ → List Step → ℕ → Type 0
-Leaked limit history b = (h : ℕ) × AcceptedWhere limit history (Leak h) (λ front. block_after limit front h ≡ b)
+Leaked limit history b = (h : ℕ) × AcceptedWhere limit history (Leak h) (λ prefix. block_after limit prefix h ≡ b)
 
 -- Handle h stands on block b, which is unmarked, and more than `limit` handles live on b.
 abbrev pub IsFull : ℕ → List Step → ℕ → ℕ → Type 0
-IsFull limit front h b =
-    (block_after limit front h ≡ b) × IsFalse (marked_after limit front b) × (limit < length (living_after limit front b))
+IsFull limit prefix h b =
+    (block_after limit prefix h ≡ b) × IsFalse (marked_after limit prefix b) × (limit < length (living_after limit prefix b))
 
 -- The history has an accepted `Clone` of a handle on block b, after a prefix that leaves b unmarked and more than
 -- `limit` handles living on b.
 abbrev pub ClonedPastLimit : ℕ → List Step → ℕ → Type 0
-ClonedPastLimit limit history b = (h : ℕ) × AcceptedWhere limit history (Clone h) (λ front. IsFull limit front h b)
+ClonedPastLimit limit history b = (h : ℕ) × AcceptedWhere limit history (Clone h) (λ prefix. IsFull limit prefix h b)
 
 -- Block b is marked after a history that has an accepted `Leak` on it, or an accepted `Clone` on it after a
 -- prefix that leaves b unmarked and more than `limit` handles living on b.
@@ -125,29 +125,29 @@ MarkedSentence limit history b = Leaked limit history b ⊎ ClonedPastLimit limi
 -- The last accepted step among `IntoRaw h` and `FromRaw h` in the history is `IntoRaw h`: it is accepted after a
 -- prefix, and neither of the two is accepted later.
 pub record LastIsIntoRaw (limit : ℕ) (history : List Step) (h : ℕ) : Type 0 where
-  pub front : List Step
+  pub prefix : List Step
   pub later : List Step
-  pub stands : history ≡ front ++ IntoRaw h ∷ later
-  pub accepted : IsTrue (accepted_after limit front (IntoRaw h))
+  pub stands : history ≡ prefix ++ IntoRaw h ∷ later
+  pub accepted : IsTrue (accepted_after limit prefix (IntoRaw h))
   pub last : (more rest : List Step) (s : Step) → later ≡ more ++ s ∷ rest → (s ≡ IntoRaw h) ⊎ (s ≡ FromRaw h)
-      → IsFalse (accepted_after limit (front ++ IntoRaw h ∷ more) s)
+      → IsFalse (accepted_after limit (prefix ++ IntoRaw h ∷ more) s)
 
 -- The history has an accepted `Begin h` after a prefix that leaves the block of h unmarked.
 abbrev pub BeganUnmarked : ℕ → List Step → ℕ → Type 0
 BeganUnmarked limit history h =
-    AcceptedWhere limit history (Begin h) (λ front. IsFalse (marked_after limit front (block_after limit front h)))
+    AcceptedWhere limit history (Begin h) (λ prefix. IsFalse (marked_after limit prefix (block_after limit prefix h)))
 
 -- The block of h is unmarked, and h is the only handle that lives on it.
 abbrev pub LivesAlone : ℕ → List Step → ℕ → Type 0
-LivesAlone limit front h =
-    IsFalse (marked_after limit front (block_after limit front h))
-    × (living_after limit front (block_after limit front h) ≡ h ∷ [])
+LivesAlone limit prefix h =
+    IsFalse (marked_after limit prefix (block_after limit prefix h))
+    × (living_after limit prefix (block_after limit prefix h) ≡ h ∷ [])
 
 -- Handle h owes its block after a history that has no accepted `Back h`, and has an accepted `Sub h` after a prefix
 -- that leaves the block unmarked and h the only handle living on it.
 abbrev pub OwesSentence : ℕ → List Step → ℕ → Type 0
 OwesSentence limit history h =
-    AcceptedWhere limit history (Sub h) (λ front. LivesAlone limit front h)
+    AcceptedWhere limit history (Sub h) (λ prefix. LivesAlone limit prefix h)
     × (¬ HasAccepted limit history (Back h))
 
 -- Raw, if the first fact holds; else free, if the second does; else dropping, if the third does; else owing,
@@ -196,7 +196,7 @@ is_back_on block b s = false
 
 -- How often a block was freed: the number of accepted `Back` steps on it.
 abbrev pub given_count : ℕ → List Step → ℕ → ℕ
-given_count limit history b = accepted_count limit history (λ front s. is_back_on (λ h. block_after limit front h) b s)
+given_count limit history b = accepted_count limit history (λ prefix s. is_back_on (λ h. block_after limit prefix h) b s)
 
 -- ---- answers
 

@@ -35,8 +35,8 @@ pub fn accepted_is(limit: u64, history: &[Step], step: Step)
 /// sentences::births_are(2, &[Step::Make, Step::Clone(0)]);
 /// ```
 pub fn births_are(limit: u64, history: &[Step])
-    ensures handles { births_after limit history.now ≡ accepted_count limit history.now (λ front s. is_birth s) }
-    ensures blocks { makes_after limit history.now ≡ accepted_count limit history.now (λ front s. is_make s) }
+    ensures handles { births_after limit history.now ≡ accepted_count limit history.now (λ prefix s. is_birth s) }
+    ensures blocks { makes_after limit history.now ≡ accepted_count limit history.now (λ prefix s. is_make s) }
 {}
 
 /// Where a handle is born, and on which block. Handle h is born at the accepted `Make` or `Clone` with h

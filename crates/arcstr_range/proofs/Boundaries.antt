@@ -5,35 +5,35 @@ use Rattle.std.specs.Str.{chars, all_scalars, IsUtf8, IsCharBoundary}
 use Rattle.std.proofs.lemmas.List.{take-append-drop, length-take, length-take-le, drop-drop, take-take}
 use Rattle.std.proofs.lemmas.Slice.{between_is}
 use Rattle.std.proofs.lemmas.Str.{IsUtf8-take, IsUtf8-between, chars-append, encodes-chars, scalars-chars, encodes-append, IsCharBoundary-at_seam}
-use Rattle.arcstr_range.specs.Text.{IsFrontLength, SpellsBetween, cut}
+use Rattle.arcstr_range.specs.Text.{IsPrefixLength, SpellsBetween, cut}
 
 -- the rest of a list of scalar values after a prefix is a list of scalar values
-pub scalars-rest : (front rest : List ℕ) → all_scalars (front ++ rest) ≡ true → all_scalars rest ≡ true
+pub scalars-rest : (prefix rest : List ℕ) → all_scalars (prefix ++ rest) ≡ true → all_scalars rest ≡ true
 scalars-rest [] rest h = h
-scalars-rest (c ∷ front) rest h = scalars-rest front rest (grind arith)
+scalars-rest (c ∷ prefix) rest h = scalars-rest prefix rest (grind arith)
 
 -- a boundary is the byte length of the characters before it
-pub IsFrontLength-from_boundary : (text : List ℕ) (place : ℕ) → IsUtf8 text → IsCharBoundary text place → IsFrontLength text place
-IsFrontLength-from_boundary text place utf8 boundary =
-    let front_utf8 = IsUtf8-take text place utf8 boundary in
+pub IsPrefixLength-from_boundary : (text : List ℕ) (place : ℕ) → IsUtf8 text → IsCharBoundary text place → IsPrefixLength text place
+IsPrefixLength-from_boundary text place utf8 boundary =
+    let prefix_utf8 = IsUtf8-take text place utf8 boundary in
     record {
-      front = chars (take place text);
+      prefix = chars (take place text);
       rest = chars (drop place text);
-      split = ap chars (sym (take-append-drop place text)) ∙ chars-append (take place text) (drop place text) front_utf8;
-      measured = ap length (encodes-chars (take place text) front_utf8) ∙ length-take-le place text boundary.0;
+      split = ap chars (sym (take-append-drop place text)) ∙ chars-append (take place text) (drop place text) prefix_utf8;
+      measured = ap length (encodes-chars (take place text) prefix_utf8) ∙ length-take-le place text boundary.0;
     }
 
-pub IsCharBoundary-from_front : (text : List ℕ) (place : ℕ) → IsUtf8 text → IsFrontLength text place → IsCharBoundary text place
-IsCharBoundary-from_front text place utf8 at =
-    let whole : text ≡ encode_utf8_all at.front ++ encode_utf8_all at.rest = sym (encodes-chars text utf8) ∙ ap encode_utf8_all at.split ∙ encodes-append at.front at.rest in
-    let rest_utf8 : IsUtf8 (encode_utf8_all at.rest) = (at.rest, (scalars-rest at.front at.rest (ap all_scalars (sym at.split) ∙ scalars-chars text utf8), refl)) in
+pub IsCharBoundary-from_prefix : (text : List ℕ) (place : ℕ) → IsUtf8 text → IsPrefixLength text place → IsCharBoundary text place
+IsCharBoundary-from_prefix text place utf8 at =
+    let whole : text ≡ encode_utf8_all at.prefix ++ encode_utf8_all at.rest = sym (encodes-chars text utf8) ∙ ap encode_utf8_all at.split ∙ encodes-append at.prefix at.rest in
+    let rest_utf8 : IsUtf8 (encode_utf8_all at.rest) = (at.rest, (scalars-rest at.prefix at.rest (ap all_scalars (sym at.split) ∙ scalars-chars text utf8), refl)) in
     subst (λ (n : ℕ). IsCharBoundary text n) at.measured (IsCharBoundary-at_seam text _ _ whole rest_utf8)
 
 -- a prefix of a text is a shorter prefix and the part between
 take-cut : (text : List ℕ) (start end : ℕ) → start ≤ end → take end text ≡ take start text ++ cut text start end
 take-cut text start end in_order =
     sym (take-append-drop start (take end text))
-    ∙ ap (λ front. front ++ drop start (take end text)) (take-take start end text in_order)
+    ∙ ap (λ prefix. prefix ++ drop start (take end text)) (take-take start end text in_order)
     ∙ ap (λ part. take start text ++ part) (sym (between_is text start end))
 
 -- the part between two boundaries spells the characters between them
@@ -49,10 +49,10 @@ SpellsBetween-cut text start end utf8 in_order at_start at_end =
       after = chars (drop end text);
       split =
           ap chars (sym (take-append-drop end text)) ∙ chars-append (take end text) (drop end text) end_utf8
-          ∙ ap (λ front. front ++ chars (drop end text)) until_end;
+          ∙ ap (λ prefix. prefix ++ chars (drop end text)) until_end;
       measured_start = ap length (encodes-chars (take start text) start_utf8) ∙ length-take-le start text at_start.0;
       measured_end =
-          ap (λ front. length (encode_utf8_all front)) (sym until_end)
+          ap (λ prefix. length (encode_utf8_all prefix)) (sym until_end)
           ∙ ap length (encodes-chars (take end text) end_utf8) ∙ length-take-le end text at_end.0;
       spelled = sym (encodes-chars (cut text start end) (IsUtf8-between text start end utf8 in_order at_start at_end));
     }
@@ -66,11 +66,11 @@ cut-cut text start end from to in_order within =
     ap (λ n. take n (drop (start + from) text)) size
     ∙ ap (λ rest. take (to - from) rest) (sym (drop-drop from start text))
     ∙ between_is (drop start text) from to
-    ∙ ap (λ front. drop from front) (sym (take-take to (end - start) (drop start text) short))
+    ∙ ap (λ prefix. drop from prefix) (sym (take-take to (end - start) (drop start text) short))
     ∙ sym (between_is (cut text start end) from to)
 
 -- the functions whose proofs use these rulesets name them
-pub ruleset fronts_at_boundaries = (IsFrontLength-from_boundary, IsCharBoundary-from_front)
+pub ruleset prefixes_at_boundaries = (IsPrefixLength-from_boundary, IsCharBoundary-from_prefix)
 
 pub ruleset slices_by_characters = (SpellsBetween-cut)
 

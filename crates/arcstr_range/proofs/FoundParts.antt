@@ -6,7 +6,7 @@ use Rattle.std.proofs.lemmas.Bool.{cases_lt}
 use Rattle.std.proofs.lemmas.List.{length-append, length-take-le, length-drop, get_or-take, get_or-drop, drop_at, take_all, take_at}
 use Rattle.std.proofs.lemmas.Slice.{between_is}
 use Rattle.std.proofs.lemmas.Str.{IsCharBoundary-end, IsCharBoundary-start, IsUtf8-between, encodes-append, encodes-chars}
-use Rattle.arcstr_range.proofs.Boundaries.{IsCharBoundary-from_front, cut-cut}
+use Rattle.arcstr_range.proofs.Boundaries.{IsCharBoundary-from_prefix, cut-cut}
 use Rattle.arcstr_range.proofs.Trims.{TrimsEnd-trim_end, TrimsStart-trim_start}
 use Rattle.arcstr_range.specs.Ends.{IsLawful, IsSliceable}
 use Rattle.arcstr_range.specs.Text.{cut}
@@ -81,29 +81,29 @@ stands_IsPart parent old new part at =
     (subst (λ bytes. StandsAt parent bytes (old.place + part.start)) part.text (stands_part parent old.text old.place part.start part.end part.sliced at))
 
 -- the text of a list of characters, cut after a prefix, is the prefix and the rest
-joined : (text front rest : List ℕ) → IsUtf8 text → chars text ≡ front ++ rest → text ≡ encode_utf8_all front ++ encode_utf8_all rest
-joined text front rest utf8 split = sym (encodes-chars text utf8) ∙ ap encode_utf8_all split ∙ encodes-append front rest
+joined : (text prefix rest : List ℕ) → IsUtf8 text → chars text ≡ prefix ++ rest → text ≡ encode_utf8_all prefix ++ encode_utf8_all rest
+joined text prefix rest utf8 split = sym (encodes-chars text utf8) ∙ ap encode_utf8_all split ∙ encodes-append prefix rest
 
-seam : (text front rest : List ℕ) → IsUtf8 text → chars text ≡ front ++ rest → IsCharBoundary text (length (encode_utf8_all front))
-seam text front rest utf8 split =
-    IsCharBoundary-from_front text _ utf8 (record { front = front; rest = rest; split = split; measured = refl })
+seam : (text prefix rest : List ℕ) → IsUtf8 text → chars text ≡ prefix ++ rest → IsCharBoundary text (length (encode_utf8_all prefix))
+seam text prefix rest utf8 split =
+    IsCharBoundary-from_prefix text _ utf8 (record { prefix = prefix; rest = rest; split = split; measured = refl })
 
 IsPart-trim_start : (old new : View) → IsUtf8 old.text → TrimsStart old new → IsPart old new
 IsPart-trim_start old new utf8 trims =
-    let front = encode_utf8_all trims.front in
+    let prefix = encode_utf8_all trims.prefix in
     let rest = encode_utf8_all trims.rest in
-    let whole = joined old.text trims.front trims.rest utf8 trims.removed.split in
-    let size : length old.text ≡ length front + length rest = ap length whole ∙ length-append front rest in
-    let behind : drop (length front) old.text ≡ rest = ap (drop (length front)) whole ∙ drop_at front rest (length front) refl in
+    let whole = joined old.text trims.prefix trims.rest utf8 trims.removed.split in
+    let size : length old.text ≡ length prefix + length rest = ap length whole ∙ length-append prefix rest in
+    let behind : drop (length prefix) old.text ≡ rest = ap (drop (length prefix)) whole ∙ drop_at prefix rest (length prefix) refl in
     record {
-      start = length front;
+      start = length prefix;
       end = length old.text;
       sliced = record {
         in_order = omega (arith, size);
         within = omega arith;
-        at_boundaries = (seam old.text trims.front trims.rest utf8 trims.removed.split, IsCharBoundary-end old.text);
+        at_boundaries = (seam old.text trims.prefix trims.rest utf8 trims.removed.split, IsCharBoundary-end old.text);
       };
-      text = ap (take (length old.text - length front)) behind ∙ take_all (length old.text - length front) rest (omega (arith, size)) ∙ sym trims.text;
+      text = ap (take (length old.text - length prefix)) behind ∙ take_all (length old.text - length prefix) rest (omega (arith, size)) ∙ sym trims.text;
       place = sym trims.place;
     }
 

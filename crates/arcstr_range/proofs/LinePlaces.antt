@@ -27,11 +27,11 @@ lines_of_parts-cons part [] some = absurd (omega arith)
 lines_of_parts-cons part (next ∷ parts) some = refl
 
 -- the first line of a text that has a newline, and the lines after it
-lines_first : (text front rest : List ℕ) → NoCharPasses is_newline front → text ≡ front ++ (encode_utf8 10 ++ rest) → lines text ≡ strip_carriage_return front ∷ lines rest
-lines_first text front rest none split =
-    ap lines (split ∙ ap (λ (l : List ℕ). front ++ (l ++ rest)) (encode_ascii 10 (omega arith)))
-    ∙ ap lines_of_parts (slice_split_at (λ byte. byte == 10) front 10 rest (no_newline front none) refl)
-    ∙ lines_of_parts-cons front (slice_split (λ byte. byte == 10) rest) (omega (arith, length-slice_split (λ byte. byte == 10) rest))
+lines_first : (text prefix rest : List ℕ) → NoCharPasses is_newline prefix → text ≡ prefix ++ (encode_utf8 10 ++ rest) → lines text ≡ strip_carriage_return prefix ∷ lines rest
+lines_first text prefix rest none split =
+    ap lines (split ∙ ap (λ (l : List ℕ). prefix ++ (l ++ rest)) (encode_ascii 10 (omega arith)))
+    ∙ ap lines_of_parts (slice_split_at (λ byte. byte == 10) prefix 10 rest (no_newline prefix none) refl)
+    ∙ lines_of_parts-cons prefix (slice_split (λ byte. byte == 10) rest) (omega (arith, length-slice_split (λ byte. byte == 10) rest))
 
 -- the only line of a text without a newline
 lines_last : (text : List ℕ) → NoCharPasses is_newline text → 0 < length text → lines text ≡ text ∷ []

@@ -22,29 +22,29 @@ use Rattle.arcstr_range.proofs.Pieces.{IsIn, found_parts, texts_of_parts}
 -- ---- the parts between newlines, by characters and by bytes
 
 -- the first part with more bytes before it
-abbrev with_front : List ℕ → List (List ℕ) → List (List ℕ)
-with_front front [] = front ∷ []
-with_front front (part ∷ parts) = (front ++ part) ∷ parts
+abbrev with_prefix : List ℕ → List (List ℕ) → List (List ℕ)
+with_prefix prefix [] = prefix ∷ []
+with_prefix prefix (part ∷ parts) = (prefix ++ part) ∷ parts
 
-with_front-nil : (parts : List (List ℕ)) → 0 < length parts → with_front [] parts ≡ parts
-with_front-nil [] some = absurd (omega arith)
-with_front-nil (part ∷ parts) some = refl
+with_prefix-nil : (parts : List (List ℕ)) → 0 < length parts → with_prefix [] parts ≡ parts
+with_prefix-nil [] some = absurd (omega arith)
+with_prefix-nil (part ∷ parts) some = refl
 
-with_front-cons : (x : ℕ) (xs : List ℕ) (parts : List (List ℕ)) → onto_first x (with_front xs parts) ≡ with_front (x ∷ xs) parts
-with_front-cons x xs [] = refl
-with_front-cons x xs (part ∷ parts) = refl
+with_prefix-cons : (x : ℕ) (xs : List ℕ) (parts : List (List ℕ)) → onto_first x (with_prefix xs parts) ≡ with_prefix (x ∷ xs) parts
+with_prefix-cons x xs [] = refl
+with_prefix-cons x xs (part ∷ parts) = refl
 
 abbrev parts_of_bytes : List ℕ → List (List ℕ)
 parts_of_bytes = slice_split (λ byte. byte == 10)
 
-parts_behind : (front rest : List ℕ) → All (λ byte. (byte == 10) ≡ false) front → parts_of_bytes (front ++ rest) ≡ with_front front (parts_of_bytes rest)
-parts_behind [] rest fail = sym (with_front-nil (parts_of_bytes rest) (omega (arith, length-slice_split (λ byte. byte == 10) rest)))
-parts_behind (x ∷ front) rest fail =
-    slice_split-cons_no (λ byte. byte == 10) x (front ++ rest) (All-head (λ byte. (byte == 10) ≡ false) x front fail)
-    ∙ ap (onto_first x) (parts_behind front rest (All-tail (λ byte. (byte == 10) ≡ false) x front fail))
-    ∙ with_front-cons x front (parts_of_bytes rest)
+parts_behind : (prefix rest : List ℕ) → All (λ byte. (byte == 10) ≡ false) prefix → parts_of_bytes (prefix ++ rest) ≡ with_prefix prefix (parts_of_bytes rest)
+parts_behind [] rest fail = sym (with_prefix-nil (parts_of_bytes rest) (omega (arith, length-slice_split (λ byte. byte == 10) rest)))
+parts_behind (x ∷ prefix) rest fail =
+    slice_split-cons_no (λ byte. byte == 10) x (prefix ++ rest) (All-head (λ byte. (byte == 10) ≡ false) x prefix fail)
+    ∙ ap (onto_first x) (parts_behind prefix rest (All-tail (λ byte. (byte == 10) ≡ false) x prefix fail))
+    ∙ with_prefix-cons x prefix (parts_of_bytes rest)
 
-encoded-onto_first : (c : ℕ) (parts : List (List ℕ)) → map encode_utf8_all (onto_first c parts) ≡ with_front (encode_utf8 c) (map encode_utf8_all parts)
+encoded-onto_first : (c : ℕ) (parts : List (List ℕ)) → map encode_utf8_all (onto_first c parts) ≡ with_prefix (encode_utf8 c) (map encode_utf8_all parts)
 encoded-onto_first c [] = ap (λ (l : List ℕ). l ∷ []) (append-nil (encode_utf8 c))
 encoded-onto_first c (part ∷ parts) = refl
 
@@ -57,7 +57,7 @@ parts_at_one c cs true is same =
 parts_at_one c cs false is same =
     ap (map encode_utf8_all) (slice_split-cons_no is_newline c cs is)
     ∙ encoded-onto_first c (slice_split is_newline cs)
-    ∙ ap (with_front (encode_utf8 c)) same
+    ∙ ap (with_prefix (encode_utf8 c)) same
     ∙ sym (parts_behind (encode_utf8 c) (encode_utf8_all cs) (no_newline (encode_utf8 c) (c ∷ [], append-nil (encode_utf8 c), (is, tt))))
 
 parts_by_bytes : (cs : List ℕ) → map encode_utf8_all (slice_split is_newline cs) ≡ parts_of_bytes (encode_utf8_all cs)
@@ -109,9 +109,9 @@ starts_at_boundary parent text place at = (
       omega (arith, read, read_whole, same, zero_more, first),
 )
 
-found_front_of : (parent text : List ℕ) (place n : ℕ) → n < length text → get_or text n 0 < 128 → IsFoundAt parent text place → IsFoundAt parent (take n text) place
-found_front_of parent text place n below ascii (inl empty) = absurd (omega (arith, ap length empty))
-found_front_of parent text place n below ascii (inr at) =
+found_prefix_of : (parent text : List ℕ) (place n : ℕ) → n < length text → get_or text n 0 < 128 → IsFoundAt parent text place → IsFoundAt parent (take n text) place
+found_prefix_of parent text place n below ascii (inl empty) = absurd (omega (arith, ap length empty))
+found_prefix_of parent text place n below ascii (inr at) =
     let boundary = IsCharBoundary-before_ascii text n below ascii in
     let sliced : IsSliceable text 0 n = record { in_order = omega arith; within = omega arith; at_boundaries = (starts_at_boundary parent text place at, boundary) } in
     subst (λ (l : List ℕ). IsFoundAt parent l place) (between_is text 0 n)
@@ -122,7 +122,7 @@ found_stripped_by : (parent text : List ℕ) (place : ℕ) (ends : Bool) → (ge
 found_stripped_by parent [] place true is found = absurd (cc)
 found_stripped_by parent (x ∷ xs) place true is found =
     let text = x ∷ xs in
-    found_front_of parent text place (length text - 1) (omega arith) (omega (arith, eqb-true _ 13 is)) found
+    found_prefix_of parent text place (length text - 1) (omega arith) (omega (arith, eqb-true _ 13 is)) found
 found_stripped_by parent text place false is found = found
 
 found_placed_one : (parent : List ℕ) (part : View) (empty : Bool) → IsIn parent part → All (IsIn parent) (placed (cond empty [] (part.text ∷ [])) (part ∷ []))

@@ -32,45 +32,45 @@ module _ (test : ℕ → Bool) where
   pub filter_one : (c : ℕ) (cs : List ℕ) (b : Bool) → test c ≡ b → filter test (c ∷ cs) ≡ cond b (c ∷ filter test cs) (filter test cs)
   filter_one c cs b e = ap (λ (x : Bool). cond x (c ∷ filter test cs) (filter test cs)) e
 
-  pub filter_before : (front : List ℕ) (c : ℕ) (rest : List ℕ) → All Fails front → test c ≡ true → filter test (front ++ c ∷ rest) ≡ c ∷ filter test rest
+  pub filter_before : (prefix : List ℕ) (c : ℕ) (rest : List ℕ) → All Fails prefix → test c ≡ true → filter test (prefix ++ c ∷ rest) ≡ c ∷ filter test rest
   filter_before [] c rest fail pass = filter_one c rest true pass
-  filter_before (x ∷ front) c rest fail pass =
-      filter_one x (front ++ c ∷ rest) false (All-head Fails x front fail) ∙ filter_before front c rest (All-tail Fails x front fail) pass
+  filter_before (x ∷ prefix) c rest fail pass =
+      filter_one x (prefix ++ c ∷ rest) false (All-head Fails x prefix fail) ∙ filter_before prefix c rest (All-tail Fails x prefix fail) pass
 
   pub filter_none : (characters : List ℕ) → All Fails characters → filter test characters ≡ []
   filter_none [] fail = refl
   filter_none (x ∷ xs) fail = filter_one x xs false (All-head Fails x xs fail) ∙ filter_none xs (All-tail Fails x xs fail)
 
   -- the characters of a text that consists of a prefix, a character and a rest
-  chars_of_three : (text front rest : List ℕ) (c : ℕ) → IsUtf8 front → IsUtf8 (encode_utf8 c ++ rest) → text ≡ front ++ (encode_utf8 c ++ rest)
-      → chars text ≡ chars front ++ c ∷ chars rest
-  chars_of_three text front rest c front_utf8 behind_utf8 split =
-      ap chars split ∙ chars-append front (encode_utf8 c ++ rest) front_utf8
-      ∙ ap (λ (l : List ℕ). chars front ++ l) (chars_past_char (encode_utf8 c ++ rest) rest c behind_utf8 refl)
+  chars_of_three : (text prefix rest : List ℕ) (c : ℕ) → IsUtf8 prefix → IsUtf8 (encode_utf8 c ++ rest) → text ≡ prefix ++ (encode_utf8 c ++ rest)
+      → chars text ≡ chars prefix ++ c ∷ chars rest
+  chars_of_three text prefix rest c prefix_utf8 behind_utf8 split =
+      ap chars split ∙ chars-append prefix (encode_utf8 c ++ rest) prefix_utf8
+      ∙ ap (λ (l : List ℕ). chars prefix ++ l) (chars_past_char (encode_utf8 c ++ rest) rest c behind_utf8 refl)
 
-  texts_first : (text front rest : List ℕ) (c : ℕ) → IsUtf8 front → IsUtf8 (encode_utf8 c ++ rest) → text ≡ front ++ (encode_utf8 c ++ rest)
-      → NoCharPasses test front → test c ≡ true → texts_between test text ≡ front ∷ texts_between test rest
+  texts_first : (text prefix rest : List ℕ) (c : ℕ) → IsUtf8 prefix → IsUtf8 (encode_utf8 c ++ rest) → text ≡ prefix ++ (encode_utf8 c ++ rest)
+      → NoCharPasses test prefix → test c ≡ true → texts_between test text ≡ prefix ∷ texts_between test rest
   unfolding texts_between
-  texts_first text front rest c front_utf8 behind_utf8 split none pass =
-      ap (λ (l : List ℕ). map encode_utf8_all (slice_split test l)) (chars_of_three text front rest c front_utf8 behind_utf8 split)
-      ∙ ap (map encode_utf8_all) (slice_split_at test (chars front) c (chars rest) (chars_fail front front_utf8 none) pass)
-      ∙ ap (λ (l : List ℕ). l ∷ map encode_utf8_all (slice_split test (chars rest))) (encodes-chars front front_utf8)
+  texts_first text prefix rest c prefix_utf8 behind_utf8 split none pass =
+      ap (λ (l : List ℕ). map encode_utf8_all (slice_split test l)) (chars_of_three text prefix rest c prefix_utf8 behind_utf8 split)
+      ∙ ap (map encode_utf8_all) (slice_split_at test (chars prefix) c (chars rest) (chars_fail prefix prefix_utf8 none) pass)
+      ∙ ap (λ (l : List ℕ). l ∷ map encode_utf8_all (slice_split test (chars rest))) (encodes-chars prefix prefix_utf8)
 
-  separators_first : (text front rest : List ℕ) (c : ℕ) → IsUtf8 front → IsUtf8 (encode_utf8 c ++ rest) → text ≡ front ++ (encode_utf8 c ++ rest)
-      → NoCharPasses test front → test c ≡ true → separators_of test text ≡ encode_utf8 c ∷ separators_of test rest
+  separators_first : (text prefix rest : List ℕ) (c : ℕ) → IsUtf8 prefix → IsUtf8 (encode_utf8 c ++ rest) → text ≡ prefix ++ (encode_utf8 c ++ rest)
+      → NoCharPasses test prefix → test c ≡ true → separators_of test text ≡ encode_utf8 c ∷ separators_of test rest
   unfolding separators_of
-  separators_first text front rest c front_utf8 behind_utf8 split none pass =
-      ap (λ (l : List ℕ). map encode_utf8 (filter test l)) (chars_of_three text front rest c front_utf8 behind_utf8 split)
-      ∙ ap (map encode_utf8) (filter_before (chars front) c (chars rest) (chars_fail front front_utf8 none) pass)
+  separators_first text prefix rest c prefix_utf8 behind_utf8 split none pass =
+      ap (λ (l : List ℕ). map encode_utf8 (filter test l)) (chars_of_three text prefix rest c prefix_utf8 behind_utf8 split)
+      ∙ ap (map encode_utf8) (filter_before (chars prefix) c (chars rest) (chars_fail prefix prefix_utf8 none) pass)
 
   -- the first part ends before the first character that passes
-  pub parts_first : (place : ℕ) (text front rest : List ℕ) (c : ℕ) → IsUtf8 front → IsUtf8 (encode_utf8 c ++ rest) → text ≡ front ++ (encode_utf8 c ++ rest)
-      → NoCharPasses test front → test c ≡ true
-      → parts_between test (view_at text place) ≡ view_at front place ∷ parts_between test (view_at rest (place + length front + length (encode_utf8 c)))
+  pub parts_first : (place : ℕ) (text prefix rest : List ℕ) (c : ℕ) → IsUtf8 prefix → IsUtf8 (encode_utf8 c ++ rest) → text ≡ prefix ++ (encode_utf8 c ++ rest)
+      → NoCharPasses test prefix → test c ≡ true
+      → parts_between test (view_at text place) ≡ view_at prefix place ∷ parts_between test (view_at rest (place + length prefix + length (encode_utf8 c)))
   unfolding parts_between
-  parts_first place text front rest c front_utf8 behind_utf8 split none pass =
-      ap (λ (l : List (List ℕ)). laid_out place l (separators_of test text)) (texts_first text front rest c front_utf8 behind_utf8 split none pass)
-      ∙ ap (λ (l : List (List ℕ)). laid_out place (front ∷ texts_between test rest) l) (separators_first text front rest c front_utf8 behind_utf8 split none pass)
+  parts_first place text prefix rest c prefix_utf8 behind_utf8 split none pass =
+      ap (λ (l : List (List ℕ)). laid_out place l (separators_of test text)) (texts_first text prefix rest c prefix_utf8 behind_utf8 split none pass)
+      ∙ ap (λ (l : List (List ℕ)). laid_out place (prefix ∷ texts_between test rest) l) (separators_first text prefix rest c prefix_utf8 behind_utf8 split none pass)
 
   -- if no character passes, the only part is the whole
   pub parts_last : (place : ℕ) (text : List ℕ) → IsUtf8 text → NoCharPasses test text → parts_between test (view_at text place) ≡ view_at text place ∷ []
@@ -119,36 +119,36 @@ abbrev pub IsIn : List ℕ → View → Type 0
 IsIn parent view = IsFoundAt parent view.text view.place
 
 -- the two halves of a text are found where the text is
-module _ (parent front rest : List ℕ) (place : ℕ) (whole_utf8 : IsUtf8 (front ++ rest)) (rest_utf8 : IsUtf8 rest) (found : IsFoundAt parent (front ++ rest) place) where
-  at_seam : IsCharBoundary (front ++ rest) (length front)
-  at_seam = IsCharBoundary-at_seam (front ++ rest) front rest refl rest_utf8
+module _ (parent prefix rest : List ℕ) (place : ℕ) (whole_utf8 : IsUtf8 (prefix ++ rest)) (rest_utf8 : IsUtf8 rest) (found : IsFoundAt parent (prefix ++ rest) place) where
+  at_seam : IsCharBoundary (prefix ++ rest) (length prefix)
+  at_seam = IsCharBoundary-at_seam (prefix ++ rest) prefix rest refl rest_utf8
 
-  found_front : IsFoundAt parent front place
-  found_front =
-      let sliced : IsSliceable (front ++ rest) 0 (length front) = record { in_order = omega arith; within = at_seam.0; at_boundaries = (IsCharBoundary-start (front ++ rest) whole_utf8, at_seam) } in
-      subst (λ (l : List ℕ). IsFoundAt parent l place) (between_is (front ++ rest) 0 (length front) ∙ take_at front rest (length front) refl)
-      (subst (λ (n : ℕ). IsFoundAt parent (cut (front ++ rest) 0 (length front)) n) (omega arith) (found_part parent (front ++ rest) place 0 (length front) sliced found))
+  prefix_is_found : IsFoundAt parent prefix place
+  prefix_is_found =
+      let sliced : IsSliceable (prefix ++ rest) 0 (length prefix) = record { in_order = omega arith; within = at_seam.0; at_boundaries = (IsCharBoundary-start (prefix ++ rest) whole_utf8, at_seam) } in
+      subst (λ (l : List ℕ). IsFoundAt parent l place) (between_is (prefix ++ rest) 0 (length prefix) ∙ take_at prefix rest (length prefix) refl)
+      (subst (λ (n : ℕ). IsFoundAt parent (cut (prefix ++ rest) 0 (length prefix)) n) (omega arith) (found_part parent (prefix ++ rest) place 0 (length prefix) sliced found))
 
-  found_rest : IsFoundAt parent rest (place + length front)
+  found_rest : IsFoundAt parent rest (place + length prefix)
   found_rest =
-      let size = length-append front rest in
-      let sliced : IsSliceable (front ++ rest) (length front) (length (front ++ rest)) = record { in_order = at_seam.0; within = omega arith; at_boundaries = (at_seam, IsCharBoundary-end (front ++ rest)) } in
-      subst (λ (l : List ℕ). IsFoundAt parent l (place + length front))
-      (ap (take (length (front ++ rest) - length front)) (drop_at front rest (length front) refl) ∙ take_all (length (front ++ rest) - length front) rest (omega (arith, size)))
-      (found_part parent (front ++ rest) place (length front) (length (front ++ rest)) sliced found)
+      let size = length-append prefix rest in
+      let sliced : IsSliceable (prefix ++ rest) (length prefix) (length (prefix ++ rest)) = record { in_order = at_seam.0; within = omega arith; at_boundaries = (at_seam, IsCharBoundary-end (prefix ++ rest)) } in
+      subst (λ (l : List ℕ). IsFoundAt parent l (place + length prefix))
+      (ap (take (length (prefix ++ rest) - length prefix)) (drop_at prefix rest (length prefix) refl) ∙ take_all (length (prefix ++ rest) - length prefix) rest (omega (arith, size)))
+      (found_part parent (prefix ++ rest) place (length prefix) (length (prefix ++ rest)) sliced found)
 
 -- the text of a list of characters is found in its two halves
-module _ (parent front rest : List ℕ) (place : ℕ) (scalars : all_scalars (front ++ rest) ≡ true) (found : IsFoundAt parent (encode_utf8_all (front ++ rest)) place) where
+module _ (parent prefix rest : List ℕ) (place : ℕ) (scalars : all_scalars (prefix ++ rest) ≡ true) (found : IsFoundAt parent (encode_utf8_all (prefix ++ rest)) place) where
   rest_scalars : all_scalars rest ≡ true
-  rest_scalars = scalars-rest front rest scalars
+  rest_scalars = scalars-rest prefix rest scalars
 
-  found_halves : IsFoundAt parent (encode_utf8_all front) place × IsFoundAt parent (encode_utf8_all rest) (place + length (encode_utf8_all front))
+  found_halves : IsFoundAt parent (encode_utf8_all prefix) place × IsFoundAt parent (encode_utf8_all rest) (place + length (encode_utf8_all prefix))
   found_halves =
-      let whole = subst (λ (l : List ℕ). IsFoundAt parent l place) (encodes-append front rest) found in
-      let whole_utf8 : IsUtf8 (encode_utf8_all front ++ encode_utf8_all rest) = (front ++ rest, (scalars, encodes-append front rest)) in
+      let whole = subst (λ (l : List ℕ). IsFoundAt parent l place) (encodes-append prefix rest) found in
+      let whole_utf8 : IsUtf8 (encode_utf8_all prefix ++ encode_utf8_all rest) = (prefix ++ rest, (scalars, encodes-append prefix rest)) in
       let rest_utf8 : IsUtf8 (encode_utf8_all rest) = (rest, (rest_scalars, refl)) in (
-        found_front parent (encode_utf8_all front) (encode_utf8_all rest) place whole_utf8 rest_utf8 whole,
-        found_rest parent (encode_utf8_all front) (encode_utf8_all rest) place whole_utf8 rest_utf8 whole,
+        prefix_is_found parent (encode_utf8_all prefix) (encode_utf8_all rest) place whole_utf8 rest_utf8 whole,
+        found_rest parent (encode_utf8_all prefix) (encode_utf8_all rest) place whole_utf8 rest_utf8 whole,
       )
 
 found_laid_out : (parent : List ℕ) (parts : List (List ℕ)) (separators : List ℕ) (place : ℕ) → all_scalars (joined parts separators) ≡ true
@@ -182,8 +182,8 @@ module _ (c : ℕ) (view : View) (place : ℕ) (utf8 : IsUtf8 view.text) (at : M
   around : view.text ≡ take place view.text ++ (encode_utf8 c ++ drop at.0 view.text)
   around = sym (take-append-drop place view.text) ∙ ap (λ (l : List ℕ). take place view.text ++ l) at.1.1.split
 
-  front_is : part_of view 0 place ≡ view_at (take place view.text) view.place
-  front_is = ap (λ (l : List ℕ). view_at l (view.place + 0)) (between_is view.text 0 place) ∙ ap (λ (n : ℕ). view_at (take place view.text) n) (omega arith)
+  prefix_is : part_of view 0 place ≡ view_at (take place view.text) view.place
+  prefix_is = ap (λ (l : List ℕ). view_at l (view.place + 0)) (between_is view.text 0 place) ∙ ap (λ (n : ℕ). view_at (take place view.text) n) (omega arith)
 
   behind_is : part_of view (place + len_utf8 c) (length view.text)
       ≡ view_at (drop at.0 view.text) (view.place + length (take place view.text) + length (encode_utf8 c))
@@ -198,7 +198,7 @@ module _ (c : ℕ) (view : View) (place : ℕ) (utf8 : IsUtf8 view.text) (at : M
   before_place =
       parts_first (λ d. d == c) view.place view.text (take place view.text) (drop at.0 view.text) c (IsUtf8-take view.text place utf8 at.3)
       (subst IsUtf8 at.1.1.split (IsUtf8-drop view.text place utf8 at.3)) around at.1.0 (eq-eqb c c refl)
-      ∙ ap (λ (v : View). v ∷ parts_between (λ d. d == c) (view_at (drop at.0 view.text) (view.place + length (take place view.text) + length (encode_utf8 c)))) (sym front_is)
+      ∙ ap (λ (v : View). v ∷ parts_between (λ d. d == c) (view_at (drop at.0 view.text) (view.place + length (take place view.text) + length (encode_utf8 c)))) (sym prefix_is)
       ∙ ap (λ (v : View). part_of view 0 place ∷ parts_between (λ d. d == c) v) (sym behind_is)
 
 pub first_none : (c : ℕ) (view : View) (answer : Option ℕ) → IsUtf8 view.text

@@ -3,7 +3,7 @@ use Rattle.std.proofs.Common.{◌≡◌, ◌+◌, ◌-◌, ◌++◌, length, sym
 use Rattle.std.specs.Prelude.{encode_utf8_all}
 use Rattle.std.specs.Str.{IsUtf8, chars, skip_leading_whitespace, drop_trailing_whitespace, trim_start, trim_end}
 use Rattle.std.proofs.lemmas.Str.{encodes-chars, encodes-append}
-use Rattle.arcstr_range.proofs.WhiteSpace.{IsLongestWhiteFront-skip, IsLongestWhiteBack-drop}
+use Rattle.arcstr_range.proofs.WhiteSpace.{IsLongestWhitePrefix-skip, IsLongestWhiteBack-drop}
 use Rattle.arcstr_range.specs.Trim.{TrimsStart, TrimsEnd}
 use Rattle.arcstr_range.specs.View.{View}
 
@@ -12,12 +12,12 @@ pub TrimsStart-trim_start : (old new : View) → IsUtf8 old.text → new.text �
     → new.place ≡ old.place + (length old.text - length new.text) → TrimsStart old new
 unfolding trim_start
 TrimsStart-trim_start old new utf8 text place =
-    let skipped = IsLongestWhiteFront-skip (chars old.text) in
+    let skipped = IsLongestWhitePrefix-skip (chars old.text) in
     let rest = skip_leading_whitespace (chars old.text) in
     let whole : old.text ≡ encode_utf8_all skipped.0 ++ encode_utf8_all rest =
     sym (encodes-chars old.text utf8) ∙ ap encode_utf8_all skipped.1.split ∙ encodes-append skipped.0 rest in
     record {
-      front = skipped.0;
+      prefix = skipped.0;
       rest = rest;
       removed = skipped.1;
       text = text;

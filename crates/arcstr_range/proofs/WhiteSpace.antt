@@ -6,7 +6,7 @@ use Rattle.std.specs.List.{AllPass}
 use Rattle.std.specs.Str.{skip_leading_whitespace, drop_trailing_whitespace}
 use Rattle.std.proofs.lemmas.Bool.{and_parts}
 use Rattle.std.proofs.lemmas.Bool.Decides.{nat_tests}
-use Rattle.arcstr_range.specs.Trim.{IsLongestWhiteFront, IsLongestWhiteBack}
+use Rattle.arcstr_range.specs.Trim.{IsLongestWhitePrefix, IsLongestWhiteBack}
 
 abbrev AreWhite : List ℕ → Type 0
 AreWhite = AllPass is_whitespace
@@ -25,40 +25,40 @@ AreWhite-first : (c : ℕ) (cs : List ℕ) → AreWhite (c ∷ cs) → is_whites
 AreWhite-first c cs white = white 0 0 (omega arith)
 
 -- the longest white prefix after one more character is added
-longest_front : (c : ℕ) (cs front rest : List ℕ) → IsLongestWhiteFront cs front rest
-    → (other others_rest : List ℕ) → c ∷ cs ≡ other ++ others_rest → AreWhite other → length other ≤ length front + 1
-longest_front c cs front rest h [] others_rest e white = omega arith
-longest_front c cs front rest h (o ∷ other) others_rest e white =
+longest_prefix : (c : ℕ) (cs prefix rest : List ℕ) → IsLongestWhitePrefix cs prefix rest
+    → (other others_rest : List ℕ) → c ∷ cs ≡ other ++ others_rest → AreWhite other → length other ≤ length prefix + 1
+longest_prefix c cs prefix rest h [] others_rest e white = omega arith
+longest_prefix c cs prefix rest h (o ∷ other) others_rest e white =
     let short = h.longest other others_rest (cc) (AreWhite-rest o other white) in
     omega (arith, short)
 
-no_front : (c : ℕ) (cs : List ℕ) → is_whitespace c ≡ false
+no_prefix : (c : ℕ) (cs : List ℕ) → is_whitespace c ≡ false
     → (other others_rest : List ℕ) → c ∷ cs ≡ other ++ others_rest → AreWhite other → length other ≤ 0
-no_front c cs black [] others_rest e white = omega arith
-no_front c cs black (o ∷ other) others_rest e white =
+no_prefix c cs black [] others_rest e white = omega arith
+no_prefix c cs black (o ∷ other) others_rest e white =
     let same : c ≡ o = cc in
     let first = AreWhite-first o other white in
     absurd (cc)
 
-front_of_more : (b : Bool) (c : ℕ) (cs rest : List ℕ) → is_whitespace c ≡ b
-    → (front : List ℕ) × IsLongestWhiteFront cs front rest
-    → (front : List ℕ) × IsLongestWhiteFront (c ∷ cs) front (cond b rest (c ∷ cs))
-front_of_more true c cs rest white (front, h) = (
-  c ∷ front,
+prefix_of_more : (b : Bool) (c : ℕ) (cs rest : List ℕ) → is_whitespace c ≡ b
+    → (prefix : List ℕ) × IsLongestWhitePrefix cs prefix rest
+    → (prefix : List ℕ) × IsLongestWhitePrefix (c ∷ cs) prefix (cond b rest (c ∷ cs))
+prefix_of_more true c cs rest white (prefix, h) = (
+  c ∷ prefix,
   record {
     split = ap (λ l. c ∷ l) h.split;
-    white = AreWhite-cons c front white h.white;
-    longest = λ other others_rest e w. let short = longest_front c cs front rest h other others_rest e w in omega (arith, short);
+    white = AreWhite-cons c prefix white h.white;
+    longest = λ other others_rest e w. let short = longest_prefix c cs prefix rest h other others_rest e w in omega (arith, short);
   },
 )
-front_of_more false c cs rest black (front, h) =
-    ([], record { split = refl; white = AreWhite-nil; longest = no_front c cs black })
+prefix_of_more false c cs rest black (prefix, h) =
+    ([], record { split = refl; white = AreWhite-nil; longest = no_prefix c cs black })
 
 -- `skip_leading_whitespace` skips the longest white prefix
-pub IsLongestWhiteFront-skip : (cs : List ℕ) → (front : List ℕ) × IsLongestWhiteFront cs front (skip_leading_whitespace cs)
-IsLongestWhiteFront-skip [] =
+pub IsLongestWhitePrefix-skip : (cs : List ℕ) → (prefix : List ℕ) × IsLongestWhitePrefix cs prefix (skip_leading_whitespace cs)
+IsLongestWhitePrefix-skip [] =
     ([], record { split = refl; white = AreWhite-nil; longest = λ other others_rest e w. omega (arith, ap length e, length-append other others_rest) })
-IsLongestWhiteFront-skip (c ∷ cs) = front_of_more (is_whitespace c) c cs (skip_leading_whitespace cs) refl (IsLongestWhiteFront-skip cs)
+IsLongestWhitePrefix-skip (c ∷ cs) = prefix_of_more (is_whitespace c) c cs (skip_leading_whitespace cs) refl (IsLongestWhitePrefix-skip cs)
 
 -- a suffix of a list is no longer than the list
 end_is_short : (cs others_rest other : List ℕ) → cs ≡ others_rest ++ other → length other ≤ length cs

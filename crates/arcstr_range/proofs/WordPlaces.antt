@@ -72,18 +72,18 @@ words_at_word place word (c ∷ rest) black white some =
 -- ---- from std's cuts of bytes to cuts of characters
 
 -- a prefix of the characters' bytes that spells characters is a prefix of the characters
-record FrontOf (cs front : List ℕ) (behind : List ℕ) : Type 0 where
+record PrefixOf (cs prefix : List ℕ) (behind : List ℕ) : Type 0 where
   pub rest : List ℕ
-  pub split : cs ≡ front ++ rest
+  pub split : cs ≡ prefix ++ rest
   pub spelled : encode_utf8_all rest ≡ behind
 
-front_of : (cs front behind : List ℕ) → encode_utf8_all cs ≡ encode_utf8_all front ++ behind → FrontOf cs front behind
-front_of cs [] behind same = record { rest = cs; split = refl; spelled = same }
-front_of [] (f ∷ front) behind same =
-    absurd (omega (arith, ap length same, length-append (encode_utf8 f ++ encode_utf8_all front) behind, length-append (encode_utf8 f) (encode_utf8_all front), length-encode f, (len_utf8_bounds f).0))
-front_of (c ∷ cs) (f ∷ front) behind same =
-    let both = encode_same c f (encode_utf8_all cs) (encode_utf8_all front ++ behind) (same ∙ append_assoc (encode_utf8 f) (encode_utf8_all front) behind) in
-    let more = front_of cs front behind both.1 in
+prefix_of : (cs prefix behind : List ℕ) → encode_utf8_all cs ≡ encode_utf8_all prefix ++ behind → PrefixOf cs prefix behind
+prefix_of cs [] behind same = record { rest = cs; split = refl; spelled = same }
+prefix_of [] (f ∷ prefix) behind same =
+    absurd (omega (arith, ap length same, length-append (encode_utf8 f ++ encode_utf8_all prefix) behind, length-append (encode_utf8 f) (encode_utf8_all prefix), length-encode f, (len_utf8_bounds f).0))
+prefix_of (c ∷ cs) (f ∷ prefix) behind same =
+    let both = encode_same c f (encode_utf8_all cs) (encode_utf8_all prefix ++ behind) (same ∙ append_assoc (encode_utf8 f) (encode_utf8_all prefix) behind) in
+    let more = prefix_of cs prefix behind both.1 in
     record { rest = more.rest; split = ap (λ (x : ℕ). x ∷ cs) both.0 ∙ ap (λ (l : List ℕ). f ∷ l) more.split; spelled = more.spelled }
 
 not_black : (c : ℕ) (b : Bool) → is_whitespace c ≡ b → is_not_whitespace c ≡ false → IsWhite c
@@ -119,12 +119,12 @@ skip_word (c ∷ word) rest black some = skip_one c (word ++ rest) false (All-he
 module _ (view : View) (gap word behind more : List ℕ) (utf8 : IsUtf8 view.text) (split : view.text ≡ gap ++ (word ++ behind)) (some : 0 < length word)
     (white : NoCharPasses is_not_whitespace gap) (black : NoCharPasses is_whitespace word)
     (ends : 0 < length behind → (c : ℕ) × (is_whitespace c ≡ true) × (behind ≡ encode_utf8 c ++ more) × IsScalar c) where
-  after_gap : FrontOf (chars view.text) white.0 (word ++ behind)
+  after_gap : PrefixOf (chars view.text) white.0 (word ++ behind)
   after_gap =
-      front_of (chars view.text) white.0 (word ++ behind) (encodes-chars view.text utf8 ∙ split ∙ ap (λ (l : List ℕ). l ++ (word ++ behind)) (sym white.1))
+      prefix_of (chars view.text) white.0 (word ++ behind) (encodes-chars view.text utf8 ∙ split ∙ ap (λ (l : List ℕ). l ++ (word ++ behind)) (sym white.1))
 
-  after_word : FrontOf after_gap.rest black.0 behind
-  after_word = front_of after_gap.rest black.0 behind (after_gap.spelled ∙ ap (λ (l : List ℕ). l ++ behind) (sym black.1))
+  after_word : PrefixOf after_gap.rest black.0 behind
+  after_word = prefix_of after_gap.rest black.0 behind (after_gap.spelled ∙ ap (λ (l : List ℕ). l ++ behind) (sym black.1))
 
   characters : chars view.text ≡ white.0 ++ (black.0 ++ after_word.rest)
   characters = after_gap.split ∙ ap (λ (l : List ℕ). white.0 ++ l) after_word.split

@@ -6,7 +6,7 @@ use Rattle.std.specs.Str.{chars, trim, trim_start, trim_end}
 use Rattle.arcstr_range.specs.declared.range.StrRange.TheVariants.{Between, From, To, Full, Inclusive, ToInclusive}
 use Rattle.arcstr_range.specs.declared.range.fault.RangeFault.TheVariants.{OutOfOrder, PastEnd, OffBoundary}
 use Rattle.arcstr_range.specs.Ends.{ends_of, length_rule, text_rule, FitsLength, IsLawful, IsFirstFault}
-use Rattle.arcstr_range.specs.Text.{IsFrontLength, SpellsBetween, cut}
+use Rattle.arcstr_range.specs.Text.{IsPrefixLength, SpellsBetween, cut}
 use Rattle.arcstr_range.specs.View.{view_at, part_of, IsFoundAt}
 
 -- the bytes of an `a` and an e with an acute accent
@@ -78,9 +78,9 @@ past_end : IsFirstFault (text_rule a_acute 0 4) PastEnd
 past_end = search rules
 
 -- boundaries and slices
-before_accent : IsFrontLength a_acute 1
+before_accent : IsPrefixLength a_acute 1
 unfolding chars encode
-before_accent = record { front = 97 ∷ []; rest = 233 ∷ []; split = refl; measured = refl }
+before_accent = record { prefix = 97 ∷ []; rest = 233 ∷ []; split = refl; measured = refl }
 
 accent_spelled : SpellsBetween a_acute 1 3 (195 ∷ 169 ∷ [])
 unfolding chars encode

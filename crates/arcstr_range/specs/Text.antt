@@ -4,11 +4,11 @@ use Rattle.std.specs.Prelude.{◌≡◌, ℕ, List, ◌++◌, length, slice_rang
 use Rattle.std.specs.Str.{chars}
 
 -- `place` is the length in bytes of a prefix of the text's characters
-pub record IsFrontLength (text : List ℕ) (place : ℕ) : Type 0 where
-  pub front : List ℕ
+pub record IsPrefixLength (text : List ℕ) (place : ℕ) : Type 0 where
+  pub prefix : List ℕ
   pub rest : List ℕ
-  pub split : chars text ≡ front ++ rest
-  pub measured : length (encode_utf8_all front) ≡ place
+  pub split : chars text ≡ prefix ++ rest
+  pub measured : length (encode_utf8_all prefix) ≡ place
 
 -- the bytes of a text between two byte offsets
 abbrev pub cut : List ℕ → ℕ → ℕ → List ℕ

@@ -5,11 +5,11 @@ use Rattle.std.specs.List.{AllPass}
 use Rattle.std.specs.Str.{chars}
 use Rattle.arcstr_range.specs.View.{View}
 
--- `front` is the longest prefix of the characters that is all white space, and the rest follows it
-pub record IsLongestWhiteFront (characters front rest : List ℕ) : Type 0 where
-  pub split : characters ≡ front ++ rest
-  pub white : AllPass is_whitespace front
-  pub longest : (other others_rest : List ℕ) → characters ≡ other ++ others_rest → AllPass is_whitespace other → length other ≤ length front
+-- `prefix` is the longest prefix of the characters that is all white space, and the rest follows it
+pub record IsLongestWhitePrefix (characters prefix rest : List ℕ) : Type 0 where
+  pub split : characters ≡ prefix ++ rest
+  pub white : AllPass is_whitespace prefix
+  pub longest : (other others_rest : List ℕ) → characters ≡ other ++ others_rest → AllPass is_whitespace other → length other ≤ length prefix
 
 -- `back` is the longest suffix of the characters that is all white space, and the rest precedes it
 pub record IsLongestWhiteBack (characters rest back : List ℕ) : Type 0 where
@@ -19,11 +19,11 @@ pub record IsLongestWhiteBack (characters rest back : List ℕ) : Type 0 where
 
 -- the new view is the old one without the longest prefix of white space, and its place moves by the bytes of that prefix
 pub record TrimsStart (old new : View) : Type 0 where
-  pub front : List ℕ
+  pub prefix : List ℕ
   pub rest : List ℕ
-  pub removed : IsLongestWhiteFront (chars old.text) front rest
+  pub removed : IsLongestWhitePrefix (chars old.text) prefix rest
   pub text : new.text ≡ encode_utf8_all rest
-  pub place : new.place ≡ old.place + length (encode_utf8_all front)
+  pub place : new.place ≡ old.place + length (encode_utf8_all prefix)
 
 -- the new view is the old one without the longest suffix of white space, at the old place
 pub record TrimsEnd (old new : View) : Type 0 where

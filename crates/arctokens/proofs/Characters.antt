@@ -15,7 +15,7 @@ cut-split text start middle end low high =
     let whole : end - start ≡ (middle - start) + (end - middle) = omega arith in
     let there : start + (middle - start) ≡ middle = omega arith in
     sym (take-append-drop (middle - start) (take (end - start) rest))
-    ∙ ap (λ front. front ++ drop (middle - start) (take (end - start) rest)) (take-take (middle - start) (end - start) rest near)
+    ∙ ap (λ prefix. prefix ++ drop (middle - start) (take (end - start) rest)) (take-take (middle - start) (end - start) rest near)
     ∙ ap (λ back. take (middle - start) rest ++ back)
     (ap (λ n. drop (middle - start) (take n rest)) whole ∙ drop-take (middle - start) (end - middle) rest
     ∙ ap (λ l. take (end - middle) l) (drop-drop (middle - start) start text ∙ ap (λ n. drop n text) there))
@@ -39,9 +39,9 @@ pub record HasFirst (characters : List ℕ) : Type 0 where
 
 -- a list that is not empty has a last element
 pub record HasLast (characters : List ℕ) : Type 0 where
-  pub front : List ℕ
+  pub prefix : List ℕ
   pub last : ℕ
-  pub split : characters ≡ front ++ last ∷ []
+  pub split : characters ≡ prefix ++ last ∷ []
 
 first_of_bytes : (characters : List ℕ) → 0 < length (encode_utf8_all characters) → HasFirst characters
 first_of_bytes [] some = absurd (omega arith)
@@ -56,10 +56,10 @@ first_between text start end utf8 at_start at_end in_order =
     first_of_bytes _ (omega (arith, ap length spelled, length-cut text start end low at_end.0))
 
 last_of_cons : (c : ℕ) (cs : List ℕ) → HasLast (c ∷ cs)
-last_of_cons c [] = record { front = []; last = c; split = refl }
+last_of_cons c [] = record { prefix = []; last = c; split = refl }
 last_of_cons c (d ∷ cs) =
     let more = last_of_cons d cs in
-    record { front = c ∷ more.front; last = more.last; split = ap (λ l. c ∷ l) more.split }
+    record { prefix = c ∷ more.prefix; last = more.last; split = ap (λ l. c ∷ l) more.split }
 
 last_of : (characters : List ℕ) → HasFirst characters → HasLast characters
 last_of [] some = absurd (cc)

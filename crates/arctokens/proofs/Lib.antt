@@ -6,7 +6,7 @@ pub mod OneKind
 pub mod WordRuns
 pub mod WorkedExamples
 pub mod TokensBefore
-pub mod Turns
+pub mod WorkerTurns
 pub mod PieceSteps
-pub mod ListsTaken
+pub mod TakenLists
 pub mod VisibleLanes

@@ -10,12 +10,12 @@ use Rattle.arctokens.specs.Runs.{IsFirstAfter, IsLastBefore, AreOfKind, AreAlike
 use Rattle.arctokens.proofs.Characters.{chars-split, first_between, last_between}
 
 -- each of the characters is of the kind of the run
-kind_within : (white : Bool) (front rest : List ℕ) (character : ℕ) (all : List ℕ) → all ≡ front ++ character ∷ rest → AreOfKind white all
+kind_within : (white : Bool) (prefix rest : List ℕ) (character : ℕ) (all : List ℕ) → all ≡ prefix ++ character ∷ rest → AreOfKind white all
     → is_whitespace character ≡ white
-kind_within white front rest character all split kinds =
-    let within : length front < length all = omega (arith, ap length split, length-append front (character ∷ rest)) in
-    let there = ap (λ l. get_or l (length front) 0) split ∙ get_or_at front character rest 0 (length front) refl in
-    subst (λ c. is_whitespace c ≡ white) there (kinds (length front) 0 within)
+kind_within white prefix rest character all split kinds =
+    let within : length prefix < length all = omega (arith, ap length split, length-append prefix (character ∷ rest)) in
+    let there = ap (λ l. get_or l (length prefix) 0) split ∙ get_or_at prefix character rest 0 (length prefix) refl in
+    subst (λ c. is_whitespace c ≡ white) there (kinds (length prefix) 0 within)
 
 -- the character after an offset in a run
 pub kind_after : (text : List ℕ) (start place end : ℕ) (white : Bool) → IsUtf8 text → IsCharBoundary text start → IsCharBoundary text place
@@ -40,15 +40,15 @@ kind_before text start place end white utf8 at_start at_place low high alike =
     let after = chars (cut text place end) in
     let whole =
     chars-split text start place end utf8 at_start at_place (omega (arith, low)) high ∙ ap (λ l. l ++ after) here.split
-    ∙ append_assoc here.front (here.last ∷ []) after in
+    ∙ append_assoc here.prefix (here.last ∷ []) after in
     record {
-      front = chars (cut text 0 start) ++ here.front;
+      prefix = chars (cut text 0 start) ++ here.prefix;
       character = here.last;
       split =
           chars-split text 0 start place utf8 (IsCharBoundary-start text utf8) at_start (omega arith) (omega (arith, low))
           ∙ ap (λ l. chars (cut text 0 start) ++ l) here.split
-          ∙ sym (append_assoc (chars (cut text 0 start)) here.front (here.last ∷ []));
-      kind = kind_within white here.front after here.last _ whole alike.kinds;
+          ∙ sym (append_assoc (chars (cut text 0 start)) here.prefix (here.last ∷ []));
+      kind = kind_within white here.prefix after here.last _ whole alike.kinds;
     }
 
 -- the character after an offset has only one kind, and so has the character before it
@@ -61,7 +61,7 @@ one_after text place one other =
 
 pub one_before : (text : List ℕ) (place : ℕ) → IsLastBefore text place true → IsLastBefore text place false → ⊥
 one_before text place one other =
-    let same = same_from_push one.front other.front one.character other.character (sym one.split ∙ other.split) in
+    let same = same_from_push one.prefix other.prefix one.character other.character (sym one.split ∙ other.split) in
     let kinds : true ≡ false = sym one.kind ∙ ap is_whitespace same.1 ∙ other.kind in
     cc
 

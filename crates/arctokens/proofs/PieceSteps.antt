@@ -9,7 +9,7 @@ use Rattle.arctokens.specs.Tokens.{AreTokens, TokenList}
 use Rattle.arctokens.specs.Pieces.{HasTokensOf, IsPiece, ArePiecesOfFirst}
 use Rattle.arctokens.specs.declared.workers.Share.{Share}
 use Rattle.arctokens.specs.Shares.{IsShare, AreSharesOfFirst}
-use Rattle.arctokens.proofs.Turns.{turn_cases, next_row, next_turn, first_turn, first_row}
+use Rattle.arctokens.proofs.WorkerTurns.{turn_cases, next_row, next_turn, first_turn, first_row}
 
 -- the lists of a worker's texts before one of its numbers, which can be past the last text
 pub record IsPieceBefore (texts : List TextView) (workers worker number : ℕ) (lists : List TokenList) : Type 0 where

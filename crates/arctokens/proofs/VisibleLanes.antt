@@ -51,14 +51,14 @@ visible_from byte is = by_lane (is_visible byte) is
     by_lane false unset = absurd (cc)
 
 -- the bytes before the first set lane are visible; if no lane is set, all sixteen are
-pub record IsVisibleFront (bytes : List ℕ) (place count : ℕ) : Type 0 where
+pub record IsVisiblePrefix (bytes : List ℕ) (place count : ℕ) : Type 0 where
   pub within : count ≤ 16
   pub visible : (k : ℕ) → place ≤ k → k < place + count → IsVisible (get_or bytes k 0)
 
-front_by_count : (bytes : List ℕ) (place mask count : ℕ) → place + 16 ≤ length bytes
+prefix_by_count : (bytes : List ℕ) (place mask count : ℕ) → place + 16 ≤ length bytes
     → mask ≡ mask_l (map (λ byte. not (is_visible byte)) (take 16 (drop place bytes))) → count ≡ cond (eqb mask 0) 16 (count_trailing_zeros 64 mask)
-    → IsVisibleFront bytes place count
-front_by_count bytes place mask count room is counted =
+    → IsVisiblePrefix bytes place count
+prefix_by_count bytes place mask count room is counted =
     let other : ℕ → Bool = λ byte. not (is_visible byte) in
     let chunk = take 16 (drop place bytes) in
     let first = first_set_mask_l other chunk 16 (length-chunk place 16 bytes room) (omega arith) in
@@ -69,10 +69,10 @@ front_by_count bytes place mask count room is counted =
     }
 
 pub all_visible : (bytes : List ℕ) (place mask : ℕ) → place + 16 ≤ length bytes
-    → mask ≡ mask_l (map (λ byte. not (is_visible byte)) (take 16 (drop place bytes))) → mask ≡ 0 → IsVisibleFront bytes place 16
-all_visible bytes place mask room is none = front_by_count bytes place mask 16 room is (rw none refl)
+    → mask ≡ mask_l (map (λ byte. not (is_visible byte)) (take 16 (drop place bytes))) → mask ≡ 0 → IsVisiblePrefix bytes place 16
+all_visible bytes place mask room is none = prefix_by_count bytes place mask 16 room is (rw none refl)
 
 pub some_visible : (bytes : List ℕ) (place mask : ℕ) → place + 16 ≤ length bytes
     → mask ≡ mask_l (map (λ byte. not (is_visible byte)) (take 16 (drop place bytes))) → (mask ≡ 0 → ⊥)
-    → IsVisibleFront bytes place (count_trailing_zeros 64 mask)
-some_visible bytes place mask room is some = front_by_count bytes place mask _ room is (grind (arith, nat_tests))
+    → IsVisiblePrefix bytes place (count_trailing_zeros 64 mask)
+some_visible bytes place mask room is some = prefix_by_count bytes place mask _ room is (grind (arith, nat_tests))

@@ -15,7 +15,7 @@ white_after : (text : List ℕ) (place : ℕ) → IsWhiteAfter text place → Is
 white_after text place h = record { character = h.character; rest = h.rest; split = h.split; kind = h.white }
 
 white_before : (text : List ℕ) (place : ℕ) → IsWhiteBefore text place → IsLastBefore text place true
-white_before text place h = record { front = h.front; character = h.character; split = h.split; kind = h.white }
+white_before text place h = record { prefix = h.prefix; character = h.character; split = h.split; kind = h.white }
 
 -- no word starts in white space
 starts_past_white : (text : List ℕ) (from start a b : ℕ) → IsUtf8 text → IsCharBoundary text from → AreAlike text from start true
@@ -72,7 +72,7 @@ opens text from start utf8 at_from between inside white black = of_case (cases_l
     of_case : (from < start) ⊎ (start ≤ from) → IsBetweenWords text from → (start ≡ 0) ⊎ IsWhiteBefore text start
     of_case (inl more) where_from =
         let last = kind_before text from start start true utf8 at_from white.at_end more (omega arith) white in
-        inr (record { front = last.front; character = last.character; split = last.split; white = last.kind })
+        inr (record { prefix = last.prefix; character = last.character; split = last.split; white = last.kind })
     of_case (inr none) (inl first) = inl (omega (arith, white.in_order, first))
     of_case (inr none) (inr (inl all)) = absurd (omega (arith, white.in_order, all))
     of_case (inr none) (inr (inr next)) =

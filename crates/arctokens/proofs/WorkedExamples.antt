@@ -26,7 +26,7 @@ accented_word =
       at_start = search rules;
       at_end = search rules;
       not_white = All-cons IsBlack 97 (233 ∷ []) refl (All-cons IsBlack 233 [] refl (All-nil IsBlack));
-      white_before = inr (record { front = []; character = 32; split = refl; white = refl });
+      white_before = inr (record { prefix = []; character = 32; split = refl; white = refl });
       white_after = inr (record { character = 32; rest = 32 ∷ 98 ∷ 32 ∷ []; split = refl; white = refl });
     }
 
@@ -63,7 +63,7 @@ last_word =
       at_start = search rules;
       at_end = search rules;
       not_white = All-cons IsBlack 98 [] refl (All-nil IsBlack);
-      white_before = inr (record { front = 97 ∷ []; character = 160; split = refl; white = refl });
+      white_before = inr (record { prefix = 97 ∷ []; character = 160; split = refl; white = refl });
       white_after = inl refl;
     }
 

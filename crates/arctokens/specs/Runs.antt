@@ -29,9 +29,9 @@ pub record IsFirstAfter (text : List ℕ) (place : ℕ) (white : Bool) : Type 0 
 
 -- the last character before `place` is white space exactly if `white` is true
 pub record IsLastBefore (text : List ℕ) (place : ℕ) (white : Bool) : Type 0 where
-  pub front : List ℕ
+  pub prefix : List ℕ
   pub character : ℕ
-  pub split : chars (cut text 0 place) ≡ front ++ character ∷ []
+  pub split : chars (cut text 0 place) ≡ prefix ++ character ∷ []
   pub kind : is_whitespace character ≡ white
 
 -- the characters are all white space, or none is

@@ -7,9 +7,9 @@ use Rattle.arcstr_range.specs.Text.{cut}
 
 -- the last character before `place` is white space
 pub record IsWhiteBefore (text : List ℕ) (place : ℕ) : Type 0 where
-  pub front : List ℕ
+  pub prefix : List ℕ
   pub character : ℕ
-  pub split : chars (cut text 0 place) ≡ front ++ character ∷ []
+  pub split : chars (cut text 0 place) ≡ prefix ++ character ∷ []
   pub white : IsTrue (is_whitespace character)
 
 -- the first character after `place` is white space

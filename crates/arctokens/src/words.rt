@@ -64,7 +64,7 @@ fn passed_at(text: &str, place: usize, white: bool) -> usize
     if white {
         0
     } else {
-        visible_front(text.as_bytes(), place)
+        visible_prefix(text.as_bytes(), place)
     }
 }
 
@@ -73,7 +73,7 @@ const LANES: usize = 16;
 
 /// Returns how many bytes at `place` are visible ASCII characters, which are never white space, within one vector. Returns 0 if fewer bytes than a vector are
 /// left.
-fn visible_front(bytes: &[u8], place: usize) -> usize
+fn visible_prefix(bytes: &[u8], place: usize) -> usize
     requires { place < length bytes.now }
     ensures within { result ≤ LANES }
     ensures inside { place + result ≤ length bytes.now }

@@ -10,19 +10,19 @@ use Rattle.arcstr.specs.TextView.{TextView}
 use Rattle.example_messages.specs.Messages.{HasTwoSemicolons, IsFirstSentence, full_stop, semicolon}
 
 -- if one list splits at a character in two ways, and neither prefix contains the character, the prefixes are equal
-same_front : (c : ℕ) (xs ys us vs : List ℕ) → xs ++ c ∷ us ≡ ys ++ c ∷ vs → ¬ (Contains xs c) → ¬ (Contains ys c) → xs ≡ ys
-same_front c [] [] us vs same no_x no_y = refl
-same_front c [] (y ∷ ys) us vs same no_x no_y = absurd (no_y (0, omega arith, grind (arith, same)))
-same_front c (x ∷ xs) [] us vs same no_x no_y = absurd (no_x (0, omega arith, grind (arith, same)))
-same_front c (x ∷ xs) (y ∷ ys) us vs same no_x no_y =
-    let tails : xs ≡ ys = same_front c xs ys us vs (grind (arith, same)) (λ among. no_x (Contains-append_right (x ∷ []) xs c among)) (λ among. no_y (Contains-append_right (y ∷ []) ys c among)) in
+same_prefix : (c : ℕ) (xs ys us vs : List ℕ) → xs ++ c ∷ us ≡ ys ++ c ∷ vs → ¬ (Contains xs c) → ¬ (Contains ys c) → xs ≡ ys
+same_prefix c [] [] us vs same no_x no_y = refl
+same_prefix c [] (y ∷ ys) us vs same no_x no_y = absurd (no_y (0, omega arith, grind (arith, same)))
+same_prefix c (x ∷ xs) [] us vs same no_x no_y = absurd (no_x (0, omega arith, grind (arith, same)))
+same_prefix c (x ∷ xs) (y ∷ ys) us vs same no_x no_y =
+    let tails : xs ≡ ys = same_prefix c xs ys us vs (grind (arith, same)) (λ among. no_x (Contains-append_right (x ∷ []) xs c among)) (λ among. no_y (Contains-append_right (y ∷ []) ys c among)) in
     grind (arith, same, tails)
 
 -- a character has only one first byte offset
 same_place : (text : List ℕ) (c place other : ℕ) → IsFirstPlace text c place → IsFirstPlace text c other → place ≡ other
 same_place text c place other one two =
-    let fronts = same_front c one.before two.before one.after two.after (sym one.split ∙ two.split) one.others two.others in
-    sym one.measured ∙ ap (λ front. length (encode_utf8_all front)) fronts ∙ two.measured
+    let prefixes = same_prefix c one.before two.before one.after two.after (sym one.split ∙ two.split) one.others two.others in
+    sym one.measured ∙ ap (λ prefix. length (encode_utf8_all prefix)) prefixes ∙ two.measured
 
 has_first : (text : List ℕ) (c place : ℕ) → IsFirstPlace text c place → Contains (chars text) c
 has_first text c place first =

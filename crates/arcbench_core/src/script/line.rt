@@ -20,7 +20,7 @@ fn place_of(bytes: &[u8], byte: u8) -> Option<usize>
 
 /// The bytes before the first `byte` and those after it; if there is none, all bytes and no bytes.
 fn parts_at(bytes: &[u8], byte: u8) -> (&[u8], &[u8])
-    ensures front { result.0.now ≡ before_first (λ b. b == byte) bytes.now }
+    ensures prefix { result.0.now ≡ before_first (λ b. b == byte) bytes.now }
     ensures back { result.1.now ≡ after_first (λ b. b == byte) bytes.now }
 {
     match place_of(bytes, byte) {

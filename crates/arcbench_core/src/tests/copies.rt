@@ -50,12 +50,12 @@ fn writes_nothing_after_a_fault_of_reading(rt: HostRuntime) {
 
 /// The 44 bytes of the answer take 22 writes of two bytes. Each write before the fault writes two of them.
 #[test]
-fn writes_a_front_before_a_fault_of_writing(rt: HostRuntime) -> Result<(), Fail> {
+fn writes_a_prefix_before_a_fault_of_writing(rt: HostRuntime) -> Result<(), Fail> {
     for write in 0..22 {
         let found = copy_first_script(rt.alloc(), rt.alloc(), NEVER, write);
-        let front = FIRST_ANSWER.get(..2 * write as usize).ok_or("short")?;
+        let prefix = FIRST_ANSWER.get(..2 * write as usize).ok_or("short")?;
         assert_eq!(rt; found.result, Err(CopyFault::Io), "{write}");
-        assert_eq!(rt; found.written.as_slice(), front.as_bytes(), "{write}");
+        assert_eq!(rt; found.written.as_slice(), prefix.as_bytes(), "{write}");
     }
     Ok(())
 }

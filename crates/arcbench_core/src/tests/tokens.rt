@@ -77,9 +77,9 @@ fn fails_at_each_write(rt: HostRuntime) -> Result<(), Fail> {
     for write in 0..21 {
         let at = FailsAt { write, ..NO_FAULT };
         let found = run_program(&rt, &["tokens", "2"], LINES, at)?;
-        let front = WORDS_OF_LINES.as_bytes().get(..2 * write as usize);
+        let prefix = WORDS_OF_LINES.as_bytes().get(..2 * write as usize);
         assert_eq!(rt; found.status, 4);
-        assert_eq!(rt; found.output.as_slice(), front.ok_or("short")?);
+        assert_eq!(rt; found.output.as_slice(), prefix.ok_or("short")?);
         assert_eq!(rt; found.errors.as_slice(), IO.as_bytes());
     }
     Ok(())

@@ -1,7 +1,7 @@
 //! Ranges and byte offsets in a text.
 ghost use Rattle.std.specs.Prelude.{◌≡◌, ◌+◌, ◌↔◌, OnOk, length, IsTrue, IsOk, IsErrOf, IfOk, IfErr, IsSome, IfSome};
 ghost use Rattle.std.specs.Str.{IsCharBoundary};
-ghost use Rattle.arcstr_range.specs.Text.{IsFrontLength, SpellsBetween};
+ghost use Rattle.arcstr_range.specs.Text.{IsPrefixLength, SpellsBetween};
 ghost use Rattle.arcstr_range.specs.declared.range.fault.RangeFault.{RangeFault};
 ghost use Rattle.arcstr_range.specs.Ends.{ends_in, cut_by, IsLawfulRange, IsSliceRange, IsFirstRangeFault};
 ghost use Rattle.arcstr_range.specs.Substring.{substring_at, text_of, inner_by, IsSound};
@@ -15,10 +15,10 @@ use std::ops::Range;
 /// assert!(rt; range::is_boundary("aé", 1));
 /// assert!(rt; !range::is_boundary("aé", 2));
 /// ```
-#[tactic(auto, using(crate::proofs::Boundaries::fronts_at_boundaries))]
+#[tactic(auto, using(crate::proofs::Boundaries::prefixes_at_boundaries))]
 pub fn is_boundary(text: &str, place: usize) -> bool
     ensures boundary { IsTrue result ↔ IsCharBoundary text.now place }
-    ensures front { IsTrue result ↔ IsFrontLength text.now place }
+    ensures prefix { IsTrue result ↔ IsPrefixLength text.now place }
 {
     text.is_char_boundary(place)
 }

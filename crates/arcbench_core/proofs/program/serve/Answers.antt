@@ -1,4 +1,4 @@
-use Rattle.arcbench_core.proofs.Utf8Known.{says_by_status}
+use Rattle.arcbench_core.proofs.KnownUtf8.{says_by_status}
 use Rattle.arcbench_core.proofs.program.serve.Goals.{in-None, in-Some-Script, in-Some-Threads, in-Some-Tokens}
 use Rattle.arcbench_core.proofs.program.serve.Goals as goal
 

@@ -1,6 +1,6 @@
 use Rattle.std.proofs.Common.{◌≡◌, Err}
 use Rattle.arcbench_core.specs.declared.tokens.TokensFault.TheVariants.{NotUtf8}
-use Rattle.arcbench_core.proofs.Utf8Known.{same_sign, says_of_input}
+use Rattle.arcbench_core.proofs.KnownUtf8.{same_sign, says_of_input}
 use Rattle.arcbench_core.proofs.program.tell_tokens.Goals as goal
 
 -- if the lines were written, the input was UTF-8

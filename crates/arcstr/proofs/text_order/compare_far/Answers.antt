@@ -1,6 +1,6 @@
 -- Equal prefixes grow by equal bytes.
 use Rattle.std.proofs.Common.{arith}
-use Rattle.arcstr.proofs.FrontOrder.{alike-next}
+use Rattle.arcstr.proofs.PrefixOrder.{alike-next}
 use Rattle.arcstr.proofs.text_order.compare_far.Goals as goal
 
 pub loop-from-preserved : goal.loop-from-preserved

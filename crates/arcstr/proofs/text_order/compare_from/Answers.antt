@@ -1,11 +1,11 @@
 -- The first vector that differs decides, and otherwise the lengths do.
 use Rattle.std.proofs.Common.{◌≡◌, ℕ, ◌+◌, ◌-◌, take, sym, ◌∙◌, subst, arith}
-use Rattle.arcstr.proofs.FrontOrder.{alike, alike-front, by_fronts, by_length}
+use Rattle.arcstr.proofs.PrefixOrder.{alike, alike-prefix, by_prefixes, by_length}
 use Rattle.arcstr.proofs.text_order.compare_from.Goals as goal
 
 pub returns-then-is_ne : goal.returns-then-is_ne
 returns-then-is_ne c =
-    by_fronts (c.loop-from.from + 16) c.args.one.now c.args.other.now _ (omega arith) (omega arith) c.order_of_lanes-found.ensures (sym c.is_ne.ensures ∙ c.if-is_ne.true)
+    by_prefixes (c.loop-from.from + 16) c.args.one.now c.args.other.now _ (omega arith) (omega arith) c.order_of_lanes-found.ensures (sym c.is_ne.ensures ∙ c.if-is_ne.true)
 
 pub loop-from-preserved : goal.loop-from-preserved
 loop-from-preserved c = record {
@@ -15,11 +15,11 @@ loop-from-preserved c = record {
 
 pub order_of_lanes-found-requires-2-clause-alike : goal.order_of_lanes-found-requires-2-clause-alike
 order_of_lanes-found-requires-2-clause-alike c =
-    alike-front (c.min-last.result - 16) c.loop-from.from c.args.one.now c.args.other.now (omega arith) c.loop-from.invariant.alike
+    alike-prefix (c.min-last.result - 16) c.loop-from.from c.args.one.now c.args.other.now (omega arith) c.loop-from.invariant.alike
 
 pub returns-then-is_ne-2 : goal.returns-then-is_ne-2
 returns-then-is_ne-2 c =
-    by_fronts (c.min-last.result - 16 + 16) c.args.one.now c.args.other.now _ (omega arith) (omega arith) c.order_of_lanes-found-2.ensures (sym c.is_ne-2.ensures ∙ c.if-is_ne-2.true)
+    by_prefixes (c.min-last.result - 16 + 16) c.args.one.now c.args.other.now _ (omega arith) (omega arith) c.order_of_lanes-found-2.ensures (sym c.is_ne-2.ensures ∙ c.if-is_ne-2.true)
 
 pub returns : goal.returns
 returns c =

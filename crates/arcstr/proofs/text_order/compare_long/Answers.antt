@@ -1,11 +1,11 @@
 -- The first 64 bytes decide, or they are equal.
 use Rattle.std.proofs.Common.{sym, ◌∙◌, arith}
-use Rattle.arcstr.proofs.FrontOrder.{alike, by_fronts, by_length}
+use Rattle.arcstr.proofs.PrefixOrder.{alike, by_prefixes, by_length}
 use Rattle.arcstr.proofs.text_order.compare_long.Goals as goal
 
 pub returns-then-is_ne : goal.returns-then-is_ne
 returns-then-is_ne c =
-    by_fronts 64 c.args.one.now c.args.other.now _ (omega arith) (omega arith) c.order_of_block-found.ensures (sym c.is_ne.ensures ∙ c.if-is_ne.true)
+    by_prefixes 64 c.args.one.now c.args.other.now _ (omega arith) (omega arith) c.order_of_block-found.ensures (sym c.is_ne.ensures ∙ c.if-is_ne.true)
 
 pub returns-then-one-eq64 : goal.returns-then-one-eq64
 returns-then-one-eq64 c =

@@ -1,7 +1,7 @@
 -- The first lane that differs decides, and equal lanes decide nothing.
 use Rattle.std.proofs.Common.{sym, ◌∙◌, arith}
 use Rattle.std.proofs.lemmas.Simd.{length-chunk}
-use Rattle.arcstr.proofs.FrontOrder.{alike-Equal, alike-next}
+use Rattle.arcstr.proofs.PrefixOrder.{alike-Equal, alike-next}
 use Rattle.arcstr.proofs.LaneOrder.{none_differs, apart-Greater, apart-Less, first_apart}
 use Rattle.arcstr.proofs.text_order.order_of_lanes.Goals as goal
 

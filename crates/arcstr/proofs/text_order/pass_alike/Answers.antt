@@ -1,6 +1,6 @@
 -- Equal prefixes grow by two equal vectors of 64 bytes.
 use Rattle.std.proofs.Common.{◌≡◌, ℕ, ◌+◌, take, subst, arith}
-use Rattle.arcstr.proofs.FrontOrder.{alike-next, both-true}
+use Rattle.arcstr.proofs.PrefixOrder.{alike-next, both-true}
 use Rattle.arcstr.proofs.text_order.pass_alike.Goals as goal
 
 pub loop-from-preserved : goal.loop-from-preserved

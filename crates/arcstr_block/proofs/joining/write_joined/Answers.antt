@@ -3,7 +3,7 @@ use Rattle.std.proofs.Common.{◌≡◌, ◌+◌, ◌∙◌, ◌++◌, length, g
 use Rattle.std.specs.Prelude.{take, IsUtf8}
 use Rattle.std.specs.List.{join_by}
 use Rattle.std.proofs.lemmas.Str.{IsUtf8-append}
-use Rattle.arcstr_block.proofs.Joins.{joined_more, joined_room}
+use Rattle.arcstr_block.proofs.JoinedTexts.{joined_more, joined_room}
 use Rattle.arcstr_block.proofs.joining.write_joined.Goals as goal
 
 pub write-at-requires-clause-room : goal.write-at-requires-clause-room
@@ -26,9 +26,9 @@ loop-i-preserved g c =
     let text : c.as_str-text.result.now ≡ f (get_or xs i x) = c.as_str-text.ensures ∙ ap f c.index-texts-i.is in
     let more : join_by f sep (take (i + 1) xs) ≡ (join_by f sep (take i xs) ++ gap) ++ f (get_or xs i x) =
     joined_more f sep xs i x gap c.loop-i-test.true c.before-in-loop-i.ensures.first c.before-in-loop-i.ensures.later in
-    let front = join_by f sep (take i xs) in
-    let utf8 : IsUtf8 ((front ++ gap) ++ f (get_or xs i x)) =
-    IsUtf8-append (front ++ gap) _ (IsUtf8-append front gap was.3 c.before-in-loop-i.utf8) (subst IsUtf8 text c.as_str-text.utf8) in (
+    let prefix = join_by f sep (take i xs) in
+    let utf8 : IsUtf8 ((prefix ++ gap) ++ f (get_or xs i x)) =
+    IsUtf8-append (prefix ++ gap) _ (IsUtf8-append prefix gap was.3 c.before-in-loop-i.utf8) (subst IsUtf8 text c.as_str-text.utf8) in (
       record {
         start = c.write-at-in-loop-i.ensures.places.start ∙ c.write-at.ensures.places.start ∙ was.0.start;
         count = c.write-at-in-loop-i.ensures.places.count ∙ c.write-at.ensures.places.count ∙ was.0.count;
@@ -37,14 +37,14 @@ loop-i-preserved g c =
         arith,
         ap length more,
         ap length text,
-        length-append (front ++ gap) (f (get_or xs i x)),
-        length-append front gap,
+        length-append (prefix ++ gap) (f (get_or xs i x)),
+        length-append prefix gap,
         c.write-at-in-loop-i.ensures.end,
         c.write-at.ensures.end,
         was.1,
       ),
       c.write-at-in-loop-i.ensures.items ∙ ap (λ ys. ys ++ c.as_str-text.result.now) (c.write-at.ensures.items ∙ ap (λ ys. ys ++ gap) was.2) ∙
-          ap (λ ys. (front ++ gap) ++ ys) text ∙ sym more,
+          ap (λ ys. (prefix ++ gap) ++ ys) text ∙ sym more,
       subst IsUtf8 (sym more) utf8,
       c.write-at-in-loop-i.ensures.written,
     )

@@ -1,6 +1,6 @@
 use Rattle.std.proofs.Common.{◌%◌, ◌<◌, length, refl, arith}
 use Rattle.std.proofs.lemmas.Nat.{mod_below}
-use Rattle.arctokens.proofs.ListsTaken.{AreLeft-more, AreTokensOfEach-next, taken_tokens}
+use Rattle.arctokens.proofs.TakenLists.{AreLeft-more, AreTokensOfEach-next, taken_tokens}
 use Rattle.arctokens.proofs.weaving.woven.Goals as goal
 
 pub loop-number-preserved : goal.loop-number-preserved

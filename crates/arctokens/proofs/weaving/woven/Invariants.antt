@@ -1,7 +1,7 @@
 -- So far, the lists of the texts before a number are in order, the others are left, and there is capacity for them.
 use Rattle.std.proofs.Common.{◌≡◌, ◌≤◌, take, length, vec_len, vec_capacity}
 use Rattle.arctokens.specs.Tokens.{AreTokensOfEach}
-use Rattle.arctokens.proofs.ListsTaken.{AreLeft}
+use Rattle.arctokens.proofs.TakenLists.{AreLeft}
 use Rattle.arctokens.proofs.weaving.woven.Given as goal
 
 abbrev pub invariant-loop-number : goal.invariant-loop-number

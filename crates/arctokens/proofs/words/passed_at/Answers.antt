@@ -7,6 +7,6 @@ returns-then-white-clause-alike c = AreAlike-passed_none c.args.text.now c.args.
 pub returns-else-white-clause-alike : goal.returns-else-white-clause-alike
 returns-else-white-clause-alike c =
     let text = c.args.text.now in
-    let front = rw c.as_bytes.ensures.value at c.visible_front.ensures in
+    let prefix = rw c.as_bytes.ensures.value at c.visible_prefix.ensures in
     rw c.if-white.false
-    (AreAlike-visible text c.args.place c.visible_front.result c.utf8.text c.requires.boundary front.inside front.visible)
+    (AreAlike-visible text c.args.place c.visible_prefix.result c.utf8.text c.requires.boundary prefix.inside prefix.visible)

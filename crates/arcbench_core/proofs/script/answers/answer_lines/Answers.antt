@@ -1,6 +1,6 @@
 use Rattle.std.proofs.Common.{[], ◌∷◌, ◌++◌}
 use Rattle.arcbench_core.specs.Script.{steps_of}
-use Rattle.arcbench_core.proofs.LinesDone.{one_more_done}
+use Rattle.arcbench_core.proofs.AnsweredLines.{one_more_done}
 use Rattle.arcbench_core.proofs.script.answers.answer_lines.Goals as goal
 
 pub loop-rest-preserved : goal.loop-rest-preserved

@@ -1,6 +1,6 @@
 use Rattle.std.proofs.Common.{List, ℕ, length, string_bytes}
 use Rattle.arcbench_core.specs.Line.{lines_of}
-use Rattle.arcbench_core.proofs.LinesDone.{LinesDone}
+use Rattle.arcbench_core.proofs.AnsweredLines.{LinesDone}
 use Rattle.arcbench_core.proofs.script.answers.answer_lines.Given as goal
 
 abbrev pub invariant-loop-rest : goal.invariant-loop-rest

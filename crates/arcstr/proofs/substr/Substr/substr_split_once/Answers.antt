@@ -1,4 +1,4 @@
-use Rattle.arcstr.proofs.Finding.{not_split_at_single, split_around_single}
+use Rattle.arcstr.proofs.FirstMatches.{not_split_at_single, split_around_single}
 use Rattle.arcstr.specs.Substr.{slice_within, text_of}
 use Rattle.arcstr.proofs.substr.Substr.substr_split_once.Goals as goal
 

@@ -48,7 +48,7 @@ use Rattle.core.proofs.slots.Slots.from_raw_parts.Met as callee
 use Rattle.core.proofs.tally.Steps.{word_in}
 use Rattle.atomic_table.proofs.Calls.{fm}
 use Rattle.atomic_table.proofs.Walks.{proved, leaves}
-use Rattle.arcstr_block.specs.Memory.{Fits, block_size, block_type, rooms, word_place}
+use Rattle.arcstr_block.specs.Memory.{Fits, block_size, block_type, rooms, word_offset}
 use Rattle.arcstr_block.specs.contracts.block.Blank as N
 use Rattle.arcstr_block.proofs.Fields.{pointer_val, typed, Words, made}
 use Rattle.arcstr_block.proofs.Memory.{byte_laws, block_bytes, block_align, spreads}
@@ -127,9 +127,9 @@ make_spec 𝓤 𝓛 𝓜 𝓡 wired Y K g d dd met md =
     let Post : Val → SProp 𝓤 = (walk_of 𝓛 En hs c).post y in
     let others : Fml = fsep (flft κs.1.0 qs.1.0) ftrue in
     qed 𝓛 (((‵ (flft κ q) ⊛ ‵ others) ⊛ ‵ (owns (types_at En.signature.params κs) a y.0.4)) ∷ raw (fact 𝓤 (κs.1.0 ⊑ Y.lives)) ∷ raw (fact 𝓤
-    (place ≡ word_place n)) ∷ raw (fact 𝓤 (size ≡ block_size n)) ∷ raw (fact 𝓤 (Fits n)) ∷ []) ∵
+    (place ≡ word_offset n)) ∷ raw (fact 𝓤 (size ≡ block_size n)) ∷ raw (fact 𝓤 (Fits n)) ∷ []) ∵
     keep ! (1 ∷ 2 ∷ 3 ∷ 4 ∷ 0 ∷ []) $
-    heard ! (κs.1.0 ⊑ Y.lives) (λ inside. heard ! (place ≡ word_place n) (λ placed. heard ! (size ≡ block_size n) (λ sized.
+    heard ! (κs.1.0 ⊑ Y.lives) (λ inside. heard ! (place ≡ word_offset n) (λ placed. heard ! (size ≡ block_size n) (λ sized.
     heard ! (Fits n) (λ fits. split ! $ split ! $
     move ! (2 ∷ []) $ fsplit ! $ fsplit ! $ keep ! (1 ∷ 3 ∷ 4 ∷ []) $
     enter ! 𝓣.C 𝓣.Λ fn us Post $
@@ -143,7 +143,7 @@ make_spec 𝓤 𝓛 𝓜 𝓡 wired Y K g d dd met md =
     use1 𝓛 (later (raw (Answered Z 𝓛 𝓜.mem 𝓡.returns heap τ u) ⊛ ‵ (flft κ q))) (Takes-gives Z 𝓛 𝓜.mem 𝓡.returns κ q hp heap size 8 τ u) $ await ! tt $
     split ! $ move ! (1 ∷ 2 ∷ []) $ join ! $ move ! (1 ∷ []) $
     answers Z ! 𝓜.mem 𝓡.returns heap τ u
-    (λ b o e. let p : Ptr = block_ptr b o in let t : ℕ = o + word_place n in let zs : List ℕ = replicate n 0 in
+    (λ b o e. let p : Ptr = block_ptr b o in let t : ℕ = o + word_offset n in let zs : List ℕ = replicate n 0 in
     let fs : List Bool = replicate (length zs) false in
     let long : n ≡ length zs = sym (length-replicate n 0) in
     use1 𝓛 (‵ (rooms n b o) ⊛ ‵ (fwand (rooms n b o) (froom τ b o))) (spreads 𝓛 n b o) $ split ! $ move ! (1 ∷ 2 ∷ []) $ fjoin ! $ move ! (1 ∷ []) $ fsplit3 ! $

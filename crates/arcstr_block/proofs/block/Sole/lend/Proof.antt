@@ -47,7 +47,7 @@ use Rattle.core.specs.declared.alloc.Allocator.{Ghosts}
 use Rattle.core.specs.Sync.RawAtomic.{word}
 use Rattle.core.proofs.atomic.Steps.{tail}
 use Rattle.arcstr_block.specs.Lends.{with_text}
-use Rattle.arcstr_block.specs.Memory.{Fits, length_lies, text_lies, rim, word_place, word_lies}
+use Rattle.arcstr_block.specs.Memory.{Fits, length_lies, text_lies, rim, word_offset, word_lies}
 use Rattle.arcstr_block.specs.contracts.block.Sole as S
 use Rattle.arcstr_block.proofs.Fields.{pointer_val, Words, told}
 use Rattle.arcstr_block.specs.contracts.block.Sole.lend.Key.{name as #self}
@@ -129,7 +129,7 @@ module _ (Y : RattleType) (g : Ghosts Y.Denot) (d dd : Dict) where
     module _ (vs : List Val) (b o : ℕ) where
       -- all but the bytes
       abbrev Rest : Fml
-      Rest = fsep (word b (o + word_place n + 0) s.word) (fsep (fsep (length_lies p n) (rim holds n p)) (fsep (D.own_val (p, (tt, tt)) vs)
+      Rest = fsep (word b (o + word_offset n + 0) s.word) (fsep (fsep (length_lies p n) (rim holds n p)) (fsep (D.own_val (p, (tt, tt)) vs)
           (cell_at full_share Alone.mir vs rb ro)))
 
       back : p ≡ block_ptr b o → Fits n → (ws : List ℕ) → length ws ≡ n

@@ -17,7 +17,7 @@ use Rattle.arcstr_block.specs.Memory.{block_owns, block_shares, placed, IsText, 
 use Rattle.arcstr_block.specs.Ledger.{Id, known, held_with, shown, of_block, of_block_shown}
 use Rattle.arcstr_block.specs.contracts.pointer.Pointer as C
 use Rattle.arcstr_block.proofs.Memory.{shares_laws}
-use Rattle.arcstr_block.proofs.Lent.{known_twice, known_laws, shown_laws, Lends-held}
+use Rattle.arcstr_block.proofs.PointerShares.{known_twice, known_laws, shown_laws, Lends-held}
 use Rattle.logbook.proofs.Fields.{lends_twice}
 use Rattle.arcstr_block.proofs.pointer.Pointer.TheLaw.Statement.{statement}
 

@@ -31,7 +31,7 @@ use Rattle.arcstr_block.specs.Memory.{block_owns, block_shares, word_at}
 use Rattle.arcstr_block.specs.Ledger.{Inv, shown, pointer_shares}
 use Rattle.arcstr_block.proofs.Memory.{shares_laws}
 use Rattle.arcstr_block.specs.contracts.pointer.Pointer as C
-use Rattle.arcstr_block.proofs.Framed as framed
+use Rattle.arcstr_block.proofs.StepFrames as framed
 use Rattle.arcstr_block.proofs.Fields.{pointer_val, typed, Words, told, opened}
 use Rattle.arcstr_block.specs.contracts.pointer.Pointer.again.{ended, clauses}
 use Rattle.arcstr_block.specs.contracts.pointer.Pointer.again.Key.{name as #self}

@@ -31,7 +31,7 @@ use Rattle.arcstr_block.specs.Book.{seat_share}
 use Rattle.arcstr_block.specs.Memory.{block_owns, block_shares, word_at}
 use Rattle.arcstr_block.specs.Ledger.{Inv, knows, names, pointer_shares}
 use Rattle.arcstr_block.specs.contracts.pointer.Pointer as C
-use Rattle.arcstr_block.proofs.Beside.{other_block}
+use Rattle.arcstr_block.proofs.OwedBlocks.{other_block}
 use Rattle.arcstr_block.proofs.Fields.{pointer_val, typed, Words, told}
 use Rattle.arcstr_block.proofs.Memory.{shares_laws}
 use Rattle.arcstr_block.proofs.Rights as rights

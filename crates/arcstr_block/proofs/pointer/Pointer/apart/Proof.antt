@@ -23,7 +23,7 @@ use Rattle.atomic_table.proofs.Walks.{proved, leaves}
 use Rattle.arcstr_block.specs.Rights.{HasSeat}
 use Rattle.arcstr_block.specs.contracts.pointer.Pointer as C
 use Rattle.arcstr_block.proofs.Fields.{pointer_val, typed, two_val, two_typed, told}
-use Rattle.arcstr_block.proofs.Apart.{Apart, Alone, Distinct, are_apart}
+use Rattle.arcstr_block.proofs.TwoPointers.{Apart, Alone, Distinct, are_apart}
 use Rattle.arcstr_block.specs.contracts.pointer.Pointer.apart.{ended, clauses}
 use Rattle.arcstr_block.specs.contracts.pointer.Pointer.apart.Key.{name as #self}
 use Rattle.arcstr_block.proofs.pointer.Pointer.apart.Statement.{statement}

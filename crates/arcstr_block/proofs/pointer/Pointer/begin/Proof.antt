@@ -27,12 +27,12 @@ use Rattle.atomic_table.proofs.Walks.{proved, leaves}
 use Rattle.atomic_table.proofs.Calls.{fm, seq_cst, found, finds, loads}
 use Rattle.arcstr_block.specs.Word.{IsMarked, IsUnmarked}
 use Rattle.arcstr_block.specs.Rights.{IsFree, Begins, Right}
-use Rattle.arcstr_block.specs.Memory.{block_owns, block_shares, word_at, word_place}
+use Rattle.arcstr_block.specs.Memory.{block_owns, block_shares, word_at, word_offset}
 use Rattle.arcstr_block.specs.Ledger.{Inv, right_to, free}
 use Rattle.arcstr_block.proofs.Memory.{shares_laws}
 use Rattle.arcstr_block.specs.contracts.pointer.Pointer as C
 use Rattle.arcstr_block.proofs.Fields.{pointer_val, typed, found_val, found_typed, Words, told}
-use Rattle.arcstr_block.proofs.Framed as framed
+use Rattle.arcstr_block.proofs.StepFrames as framed
 use Rattle.arcstr_count.specs.declared.steps.HandleState.TheVariants.{Free}
 use Rattle.arcstr_count.specs.declared.steps.Step.TheVariants.{Begin}
 use Rattle.arcstr_count.specs.declared.steps.Reply.TheVariants.{Ended, Looked}
@@ -66,9 +66,9 @@ begin_spec 𝓤 𝓛 𝓜 𝓡 wired Y K g d dd met md =
     let y : (walk_of 𝓛 En hs c).Ghost = ((κs, qs, bounds, a, (pointer_val p ∷ [], (vint w64 place ∷ [], tt))), gh) in
     let Post : Val → SProp 𝓤 = (walk_of 𝓛 En hs c).post y in
     qed 𝓛 ((raw (alive 𝓛 En.signature κs qs) ⊛ ‵ (owns (types_at En.signature.params κs) a y.0.4)) ∷ raw (fact 𝓤 _) ∷ raw (fact 𝓤 (IsFree h.right)) ∷
-    raw (fact 𝓤 (place ≡ word_place (length h.text))) ∷ []) ∵
-    keep ! (2 ∷ 3 ∷ 0 ∷ []) $ heard ! (IsFree h.right) (λ may. heard ! (place ≡ word_place (length h.text)) (λ placed.
-    let there : place + count_of p ≡ count_of p + word_place (length h.text) = omega (arith, placed) in
+    raw (fact 𝓤 (place ≡ word_offset (length h.text))) ∷ []) ∵
+    keep ! (2 ∷ 3 ∷ 0 ∷ []) $ heard ! (IsFree h.right) (λ may. heard ! (place ≡ word_offset (length h.text)) (λ placed.
+    let there : place + count_of p ≡ count_of p + word_offset (length h.text) = omega (arith, placed) in
     split ! $ move ! (1 ∷ []) $ fsplit ! $ fsplit ! $ keep ! (1 ∷ 3 ∷ []) $ fsplit ! $ fpick ! (λ inb.
     drop ! $ let at : p ≡ block_ptr pb (count_of p) = at_block p inb.0 in
     fpick ! (λ t. let I : Fml = Inv P lim pb po t in let af : Lft = t.0 ∷ [] in fsplit ! $ move ! (1 ∷ []) $

@@ -32,12 +32,12 @@ use Rattle.atomic_table.proofs.Walks.{proved, leaves}
 use Rattle.atomic_table.proofs.Calls.{fm, seq_cst, found, finds, loads}
 use Rattle.arcstr_block.specs.Word.{IsWord}
 use Rattle.arcstr_block.specs.Rights.{IsFree, Loads, Right}
-use Rattle.arcstr_block.specs.Memory.{block_owns, block_shares, word_at, word_place}
+use Rattle.arcstr_block.specs.Memory.{block_owns, block_shares, word_at, word_offset}
 use Rattle.arcstr_block.specs.Ledger.{Inv, knows, pointer_shares}
 use Rattle.arcstr_block.proofs.Memory.{shares_laws}
 use Rattle.arcstr_block.specs.contracts.pointer.Pointer as C
 use Rattle.arcstr_block.proofs.Fields.{pointer_val, typed, found_val, found_typed, Words, told, opened}
-use Rattle.arcstr_block.proofs.Framed as framed
+use Rattle.arcstr_block.proofs.StepFrames as framed
 use Rattle.arcstr_count.specs.declared.steps.HandleState.TheVariants.{Free}
 use Rattle.arcstr_block.specs.Book.{seat_share}
 use Rattle.arcstr_block.proofs.Rights as rights
@@ -70,9 +70,9 @@ load_spec 𝓤 𝓛 𝓜 𝓡 wired Y K g d dd met md =
     let y : (walk_of 𝓛 En hs c).Ghost = ((κs, qs, bounds, a, (vptr b o ∷ [], (vint w64 place ∷ [], tt))), gh) in
     let Post : Val → SProp 𝓤 = (walk_of 𝓛 En hs c).post y in
     qed 𝓛 (((‵ (flft κ q) ⊛ ‵ others) ⊛ ‵ (owns (types_at En.signature.params κs) a y.0.4)) ∷ raw (fact 𝓤 _) ∷ raw (fact 𝓤 (IsFree right)) ∷
-    raw (fact 𝓤 (place ≡ word_place (length h.text))) ∷ []) ∵
-    keep ! (2 ∷ 3 ∷ 0 ∷ []) $ heard ! (IsFree right) (λ may. heard ! (place ≡ word_place (length h.text)) (λ placed.
-    let there : place + count_of p ≡ count_of p + word_place (length h.text) = omega (arith, placed) in
+    raw (fact 𝓤 (place ≡ word_offset (length h.text))) ∷ []) ∵
+    keep ! (2 ∷ 3 ∷ 0 ∷ []) $ heard ! (IsFree right) (λ may. heard ! (place ≡ word_offset (length h.text)) (λ placed.
+    let there : place + count_of p ≡ count_of p + word_offset (length h.text) = omega (arith, placed) in
     split ! $ split ! $ move ! (2 ∷ []) $ fsplit ! $ fsplit ! $ keep ! (1 ∷ 3 ∷ 4 ∷ []) $
     enter ! 𝓣.C 𝓣.Λ fn (vptr b o ∷ vint w64 place ∷ []) Post $
     alloc_all ! (λ l. pass_all ! refl ((tt, tt), ((tt, record { fits = fits_place }), tt)) $ let Ev = env fn.locals l in

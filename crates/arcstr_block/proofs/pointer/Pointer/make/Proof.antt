@@ -26,12 +26,12 @@ use Rattle.arcstr_count.specs.declared.steps.Step.TheVariants.{Make}
 use Rattle.arcstr_block.specs.Word.{IsLimit}
 use Rattle.arcstr_block.specs.Rights.{counted}
 use Rattle.arcstr_block.specs.Book.{reached}
-use Rattle.arcstr_block.specs.Memory.{block_owns, block_shares, word_place}
+use Rattle.arcstr_block.specs.Memory.{block_owns, block_shares, word_offset}
 use Rattle.arcstr_block.specs.Ledger.{Id, names, held_with}
 use Rattle.arcstr_block.specs.contracts.block.Sole as S
 use Rattle.arcstr_block.specs.contracts.pointer.Pointer as C
-use Rattle.arcstr_block.proofs.Begins.{begins}
-use Rattle.arcstr_block.proofs.Framed as framed
+use Rattle.arcstr_block.proofs.NewBlocks.{begins}
+use Rattle.arcstr_block.proofs.StepFrames as framed
 use Rattle.arcstr_block.proofs.Fields.{pointer_val, typed, told}
 use Rattle.arcstr_block.proofs.Memory.{shares_laws, lends_block}
 use Rattle.arcstr_block.specs.contracts.pointer.Pointer.make.{ended, clauses}
@@ -59,9 +59,9 @@ make_spec 𝓤 𝓛 𝓜 𝓡 wired Y K g d dd met md =
     fsplit3 ! $ fpick ! (λ inb. drop ! $ let at : p ≡ block_ptr b o = at_block p inb.0 in
     -- [the word; what the block owns; the tokens]
     enter ! 𝓣.C 𝓣.Λ fn (pointer_val p ∷ []) Post $ alloc_all ! (λ l. pass_all ! refl (typed p, tt) $
-    rewrite ! 0 (λ (n : ℕ). ‵ (word b (o + word_place (length xs) + 0) n)) fresh refl $ fjoin ! $ move ! (1 ∷ []) $ split ! $ move ! (2 ∷ 0 ∷ []) $
-    use2 𝓛 (later (‵ (fex Id (λ t. fsep (reached t.2 (Make ∷ [])) (held_with P lim b (o + word_place (length xs) + 0) t s 0 counted))) ⊛ t₁))
-    (begins 𝓛 P lim b (o + word_place (length xs) + 0) s (shares_laws p xs) small κs.0 (lends_block 𝓛 holds p xs κs.0) κs.0 qs.0 (Incl-refl κs.0)) $
+    rewrite ! 0 (λ (n : ℕ). ‵ (word b (o + word_offset (length xs) + 0) n)) fresh refl $ fjoin ! $ move ! (1 ∷ []) $ split ! $ move ! (2 ∷ 0 ∷ []) $
+    use2 𝓛 (later (‵ (fex Id (λ t. fsep (reached t.2 (Make ∷ [])) (held_with P lim b (o + word_offset (length xs) + 0) t s 0 counted))) ⊛ t₁))
+    (begins 𝓛 P lim b (o + word_offset (length xs) + 0) s (shares_laws p xs) small κs.0 (lends_block 𝓛 holds p xs κs.0) κs.0 qs.0 (Incl-refl κs.0)) $
     await ! tt $ split ! $
     fpick ! (λ t. fsplit ! $ move ! (1 ∷ []) $ fsplit ! $
     -- [the invariant; the right; the prefix; the tokens]

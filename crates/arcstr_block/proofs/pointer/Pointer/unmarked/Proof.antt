@@ -31,7 +31,7 @@ use Rattle.arcstr_block.specs.Memory.{block_owns, block_shares, word_at}
 use Rattle.arcstr_block.specs.Ledger.{shown, pointer_shares}
 use Rattle.arcstr_block.specs.contracts.pointer.Pointer as C
 use Rattle.arcstr_block.proofs.Fields.{pointer_val, typed, Words, told}
-use Rattle.arcstr_block.proofs.Unmarked.{other_block}
+use Rattle.arcstr_block.proofs.UnmarkedBlocks.{other_block}
 use Rattle.arcstr_block.specs.contracts.pointer.Pointer.unmarked.{ended, clauses}
 use Rattle.arcstr_block.specs.contracts.pointer.Pointer.unmarked.Key.{name as #self}
 use Rattle.arcstr_block.proofs.pointer.Pointer.unmarked.Statement.{statement}

@@ -24,9 +24,9 @@ use Rattle.core.specs.contracts.marker.PhantomData as Marker
 use Rattle.atomic_table.proofs.Walks.{proved, leaves}
 use Rattle.logbook.proofs.Fields.{Token}
 use Rattle.arcstr_block.specs.Book.{reached}
-use Rattle.arcstr_block.specs.Handle.{IsFront}
+use mathlib.Core.List.{IsPrefix}
 use Rattle.arcstr_block.specs.contracts.seen.Seen as C
-use Rattle.arcstr_block.proofs.InLine.{Agrees, agree}
+use Rattle.arcstr_block.proofs.HistoryOrder.{Agrees, agree}
 use Rattle.arcstr_block.specs.contracts.seen.Seen.agree.{ended, clauses}
 use Rattle.arcstr_block.specs.contracts.seen.Seen.agree.Key.{name as #self}
 use Rattle.arcstr_block.proofs.seen.Seen.agree.Statement.{statement}
@@ -55,9 +55,9 @@ agree_spec 𝓤 𝓛 𝓜 𝓡 wired =
     -- [the tokens]
     enter ! 𝓣.C 𝓣.Λ fn (vptr b o ∷ vptr b' o' ∷ []) Post $ alloc_all ! (λ l. pass_all ! refl ((tt, tt), ((tt, tt), tt)) $
     sets ! (of_opd ! (unit_lit !)) refl (tt, tt) $
-    let Front : Type 0 = h.block ≡ j.block → length h.history ≤ length j.history → IsFront h.history j.history in
-    let Longer : Type 0 = h.block ≡ j.block → length j.history ≤ length h.history → IsFront j.history h.history in
+    let Prefix : Type 0 = h.block ≡ j.block → length h.history ≤ length j.history → IsPrefix h.history j.history in
+    let Longer : Type 0 = h.block ≡ j.block → length j.history ≤ length h.history → IsPrefix j.history h.history in
     use0 𝓛 (raw (fact 𝓤 Longer)) (fact_i 𝓤 Longer (emp 𝓤) (λ same. (told (ap (λ (z : ℕ × ℕ). z.0) same)).1)) $
-    use0 𝓛 (raw (fact 𝓤 Front)) (fact_i 𝓤 Front (emp 𝓤) (λ same. (told (ap (λ (z : ℕ × ℕ). z.0) same)).0)) $ join ! $
+    use0 𝓛 (raw (fact 𝓤 Prefix)) (fact_i 𝓤 Prefix (emp 𝓤) (λ same. (told (ap (λ (z : ℕ × ℕ). z.0) same)).0)) $ join ! $
     feq_i ! (List Val) (vunit ∷ []) (vunit ∷ []) refl $ nothing ! $ nothing ! $ fjoin ! $ nothing ! $ fjoin ! $
     returns ! (look_at ! 0 refl) $ free_all ! refl $ keep ! (3 ∷ 0 ∷ 1 ∷ 2 ∷ []) $ by ! (leaves 𝓛 En hs c y vunit tt (tt, (tt, tt)) (tt, (tt, tt))))))

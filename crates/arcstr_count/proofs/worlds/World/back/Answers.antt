@@ -1,7 +1,7 @@
 use Rattle.std.proofs.Common.{refl}
 use Rattle.arcstr_count.specs.declared.steps.Step.TheVariants.{Back}
 use Rattle.arcstr_count.specs.Answer.{unless_owing}
-use Rattle.arcstr_count.proofs.Taking.{takes_refused_by, world_kept}
+use Rattle.arcstr_count.proofs.StepTaking.{takes_refused_by, world_kept}
 use Rattle.arcstr_count.proofs.StepsTaken.{takes_back}
 use Rattle.arcstr_count.proofs.worlds.World.back.Goals as goal
 

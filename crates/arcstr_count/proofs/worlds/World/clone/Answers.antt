@@ -1,7 +1,7 @@
 use Rattle.std.proofs.Common.{refl, ◌∙◌, ap, length}
 use Rattle.arcstr_count.specs.declared.steps.Step.TheVariants.{Clone}
 use Rattle.arcstr_count.specs.Answer.{unless_free}
-use Rattle.arcstr_count.proofs.Taking.{takes_refused_by, world_kept, clone_accepted}
+use Rattle.arcstr_count.proofs.StepTaking.{takes_refused_by, world_kept, clone_accepted}
 use Rattle.arcstr_count.proofs.StepsTaken.{push_with, takes_clone}
 use Rattle.arcstr_count.proofs.worlds.World.clone.Goals as goal
 

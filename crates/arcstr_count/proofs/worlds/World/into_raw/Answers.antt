@@ -1,7 +1,7 @@
 use Rattle.std.proofs.Common.{refl}
 use Rattle.arcstr_count.specs.declared.steps.Step.TheVariants.{IntoRaw}
 use Rattle.arcstr_count.specs.Answer.{unless_free}
-use Rattle.arcstr_count.proofs.Taking.{takes_refused_by, world_kept}
+use Rattle.arcstr_count.proofs.StepTaking.{takes_refused_by, world_kept}
 use Rattle.arcstr_count.proofs.StepsTaken.{takes_into_raw}
 use Rattle.arcstr_count.proofs.worlds.World.into_raw.Goals as goal
 

@@ -1,6 +1,6 @@
 use Rattle.std.proofs.Common.{◌∙◌, ap}
 use Rattle.std.specs.List.{slice_get}
-use Rattle.arcstr_count.proofs.Taking.{placed}
+use Rattle.arcstr_count.proofs.StepTaking.{placed}
 use Rattle.arcstr_count.proofs.worlds.World.known_handle.Goals as goal
 
 pub returns-clause-found : goal.returns-clause-found

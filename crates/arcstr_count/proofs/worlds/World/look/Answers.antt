@@ -1,7 +1,7 @@
 use Rattle.std.proofs.Common.{refl, ◌∙◌, sym}
 use Rattle.arcstr_count.specs.declared.steps.Step.TheVariants.{Look}
 use Rattle.arcstr_count.specs.Answer.{unless_free}
-use Rattle.arcstr_count.proofs.Taking.{takes_refused_by}
+use Rattle.arcstr_count.proofs.StepTaking.{takes_refused_by}
 use Rattle.arcstr_count.proofs.StepsTaken.{takes_look_static, takes_look_count}
 use Rattle.arcstr_count.proofs.worlds.World.look.Goals as goal
 

@@ -1,7 +1,7 @@
 use Rattle.std.proofs.Common.{refl}
 use Rattle.arcstr_count.specs.declared.steps.Step.TheVariants.{Sub}
 use Rattle.arcstr_count.specs.Answer.{unless_dropping}
-use Rattle.arcstr_count.proofs.Taking.{takes_refused_by, world_kept}
+use Rattle.arcstr_count.proofs.StepTaking.{takes_refused_by, world_kept}
 use Rattle.arcstr_count.proofs.StepsTaken.{takes_sub, dropping_is_counted}
 use Rattle.arcstr_count.proofs.worlds.World.sub.Goals as goal
 

@@ -11,7 +11,7 @@ use types.Kit.{‵, ◌⊛◌, given, ◌$◌, ◌∵◌, !, qed, by, move, keep
 use denote.RattleType.{RattleType}
 use denote.RawPtr.{block_of}
 use Rattle.core.specs.declared.alloc.Allocator.{Ghosts}
-use Rattle.arcstr_block.proofs.Decided.{owed_or_not}
+use Rattle.arcstr_block.proofs.RightTests.{owed_or_not}
 use Rattle.arcstr_block.specs.Rights.{HasSeat, owed, Right}
 use Rattle.arcstr_block.specs.Book.{seat, Book}
 use Rattle.arcstr_block.specs.Memory.{block_owns, block_shares, word_at}
@@ -20,7 +20,7 @@ use Rattle.arcstr_block.specs.Ledger.{Id, Names, names, fact, right_to}
 use Rattle.arcstr_block.specs.contracts.pointer.Pointer as C
 use Rattle.arcstr_block.proofs.Rights.{has_seat, seat_state}
 use Rattle.arcstr_block.proofs.Seats.{one_owner}
-use Rattle.arcstr_block.proofs.Alone.{no_other}
+use Rattle.arcstr_block.proofs.LoneBlocks.{no_other}
 
 module _ {M : Type 1} {𝓤 : Ura M} (𝓛 : Logic 𝓤) (B : RattleType) (g : Ghosts B.Denot) where
   abbrev Pr : Type 2

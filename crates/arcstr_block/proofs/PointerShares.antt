@@ -21,21 +21,21 @@ use base.Logic.{emp, all_i, all_e}
 use types.Kit.{fpack}
 use Rattle.arcstr_count.specs.declared.steps.Step.{Step}
 use Rattle.arcstr_count.specs.declared.steps.HandleState.TheVariants.{Free}
-use Rattle.arcstr_block.proofs.Decided.{uncounted_or_not}
+use Rattle.arcstr_block.proofs.RightTests.{uncounted_or_not}
 use Rattle.arcstr_block.specs.Rights.{counted, uncounted, Right, nothing, fixed, dropping, owed}
 use Rattle.arcstr_block.specs.Book.{reached, seat, seat_share}
-use Rattle.arcstr_block.specs.Ledger.{Id, Names, Inv, knows, names, known, for_good, with_share, free, held_with, seen, free_shown, shown}
+use Rattle.arcstr_block.specs.Ledger.{Id, Names, Inv, knows, names, known, permanent, with_share, free, held_with, seen, free_shown, shown}
 use Rattle.arcstr_block.proofs.Book.{reached_twice}
 
-good_twice : {M : Type 1} {𝓤 : Ura M} (𝓛 : Logic 𝓤) (P : Fml) (L b o : ℕ) (t : Id)
-    → ent 𝓤 (sem 𝓛 (for_good P L b o t)) (sep 𝓤 (sem 𝓛 (for_good P L b o t)) (sem 𝓛 (for_good P L b o t)))
-good_twice 𝓛 P L b o t = let a : Lft = t.0 ∷ [] in qed 𝓛 (‵ (for_good P L b o t) ∷ []) ∵ fsplit ! $
+permanent_twice : {M : Type 1} {𝓤 : Ura M} (𝓛 : Logic 𝓤) (P : Fml) (L b o : ℕ) (t : Id)
+    → ent 𝓤 (sem 𝓛 (permanent P L b o t)) (sep 𝓤 (sem 𝓛 (permanent P L b o t)) (sem 𝓛 (permanent P L b o t)))
+permanent_twice 𝓛 P L b o t = let a : Lft = t.0 ∷ [] in qed 𝓛 (‵ (permanent P L b o t) ∷ []) ∵ fsplit ! $
     use1 𝓛 (‵ (fshr_bor [] (λ q. flft a q)) ⊛ ‵ (fshr_bor [] (λ q. flft a q))) (𝓛.shr_bors.shr_bor_dup [] (λ q. flft a q)) $ split ! $ move ! (2 ∷ []) $
     use1 𝓛 (‵ (fdead (t.1 ∷ [])) ⊛ ‵ (fdead (t.1 ∷ []))) (𝓛.lfts.dead_dup (t.1 ∷ [])) $ split ! $ move ! (2 ∷ 0 ∷ []) $ fjoin ! $ move ! (2 ∷ 1 ∷ []) $
     fjoin ! $ done !
 
-good_laws : (P : Fml) (L b o : ℕ) (t : Id) → ShrLaws (said (for_good P L b o t))
-good_laws P L b o t = record { contraction = λ M 𝓤 𝓛 κ. good_twice 𝓛 P L b o t; mono = λ M 𝓤 𝓛 κ' κ. snd∗ 𝓤 (sem 𝓛 (before κ' κ)) (sem 𝓛 (for_good P L b o t)) }
+permanent_laws : (P : Fml) (L b o : ℕ) (t : Id) → ShrLaws (said (permanent P L b o t))
+permanent_laws P L b o t = record { contraction = λ M 𝓤 𝓛 κ. permanent_twice 𝓛 P L b o t; mono = λ M 𝓤 𝓛 κ' κ. snd∗ 𝓤 (sem 𝓛 (before κ' κ)) (sem 𝓛 (permanent P L b o t)) }
 
 pub knows_twice : {M : Type 1} {𝓤 : Ura M} (𝓛 : Logic 𝓤) (t : Id) (right : Right)
     → ent 𝓤 (sem 𝓛 (knows t right)) (sep 𝓤 (sem 𝓛 (knows t right)) (sem 𝓛 (knows t right)))
@@ -71,7 +71,7 @@ module _ (P : Fml) (L b o : ℕ) (s : Lft → Fml) (laws : ShrLaws s) (h : ℕ) 
   shown_laws t nothing = nothing_shr_laws
   shown_laws t counted = free_laws t counted
   shown_laws t uncounted = free_laws t uncounted
-  shown_laws t fixed = beside_shr_laws (said (for_good P L b o t)) (seen P L b o t s h) (good_laws P L b o t) (seen_laws t)
+  shown_laws t fixed = beside_shr_laws (said (permanent P L b o t)) (seen P L b o t s h) (permanent_laws P L b o t) (seen_laws t)
   shown_laws t dropping = nothing_shr_laws
   shown_laws t owed = nothing_shr_laws
 
@@ -149,14 +149,14 @@ module _ (P : Fml) (L b o : ℕ) (s : Lft → Fml) (laws : ShrLaws s) (h : ℕ) 
         move ! (6 ∷ 5 ∷ []) $ fjoin ! $ move ! (5 ∷ 0 ∷ []) $ fjoin ! $ move ! (1 ∷ 0 ∷ []) $ fjoin ! $ move ! (1 ∷ 0 ∷ []) $ fjoin ! $ now ! $
         keep ! (0 ∷ 2 ∷ []) $ done !))
 
-    abbrev Good : Fml
-    Good = for_good P L b o t
+    abbrev Permanent : Fml
+    Permanent = permanent P L b o t
 
     lends_fixed : (κ : Lft) (q : Share) → A.bor κ (Holds fixed) ∗ A.lft κ q ⊢ H.⇛ (⟦ Shown fixed κ ⟧ ∗ A.lft κ q)
     lends_fixed κ q = qed 𝓛 (‵ (fbor κ (Holds fixed)) ∷ ‵ (flft κ q) ∷ []) ∵ updating ! $ bor_open ! tt $ move ! (1 ∷ []) $ fsplit ! $
         use1 𝓛 (‵ (finv I) ⊛ ‵ (finv I)) (𝓛.invs.inv_dup I) $ split ! $ move ! (2 ∷ []) $ fsplit ! $ move ! (1 ∷ []) $
         use1 𝓛 (‵ (s a) ⊛ ‵ (s a)) (contraction 𝓛 s laws a) $ split ! $
-        move ! (2 ∷ []) $ use1 𝓛 (‵ Good ⊛ ‵ Good) (good_twice 𝓛 P L b o t) $ split ! $
+        move ! (2 ∷ []) $ use1 𝓛 (‵ Permanent ⊛ ‵ Permanent) (permanent_twice 𝓛 P L b o t) $ split ! $
         -- [that it is marked, twice; what is shared, twice; the invariant, twice; the open borrow]
         move ! (0 ∷ 2 ∷ []) $ fjoin ! $ move ! (3 ∷ 0 ∷ []) $ fjoin ! $ move ! (4 ∷ 0 ∷ []) $ obor_close ! tt $ move ! (4 ∷ 3 ∷ []) $ fjoin ! $
         move ! (3 ∷ 0 ∷ []) $ fjoin ! $

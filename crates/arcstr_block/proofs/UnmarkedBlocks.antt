@@ -15,10 +15,10 @@ use denote.RattleType.{RattleType}
 use Rattle.core.specs.declared.alloc.Allocator.{Ghosts}
 use Rattle.arcstr_block.specs.Rights.{owed}
 use Rattle.arcstr_block.specs.Book.{Book}
-use Rattle.arcstr_block.specs.Ledger.{Id, Names, names, Inv, if_alive, for_good}
+use Rattle.arcstr_block.specs.Ledger.{Id, Names, names, Inv, if_alive, permanent}
 use Rattle.arcstr_block.specs.contracts.pointer.Pointer as C
-use Rattle.arcstr_block.proofs.Alone.{one_book}
-use Rattle.arcstr_block.proofs.Apart.{book_of}
+use Rattle.arcstr_block.proofs.LoneBlocks.{one_book}
+use Rattle.arcstr_block.proofs.TwoPointers.{book_of}
 
 module _ {M : Type 1} {𝓤 : Ura M} (𝓛 : Logic 𝓤) (P : Fml) (L b o : ℕ) (t : Id) where
   open 𝓛 use {H, A}
@@ -47,8 +47,8 @@ module _ {M : Type 1} {𝓤 : Ura M} (𝓛 : Logic 𝓤) (P : Fml) (L b o : ℕ)
   abbrev a : Lft
   a = t.0 ∷ []
 
-  abbrev Good : Fml
-  Good = for_good P L b o t
+  abbrev Permanent : Fml
+  Permanent = permanent P L b o t
 
   module _ (L₀ : ℕ) where
     abbrev Book₀ : Fml
@@ -64,8 +64,8 @@ module _ {M : Type 1} {𝓤 : Ura M} (𝓛 : Logic 𝓤) (P : Fml) (L b o : ℕ)
     opened u Z = qed 𝓛 (‵ (flft a u) ∷ ‵ Book₀ ∷ []) ∵ assume ! (‵ I) $ fpick ! (λ alive. by ! (inside alive u (upd 𝓤 (⟦ I ⟧ ∗ Z))))
 
     -- so the knowledge that the block is marked does not lie beside another book of it
-    not_marked : (Z : Pr) → ⟦ Book₀ ⟧ ∗ ⟦ finv I ⟧ ∗ ⟦ Good ⟧ ⊢ H.⇛ Z
-    not_marked Z = qed 𝓛 (‵ Book₀ ∷ ‵ (finv I) ∷ ‵ Good ∷ []) ∵ updating ! $ move ! (2 ∷ []) $ fsplit ! $
+    not_marked : (Z : Pr) → ⟦ Book₀ ⟧ ∗ ⟦ finv I ⟧ ∗ ⟦ Permanent ⟧ ⊢ H.⇛ Z
+    not_marked Z = qed 𝓛 (‵ Book₀ ∷ ‵ (finv I) ∷ ‵ Permanent ∷ []) ∵ updating ! $ move ! (2 ∷ []) $ fsplit ! $
         use0 𝓛 (‵ (flft [] full_share)) (𝓛.lfts.lft-nil full_share) $ move ! (1 ∷ 0 ∷ []) $ shr_bor-open ! tt (tokens_halve 𝓛 a) (λ u.
         -- [the open borrow; a share of the token; that c has ended; the book; the invariant]
         keep ! (1 ∷ 3 ∷ 4 ∷ []) $ use2 𝓛 (raw (⟦ I ⟧ -∗ upd 𝓤 (⟦ I ⟧ ∗ Z))) (opened u Z) $ move ! (1 ∷ 0 ∷ []) $
@@ -78,16 +78,16 @@ module _ {M : Type 1} {𝓤 : Ura M} (𝓛 : Logic 𝓤) (P : Fml) (L b o : ℕ)
     abbrev Away : Pr
     Away = guard 𝓤 (h.block ≢ block) ⟦ Own ⟧
 
-    by_names : h.right ≡ owed → names t ≡ block → Dec (h.block.0 ≡ block.0) → Dec (h.block.1 ≡ block.1) → ⟦ Own ⟧ ∗ ⟦ finv I ⟧ ∗ ⟦ Good ⟧ ⊢ H.⇛ Away
-    by_names mine named (no other) d = qed 𝓛 (‵ Own ∷ ‵ (finv I) ∷ ‵ Good ∷ []) ∵ updating ! $ now ! $ keep ! (0 ∷ []) $ check ! (λ e.
+    by_names : h.right ≡ owed → names t ≡ block → Dec (h.block.0 ≡ block.0) → Dec (h.block.1 ≡ block.1) → ⟦ Own ⟧ ∗ ⟦ finv I ⟧ ∗ ⟦ Permanent ⟧ ⊢ H.⇛ Away
+    by_names mine named (no other) d = qed 𝓛 (‵ Own ∷ ‵ (finv I) ∷ ‵ Permanent ∷ []) ∵ updating ! $ now ! $ keep ! (0 ∷ []) $ check ! (λ e.
         other (ap (λ (z : Names). z.0) e)) $ done !
-    by_names mine named (yes e) (no other) = qed 𝓛 (‵ Own ∷ ‵ (finv I) ∷ ‵ Good ∷ []) ∵ updating ! $ now ! $ keep ! (0 ∷ []) $ check ! (λ e.
+    by_names mine named (yes e) (no other) = qed 𝓛 (‵ Own ∷ ‵ (finv I) ∷ ‵ Permanent ∷ []) ∵ updating ! $ now ! $ keep ! (0 ∷ []) $ check ! (λ e.
         other (ap (λ (z : Names). z.1) e)) $ done !
-    by_names mine named (yes e) (yes f) = qed 𝓛 (‵ Own ∷ ‵ (finv I) ∷ ‵ Good ∷ []) ∵ use1 𝓛 (‵ (Book h.limit h.block.0 h.block.1 0)) (book_of 𝓛 B g h vs mine) $
+    by_names mine named (yes e) (yes f) = qed 𝓛 (‵ Own ∷ ‵ (finv I) ∷ ‵ Permanent ∷ []) ∵ use1 𝓛 (‵ (Book h.limit h.block.0 h.block.1 0)) (book_of 𝓛 B g h vs mine) $
         let γ : h.block.0 ≡ t.2 = e ∙ sym (ap (λ (z : Names). z.0) named) in let δ : h.block.1 ≡ t.3 = f ∙ sym (ap (λ (z : Names). z.1) named) in
         rewrite ! 0 (λ (k : ℕ). ‵ (Book h.limit k h.block.1 0)) γ refl $ rewrite ! 0 (λ (k : ℕ). ‵ (Book h.limit t.2 k 0)) δ refl $
         by ! (not_marked h.limit Away)
 
     -- what is owed is a different block from one that is known to be marked
-    pub other_block : h.right ≡ owed → names t ≡ block → ⟦ Own ⟧ ∗ ⟦ finv I ⟧ ∗ ⟦ Good ⟧ ⊢ H.⇛ Away
+    pub other_block : h.right ≡ owed → names t ≡ block → ⟦ Own ⟧ ∗ ⟦ finv I ⟧ ∗ ⟦ Permanent ⟧ ⊢ H.⇛ Away
     other_block mine named = by_names mine named (ℕ_discrete h.block.0 block.0) (ℕ_discrete h.block.1 block.1)

@@ -1,4 +1,4 @@
--- `raise` is one compare-exchange. If it finds the old word or a marked one, the clone succeeds.
+-- `clone_exchange` is one compare-exchange. If it finds the old word or a marked one, the clone succeeds.
 use Rattle.std.proofs.Common.{◌≡◌, ℕ, ◌+◌, List, [], ◌∷◌, sym, refl, ap, ◌∙◌, w64, length, arith}
 use mir.Syntax.{dcons, dnil, a_type, named}
 use mir.Val.{Val, vint, vptr}
@@ -32,25 +32,25 @@ use Rattle.atomic_table.proofs.Walks.{proved, leaves}
 use Rattle.atomic_table.proofs.Calls.{fm, found, finds, exchanges}
 use Rattle.arcstr_block.specs.Word.{IsWord, IsClone}
 use Rattle.arcstr_block.specs.Rights.{IsFree, Gains, Right}
-use Rattle.arcstr_block.specs.Memory.{block_owns, block_shares, word_at, word_place}
+use Rattle.arcstr_block.specs.Memory.{block_owns, block_shares, word_at, word_offset}
 use Rattle.arcstr_block.specs.Ledger.{Inv, knows, right_to, pointer_shares}
 use Rattle.arcstr_block.proofs.Memory.{shares_laws}
 use Rattle.arcstr_block.specs.contracts.pointer.Pointer as C
 use Rattle.arcstr_block.proofs.Fields.{pointer_val, typed, found_val, found_typed, Words, told, opened}
-use Rattle.arcstr_block.proofs.Framed as framed
+use Rattle.arcstr_block.proofs.StepFrames as framed
 use Rattle.arcstr_count.specs.declared.steps.HandleState.TheVariants.{Free}
 use Rattle.arcstr_block.specs.Book.{seat_share}
-use Rattle.arcstr_block.proofs.Turns.{raises as turn_raises}
+use Rattle.arcstr_block.proofs.CloneSteps.{raises as turn_raises}
 use Rattle.arcstr_block.proofs.Rights as rights
 use Rattle.arcstr_block.proofs.Steps as steps
-use Rattle.arcstr_block.proofs.Changes as changes
-use Rattle.arcstr_block.specs.contracts.pointer.Pointer.raise.{ended, clauses}
-use Rattle.arcstr_block.specs.contracts.pointer.Pointer.raise.Key.{name as #self}
-use Rattle.arcstr_block.proofs.pointer.Pointer.raise.Statement.{statement}
-use Rattle.arcstr_block.proofs.pointer.Pointer.raise.Code as code
+use Rattle.arcstr_block.proofs.WordChanges as changes
+use Rattle.arcstr_block.specs.contracts.pointer.Pointer.clone_exchange.{ended, clauses}
+use Rattle.arcstr_block.specs.contracts.pointer.Pointer.clone_exchange.Key.{name as #self}
+use Rattle.arcstr_block.proofs.pointer.Pointer.clone_exchange.Statement.{statement}
+use Rattle.arcstr_block.proofs.pointer.Pointer.clone_exchange.Code as code
 
-pub raise_spec : {M : Type 1} → statement M
-raise_spec 𝓤 𝓛 𝓜 𝓡 wired Y K g d dd met md =
+pub clone_exchange_spec : {M : Type 1} → statement M
+clone_exchange_spec 𝓤 𝓛 𝓜 𝓡 wired Y K g d dd met md =
     let H = 𝓛.H in let 𝓣 = tables 𝓤 H 𝓜 𝓡 𝓡.env in let B : RattleType = param 0 Y in let En = ended Y g d dd in let c = clauses Y g d dd 𝓛 𝓜.mem 𝓡.returns in
     let inst = bounded (a_type ∷ []) (Y, tt) (dcons d (dcons dd dnil)) in let fn = inst_fn inst code.function in
     let closed = code.unfolded 𝓤 H 𝓜 𝓡 wired (Y, tt) d dd in
@@ -108,9 +108,9 @@ raise_spec 𝓤 𝓛 𝓜 𝓡 wired Y K g d dd met md =
     ) in
     let Post : Val → SProp 𝓤 = (walk_of 𝓛 En hs c).post y in
     qed 𝓛 (((‵ (flft κ q) ⊛ ‵ others) ⊛ ‵ (owns (types_at En.signature.params κs) a y.0.4)) ∷ raw (fact 𝓤 _) ∷ raw (fact 𝓤 (IsFree right)) ∷ raw (fact 𝓤
-    (place ≡ word_place (length h.text))) ∷ raw (fact 𝓤 (IsClone lim old new)) ∷ []) ∵
-    keep ! (2 ∷ 3 ∷ 4 ∷ 0 ∷ []) $ heard ! (IsFree right) (λ may. heard ! (place ≡ word_place (length h.text)) (λ placed.
-    let there : place + count_of p ≡ count_of p + word_place (length h.text) = omega (arith, placed) in
+    (place ≡ word_offset (length h.text))) ∷ raw (fact 𝓤 (IsClone lim old new)) ∷ []) ∵
+    keep ! (2 ∷ 3 ∷ 4 ∷ 0 ∷ []) $ heard ! (IsFree right) (λ may. heard ! (place ≡ word_offset (length h.text)) (λ placed.
+    let there : place + count_of p ≡ count_of p + word_offset (length h.text) = omega (arith, placed) in
     heard ! (IsClone lim old new) (λ asked. split ! $ split ! $ move ! (2 ∷ []) $ fsplit ! $ fsplit ! $
     keep ! (1 ∷ 3 ∷ 4 ∷ []) $
     enter ! 𝓣.C 𝓣.Λ fn us Post $ alloc_all ! (λ l. pass_all ! refl (

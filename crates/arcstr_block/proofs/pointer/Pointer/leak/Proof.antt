@@ -1,4 +1,4 @@
--- `mark` is one fetch-or. Whoever sets or finds the static flag has a permanent share.
+-- `leak` is one fetch-or. Whoever sets or finds the static flag has a permanent share.
 use Rattle.std.proofs.Common.{◌≡◌, ℕ, ◌+◌, List, [], ◌∷◌, sym, refl, ap, ◌∙◌, lit<, w64, length, arith, ◌^◌, ◌<◌}
 use mir.Syntax.{dcons, dnil, a_type, named}
 use mir.Val.{Val, vint, vptr}
@@ -31,12 +31,12 @@ use Rattle.core.specs.contracts.marker.PhantomData as Marker
 use Rattle.atomic_table.proofs.Walks.{proved, leaves}
 use Rattle.atomic_table.proofs.Calls.{fm, seq_cst, found, finds, ors}
 use Rattle.arcstr_block.specs.Rights.{IsFree, fixed, Right}
-use Rattle.arcstr_block.specs.Memory.{block_owns, block_shares, word_at, word_place}
+use Rattle.arcstr_block.specs.Memory.{block_owns, block_shares, word_at, word_offset}
 use Rattle.arcstr_block.specs.Ledger.{Inv, knows, right_to, pointer_shares}
 use Rattle.arcstr_block.proofs.Memory.{shares_laws}
 use Rattle.arcstr_block.specs.contracts.pointer.Pointer as C
 use Rattle.arcstr_block.proofs.Fields.{pointer_val, typed, Words, told, opened}
-use Rattle.arcstr_block.proofs.Framed as framed
+use Rattle.arcstr_block.proofs.StepFrames as framed
 use Rattle.arcstr_count.specs.declared.steps.HandleState.TheVariants.{Free}
 use Rattle.arcstr_count.specs.OneBlock.{EndsIn}
 use Rattle.arcstr_block.specs.Book.{seat_share, Ends}
@@ -44,17 +44,17 @@ use Rattle.arcstr_count.specs.declared.steps.Step.TheVariants.{Leak}
 use Rattle.arcstr_count.specs.declared.steps.Reply.TheVariants.{Marked}
 use Rattle.arcstr_block.proofs.Book.{book_mark}
 use Rattle.arcstr_block.specs.Handle.{IsMarkedIn}
-use Rattle.arcstr_block.proofs.Marked.{marked_by_leak}
+use Rattle.arcstr_block.proofs.MarkedHistories.{marked_by_leak}
 use Rattle.arcstr_block.proofs.Rights as rights
 use Rattle.arcstr_block.proofs.Steps as steps
-use Rattle.arcstr_block.proofs.Changes as changes
-use Rattle.arcstr_block.specs.contracts.pointer.Pointer.mark.{ended, clauses}
-use Rattle.arcstr_block.specs.contracts.pointer.Pointer.mark.Key.{name as #self}
-use Rattle.arcstr_block.proofs.pointer.Pointer.mark.Statement.{statement}
-use Rattle.arcstr_block.proofs.pointer.Pointer.mark.Code as code
+use Rattle.arcstr_block.proofs.WordChanges as changes
+use Rattle.arcstr_block.specs.contracts.pointer.Pointer.leak.{ended, clauses}
+use Rattle.arcstr_block.specs.contracts.pointer.Pointer.leak.Key.{name as #self}
+use Rattle.arcstr_block.proofs.pointer.Pointer.leak.Statement.{statement}
+use Rattle.arcstr_block.proofs.pointer.Pointer.leak.Code as code
 
-pub mark_spec : {M : Type 1} → statement M
-mark_spec 𝓤 𝓛 𝓜 𝓡 wired Y K g d dd met md =
+pub leak_spec : {M : Type 1} → statement M
+leak_spec 𝓤 𝓛 𝓜 𝓡 wired Y K g d dd met md =
     let H = 𝓛.H in let 𝓣 = tables 𝓤 H 𝓜 𝓡 𝓡.env in let B : RattleType = param 0 Y in let En = ended Y g d dd in let c = clauses Y g d dd 𝓛 𝓜.mem 𝓡.returns in
     let inst = bounded (a_type ∷ []) (Y, tt) (dcons d (dcons dd dnil)) in let fn = inst_fn inst code.function in
     let closed = code.unfolded 𝓤 H 𝓜 𝓡 wired (Y, tt) d dd in
@@ -73,9 +73,9 @@ mark_spec 𝓤 𝓛 𝓜 𝓡 wired Y K g d dd met md =
     let y : (walk_of 𝓛 En hs c).Ghost = ((κs, qs, bounds, a, (vptr b o ∷ [], (vint w64 place ∷ [], tt))), gh) in
     let Post : Val → SProp 𝓤 = (walk_of 𝓛 En hs c).post y in
     qed 𝓛 (((‵ (flft κ q) ⊛ ‵ others) ⊛ ‵ (owns (types_at En.signature.params κs) a y.0.4)) ∷ raw (fact 𝓤 _) ∷ raw (fact 𝓤 (IsFree right)) ∷
-    raw (fact 𝓤 (place ≡ word_place (length h.text))) ∷ []) ∵
-    keep ! (2 ∷ 3 ∷ 0 ∷ []) $ heard ! (IsFree right) (λ may. heard ! (place ≡ word_place (length h.text)) (λ placed.
-    let there : place + count_of p ≡ count_of p + word_place (length h.text) = omega (arith, placed) in
+    raw (fact 𝓤 (place ≡ word_offset (length h.text))) ∷ []) ∵
+    keep ! (2 ∷ 3 ∷ 0 ∷ []) $ heard ! (IsFree right) (λ may. heard ! (place ≡ word_offset (length h.text)) (λ placed.
+    let there : place + count_of p ≡ count_of p + word_offset (length h.text) = omega (arith, placed) in
     split ! $ split ! $ move ! (2 ∷ []) $ fsplit ! $ fsplit ! $ keep ! (1 ∷ 3 ∷ 4 ∷ []) $
     enter ! 𝓣.C 𝓣.Λ fn (vptr b o ∷ vint w64 place ∷ []) Post $
     alloc_all ! (λ l. pass_all ! refl ((tt, tt), ((tt, record { fits = fits_place }), tt)) $ let Ev = env fn.locals l in

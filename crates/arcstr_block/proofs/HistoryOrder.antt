@@ -13,21 +13,19 @@ use types.Kit.{‵, raw, some, given, ◌$◌, ◌∵◌, !, qed, by, pick, lear
 use denote.Steps.{heard}
 use Rattle.arcstr_count.specs.declared.steps.Step.{Step}
 use Rattle.arcstr_block.specs.Book.{steps, reached}
-use Rattle.arcstr_block.specs.Handle.{IsFront}
 
 -- the shorter of two prefixes of one list is a prefix of the other
-shorter : {X : Type 0} (front other whole : List X) → IsPrefix front whole → IsPrefix other whole → length front ≤ length other
-    → (later : List X) × (other ≡ front ++ later)
+shorter : {X : Type 0} (prefix other whole : List X) → IsPrefix prefix whole → IsPrefix other whole → length prefix ≤ length other → IsPrefix prefix other
 shorter [] other whole h k short = (other, refl)
-shorter (x ∷ front) [] whole h k short = absurd (omega arith)
-shorter (x ∷ front) (y ∷ other) [] h k short = absurd (cons≢nil h.1)
-shorter (x ∷ front) (y ∷ other) (z ∷ whole) h k short =
-    let rest = shorter front other whole (h.0, tail-eq_of_cons-eq h.1) (k.0, tail-eq_of_cons-eq k.1) (omega arith) in
-    (rest.0, ap (λ first. first ∷ other) (head-eq_of_cons-eq k.1 ∙ sym (head-eq_of_cons-eq h.1)) ∙ ap (λ more. x ∷ more) rest.1)
+shorter (x ∷ prefix) [] whole h k short = absurd (omega arith)
+shorter (x ∷ prefix) (y ∷ other) [] h k short = absurd (cons≢nil h.1)
+shorter (x ∷ prefix) (y ∷ other) (z ∷ whole) h k short =
+    let rest = shorter prefix other whole (h.0, tail-eq_of_cons-eq h.1) (k.0, tail-eq_of_cons-eq k.1) (omega arith) in
+    (rest.0, ap (λ first. first ∷ (prefix ++ rest.0)) (head-eq_of_cons-eq h.1 ∙ sym (head-eq_of_cons-eq k.1)) ∙ ap (λ more. y ∷ more) rest.1)
 
 -- the shorter of two histories is a prefix of the other
 abbrev pub InLine : List Step → List Step → Type 0
-InLine r s = (length r ≤ length s → IsFront r s) × (length s ≤ length r → IsFront s r)
+InLine r s = (length r ≤ length s → IsPrefix r s) × (length s ≤ length r → IsPrefix s r)
 
 module _ {M : Type 1} {𝓤 : Ura M} (𝓛 : Logic 𝓤) where
   abbrev ⟦◌⟧ : Fml → SProp 𝓤

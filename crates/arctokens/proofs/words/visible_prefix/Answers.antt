@@ -1,6 +1,6 @@
 use Rattle.std.proofs.Common.{◌+◌, ◌≤◌, length, arith}
 use Rattle.arctokens.proofs.VisibleLanes.{all_visible, some_visible}
-use Rattle.arctokens.proofs.words.visible_front.Goals as goal
+use Rattle.arctokens.proofs.words.visible_prefix.Goals as goal
 
 pub returns-then-others-eq0-clause-visible : goal.returns-then-others-eq0-clause-visible
 returns-then-others-eq0-clause-visible c =
@@ -10,10 +10,10 @@ returns-then-others-eq0-clause-visible c =
 pub returns-else-others-eq0 : goal.returns-else-others-eq0
 returns-else-others-eq0 c =
     let room : c.args.place + 16 ≤ length c.args.bytes.now = omega (arith, c.if-bytes-place-lt-LANES.false) in
-    let front = some_visible c.args.bytes.now c.args.place c.other_bytes-others.result room c.other_bytes-others.ensures c.if-others-eq0.false in
+    let prefix = some_visible c.args.bytes.now c.args.place c.other_bytes-others.result room c.other_bytes-others.ensures c.if-others-eq0.false in
     record {
-      within = front.within;
-      inside = omega (arith, front.within, room);
-      stops = λ fewer. omega (arith, front.within, room, fewer);
-      visible = front.visible;
+      within = prefix.within;
+      inside = omega (arith, prefix.within, room);
+      stops = λ fewer. omega (arith, prefix.within, room, fewer);
+      visible = prefix.visible;
     }

@@ -24,13 +24,13 @@ concat-map-push f ks k =
 map-same : (f g : ℕ → List ℕ) (n : ℕ) → ((k : ℕ) → k < n → f k ≡ g k) → map f (numbers_below n) ≡ map g (numbers_below n)
 map-same f g zero same = refl
 map-same f g (suc n) same =
-    let front : map f (numbers_below n) ≡ map g (numbers_below n) = map-same f g n (λ k h. same k (omega arith)) in
+    let prefix : map f (numbers_below n) ≡ map g (numbers_below n) = map-same f g n (λ k h. same k (omega arith)) in
     let last : f n ≡ g n = same n (omega arith) in
-    rw (map-append f (numbers_below n) (n ∷ []), map-append g (numbers_below n) (n ∷ []), front, last) refl
+    rw (map-append f (numbers_below n) (n ∷ []), map-append g (numbers_below n) (n ∷ []), prefix, last) refl
 
 -- a line at the end does not change the answers to the lines before it
-answer_at-front : (limit : ℕ) (before : List (List ℕ)) (line : List ℕ) (k : ℕ) → k < length before → answer_at limit (before ++ line ∷ []) k ≡ answer_at limit before k
-answer_at-front limit before line k h =
+answer_at-prefix : (limit : ℕ) (before : List (List ℕ)) (line : List ℕ) (k : ℕ) → k < length before → answer_at limit (before ++ line ∷ []) k ≡ answer_at limit before k
+answer_at-prefix limit before line k h =
     let le : k ≤ length before = omega arith in
     rw (take-append-le k before (line ∷ []) le, get_or-append before (line ∷ []) [] k h) refl
 
@@ -42,7 +42,7 @@ pub answers-push : (limit : ℕ) (before : List (List ℕ)) (line : List ℕ) �
 answers-push limit before line =
     let lines : List (List ℕ) = before ++ line ∷ [] in
     let more : length (before ++ line ∷ []) ≡ suc (length before) = omega (arith, length_push before line) in
-    rw (more, concat-map-push (λ k. answer_at limit (before ++ line ∷ []) k) (numbers_below (length before)) (length before), answer_at-last limit before line, map-same _ (λ k. answer_at limit before k) (length before) (answer_at-front limit before line)) refl
+    rw (more, concat-map-push (λ k. answer_at limit (before ++ line ∷ []) k) (numbers_below (length before)) (length before), answer_at-last limit before line, map-same _ (λ k. answer_at limit before k) (length before) (answer_at-prefix limit before line)) refl
 
 -- ---- the history of lines
 

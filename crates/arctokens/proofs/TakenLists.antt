@@ -10,7 +10,7 @@ use Rattle.std.proofs.lemmas.Slice.Zip.{all_zipped_more}
 use Rattle.arcstr.specs.TextView.{TextView, literal_of}
 use Rattle.arctokens.specs.Tokens.{AreTokens, AreTokensOfEach, TokenList}
 use Rattle.arctokens.specs.Pieces.{HasTokensOf, ArePieces}
-use Rattle.arctokens.proofs.Turns.{same_number}
+use Rattle.arctokens.proofs.WorkerTurns.{same_number}
 
 -- the pieces have the tokens of the texts from a number on
 pub record AreLeft (texts : List TextView) (workers number : ℕ) (pieces : List (Vec TokenList Global)) : Type 0 where

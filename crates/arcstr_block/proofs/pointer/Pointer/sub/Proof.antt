@@ -1,4 +1,4 @@
--- `leave` is one fetch-sub. The last one has the word and what the block owns.
+-- `sub` is one fetch-sub. The last one has the word and what the block owns.
 use Rattle.std.proofs.Common.{◌≡◌, ℕ, ◌+◌, [], ◌∷◌, sym, refl, ap, subst, if◌then◌else◌, lit<, w64, length, arith, ◌^◌, ◌<◌}
 use mir.Syntax.{dcons, dnil, a_type}
 use mir.Val.{Val, vint, vptr}
@@ -27,12 +27,12 @@ use Rattle.atomic_table.proofs.Walks.{proved, leaves}
 use Rattle.atomic_table.proofs.Calls.{fm, seq_cst, found, finds, subs}
 use Rattle.arcstr_block.specs.Rights.{dropping, Leaves, Right}
 use Rattle.std.specs.Prelude.{◌≢◌}
-use Rattle.arcstr_block.specs.Memory.{block_owns, block_shares, word_at, word_place}
+use Rattle.arcstr_block.specs.Memory.{block_owns, block_shares, word_at, word_offset}
 use Rattle.arcstr_block.specs.Ledger.{Inv, held_with, right_to}
 use Rattle.arcstr_block.proofs.Memory.{shares_laws}
 use Rattle.arcstr_block.specs.contracts.pointer.Pointer as C
 use Rattle.arcstr_block.proofs.Fields.{pointer_val, typed, found_val, found_typed, Words, told}
-use Rattle.arcstr_block.proofs.Framed as framed
+use Rattle.arcstr_block.proofs.StepFrames as framed
 use Rattle.arcstr_count.specs.declared.steps.HandleState.TheVariants.{Dropping}
 use Rattle.arcstr_count.specs.declared.steps.Step.TheVariants.{Sub}
 use Rattle.arcstr_count.specs.declared.steps.Reply.TheVariants.{Owes, Left}
@@ -42,14 +42,14 @@ use Rattle.arcstr_block.proofs.Book.{book_sub, left_in, sub_reply}
 use Rattle.arcstr_block.proofs.Words.{last_two, not_last}
 use Rattle.arcstr_block.proofs.Rights as rights
 use Rattle.arcstr_block.proofs.Steps as steps
-use Rattle.arcstr_block.proofs.Changes as changes
-use Rattle.arcstr_block.specs.contracts.pointer.Pointer.leave.{ended, clauses}
-use Rattle.arcstr_block.specs.contracts.pointer.Pointer.leave.Key.{name as #self}
-use Rattle.arcstr_block.proofs.pointer.Pointer.leave.Statement.{statement}
-use Rattle.arcstr_block.proofs.pointer.Pointer.leave.Code as code
+use Rattle.arcstr_block.proofs.WordChanges as changes
+use Rattle.arcstr_block.specs.contracts.pointer.Pointer.sub.{ended, clauses}
+use Rattle.arcstr_block.specs.contracts.pointer.Pointer.sub.Key.{name as #self}
+use Rattle.arcstr_block.proofs.pointer.Pointer.sub.Statement.{statement}
+use Rattle.arcstr_block.proofs.pointer.Pointer.sub.Code as code
 
-pub leave_spec : {M : Type 1} → statement M
-leave_spec 𝓤 𝓛 𝓜 𝓡 wired Y K g d dd met md =
+pub sub_spec : {M : Type 1} → statement M
+sub_spec 𝓤 𝓛 𝓜 𝓡 wired Y K g d dd met md =
     let H = 𝓛.H in let 𝓣 = tables 𝓤 H 𝓜 𝓡 𝓡.env in let B : RattleType = param 0 Y in let En = ended Y g d dd in let c = clauses Y g d dd 𝓛 𝓜.mem 𝓡.returns in
     let inst = bounded (a_type ∷ []) (Y, tt) (dcons d (dcons dd dnil)) in let fn = inst_fn inst code.function in
     let closed = code.unfolded 𝓤 H 𝓜 𝓡 wired (Y, tt) d dd in
@@ -66,9 +66,9 @@ leave_spec 𝓤 𝓛 𝓜 𝓡 wired Y K g d dd met md =
     let y : (walk_of 𝓛 En hs c).Ghost = ((κs, qs, bounds, a, (pointer_val p ∷ [], (vint w64 place ∷ [], tt))), gh) in
     let Post : Val → SProp 𝓤 = (walk_of 𝓛 En hs c).post y in
     qed 𝓛 ((raw (alive 𝓛 En.signature κs qs) ⊛ ‵ (owns (types_at En.signature.params κs) a y.0.4)) ∷ raw (fact 𝓤 _) ∷
-    raw (fact 𝓤 (h.right ≡ dropping)) ∷ raw (fact 𝓤 (place ≡ word_place (length h.text))) ∷ []) ∵
-    keep ! (2 ∷ 3 ∷ 0 ∷ []) $ heard ! (h.right ≡ dropping) (λ mine. heard ! (place ≡ word_place (length h.text)) (λ placed.
-    let there : place + count_of p ≡ count_of p + word_place (length h.text) = omega (arith, placed) in
+    raw (fact 𝓤 (h.right ≡ dropping)) ∷ raw (fact 𝓤 (place ≡ word_offset (length h.text))) ∷ []) ∵
+    keep ! (2 ∷ 3 ∷ 0 ∷ []) $ heard ! (h.right ≡ dropping) (λ mine. heard ! (place ≡ word_offset (length h.text)) (λ placed.
+    let there : place + count_of p ≡ count_of p + word_offset (length h.text) = omega (arith, placed) in
     split ! $ move ! (1 ∷ []) $ fsplit ! $ fsplit ! $ keep ! (1 ∷ 3 ∷ []) $ fsplit ! $
     fpick ! (λ inb. drop ! $ let at : p ≡ block_ptr pb (count_of p) = at_block p inb.0 in
     fpick ! (λ t. let I : Fml = Inv P lim pb po t in let af : Lft = t.0 ∷ [] in fsplit ! $ move ! (1 ∷ []) $

@@ -19,11 +19,11 @@ use Rattle.arcstr_block.specs.Ledger.{Id, parts, unmarked, Ledger, counting, if_
 use Rattle.arcstr_count.specs.declared.steps.Step.TheVariants.{Make}
 use Rattle.arcstr_count.specs.declared.steps.HandleState.TheVariants.{Free}
 use Rattle.arcstr_block.proofs.Book.{book_new}
-use Rattle.arcstr_block.proofs.Lent.{free_in}
+use Rattle.arcstr_block.proofs.PointerShares.{free_in}
 use denote.Steps.{nothing}
 use denote.Sharing.{ShrLaws}
 use types.Owned.{basic}
-use Rattle.arcstr_block.proofs.Parts.{parts_in, parts_cut}
+use Rattle.arcstr_block.proofs.TokenParts.{parts_in, parts_cut}
 use Rattle.arcstr_block.proofs.Ledger.{phase_in}
 
 module _ {M : Type 1} {𝓤 : Ura M} (𝓛 : Logic 𝓤) (P : Fml) (L b o : ℕ) where

@@ -36,5 +36,5 @@ module _ {X : Type 0} (f : X → List ℕ) (sep : List ℕ) where
   pub joined_room : (xs : List X) (i : ℕ) (d : X) (gap : List ℕ) → i < length xs → (i ≡ 0 → gap ≡ []) → (0 < i → gap ≡ sep)
       → (length (join_by f sep (take i xs)) + length gap) + length (f (get_or xs i d)) ≤ length (join_by f sep xs)
   joined_room xs i d gap within first later =
-      let front : List ℕ = join_by f sep (take i xs) in let last : List ℕ = f (get_or xs i d) in
-      omega (arith, joined_within xs (i + 1), ap length (joined_more xs i d gap within first later), length-append (front ++ gap) last, length-append front gap)
+      let prefix : List ℕ = join_by f sep (take i xs) in let last : List ℕ = f (get_or xs i d) in
+      omega (arith, joined_within xs (i + 1), ap length (joined_more xs i d gap within first later), length-append (prefix ++ gap) last, length-append prefix gap)

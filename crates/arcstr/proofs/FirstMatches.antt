@@ -25,16 +25,16 @@ not_among character text utf8 none among =
 -- if `find` returns an offset, the character starts there, and no character before it is the same
 first_at : (text : List ℕ) (character place : ℕ) → IsUtf8 text → MatchBeginsAt (FindsChar character) text place → IsFirstPlace text character place
 first_at text character place utf8 at =
-    let front_utf8 = IsUtf8-take text place utf8 at.3 in
+    let prefix_utf8 = IsUtf8-take text place utf8 at.3 in
     let rest_utf8 = IsUtf8-drop text place utf8 at.3 in
     record {
       before = chars (take place text);
       after = chars (drop at.0 text);
       split =
-          ap chars (sym (take-append-drop place text)) ∙ chars-append (take place text) (drop place text) front_utf8
+          ap chars (sym (take-append-drop place text)) ∙ chars-append (take place text) (drop place text) prefix_utf8
           ∙ ap (λ rest. chars (take place text) ++ rest) (chars_past_char (drop place text) (drop at.0 text) character rest_utf8 at.1.1.split);
-      others = not_among character (take place text) front_utf8 at.1.0;
-      measured = ap length (encodes-chars (take place text) front_utf8) ∙ length-take-le place text at.3.0;
+      others = not_among character (take place text) prefix_utf8 at.1.0;
+      measured = ap length (encodes-chars (take place text) prefix_utf8) ∙ length-take-le place text at.3.0;
     }
 
 has_first : (text : List ℕ) (character place : ℕ) → IsFirstPlace text character place → Contains (chars text) character
@@ -67,7 +67,7 @@ around finds text before after between parts character utf8 begins ends split is
       before = there ∙ ap (between 0) split.6;
       after = there_after ∙ ap (λ place. between place (length text)) start;
       joined =
-          ap (λ front. front ++ encode_utf8 character ++ text_of parts.1) (is_before ∙ split.3)
+          ap (λ prefix. prefix ++ encode_utf8 character ++ text_of parts.1) (is_before ∙ split.3)
           ∙ ap (λ rest. take split.0 text ++ encode_utf8 character ++ rest) (is_after ∙ split.4)
           ∙ append_assoc (take split.0 text) (encode_utf8 character) (drop split.1 text)
           ∙ ap (λ rest. take split.0 text ++ rest) (sym match_is.1.split)

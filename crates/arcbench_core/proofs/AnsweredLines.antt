@@ -4,7 +4,7 @@ use Rattle.std.proofs.lemmas.List.{append_assoc, append-nil}
 use Rattle.arcstr_count.specs.Summary.{WorldView, StandsFor}
 use Rattle.arcbench_core.specs.Line.{step_of}
 use Rattle.arcbench_core.specs.Script.{steps_of, history_with, answer_by, answers}
-use Rattle.arcbench_core.proofs.Joined.{answers-push, steps_of-push}
+use Rattle.arcbench_core.proofs.JoinedAnswers.{answers-push, steps_of-push}
 
 -- of all lines, `done` are answered and `left` are not; the world and the bytes are those after `done`
 pub record LinesDone (all done left : List (List ℕ)) (first world : WorldView) (start out : List ℕ) : Type 0 where

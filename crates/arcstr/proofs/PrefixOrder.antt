@@ -7,7 +7,7 @@ use Rattle.std.specs.Ordering.{nat_cmp, ordering_then, is_ne}
 use Rattle.std.proofs.lemmas.Bool.Decides.{nat_tests}
 use Rattle.std.proofs.lemmas.Cmp.{nat_list_cmp_total, tied_itself}
 use Rattle.std.proofs.lemmas.List.{take_all}
-use Rattle.arcstr.proofs.TextOrders.{equal-of_Equal, nat_cmp-below, nat_cmp-itself, slice_cmp-front}
+use Rattle.arcstr.proofs.TextOrders.{equal-of_Equal, nat_cmp-below, nat_cmp-itself, slice_cmp-prefix}
 
 pub nat_cmp-above : (x y : ℕ) → y < x → nat_cmp x y ≡ Greater
 nat_cmp-above x y above = grind (arith, nat_tests)
@@ -32,9 +32,9 @@ decided (suc n) (x ∷ xs) (y ∷ ys) in_xs in_ys differ =
     decided-step n xs ys (nat_cmp x y) (decided n xs ys (omega arith) (omega arith)) differ
 
 -- prefixes that differ decide
-pub by_fronts : (n : ℕ) (xs ys : List ℕ) (answer : Ordering) → n ≤ length xs → n ≤ length ys →
+pub by_prefixes : (n : ℕ) (xs ys : List ℕ) (answer : Ordering) → n ≤ length xs → n ≤ length ys →
     answer ≡ slice_cmp nat_cmp (take n xs) (take n ys) → is_ne answer ≡ true → answer ≡ slice_cmp nat_cmp xs ys
-by_fronts n xs ys answer in_xs in_ys is differ = is ∙ decided n xs ys in_xs in_ys (ap is_ne (sym is) ∙ differ)
+by_prefixes n xs ys answer in_xs in_ys is differ = is ∙ decided n xs ys in_xs in_ys (ap is_ne (sym is) ∙ differ)
 
 tied : (answer : Ordering) → is_ne answer ≡ false → answer ≡ Equal
 tied Less is = cc
@@ -50,14 +50,14 @@ pub alike-Equal : (xs ys : List ℕ) → xs ≡ ys → Equal ≡ slice_cmp nat_c
 alike-Equal xs ys same = sym (ap (slice_cmp nat_cmp xs) (sym same) ∙ tied_itself nat_list_cmp_total xs)
 
 -- prefixes of equal prefixes are equal
-pub alike-front : (m n : ℕ) (xs ys : List ℕ) → m ≤ n → take n xs ≡ take n ys → take m xs ≡ take m ys
-alike-front m n xs ys shorter same = sym (take-take m n xs shorter) ∙ ap (take m) same ∙ take-take m n ys shorter
+pub alike-prefix : (m n : ℕ) (xs ys : List ℕ) → m ≤ n → take n xs ≡ take n ys → take m xs ≡ take m ys
+alike-prefix m n xs ys shorter same = sym (take-take m n xs shorter) ∙ ap (take m) same ∙ take-take m n ys shorter
 
 -- after equal prefixes, the next elements decide
 pub by_next : (i n : ℕ) (xs ys : List ℕ) → take i xs ≡ take i ys →
     slice_cmp nat_cmp (take n (drop i xs)) (take n (drop i ys)) ≡ slice_cmp nat_cmp (take (i + n) xs) (take (i + n) ys)
 by_next i n xs ys same =
-    rw (take-add i n xs) (rw (take-add i n ys) (rw (← same) (sym (slice_cmp-front (take i xs) (take n (drop i xs)) (take n (drop i ys))))))
+    rw (take-add i n xs) (rw (take-add i n ys) (rw (← same) (sym (slice_cmp-prefix (take i xs) (take n (drop i xs)) (take n (drop i ys))))))
 
 -- equal prefixes and equal next elements make longer equal prefixes
 pub alike-next : (i n : ℕ) (xs ys : List ℕ) → take i xs ≡ take i ys → take n (drop i xs) ≡ take n (drop i ys) → take (i + n) xs ≡ take (i + n) ys
@@ -83,10 +83,10 @@ by_length (suc n) (x ∷ xs) [] shorter same = absurd (omega arith)
 by_length (suc n) (x ∷ xs) (y ∷ ys) shorter same = by_length-step n x y xs ys same (by_length n xs ys (omega arith))
 
 -- prefixes that differ decide for longer prefixes
-pub by_fronts-within : (n m : ℕ) (xs ys : List ℕ) (answer : Ordering) → n ≤ m → n ≤ length xs → n ≤ length ys →
+pub by_prefixes-within : (n m : ℕ) (xs ys : List ℕ) (answer : Ordering) → n ≤ m → n ≤ length xs → n ≤ length ys →
     answer ≡ slice_cmp nat_cmp (take n xs) (take n ys) → is_ne answer ≡ true → answer ≡ slice_cmp nat_cmp (take m xs) (take m ys)
-by_fronts-within n m xs ys answer shorter in_xs in_ys is differ =
-    by_fronts n (take m xs) (take m ys) answer (omega (arith, length-take m xs)) (omega (arith, length-take m ys))
+by_prefixes-within n m xs ys answer shorter in_xs in_ys is differ =
+    by_prefixes n (take m xs) (take m ys) answer (omega (arith, length-take m xs)) (omega (arith, length-take m ys))
     (rw (take-take n m xs shorter) (rw (take-take n m ys shorter) is)) differ
 
 -- if equal prefixes cover both lists, the lists are equal

@@ -1,4 +1,4 @@
--- `release` takes the whole block with its length, and ends the history of the block.
+-- `back` takes the whole block with its length, and ends the history of the block.
 use Rattle.std.proofs.Common.{◌≡◌, ℕ, ◌+◌, ◌^◌, ◌<◌, List, [], ◌∷◌, ◌++◌, length, sym, refl, ap, arith}
 use mir.Syntax.{dcons, dnil, a_type, w64}
 use mir.Val.{Val, vint, vstruct, of_list, vptr}
@@ -34,19 +34,19 @@ use Rattle.arcstr_count.specs.declared.steps.HandleState.TheVariants.{Gone}
 use Rattle.arcstr_count.specs.declared.steps.Reply.TheVariants.{Given}
 use Rattle.arcstr_block.specs.Rights.{owed, Right}
 use Rattle.arcstr_block.specs.Book.{Book, seat, Ends}
-use Rattle.arcstr_block.specs.Memory.{Fits, length_lies, block_owns, block_shares, word_place}
+use Rattle.arcstr_block.specs.Memory.{Fits, length_lies, block_owns, block_shares, word_offset}
 use Rattle.arcstr_block.specs.Ledger.{held_with}
 use Rattle.arcstr_block.specs.contracts.block.Sole as S
 use Rattle.arcstr_block.specs.contracts.pointer.Pointer as C
 use Rattle.arcstr_block.proofs.Book.{book_back}
 use Rattle.arcstr_block.proofs.Fields.{pointer_val, typed, measured_val, measured_typed, Words, told, made}
-use Rattle.arcstr_block.specs.contracts.pointer.Pointer.release.{ended, clauses}
-use Rattle.arcstr_block.specs.contracts.pointer.Pointer.release.Key.{name as #self}
-use Rattle.arcstr_block.proofs.pointer.Pointer.release.Statement.{statement}
-use Rattle.arcstr_block.proofs.pointer.Pointer.release.Code as code
+use Rattle.arcstr_block.specs.contracts.pointer.Pointer.back.{ended, clauses}
+use Rattle.arcstr_block.specs.contracts.pointer.Pointer.back.Key.{name as #self}
+use Rattle.arcstr_block.proofs.pointer.Pointer.back.Statement.{statement}
+use Rattle.arcstr_block.proofs.pointer.Pointer.back.Code as code
 
-pub release_spec : {M : Type 1} → statement M
-release_spec 𝓤 𝓛 𝓜 𝓡 wired Y K g d dd met md =
+pub back_spec : {M : Type 1} → statement M
+back_spec 𝓤 𝓛 𝓜 𝓡 wired Y K g d dd met md =
     let H = 𝓛.H in let 𝓣 = tables 𝓤 H 𝓜 𝓡 𝓡.env in let B : RattleType = param 0 Y in let En = ended Y g d dd in let c = clauses Y g d dd 𝓛 𝓜.mem 𝓡.returns in
     let inst = bounded (a_type ∷ []) (Y, tt) (dcons d (dcons dd dnil)) in let fn = inst_fn inst code.function in
     let closed = code.unfolded 𝓤 H 𝓜 𝓡 wired (Y, tt) d dd in
@@ -58,12 +58,12 @@ release_spec 𝓤 𝓛 𝓜 𝓡 wired Y K g d dd met md =
     let h : Row.Denot = a.0 in let p : Ptr = h.at in let xs : List ℕ = h.text in let n : ℕ = length xs in let lim : ℕ = h.limit in
     let holds = g.dealloc_token h.home in let P : Fml = block_owns holds p xs in let s = block_shares p xs in
     let b : ℕ = block_of p in let o : ℕ = count_of p in
-    let place : ℕ = a.1.0 in let fits_place : place < 2 ^ 64 = are.1.0.1 in let u : ℕ = o + word_place n in
+    let place : ℕ = a.1.0 in let fits_place : place < 2 ^ 64 = are.1.0.1 in let u : ℕ = o + word_offset n in
     let y : (walk_of 𝓛 En hs c).Ghost = ((κs, qs, bounds, a, (pointer_val p ∷ [], (vint w64 place ∷ [], tt))), gh) in
     let Post : Val → SProp 𝓤 = (walk_of 𝓛 En hs c).post y in
     qed 𝓛 ((raw (alive 𝓛 En.signature κs qs) ⊛ ‵ (owns (types_at En.signature.params κs) a y.0.4)) ∷ raw (fact 𝓤 _) ∷ raw (fact 𝓤 (h.right ≡ owed)) ∷
-    raw (fact 𝓤 (place ≡ word_place n)) ∷ []) ∵
-    keep ! (2 ∷ 3 ∷ 0 ∷ []) $ heard ! (h.right ≡ owed) (λ mine. heard ! (place ≡ word_place n) (λ placed.
+    raw (fact 𝓤 (place ≡ word_offset n)) ∷ []) ∵
+    keep ! (2 ∷ 3 ∷ 0 ∷ []) $ heard ! (h.right ≡ owed) (λ mine. heard ! (place ≡ word_offset n) (λ placed.
     let there : place + o ≡ u = omega (arith, placed) in split ! $ move ! (1 ∷ []) $ fsplit ! $ fsplit ! $ keep ! (1 ∷ 3 ∷ []) $ fsplit ! $ fpick ! (λ inb.
     drop ! $ let at : p ≡ block_ptr b o = at_block p inb.0 in
     let small : n < 2 ^ 64 = (let x = inb.1.0 in omega arith) in fpick ! (λ t. fsplit ! $ drop ! $

@@ -16,8 +16,8 @@ use Rattle.arcstr_block.specs.Rights.{owed}
 use Rattle.arcstr_block.specs.Book.{Book, seat_share, state_code}
 use Rattle.arcstr_block.specs.Ledger.{Names}
 use Rattle.arcstr_block.specs.contracts.pointer.Pointer as C
-use Rattle.arcstr_block.proofs.Alone.{none_lives}
-use Rattle.arcstr_block.proofs.Apart.{book_of}
+use Rattle.arcstr_block.proofs.LoneBlocks.{none_lives}
+use Rattle.arcstr_block.proofs.TwoPointers.{book_of}
 use Rattle.arcstr_block.proofs.Seats.{agrees}
 
 module _ {M : Type 1} {𝓤 : Ura M} (𝓛 : Logic 𝓤) where

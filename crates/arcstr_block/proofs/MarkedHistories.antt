@@ -19,24 +19,24 @@ use Rattle.arcstr_block.proofs.Words.{marked_word}
 
 -- ---- the last step of a history of one block
 
-past_ends : (limit : ℕ) (history front : List Step) (s : Step) → history ≡ front ++ s ∷ [] → is_accepted limit (past_of limit front) s ≡ true
-    → past_of limit history ≡ s ∷ past_of limit front
-past_ends limit history front s ends accepted =
-    ap (past_of limit) ends ∙ past_of-step limit front s ∙ ap (λ b. if b then s ∷ past_of limit front else past_of limit front) accepted
+past_ends : (limit : ℕ) (history prefix : List Step) (s : Step) → history ≡ prefix ++ s ∷ [] → is_accepted limit (past_of limit prefix) s ≡ true
+    → past_of limit history ≡ s ∷ past_of limit prefix
+past_ends limit history prefix s ends accepted =
+    ap (past_of limit) ends ∙ past_of-step limit prefix s ∙ ap (λ b. if b then s ∷ past_of limit prefix else past_of limit prefix) accepted
 
 -- a handle that was born before the last step, which makes no block, stands on the one block
-on_the_block : (limit : ℕ) (history front : List Step) (s : Step) (h : ℕ) → IsOneBlock limit history → past_of limit history ≡ s ∷ past_of limit front
-    → makes (s ∷ past_of limit front) ≡ makes (past_of limit front) → h < births (past_of limit front) → block_of (past_of limit front) h ≡ 0
-on_the_block limit history front s h one past same born =
-    let made : makes (past_of limit front) ≡ 1 = sym same ∙ sym (ap makes past) ∙ one.made in
-    let below = block_made limit (past_of limit front) h (IsPast-past_of limit front) born in omega arith
+on_the_block : (limit : ℕ) (history prefix : List Step) (s : Step) (h : ℕ) → IsOneBlock limit history → past_of limit history ≡ s ∷ past_of limit prefix
+    → makes (s ∷ past_of limit prefix) ≡ makes (past_of limit prefix) → h < births (past_of limit prefix) → block_of (past_of limit prefix) h ≡ 0
+on_the_block limit history prefix s h one past same born =
+    let made : makes (past_of limit prefix) ≡ 1 = sym same ∙ sym (ap makes past) ∙ one.made in
+    let below = block_made limit (past_of limit prefix) h (IsPast-past_of limit prefix) born in omega arith
 
 -- ---- the mark
 
 pub marked_by_leak : (limit : ℕ) (history : List Step) (h : ℕ) → EndsIn limit history (Leak h) Marked → IsMarkedIn limit history
-marked_by_leak limit history h ends = let p : List Step = past_of limit ends.front in
-    let past : past_of limit history ≡ Leak h ∷ p = past_ends limit history ends.front (Leak h) ends.ends ends.accepted in
-    let on : block_of p h ≡ 0 = on_the_block limit history ends.front (Leak h) h ends.one_block past refl (Leak-finds limit p h ends.accepted).born in
+marked_by_leak limit history h ends = let p : List Step = past_of limit ends.prefix in
+    let past : past_of limit history ≡ Leak h ∷ p = past_ends limit history ends.prefix (Leak h) ends.ends ends.accepted in
+    let on : block_of p h ≡ 0 = on_the_block limit history ends.prefix (Leak h) h ends.one_block past refl (Leak-finds limit p h ends.accepted).born in
     record { one_block = ends.one_block; marked = ap (λ q. is_marked limit q 0) past ∙ ap (λ b. (b == 0) || is_marked limit p 0) on }
 
 -- only a look at a marked block has this answer
@@ -46,9 +46,9 @@ static_was None false n e = cc
 static_was (Some fault) marked n e = cc
 
 marked_by_look : (limit : ℕ) (history : List Step) (h : ℕ) → EndsIn limit history (Look h) Static → IsMarkedIn limit history
-marked_by_look limit history h ends = let p : List Step = past_of limit ends.front in
-    let past : past_of limit history ≡ Look h ∷ p = past_ends limit history ends.front (Look h) ends.ends ends.accepted in
-    let on : block_of p h ≡ 0 = on_the_block limit history ends.front (Look h) h ends.one_block past refl (Look-finds limit p h ends.accepted).born in
+marked_by_look limit history h ends = let p : List Step = past_of limit ends.prefix in
+    let past : past_of limit history ≡ Look h ∷ p = past_ends limit history ends.prefix (Look h) ends.ends ends.accepted in
+    let on : block_of p h ≡ 0 = on_the_block limit history ends.prefix (Look h) h ends.one_block past refl (Look-finds limit p h ends.accepted).born in
     let there : is_marked limit p (block_of p h) ≡ true = static_was _ _ _ ends.answered in
     record { one_block = ends.one_block; marked = ap (λ q. is_marked limit q 0) past ∙ ap (λ b. is_marked limit p b) (sym on) ∙ there }
 
