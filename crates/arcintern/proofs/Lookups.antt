@@ -26,7 +26,8 @@ module _ (texts : List TextView) (word : List ℕ) where
     λ some.
         let one = Any-from_list_any (λ (text : TextView). bytes_eq word text.text) texts (sym answers ∙ some) in
         (one.0, one.1, one.2, one.3, sym ((bytes_decides word one.1.text).0 one.4)),
-    λ one. answers ∙ list_any-from_Any (λ (text : TextView). bytes_eq word text.text) texts (one.0, one.1, one.2, one.3, (bytes_decides word one.1.text).1 (sym one.4)),
+    λ one. answers ∙ list_any-from_Any (λ (text : TextView). bytes_eq word text.text) texts
+        (one.0, one.1, one.2, one.3, (bytes_decides word one.1.text).1 (sym one.4)),
   )
 
 module _ (texts : List TextView) (text : TextView) (absent : ¬ HasWord texts text.text) where
@@ -42,7 +43,8 @@ module _ (texts : List TextView) (text : TextView) (absent : ¬ HasWord texts te
   -- and no two of the texts spell the same word
   pub once-push : HasEachOnce texts → HasEachOnce (texts ++ text ∷ [])
   once-push once =
-      all_pairs_push (λ one other. one.text ≡ other.text → ⊥) texts text once (λ k d within same. absent (k, get_or texts k d, within, get_or_default texts k _ d within, same))
+      all_pairs_push (λ one other. one.text ≡ other.text → ⊥) texts text once
+      (λ k d within same. absent (k, get_or texts k d, within, get_or_default texts k _ d within, same))
 
 -- each old text is still at its index
 pub KeepsTexts-push : (texts : List TextView) (text : TextView) → KeepsTexts texts (texts ++ text ∷ [])

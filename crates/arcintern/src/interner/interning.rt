@@ -90,12 +90,14 @@ impl<S: BuildHasher> Interner<S> {
         ensures known { HasWord self.old (text_of slice.now) → IsOk result }
         ensures same { HasWord self.old (text_of slice.now) → self.new ≡ self.old }
         ensures added_whole { (¬ HasWord self.old (text_of slice.now)) → IsWhole slice.now → OnOk result (self.new ≡ self.old ++ slice.now.parent ∷ []) }
-        ensures added_part { (¬ HasWord self.old (text_of slice.now)) → (¬ IsWhole slice.now) → OnOk result (self.new ≡ self.old ++ made_of (text_of slice.now) ∷ []) }
+        ensures added_part { (¬ HasWord self.old (text_of slice.now)) → (¬ IsWhole slice.now)
+            → OnOk result (self.new ≡ self.old ++ made_of (text_of slice.now) ∷ []) }
         ensures kept { KeepsTexts self.old self.new }
         ensures once { HasEachOnce self.new }
         ensures refused { OnErr result (self.new ≡ self.old) }
         ensures full { IsErrOf result InternFault.Full ↔ ((¬ HasWord self.old (text_of slice.now)) × (MOST_TEXTS ≤ length self.old)) }
-        ensures too_long_part { (¬ IsWhole slice.now) → (IsErrOf result InternFault.Length ↔ ((¬ HasWord self.old (text_of slice.now)) × (length self.old < MOST_TEXTS) × IsTooLong (length (text_of slice.now)))) }
+        ensures too_long_part { (¬ IsWhole slice.now) → (IsErrOf result InternFault.Length
+            ↔ ((¬ HasWord self.old (text_of slice.now)) × (length self.old < MOST_TEXTS) × IsTooLong (length (text_of slice.now)))) }
         ensures never_too_long_whole { IsWhole slice.now → ¬ (IsErrOf result InternFault.Length) }
     {
         if is_whole(slice) {
