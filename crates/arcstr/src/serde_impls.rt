@@ -43,7 +43,7 @@ impl Serialize for Substr {
 }
 
 impl DeserializeOwned for ArcStr {
-    /// Reads a string into a `String`, and copies it into a block. Makes two allocations, or at most one for the empty text.
+    /// Reads a string as the format does, and copies it into a block. The copy makes one allocation, and none for the empty text.
     ///
     /// Errors, in this order: an error of the format; a text of `2^63 - 25` bytes or more; an allocation failure of the block.
     fn deserialize_owned<F: Format>(
