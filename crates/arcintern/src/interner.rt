@@ -24,8 +24,8 @@ mod lookup;
 /// ```
 pub const MOST_TEXTS: usize = (1 << 32) - 1;
 
-/// Keeps each distinct text once, as an `ArcStr`, in the order in which the texts came. A text is interned and looked up in constant
-/// time, whatever the number of texts. A contract sees the list of the texts.
+/// Keeps each distinct text once, as an `ArcStr`, in the order in which the texts came. It finds a text by its hash, so the average
+/// time of a look-up does not grow with the number of texts. No contract says so. A contract sees the list of the texts.
 ///
 /// The default hasher has a fixed seed. Where an attacker picks the texts, make the interner by `with_hasher`.
 ///

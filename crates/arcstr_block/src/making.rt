@@ -44,10 +44,10 @@ impl<const LIMIT: u64, A: Allocator + Copy> Shared<LIMIT, A> {
 
     /// The first handle on a new block with the text that `fill` leaves in `n` zero bytes. The call makes one allocation, before
     /// the closure runs. The caller has to ensure that `LIMIT` is at most `RC_MAX`, and that the closure accepts `n` zero
-    /// bytes.
+    /// bytes, unless `n` is too long.
     ///
-    /// Errors, in this order: `Length`, for a length of `2^63 - 25` bytes or more, and `Memory`, for an allocation failure; with
-    /// both the closure does not run. `Utf8`, for bytes that are not UTF-8 after the closure ran, with the length in bytes of their
+    /// Errors, in this order: `Length`, for a length of `2^63 - 25` bytes or more, and `Memory`, for an allocation failure; after
+    /// either the closure does not run. `Utf8`, for bytes that are not UTF-8 after the closure ran, with the length in bytes of their
     /// longest prefix that is UTF-8; the memory is then freed.
     ///
     /// ```

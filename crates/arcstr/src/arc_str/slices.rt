@@ -30,7 +30,8 @@ impl ArcStr {
         slice(self.as_str(), range.into())
     }
 
-    /// Returns the slice of this text in the range. An empty slice keeps the text alive too. Clones the handle, and so can wait.
+    /// Returns the slice of this text in the range. An empty slice keeps the text alive too. Clones the handle if the range is
+    /// valid, and so can wait.
     ///
     /// Errors, in this order: `OutOfOrder` if the start is after the end; `PastEnd` if the end is past the text; `OffBoundary` if the start or the end is not
     /// a character boundary.
@@ -91,7 +92,7 @@ impl ArcStr {
     }
 
     /// Returns the slice of this text between the byte offsets that the closure returns for it. Calls the closure once, first; the caller must ensure that it
-    /// can be called on the text. Equal offsets give `Substr::new()`, wherever they lie. Clones the handle for other offsets, and so can wait.
+    /// can be called on the text. Equal offsets give `Substr::new()`, wherever they lie. Clones the handle for other valid offsets, and so can wait.
     ///
     /// Errors for other offsets, in this order: `OutOfOrder` if the start is after the end; `PastEnd` if the end is past the text; `OffBoundary` if the start
     /// or the end is not a character boundary.
@@ -120,8 +121,8 @@ impl ArcStr {
     }
 
     /// Returns the slice of this text between the byte offsets that the closure returns for it, as `substr_using` does. Calls the closure once, first; the
-    /// caller must ensure that it can be called on the text. Equal offsets give `Substr::new()`, wherever they lie. Clones the handle for other offsets, and
-    /// so can wait.
+    /// caller must ensure that it can be called on the text. Equal offsets give `Substr::new()`, wherever they lie. Clones the handle for other valid
+    /// offsets, and so can wait.
     ///
     /// Errors for other offsets, in this order: `OutOfOrder` if the start is after the end; `PastEnd` if the end is past the text; `OffBoundary` if the start
     /// or the end is not a character boundary.
