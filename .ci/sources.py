@@ -18,6 +18,7 @@ OWNER = re.compile(
 CLAUSE = re.compile(r"\b(?P<kind>ensures|requires|invariant|decreases)(?: (?P<name>\w+))?\s*$")
 HIDING = re.compile(r"#!?\[(?:cfg|path|ignore).*?\]$", re.M)
 CLOSING = {"(": ")", "{": "}"}
+TEST_ENDINGS = ("_tests", "_examples")
 
 
 def end_of_block_comment(text, start):
@@ -55,6 +56,16 @@ def listed_crates():
     """The crates that crates.txt lists, in its order."""
     lines = (ROOT / "crates.txt").read_text().splitlines()
     return [re.match(r"\w+", line)[0] for line in lines if re.match(r"\w", line)]
+
+
+def tested_crate(crate):
+    """The crate of which this one has tests or examples, and nothing else; of another crate `None`."""
+    return next((crate.removesuffix(ending) for ending in TEST_ENDINGS if crate.endswith(ending) and crate.removesuffix(ending) in listed_crates()), None)
+
+
+def with_test_crates(crate):
+    """The crate, and the crates that hold its tests and its examples."""
+    return [crate, *(other for other in listed_crates() if tested_crate(other) == crate)]
 
 
 def is_library(crate):

@@ -17,6 +17,8 @@ use std::marker::Model;
 mod interning;
 mod lookup;
 
+pub(crate) use interning::{copied, is_whole};
+
 /// The number of texts that an interner can hold.
 ///
 /// ```

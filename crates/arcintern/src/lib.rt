@@ -3,12 +3,14 @@
 
 pub use fault::InternFault;
 pub use interner::{Interner, MOST_TEXTS};
+pub use shared_interner::{SharedInterner, SharedSymbol};
 pub use symbol::Symbol;
 
 #[cfg(test)]
 mod examples;
 mod fault;
 mod interner;
+mod shared_interner;
 mod symbol;
 #[cfg(test)]
 mod tests;

@@ -3,17 +3,19 @@ use crate::calls::TRIES;
 use crate::making::{check_count, check_text};
 use crate::meter::Meter;
 use crate::stop::{Part, Stop, check};
-use arcintern::{InternFault, Interner, Symbol};
+use arcintern::{InternFault, Interner, SharedInterner, SharedSymbol, Symbol};
 use arcstr::ArcStr;
 use std::alloc::Global;
 use std::sync::Wait;
 
 /// The calls, in the order of their lines.
-pub(crate) const CALLS: [Interning; 4] = [
+pub(crate) const CALLS: [Interning; 6] = [
     Interning::WithCapacity,
     Interning::Intern,
     Interning::InternArc,
     Interning::InternSubstr,
+    Interning::NewShared,
+    Interning::InternShared,
 ];
 
 #[derive(Clone, Copy)]
@@ -22,6 +24,8 @@ pub(crate) enum Interning {
     Intern,
     InternArc,
     InternSubstr,
+    NewShared,
+    InternShared,
 }
 
 impl Interning {
@@ -32,6 +36,8 @@ impl Interning {
             Interning::InternArc => "Interner::intern_arc: a clone of the text, count 2, then 1",
             Interning::InternSubstr =>
                 "Interner::intern_substr: a copy of the slice, count 1, the text stands",
+            Interning::NewShared => "SharedInterner::new: an empty interner",
+            Interning::InternShared => "SharedInterner::intern: a copy of the word, count 1",
         }
     }
 
@@ -41,6 +47,8 @@ impl Interning {
             Interning::Intern => intern(meter, alloc),
             Interning::InternArc => intern_arc(rt, meter, alloc),
             Interning::InternSubstr => intern_substr(rt, meter, alloc),
+            Interning::NewShared => new_shared(rt, meter, alloc),
+            Interning::InternShared => intern_shared(rt, meter, alloc),
         }
     }
 }
@@ -113,6 +121,55 @@ fn intern_substr(rt: &impl Wait, meter: Meter, alloc: Global) -> Result<(), Stop
         check_count(&text, 2)?;
     }
     Err(Stop::Refused)
+}
+
+fn new_shared(rt: &impl Wait, meter: Meter, alloc: Global) -> Result<(), Stop> {
+    meter.begin();
+    let made = SharedInterner::new(alloc, 2);
+    meter.end();
+    let interner = made?;
+    check(Part::Length, interner.is_empty(rt))?;
+    meter.drop_counted(interner);
+    Ok(())
+}
+
+fn intern_shared(rt: &impl Wait, meter: Meter, alloc: Global) -> Result<(), Stop> {
+    let interner = SharedInterner::new(alloc, 2)?;
+    for _ in 0..TRIES {
+        meter.begin();
+        let interned = interner.intern(rt, "foobar");
+        meter.end();
+        match interned {
+            Ok(symbol) => {
+                check_shared(rt, &interner, symbol)?;
+                meter.drop_counted(interner);
+                return Ok(());
+            }
+            Err(fault) => {
+                check(Part::Fault, fault == InternFault::Memory)?;
+                check(Part::Length, interner.is_empty(rt))?;
+                check(Part::Text, interner.get(rt, "foobar").is_none())?;
+            }
+        }
+    }
+    Err(Stop::Refused)
+}
+
+/// Compares the one text of a shared interner, and its number, with the word in a block of one handle.
+fn check_shared(
+    rt: &impl Wait,
+    interner: &SharedInterner,
+    symbol: SharedSymbol,
+) -> Result<(), Stop> {
+    check(Part::Length, interner.len(rt) == 1)?;
+    let found = interner
+        .get(rt, "foobar")
+        .ok_or(Stop::Differs(Part::Order))?;
+    check(Part::Order, found.number() == symbol.number())?;
+    let there = interner
+        .symbol_at(symbol.number())
+        .ok_or(Stop::Differs(Part::Text))?;
+    check_text(interner.text(&there), "foobar", 1)
 }
 
 /// Compares the one text of an interner, and its symbol, with this text in a block of so many handles.

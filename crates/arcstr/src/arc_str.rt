@@ -21,10 +21,6 @@ mod parts;
 mod printing;
 mod slices;
 mod splitting;
-#[cfg(test)]
-mod tests;
-#[cfg(test)]
-mod thread_tests;
 
 /// A reference-counted immutable text that threads share. It is `Send` and `Sync`, and its size is 24 bytes. In a contract it has a text and a kind: a
 /// literal, a handle to a counted block, or a permanent block.

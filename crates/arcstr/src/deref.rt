@@ -7,9 +7,6 @@ use crate::static_str::StaticStr;
 use crate::substr::Substr;
 use std::ops::DerefStr;
 
-#[cfg(test)]
-mod tests;
-
 impl DerefStr for ArcStr {
     ghost deref_gives = { λ shared bytes. bytes ≡ shared.text };
 

@@ -6,9 +6,6 @@ ghost use Rattle.arcstr.specs.Substr.{whole_of};
 use crate::arc_str::ArcStr;
 use crate::substr::Substr;
 
-#[cfg(test)]
-mod tests;
-
 impl From<&'static str> for ArcStr {
     ghost from_gives = { λ text shared. shared ≡ literal_of text.now };
 

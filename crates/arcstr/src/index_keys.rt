@@ -11,9 +11,6 @@ use crate::substr::Substr;
 use crate::text_order::is_same;
 use indexmap::Equivalent;
 
-#[cfg(test)]
-mod tests;
-
 impl Equivalent<ArcStr> for &str {
     ghost equivalent = { λ word key. bytes_eq word.now key.text };
 

@@ -5,8 +5,6 @@ use std::error::Error;
 use std::fmt;
 
 mod from_memory;
-#[cfg(test)]
-mod tests;
 
 /// Why a JSON value cannot be read as a text. The variants are in the order of the tests. It can be copied, sent to a thread and shared between threads. Its
 /// size is one byte, and its drop does nothing.

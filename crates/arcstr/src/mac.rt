@@ -1,8 +1,5 @@
 //! The macros of the crate.
 
-#[cfg(test)]
-mod tests;
-
 /// Creates a literal `ArcStr` from any `&'static str`. Allocates nothing and takes no atomic step.
 ///
 /// ```

@@ -15,9 +15,6 @@ use std::cmp::Ordering;
 use std::collections::btree_map::Comparable;
 use std::collections::hash_map::Equivalent;
 
-#[cfg(test)]
-mod tests;
-
 impl Equivalent<ArcStr> for &str {
     ghost equivalent = { λ word key. bytes_eq word.now key.text };
 

@@ -13,9 +13,6 @@ use serde::{
 };
 use std::alloc::Global;
 
-#[cfg(test)]
-mod tests;
-
 impl Described for ArcStr {
     ghost writes = { λ shared old new. Logs old new (text shared.text) };
 }

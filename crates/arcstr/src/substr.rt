@@ -23,10 +23,6 @@ mod parts;
 mod printing;
 mod slices;
 mod splitting;
-#[cfg(test)]
-mod tests;
-#[cfg(test)]
-mod thread_tests;
 
 /// A slice of a shared text. It keeps its parent, and so the parent's text, alive. In a contract it has the parent and two byte offsets in the parent's text,
 /// which are in order, at most the parent's length, and at character boundaries.

@@ -146,6 +146,3 @@ impl From<RangeToInclusive<usize>> for StrRange {
         StrRange::ToInclusive(range.end)
     }
 }
-
-#[cfg(test)]
-mod tests;

@@ -217,5 +217,3 @@ impl<'a> StrView<'a> {
 }
 
 mod parts;
-#[cfg(test)]
-mod tests;

@@ -18,10 +18,11 @@ pub(crate) enum Family {
     Kept,
     Scripts,
     Parts,
+    Interner,
 }
 
 /// The name of each figure, with its family.
-const FIGURES: [(&str, Family); 37] = [
+const FIGURES: [(&str, Family); 41] = [
     ("clone_drop", Family::Clones),
     ("clone_drop_bare", Family::Clones),
     ("clone_drop_slice", Family::Clones),
@@ -59,6 +60,10 @@ const FIGURES: [(&str, Family); 37] = [
     ("split", Family::Parts),
     ("split_of_str", Family::Parts),
     ("look_up", Family::Parts),
+    ("intern", Family::Interner),
+    ("intern_get", Family::Interner),
+    ("intern_resolve", Family::Interner),
+    ("intern_shared", Family::Interner),
 ];
 
 /// Returns the family of the figure with this name.

@@ -1,8 +1,8 @@
-//! Times the calls of `arcstr` and `arctokens` and the scripts of `arcbench`, one figure after another.
+//! Times the calls of `arcstr`, `arctokens` and `arcintern` and the scripts of `arcbench`, one figure after another.
 //!
 //! `arctimes FIGURE N ROUNDS THREADS SIZE AT COUNT` times one figure, and prints a line for each round: `FIGURE THREADS SIZE NANOSECONDS N SUM`. Arguments
-//! that are left out have the values of `Request::of`. Figures of words read their texts from standard input, separated by a byte 1. `docs/SPEED.md`
-//! describes each figure.
+//! that are left out have the values of `Request::of`. Figures of words and of an interner read their texts from standard input, separated by a
+//! byte 1. `docs/SPEED.md` describes each figure.
 //!
 //! Without arguments, it does a short round of each figure. Standard output then has the name and SUM of each, which are the same in every run, and standard
 //! error has the table of times.
@@ -11,6 +11,7 @@
 mod clones;
 mod comparisons;
 mod families;
+mod interner;
 mod json;
 mod kept;
 mod looks;
@@ -54,5 +55,6 @@ fn run<M: Machine>(rt: &M, request: &Request) -> Result<()> {
         Family::Kept => kept::run(rt, request),
         Family::Scripts => scripts::run(rt, request),
         Family::Parts => parts::run(rt, request),
+        Family::Interner => interner::run(rt, request),
     }
 }

@@ -6,7 +6,7 @@ use crate::run as run_figure;
 use anyhow::Result;
 
 /// The figures with a text of 64 bytes, or with none.
-const USUAL: [&str; 26] = [
+const USUAL: [&str; 30] = [
     "clone_drop",
     "clone_drop_bare",
     "clone_drop_slice",
@@ -33,6 +33,10 @@ const USUAL: [&str; 26] = [
     "lines_of_str",
     "split",
     "split_of_str",
+    "intern",
+    "intern_get",
+    "intern_resolve",
+    "intern_shared",
 ];
 
 /// The figures of slices of a long text.

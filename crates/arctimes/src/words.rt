@@ -97,11 +97,16 @@ fn count_all<M: Machine>(rt: &M, request: &Request, texts: &[ArcStr]) -> Result<
     Ok(sum)
 }
 
-fn texts_of<M: Machine>(rt: &M, request: &Request) -> Result<Vec<ArcStr>> {
-    let input = match request.form {
+/// Returns the texts that the request reads, with a byte 1 between two.
+pub(crate) fn input<M: Machine>(rt: &M, request: &Request) -> Result<String> {
+    Ok(match request.form {
         Form::Lines => io::read_to_string(rt.alloc(), rt.reader())?,
         Form::Table => String::from_str(rt.alloc(), FEW_WORDS)?,
-    };
+    })
+}
+
+fn texts_of<M: Machine>(rt: &M, request: &Request) -> Result<Vec<ArcStr>> {
+    let input = input(rt, request)?;
     let mut texts = Vec::new(rt.alloc());
     for text in input.as_str().split('\u{1}') {
         texts.push(ArcStr::from_str(rt.alloc(), text)?)?;

@@ -140,7 +140,7 @@ impl<S: BuildHasher> Interner<S> {
 }
 
 /// A copy of the word.
-fn copied(alloc: Global, word: &str) -> Result<ArcStr, InternFault>
+pub(crate) fn copied(alloc: Global, word: &str) -> Result<ArcStr, InternFault>
     ensures made { IfOk result (λ text. text ≡ made_of word.now) }
     ensures too_long { IsErrOf result InternFault.Length ↔ IsTooLong (length word.now) }
     ensures never_full { IfErr result (λ fault. ¬ (fault ≡ InternFault.Full)) }
@@ -153,7 +153,7 @@ fn copied(alloc: Global, word: &str) -> Result<ArcStr, InternFault>
 }
 
 /// Whether the slice is all of its parent.
-fn is_whole(slice: &Substr) -> bool
+pub(crate) fn is_whole(slice: &Substr) -> bool
     ensures whole { IsTrue result ↔ IsWhole slice.now }
     ensures text { IsWhole slice.now → text_of slice.now ≡ slice.now.parent.text }
 {

@@ -6,9 +6,6 @@ ghost use Rattle.arcstr.specs.TextView.{IsStatic};
 use crate::arc_str::{ArcStr, Form};
 use std::alloc::AllocError;
 
-#[cfg(test)]
-mod tests;
-
 /// The number of compare-exchanges that a clone tries if it must not wait.
 const TRIES: u32 = 1_000;
 

@@ -7,9 +7,6 @@ use crate::arc_str::{ArcStr, Form};
 use std::alloc::Global;
 use std::borrow::CowStr;
 
-#[cfg(test)]
-mod tests;
-
 impl ArcStr {
     /// Returns the text, borrowed from this handle.
     ///

@@ -7,9 +7,6 @@ use arcstr_block::{Shared, TextFault, joined_len};
 use std::alloc::Global;
 use std::convert::AsStr;
 
-#[cfg(test)]
-mod tests;
-
 impl ArcStr {
     /// Joins the texts in order, with the separator between them, as std's `[S]::join` does. `S` is `&str`, `String`, `ArcStr`, `Substr` or another type with
     /// `AsStr`. The toolchain's borrow checker does not cover a list of `&ArcStr`: collect the `as_str` of each instead. Makes one allocation. An empty

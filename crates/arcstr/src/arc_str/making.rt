@@ -9,11 +9,6 @@ use super::ArcStr;
 use arcstr_block::{Shared, TextFault};
 use std::alloc::Global;
 
-#[cfg(test)]
-mod tests;
-#[cfg(test)]
-mod utf8_tests;
-
 impl ArcStr {
     /// Copies a `&str` into a new `ArcStr`. Makes one allocation, or none if the text is empty.
     ///

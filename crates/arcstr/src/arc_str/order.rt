@@ -13,9 +13,6 @@ use crate::text_order::{compare, is_same};
 use std::cmp::Ordering;
 use std::hash::{Hash, Hasher};
 
-#[cfg(test)]
-mod tests;
-
 impl ArcStr {
     /// Tests whether the text equals a `&str`, byte by byte.
     ///

@@ -89,6 +89,3 @@ impl ArcStr {
         Substr::from_parts_unchecked(self.clone(rt), range)
     }
 }
-
-#[cfg(test)]
-mod tests;

@@ -6,9 +6,6 @@ use crate::arc_str::ArcStr;
 use std::alloc::{AllocError, Global};
 use std::fmt;
 
-#[cfg(test)]
-mod tests;
-
 impl ArcStr {
     /// Copies the text into a `String`. Makes one allocation, or none if the text is empty. Fails only if the allocation fails.
     ///

@@ -144,6 +144,3 @@ impl ArcStr {
         self.substr_using(rt, find)
     }
 }
-
-#[cfg(test)]
-mod tests;

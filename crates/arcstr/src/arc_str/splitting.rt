@@ -161,6 +161,3 @@ impl ArcStr {
         self.clone_between(rt, suffix_places(self.as_str(), suffix))
     }
 }
-
-#[cfg(test)]
-mod tests;

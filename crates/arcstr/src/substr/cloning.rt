@@ -5,9 +5,6 @@ ghost use Rattle.arcstr.specs.TextView.{IsStatic};
 use crate::substr::Substr;
 use std::alloc::AllocError;
 
-#[cfg(test)]
-mod tests;
-
 impl Clone for Substr {
     ghost is_clone = { λ slice copy. copy ≡ slice };
 

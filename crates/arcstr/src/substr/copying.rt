@@ -7,9 +7,6 @@ use crate::substr::Substr;
 use arcstr_block::TextFault;
 use std::alloc::Global;
 
-#[cfg(test)]
-mod tests;
-
 impl Substr {
     /// Copies the slice's own text into a new `ArcStr`. Makes one allocation, or none if the text is empty. Fails as `ArcStr::from_str` does. The copy does
     /// not keep the parent alive: after a copy of a short slice, the long parent can be freed.

@@ -9,9 +9,6 @@ use crate::substr::Substr;
 use std::alloc::Global;
 use std::borrow::CowStr;
 
-#[cfg(test)]
-mod tests;
-
 impl Substr {
     /// Returns the slice's own text, borrowed from this slice.
     ///

@@ -14,9 +14,6 @@ use crate::text_order::{compare, is_same};
 use std::cmp::Ordering;
 use std::hash::{Hash, Hasher};
 
-#[cfg(test)]
-mod tests;
-
 impl Substr {
     /// Tests whether the slice's own text equals a `&str`, byte by byte.
     ///

@@ -76,6 +76,3 @@ impl Substr {
         self.clone_between(rt, without_trailing(self.as_str()))
     }
 }
-
-#[cfg(test)]
-mod tests;

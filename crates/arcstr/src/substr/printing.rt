@@ -7,9 +7,6 @@ use crate::substr::Substr;
 use std::alloc::{AllocError, Global};
 use std::fmt;
 
-#[cfg(test)]
-mod tests;
-
 impl Substr {
     /// Copies the slice's own text into a `String`. Makes one allocation, or none if the text is empty. Fails only if the allocation fails (`AllocError`).
     ///

@@ -159,6 +159,3 @@ impl Substr {
         self.substr_using(rt, find)
     }
 }
-
-#[cfg(test)]
-mod tests;

@@ -178,6 +178,3 @@ impl Substr {
         Substr::from_parts_unchecked(self.parent().clone(rt), places)
     }
 }
-
-#[cfg(test)]
-mod tests;

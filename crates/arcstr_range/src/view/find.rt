@@ -26,6 +26,3 @@ impl<'a> StrView<'a> {
         self.text.find(pattern)
     }
 }
-
-#[cfg(test)]
-mod tests;

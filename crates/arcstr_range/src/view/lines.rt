@@ -119,6 +119,3 @@ fn without_return(line: &str) -> &str
         line
     }
 }
-
-#[cfg(test)]
-mod tests;

@@ -155,6 +155,3 @@ impl<'a> StrView<'a> {
         }
     }
 }
-
-#[cfg(test)]
-mod tests;

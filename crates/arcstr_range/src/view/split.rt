@@ -100,6 +100,3 @@ fn first_place(view: &StrView<'_>, separator: char) -> Option<usize>
 {
     view.text().find(separator)
 }
-
-#[cfg(test)]
-mod tests;

@@ -87,6 +87,3 @@ fn first_word(view: &StrView<'_>) -> Option<Range<usize>>
     let start = text.len() - text.trim_start().len();
     Some(start..start + word.len())
 }
-
-#[cfg(test)]
-mod tests;

@@ -1,0 +1,205 @@
+//! `SharedInterner`: each distinct text once, for threads.
+//!
+//! Each call with a handle `rt` can wait: for a thread that is adding a text to the same shard.
+ghost use Rattle.std.specs.Prelude.{◌≡◌, ◌≤◌, IfErr, IfOk, IfSome, length};
+ghost use Rattle.arcintern.specs.Shared.{IsSymbolOf};
+
+use crate::fault::InternFault;
+use crate::shared_interner::numbers::Numbers;
+use crate::shared_interner::text_list::TextList;
+use crate::symbol::Symbol;
+use arcstr::ArcStr;
+use std::alloc::Global;
+use std::hash::{BuildHasher, BuildHasherDefault, FoldHasher};
+use std::marker::Model;
+use std::sync::{RwLock, Wait};
+
+mod interning;
+mod numbers;
+mod shared_symbol;
+#[cfg(test)]
+mod tests;
+mod text_list;
+
+pub use shared_symbol::SharedSymbol;
+
+/// Keeps each distinct text once, as an `ArcStr`, for any number of threads.
+///
+/// The hash of a word picks one of 1 to 64 shards. A shard has a lock, under which it finds the numbers of its texts. Calls for words
+/// that are there share the lock. The texts themselves lie in one list that only grows, and are read without a lock. So a symbol stands
+/// for one text as long as the interner lives, whatever other threads do.
+///
+/// The default hasher has a fixed seed. Where an attacker picks the texts, make the interner by `with_hasher`.
+///
+/// ```
+/// let interner = SharedInterner::new(rt.alloc(), 8)?;
+/// let symbol = interner.intern(&rt, "foo")?;
+/// assert_eq!(rt; interner.text(&symbol).as_str(), "foo");
+/// assert!(rt; interner.intern(&rt, "foo")?.number() == symbol.number());
+/// ```
+#[derive(Drop)]
+pub struct SharedInterner<S: BuildHasher = BuildHasherDefault<FoldHasher>> {
+    shards: Vec<RwLock<Numbers>>,
+    texts: TextList,
+    alloc: Global,
+    hash_builder: S,
+}
+
+impl<S: BuildHasher> Model for SharedInterner<S> {
+    ghost use Rattle.std.specs.Prelude.{List, ◌≤◌, length};
+    ghost use Rattle.std.specs.Coded.{coded_list};
+    ghost use Rattle.boxcar.specs.Slot.{Named, named_coded};
+
+    ghost Value = { List Named };
+
+    ghost coded = { coded_list named_coded };
+
+    ghost view = { λ interner. interner.texts };
+
+    ghost invariant = { λ interner. (1 ≤ length interner.shards.items) × (length interner.shards.items ≤ 64) };
+}
+
+impl SharedInterner<BuildHasherDefault<FoldHasher>> {
+    /// An interner without texts. The caller must ensure that there are 1 to 64 shards. A power of two is best, as many as threads or
+    /// more. `Memory` is the only fault.
+    ///
+    /// ```
+    /// let interner = SharedInterner::new(rt.alloc(), 1)?;
+    /// assert!(rt; interner.is_empty(&rt));
+    /// ```
+    pub fn new(alloc: Global, shards: usize) -> Result<SharedInterner, InternFault>
+        requires { (1 ≤ shards) × (shards ≤ 64) }
+        ensures { IfErr result (λ fault. fault ≡ InternFault.Memory) }
+    {
+        SharedInterner::with_hasher(alloc, shards, BuildHasherDefault::new())
+    }
+}
+
+impl<S: BuildHasher + Drop> SharedInterner<S> {
+    /// An interner without texts, which hashes by `hash_builder`, and is as `new` makes it.
+    ///
+    /// ```
+    /// let interner = SharedInterner::with_hasher(rt.alloc(), 8, RandomState::new(&rt)?)?;
+    /// let symbol = interner.intern(&rt, "foo")?;
+    /// assert!(rt; interner.text(&symbol).eq_str("foo"));
+    /// ```
+    pub fn with_hasher(
+        alloc: Global,
+        shards: usize,
+        hash_builder: S,
+    ) -> Result<SharedInterner<S>, InternFault>
+        requires { (1 ≤ shards) × (shards ≤ 64) }
+        ensures { IfErr result (λ fault. fault ≡ InternFault.Memory) }
+    {
+        let texts = TextList::new(alloc)?;
+        let shards = empty_shards(alloc, shards)?;
+        Ok(SharedInterner {
+            shards,
+            texts,
+            alloc,
+            hash_builder,
+        })
+    }
+}
+
+impl<S: BuildHasher> SharedInterner<S> {
+    /// The text of a symbol, which is one of this interner. It takes no lock, and never waits.
+    ///
+    /// ```
+    /// let interner = SharedInterner::new(rt.alloc(), 8)?;
+    /// let symbol = interner.intern(&rt, "foo")?;
+    /// assert!(rt; interner.text(&symbol).eq_str("foo"));
+    /// ```
+    pub fn text<'a>(&'a self, symbol: &SharedSymbol) -> &'a ArcStr
+        requires { IsSymbolOf self.now symbol.now }
+        ensures { result.now ≡ symbol.now.text }
+    {
+        self.texts.text(symbol)
+    }
+
+    /// Two symbols of this interner with one number have one text. It does nothing when it runs.
+    ///
+    /// ```
+    /// let interner = SharedInterner::new(rt.alloc(), 8)?;
+    /// let symbol = interner.intern(&rt, "foo")?;
+    /// interner.agrees(&symbol, &symbol.again());
+    /// ```
+    pub fn agrees(&self, one: &SharedSymbol, other: &SharedSymbol)
+        requires one { IsSymbolOf self.now one.now }
+        requires other { IsSymbolOf self.now other.now }
+        requires same { one.now.number ≡ other.now.number }
+        ensures { one.now.text ≡ other.now.text }
+    {
+        self.texts.agrees(one, other);
+    }
+
+    /// The symbol of a number. `None` where no text has the number: it is another interner's. It takes no lock, and never waits.
+    ///
+    /// ```
+    /// let interner = SharedInterner::new(rt.alloc(), 8)?;
+    /// let number = interner.intern(&rt, "foo")?.number();
+    /// assert!(rt; interner.symbol_at(number).is_some());
+    /// let other = SharedInterner::new(rt.alloc(), 8)?;
+    /// assert!(rt; other.symbol_at(number).is_none());
+    /// ```
+    pub fn symbol_at(&self, number: Symbol) -> Option<SharedSymbol>
+        ensures of { IfSome result (λ symbol. IsSymbolOf self.now symbol) }
+        ensures number { IfSome result (λ symbol. symbol.number ≡ number) }
+    {
+        self.texts.at(number)
+    }
+
+    /// A clone of the text of a number. `None` where no text has the number. That takes the steps of `ArcStr::clone`.
+    ///
+    /// ```
+    /// let interner = SharedInterner::new(rt.alloc(), 8)?;
+    /// let number = interner.intern(&rt, "foo")?.number();
+    /// let text = interner.resolve(&rt, number);
+    /// assert!(rt; text.is_some_and(|text| text.eq_str("foo")));
+    /// ```
+    pub fn resolve(&self, rt: &impl Wait, number: Symbol) -> Option<ArcStr> {
+        let symbol = self.symbol_at(number)?;
+        Some(self.text(&symbol).clone(rt))
+    }
+
+    /// The number of texts. Where other threads add texts at once, some of these may be missing.
+    ///
+    /// ```
+    /// let interner = SharedInterner::new(rt.alloc(), 8)?;
+    /// interner.intern(&rt, "foo")?;
+    /// interner.intern(&rt, "foo")?;
+    /// assert_eq!(rt; interner.len(&rt), 1);
+    /// ```
+    pub fn len(&self, rt: &impl Wait) -> usize {
+        let mut len: usize = 0;
+        for shard in &self.shards {
+            len = len.saturating_add(shard.read(rt).len());
+        }
+        len
+    }
+
+    /// Whether there are no texts.
+    ///
+    /// ```
+    /// let interner = SharedInterner::new(rt.alloc(), 8)?;
+    /// interner.intern(&rt, "")?;
+    /// assert!(rt; !interner.is_empty(&rt));
+    /// ```
+    pub fn is_empty(&self, rt: &impl Wait) -> bool {
+        self.len(rt) == 0
+    }
+}
+
+/// Shards without texts.
+fn empty_shards(alloc: Global, shards: usize) -> Result<Vec<RwLock<Numbers>>, InternFault>
+    ensures len { IfOk result (λ made. length made.items ≡ shards) }
+    ensures fault { IfErr result (λ fault. fault ≡ InternFault.Memory) }
+{
+    let mut made = Vec::with_capacity(alloc, shards)?;
+    let mut count = 0;
+    while count < shards {
+        made.push_reserved(RwLock::new(Numbers::new(alloc)));
+        count += 1;
+    }
+    Ok(made)
+}

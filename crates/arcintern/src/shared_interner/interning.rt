@@ -1,0 +1,168 @@
+//! The calls that intern a text, and that find one by its word.
+ghost use Rattle.std.specs.Prelude.{◌≡◌, ◌+◌, ◌*◌, ◌<◌, ◌≤◌, IfErr, IfOk, IfSome, IsErrOf, IsNone, length};
+ghost use Rattle.arcstr.specs.Making.{IsTooLong};
+ghost use Rattle.arcstr.specs.Substr.{text_of};
+ghost use Rattle.arcintern.specs.Shared.{IsSymbolOfWord};
+ghost use Rattle.arcintern.specs.Texts.{IsWhole};
+
+use crate::fault::InternFault;
+use crate::interner::{MOST_TEXTS, copied, is_whole};
+use crate::shared_interner::SharedInterner;
+use crate::shared_interner::shared_symbol::SharedSymbol;
+use crate::symbol::Symbol;
+use arcstr::{ArcStr, Substr};
+use std::alloc::Global;
+use std::hash::BuildHasher;
+use std::sync::Wait;
+
+impl<S: BuildHasher> SharedInterner<S> {
+    /// The symbol of the text that spells this word. If there is none, a copy of the word becomes a text: that allocates the copy, which
+    /// an empty word does not need, and room where a table or the list is full. A word that is there is never refused. Another one is
+    /// refused, in this order: where its shard has no number left (`Full`), if it has `2^63 - 25` bytes or more (`Length`), and out of
+    /// memory (`Memory`). A refused call adds no text.
+    ///
+    /// ```
+    /// let interner = SharedInterner::new(rt.alloc(), 8)?;
+    /// let symbol = interner.intern(&rt, "foo")?;
+    /// assert!(rt; interner.intern(&rt, "foo")?.number() == symbol.number());
+    /// assert!(rt; interner.intern(&rt, "bar")?.number() != symbol.number());
+    /// ```
+    pub fn intern(&self, rt: &impl Wait, word: &str) -> Result<SharedSymbol, InternFault>
+        ensures word { IfOk result (λ symbol. IsSymbolOfWord self.now symbol word.now) }
+        ensures too_long { IsErrOf result InternFault.Length → IsTooLong (length word.now) }
+    {
+        self.interned(rt, word, None)
+    }
+
+    /// The symbol of the text that spells the same as this one. If there is none, a clone of this text becomes a text: that takes the
+    /// steps of `ArcStr::clone`, and allocates where a table or the list is full. Refused as `intern` is, but never for its length.
+    ///
+    /// ```
+    /// let interner = SharedInterner::new(rt.alloc(), 8)?;
+    /// let text = ArcStr::from_str(rt.alloc(), "foo")?;
+    /// let symbol = interner.intern_arc(&rt, &text)?;
+    /// assert!(rt; interner.text(&symbol).eq_str("foo"));
+    /// assert_eq!(rt; ArcStr::strong_count(&text), Some(2));
+    /// ```
+    pub fn intern_arc(&self, rt: &impl Wait, text: &ArcStr) -> Result<SharedSymbol, InternFault>
+        ensures word { IfOk result (λ symbol. IsSymbolOfWord self.now symbol text.now.text) }
+        ensures never_too_long { ¬ (IsErrOf result InternFault.Length) }
+    {
+        self.interned(rt, text.as_str(), Some(text))
+    }
+
+    /// The symbol of the text that spells the same as this slice. If there is none, a clone of the slice's parent becomes a text where
+    /// the slice is all of it, as by `intern_arc`, and else a copy of the slice, as by `intern`. So a slice keeps no longer text alive.
+    /// Refused as these two are.
+    ///
+    /// ```
+    /// let interner = SharedInterner::new(rt.alloc(), 8)?;
+    /// let text = ArcStr::from_str(rt.alloc(), "foobar")?;
+    /// let symbol = interner.intern_substr(&rt, &text.substr(&rt, 3..)?)?;
+    /// assert!(rt; interner.text(&symbol).eq_str("bar"));
+    /// assert_eq!(rt; ArcStr::strong_count(&text), Some(1));
+    /// ```
+    pub fn intern_substr(&self, rt: &impl Wait, slice: &Substr) -> Result<SharedSymbol, InternFault>
+        ensures word { IfOk result (λ symbol. IsSymbolOfWord self.now symbol (text_of slice.now)) }
+        ensures too_long { IsErrOf result InternFault.Length → IsTooLong (length (text_of slice.now)) }
+        ensures never_too_long_whole { IsWhole slice.now → ¬ (IsErrOf result InternFault.Length) }
+    {
+        if is_whole(slice) {
+            self.intern_arc(rt, slice.parent())
+        } else {
+            self.intern(rt, slice.as_str())
+        }
+    }
+
+    /// The symbol of the text that spells this word. `None` where there was none when the call took the lock. It does not allocate.
+    ///
+    /// ```
+    /// let interner = SharedInterner::new(rt.alloc(), 8)?;
+    /// let symbol = interner.intern(&rt, "foo")?;
+    /// let found = interner.get(&rt, "foo");
+    /// assert!(rt; found.is_some_and(|found| found.number() == symbol.number()));
+    /// assert!(rt; interner.get(&rt, "fo").is_none());
+    /// ```
+    pub fn get(&self, rt: &impl Wait, word: &str) -> Option<SharedSymbol>
+        ensures { IfSome result (λ symbol. IsSymbolOfWord self.now symbol word.now) }
+    {
+        let hash = self.hash_builder.hash_one(word);
+        let shard = shard_of(hash, self.shards.len());
+        let numbers = self.shards[shard].read(rt);
+        match numbers.find(&self.texts, hash, word) {
+            Ok(symbol) => Some(symbol),
+            Err(_) => None,
+        }
+    }
+
+    /// The symbol of the word. If there is none, the text becomes `whole` or, without one, a copy of the word.
+    fn interned(
+        &self,
+        rt: &impl Wait,
+        word: &str,
+        whole: Option<&ArcStr>,
+    ) -> Result<SharedSymbol, InternFault>
+        requires { IfSome whole (λ text. text.now.text ≡ word.now) }
+        ensures word { IfOk result (λ symbol. IsSymbolOfWord self.now symbol word.now) }
+        ensures too_long { IsErrOf result InternFault.Length → IsNone whole.entry × IsTooLong (length word.now) }
+    {
+        if let Some(symbol) = self.get(rt, word) {
+            return Ok(symbol);
+        }
+        let hash = self.hash_builder.hash_one(word);
+        let shard = shard_of(hash, self.shards.len());
+        let mut guard = self.shards[shard].write(rt);
+        let numbers = &mut *guard;
+        match numbers.find(&self.texts, hash, word) {
+            Ok(symbol) => Ok(symbol),
+            Err(Some(key)) => {
+                let number = number_of(numbers.len(), self.shards.len(), shard)?;
+                let text = made(rt, self.alloc, word, whole)?;
+                numbers.add(rt, &self.texts, key, number, text)
+            }
+            Err(None) => Err(InternFault::Full),
+        }
+    }
+}
+
+/// The shard of the words with this hash.
+fn shard_of(hash: u64, shards: usize) -> usize
+    requires { 1 ≤ shards }
+    ensures { result < shards }
+{
+    (hash % shards as u64) as usize
+}
+
+/// The number of a shard's text at this index. The shard is the remainder of the number by the number of shards.
+fn number_of(index: usize, shards: usize, shard: usize) -> Result<Symbol, InternFault>
+    requires shard { shard < shards }
+    requires shards { shards ≤ 64 }
+    ensures number { IfOk result (λ number. number ≡ index * shards + shard) }
+    ensures full { IfErr result (λ fault. (fault ≡ InternFault.Full) × (MOST_TEXTS ≤ index * shards + shard)) }
+{
+    if index >= MOST_TEXTS {
+        return Err(InternFault::Full);
+    }
+    let number = index * shards + shard;
+    if number >= MOST_TEXTS {
+        return Err(InternFault::Full);
+    }
+    Ok(Symbol::at(number))
+}
+
+/// A clone of `whole` or, without one, a copy of the word.
+fn made(
+    rt: &impl Wait,
+    alloc: Global,
+    word: &str,
+    whole: Option<&ArcStr>,
+) -> Result<ArcStr, InternFault>
+    requires { IfSome whole (λ text. text.now.text ≡ word.now) }
+    ensures text { IfOk result (λ text. text.text ≡ word.now) }
+    ensures too_long { IsErrOf result InternFault.Length → IsNone whole.entry × IsTooLong (length word.now) }
+{
+    match whole {
+        Some(text) => Ok(text.clone(rt)),
+        None => copied(alloc, word),
+    }
+}

@@ -1,0 +1,50 @@
+//! The trait `Clone` of texts: derived, in a `Vec` and in generic code.
+use crate::test_steps::{check_count, check_text, made};
+use arcstr::{ArcStr, literal};
+use std::alloc::AllocError;
+
+#[derive(Drop, Clone)]
+struct Line {
+    number: u32,
+    text: ArcStr,
+}
+
+/// Clones the value by the trait `Clone`.
+fn cloned<T: Clone>(value: &T) -> Result<T, AllocError> {
+    value.clone()
+}
+
+#[test]
+fn a_derived_clone_is_another_handle(rt: HostRuntime) {
+    let line = Line {
+        number: 7,
+        text: made(&rt, "foo"),
+    };
+    let copy = line.clone().expect(&rt, "changed");
+    check_text(&rt, copy.text.as_str(), "foo");
+    assert_eq!(rt; copy.number, 7);
+    check_count(&rt, &line.text, Some(2));
+    drop(copy);
+    check_count(&rt, &line.text, Some(1));
+}
+
+#[test]
+fn a_vec_of_texts_is_cloned(rt: HostRuntime) {
+    let text = made(&rt, "foo");
+    let mut texts = Vec::new(rt.alloc());
+    texts.push(text.clone(&rt)).expect(&rt, "no memory");
+    texts.push(literal!("bar")).expect(&rt, "no memory");
+    let copies = texts.clone().expect(&rt, "no memory");
+    assert!(rt; copies == texts);
+    check_count(&rt, &text, Some(3));
+}
+
+#[test]
+fn a_leaked_text_is_cloned_by_generic_code(rt: HostRuntime) {
+    let text = made(&rt, "foo");
+    check_count(&rt, &cloned(&text).expect(&rt, "changed"), Some(2));
+    text.leak();
+    let copy = cloned(&text).expect(&rt, "changed");
+    check_text(&rt, copy.as_str(), "foo");
+    assert!(rt; ArcStr::is_static(&copy));
+}

@@ -1,0 +1,103 @@
+//! Generic calls that take a text, bytes or a fault by a trait, with the types of this crate.
+use crate::test_steps::{check_bytes, check_count, check_part, check_text, made, part};
+use arcstr::{ArcStr, JsonFault, StrRange, TextFault, literal};
+use serde_json::Value;
+use std::alloc::{AllocFailed, AllocGlobal, Global};
+use std::convert::{AsSlice, AsStr};
+use std::io;
+use std::process::Abort;
+use std::sync::Wait;
+
+/// Asserts the text and the bytes that the value lends.
+fn check_lent<T: AsStr + AsSlice<u8>>(rt: &impl Abort, value: &T, wanted: &str) {
+    check_text(rt, AsStr::as_str(value), wanted);
+    check_bytes(rt, AsSlice::as_slice(value), wanted.as_bytes());
+}
+
+#[test]
+fn a_text_lends_its_text(rt: HostRuntime) {
+    let text = made(&rt, "foobar");
+    check_lent(&rt, &text, "foobar");
+    check_count(&rt, &text, Some(1));
+}
+
+#[test]
+fn a_static_text_lends_its_text(rt: HostRuntime) {
+    check_lent(&rt, &made(&rt, "foobar").leak(), "foobar");
+}
+
+#[test]
+fn a_slice_lends_its_own_text(rt: HostRuntime) {
+    let slice = part(&rt, &made(&rt, "foobar"), 3..);
+    check_lent(&rt, &slice, "bar");
+    check_count(&rt, slice.parent(), Some(1));
+}
+
+/// Returns a list of the two texts. Both the list and the texts allocate.
+fn listed(alloc: Global, one: &str, other: &str) -> Result<Vec<ArcStr>, TextFault> {
+    let mut texts = Vec::with_capacity(alloc, 1)?;
+    texts.push(ArcStr::from_str(alloc, one)?)?;
+    texts.push(ArcStr::from_str(alloc, other)?)?;
+    Ok(texts)
+}
+
+#[test]
+fn a_list_and_its_texts_have_one_fault(rt: HostRuntime) {
+    let texts = listed(rt.alloc(), "foo", "bar").expect(&rt, "no memory");
+    let last = texts.last().expect(&rt, "no text");
+    check_text(&rt, last.as_str(), "bar");
+}
+
+/// Returns a list with the text of a JSON value. Both the list and the text allocate.
+fn read(alloc: Global, value: &Value) -> Result<Vec<ArcStr>, JsonFault> {
+    let mut texts = Vec::with_capacity(alloc, 1)?;
+    texts.push(ArcStr::from_json(alloc, value)?)?;
+    Ok(texts)
+}
+
+#[test]
+fn a_list_and_its_json_text_have_one_fault(rt: HostRuntime) {
+    let texts = read(rt.alloc(), &json_text(&rt)).expect(&rt, "no memory");
+    check_text(&rt, texts.last().expect(&rt, "no text").as_str(), "foo");
+    assert!(rt; read(rt.alloc(), &Value::Null).is_err_and(|fault| fault == JsonFault::NotText));
+}
+
+/// The JSON string `foo`.
+fn json_text(rt: &(impl Abort + AllocGlobal)) -> Value {
+    Value::try_from_str(rt.alloc(), "foo").expect(rt, "no memory")
+}
+
+/// Returns the error for a handle to the text that could not be stored.
+fn not_stored(rt: &impl Wait, text: &ArcStr) -> AllocFailed<ArcStr> {
+    AllocFailed {
+        value: text.clone(rt),
+    }
+}
+
+#[test]
+fn what_was_not_stored_is_dropped(rt: HostRuntime) {
+    let text = made(&rt, "foo");
+    assert_eq!(rt; JsonFault::from(not_stored(&rt, &text)), JsonFault::Memory);
+    check_count(&rt, &text, Some(1));
+}
+
+/// Returns the kind of the fault as an `io::Error`.
+fn kind_of(fault: TextFault) -> io::ErrorKind {
+    io::Error::from(fault).kind()
+}
+
+#[test]
+fn faults_of_a_text_have_kinds(rt: HostRuntime) {
+    assert_eq!(rt; kind_of(TextFault::Length), io::ErrorKind::InvalidInput);
+    assert_eq!(rt; kind_of(TextFault::Memory), io::ErrorKind::OutOfMemory);
+    assert_eq!(rt; kind_of(TextFault::Utf8(3)), io::ErrorKind::InvalidData);
+}
+
+#[test]
+fn ranges_stand_at_the_root(rt: HostRuntime) {
+    check_part(
+        &rt,
+        literal!("foobar").get(StrRange::Between(3, 6)),
+        Some("bar"),
+    );
+}

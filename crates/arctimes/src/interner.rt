@@ -1,0 +1,164 @@
+//! An interner of the words on standard input: the symbol of each word in their order, and the text of each symbol; and one that threads share.
+
+use crate::machine::Machine;
+use crate::requests::Request;
+use crate::rounds::Unit;
+use crate::{families, rounds, words};
+use anyhow::Result;
+use arcintern::{InternFault, Interner, SharedInterner, Symbol};
+use std::alloc::{AllocError, Global};
+use std::sync::Wait;
+use std::thread;
+use std::time::Instant;
+
+/// The number of shards of the interner that threads share.
+const SHARDS: usize = 64;
+
+/// Times a figure of this family. N is the number of words.
+pub(crate) fn run<M: Machine>(rt: &M, request: &Request) -> Result<()> {
+    let input = words::input(rt, request)?;
+    let words = split(rt.alloc(), &input)?;
+    let request = Request {
+        operations: words.len(),
+        ..*request
+    };
+    match request.figure {
+        "intern" => time_interning(rt, &request, &words),
+        "intern_get" | "intern_resolve" => time_looking_up(rt, &request, &words),
+        "intern_shared" => time_sharing(rt, &request, &words),
+        _ => families::no_figure(),
+    }
+}
+
+/// Times how long a fresh interner takes for the words. A round does not include the interner's drop.
+fn time_interning<M: Machine>(rt: &M, request: &Request, words: &[&str]) -> Result<()> {
+    for _ in 0..request.rounds {
+        let mut interner = Interner::new(rt.alloc());
+        let start = Instant::now(rt)?;
+        let sum = intern_all(&mut interner, words)?;
+        rounds::finish(rt, request, Unit::Operation, start, sum)?;
+    }
+    Ok(())
+}
+
+/// Times look-ups in an interner that has all the words.
+fn time_looking_up<M: Machine>(rt: &M, request: &Request, words: &[&str]) -> Result<()> {
+    let mut interner = Interner::new(rt.alloc());
+    let symbols = symbols_of(rt.alloc(), &mut interner, words)?;
+    for _ in 0..request.rounds {
+        let start = Instant::now(rt)?;
+        let sum = if request.figure == "intern_get" {
+            add_symbols(&interner, words)
+        } else {
+            add_lengths(&interner, &symbols)
+        };
+        rounds::finish(rt, request, Unit::Operation, start, sum)?;
+    }
+    Ok(())
+}
+
+/// Times how long the threads of the request take for the words, in an interner that has them all.
+fn time_sharing<M: Machine>(rt: &M, request: &Request, words: &[&str]) -> Result<()> {
+    let interner = SharedInterner::new(rt.alloc(), SHARDS)?;
+    intern_share(rt, &interner, words, 0, 1)?;
+    for _ in 0..request.rounds {
+        let start = Instant::now(rt)?;
+        let sum = intern_in_threads(rt, request, &interner, words)?;
+        rounds::finish(rt, request, Unit::Operation, start, sum)?;
+    }
+    Ok(())
+}
+
+/// Returns the sum of the lengths of the words' texts, which the threads of the request intern.
+fn intern_in_threads<M: Machine>(
+    rt: &M,
+    request: &Request,
+    interner: &SharedInterner,
+    words: &[&str],
+) -> Result<usize> {
+    let sums = thread::map_indices(
+        rt,
+        rt.alloc(),
+        request.threads,
+        &|worker| { intern_share(rt, interner, words, worker, request.threads) },
+    )?;
+    let mut sum = 0usize;
+    for of_worker in sums {
+        sum = sum.wrapping_add(of_worker?);
+    }
+    Ok(sum)
+}
+
+/// Interns one worker's share of the words, and returns the sum of the lengths of their texts.
+fn intern_share<R: Wait>(
+    rt: &R,
+    interner: &SharedInterner,
+    words: &[&str],
+    worker: usize,
+    workers: usize,
+) -> Result<usize, InternFault> {
+    let mut sum = 0usize;
+    let len = (words.len() / workers.max(1)).saturating_add(1);
+    let start = worker.saturating_mul(len).min(words.len());
+    let end = start.saturating_add(len).min(words.len());
+    for word in words.get(start..end).unwrap_or(&[]) {
+        let symbol = interner.intern(rt, word)?;
+        sum = sum.wrapping_add(interner.text(&symbol).len());
+    }
+    Ok(sum)
+}
+
+/// Returns the words of all texts.
+fn split<'a>(alloc: Global, input: &'a str) -> Result<Vec<&'a str>, AllocError> {
+    let mut words = Vec::new(alloc);
+    for text in input.split('\u{1}') {
+        for word in text.split_whitespace() {
+            words.push(word)?;
+        }
+    }
+    Ok(words)
+}
+
+/// Returns the sum of the words' symbols.
+fn intern_all(interner: &mut Interner, words: &[&str]) -> Result<usize, InternFault> {
+    let mut sum = 0usize;
+    for word in words {
+        sum = sum.wrapping_add(interner.intern(word)?.index());
+    }
+    Ok(sum)
+}
+
+/// Returns the symbol of each word.
+fn symbols_of(
+    alloc: Global,
+    interner: &mut Interner,
+    words: &[&str],
+) -> Result<Vec<Symbol>, InternFault> {
+    let mut symbols = Vec::with_capacity(alloc, words.len())?;
+    for word in words {
+        symbols.push(interner.intern(word)?)?;
+    }
+    Ok(symbols)
+}
+
+/// Returns the sum of the words' symbols, which the interner has.
+fn add_symbols(interner: &Interner, words: &[&str]) -> usize {
+    let mut sum = 0usize;
+    for word in words {
+        if let Some(symbol) = interner.get(word) {
+            sum = sum.wrapping_add(symbol.index());
+        }
+    }
+    sum
+}
+
+/// Returns the sum of the lengths of the symbols' texts.
+fn add_lengths(interner: &Interner, symbols: &[Symbol]) -> usize {
+    let mut sum = 0usize;
+    for symbol in symbols {
+        if let Some(text) = interner.resolve(*symbol) {
+            sum = sum.wrapping_add(text.len());
+        }
+    }
+    sum
+}
