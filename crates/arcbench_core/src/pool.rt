@@ -9,9 +9,6 @@ use std::sync::Wait;
 use std::thread::{Promise, PromisedHandle, Threads};
 use std::{fmt, thread};
 
-#[cfg(test)]
-mod tests;
-
 /// What each worker passes once, between its clone and its end.
 ///
 /// ```

@@ -6,11 +6,7 @@ pub use interner::{Interner, MOST_TEXTS};
 pub use shared_interner::{SharedInterner, SharedSymbol};
 pub use symbol::Symbol;
 
-#[cfg(test)]
-mod examples;
 mod fault;
 mod interner;
 mod shared_interner;
 mod symbol;
-#[cfg(test)]
-mod tests;

@@ -17,8 +17,6 @@ use std::sync::{RwLock, Wait};
 mod interning;
 mod numbers;
 mod shared_symbol;
-#[cfg(test)]
-mod tests;
 mod text_list;
 
 pub use shared_symbol::SharedSymbol;

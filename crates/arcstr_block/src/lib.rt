@@ -12,8 +12,6 @@ pub use seen::Seen;
 pub use shared::Shared;
 
 mod block;
-#[cfg(test)]
-mod examples;
 mod fault;
 mod fixed;
 mod joining;
@@ -22,6 +20,4 @@ mod owed;
 mod pointer;
 mod seen;
 mod shared;
-#[cfg(test)]
-mod tests;
 mod word;

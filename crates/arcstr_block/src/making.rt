@@ -15,9 +15,6 @@ use arcstr_count::{RC_MAX, Word};
 use core::slots::Slots;
 use std::alloc::Allocator;
 
-#[cfg(test)]
-mod tests;
-
 impl<const LIMIT: u64, A: Allocator + Copy> Shared<LIMIT, A> {
     /// The first handle on a new block with a copy of this text. The call makes one allocation, of 16 bytes plus the text,
     /// rounded up to a multiple of 8. An empty text has a block too. Errors, in this order: `Length`, for a text of `2^63 - 25`

@@ -139,6 +139,3 @@ impl fmt::Display for RunFault {
 }
 
 impl Error for RunFault {}
-
-#[cfg(test)]
-mod tests;

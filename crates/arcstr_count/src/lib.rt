@@ -13,12 +13,8 @@ pub use steps::{HandleState, HandleSummary, Reply, Step};
 pub use words::{RC_MAX, Word};
 pub use worlds::World;
 
-#[cfg(test)]
-mod examples;
 mod faults;
 mod history_laws;
-#[cfg(test)]
-mod refusal_tests;
 mod runs;
 mod seat_laws;
 pub mod sentences;

@@ -65,6 +65,3 @@ fn replies_of<A: Allocator + Copy>(
     }
     Ok(replies)
 }
-
-#[cfg(test)]
-mod tests;

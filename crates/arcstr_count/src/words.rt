@@ -178,6 +178,3 @@ impl Word {
         }
     }
 }
-
-#[cfg(test)]
-mod tests;

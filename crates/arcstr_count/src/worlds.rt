@@ -462,6 +462,3 @@ fn set_given<A: Allocator>(blocks: &mut Vec<BlockEntry, A>, block: u64)
 {
     blocks[block as usize].given = true;
 }
-
-#[cfg(test)]
-mod tests;

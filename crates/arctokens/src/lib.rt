@@ -4,12 +4,8 @@
 pub use many_texts::{Gate, tokens_all, tokens_all_with};
 pub use one_text::{tokens, tokens_are_one};
 
-#[cfg(test)]
-mod examples;
 mod many_texts;
 mod one_text;
-#[cfg(test)]
-mod test_steps;
 mod weaving;
 mod words;
 mod workers;

@@ -84,6 +84,3 @@ pub fn tokens_all_with<R: Threads + Wait + Sync, G: Gate + Sync>(
     let pieces = pieces_of_all(rt, alloc, texts, workers, gate)?;
     woven(alloc, texts, workers, pieces)
 }
-
-#[cfg(test)]
-mod tests;

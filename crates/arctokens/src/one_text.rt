@@ -45,6 +45,3 @@ pub fn tokens<R: Wait>(rt: &R, alloc: Global, text: &ArcStr) -> Result<Vec<Subst
 pub fn tokens_are_one(text: &ArcStr, one: &[Substr], other: &[Substr])
     ensures { AreTokens text.now one.now → AreTokens text.now other.now → one.now ≡ other.now }
 {}
-
-#[cfg(test)]
-mod tests;

@@ -1,0 +1,135 @@
+//! Runs of a script, with each read and each write failing in turn, and of a long script.
+use super::fakes::{FakeReader, FakeWriter, NEVER};
+use super::texts::{FIRST_ANSWER, FIRST_SCRIPT};
+use arcbench_core::port::Port;
+use arcbench_core::script::{CopyFault, answer, copy};
+use linked_list_allocator::LocalHeap;
+use std::alloc::{AllocError, Allocator, Global};
+use std::test::Fail;
+
+/// What a run of the first script returned, and what it wrote.
+#[derive(Drop)]
+pub struct Copied {
+    pub result: Result<(), CopyFault>,
+    pub written: Vec<u8>,
+}
+
+/// Runs the first script, from a reader and to a writer that fail at these calls.
+pub fn copy_first_script<A: Allocator + Copy>(
+    alloc: A,
+    global: Global,
+    read: u64,
+    write: u64,
+) -> Copied {
+    let mut writer = FakeWriter::new(Vec::new(global), write);
+    let mut input = Port::new(FakeReader::new(FIRST_SCRIPT.as_bytes(), read));
+    let mut output = Port::new(&mut writer);
+    let result = copy(alloc, &mut input, &mut output);
+    Copied {
+        result,
+        written: writer.taken,
+    }
+}
+
+#[test]
+fn copies_the_answer_to_a_script(rt: HostRuntime) {
+    let found = copy_first_script(rt.alloc(), rt.alloc(), NEVER, NEVER);
+    assert_eq!(rt; found.result, Ok(()));
+    assert_eq!(rt; found.written.as_slice(), FIRST_ANSWER.as_bytes());
+}
+
+/// The 49 bytes of the script take 17 reads of three bytes, and one read that finds the end.
+#[test]
+fn writes_nothing_after_a_fault_of_reading(rt: HostRuntime) {
+    for read in 0..18 {
+        let found = copy_first_script(rt.alloc(), rt.alloc(), read, NEVER);
+        assert_eq!(rt; found.result, Err(CopyFault::Io), "{read}");
+        assert_eq!(rt; found.written.len(), 0, "{read}");
+    }
+}
+
+/// The 44 bytes of the answer take 22 writes of two bytes. Each write before the fault writes two of them.
+#[test]
+fn writes_a_prefix_before_a_fault_of_writing(rt: HostRuntime) -> Result<(), Fail> {
+    for write in 0..22 {
+        let found = copy_first_script(rt.alloc(), rt.alloc(), NEVER, write);
+        let prefix = FIRST_ANSWER.get(..2 * write as usize).ok_or("short")?;
+        assert_eq!(rt; found.result, Err(CopyFault::Io), "{write}");
+        assert_eq!(rt; found.written.as_slice(), prefix.as_bytes(), "{write}");
+    }
+    Ok(())
+}
+
+/// The smallest block that a heap hands out, in bytes.
+const GRAIN: usize = 16;
+
+/// With room for one grain, an allocation fails while the script is read. A fault of a read before that is
+/// `Io`; a fault of a read after it is not reached.
+#[test]
+fn the_first_of_reading_and_memory_is_answered(rt: HostRuntime) -> Result<(), Fail> {
+    let mut refused = false;
+    for read in 0..18 {
+        let heap = LocalHeap::new(rt.alloc(), GRAIN)?;
+        let found = copy_first_script(&heap, rt.alloc(), read, NEVER);
+        refused = refused || found.result == Err(CopyFault::Memory);
+        let fault = if refused {
+            CopyFault::Memory
+        } else {
+            CopyFault::Io
+        };
+        assert_eq!(rt; found.result, Err(fault), "{read}");
+        assert_eq!(rt; found.written.len(), 0);
+        assert!(rt; read > 0 || !refused);
+    }
+    assert!(rt; refused);
+    Ok(())
+}
+
+/// How many clones a script of 100,000 bytes makes.
+const CLONES: u64 = 12_497;
+
+/// A script that clones one handle this often, and looks.
+fn long_script(alloc: Global) -> Result<String, AllocError> {
+    let mut script = String::from_str(alloc, "limit 100000\nmake\n")?;
+    for _ in 0..CLONES {
+        script.push_str("clone 0\n")?;
+    }
+    script.push_str("look 0")?;
+    Ok(script)
+}
+
+fn long_answer(alloc: Global) -> Result<String, AllocError> {
+    let mut out = String::from_str(alloc, "made 0\n")?;
+    for handle in 1..CLONES + 1 {
+        write!(out, "handle {handle}\n")?;
+    }
+    out.push_str("count 12498\n")?;
+    Ok(out)
+}
+
+#[test]
+fn answers_and_copies_a_long_script(rt: HostRuntime) -> Result<(), Fail> {
+    let script = long_script(rt.alloc())?;
+    let wanted = long_answer(rt.alloc())?;
+    assert_eq!(rt; script.len(), 100_000);
+    let out = answer(rt.alloc(), script.as_bytes())?;
+    assert_eq!(rt; out.as_slice(), wanted.as_bytes());
+    let mut written = Vec::new(rt.alloc());
+    let mut input = Port::new(script.as_bytes());
+    let mut output = Port::new(&mut written);
+    copy(rt.alloc(), &mut input, &mut output)?;
+    assert_eq!(rt; written.as_slice(), wanted.as_bytes());
+    Ok(())
+}
+
+#[test]
+fn prints_each_fault(rt: HostRuntime) -> Result<(), Fail> {
+    let faults = [CopyFault::LimitTooLarge, CopyFault::Memory, CopyFault::Io];
+    let texts = ["1 limit too large", "2 out of memory", "3 io"];
+    for (fault, text) in faults.into_iter().zip(texts) {
+        let number = fault.number();
+        let printed = format!(in rt.alloc(); "{number} {fault}")?;
+        assert_eq!(rt; printed.as_str(), text);
+    }
+    Ok(())
+}

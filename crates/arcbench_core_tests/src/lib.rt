@@ -1,0 +1,27 @@
+//! The tests and examples of `arcbench_core`, in a crate of their own: the library is not proved again with them.
+#![tactic(auto)]
+
+#[cfg(test)]
+mod answers;
+#[cfg(test)]
+mod copies;
+#[cfg(test)]
+mod examples;
+#[cfg(test)]
+mod fakes;
+#[cfg(test)]
+mod lists;
+#[cfg(test)]
+mod pool;
+#[cfg(test)]
+mod ports;
+#[cfg(test)]
+mod readme;
+#[cfg(test)]
+mod statuses;
+#[cfg(test)]
+mod texts;
+#[cfg(test)]
+mod threads;
+#[cfg(test)]
+mod tokens;

@@ -1,0 +1,34 @@
+use arcstr_count::{RunFault, StepFault};
+use std::test::Fail;
+
+#[test]
+fn step_faults_have_numbers_and_names(rt: HostRuntime) -> Result<(), Fail> {
+    let faults = [
+        (StepFault::NoHandle, 1, "NoHandle"),
+        (StepFault::InDrop, 2, "InDrop"),
+        (StepFault::NotInDrop, 3, "NotInDrop"),
+        (StepFault::NotOwing, 4, "NotOwing"),
+        (StepFault::IsRaw, 5, "IsRaw"),
+        (StepFault::NotRaw, 6, "NotRaw"),
+    ];
+    for (fault, number, name) in faults {
+        assert_eq!(rt; fault.number(), number);
+        let printed = format!(in rt.alloc(); "{fault}")?;
+        assert_eq!(rt; printed.as_str(), name);
+    }
+    Ok(())
+}
+
+#[test]
+fn run_faults_have_numbers_and_texts(rt: HostRuntime) -> Result<(), Fail> {
+    let faults = [
+        (RunFault::LimitTooLarge, 1, "limit too large"),
+        (RunFault::Memory, 2, "out of memory"),
+    ];
+    for (fault, number, text) in faults {
+        assert_eq!(rt; fault.number(), number);
+        let printed = format!(in rt.alloc(); "{fault}")?;
+        assert_eq!(rt; printed.as_str(), text);
+    }
+    Ok(())
+}
