@@ -189,17 +189,15 @@ impl<const LIMIT: u64, A: Allocator + Copy> Shared<LIMIT, A> {
         ensures block { result.block ≡ self.now.block }
         ensures limit { result.limit ≡ LIMIT }
     {
-        let mut old = match self.handle.find() {
+        let old = match self.handle.find() {
             Ok(handle) => return Shared { handle },
             Err(found) => found,
         };
-        for _ in rt.forever() {
-            match self.handle.exchange(old) {
-                Ok(handle) => return Shared { handle },
-                Err(found) => old = found,
-            }
-        }
-        unreachable!()
+        let handle = match self.handle.exchange(old) {
+            Ok(handle) => handle,
+            Err(found) => self.handle.exchange_until(rt, found),
+        };
+        Shared { handle }
     }
 
     /// Another handle, as `up` makes it, with at most `tries` compare-exchanges, so the call never waits. It returns `None` if each
@@ -373,6 +371,25 @@ impl<const LIMIT: u64, A: Allocator + Copy> Counted<LIMIT, A> {
             gained.forget();
             Err(found)
         }
+    }
+
+    /// The exchanges of a clone after one that failed, until no other thread changes the word before one. They are out of line, so that the code
+    /// of a clone is short.
+    #[cold]
+    #[inline(never)]
+    fn exchange_until<R: Wait>(&self, rt: &R, old: u64) -> Counted<LIMIT, A>
+        requires unmarked { IsUnmarked old }
+        requires word { IsWord LIMIT old }
+        ensures { IsCloneOf result.pointer self.now.pointer }
+    {
+        let mut old = old;
+        for _ in rt.forever() {
+            match self.exchange(old) {
+                Ok(clone) => return clone,
+                Err(found) => old = found,
+            }
+        }
+        unreachable!()
     }
 
     /// A handle on this block, through another pointer to it.

@@ -186,7 +186,10 @@ fn both_owe(first: Shared<5, Global>, second: Shared<5, Global>) -> bool
             }
         },
         Down::Left | Down::Ended => {
-            down.settle();
+            match down {
+                Down::Owes(owed) => owed.give_back(),
+                Down::Left | Down::Ended => {}
+            }
             false
         }
     }

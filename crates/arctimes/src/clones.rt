@@ -4,12 +4,11 @@ use crate::machine::Machine;
 use crate::requests::Request;
 use crate::rounds::Unit;
 use crate::texts::{handles, letters};
-use crate::{families, rounds};
+use crate::{families, rounds, threads};
 use anyhow::Result;
 use arcstr::{ArcStr, Substr, literal};
 use std::alloc::AllocError;
 use std::sync::Wait;
-use std::thread;
 use std::time::Instant;
 
 /// What a round clones.
@@ -92,7 +91,7 @@ fn clone_in_threads<M: Machine>(
     text: &ArcStr,
     look: Look,
 ) -> Result<usize, AllocError> {
-    let sums = thread::map_indices(
+    let sums = threads::map_workers(
         rt,
         rt.alloc(),
         request.threads,

@@ -3,12 +3,11 @@
 use crate::machine::Machine;
 use crate::requests::Request;
 use crate::rounds::Unit;
-use crate::{families, rounds, words};
+use crate::{families, rounds, threads, words};
 use anyhow::Result;
 use arcintern::{InternFault, Interner, SharedInterner, Symbol};
 use std::alloc::{AllocError, Global};
 use std::sync::Wait;
-use std::thread;
 use std::time::Instant;
 
 /// The number of shards of the interner that threads share.
@@ -76,7 +75,7 @@ fn intern_in_threads<M: Machine>(
     interner: &SharedInterner,
     words: &[&str],
 ) -> Result<usize> {
-    let sums = thread::map_indices(
+    let sums = threads::map_workers(
         rt,
         rt.alloc(),
         request.threads,

@@ -25,6 +25,7 @@ mod scripts;
 mod slices;
 mod table;
 mod texts;
+mod threads;
 mod words;
 
 use crate::families::Family;

@@ -3,14 +3,14 @@
 use crate::machine::Machine;
 use crate::requests::{Form, Request};
 use crate::rounds::Unit;
-use crate::{families, rounds};
+use crate::{families, rounds, threads};
 use anyhow::Result;
 use arcstr::ArcStr;
 use arctokens::{tokens, tokens_all};
 use std::alloc::{AllocError, Global};
+use std::io;
 use std::sync::Wait;
 use std::time::Instant;
-use std::{io, thread};
 
 /// The texts for the table, which does not read standard input.
 const FEW_WORDS: &str =
@@ -73,7 +73,7 @@ fn count_each<M: Machine>(
     texts: &[ArcStr],
     found: Found,
 ) -> Result<usize, AllocError> {
-    let counts = thread::map_indices(
+    let counts = threads::map_workers(
         rt,
         rt.alloc(),
         request.threads,

@@ -30,9 +30,9 @@ impl Gate for OpenGate {
     fn pass(&self, _worker: usize) {}
 }
 
-/// Returns the tokens of each text, in the order of the texts: one list for each, as `tokens` returns it. Finds them with `workers` workers, each in its own
-/// thread, as `tokens_all_with` does with a gate at which no worker waits. The caller must ensure that there are 1 to 64 workers. Fails only if an allocation
-/// fails.
+/// Returns the tokens of each text, in the order of the texts: one list for each, as `tokens` returns it. Finds them with `workers` workers, one of which is the
+/// calling thread, as `tokens_all_with` does with a gate at which no worker waits. The caller must ensure that there are 1 to 64 workers. Fails only if an
+/// allocation fails.
 ///
 /// ```
 /// let texts = [literal!("foo   bar"), literal!("")];
@@ -55,8 +55,9 @@ pub fn tokens_all<R: Threads + Wait + Sync>(
 
 /// Returns the tokens of each text, in the order of the texts: one list for each, as `tokens` returns it.
 ///
-/// Text `i` goes to worker `i % workers`. Each worker has its own thread, in which it passes the gate once and then finds the tokens of its texts. If its
-/// thread cannot be started, the calling thread passes the gate for it and processes its texts, after it has started all other threads.
+/// Text `i` goes to worker `i % workers`. A worker passes the gate once, and then finds the tokens of its texts. The last worker is the calling thread; each
+/// other has a thread of its own. The calling thread starts all of them first. For each that cannot be started it then passes the gate and processes the texts,
+/// before it does its own work.
 ///
 /// The caller must ensure that there are 1 to 64 workers. The call joins all threads, and so can wait. It fails only if an allocation fails: a thread that
 /// cannot be started is not an error.

@@ -1,4 +1,4 @@
-//! Workers that find the tokens of many texts, each in a thread of its own.
+//! Workers that find the tokens of many texts: the calling thread, and each other in a thread of its own.
 ghost use Rattle.std.specs.Prelude.{◌≡◌, ◌≤◌, ◌<◌, ℕ, List, length, IfOk, IfSome, vec_len, vec_capacity, slice_index_or};
 ghost use Rattle.arcstr.specs.TextView.{TextView};
 ghost use Rattle.arctokens.specs.Pieces.{ArePieces, IsPieceOf};
@@ -24,6 +24,18 @@ struct PieceOf<'a> {
     worker: usize,
 }
 
+impl<'a> PieceOf<'a> {
+    fn new(texts: &'a [ArcStr], workers: usize, worker: usize) -> PieceOf<'a>
+        ensures { IsPromiseOf texts.now workers worker result }
+    {
+        PieceOf {
+            texts,
+            workers,
+            worker,
+        }
+    }
+}
+
 impl<'a> Promise<Piece> for PieceOf<'a> {
     ghost kept_by = { λ promise piece. IsPieceOf promise.texts.now promise.workers promise.worker piece };
 }
@@ -35,7 +47,7 @@ type Worker<'a> = PromisedHandle<Piece, PieceOf<'a>>;
 enum Share<'a> {
     /// A thread that is not yet joined.
     Thread(Worker<'a>),
-    /// A piece from the calling thread, which processed the texts of a worker whose thread could not be started.
+    /// A piece from the calling thread: its own, or that of a worker whose thread could not be started.
     Own(Piece),
 }
 
@@ -51,8 +63,8 @@ impl<'a> Share<'a> {
     }
 }
 
-/// Starts a thread for each worker, and joins them all. Returns their pieces in the order of the workers. Allocates the list of thread handles before it
-/// starts the first thread, so that it can join each.
+/// Starts a thread for each worker but the last, does that one's work itself, and joins all threads. Returns the pieces in the order of the workers.
+/// Allocates the list of thread handles before it starts the first thread, so that it can join each.
 pub(crate) fn pieces_of_all<R: Threads + Wait + Sync, G: Gate + Sync>(
     rt: &R,
     alloc: Global,
@@ -74,18 +86,17 @@ pub(crate) fn pieces_of_all<R: Threads + Wait + Sync, G: Gate + Sync>(
             let shares: Vec<Share> = Vec::with_capacity(alloc, workers)?;
             let pieces: Vec<Vec<Vec<Substr>>> = Vec::with_capacity(alloc, workers)?;
             for worker in 0..workers {
-                let promise = PieceOf {
-                    texts,
-                    workers,
-                    worker,
-                };
-                let started = scope.spawn_with(
-                    promise,
-                    move || -> Piece
-                        requires { (worker < workers) × (workers ≤ 64) }
-                    { piece_of(rt, alloc, texts, workers, worker, gate) },
-                );
-                threads.push_reserved(started.ok());
+                if worker + 1 < workers {
+                    let started = scope.spawn_with(
+                        PieceOf::new(texts, workers, worker),
+                        move || -> Piece
+                            requires { (worker < workers) × (workers ≤ 64) }
+                        { piece_of(rt, alloc, texts, workers, worker, gate) },
+                    );
+                    threads.push_reserved(started.ok());
+                } else {
+                    threads.push_reserved(None);
+                }
             }
             let shares = shares_of_all(rt, alloc, texts, workers, gate, threads, shares);
             joined(rt, texts, workers, shares, pieces)

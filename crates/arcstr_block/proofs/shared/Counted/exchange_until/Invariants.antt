@@ -1,5 +1,5 @@
 use Rattle.arcstr_block.specs.Word.{IsUnmarked, IsWord}
-use Rattle.arcstr_block.proofs.shared.Shared.up.Given as goal
+use Rattle.arcstr_block.proofs.shared.Counted.exchange_until.Given as goal
 
 -- the word that is tried next was found unmarked
 abbrev pub invariant-loop : goal.invariant-loop
