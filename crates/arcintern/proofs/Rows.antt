@@ -1,5 +1,5 @@
 -- Where a number lies in the rows.
-use Rattle.std.proofs.Common.{◌≡◌, ℕ, ◌+◌, ◌*◌, ◌^◌, ◌<◌, ◌≤◌, arith, pow_mono, lt_of_not-le}
+use Rattle.std.proofs.Common.{ℕ, ◌^◌, ◌<◌, ◌≤◌, arith, pow_mono, lt_of_not-le}
 
 -- a power of two that is at most 2 ^ 33 - 1 has an exponent below 33
 pub exponent_below : (number exponent : ℕ) → 2 ^ exponent ≤ number → number < 8589934592 → exponent < 33

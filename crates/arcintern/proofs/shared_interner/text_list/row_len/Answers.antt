@@ -1,4 +1,4 @@
-use Rattle.std.proofs.Common.{rules, arith}
+use Rattle.std.proofs.Common.{arith}
 use Rattle.boxcar.proofs.Spans.{span_small}
 use Rattle.arcintern.proofs.shared_interner.text_list.row_len.Goals as goal
 

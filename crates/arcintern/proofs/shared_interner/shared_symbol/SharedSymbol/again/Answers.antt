@@ -1,5 +1,5 @@
-use Rattle.std.proofs.Common.{◌≡◌, ◌<◌, length, sym, ap, subst, ◌∙◌}
-use Rattle.boxcar.specs.Table.{IsAt, id_at}
+use Rattle.std.proofs.Common.{◌<◌, length, sym, ap, subst, ◌∙◌}
+use Rattle.boxcar.specs.Table.{id_at}
 use Rattle.arcintern.proofs.shared_interner.shared_symbol.SharedSymbol.again.Goals as goal
 
 pub invariant_of-result : goal.invariant_of-result

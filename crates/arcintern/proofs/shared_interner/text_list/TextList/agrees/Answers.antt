@@ -1,4 +1,4 @@
-use Rattle.std.proofs.Common.{rules, ◌≡◌, sym, ap, subst, ◌∙◌}
+use Rattle.std.proofs.Common.{sym, ap, subst, ◌∙◌}
 use Rattle.boxcar.specs.Table.{IsAt, id_at}
 use Rattle.arcintern.specs.Shared.{IsSymbolOf, SymbolView}
 use Rattle.arcintern.proofs.shared_interner.text_list.TextList.agrees.Goals as goal

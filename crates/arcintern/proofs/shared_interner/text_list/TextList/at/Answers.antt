@@ -1,4 +1,4 @@
-use Rattle.std.proofs.Common.{rules, ◌∙◌}
+use Rattle.std.proofs.Common.{rules}
 use Rattle.arcintern.proofs.shared_interner.text_list.TextList.at.Goals as goal
 
 pub returns-clause-of : goal.returns-clause-of

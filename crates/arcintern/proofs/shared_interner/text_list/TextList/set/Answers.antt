@@ -1,4 +1,4 @@
-use Rattle.std.proofs.Common.{rules, ◌∙◌}
+use Rattle.std.proofs.Common.{rules}
 use Rattle.arcintern.proofs.shared_interner.text_list.TextList.set.Goals as goal
 
 pub returns-in-Ok-clause-of : goal.returns-in-Ok-clause-of

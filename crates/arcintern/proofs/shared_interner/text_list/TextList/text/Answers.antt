@@ -1,5 +1,5 @@
-use Rattle.std.proofs.Common.{rules, arith, ◌≡◌, ◌<◌, length, sym, ap, subst, ◌∙◌}
-use Rattle.boxcar.specs.Table.{IsAt, id_at}
+use Rattle.std.proofs.Common.{rules, ◌<◌, length, sym, ap, subst, ◌∙◌}
+use Rattle.boxcar.specs.Table.{IsAt}
 use Rattle.arcintern.specs.Shared.{IsSymbolOf, SymbolView}
 use Rattle.arcintern.proofs.shared_interner.text_list.TextList.text.Goals as goal
 
