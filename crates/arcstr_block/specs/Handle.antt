@@ -1,5 +1,5 @@
 -- What contracts see of a handle on a block, and what was seen of its block's history.
-use Rattle.std.specs.Prelude.{◌≡◌, ℕ, IsTrue, List}
+use Rattle.std.specs.Prelude.{ℕ, IsTrue, List}
 use Rattle.arcstr_count.specs.declared.steps.Step.{Step}
 use Rattle.arcstr_count.specs.declared.steps.Step.TheVariants.{Look, Leak}
 use Rattle.arcstr_count.specs.declared.steps.Reply.TheVariants.{Count, Static, Marked}
