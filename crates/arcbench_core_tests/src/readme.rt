@@ -1,21 +1,7 @@
 //! The code that README.md shows.
-use arcstr::{ArcStr, Substr, literal};
+use arcstr::literal;
 use arctokens::{tokens, tokens_all};
 use std::test::Fail;
-
-#[test]
-fn texts_as_readme_shows_them(rt: HostRuntime) -> Result<(), Fail> {
-    let text = ArcStr::from_str(rt.alloc(), "foo   bar")?; // one block, counted
-    let other = text.clone(&rt); // a second handle: a load and a compare-exchange
-    let slice: Substr = text.substr(&rt, 6..9)?; // "bar", which keeps the text
-    assert_eq!(rt; slice.as_str(), "bar");
-    assert_eq!(rt; ArcStr::strong_count(&other), Some(3));
-    let fixed = text.leak(); // the text for good, whatever ends
-    assert_eq!(rt; fixed.as_str(), "foo   bar");
-    let empty = literal!(""); // no memory, no count
-    assert_eq!(rt; ArcStr::strong_count(&empty), None);
-    Ok(())
-}
 
 #[test]
 fn words_as_readme_shows_them(rt: HostRuntime) -> Result<(), Fail> {

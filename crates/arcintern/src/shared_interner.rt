@@ -27,6 +27,9 @@ pub use shared_symbol::SharedSymbol;
 /// that are there share the lock. The texts themselves lie in one list that only grows, and are read without a lock. So a symbol stands
 /// for one text as long as the interner lives, whatever other threads do.
 ///
+/// The contracts do not say that a call succeeds, that a word has one number, or what `len` and `resolve` answer: the tests
+/// `threads_agree_on_eight_shards` and `words_are_told_apart` check that, and `words_go_to_each_shard` that all shards serve.
+///
 /// The default hasher has a fixed seed. Where an attacker picks the texts, make the interner by `with_hasher`.
 ///
 /// ```

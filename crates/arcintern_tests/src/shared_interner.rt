@@ -191,6 +191,18 @@ fn a_literal_stays_a_literal(rt: HostRuntime) -> Result<(), Fail> {
 }
 
 #[test]
+fn words_go_to_each_shard(rt: HostRuntime) -> Result<(), Fail> {
+    let interner = SharedInterner::new(rt.alloc(), 8)?;
+    let mut served = [false; 8];
+    for number in 0..WORDS {
+        let word = word_of(rt.alloc(), number)?;
+        served[interned(&rt, &interner, &word).index() % 8] = true;
+    }
+    assert_eq!(rt; served, [true; 8]);
+    Ok(())
+}
+
+#[test]
 fn symbols_have_four_bytes(rt: HostRuntime) {
     assert_eq!(rt; (size_of::<Symbol>(), size_of::<SharedSymbol>()), (4, 4));
 }

@@ -172,7 +172,7 @@ fn check_shared(
     check_text(interner.text(&there), "foobar", 1)
 }
 
-/// Compares the one text of an interner, and its symbol, with this text in a block of so many handles.
+/// Compares the one text of an interner, and its symbol, with this text, whose block has `handles` handles.
 fn check_interned(
     interner: &Interner,
     symbol: Symbol,

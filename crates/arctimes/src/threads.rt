@@ -6,8 +6,8 @@ use std::sync::Wait;
 use std::thread;
 use std::thread::Threads;
 
-/// Returns what `work` returns for each worker, in the order of their numbers. The calling thread is worker 0. It starts a thread for each other worker first, and
-/// also does the work of one whose thread cannot be started.
+/// Returns what `work` returns for each worker, in the order of their numbers. The calling thread is worker 0. It first starts a thread for each other
+/// worker, and also does the work of one whose thread cannot be started.
 pub(crate) fn map_workers<R: Threads + Wait + Sync, X: Send + Drop, F: Fn(usize) -> X + Sync>(
     rt: &R,
     alloc: Global,

@@ -30,9 +30,9 @@ impl Gate for OpenGate {
     fn pass(&self, _worker: usize) {}
 }
 
-/// Returns the tokens of each text, in the order of the texts: one list for each, as `tokens` returns it. Finds them with `workers` workers, one of which is the
-/// calling thread, as `tokens_all_with` does with a gate at which no worker waits. The caller must ensure that there are 1 to 64 workers. Fails only if an
-/// allocation fails.
+/// Returns the tokens of each text, in the order of the texts: one list for each, as `tokens` returns it. Finds them with `workers` workers, one of which is
+/// the calling thread, as `tokens_all_with` does with a gate at which no worker waits. The caller must ensure that there are 1 to 64 workers. Fails only if
+/// an allocation fails.
 ///
 /// ```
 /// let texts = [literal!("foo   bar"), literal!("")];

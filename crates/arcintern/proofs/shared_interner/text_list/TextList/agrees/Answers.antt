@@ -17,6 +17,7 @@ pub agrees-requires-2 : goal.agrees-requires-2
 agrees-requires-2 c =
     let row = c.located.result.0 in
     let slot = c.located.result.1 in
-    let number = ap (λ (symbol : SymbolView). symbol.number) c.one.view_is ∙ c.requires.same ∙ sym (ap (λ (symbol : SymbolView). symbol.number) c.other.view_is) in
+    let number =
+    ap (λ (symbol : SymbolView). symbol.number) c.one.view_is ∙ c.requires.same ∙ sym (ap (λ (symbol : SymbolView). symbol.number) c.other.view_is) in
     let other = subst (λ number. IsAt number row slot) number c.located.ensures.at in
     (c.one.invariant row slot c.located.ensures.at).1 ∙ ap (λ row. id_at row.items slot) c.agrees.ensures ∙ sym (c.other.invariant row slot other).1
