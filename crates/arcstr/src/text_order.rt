@@ -87,7 +87,7 @@ fn compare_short(one: &str, other: &str) -> Ordering
     let both = one.len().min(other.len());
     match (one.as_bytes(), other.as_bytes()) {
         ([first, ..], [second, ..]) if first != second => first.cmp(second),
-        (one_bytes, other_bytes) if 16 <= both => compare_from(one_bytes, other_bytes, 0),
+        (one_bytes, other_bytes) if 16 <= both => compare_from::<16>(one_bytes, other_bytes, 0),
         _ => one.cmp(other),
     }
 }
@@ -107,40 +107,35 @@ fn compare_long(one: &[u8], other: &[u8]) -> Ordering
     compare_far(one, other)
 }
 
-/// Compares two byte slices of 64 bytes or more, given that their first 64 bytes agree. It skips equal bytes 64 at a time. It is out of line, so that shorter
-/// texts do not pay for its calls.
+/// Compares two byte slices of 64 bytes or more, given that their first 64 bytes agree. It is out of line, so that shorter texts do not pay for its calls.
 #[inline(never)]
 fn compare_far(one: &[u8], other: &[u8]) -> Ordering
     requires long { (64 ≤ length one.now) × (64 ≤ length other.now) }
     requires alike { take 64 one.now ≡ take 64 other.now }
     ensures { result ≡ slice_cmp nat_cmp one.now other.now }
 {
-    let last = one.len().min(other.len()) - 64;
-    let mut from = pass_alike(one, other, 64);
-    while from <= last && is_alike_at::<64>(one, other, from) {
-        from += 64;
-    }
-    compare_from(one, other, from)
+    compare_from::<64>(one, other, pass_alike(one, other, 64))
 }
 
-/// Compares two byte slices of 16 bytes or more, given that their first `start` bytes agree.
-fn compare_from(one: &[u8], other: &[u8], start: usize) -> Ordering
+/// Compares two byte slices of N bytes or more, given that their first `start` bytes agree.
+fn compare_from<const N: usize>(one: &[u8], other: &[u8], start: usize) -> Ordering
+    requires lanes { (0 < N) × (N ≤ 64) }
     requires within { (start ≤ length one.now) × (start ≤ length other.now) }
-    requires a_vector { (16 ≤ length one.now) × (16 ≤ length other.now) }
+    requires a_vector { (N ≤ length one.now) × (N ≤ length other.now) }
     requires alike { take start one.now ≡ take start other.now }
     ensures { result ≡ slice_cmp nat_cmp one.now other.now }
 {
-    let last = one.len().min(other.len()) - 16;
+    let last = one.len().min(other.len()) - N;
     let mut from = start;
     while from < last {
-        let found = order_of_lanes::<16>(one, other, from);
+        let found = order_of_lanes::<N>(one, other, from);
         if found.is_ne() {
             return found;
         }
-        from += 16;
+        from += N;
     }
-    // The last 16 bytes. Some of them may have been compared already.
-    let found = order_of_lanes::<16>(one, other, last);
+    // The last N bytes. Some of them may have been compared already.
+    let found = order_of_lanes::<N>(one, other, last);
     if found.is_ne() {
         return found;
     }

@@ -4,26 +4,26 @@ use Rattle.arcstr.proofs.PrefixOrder.{alike, alike-prefix, by_prefixes, by_lengt
 use Rattle.arcstr.proofs.text_order.compare_from.Goals as goal
 
 pub returns-then-is_ne : goal.returns-then-is_ne
-returns-then-is_ne c =
-    by_prefixes (c.loop-from.from + 16) c.args.one.now c.args.other.now _ (omega arith) (omega arith) c.order_of_lanes-found.ensures (sym c.is_ne.ensures ∙ c.if-is_ne.true)
+returns-then-is_ne g c =
+    by_prefixes (c.loop-from.from + g.row.N) c.args.one.now c.args.other.now _ (omega arith) (omega arith) c.order_of_lanes-found.ensures (sym c.is_ne.ensures ∙ c.if-is_ne.true)
 
 pub loop-from-preserved : goal.loop-from-preserved
-loop-from-preserved c = record {
+loop-from-preserved g c = record {
   within = omega arith;
   alike = alike _ _ _ c.order_of_lanes-found.ensures (sym c.is_ne.ensures ∙ c.if-is_ne.false);
 }
 
 pub order_of_lanes-found-requires-2-clause-alike : goal.order_of_lanes-found-requires-2-clause-alike
-order_of_lanes-found-requires-2-clause-alike c =
-    alike-prefix (c.min-last.result - 16) c.loop-from.from c.args.one.now c.args.other.now (omega arith) c.loop-from.invariant.alike
+order_of_lanes-found-requires-2-clause-alike g c =
+    alike-prefix (c.min-last.result - g.row.N) c.loop-from.from c.args.one.now c.args.other.now (omega arith) c.loop-from.invariant.alike
 
 pub returns-then-is_ne-2 : goal.returns-then-is_ne-2
-returns-then-is_ne-2 c =
-    by_prefixes (c.min-last.result - 16 + 16) c.args.one.now c.args.other.now _ (omega arith) (omega arith) c.order_of_lanes-found-2.ensures (sym c.is_ne-2.ensures ∙ c.if-is_ne-2.true)
+returns-then-is_ne-2 g c =
+    by_prefixes (c.min-last.result - g.row.N + g.row.N) c.args.one.now c.args.other.now _ (omega arith) (omega arith) c.order_of_lanes-found-2.ensures (sym c.is_ne-2.ensures ∙ c.if-is_ne-2.true)
 
 pub returns : goal.returns
-returns c =
-    let all : c.min-last.result - 16 + 16 ≡ c.min-last.result = omega arith in
+returns g c =
+    let all : c.min-last.result - g.row.N + g.row.N ≡ c.min-last.result = omega arith in
     let same = alike _ _ _ c.order_of_lanes-found-2.ensures (sym c.is_ne-2.ensures ∙ c.if-is_ne-2.false) in
     c.cmp.ensures
     ∙ by_length c.min-last.result c.args.one.now c.args.other.now c.min-last.ensures

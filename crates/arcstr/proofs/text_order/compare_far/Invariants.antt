@@ -1,9 +1,0 @@
-use Rattle.std.proofs.Common.{◌≡◌, ◌≤◌, ◌+◌, ◌-◌, take}
-use Rattle.arcstr.proofs.text_order.compare_far.Given as goal
-
--- the bytes passed so far are equal
-abbrev pub invariant-loop-from : goal.invariant-loop-from
-invariant-loop-from l = record { within : l.from ≤ l.last + 64; alike : take l.from l.one ≡ take l.from l.other }
-
-abbrev pub decreases-loop-from : goal.decreases-loop-from
-decreases-loop-from l = l.last + 64 - l.from
