@@ -12,6 +12,8 @@ COLUMNS = {
     "Rust crate": re.compile(r"(\d+\.\d\d)"),
     "Ratio": re.compile(r"(\d+\.\d\d)"),
     "Ratios of four runs": re.compile(r"(\d+\.\d\d)–(\d+\.\d\d)"),
+    "v3": re.compile(r"(\d+\.\d\d)"),
+    "Four runs of v3": re.compile(r"(\d+\.\d\d)–(\d+\.\d\d)"),
     "Target": re.compile(r"(?:(\d+\.\d+)(, missed)?)?"),
 }
 HEADING = f"| {' | '.join(COLUMNS)} |"
@@ -19,7 +21,7 @@ HEADING = f"| {' | '.join(COLUMNS)} |"
 
 @dataclass
 class Row:
-    """A figure, its nanoseconds here and in the Rust crate, their ratio, the range of ratios, and the target if there is one."""
+    """A figure, its nanoseconds here and in the Rust crate, their ratio, the range of ratios, the same for x86-64-v3, and the target if there is one."""
 
     figure: str
     ours: float
@@ -27,6 +29,9 @@ class Row:
     ratio: float
     least: float
     greatest: float
+    v3: float
+    v3_least: float
+    v3_greatest: float
     target: float
     is_missed: bool
 
@@ -52,8 +57,9 @@ def row_of(line):
             raise ValueError(f"`{cell}` in the column {column}")
     ours, crate, ratio = (float(found[column][1]) for column in ("Ours", "Rust crate", "Ratio"))
     least, greatest = map(float, found["Ratios of four runs"].groups())
+    v3, v3_range = float(found["v3"][1]), map(float, found["Four runs of v3"].groups())
     target, missed = found["Target"].groups()
-    return Row(found["Figure"][1], ours, crate, ratio, least, greatest, float(target) if target else None, missed is not None)
+    return Row(found["Figure"][1], ours, crate, ratio, least, greatest, v3, *v3_range, float(target) if target else None, missed is not None)
 
 
 def read_table():
