@@ -8,7 +8,7 @@ ghost use Rattle.arcstr_count.specs.After.{given_after};
 ghost use Rattle.arcstr_count.specs.Tables.{handles_with_state, blocks_with_word, blocks_with_mark, blocks_with_given};
 ghost use Rattle.arcstr_count.specs.Answer.{unless_free, unless_dropping, unless_owing, unless_raw};
 ghost use Rattle.arcstr_count.specs.Taken.{GivesBirth, IsRefusal, IsAcceptedBy, Answers, Follows, Takes, HasHistory};
-ghost use Rattle.arcstr_count.specs.Laws.{WordsStand, LooksAreExact, MarksStay, AtMostOneOwes, GivenAtMostOnce, GivenExactlyIfUnmarked, InEachHistoryOf};
+ghost use Rattle.arcstr_count.specs.Laws.{HoldsInEveryInterleaving};
 ghost use Rattle.arcstr_count.specs.OneHandle.{state_at, IsAt};
 
 use crate::faults::{RunFault, StepFault};
@@ -142,13 +142,8 @@ impl<A: Allocator + Copy> World<A> {
     /// ```
     pub fn stands_for_a_history(&self)
         ensures some { HasHistory self.now }
-
-        ensures words_stand { InEachHistoryOf self.now WordsStand }
-        ensures looks_exact { InEachHistoryOf self.now LooksAreExact }
-        ensures marks_stay { InEachHistoryOf self.now MarksStay }
-        ensures one_owes { InEachHistoryOf self.now AtMostOneOwes }
-        ensures given_once { InEachHistoryOf self.now GivenAtMostOnce }
-        ensures given_exactly { InEachHistoryOf self.now GivenExactlyIfUnmarked }
+        ensures laws { (history : List Step) → StandsFor self.now history
+            → HoldsInEveryInterleaving self.now.summary.limit history }
     {
         // A clause knows the invariant of a value behind a `&` once the body reads the value. Without this read
         // nothing is known of the world.
