@@ -127,17 +127,15 @@ module _ (limit : ℕ) (p : List Step) (s : Step) (h : ℕ) (old new : HandleSta
       ∙ step ∙ ap (λ x. held limit p b test + one x) after
 
   pub changed_here : (test : HandleState → Bool)
-      → count (λ k. is_held limit (s ∷ p) (block_of p h) test k) (births p) + one (test old)
-      ≡ held limit p (block_of p h) test + one (test new)
-  changed_here test =
-      rw (same_test (block_of p h)) at (changed_count (block_of p h) test)
+      → held limit (s ∷ p) (block_of p h) test + one (test old) ≡ held limit p (block_of p h) test + one (test new)
+  changed_here test = rw c.same_births (rw (same_test (block_of p h)) at (changed_count (block_of p h) test))
 
   pub changed_elsewhere : (b : ℕ) (test : HandleState → Bool) → b ≢ block_of p h
-      → count (λ k. is_held limit (s ∷ p) b test k) (births p) ≡ held limit p b test
+      → held limit (s ∷ p) b test ≡ held limit p b test
   changed_elsewhere b test apart =
       let elsewhere = other_test (block_of p h) b apart in
       let all : count (λ k. is_held limit (s ∷ p) b test k) (births p) + 0 ≡ held limit p b test + 0 = rw elsewhere at (changed_count b test) in
-      omega arith
+      rw c.same_births (omega arith)
 
 -- ---- steps that give birth
 

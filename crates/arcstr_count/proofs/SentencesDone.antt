@@ -12,7 +12,8 @@ use Rattle.arcstr_count.specs.Sentences.{AcceptedWhere, HasAccepted, BeganUnmark
 use Rattle.arcstr_count.proofs.Pasts.{IsPast-past_of}
 use Rattle.arcstr_count.proofs.SentencesPrefixes.{InPast, in_past, in_history}
 use Rattle.arcstr_count.proofs.SentencesFirst.{tests_owing, state_of_test}
-use Rattle.arcstr_count.proofs.SentencesTable.{free_passes, dropping_passes, handle_state_sentence}
+use Rattle.arcstr_count.proofs.LawsOfHandles.{needed_state}
+use Rattle.arcstr_count.proofs.SentencesTable.{handle_state_sentence}
 
 -- ---- a test of pasts, and an accepted step
 
@@ -95,13 +96,13 @@ given_sentence limit h history = test_sentence limit (Back h) (λ _. Unit {0}) (
 
 pub begins_once : (limit : ℕ) (p : List Step) (h : ℕ) → is_accepted limit p (Begin h) ≡ true → has_begun p h ≡ false
 begins_once limit p h e =
-    let born = (handle_state_sentence limit p h Free).0 (free_passes (handle_state limit p h) e) in
+    let born = (handle_state_sentence limit p h Free).0 (needed_state Free (handle_state limit p h) e) in
     let free = (state_of_test limit p h Free).0 born.1 in
     not-true (has_begun p h) free.1
 
 subtracts_once : (limit : ℕ) (p : List Step) (h : ℕ) → is_accepted limit p (Sub h) ≡ true → has_subtracted p h ≡ false
 subtracts_once limit p h e =
-    let born = (handle_state_sentence limit p h Dropping).0 (dropping_passes (handle_state limit p h) e) in
+    let born = (handle_state_sentence limit p h Dropping).0 (needed_state Dropping (handle_state limit p h) e) in
     let dropping = (state_of_test limit p h Dropping).0 born.1 in
     let parts = and_parts (began_unmarked limit p h) (not (has_subtracted p h)) dropping.2 in
     not-true (has_subtracted p h) parts.1

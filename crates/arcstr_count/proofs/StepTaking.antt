@@ -16,7 +16,7 @@ use Rattle.arcstr_count.specs.declared.faults.StepFault.{StepFault}
 use Rattle.arcstr_count.specs.declared.worlds.BlockEntry.{BlockEntry}
 use Rattle.arcstr_count.specs.History.{makes, births, block_of}
 use Rattle.arcstr_count.specs.Marks.{state_of}
-use Rattle.arcstr_count.specs.Answer.{unless_free, handle_state, refusal_of, accepted_answer, reply_by}
+use Rattle.arcstr_count.specs.Answer.{Need, needs, handle_state, refusal_unless, refusal_by, refusal_of, accepted_answer, reply_by}
 use Rattle.arcstr_count.specs.Past.{IsPast, past_of}
 use Rattle.arcstr_count.specs.Summary.{Summary, WorldView, StandsFor, handle_summary, handles_of, summary_of, words_left}
 use Rattle.arcstr_count.specs.Tables.{view_of, IsWorld}
@@ -122,10 +122,10 @@ entry_read limit p blocks b e are made read =
 
 -- ---- a step that is refused
 
-pub takes_refused : (w : WorldView) (s : Step) (fault : StepFault)
-    → ((p : List Step) → w.summary.handles ≡ handles_of w.summary.limit p → refusal_of w.summary.limit p s ≡ Some fault)
-    → Takes w s (Refused fault) w
-takes_refused w s fault refusal = record {
+-- a step that the table refuses for the state of its handle
+pub takes_refused : (w : WorldView) (s : Step) (need : Need) (fault : StepFault) → needs s ≡ Some need
+    → refusal_unless need.state (state_at w need.handle) ≡ Some fault → Takes w s (Refused fault) w
+takes_refused w s need fault needed row = record {
   answers = λ history stands.
       sym (ap (λ r. reply_by r (accepted_answer w.summary.limit (past_of w.summary.limit history) s)) (refused history stands));
   follows = follows;
@@ -135,7 +135,11 @@ takes_refused w s fault refusal = record {
   where
     refused : (history : List Step) → StandsFor w history
         → refusal_of w.summary.limit (past_of w.summary.limit history) s ≡ Some fault
-    refused history stands = refusal (past_of w.summary.limit history) (ap (λ (t : Summary). t.handles) stands.summary)
+    refused history stands =
+        ap (λ n. refusal_by (λ h. handle_state w.summary.limit (past_of w.summary.limit history) h) n) needed
+        ∙ ap (refusal_unless need.state)
+        (sym (state_at-past w (past_of w.summary.limit history) need.handle (ap (λ (t : Summary). t.handles) stands.summary)))
+        ∙ row
 
     same_past : (history : List Step) → StandsFor w history
         → past_of w.summary.limit (history ++ s ∷ []) ≡ past_of w.summary.limit history
@@ -148,27 +152,20 @@ takes_refused w s fault refusal = record {
       words = stands.words ∙ ap (λ p. words_left w.summary.limit p) (sym (same_past history stands));
     }
 
--- a step of a handle whose state the table's row refuses
-pub takes_refused_by : (unless : Option HandleState → Option StepFault) (w : WorldView) (s : Step) (h : ℕ) (fault : StepFault)
-    → ((p : List Step) → refusal_of w.summary.limit p s ≡ unless (handle_state w.summary.limit p h))
-    → unless (state_at w h) ≡ Some fault → Takes w s (Refused fault) w
-takes_refused_by unless w s h fault row refused =
-    takes_refused w s fault (λ p handles. row p ∙ ap unless (sym (state_at-past w p h handles)) ∙ refused)
-
 -- ---- a step that is accepted
 
--- the step is accepted after the past, with this reply, and leaves these tables
+-- the step, accepted after the past, has this reply and leaves these tables
 pub record Changes (limit : ℕ) (p : List Step) (s : Step) (reply : Reply) (handles : List HandleSummary) (blocks : List BlockEntry) : Type 0 where
-  pub unrefused : refusal_of limit p s ≡ None
   pub answer : reply ≡ accepted_answer limit p s
   pub tables : AreTablesOf limit (s ∷ p) handles blocks
 
 pub takes_accepted : (limit : ℕ) (handles : List HandleSummary) (blocks : List BlockEntry) (old : WorldView) (s : Step) (reply : Reply)
     (new_handles : List HandleSummary) (new_blocks : List BlockEntry)
     → view_of limit handles blocks ≡ old → (IsRefusal reply → ⊥)
+    → ((p : List Step) → AreTablesOf limit p handles blocks → refusal_of limit p s ≡ None)
     → ((p : List Step) → IsPast limit p → AreTablesOf limit p handles blocks → Changes limit p s reply new_handles new_blocks)
     → Takes old s reply (view_of limit new_handles new_blocks)
-takes_accepted limit handles blocks old s reply new_handles new_blocks view_is unrefused change =
+takes_accepted limit handles blocks old s reply new_handles new_blocks view_is unrefused accepted change =
     subst (λ w. Takes w s reply (view_of limit new_handles new_blocks)) view_is (record {
       answers = answers;
       follows = follows;
@@ -184,13 +181,16 @@ takes_accepted limit handles blocks old s reply new_handles new_blocks view_is u
     changed history stands = change (past_of limit history) (IsPast-past_of limit history)
         (tables_from_view limit handles blocks history stands)
 
+    accepts : (history : List Step) → StandsFor before history → refusal_of limit (past_of limit history) s ≡ None
+    accepts history stands = accepted (past_of limit history) (tables_from_view limit handles blocks history stands)
+
     answers : Answers before s reply
     answers history stands = (changed history stands).answer
-        ∙ ap (λ r. reply_by r (accepted_answer limit (past_of limit history) s)) (sym (changed history stands).unrefused)
+        ∙ ap (λ r. reply_by r (accepted_answer limit (past_of limit history) s)) (sym (accepts history stands))
 
     longer_past : (history : List Step) → StandsFor before history → past_of limit (history ++ s ∷ []) ≡ s ∷ past_of limit history
     longer_past history stands = past_of-step limit history s
-        ∙ ap (λ r. if is_none r then s ∷ past_of limit history else past_of limit history) (changed history stands).unrefused
+        ∙ ap (λ r. if is_none r then s ∷ past_of limit history else past_of limit history) (accepts history stands)
 
     follows : Follows before s (view_of limit new_handles new_blocks)
     follows history stands = view_from_tables limit new_handles new_blocks (history ++ s ∷ [])
@@ -212,7 +212,7 @@ world_kept limit handles blocks old s reply new_handles new_blocks world view_is
 -- a clone of a handle that a world has as free is accepted
 pub clone_accepted : (w : WorldView) (h b : ℕ) → IsAt w h b Free → IsAcceptedBy w (Clone h)
 clone_accepted w h b at history stands =
-    ap is_none (ap unless_free (handle_state-found w.summary.limit p h b Free found))
+    ap (λ o. is_none (refusal_unless Free o)) (handle_state-found w.summary.limit p h b Free found)
   where
     p : List Step
     p = past_of w.summary.limit history
