@@ -1,7 +1,7 @@
 -- What an accepted step finds about its handle in a past, and what it leaves.
 use Rattle.std.proofs.Common.{◌≡◌, ◌≢◌, ℕ, suc, ◌<◌, ◌≤◌, Bool, true, false, not, ◌&&◌, ◌==◌, nat_lt, if◌then◌else◌, is_none, Option, None, Some}
 use Rattle.std.proofs.Common.{List, [], ◌∷◌, refl, sym, arith, ltb-true, eqb-true, eq-eqb, ne_eqb}
-use Rattle.std.proofs.lemmas.Bool.{eqb-false}
+use Rattle.std.proofs.lemmas.Bool.{eqb-false, lt-ltb}
 use Rattle.arcstr_count.specs.declared.steps.Step.{Step}
 use Rattle.arcstr_count.specs.declared.steps.Step.TheVariants.{Make, Clone, Begin, Sub, Back, IntoRaw, FromRaw}
 use Rattle.arcstr_count.specs.declared.steps.HandleState.{HandleState}
@@ -27,12 +27,15 @@ pub record IsIn (limit : ℕ) (p : List Step) (h : ℕ) (s : HandleState) : Type
   pub born : h < births p
   pub state : state_of limit p h ≡ s
 
-found : (limit : ℕ) (p : List Step) (h : ℕ) (s : HandleState) → handle_state limit p h ≡ Some s → IsIn limit p h s
-found limit p h s e = by_test (nat_lt h (births p)) refl e
+pub is_in : (limit : ℕ) (p : List Step) (h : ℕ) (s : HandleState) → handle_state limit p h ≡ Some s → IsIn limit p h s
+is_in limit p h s e = by_test (nat_lt h (births p)) refl e
   where
     by_test : (t : Bool) → nat_lt h (births p) ≡ t → (if t then Some (state_of limit p h) else None) ≡ Some s → IsIn limit p h s
     by_test true born same = record { born = ltb-true h (births p) born; state = cc }
     by_test false unborn same = cc
+
+pub state_is : (limit : ℕ) (p : List Step) (h : ℕ) (s : HandleState) → IsIn limit p h s → handle_state limit p h ≡ Some s
+state_is limit p h s i = rw (lt-ltb h (births p) i.born, i.state) refl
 
 -- the table of refusals accepts a handle in the state that a step needs, and no other
 pub accepts_needed : (s : HandleState) → refusal_unless s (Some s) ≡ None
@@ -53,7 +56,7 @@ needed_state s o e = cc
 -- so an accepted step finds its handle in the state that it needs
 pub step_finds : (limit : ℕ) (p : List Step) (h : ℕ) (s : HandleState) → is_none (refusal_unless s (handle_state limit p h)) ≡ true
     → IsIn limit p h s
-step_finds limit p h s a = found limit p h s (needed_state s (handle_state limit p h) a)
+step_finds limit p h s a = is_in limit p h s (needed_state s (handle_state limit p h) a)
 
 -- ---- what a state says was done
 
@@ -77,26 +80,26 @@ record InOrder (raw begun subtracted last given : Bool) : Type 0 where
   subtracted_first : subtracted ≡ false → given ≡ false
   last_of_subtracted : subtracted ≡ false → last ≡ false
 
-after_Begin : (t raw begun subtracted last given : Bool) → (t ≡ true → raw ≡ false)
+Begin-in_order : (t raw begun subtracted last given : Bool) → (t ≡ true → raw ≡ false)
     → InOrder raw begun subtracted last given → InOrder raw (if t then true else begun) subtracted last given
-after_Begin t raw begun subtracted last given found o = grind arith
+Begin-in_order t raw begun subtracted last given found o = grind arith
 
-after_Sub : (t owes raw begun subtracted last given : Bool) → (t ≡ true → begun ≡ true)
+Sub-in_order : (t owes raw begun subtracted last given : Bool) → (t ≡ true → begun ≡ true)
     → InOrder raw begun subtracted last given
     → InOrder raw begun (if t then true else subtracted) (if t then owes else last) given
-after_Sub t owes raw begun subtracted last given found o = grind arith
+Sub-in_order t owes raw begun subtracted last given found o = grind arith
 
-after_Back : (t raw begun subtracted last given : Bool) → (t ≡ true → last ≡ true)
+Back-in_order : (t raw begun subtracted last given : Bool) → (t ≡ true → last ≡ true)
     → InOrder raw begun subtracted last given → InOrder raw begun subtracted last (if t then true else given)
-after_Back t raw begun subtracted last given found o = grind arith
+Back-in_order t raw begun subtracted last given found o = grind arith
 
-after_IntoRaw : (t raw begun subtracted last given : Bool) → (t ≡ true → begun ≡ false)
+IntoRaw-in_order : (t raw begun subtracted last given : Bool) → (t ≡ true → begun ≡ false)
     → InOrder raw begun subtracted last given → InOrder (if t then true else raw) begun subtracted last given
-after_IntoRaw t raw begun subtracted last given found o = grind arith
+IntoRaw-in_order t raw begun subtracted last given found o = grind arith
 
-after_FromRaw : (t raw begun subtracted last given : Bool)
+FromRaw-in_order : (t raw begun subtracted last given : Bool)
     → InOrder raw begun subtracted last given → InOrder (if t then false else raw) begun subtracted last given
-after_FromRaw t raw begun subtracted last given o = grind arith
+FromRaw-in_order t raw begun subtracted last given o = grind arith
 
 -- what was done to a handle that was found in a state, for a number that the test identifies with the handle's
 module _ (limit : ℕ) (p : List Step) (g h : ℕ) (same : (g == h) ≡ true) where
@@ -124,19 +127,19 @@ in_order limit [] h past = record {
   last_of_subtracted = λ e. refl;
 }
 in_order limit (Begin g ∷ p) h past =
-    after_Begin (g == h) (is_raw p h) (has_begun p h) (has_subtracted p h) (was_last limit p h) (has_given p h)
+    Begin-in_order (g == h) (is_raw p h) (has_begun p h) (has_subtracted p h) (was_last limit p h) (has_given p h)
     (λ e. (free_at limit p g h e (step_finds limit p g Free past.0)).0) (in_order limit p h past.1)
 in_order limit (Sub g ∷ p) h past =
-    after_Sub (g == h) _ (is_raw p h) (has_begun p h) (has_subtracted p h) (was_last limit p h) (has_given p h)
+    Sub-in_order (g == h) _ (is_raw p h) (has_begun p h) (has_subtracted p h) (was_last limit p h) (has_given p h)
     (λ e. dropping_at limit p g h e (step_finds limit p g Dropping past.0)) (in_order limit p h past.1)
 in_order limit (Back g ∷ p) h past =
-    after_Back (g == h) (is_raw p h) (has_begun p h) (has_subtracted p h) (was_last limit p h) (has_given p h)
+    Back-in_order (g == h) (is_raw p h) (has_begun p h) (has_subtracted p h) (was_last limit p h) (has_given p h)
     (λ e. owing_at limit p g h e (step_finds limit p g Owing past.0)) (in_order limit p h past.1)
 in_order limit (IntoRaw g ∷ p) h past =
-    after_IntoRaw (g == h) (is_raw p h) (has_begun p h) (has_subtracted p h) (was_last limit p h) (has_given p h)
+    IntoRaw-in_order (g == h) (is_raw p h) (has_begun p h) (has_subtracted p h) (was_last limit p h) (has_given p h)
     (λ e. (free_at limit p g h e (step_finds limit p g Free past.0)).1) (in_order limit p h past.1)
 in_order limit (FromRaw g ∷ p) h past =
-    after_FromRaw (g == h) (is_raw p h) (has_begun p h) (has_subtracted p h) (was_last limit p h) (has_given p h)
+    FromRaw-in_order (g == h) (is_raw p h) (has_begun p h) (has_subtracted p h) (was_last limit p h) (has_given p h)
     (in_order limit p h past.1)
 in_order limit (s ∷ p) h past = in_order limit p h past.1
 

@@ -47,11 +47,6 @@ module _ (limit : ℕ) (p : List Step) (b : ℕ) where
 pub word_stands : (limit : ℕ) (p : List Step) (b : ℕ) → IsPast limit p → b < makes p → Stands limit p b (word_left limit p b)
 word_stands limit p b past made = stands_by limit p b (is_marked limit p b) refl (balance limit p b past made)
 
--- an unmarked word counts the living handles
-pub exact_count : (limit : ℕ) (p : List Step) (b : ℕ) → IsPast limit p → b < makes p → is_marked limit p b ≡ false
-    → (word_left limit p b).count ≡ length (living limit p b)
-exact_count limit p b past made unmarked = (word_stands limit p b past made).exact unmarked
-
 -- a count exceeds the limit by at most one
 pub count_bounded : (limit : ℕ) (p : List Step) (b : ℕ) → IsPast limit p → b < makes p → (word_left limit p b).count ≤ limit + 1
 count_bounded limit p b past made = bounded_by limit p b (is_marked limit p b) (balance limit p b past made)

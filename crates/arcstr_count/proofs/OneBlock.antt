@@ -1,7 +1,6 @@
 -- What each step makes of a history of one block, of its word and of the states of its handles.
 use Rattle.std.proofs.Common.{◌≡◌, ℕ, ◌<◌, true, not, ◌&&◌, ◌==◌, if◌then◌else◌, is_none, None, Some, List, [], ◌∷◌, ◌++◌, map, length}
 use Rattle.std.proofs.Common.{slice_get, get_or, set, refl, sym, ◌∙◌, ap, subst, arith}
-use Rattle.std.proofs.lemmas.Bool.{lt-ltb}
 use Rattle.std.proofs.lemmas.List.{map_push, get_or-map, map-set, length-map, reverse-append}
 use Rattle.std.proofs.lemmas.Option.{get_or_from_slice_get, slice_get_within}
 use Rattle.arcstr_count.specs.declared.steps.Step.{Step}
@@ -20,7 +19,7 @@ use Rattle.arcstr_count.specs.Left.{word_left, Stands}
 use Rattle.arcstr_count.specs.Summary.{handles_of, handle_summary}
 use Rattle.arcstr_count.specs.OneBlock.{Keeps, EndsIn, look_reply}
 use Rattle.arcstr_count.proofs.Pasts.{past_of-step, IsPast-past_of}
-use Rattle.arcstr_count.proofs.LawsOfHandles.{IsIn, accepts_needed, block_made, ChangesOne, Begin-changes, Sub-changes, Back-changes}
+use Rattle.arcstr_count.proofs.LawsOfHandles.{IsIn, state_is, accepts_needed, block_made, ChangesOne, Begin-changes, Sub-changes, Back-changes}
 use Rattle.arcstr_count.proofs.LawsOfPasts.{word_stands, look_answers, Sub_counted, Sub_last}
 use Rattle.arcstr_count.proofs.Tables.{length-numbers_below, length-handles_of, handle_at, handles-Clone, handles-changed}
 
@@ -77,10 +76,6 @@ seat_is limit r w seats h state keeps seat =
           ∙ get_or_from_slice_get (states_in limit (past_of limit r)) h state Gone seated;
     }
 
-found_in : (limit : ℕ) (p : List Step) (h : ℕ) (state : HandleState) → IsIn limit p h state → handle_state limit p h ≡ Some state
-found_in limit p h state i =
-    ap (λ b. if b then Some (state_of limit p h) else None) (lt-ltb h (births p) i.born) ∙ ap Some i.state
-
 -- ---- one more step
 
 past-step : (limit : ℕ) (r : List Step) (s : Step) → is_accepted limit (past_of limit r) s ≡ true
@@ -106,9 +101,9 @@ kept limit r w new seats seats' s keeps accepted same_makes left states =
     }
 
 -- the one block of the history is block 0
-on_block : (limit : ℕ) (r : List Step) (w : FlagAndCount) (seats : List HandleState) (h : ℕ) (state : HandleState)
+on_first_block : (limit : ℕ) (r : List Step) (w : FlagAndCount) (seats : List HandleState) (h : ℕ) (state : HandleState)
     → Keeps limit r w seats → IsIn limit (past_of limit r) h state → block_of (past_of limit r) h ≡ 0
-on_block limit r w seats h state keeps i =
+on_first_block limit r w seats h state keeps i =
     let below = block_made limit (past_of limit r) h (IsPast-past_of limit r) i.born in
     let one = keeps.one_block.made in omega arith
 
@@ -135,9 +130,9 @@ subtracts : (limit : ℕ) (r : List Step) (w : FlagAndCount) (seats : List Handl
     → IsIn limit (past_of limit r) h Dropping → Subtracts limit (past_of limit r) h w
 subtracts limit r w seats h keeps i =
     let accepted : is_accepted limit (past_of limit r) (Sub h) ≡ true =
-    ap (λ o. is_none (refusal_unless Dropping o)) (found_in limit (past_of limit r) h Dropping i) in
+    ap (λ o. is_none (refusal_unless Dropping o)) (state_is limit (past_of limit r) h Dropping i) in
     let same : word_left limit (past_of limit r) (block_of (past_of limit r) h) ≡ w =
-    ap (λ b. word_left limit (past_of limit r) b) (on_block limit r w seats h Dropping keeps i) ∙ sym keeps.left in
+    ap (λ b. word_left limit (past_of limit r) b) (on_first_block limit r w seats h Dropping keeps i) ∙ sym keeps.left in
     record {
       counted = subst (λ (word : FlagAndCount). 0 < word.count) same
           (Sub_counted limit (past_of limit r) h (IsPast-past_of limit r) accepted);
@@ -168,7 +163,7 @@ keeps-make limit = record {
 }
 
 -- what an accepted step answers after a past, the word that it leaves on block 0, and the states in which it leaves the handles
-record Leaves (limit : ℕ) (p : List Step) (s : Step) (reply : Reply) (w : FlagAndCount) (seats : List HandleState) : Type 0 where
+record StepLeaves (limit : ℕ) (p : List Step) (s : Step) (reply : Reply) (w : FlagAndCount) (seats : List HandleState) : Type 0 where
   answer : accepted_answer limit p s ≡ reply
   word : w ≡ word_left limit (s ∷ p) 0
   states : seats ≡ states_in limit (s ∷ p)
@@ -183,15 +178,15 @@ module _ (limit : ℕ) (r : List Step) (w : FlagAndCount) (seats : List HandleSt
   -- a step of a handle whose seat has the state that the step needs
   keeps-step : (s : Step) (needed : HandleState) (reply : Reply) (new : FlagAndCount) (new_seats : List HandleState)
       → needs s ≡ Some (record { handle = h; state = needed }) → slice_get seats h ≡ Some needed → makes (s ∷ p) ≡ makes p
-      → (is_accepted limit p s ≡ true → block_of p h ≡ 0 → Leaves limit p s reply new new_seats)
+      → (is_accepted limit p s ≡ true → block_of p h ≡ 0 → StepLeaves limit p s reply new new_seats)
       → Prolongs limit r s reply new new_seats
   keeps-step s needed reply new new_seats need seat same_makes leaves =
       let i = seat_is limit r w seats h needed keeps seat in
       let open_to : refusal_of limit p s ≡ None =
       ap (λ n. refusal_by (λ k. handle_state limit p k) n) need
-      ∙ ap (refusal_unless needed) (found_in limit p h needed i) ∙ accepts_needed needed in
+      ∙ ap (refusal_unless needed) (state_is limit p h needed i) ∙ accepts_needed needed in
       let accepted : is_accepted limit p s ≡ true = ap is_none open_to in
-      let left = leaves accepted (on_block limit r w seats h needed keeps i) in
+      let left = leaves accepted (on_first_block limit r w seats h needed keeps i) in
       prolonged (kept limit r w new seats new_seats s keeps accepted same_makes left.word left.states) accepted
       (ap (λ o. reply_by o (accepted_answer limit p s)) open_to ∙ left.answer)
 

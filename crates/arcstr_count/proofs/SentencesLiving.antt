@@ -75,16 +75,16 @@ lives_cases Owing e = absurd (cc)
 lives_cases Gone e = absurd (cc)
 
 module _ (limit : ℕ) (p : List Step) (h : ℕ) where
-  born_in : (s : HandleState) → handle_state limit p h ≡ Some s → (h < births p) × (state_of limit p h ≡ s)
-  born_in s = (handle_state_sentence limit p h s).0
+  born_with : (s : HandleState) → handle_state limit p h ≡ Some s → (h < births p) × (state_of limit p h ≡ s)
+  born_with s = (handle_state_sentence limit p h s).0
 
   in_state : (s : HandleState) → h < births p → state_of limit p h ≡ s → handle_state limit p h ≡ Some s
   in_state s lt e = (handle_state_sentence limit p h s).1 (lt, e)
 
   -- a handle that was born and whose state passes a test
-  passes_at : (test : HandleState → Bool) (s : HandleState) → test s ≡ true → handle_state limit p h ≡ Some s
+  state_passes : (test : HandleState → Bool) (s : HandleState) → test s ≡ true → handle_state limit p h ≡ Some s
       → (h < births p) × (test (state_of limit p h) ≡ true)
-  passes_at test s e w = let at = born_in s w in (at.0, rw (at.1) e)
+  state_passes test s e w = let at = born_with s w in (at.0, rw (at.1) e)
 
   members : (test : HandleState → Bool) (b : ℕ) → Contains (filter (λ k. (block_of p k == b) && test (state_of limit p k)) (numbers_below (births p))) h
       ↔ ((h < births p) × (block_of p h ≡ b) × (test (state_of limit p h) ≡ true))
@@ -108,9 +108,9 @@ module _ (limit : ℕ) (p : List Step) (h : ℕ) where
 
   alive : (handle_state limit p h ≡ Some Free) ⊎ ((handle_state limit p h ≡ Some Raw) ⊎ (handle_state limit p h ≡ Some Dropping))
       → (h < births p) × (lives (state_of limit p h) ≡ true)
-  alive (inl e) = passes_at lives Free refl e
-  alive (inr (inl e)) = passes_at lives Raw refl e
-  alive (inr (inr e)) = passes_at lives Dropping refl e
+  alive (inl e) = state_passes lives Free refl e
+  alive (inr (inl e)) = state_passes lives Raw refl e
+  alive (inr (inr e)) = state_passes lives Dropping refl e
 
   from_living : (b : ℕ) → (block_of p h ≡ b)
       × ((handle_state limit p h ≡ Some Free) ⊎ ((handle_state limit p h ≡ Some Raw) ⊎ (handle_state limit p h ≡ Some Dropping)))
@@ -145,7 +145,7 @@ pub dropping_sentence : (limit : ℕ) (history : List Step) (b h : ℕ) → Cont
 dropping_sentence limit history b h = (
   (λ c. let w = (members limit (past_of limit history) h is_dropping b).0 c in
       (w.1, in_state limit (past_of limit history) h Dropping w.0 (is_dropping-true (state_of limit (past_of limit history) h) w.2))),
-  (λ w. let a = passes_at limit (past_of limit history) h is_dropping Dropping refl w.1 in
+  (λ w. let a = state_passes limit (past_of limit history) h is_dropping Dropping refl w.1 in
       (members limit (past_of limit history) h is_dropping b).1 (a.0, w.0, a.1)),
 )
 
@@ -154,7 +154,7 @@ pub owing_sentence : (limit : ℕ) (history : List Step) (b h : ℕ) → Contain
 owing_sentence limit history b h = (
   (λ c. let w = (members limit (past_of limit history) h is_owing b).0 c in
       (w.1, in_state limit (past_of limit history) h Owing w.0 (is_owing-true (state_of limit (past_of limit history) h) w.2))),
-  (λ w. let a = passes_at limit (past_of limit history) h is_owing Owing refl w.1 in
+  (λ w. let a = state_passes limit (past_of limit history) h is_owing Owing refl w.1 in
       (members limit (past_of limit history) h is_owing b).1 (a.0, w.0, a.1)),
 )
 

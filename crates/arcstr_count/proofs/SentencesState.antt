@@ -52,8 +52,8 @@ module _ (limit : ℕ) (history : List Step) (h : ℕ) where
   free_sentence : TestsFree ↔ NeverBegan
   free_sentence = not_sentence (has_begun (past_of limit history) h) (HasAccepted limit history (Begin h)) (begun_sentence limit h history)
 
-  dropping_sentence : TestsDropping ↔ BeganAndStays
-  dropping_sentence = and_not_sentence (began_unmarked limit (past_of limit history) h) (has_subtracted (past_of limit history) h)
+  stays_sentence : TestsDropping ↔ BeganAndStays
+  stays_sentence = and_not_sentence (began_unmarked limit (past_of limit history) h) (has_subtracted (past_of limit history) h)
       (BeganUnmarked limit history h) (HasAccepted limit history (Sub h))
       (began_unmarked_sentence limit h history) (subtracted_sentence limit h history)
 
@@ -61,13 +61,13 @@ module _ (limit : ℕ) (history : List Step) (h : ℕ) where
   state_of_sentence s = (
     (λ e. FirstThatHolds-along IsRaw TestsFree TestsDropping TestsOwing
         (LastIsIntoRaw limit history h) NeverBegan BeganAndStays (OwesSentence limit history h)
-        (raw_sentence limit history h) free_sentence dropping_sentence (owes_test limit history h) s
+        (raw_sentence limit history h) free_sentence stays_sentence (owes_test limit history h) s
         ((state_of_test limit (past_of limit history) h s).0 e)),
     (λ w. (state_of_test limit (past_of limit history) h s).1 (FirstThatHolds-along
         (LastIsIntoRaw limit history h) NeverBegan BeganAndStays (OwesSentence limit history h)
         IsRaw TestsFree TestsDropping TestsOwing
         ((raw_sentence limit history h).1, (raw_sentence limit history h).0) (free_sentence.1, free_sentence.0)
-        (dropping_sentence.1, dropping_sentence.0) ((owes_test limit history h).1, (owes_test limit history h).0) s w)),
+        (stays_sentence.1, stays_sentence.0) ((owes_test limit history h).1, (owes_test limit history h).0) s w)),
   )
 
 pub state_sentence : (limit : ℕ) (history : List Step) (h : ℕ) (s : HandleState)

@@ -1,6 +1,5 @@
 -- A step is accepted exactly where the table of refusals accepts the state of its handle.
-use Rattle.std.proofs.Common.{◌≡◌, ◌↔◌, ℕ, ◌<◌, Bool, true, false, nat_lt, if◌then◌else◌, is_none, IsTrue, Option, None, Some, IfSome, List, refl, ap}
-use Rattle.std.proofs.lemmas.Bool.{ltb-true, lt-ltb}
+use Rattle.std.proofs.Common.{◌≡◌, ◌↔◌, ℕ, ◌<◌, is_none, IsTrue, Option, None, Some, IfSome, List, refl, ap}
 use Rattle.arcstr_count.specs.declared.steps.Step.{Step}
 use Rattle.arcstr_count.specs.declared.steps.HandleState.{HandleState}
 use Rattle.arcstr_count.specs.History.{births}
@@ -8,7 +7,7 @@ use Rattle.arcstr_count.specs.Marks.{state_of}
 use Rattle.arcstr_count.specs.Answer.{Need, needs, handle_state, refusal_by}
 use Rattle.arcstr_count.specs.Past.{past_of}
 use Rattle.arcstr_count.specs.Sentences.{accepted_after, AcceptedSentence}
-use Rattle.arcstr_count.proofs.LawsOfHandles.{accepts_needed, needed_state}
+use Rattle.arcstr_count.proofs.LawsOfHandles.{is_in, state_is, accepts_needed, needed_state}
 
 by_need : (state : ℕ → Option HandleState) (o : Option Need)
     → IsTrue (is_none (refusal_by state o)) ↔ IfSome o (λ need. state need.handle ≡ Some need.state)
@@ -21,8 +20,7 @@ accepted_sentence limit history s = by_need (λ h. handle_state limit (past_of l
 -- ---- the state of a handle that was born
 
 pub handle_state_sentence : (limit : ℕ) (p : List Step) (h : ℕ) (s : HandleState) → (handle_state limit p h ≡ Some s) ↔ ((h < births p) × (state_of limit p h ≡ s))
-handle_state_sentence limit p h s = (go (nat_lt h (births p)) refl, (λ w. rw (lt-ltb h (births p) w.0) (ap Some w.1)))
-  where
-    go : (b : Bool) → nat_lt h (births p) ≡ b → (if b then Some (state_of limit p h) else None) ≡ Some s → (h < births p) × (state_of limit p h ≡ s)
-    go true e d = (ltb-true h (births p) e, cc)
-    go false e d = absurd (cc)
+handle_state_sentence limit p h s = (
+  (λ e. let i = is_in limit p h s e in (i.born, i.state)),
+  (λ w. state_is limit p h s (record { born = w.0; state = w.1 })),
+)

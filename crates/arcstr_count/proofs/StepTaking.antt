@@ -1,6 +1,6 @@
 -- What a world needs to take a step: what is found in its tables, and what they become.
 use Rattle.std.proofs.Common.{◌≡◌, ℕ, ◌<◌, ◌≤◌, Bool, true, false, nat_lt, if◌then◌else◌, Option, None, Some, option_map, List, [], ◌∷◌, ◌++◌, length}
-use Rattle.std.proofs.Common.{get_or, refl, sym, ◌∙◌, ap, subst, arith, is_none, IfSome, lt-ltb, ltb-true, ltb-false}
+use Rattle.std.proofs.Common.{get_or, refl, sym, ◌∙◌, ap, subst, arith, is_none, IfSome, ltb-true, ltb-false}
 use Rattle.std.proofs.Math.Logic.{∥∥₁_map, ∥∥₁_elim}
 use Rattle.std.proofs.Props.{props}
 use Rattle.std.proofs.lemmas.Option.{slice_get_within, get_or_from_slice_get, slice_get-get_or, slice_get_past}
@@ -23,7 +23,7 @@ use Rattle.arcstr_count.specs.Tables.{view_of, IsWorld}
 use Rattle.arcstr_count.specs.Taken.{IsRefusal, IsAcceptedBy, Answers, Follows, Takes, HasHistory}
 use Rattle.arcstr_count.specs.OneHandle.{state_at, IsAt}
 use Rattle.arcstr_count.proofs.Pasts.{past_of-step, IsPast-past_of}
-use Rattle.arcstr_count.proofs.LawsOfHandles.{block_made}
+use Rattle.arcstr_count.proofs.LawsOfHandles.{IsIn, state_is, block_made}
 use Rattle.arcstr_count.proofs.Tables.{handle_at, length-handles_of, length-words_left}
 use Rattle.arcstr_count.proofs.Entries.{AreTablesOf, entry_of, entries_of, entry_at, tables_from_view, view_from_tables}
 
@@ -31,9 +31,8 @@ use Rattle.arcstr_count.proofs.Entries.{AreTablesOf, entry_of, entries_of, entry
 
 -- the handle was born, on this block and in this state, and the block was made
 pub record FoundIn (limit : ℕ) (p : List Step) (h b : ℕ) (s : HandleState) : Type 0 where
-  pub born : h < births p
+  pub is_in : IsIn limit p h s
   pub block : block_of p h ≡ b
-  pub state : state_of limit p h ≡ s
   pub made : b < makes p
 
 -- what a world's view has about a handle is what the past has about it
@@ -41,9 +40,8 @@ pub found_in_past : (w : WorldView) (p : List Step) (h b : ℕ) (s : HandleState
     → w.summary.handles ≡ handles_of w.summary.limit p → w.words ≡ words_left w.summary.limit p → IsAt w h b s
     → FoundIn w.summary.limit p h b s
 found_in_past w p h b s handles words at = record {
-  born = born;
+  is_in = record { born = born; state = ap (λ (found : HandleSummary). found.state) is };
   block = ap (λ (found : HandleSummary). found.block) is;
-  state = ap (λ (found : HandleSummary). found.state) is;
   made = let long = ap length words ∙ length-words_left w.summary.limit p in let made = at.made in omega arith;
 }
   where
@@ -56,11 +54,6 @@ found_in_past w p h b s handles words at = record {
     is : handle_summary w.summary.limit p h ≡ here
     is = sym (handle_at w.summary.limit p h here born) ∙ ap (λ hs. get_or hs h here) (sym handles)
         ∙ get_or_from_slice_get w.summary.handles h here here at.found
-
--- the past has the state of a handle that was found
-pub handle_state-found : (limit : ℕ) (p : List Step) (h b : ℕ) (s : HandleState) → FoundIn limit p h b s
-    → handle_state limit p h ≡ Some s
-handle_state-found limit p h b s found = rw (lt-ltb h (births p) found.born, found.state) refl
 
 -- a world has each of its handles on a block that it has
 pub placed : (limit : ℕ) (handles : List HandleSummary) (blocks : List BlockEntry) (w : WorldView) (h : ℕ) (known : Option HandleSummary)
@@ -212,7 +205,7 @@ world_kept limit handles blocks old s reply new_handles new_blocks world view_is
 -- a clone of a handle that a world has as free is accepted
 pub clone_accepted : (w : WorldView) (h b : ℕ) → IsAt w h b Free → IsAcceptedBy w (Clone h)
 clone_accepted w h b at history stands =
-    ap (λ o. is_none (refusal_unless Free o)) (handle_state-found w.summary.limit p h b Free found)
+    ap (λ o. is_none (refusal_unless Free o)) (state_is w.summary.limit p h Free found.is_in)
   where
     p : List Step
     p = past_of w.summary.limit history

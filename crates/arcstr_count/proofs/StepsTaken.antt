@@ -23,12 +23,12 @@ use Rattle.arcstr_count.specs.Taken.{IsRefusal, Takes}
 use Rattle.arcstr_count.specs.OneHandle.{IsAt}
 use Rattle.arcstr_count.specs.OneBlock.{look_reply}
 use Rattle.arcstr_count.proofs.Pasts.{IsPast-past_of}
-use Rattle.arcstr_count.proofs.LawsOfHandles.{accepts_needed, ChangesOne, Begin-changes, Sub-changes, Back-changes, IntoRaw-changes, FromRaw-changes}
+use Rattle.arcstr_count.proofs.LawsOfHandles.{state_is, accepts_needed, ChangesOne, Begin-changes, Sub-changes, Back-changes, IntoRaw-changes, FromRaw-changes}
 use Rattle.arcstr_count.proofs.Tables.{handle_is, handle_at, length-handles_of, handles-Make, handles-Clone, handles-changed}
 use Rattle.arcstr_count.proofs.Entries.{AreTablesOf, entry_of, entries_of, entry_at, entry_with, with_word, tables_from_view, length-entries_of, entries-Make}
 use Rattle.arcstr_count.proofs.Entries.{entries-Clone, entries-Sub, entries-Leak, entries-Back, words_of-entries}
 use Rattle.arcstr_count.proofs.LawsOfPasts.{word_stands, look_answers, Sub_counted, Sub_last}
-use Rattle.arcstr_count.proofs.StepTaking.{FoundIn, found_in_past, handle_state-found, entry_read, Changes, takes_accepted}
+use Rattle.arcstr_count.proofs.StepTaking.{FoundIn, found_in_past, entry_read, Changes, takes_accepted}
 
 -- equal lists with one entry changed in the same way are equal
 set_with : {X : Type 0} {xs ys : List X} {i j : ℕ} {x y : X} → xs ≡ ys → i ≡ j → x ≡ y → set xs i x ≡ set ys j y
@@ -87,7 +87,7 @@ module _ (limit : ℕ) (handles : List HandleSummary) (blocks : List BlockEntry)
     where
       block : (get_or handles h no_handle).block ≡ block_of p h
       block = ap (λ (hs : List HandleSummary). (get_or hs h no_handle).block) tables.handles_are
-          ∙ ap (λ (x : HandleSummary). x.block) (handle_at limit p h no_handle f.born)
+          ∙ ap (λ (x : HandleSummary). x.block) (handle_at limit p h no_handle f.is_in.born)
 
   -- the table of blocks with another word on the handle's block
   word_changed : (s : HandleState) (w : FlagAndCount) (F : FlagAndCount → FlagAndCount) (p : List Step)
@@ -122,7 +122,7 @@ module _ (limit : ℕ) (handles : List HandleSummary) (blocks : List BlockEntry)
     where
       accepted : (p : List Step) → AreTablesOf limit p handles blocks → refusal_of limit p s ≡ None
       accepted p tables = ap (λ n. refusal_by (λ k. handle_state limit p k) n) need
-          ∙ ap (refusal_unless needed) (handle_state-found limit p h b needed (found needed p at tables)) ∙ accepts_needed needed
+          ∙ ap (refusal_unless needed) (state_is limit p h needed (found needed p at tables).is_in) ∙ accepts_needed needed
 
   -- a step that changes the handle's state
   takes_change : (s : Step) (needed new : HandleState) (reply : Reply) (new_blocks : List BlockEntry)
@@ -213,7 +213,7 @@ module _ (limit : ℕ) (handles : List HandleSummary) (blocks : List BlockEntry)
             let f = found Dropping (past_of limit known.0) at tables in
             rw (entry_is (past_of limit known.0) tables f.made, ← f.block)
             (Sub_counted limit (past_of limit known.0) h past
-            (ap (λ o. is_none (refusal_unless Dropping o)) (handle_state-found limit (past_of limit known.0) h b Dropping f)))
+            (ap (λ o. is_none (refusal_unless Dropping o)) (state_is limit (past_of limit known.0) h Dropping f.is_in)))
 
     pub takes_sub : (last : Bool) (w : FlagAndCount) → IsAt old h b Dropping → w ≡ dropped_of e.word → last ≡ is_last e.word
         → (state : HandleState) (reply : Reply)

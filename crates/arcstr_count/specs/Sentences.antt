@@ -2,7 +2,7 @@
 --
 -- A history is the list of its steps in their natural order. A prefix of it has its first n steps, for some n.
 -- The laws in `src/sentences.rt` prove each sentence equal to its definition.
-use Rattle.std.specs.Prelude.{◌≡◌, ℕ, ◌<◌, Bool, true, false, ◌&&◌, ◌==◌, ◌⊎◌, IsTrue, IsFalse, Option, None, Some, IfSome}
+use Rattle.std.specs.Prelude.{◌≡◌, ℕ, ◌<◌, Bool, false, ◌&&◌, ◌==◌, ◌⊎◌, IsTrue, IsFalse, Option, None, Some, IfSome}
 use Rattle.std.specs.Prelude.{List, [], ◌∷◌, ◌++◌, length, filter, take, slice_get}
 use Rattle.arcstr_count.specs.declared.steps.Step.{Step}
 use Rattle.arcstr_count.specs.declared.steps.Step.TheVariants.{Make, Look, Clone, Begin, Sub, Back, Leak, IntoRaw, FromRaw}
@@ -70,17 +70,6 @@ abbrev pub AcceptedSentence : ℕ → List Step → Step → Type 0
 AcceptedSentence limit history s = IfSome (needs s) (λ need. state_after limit history need.handle ≡ Some need.state)
 
 -- ---- births
-
--- `Make` makes a block
-abbrev pub is_make : Step → Bool
-is_make Make = true
-is_make s = false
-
--- `Make` and `Clone` give birth to a handle
-abbrev pub is_birth : Step → Bool
-is_birth Make = true
-is_birth (Clone h) = true
-is_birth s = false
 
 -- Handle h is born on block b: at an accepted `Make` with h births before it, where b is the number of
 -- `Make`s before it; or at an accepted `Clone` with h births before it, of a handle on b.

@@ -1,13 +1,14 @@
 //! The world of counted blocks, which answers one step at a time by the meaning of its history.
 
 ghost use Rattle.std.specs.Prelude.{◌≡◌, ◌<◌, ◌≤◌, ◌↔◌, ◌+◌, ◌++◌, if◌then◌else◌, [], ◌∷◌, List, length};
-ghost use Rattle.std.specs.Prelude.{IfOk, IfErr, OnOk, OnErr, IsOk, IfSome, IsNone, Some, slice_get, vec_len, vec_capacity};
+ghost use Rattle.std.specs.Prelude.{IsTrue, IfOk, IfErr, OnOk, OnErr, IsOk, IfSome, IsNone, Some, slice_get, vec_len, vec_capacity};
 ghost use Rattle.arcstr_count.specs.declared.steps.Step.{Step};
+ghost use Rattle.arcstr_count.specs.History.{is_birth};
 ghost use Rattle.arcstr_count.specs.Summary.{StandsFor};
 ghost use Rattle.arcstr_count.specs.After.{given_after};
 ghost use Rattle.arcstr_count.specs.Tables.{handles_with_state, blocks_with_word, blocks_with_mark, blocks_with_given};
 ghost use Rattle.arcstr_count.specs.Answer.{refusal_unless};
-ghost use Rattle.arcstr_count.specs.Taken.{GivesBirth, IsRefusal, IsAcceptedBy, Answers, Follows, Takes, HasHistory};
+ghost use Rattle.arcstr_count.specs.Taken.{IsRefusal, IsAcceptedBy, Answers, Follows, Takes, HasHistory};
 ghost use Rattle.arcstr_count.specs.Laws.{HoldsInEveryInterleaving};
 ghost use Rattle.arcstr_count.specs.OneHandle.{state_at, IsAt};
 
@@ -96,7 +97,7 @@ impl<A: Allocator + Copy> World<A> {
         ensures refused { IfOk result (λ reply. IsRefusal reply → self.new ≡ self.old) }
 
         ensures memory { IfErr result (λ fault. (fault ≡ RunFault.Memory) × (self.new ≡ self.old)) }
-        ensures memory_only_to_births { OnErr result (GivesBirth step × IsAcceptedBy self.old step) }
+        ensures memory_only_to_births { OnErr result (IsTrue (is_birth step) × IsAcceptedBy self.old step) }
 
         ensures limit { self.new.summary.limit ≡ self.old.summary.limit }
     {
