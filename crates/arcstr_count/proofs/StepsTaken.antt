@@ -71,8 +71,8 @@ record ChangesState (limit : ℕ) (p : List Step) (s : Step) (h : ℕ) (old new 
 module _ (limit : ℕ) (handles : List HandleSummary) (blocks : List BlockEntry) (old : WorldView) (h b : ℕ)
     (view_is : view_of limit handles blocks ≡ old) where
   -- what the tables have about the handle is what the past has
-  found : (s : HandleState) (p : List Step) → IsAt old h b s → AreTablesOf limit p handles blocks → FoundIn limit p h b s
-  found s p at tables = found_in_past (view_of limit handles blocks) p h b s tables.handles_are
+  found_after : (s : HandleState) (p : List Step) → IsAt old h b s → AreTablesOf limit p handles blocks → FoundIn limit p h b s
+  found_after s p at tables = found_in_past (view_of limit handles blocks) p h b s tables.handles_are
       (ap (λ es. map word_in es) tables.blocks_are ∙ words_of-entries limit p)
       (subst (λ w. IsAt w h b s) (sym view_is) at)
 
@@ -118,11 +118,11 @@ module _ (limit : ℕ) (handles : List HandleSummary) (blocks : List BlockEntry)
       → Takes old s reply (view_of limit new_handles new_blocks)
   takes_step s needed reply new_handles new_blocks need at answers change =
       takes_accepted limit handles blocks old s reply new_handles new_blocks view_is answers accepted
-      (λ p past tables. change p past tables (found needed p at tables) (ap is_none (accepted p tables)))
+      (λ p past tables. change p past tables (found_after needed p at tables) (ap is_none (accepted p tables)))
     where
       accepted : (p : List Step) → AreTablesOf limit p handles blocks → refusal_of limit p s ≡ None
       accepted p tables = ap (λ n. refusal_by (λ k. handle_state limit p k) n) need
-          ∙ ap (refusal_unless needed) (state_is limit p h needed (found needed p at tables).is_in) ∙ accepts_needed needed
+          ∙ ap (refusal_unless needed) (state_is limit p h needed (found_after needed p at tables).is_in) ∙ accepts_needed needed
 
   -- a step that changes the handle's state
   takes_change : (s : Step) (needed new : HandleState) (reply : Reply) (new_blocks : List BlockEntry)
@@ -210,7 +210,7 @@ module _ (limit : ℕ) (handles : List HandleSummary) (blocks : List BlockEntry)
         counted known =
             let past = IsPast-past_of limit known.0 in
             let tables = tables_from_view limit handles blocks known.0 known.1 in
-            let f = found Dropping (past_of limit known.0) at tables in
+            let f = found_after Dropping (past_of limit known.0) at tables in
             rw (entry_is (past_of limit known.0) tables f.made, ← f.block)
             (Sub_counted limit (past_of limit known.0) h past
             (ap (λ o. is_none (refusal_unless Dropping o)) (state_is limit (past_of limit known.0) h Dropping f.is_in)))
