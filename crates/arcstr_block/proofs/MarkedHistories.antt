@@ -3,6 +3,7 @@ use Rattle.std.proofs.Common.{◌≡◌, ℕ, ◌<◌, Bool, true, false, ◌||�
 use Rattle.std.proofs.Common.{arith}
 use Rattle.arcstr_count.specs.declared.steps.Step.{Step}
 use Rattle.arcstr_count.specs.declared.steps.Step.TheVariants.{Look, Leak}
+use Rattle.arcstr_count.specs.declared.steps.HandleState.TheVariants.{Free}
 use Rattle.arcstr_count.specs.declared.steps.Reply.TheVariants.{Count, Static, Marked}
 use Rattle.arcstr_count.specs.declared.faults.StepFault.{StepFault}
 use Rattle.arcstr_count.specs.Word.{FlagAndCount, looked_of}
@@ -12,7 +13,7 @@ use Rattle.arcstr_count.specs.Answer.{is_accepted, reply_by}
 use Rattle.arcstr_count.specs.Past.{past_of}
 use Rattle.arcstr_count.specs.OneBlock.{IsOneBlock, EndsIn, look_reply}
 use Rattle.arcstr_count.proofs.Pasts.{past_of-step, IsPast-past_of}
-use Rattle.arcstr_count.proofs.LawsOfHandles.{block_made, Look-finds, Leak-finds}
+use Rattle.arcstr_count.proofs.LawsOfHandles.{block_made, step_finds}
 use Rattle.arcstr_block.specs.Word.{IsMarked, word_of}
 use Rattle.arcstr_block.specs.Handle.{IsMarkedIn}
 use Rattle.arcstr_block.proofs.Words.{marked_word}
@@ -36,7 +37,7 @@ on_the_block limit history prefix s h one past same born =
 pub marked_by_leak : (limit : ℕ) (history : List Step) (h : ℕ) → EndsIn limit history (Leak h) Marked → IsMarkedIn limit history
 marked_by_leak limit history h ends = let p : List Step = past_of limit ends.prefix in
     let past : past_of limit history ≡ Leak h ∷ p = past_ends limit history ends.prefix (Leak h) ends.ends ends.accepted in
-    let on : block_of p h ≡ 0 = on_the_block limit history ends.prefix (Leak h) h ends.one_block past refl (Leak-finds limit p h ends.accepted).born in
+    let on : block_of p h ≡ 0 = on_the_block limit history ends.prefix (Leak h) h ends.one_block past refl (step_finds limit p h Free ends.accepted).born in
     record { one_block = ends.one_block; marked = ap (λ q. is_marked limit q 0) past ∙ ap (λ b. (b == 0) || is_marked limit p 0) on }
 
 -- only a look at a marked block has this answer
@@ -48,7 +49,7 @@ static_was (Some fault) marked n e = cc
 marked_by_look : (limit : ℕ) (history : List Step) (h : ℕ) → EndsIn limit history (Look h) Static → IsMarkedIn limit history
 marked_by_look limit history h ends = let p : List Step = past_of limit ends.prefix in
     let past : past_of limit history ≡ Look h ∷ p = past_ends limit history ends.prefix (Look h) ends.ends ends.accepted in
-    let on : block_of p h ≡ 0 = on_the_block limit history ends.prefix (Look h) h ends.one_block past refl (Look-finds limit p h ends.accepted).born in
+    let on : block_of p h ≡ 0 = on_the_block limit history ends.prefix (Look h) h ends.one_block past refl (step_finds limit p h Free ends.accepted).born in
     let there : is_marked limit p (block_of p h) ≡ true = static_was _ _ _ ends.answered in
     record { one_block = ends.one_block; marked = ap (λ q. is_marked limit q 0) past ∙ ap (λ b. is_marked limit p b) (sym on) ∙ there }
 

@@ -11,7 +11,7 @@ use Rattle.arcstr_count.specs.declared.steps.HandleState.TheVariants.{Free}
 use Rattle.arcstr_count.specs.History.{makes, births, block_of, lives, numbers_below}
 use Rattle.arcstr_count.specs.Marks.{state_of, living, is_only}
 use Rattle.arcstr_count.specs.Past.{IsPast}
-use Rattle.arcstr_count.specs.Left.{is_dropping, is_owing, dropping, owing}
+use Rattle.arcstr_count.specs.Left.{is_dropping}
 use Rattle.arcstr_count.proofs.LawsOfHandles.{same_test, other_test, IsIn, ChangesOne, state-born, block-Make, block-Make_other, block-Clone}
 use Rattle.arcstr_count.proofs.LawsOfHandles.{block-Clone_other, block_made}
 
@@ -98,15 +98,6 @@ is_held limit p b test h = (block_of p h == b) && test (state_of limit p h)
 abbrev pub held : ℕ → List Step → ℕ → (HandleState → Bool) → ℕ
 held limit p b test = count (λ h. is_held limit p b test h) (births p)
 
-pub length-living : (limit : ℕ) (p : List Step) (b : ℕ) → length (living limit p b) ≡ held limit p b lives
-length-living limit p b = refl
-
-pub length-dropping : (limit : ℕ) (p : List Step) (b : ℕ) → length (dropping limit p b) ≡ held limit p b is_dropping
-length-dropping limit p b = refl
-
-pub length-owing : (limit : ℕ) (p : List Step) (b : ℕ) → length (owing limit p b) ≡ held limit p b is_owing
-length-owing limit p b = refl
-
 held_by : {b c : ℕ} {s t : HandleState} (d : ℕ) (test : HandleState → Bool) → b ≡ c → s ≡ t
     → ((b == d) && test s) ≡ ((c == d) && test t)
 held_by d test block state = ap₂ (λ b s. (b == d) && test s) block state
@@ -127,17 +118,15 @@ module _ (limit : ℕ) (p : List Step) (s : Step) (h : ℕ) (old new : HandleSta
       ∙ step ∙ ap (λ x. held limit p b test + one x) after
 
   pub changed_here : (test : HandleState → Bool)
-      → count (λ k. is_held limit (s ∷ p) (block_of p h) test k) (births p) + one (test old)
-      ≡ held limit p (block_of p h) test + one (test new)
-  changed_here test =
-      rw (same_test (block_of p h)) at (changed_count (block_of p h) test)
+      → held limit (s ∷ p) (block_of p h) test + one (test old) ≡ held limit p (block_of p h) test + one (test new)
+  changed_here test = rw c.same_births (rw (same_test (block_of p h)) at (changed_count (block_of p h) test))
 
   pub changed_elsewhere : (b : ℕ) (test : HandleState → Bool) → b ≢ block_of p h
-      → count (λ k. is_held limit (s ∷ p) b test k) (births p) ≡ held limit p b test
+      → held limit (s ∷ p) b test ≡ held limit p b test
   changed_elsewhere b test apart =
       let elsewhere = other_test (block_of p h) b apart in
       let all : count (λ k. is_held limit (s ∷ p) b test k) (births p) + 0 ≡ held limit p b test + 0 = rw elsewhere at (changed_count b test) in
-      omega arith
+      rw c.same_births (omega arith)
 
 -- ---- steps that give birth
 

@@ -26,8 +26,8 @@ crossing_mark-ended : Leaves 5 (Make ∷ Clone 0 ∷ Begin 0 ∷ Leak 1 ∷ Sub 
 crossing_mark-ended = (refl, refl, refl, refl, refl)
 
 -- clones past the limit mark, and count no further
-past_the_limit : Leaves 1 (Make ∷ Clone 0 ∷ Clone 0 ∷ Clone 0 ∷ []) (record { flag = true; count = 2 }) (0 ∷ 1 ∷ 2 ∷ 3 ∷ []) [] [] 0
-past_the_limit = (refl, refl, refl, refl, refl)
+words_past_the_limit : Leaves 1 (Make ∷ Clone 0 ∷ Clone 0 ∷ Clone 0 ∷ []) (record { flag = true; count = 2 }) (0 ∷ 1 ∷ 2 ∷ 3 ∷ []) [] [] 0
+words_past_the_limit = (refl, refl, refl, refl, refl)
 
 -- two drops that cross: the one that subtracts last owes the block, and then frees it
 crossing_drops-both : Leaves 5 (Make ∷ Clone 0 ∷ Begin 0 ∷ Begin 1 ∷ []) (record { flag = false; count = 2 }) (0 ∷ 1 ∷ []) (0 ∷ 1 ∷ []) [] 0
@@ -36,13 +36,13 @@ crossing_drops-both = (refl, refl, refl, refl, refl)
 crossing_drops-owed : Leaves 5 (Make ∷ Clone 0 ∷ Begin 0 ∷ Begin 1 ∷ Sub 1 ∷ Sub 0 ∷ []) (record { flag = false; count = 0 }) [] [] (0 ∷ []) 0
 crossing_drops-owed = (refl, refl, refl, refl, refl)
 
-crossing_drops-given : Leaves 5 (Make ∷ Clone 0 ∷ Begin 0 ∷ Begin 1 ∷ Sub 1 ∷ Sub 0 ∷ Back 0 ∷ []) (record { flag = false; count = 0 }) [] [] [] 1
-crossing_drops-given = (refl, refl, refl, refl, refl)
+crossing_drops-freed : Leaves 5 (Make ∷ Clone 0 ∷ Begin 0 ∷ Begin 1 ∷ Sub 1 ∷ Sub 0 ∷ Back 0 ∷ []) (record { flag = false; count = 0 }) [] [] [] 1
+crossing_drops-freed = (refl, refl, refl, refl, refl)
 
 -- a raw value lives and counts
 raw_value : Leaves 5 (Make ∷ Clone 0 ∷ IntoRaw 1 ∷ Begin 0 ∷ Sub 0 ∷ []) (record { flag = false; count = 1 }) (1 ∷ []) [] [] 0
 raw_value = (refl, refl, refl, refl, refl)
 
 -- limit 0: the first clone marks, and the block is never freed
-limit_zero : Leaves 0 (Make ∷ Clone 0 ∷ Begin 0 ∷ Begin 1 ∷ []) (record { flag = true; count = 1 }) [] [] [] 0
-limit_zero = (refl, refl, refl, refl, refl)
+words_at_limit_zero : Leaves 0 (Make ∷ Clone 0 ∷ Begin 0 ∷ Begin 1 ∷ []) (record { flag = true; count = 1 }) [] [] [] 0
+words_at_limit_zero = (refl, refl, refl, refl, refl)

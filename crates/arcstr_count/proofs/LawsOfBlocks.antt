@@ -14,9 +14,9 @@ use Rattle.arcstr_count.specs.Past.{IsPast, times_given}
 use Rattle.arcstr_count.specs.Left.{word_left, is_dropping, is_owing}
 use Rattle.arcstr_count.proofs.Counting.{one, held, Make_here, Make_elsewhere, Clone_here, Clone_elsewhere, changed_here, changed_elsewhere}
 use Rattle.arcstr_count.proofs.Counting.{dropping-le-living, some_held, is_only-living}
-use Rattle.arcstr_count.proofs.LawsOfHandles.{same_test, other_test, Clone-finds, Sub-finds, Leak-finds, Begin-changes, Sub-changes, Back-changes}
+use Rattle.arcstr_count.proofs.LawsOfHandles.{same_test, other_test, step_finds, ChangesOne, Begin-changes, Sub-changes, Back-changes}
 use Rattle.arcstr_count.proofs.LawsOfHandles.{IntoRaw-changes, FromRaw-changes}
-use Rattle.arcstr_count.proofs.Tables.{unmade_block, marked-Clone_other, given-Back, given-Back_other, marked-Leak_other}
+use Rattle.arcstr_count.proofs.Tables.{unmade_block, marked-Clone_other, given-Back, marked-Leak_other}
 
 -- ---- the word, the mark and the counts of one block
 
@@ -160,78 +160,11 @@ module _ (limit : ℕ) (p : List Step) (past : IsPast limit p) where
           (λ test. held limit p (block_of p h) test) (λ test. held limit (Clone h ∷ p) (block_of p h) test)
           (times_given p (block_of p h)) (is_marked limit p (block_of p h))
           (bears _ _ (λ test. Clone_here limit p h test past))
-          (some_held limit p h Free lives (Clone-finds limit p h a) refl) (dropping-le-living limit p (block_of p h)) before)
+          (some_held limit p h Free lives (step_finds limit p h Free a) refl) (dropping-le-living limit p (block_of p h)) before)
 
       elsewhere : b ≢ block_of p h → Balance limit p b → Balance limit (Clone h ∷ p) b
       elsewhere apart = unchanged (Clone h ∷ p) b (rw (other_test (block_of p h) b apart) refl)
           (marked-Clone_other limit p h b apart) (λ test. Clone_elsewhere limit p h b test past apart) refl
-
-  Begin-balance : (h b : ℕ) → is_accepted limit p (Begin h) ≡ true → Balance limit p b → Balance limit (Begin h ∷ p) b
-  Begin-balance h b a = on_block (λ c. Balance limit p c) (λ c. Balance limit (Begin h ∷ p) c) b (block_of p h) here elsewhere
-    where
-      here : Balance limit p (block_of p h) → Balance limit (Begin h ∷ p) (block_of p h)
-      here = after_Begin limit (word_left limit p (block_of p h))
-          (λ test. held limit p (block_of p h) test) (λ test. held limit (Begin h ∷ p) (block_of p h) test)
-          (times_given p (block_of p h)) (is_marked limit p (block_of p h))
-          (moves _ _ _ _ (changed_here limit p (Begin h) h _ _ (Begin-changes limit p h past a)))
-
-      elsewhere : b ≢ block_of p h → Balance limit p b → Balance limit (Begin h ∷ p) b
-      elsewhere apart = unchanged (Begin h ∷ p) b refl refl
-          (λ test. changed_elsewhere limit p (Begin h) h _ _ (Begin-changes limit p h past a) b test apart) refl
-
-  Sub-balance : (h b : ℕ) → is_accepted limit p (Sub h) ≡ true → Balance limit p b → Balance limit (Sub h ∷ p) b
-  Sub-balance h b a = on_block (λ c. Balance limit p c) (λ c. Balance limit (Sub h ∷ p) c) b (block_of p h) here elsewhere
-    where
-      here : Balance limit p (block_of p h) → Balance limit (Sub h ∷ p) (block_of p h)
-      here before = rw (same_test (block_of p h)) (after_Sub limit (word_left limit p (block_of p h))
-          (λ test. held limit p (block_of p h) test) (λ test. held limit (Sub h ∷ p) (block_of p h) test)
-          (times_given p (block_of p h)) (is_marked limit p (block_of p h)) (is_only h (living limit p (block_of p h)))
-          (is_only-living limit p h Dropping (Sub-finds limit p h a) refl)
-          (moves _ _ _ _ (changed_here limit p (Sub h) h _ _ (Sub-changes limit p h past a))) before)
-
-      elsewhere : b ≢ block_of p h → Balance limit p b → Balance limit (Sub h ∷ p) b
-      elsewhere apart = unchanged (Sub h ∷ p) b (rw (other_test (block_of p h) b apart) refl) refl
-          (λ test. changed_elsewhere limit p (Sub h) h _ _ (Sub-changes limit p h past a) b test apart) refl
-
-  Back-balance : (h b : ℕ) → is_accepted limit p (Back h) ≡ true → Balance limit p b → Balance limit (Back h ∷ p) b
-  Back-balance h b a = on_block (λ c. Balance limit p c) (λ c. Balance limit (Back h ∷ p) c) b (block_of p h) here elsewhere
-    where
-      here : Balance limit p (block_of p h) → Balance limit (Back h ∷ p) (block_of p h)
-      here = after_Back limit (word_left limit p (block_of p h))
-          (λ test. held limit p (block_of p h) test) (λ test. held limit (Back h ∷ p) (block_of p h) test)
-          (times_given p (block_of p h)) (is_marked limit p (block_of p h)) _ (given-Back p h)
-          (moves _ _ _ _ (changed_here limit p (Back h) h Owing Gone (Back-changes limit p h a)))
-
-      elsewhere : b ≢ block_of p h → Balance limit p b → Balance limit (Back h ∷ p) b
-      elsewhere apart = unchanged (Back h ∷ p) b refl refl
-          (λ test. changed_elsewhere limit p (Back h) h Owing Gone (Back-changes limit p h a) b test apart)
-          (given-Back_other p h b apart)
-
-  IntoRaw-balance : (h b : ℕ) → is_accepted limit p (IntoRaw h) ≡ true → Balance limit p b → Balance limit (IntoRaw h ∷ p) b
-  IntoRaw-balance h b a = on_block (λ c. Balance limit p c) (λ c. Balance limit (IntoRaw h ∷ p) c) b (block_of p h) here elsewhere
-    where
-      here : Balance limit p (block_of p h) → Balance limit (IntoRaw h ∷ p) (block_of p h)
-      here = after_IntoRaw limit (word_left limit p (block_of p h))
-          (λ test. held limit p (block_of p h) test) (λ test. held limit (IntoRaw h ∷ p) (block_of p h) test)
-          (times_given p (block_of p h)) (is_marked limit p (block_of p h))
-          (moves _ _ _ _ (changed_here limit p (IntoRaw h) h Free Raw (IntoRaw-changes limit p h a)))
-
-      elsewhere : b ≢ block_of p h → Balance limit p b → Balance limit (IntoRaw h ∷ p) b
-      elsewhere apart = unchanged (IntoRaw h ∷ p) b refl refl
-          (λ test. changed_elsewhere limit p (IntoRaw h) h Free Raw (IntoRaw-changes limit p h a) b test apart) refl
-
-  FromRaw-balance : (h b : ℕ) → is_accepted limit p (FromRaw h) ≡ true → Balance limit p b → Balance limit (FromRaw h ∷ p) b
-  FromRaw-balance h b a = on_block (λ c. Balance limit p c) (λ c. Balance limit (FromRaw h ∷ p) c) b (block_of p h) here elsewhere
-    where
-      here : Balance limit p (block_of p h) → Balance limit (FromRaw h ∷ p) (block_of p h)
-      here = after_FromRaw limit (word_left limit p (block_of p h))
-          (λ test. held limit p (block_of p h) test) (λ test. held limit (FromRaw h ∷ p) (block_of p h) test)
-          (times_given p (block_of p h)) (is_marked limit p (block_of p h))
-          (moves _ _ _ _ (changed_here limit p (FromRaw h) h Raw Free (FromRaw-changes limit p h past a)))
-
-      elsewhere : b ≢ block_of p h → Balance limit p b → Balance limit (FromRaw h ∷ p) b
-      elsewhere apart = unchanged (FromRaw h ∷ p) b refl refl
-          (λ test. changed_elsewhere limit p (FromRaw h) h Raw Free (FromRaw-changes limit p h past a) b test apart) refl
 
   Leak-balance : (h b : ℕ) → is_accepted limit p (Leak h) ≡ true → Balance limit p b → Balance limit (Leak h ∷ p) b
   Leak-balance h b a = on_block (λ c. Balance limit p c) (λ c. Balance limit (Leak h ∷ p) c) b (block_of p h) here elsewhere
@@ -239,11 +172,21 @@ module _ (limit : ℕ) (p : List Step) (past : IsPast limit p) where
       here : Balance limit p (block_of p h) → Balance limit (Leak h ∷ p) (block_of p h)
       here before = rw (same_test (block_of p h)) (after_Leak limit (word_left limit p (block_of p h))
           (λ test. held limit p (block_of p h) test) (times_given p (block_of p h)) (is_marked limit p (block_of p h))
-          (some_held limit p h Free lives (Leak-finds limit p h a) refl) (dropping-le-living limit p (block_of p h)) before)
+          (some_held limit p h Free lives (step_finds limit p h Free a) refl) (dropping-le-living limit p (block_of p h)) before)
 
       elsewhere : b ≢ block_of p h → Balance limit p b → Balance limit (Leak h ∷ p) b
       elsewhere apart = unchanged (Leak h ∷ p) b (rw (other_test (block_of p h) b apart) refl)
           (marked-Leak_other limit p h b apart) (λ test. refl) refl
+
+-- a step that changes the state of one handle, given what it does to that handle's block
+changed-balance : (limit : ℕ) (p : List Step) (s : Step) (h : ℕ) (old new : HandleState) → IsPast limit p → ChangesOne limit p s h old new
+    → ((after : Counts) → Moves (λ test. held limit p (block_of p h) test) after old new → Balance limit p (block_of p h)
+    → Balanced limit (word_left limit (s ∷ p) (block_of p h)) (is_marked limit (s ∷ p) (block_of p h)) after (times_given (s ∷ p) (block_of p h)))
+    → (b : ℕ) → Balance limit p b → Balance limit (s ∷ p) b
+changed-balance limit p s h old new past c here b = on_block (λ d. Balance limit p d) (λ d. Balance limit (s ∷ p) d) b (block_of p h)
+    (here (λ test. held limit (s ∷ p) (block_of p h) test) (moves _ _ _ _ (changed_here limit p s h old new c)))
+    (λ apart. unchanged limit p past (s ∷ p) b (c.words b apart) (c.marks b)
+    (λ test. changed_elsewhere limit p s h old new c b test apart) (c.frees b apart))
 
 pub balance : (limit : ℕ) (p : List Step) (b : ℕ) → IsPast limit p → b < makes p → Balance limit p b
 balance limit [] b past made = absurd (omega arith)
@@ -254,9 +197,21 @@ balance limit (Make ∷ p) b past made = by_block (cases_eq b (makes p)) (λ old
     by_block (inr apart) before = Make-balance limit p past.1 b apart (before (omega arith))
 balance limit (Look h ∷ p) b past made = balance limit p b past.1 made
 balance limit (Clone h ∷ p) b past made = Clone-balance limit p past.1 h b past.0 (balance limit p b past.1 made)
-balance limit (Begin h ∷ p) b past made = Begin-balance limit p past.1 h b past.0 (balance limit p b past.1 made)
-balance limit (Sub h ∷ p) b past made = Sub-balance limit p past.1 h b past.0 (balance limit p b past.1 made)
-balance limit (Back h ∷ p) b past made = Back-balance limit p past.1 h b past.0 (balance limit p b past.1 made)
+balance limit (Begin h ∷ p) b past made = changed-balance limit p (Begin h) h _ _ past.1 (Begin-changes limit p h past.1 past.0)
+    (λ after. after_Begin limit (word_left limit p (block_of p h)) (λ test. held limit p (block_of p h) test) after (times_given p (block_of p h))
+    (is_marked limit p (block_of p h))) b (balance limit p b past.1 made)
+balance limit (Sub h ∷ p) b past made = changed-balance limit p (Sub h) h _ _ past.1 (Sub-changes limit p h past.1 past.0)
+    (λ after step before. rw (same_test (block_of p h)) (after_Sub limit (word_left limit p (block_of p h)) (λ test. held limit p (block_of p h) test) after (times_given p (block_of p h))
+    (is_marked limit p (block_of p h))
+    (is_only h (living limit p (block_of p h)))
+    (is_only-living limit p h Dropping (step_finds limit p h Dropping past.0) refl) step before)) b (balance limit p b past.1 made)
+balance limit (Back h ∷ p) b past made = changed-balance limit p (Back h) h _ _ past.1 (Back-changes limit p h past.1 past.0)
+    (λ after. after_Back limit (word_left limit p (block_of p h)) (λ test. held limit p (block_of p h) test) after (times_given p (block_of p h))
+    (is_marked limit p (block_of p h)) _ (given-Back p h)) b (balance limit p b past.1 made)
+balance limit (IntoRaw h ∷ p) b past made = changed-balance limit p (IntoRaw h) h _ _ past.1 (IntoRaw-changes limit p h past.1 past.0)
+    (λ after. after_IntoRaw limit (word_left limit p (block_of p h)) (λ test. held limit p (block_of p h) test) after (times_given p (block_of p h))
+    (is_marked limit p (block_of p h))) b (balance limit p b past.1 made)
+balance limit (FromRaw h ∷ p) b past made = changed-balance limit p (FromRaw h) h _ _ past.1 (FromRaw-changes limit p h past.1 past.0)
+    (λ after. after_FromRaw limit (word_left limit p (block_of p h)) (λ test. held limit p (block_of p h) test) after (times_given p (block_of p h))
+    (is_marked limit p (block_of p h))) b (balance limit p b past.1 made)
 balance limit (Leak h ∷ p) b past made = Leak-balance limit p past.1 h b past.0 (balance limit p b past.1 made)
-balance limit (IntoRaw h ∷ p) b past made = IntoRaw-balance limit p past.1 h b past.0 (balance limit p b past.1 made)
-balance limit (FromRaw h ∷ p) b past made = FromRaw-balance limit p past.1 h b past.0 (balance limit p b past.1 made)

@@ -1,15 +1,16 @@
 -- What an accepted step finds about its handle in a past, and what it leaves.
 use Rattle.std.proofs.Common.{◌≡◌, ◌≢◌, ℕ, suc, ◌<◌, ◌≤◌, Bool, true, false, not, ◌&&◌, ◌==◌, nat_lt, if◌then◌else◌, is_none, Option, None, Some}
 use Rattle.std.proofs.Common.{List, [], ◌∷◌, refl, sym, arith, ltb-true, eqb-true, eq-eqb, ne_eqb}
-use Rattle.std.proofs.lemmas.Bool.{eqb-false}
+use Rattle.std.proofs.lemmas.Bool.{eqb-false, lt-ltb}
 use Rattle.arcstr_count.specs.declared.steps.Step.{Step}
-use Rattle.arcstr_count.specs.declared.steps.Step.TheVariants.{Make, Look, Clone, Begin, Sub, Back, Leak, IntoRaw, FromRaw}
+use Rattle.arcstr_count.specs.declared.steps.Step.TheVariants.{Make, Clone, Begin, Sub, Back, IntoRaw, FromRaw}
 use Rattle.arcstr_count.specs.declared.steps.HandleState.{HandleState}
 use Rattle.arcstr_count.specs.declared.steps.HandleState.TheVariants.{Free, Raw, Dropping, Owing, Gone}
 use Rattle.arcstr_count.specs.History.{makes, births, block_of, is_raw, has_begun, has_subtracted, has_given, state_by}
 use Rattle.arcstr_count.specs.Marks.{is_marked, state_of, living, is_only, was_last, began_unmarked}
-use Rattle.arcstr_count.specs.Answer.{handle_state, unless_free, unless_dropping, unless_owing, unless_raw, is_accepted}
-use Rattle.arcstr_count.specs.Past.{IsPast}
+use Rattle.arcstr_count.specs.Answer.{handle_state, refusal_unless, is_accepted}
+use Rattle.arcstr_count.specs.Past.{IsPast, times_given}
+use Rattle.arcstr_count.specs.Left.{word_left}
 
 -- ---- tests on numbers
 
@@ -26,48 +27,36 @@ pub record IsIn (limit : ℕ) (p : List Step) (h : ℕ) (s : HandleState) : Type
   pub born : h < births p
   pub state : state_of limit p h ≡ s
 
-found : (limit : ℕ) (p : List Step) (h : ℕ) (s : HandleState) → handle_state limit p h ≡ Some s → IsIn limit p h s
-found limit p h s e = by_test (nat_lt h (births p)) refl e
+pub is_in : (limit : ℕ) (p : List Step) (h : ℕ) (s : HandleState) → handle_state limit p h ≡ Some s → IsIn limit p h s
+is_in limit p h s e = by_test (nat_lt h (births p)) refl e
   where
     by_test : (t : Bool) → nat_lt h (births p) ≡ t → (if t then Some (state_of limit p h) else None) ≡ Some s → IsIn limit p h s
     by_test true born same = record { born = ltb-true h (births p) born; state = cc }
     by_test false unborn same = cc
 
-unless_free-none : (o : Option HandleState) → is_none (unless_free o) ≡ true → o ≡ Some Free
-unless_free-none o e = grind arith
+pub state_is : (limit : ℕ) (p : List Step) (h : ℕ) (s : HandleState) → IsIn limit p h s → handle_state limit p h ≡ Some s
+state_is limit p h s i = rw (lt-ltb h (births p) i.born, i.state) refl
 
-unless_dropping-none : (o : Option HandleState) → is_none (unless_dropping o) ≡ true → o ≡ Some Dropping
-unless_dropping-none o e = grind arith
+-- the table of refusals accepts a handle in the state that a step needs, and no other
+pub accepts_needed : (s : HandleState) → refusal_unless s (Some s) ≡ None
+accepts_needed Free = refl
+accepts_needed Raw = refl
+accepts_needed Dropping = refl
+accepts_needed Owing = refl
+accepts_needed Gone = refl
 
-unless_owing-none : (o : Option HandleState) → is_none (unless_owing o) ≡ true → o ≡ Some Owing
-unless_owing-none o e = grind arith
+pub needed_state : (s : HandleState) (o : Option HandleState) → is_none (refusal_unless s o) ≡ true → o ≡ Some s
+needed_state Free (Some Free) e = refl
+needed_state Raw (Some Raw) e = refl
+needed_state Dropping (Some Dropping) e = refl
+needed_state Owing (Some Owing) e = refl
+needed_state Gone (Some Gone) e = refl
+needed_state s o e = cc
 
-unless_raw-none : (o : Option HandleState) → is_none (unless_raw o) ≡ true → o ≡ Some Raw
-unless_raw-none o e = grind arith
-
-pub Look-finds : (limit : ℕ) (p : List Step) (h : ℕ) → is_accepted limit p (Look h) ≡ true → IsIn limit p h Free
-Look-finds limit p h a = found limit p h Free (unless_free-none (handle_state limit p h) a)
-
-pub Clone-finds : (limit : ℕ) (p : List Step) (h : ℕ) → is_accepted limit p (Clone h) ≡ true → IsIn limit p h Free
-Clone-finds limit p h a = found limit p h Free (unless_free-none (handle_state limit p h) a)
-
-pub Begin-finds : (limit : ℕ) (p : List Step) (h : ℕ) → is_accepted limit p (Begin h) ≡ true → IsIn limit p h Free
-Begin-finds limit p h a = found limit p h Free (unless_free-none (handle_state limit p h) a)
-
-pub Sub-finds : (limit : ℕ) (p : List Step) (h : ℕ) → is_accepted limit p (Sub h) ≡ true → IsIn limit p h Dropping
-Sub-finds limit p h a = found limit p h Dropping (unless_dropping-none (handle_state limit p h) a)
-
-pub Back-finds : (limit : ℕ) (p : List Step) (h : ℕ) → is_accepted limit p (Back h) ≡ true → IsIn limit p h Owing
-Back-finds limit p h a = found limit p h Owing (unless_owing-none (handle_state limit p h) a)
-
-pub Leak-finds : (limit : ℕ) (p : List Step) (h : ℕ) → is_accepted limit p (Leak h) ≡ true → IsIn limit p h Free
-Leak-finds limit p h a = found limit p h Free (unless_free-none (handle_state limit p h) a)
-
-pub IntoRaw-finds : (limit : ℕ) (p : List Step) (h : ℕ) → is_accepted limit p (IntoRaw h) ≡ true → IsIn limit p h Free
-IntoRaw-finds limit p h a = found limit p h Free (unless_free-none (handle_state limit p h) a)
-
-pub FromRaw-finds : (limit : ℕ) (p : List Step) (h : ℕ) → is_accepted limit p (FromRaw h) ≡ true → IsIn limit p h Raw
-FromRaw-finds limit p h a = found limit p h Raw (unless_raw-none (handle_state limit p h) a)
+-- so an accepted step finds its handle in the state that it needs
+pub step_finds : (limit : ℕ) (p : List Step) (h : ℕ) (s : HandleState) → is_none (refusal_unless s (handle_state limit p h)) ≡ true
+    → IsIn limit p h s
+step_finds limit p h s a = is_in limit p h s (needed_state s (handle_state limit p h) a)
 
 -- ---- what a state says was done
 
@@ -83,10 +72,6 @@ owing_was : (raw begun unmarked subtracted last given : Bool) → state_by raw b
     → (raw ≡ false) × (begun ≡ true) × (unmarked && not subtracted ≡ false) × (last ≡ true) × (given ≡ false)
 owing_was raw begun unmarked subtracted last given e = grind arith
 
-raw_was : (raw begun unmarked subtracted last given : Bool) → state_by raw begun unmarked subtracted last given ≡ Raw
-    → raw ≡ true
-raw_was raw begun unmarked subtracted last given e = grind arith
-
 -- ---- what is done to a handle is done in order
 
 record InOrder (raw begun subtracted last given : Bool) : Type 0 where
@@ -95,26 +80,26 @@ record InOrder (raw begun subtracted last given : Bool) : Type 0 where
   subtracted_first : subtracted ≡ false → given ≡ false
   last_of_subtracted : subtracted ≡ false → last ≡ false
 
-after_Begin : (t raw begun subtracted last given : Bool) → (t ≡ true → raw ≡ false)
+Begin-in_order : (t raw begun subtracted last given : Bool) → (t ≡ true → raw ≡ false)
     → InOrder raw begun subtracted last given → InOrder raw (if t then true else begun) subtracted last given
-after_Begin t raw begun subtracted last given found o = grind arith
+Begin-in_order t raw begun subtracted last given found o = grind arith
 
-after_Sub : (t owes raw begun subtracted last given : Bool) → (t ≡ true → begun ≡ true)
+Sub-in_order : (t owes raw begun subtracted last given : Bool) → (t ≡ true → begun ≡ true)
     → InOrder raw begun subtracted last given
     → InOrder raw begun (if t then true else subtracted) (if t then owes else last) given
-after_Sub t owes raw begun subtracted last given found o = grind arith
+Sub-in_order t owes raw begun subtracted last given found o = grind arith
 
-after_Back : (t raw begun subtracted last given : Bool) → (t ≡ true → last ≡ true)
+Back-in_order : (t raw begun subtracted last given : Bool) → (t ≡ true → last ≡ true)
     → InOrder raw begun subtracted last given → InOrder raw begun subtracted last (if t then true else given)
-after_Back t raw begun subtracted last given found o = grind arith
+Back-in_order t raw begun subtracted last given found o = grind arith
 
-after_IntoRaw : (t raw begun subtracted last given : Bool) → (t ≡ true → begun ≡ false)
+IntoRaw-in_order : (t raw begun subtracted last given : Bool) → (t ≡ true → begun ≡ false)
     → InOrder raw begun subtracted last given → InOrder (if t then true else raw) begun subtracted last given
-after_IntoRaw t raw begun subtracted last given found o = grind arith
+IntoRaw-in_order t raw begun subtracted last given found o = grind arith
 
-after_FromRaw : (t raw begun subtracted last given : Bool)
+FromRaw-in_order : (t raw begun subtracted last given : Bool)
     → InOrder raw begun subtracted last given → InOrder (if t then false else raw) begun subtracted last given
-after_FromRaw t raw begun subtracted last given o = grind arith
+FromRaw-in_order t raw begun subtracted last given o = grind arith
 
 -- what was done to a handle that was found in a state, for a number that the test identifies with the handle's
 module _ (limit : ℕ) (p : List Step) (g h : ℕ) (same : (g == h) ≡ true) where
@@ -141,25 +126,22 @@ in_order limit [] h past = record {
   subtracted_first = λ e. refl;
   last_of_subtracted = λ e. refl;
 }
-in_order limit (Make ∷ p) h past = in_order limit p h past.1
-in_order limit (Look g ∷ p) h past = in_order limit p h past.1
-in_order limit (Clone g ∷ p) h past = in_order limit p h past.1
-in_order limit (Leak g ∷ p) h past = in_order limit p h past.1
 in_order limit (Begin g ∷ p) h past =
-    after_Begin (g == h) (is_raw p h) (has_begun p h) (has_subtracted p h) (was_last limit p h) (has_given p h)
-    (λ e. (free_at limit p g h e (Begin-finds limit p g past.0)).0) (in_order limit p h past.1)
+    Begin-in_order (g == h) (is_raw p h) (has_begun p h) (has_subtracted p h) (was_last limit p h) (has_given p h)
+    (λ e. (free_at limit p g h e (step_finds limit p g Free past.0)).0) (in_order limit p h past.1)
 in_order limit (Sub g ∷ p) h past =
-    after_Sub (g == h) _ (is_raw p h) (has_begun p h) (has_subtracted p h) (was_last limit p h) (has_given p h)
-    (λ e. dropping_at limit p g h e (Sub-finds limit p g past.0)) (in_order limit p h past.1)
+    Sub-in_order (g == h) _ (is_raw p h) (has_begun p h) (has_subtracted p h) (was_last limit p h) (has_given p h)
+    (λ e. dropping_at limit p g h e (step_finds limit p g Dropping past.0)) (in_order limit p h past.1)
 in_order limit (Back g ∷ p) h past =
-    after_Back (g == h) (is_raw p h) (has_begun p h) (has_subtracted p h) (was_last limit p h) (has_given p h)
-    (λ e. owing_at limit p g h e (Back-finds limit p g past.0)) (in_order limit p h past.1)
+    Back-in_order (g == h) (is_raw p h) (has_begun p h) (has_subtracted p h) (was_last limit p h) (has_given p h)
+    (λ e. owing_at limit p g h e (step_finds limit p g Owing past.0)) (in_order limit p h past.1)
 in_order limit (IntoRaw g ∷ p) h past =
-    after_IntoRaw (g == h) (is_raw p h) (has_begun p h) (has_subtracted p h) (was_last limit p h) (has_given p h)
-    (λ e. (free_at limit p g h e (IntoRaw-finds limit p g past.0)).1) (in_order limit p h past.1)
+    IntoRaw-in_order (g == h) (is_raw p h) (has_begun p h) (has_subtracted p h) (was_last limit p h) (has_given p h)
+    (λ e. (free_at limit p g h e (step_finds limit p g Free past.0)).1) (in_order limit p h past.1)
 in_order limit (FromRaw g ∷ p) h past =
-    after_FromRaw (g == h) (is_raw p h) (has_begun p h) (has_subtracted p h) (was_last limit p h) (has_given p h)
+    FromRaw-in_order (g == h) (is_raw p h) (has_begun p h) (has_subtracted p h) (was_last limit p h) (has_given p h)
     (in_order limit p h past.1)
+in_order limit (s ∷ p) h past = in_order limit p h past.1
 
 -- ---- the state that an accepted step leaves
 
@@ -183,112 +165,91 @@ FromRaw-leaves : (raw begun unmarked subtracted last given : Bool)
     → state_by false begun unmarked subtracted last given ≡ Free
 FromRaw-leaves raw begun unmarked subtracted last given o e = grind arith
 
-pub state-Begin : (limit : ℕ) (p : List Step) (h : ℕ) → IsPast limit p → is_accepted limit p (Begin h) ≡ true
-    → state_of limit (Begin h ∷ p) h ≡ (if is_marked limit p (block_of p h) then Gone else Dropping)
-state-Begin limit p h past a =
-    let left = Begin-leaves (is_raw p h) (has_begun p h) (began_unmarked limit p h) (has_subtracted p h)
-    (was_last limit p h) (has_given p h) (is_marked limit p (block_of p h)) (in_order limit p h past)
-    (Begin-finds limit p h a).state in
-    rw (same_test h) left
-
-pub state-Sub : (limit : ℕ) (p : List Step) (h : ℕ) → IsPast limit p → is_accepted limit p (Sub h) ≡ true
-    → state_of limit (Sub h ∷ p) h
-    ≡ (if not (is_marked limit p (block_of p h)) && is_only h (living limit p (block_of p h)) then Owing else Gone)
-state-Sub limit p h past a =
-    let left = Sub-leaves (is_raw p h) (has_begun p h) (began_unmarked limit p h) (has_subtracted p h)
-    (was_last limit p h) (has_given p h)
-    (not (is_marked limit p (block_of p h)) && is_only h (living limit p (block_of p h)))
-    (in_order limit p h past) (Sub-finds limit p h a).state in
-    rw (same_test h) left
-
-pub state-Back : (limit : ℕ) (p : List Step) (h : ℕ) → is_accepted limit p (Back h) ≡ true
-    → state_of limit (Back h ∷ p) h ≡ Gone
-state-Back limit p h a =
-    let left = Back-leaves (is_raw p h) (has_begun p h) (began_unmarked limit p h) (has_subtracted p h)
-    (was_last limit p h) (has_given p h) (Back-finds limit p h a).state in
-    rw (same_test h) left
-
-pub state-IntoRaw : (limit : ℕ) (p : List Step) (h : ℕ) → state_of limit (IntoRaw h ∷ p) h ≡ Raw
-state-IntoRaw limit p h = rw (same_test h) refl
-
-pub state-FromRaw : (limit : ℕ) (p : List Step) (h : ℕ) → IsPast limit p → is_accepted limit p (FromRaw h) ≡ true
-    → state_of limit (FromRaw h ∷ p) h ≡ Free
-state-FromRaw limit p h past a =
-    let left = FromRaw-leaves (is_raw p h) (has_begun p h) (began_unmarked limit p h) (has_subtracted p h)
-    (was_last limit p h) (has_given p h) (in_order limit p h past) (FromRaw-finds limit p h a).state in
-    rw (same_test h) left
-
--- ---- the states that a step leaves alone
-
-pub state-Begin_other : (limit : ℕ) (p : List Step) (h k : ℕ) → k ≢ h → state_of limit (Begin h ∷ p) k ≡ state_of limit p k
-state-Begin_other limit p h k other = rw (other_test h k other) refl
-
-pub state-Sub_other : (limit : ℕ) (p : List Step) (h k : ℕ) → k ≢ h → state_of limit (Sub h ∷ p) k ≡ state_of limit p k
-state-Sub_other limit p h k other = rw (other_test h k other) refl
-
-pub state-Back_other : (limit : ℕ) (p : List Step) (h k : ℕ) → k ≢ h → state_of limit (Back h ∷ p) k ≡ state_of limit p k
-state-Back_other limit p h k other = rw (other_test h k other) refl
-
-pub state-IntoRaw_other : (limit : ℕ) (p : List Step) (h k : ℕ) → k ≢ h → state_of limit (IntoRaw h ∷ p) k ≡ state_of limit p k
-state-IntoRaw_other limit p h k other = rw (other_test h k other) refl
-
-pub state-FromRaw_other : (limit : ℕ) (p : List Step) (h k : ℕ) → k ≢ h → state_of limit (FromRaw h ∷ p) k ≡ state_of limit p k
-state-FromRaw_other limit p h k other = rw (other_test h k other) refl
-
 -- ---- steps that change the state of one handle
 
--- the step finds the handle in the state `old` and leaves it in the state `new`, and changes no other handle
+-- the step finds the handle in the state `old` and leaves it in the state `new`; it changes no other handle and no mark,
+-- and no word and no number of frees but those of the handle's block
 pub record ChangesOne (limit : ℕ) (p : List Step) (s : Step) (h : ℕ) (old new : HandleState) : Type 0 where
   pub found : IsIn limit p h old
   pub left : state_of limit (s ∷ p) h ≡ new
   pub others : (k : ℕ) → k ≢ h → state_of limit (s ∷ p) k ≡ state_of limit p k
+  pub same_births : births (s ∷ p) ≡ births p
   pub blocks : (k : ℕ) → block_of (s ∷ p) k ≡ block_of p k
+  pub marks : (b : ℕ) → is_marked limit (s ∷ p) b ≡ is_marked limit p b
+  pub words : (b : ℕ) → b ≢ block_of p h → word_left limit (s ∷ p) b ≡ word_left limit p b
+  pub frees : (b : ℕ) → b ≢ block_of p h → times_given (s ∷ p) b ≡ times_given p b
 
-pub Begin-changes : (limit : ℕ) (p : List Step) (h : ℕ) → IsPast limit p → is_accepted limit p (Begin h) ≡ true
-    → ChangesOne limit p (Begin h) h Free (if is_marked limit p (block_of p h) then Gone else Dropping)
-Begin-changes limit p h past a = record {
-  found = Begin-finds limit p h a;
-  left = state-Begin limit p h past a;
-  others = state-Begin_other limit p h;
-  blocks = λ k. refl;
-}
+module _ (limit : ℕ) (p : List Step) (h : ℕ) (past : IsPast limit p) where
+  pub Begin-changes : is_accepted limit p (Begin h) ≡ true
+      → ChangesOne limit p (Begin h) h Free (if is_marked limit p (block_of p h) then Gone else Dropping)
+  Begin-changes a = record {
+    found = step_finds limit p h Free a;
+    left = let left = Begin-leaves (is_raw p h) (has_begun p h) (began_unmarked limit p h) (has_subtracted p h) (was_last limit p h)
+        (has_given p h) (is_marked limit p (block_of p h)) (in_order limit p h past) (step_finds limit p h Free a).state in
+        rw (same_test h) left;
+    others = λ k other. rw (other_test h k other) refl;
+    same_births = refl;
+    blocks = λ k. refl;
+    marks = λ b. refl;
+    words = λ b apart. refl;
+    frees = λ b apart. refl;
+  }
 
-pub Sub-changes : (limit : ℕ) (p : List Step) (h : ℕ) → IsPast limit p → is_accepted limit p (Sub h) ≡ true
-    → ChangesOne limit p (Sub h) h Dropping
-    (if not (is_marked limit p (block_of p h)) && is_only h (living limit p (block_of p h)) then Owing else Gone)
-Sub-changes limit p h past a = record {
-  found = Sub-finds limit p h a;
-  left = state-Sub limit p h past a;
-  others = state-Sub_other limit p h;
-  blocks = λ k. refl;
-}
+  pub Sub-changes : is_accepted limit p (Sub h) ≡ true → ChangesOne limit p (Sub h) h Dropping
+      (if not (is_marked limit p (block_of p h)) && is_only h (living limit p (block_of p h)) then Owing else Gone)
+  Sub-changes a = record {
+    found = step_finds limit p h Dropping a;
+    left = let left = Sub-leaves (is_raw p h) (has_begun p h) (began_unmarked limit p h) (has_subtracted p h) (was_last limit p h)
+        (has_given p h) (not (is_marked limit p (block_of p h)) && is_only h (living limit p (block_of p h)))
+        (in_order limit p h past) (step_finds limit p h Dropping a).state in
+        rw (same_test h) left;
+    others = λ k other. rw (other_test h k other) refl;
+    same_births = refl;
+    blocks = λ k. refl;
+    marks = λ b. refl;
+    words = λ b apart. rw (other_test (block_of p h) b apart) refl;
+    frees = λ b apart. refl;
+  }
 
-pub Back-changes : (limit : ℕ) (p : List Step) (h : ℕ) → is_accepted limit p (Back h) ≡ true
-    → ChangesOne limit p (Back h) h Owing Gone
-Back-changes limit p h a = record {
-  found = Back-finds limit p h a;
-  left = state-Back limit p h a;
-  others = state-Back_other limit p h;
-  blocks = λ k. refl;
-}
+  pub Back-changes : is_accepted limit p (Back h) ≡ true → ChangesOne limit p (Back h) h Owing Gone
+  Back-changes a = record {
+    found = step_finds limit p h Owing a;
+    left = let left = Back-leaves (is_raw p h) (has_begun p h) (began_unmarked limit p h) (has_subtracted p h) (was_last limit p h)
+        (has_given p h) (step_finds limit p h Owing a).state in
+        rw (same_test h) left;
+    others = λ k other. rw (other_test h k other) refl;
+    same_births = refl;
+    blocks = λ k. refl;
+    marks = λ b. refl;
+    words = λ b apart. refl;
+    frees = λ b apart. rw (other_test (block_of p h) b apart) refl;
+  }
 
-pub IntoRaw-changes : (limit : ℕ) (p : List Step) (h : ℕ) → is_accepted limit p (IntoRaw h) ≡ true
-    → ChangesOne limit p (IntoRaw h) h Free Raw
-IntoRaw-changes limit p h a = record {
-  found = IntoRaw-finds limit p h a;
-  left = state-IntoRaw limit p h;
-  others = state-IntoRaw_other limit p h;
-  blocks = λ k. refl;
-}
+  pub IntoRaw-changes : is_accepted limit p (IntoRaw h) ≡ true → ChangesOne limit p (IntoRaw h) h Free Raw
+  IntoRaw-changes a = record {
+    found = step_finds limit p h Free a;
+    left = rw (same_test h) refl;
+    others = λ k other. rw (other_test h k other) refl;
+    same_births = refl;
+    blocks = λ k. refl;
+    marks = λ b. refl;
+    words = λ b apart. refl;
+    frees = λ b apart. refl;
+  }
 
-pub FromRaw-changes : (limit : ℕ) (p : List Step) (h : ℕ) → IsPast limit p → is_accepted limit p (FromRaw h) ≡ true
-    → ChangesOne limit p (FromRaw h) h Raw Free
-FromRaw-changes limit p h past a = record {
-  found = FromRaw-finds limit p h a;
-  left = state-FromRaw limit p h past a;
-  others = state-FromRaw_other limit p h;
-  blocks = λ k. refl;
-}
+  pub FromRaw-changes : is_accepted limit p (FromRaw h) ≡ true → ChangesOne limit p (FromRaw h) h Raw Free
+  FromRaw-changes a = record {
+    found = step_finds limit p h Raw a;
+    left = let left = FromRaw-leaves (is_raw p h) (has_begun p h) (began_unmarked limit p h) (has_subtracted p h) (was_last limit p h)
+        (has_given p h) (in_order limit p h past) (step_finds limit p h Raw a).state in
+        rw (same_test h) left;
+    others = λ k other. rw (other_test h k other) refl;
+    same_births = refl;
+    blocks = λ k. refl;
+    marks = λ b. refl;
+    words = λ b apart. refl;
+    frees = λ b apart. refl;
+  }
 
 -- ---- handles that are not born yet
 
@@ -301,20 +262,17 @@ not_yet g h n x b born unborn e =
 unborn_flags : (limit : ℕ) (p : List Step) (h : ℕ) → IsPast limit p → births p ≤ h → (is_raw p h ≡ false) × (has_begun p h ≡ false)
 unborn_flags limit [] h past unborn = (refl, refl)
 unborn_flags limit (Make ∷ p) h past unborn = unborn_flags limit p h past.1 (omega arith)
-unborn_flags limit (Look g ∷ p) h past unborn = unborn_flags limit p h past.1 unborn
 unborn_flags limit (Clone g ∷ p) h past unborn = unborn_flags limit p h past.1 (omega arith)
 unborn_flags limit (Begin g ∷ p) h past unborn =
     let before = unborn_flags limit p h past.1 unborn in
-    (before.0, not_yet g h (births p) true (has_begun p h) (Begin-finds limit p g past.0).born unborn before.1)
-unborn_flags limit (Sub g ∷ p) h past unborn = unborn_flags limit p h past.1 unborn
-unborn_flags limit (Back g ∷ p) h past unborn = unborn_flags limit p h past.1 unborn
-unborn_flags limit (Leak g ∷ p) h past unborn = unborn_flags limit p h past.1 unborn
+    (before.0, not_yet g h (births p) true (has_begun p h) (step_finds limit p g Free past.0).born unborn before.1)
 unborn_flags limit (IntoRaw g ∷ p) h past unborn =
     let before = unborn_flags limit p h past.1 unborn in
-    (not_yet g h (births p) true (is_raw p h) (IntoRaw-finds limit p g past.0).born unborn before.0, before.1)
+    (not_yet g h (births p) true (is_raw p h) (step_finds limit p g Free past.0).born unborn before.0, before.1)
 unborn_flags limit (FromRaw g ∷ p) h past unborn =
     let before = unborn_flags limit p h past.1 unborn in
-    (not_yet g h (births p) false (is_raw p h) (FromRaw-finds limit p g past.0).born unborn before.0, before.1)
+    (not_yet g h (births p) false (is_raw p h) (step_finds limit p g Raw past.0).born unborn before.0, before.1)
+unborn_flags limit (s ∷ p) h past unborn = unborn_flags limit p h past.1 unborn
 
 -- so a handle is born free
 pub state-born : (limit : ℕ) (p : List Step) → IsPast limit p → state_of limit p (births p) ≡ Free
@@ -352,12 +310,6 @@ pub block_made : (limit : ℕ) (p : List Step) (h : ℕ) → IsPast limit p → 
 block_made limit [] h past born = absurd (omega arith)
 block_made limit (Make ∷ p) h past born = below_both (h == births p) h (births p) (makes p) (block_of p h) (suc (makes p)) refl born
     (omega arith) (λ earlier. let before = block_made limit p h past.1 earlier in omega arith)
-block_made limit (Look g ∷ p) h past born = block_made limit p h past.1 born
 block_made limit (Clone g ∷ p) h past born = below_both (h == births p) h (births p) (block_of p g) (block_of p h) (makes p) refl born
-    (block_made limit p g past.1 (Clone-finds limit p g past.0).born) (λ earlier. block_made limit p h past.1 earlier)
-block_made limit (Begin g ∷ p) h past born = block_made limit p h past.1 born
-block_made limit (Sub g ∷ p) h past born = block_made limit p h past.1 born
-block_made limit (Back g ∷ p) h past born = block_made limit p h past.1 born
-block_made limit (Leak g ∷ p) h past born = block_made limit p h past.1 born
-block_made limit (IntoRaw g ∷ p) h past born = block_made limit p h past.1 born
-block_made limit (FromRaw g ∷ p) h past born = block_made limit p h past.1 born
+    (block_made limit p g past.1 (step_finds limit p g Free past.0).born) (λ earlier. block_made limit p h past.1 earlier)
+block_made limit (s ∷ p) h past born = block_made limit p h past.1 born

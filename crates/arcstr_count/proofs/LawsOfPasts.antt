@@ -4,16 +4,18 @@ use Rattle.std.proofs.Common.{length, refl, sym, ◌∙◌, ap, arith, true≢fa
 use Rattle.std.proofs.lemmas.List.{nil_from_length}
 use Rattle.std.proofs.lemmas.Bool.{or_left, or_right}
 use Rattle.arcstr_count.specs.declared.steps.Step.{Step}
-use Rattle.arcstr_count.specs.declared.steps.Step.TheVariants.{Make, Look, Clone, Begin, Sub, Back, Leak, IntoRaw, FromRaw}
+use Rattle.arcstr_count.specs.declared.steps.Step.TheVariants.{Make, Clone, Sub, Back, Leak}
 use Rattle.arcstr_count.specs.declared.steps.HandleState.TheVariants.{Dropping}
-use Rattle.arcstr_count.specs.Word.{looked_of, is_last}
+use Rattle.arcstr_count.specs.declared.steps.Reply.TheVariants.{Count, Static}
+use Rattle.arcstr_count.specs.Word.{FlagAndCount, looked_of, is_last}
 use Rattle.arcstr_count.specs.History.{makes, births, block_of, lives}
 use Rattle.arcstr_count.specs.Marks.{is_marked, state_of, living, is_only}
 use Rattle.arcstr_count.specs.Answer.{is_accepted}
 use Rattle.arcstr_count.specs.Past.{with_step, past_from, IsPast, times_given}
 use Rattle.arcstr_count.specs.Left.{word_left, is_dropping, dropping, owing, Stands}
+use Rattle.arcstr_count.specs.OneBlock.{look_reply}
 use Rattle.arcstr_count.proofs.Pasts.{IsPast-past_from}
-use Rattle.arcstr_count.proofs.LawsOfHandles.{IsIn, Sub-finds, block_made}
+use Rattle.arcstr_count.proofs.LawsOfHandles.{IsIn, step_finds, block_made}
 use Rattle.arcstr_count.proofs.Counting.{held, some_held, is_only-living}
 use Rattle.arcstr_count.proofs.LawsOfBlocks.{Balanced, balance}
 
@@ -45,22 +47,9 @@ module _ (limit : ℕ) (p : List Step) (b : ℕ) where
 pub word_stands : (limit : ℕ) (p : List Step) (b : ℕ) → IsPast limit p → b < makes p → Stands limit p b (word_left limit p b)
 word_stands limit p b past made = stands_by limit p b (is_marked limit p b) refl (balance limit p b past made)
 
--- an unmarked word counts the living handles
-pub exact_count : (limit : ℕ) (p : List Step) (b : ℕ) → IsPast limit p → b < makes p → is_marked limit p b ≡ false
-    → (word_left limit p b).count ≡ length (living limit p b)
-exact_count limit p b past made unmarked = (word_stands limit p b past made).exact unmarked
-
 -- a count exceeds the limit by at most one
 pub count_bounded : (limit : ℕ) (p : List Step) (b : ℕ) → IsPast limit p → b < makes p → (word_left limit p b).count ≤ limit + 1
 count_bounded limit p b past made = bounded_by limit p b (is_marked limit p b) (balance limit p b past made)
-
-module _ (limit : ℕ) (p : List Step) (h : ℕ) (past : IsPast limit p) (born : h < births p) where
-  -- while a handle lives on an unmarked block, the count is not 0
-  pub living_counted : lives (state_of limit p h) ≡ true → is_marked limit p (block_of p h) ≡ false
-      → 0 < (word_left limit p (block_of p h)).count
-  living_counted alive unmarked =
-      let exact = exact_count limit p (block_of p h) past (block_made limit p h past born) unmarked in
-      omega (arith, some_held limit p h (state_of limit p h) lives (record { born = born; state = refl }) alive)
 
 module _ (limit : ℕ) (p : List Step) (h : ℕ) (past : IsPast limit p) (born : h < births p)
     (drops : state_of limit p h ≡ Dropping) where
@@ -94,12 +83,12 @@ module _ (limit : ℕ) (p : List Step) (h : ℕ) (past : IsPast limit p) (born :
 -- so the count is not 0 where a subtraction is accepted
 pub Sub_counted : (limit : ℕ) (p : List Step) (h : ℕ) → IsPast limit p → is_accepted limit p (Sub h) ≡ true
     → 0 < (word_left limit p (block_of p h)).count
-Sub_counted limit p h past a = let found = Sub-finds limit p h a in dropping_counted limit p h past found.born found.state
+Sub_counted limit p h past a = let found = step_finds limit p h Dropping a in dropping_counted limit p h past found.born found.state
 
 pub Sub_last : (limit : ℕ) (p : List Step) (h : ℕ) → IsPast limit p → is_accepted limit p (Sub h) ≡ true
     → is_last (word_left limit p (block_of p h))
     ≡ (not (is_marked limit p (block_of p h)) && is_only h (living limit p (block_of p h)))
-Sub_last limit p h past a = let found = Sub-finds limit p h a in last_owes limit p h past found.born found.state
+Sub_last limit p h past a = let found = step_finds limit p h Dropping a in last_owes limit p h past found.born found.state
 
 -- ---- the mark
 
@@ -110,6 +99,15 @@ unmarked_bounded limit p b past made unmarked =
     let exact = stands.exact unmarked in
     omega (arith, count_bounded limit p b past made)
 
+-- a look at a word that stands for a block answers as the block does
+pub look_answers : (limit : ℕ) (p : List Step) (b : ℕ) (w : FlagAndCount) → Stands limit p b w
+    → (if is_marked limit p b then Static else Count (length (living limit p b))) ≡ look_reply (looked_of w)
+look_answers limit p b w stands = by_mark (is_marked limit p b) refl
+  where
+    by_mark : (m : Bool) → is_marked limit p b ≡ m → (if m then Static else Count (length (living limit p b))) ≡ look_reply (looked_of w)
+    by_mark true marked = rw (stands.flag, marked) refl
+    by_mark false unmarked = rw (stands.flag, unmarked) (ap Count (sym (stands.exact unmarked)))
+
 -- a look at an unmarked word finds how many handles live
 pub look_exact : (limit : ℕ) (p : List Step) (b : ℕ) → IsPast limit p → b < makes p → IsFalse (is_marked limit p b)
     → looked_of (word_left limit p b) ≡ Some (length (living limit p b))
@@ -118,15 +116,9 @@ look_exact limit p b past made unmarked =
     rw (stands.flag, unmarked, stands.exact unmarked) refl
 
 pub mark_stays : (limit : ℕ) (p : List Step) (s : Step) (b : ℕ) → is_marked limit p b ≡ true → is_marked limit (s ∷ p) b ≡ true
-mark_stays limit p Make b marked = marked
-mark_stays limit p (Look h) b marked = marked
 mark_stays limit p (Clone h) b marked = or_left (is_marked limit p b) _ marked
-mark_stays limit p (Begin h) b marked = marked
-mark_stays limit p (Sub h) b marked = marked
-mark_stays limit p (Back h) b marked = marked
 mark_stays limit p (Leak h) b marked = or_right (block_of p h == b) (is_marked limit p b) marked
-mark_stays limit p (IntoRaw h) b marked = marked
-mark_stays limit p (FromRaw h) b marked = marked
+mark_stays limit p s b marked = marked
 
 -- what each step keeps, a list of steps keeps
 kept_from : (P : List Step → Type 0) → ((p : List Step) (s : Step) → P p → P (s ∷ p)) → (limit : ℕ) (p later : List Step) → P p → P (past_from limit p later)
@@ -142,14 +134,7 @@ mark_stays_from limit p later b = kept_from (λ q. is_marked limit q b ≡ true)
 
 makes_grows : (p : List Step) (s : Step) → makes p ≤ makes (s ∷ p)
 makes_grows p Make = omega arith
-makes_grows p (Look h) = omega arith
-makes_grows p (Clone h) = omega arith
-makes_grows p (Begin h) = omega arith
-makes_grows p (Sub h) = omega arith
-makes_grows p (Back h) = omega arith
-makes_grows p (Leak h) = omega arith
-makes_grows p (IntoRaw h) = omega arith
-makes_grows p (FromRaw h) = omega arith
+makes_grows p s = omega arith
 
 -- a block that was made stays made
 pub made_stays_from : (limit : ℕ) (p later : List Step) (b : ℕ) → b < makes p → b < makes (past_from limit p later)
@@ -196,19 +181,12 @@ pub given_alone : (limit : ℕ) (p : List Step) (b : ℕ) → IsPast limit p →
 given_alone limit p b past made given = ((owes_or_given limit p b past made).1 (omega arith)).1
 
 given_grows : (p : List Step) (s : Step) (b : ℕ) → times_given p b ≤ times_given (s ∷ p) b
-given_grows p Make b = omega arith
-given_grows p (Look h) b = omega arith
-given_grows p (Clone h) b = omega arith
-given_grows p (Begin h) b = omega arith
-given_grows p (Sub h) b = omega arith
 given_grows p (Back h) b = by_test (block_of p h == b)
   where
     by_test : (t : Bool) → times_given p b ≤ (if t then suc (times_given p b) else times_given p b)
     by_test true = omega arith
     by_test false = omega arith
-given_grows p (Leak h) b = omega arith
-given_grows p (IntoRaw h) b = omega arith
-given_grows p (FromRaw h) b = omega arith
+given_grows p s b = omega arith
 
 pub given_grows_from : (limit : ℕ) (p later : List Step) (b : ℕ) → times_given p b ≤ times_given (past_from limit p later) b
 given_grows_from limit p later b =

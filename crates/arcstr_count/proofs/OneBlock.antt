@@ -1,7 +1,6 @@
 -- What each step makes of a history of one block, of its word and of the states of its handles.
-use Rattle.std.proofs.Common.{◌≡◌, ℕ, ◌<◌, Bool, true, false, not, ◌&&◌, ◌==◌, if◌then◌else◌, is_none, None, Some, List, [], ◌∷◌, ◌++◌, map, length}
+use Rattle.std.proofs.Common.{◌≡◌, ℕ, ◌<◌, true, not, ◌&&◌, ◌==◌, if◌then◌else◌, is_none, None, Some, List, [], ◌∷◌, ◌++◌, map, length}
 use Rattle.std.proofs.Common.{slice_get, get_or, set, refl, sym, ◌∙◌, ap, subst, arith}
-use Rattle.std.proofs.lemmas.Bool.{lt-ltb}
 use Rattle.std.proofs.lemmas.List.{map_push, get_or-map, map-set, length-map, reverse-append}
 use Rattle.std.proofs.lemmas.Option.{get_or_from_slice_get, slice_get_within}
 use Rattle.arcstr_count.specs.declared.steps.Step.{Step}
@@ -10,19 +9,19 @@ use Rattle.arcstr_count.specs.declared.steps.HandleState.{HandleState}
 use Rattle.arcstr_count.specs.declared.steps.HandleState.TheVariants.{Free, Dropping, Owing, Gone}
 use Rattle.arcstr_count.specs.declared.steps.HandleSummary.{HandleSummary}
 use Rattle.arcstr_count.specs.declared.steps.Reply.{Reply}
-use Rattle.arcstr_count.specs.declared.steps.Reply.TheVariants.{Count, Static, Handle, Looked, Ended, Left, Owes, Given, Marked}
+use Rattle.arcstr_count.specs.declared.steps.Reply.TheVariants.{Handle, Looked, Ended, Left, Owes, Given, Marked}
 use Rattle.arcstr_count.specs.Word.{FlagAndCount, fresh_word, looked_of, cloned_of, dropped_of, is_last, marked_of}
 use Rattle.arcstr_count.specs.History.{makes, births, block_of, numbers_below}
 use Rattle.arcstr_count.specs.Marks.{is_marked, state_of, living, is_only}
-use Rattle.arcstr_count.specs.Answer.{handle_state, is_accepted, reply_by, accepted_answer, unless_free, unless_dropping, unless_owing}
-use Rattle.arcstr_count.specs.Past.{past_of, answer_after}
+use Rattle.arcstr_count.specs.Answer.{needs, handle_state, refusal_unless, refusal_by, refusal_of, is_accepted, reply_by, accepted_answer}
+use Rattle.arcstr_count.specs.Past.{IsPast, past_of, answer_after}
 use Rattle.arcstr_count.specs.Left.{word_left, Stands}
 use Rattle.arcstr_count.specs.Summary.{handles_of, handle_summary}
 use Rattle.arcstr_count.specs.OneBlock.{Keeps, EndsIn, look_reply}
 use Rattle.arcstr_count.proofs.Pasts.{past_of-step, IsPast-past_of}
-use Rattle.arcstr_count.proofs.LawsOfHandles.{IsIn, block_made}
-use Rattle.arcstr_count.proofs.LawsOfPasts.{word_stands, Sub_counted, Sub_last}
-use Rattle.arcstr_count.proofs.Tables.{length-numbers_below, length-handles_of, handle_at, handles-Clone, handles-Begin, handles-Sub, handles-Back}
+use Rattle.arcstr_count.proofs.LawsOfHandles.{IsIn, state_is, accepts_needed, block_made, ChangesOne, Begin-changes, Sub-changes, Back-changes}
+use Rattle.arcstr_count.proofs.LawsOfPasts.{word_stands, look_answers, Sub_counted, Sub_last}
+use Rattle.arcstr_count.proofs.Tables.{length-numbers_below, length-handles_of, handle_at, handles-Clone, handles-changed}
 
 -- ---- the states of the handles, as a column of the table
 
@@ -77,10 +76,6 @@ seat_is limit r w seats h state keeps seat =
           ∙ get_or_from_slice_get (states_in limit (past_of limit r)) h state Gone seated;
     }
 
-found_in : (limit : ℕ) (p : List Step) (h : ℕ) (state : HandleState) → IsIn limit p h state → handle_state limit p h ≡ Some state
-found_in limit p h state i =
-    ap (λ b. if b then Some (state_of limit p h) else None) (lt-ltb h (births p) i.born) ∙ ap Some i.state
-
 -- ---- one more step
 
 past-step : (limit : ℕ) (r : List Step) (s : Step) → is_accepted limit (past_of limit r) s ≡ true
@@ -106,9 +101,9 @@ kept limit r w new seats seats' s keeps accepted same_makes left states =
     }
 
 -- the one block of the history is block 0
-on_block : (limit : ℕ) (r : List Step) (w : FlagAndCount) (seats : List HandleState) (h : ℕ) (state : HandleState)
+on_first_block : (limit : ℕ) (r : List Step) (w : FlagAndCount) (seats : List HandleState) (h : ℕ) (state : HandleState)
     → Keeps limit r w seats → IsIn limit (past_of limit r) h state → block_of (past_of limit r) h ≡ 0
-on_block limit r w seats h state keeps i =
+on_first_block limit r w seats h state keeps i =
     let below = block_made limit (past_of limit r) h (IsPast-past_of limit r) i.born in
     let one = keeps.one_block.made in omega arith
 
@@ -135,9 +130,9 @@ subtracts : (limit : ℕ) (r : List Step) (w : FlagAndCount) (seats : List Handl
     → IsIn limit (past_of limit r) h Dropping → Subtracts limit (past_of limit r) h w
 subtracts limit r w seats h keeps i =
     let accepted : is_accepted limit (past_of limit r) (Sub h) ≡ true =
-    ap (λ o. is_none (unless_dropping o)) (found_in limit (past_of limit r) h Dropping i) in
+    ap (λ o. is_none (refusal_unless Dropping o)) (state_is limit (past_of limit r) h Dropping i) in
     let same : word_left limit (past_of limit r) (block_of (past_of limit r) h) ≡ w =
-    ap (λ b. word_left limit (past_of limit r) b) (on_block limit r w seats h Dropping keeps i) ∙ sym keeps.left in
+    ap (λ b. word_left limit (past_of limit r) b) (on_first_block limit r w seats h Dropping keeps i) ∙ sym keeps.left in
     record {
       counted = subst (λ (word : FlagAndCount). 0 < word.count) same
           (Sub_counted limit (past_of limit r) h (IsPast-past_of limit r) accepted);
@@ -145,10 +140,6 @@ subtracts limit r w seats h keeps i =
     }
 
 -- ---- each step, accepted, with its answer and what it keeps
-
--- a step that needs a free handle is accepted for one
-accepts_free : (limit : ℕ) (p : List Step) (h : ℕ) → IsIn limit p h Free → unless_free (handle_state limit p h) ≡ None
-accepts_free limit p h i = ap unless_free (found_in limit p h Free i)
 
 -- what an accepted step does to the history, the word and the seats
 pub record Prolongs (limit : ℕ) (r : List Step) (s : Step) (reply : Reply) (w : FlagAndCount) (seats : List HandleState) : Type 0 where
@@ -171,121 +162,93 @@ keeps-make limit = record {
   states = refl;
 }
 
-look_reply-is : (limit : ℕ) (p : List Step) (w : FlagAndCount) (b : ℕ) → b ≡ 0 → Stands limit p 0 w
-    → (if is_marked limit p b then Static else Count (length (living limit p b))) ≡ look_reply (looked_of w)
-look_reply-is limit p w b first on = rw first (by_flag w.flag refl)
-  where
-    by_flag : (flag : Bool) → w.flag ≡ flag
-        → (if is_marked limit p 0 then Static else Count (length (living limit p 0))) ≡ look_reply (looked_of w)
-    by_flag true e =
-        let marked : is_marked limit p 0 ≡ true = sym on.flag ∙ e in rw (marked, e) refl
-    by_flag false e =
-        let unmarked : is_marked limit p 0 ≡ false = sym on.flag ∙ e in rw (unmarked, e) (ap Count (sym (on.exact unmarked)))
+-- what an accepted step answers after a past, the word that it leaves on block 0, and the states in which it leaves the handles
+record StepLeaves (limit : ℕ) (p : List Step) (s : Step) (reply : Reply) (w : FlagAndCount) (seats : List HandleState) : Type 0 where
+  answer : accepted_answer limit p s ≡ reply
+  word : w ≡ word_left limit (s ∷ p) 0
+  states : seats ≡ states_in limit (s ∷ p)
 
-pub keeps-look : (limit : ℕ) (r : List Step) (w : FlagAndCount) (seats : List HandleState) (h : ℕ)
-    → Keeps limit r w seats → slice_get seats h ≡ Some Free → Prolongs limit r (Look h) (look_reply (looked_of w)) w seats
-keeps-look limit r w seats h keeps seat =
-    let i : IsIn limit (past_of limit r) h Free = seat_is limit r w seats h Free keeps seat in
-    let open_to : unless_free (handle_state limit (past_of limit r) h) ≡ None = accepts_free limit (past_of limit r) h i in
-    prolonged
-    (kept limit r w w seats seats (Look h) keeps (ap is_none open_to) refl keeps.left keeps.states)
-    (ap is_none open_to)
-    (ap (λ o. reply_by o (accepted_answer limit (past_of limit r) (Look h))) open_to
-    ∙ look_reply-is limit (past_of limit r) w _ (on_block limit r w seats h Free keeps i) (stands limit r w seats keeps))
+module _ (limit : ℕ) (r : List Step) (w : FlagAndCount) (seats : List HandleState) (h : ℕ) (keeps : Keeps limit r w seats) where
+  abbrev p : List Step
+  p = past_of limit r
 
-pub keeps-begin : (limit : ℕ) (r : List Step) (w : FlagAndCount) (seats : List HandleState) (h : ℕ)
-    → Keeps limit r w seats → slice_get seats h ≡ Some Free
-    → Prolongs limit r (Begin h) (if w.flag then Ended else Looked) w (set seats h (if w.flag then Gone else Dropping))
-keeps-begin limit r w seats h keeps seat =
-    let i : IsIn limit (past_of limit r) h Free = seat_is limit r w seats h Free keeps seat in
-    let open_to : unless_free (handle_state limit (past_of limit r) h) ≡ None = accepts_free limit (past_of limit r) h i in
-    let on : block_of (past_of limit r) h ≡ 0 = on_block limit r w seats h Free keeps i in
-    let mark : is_marked limit (past_of limit r) (block_of (past_of limit r) h) ≡ w.flag =
-    ap (λ b. is_marked limit (past_of limit r) b) on ∙ sym (stands limit r w seats keeps).flag in
-    let states : set seats h (if w.flag then Gone else Dropping) ≡ states_in limit (Begin h ∷ past_of limit r) =
-    ap (λ old. set old h (if w.flag then Gone else Dropping)) keeps.states
-    ∙ ap (λ b. set (states_in limit (past_of limit r)) h (if b then Gone else Dropping)) (sym mark)
-    ∙ sym (states_in-set limit (past_of limit r) (Begin h ∷ past_of limit r) h _
-    (handles-Begin limit (past_of limit r) h (IsPast-past_of limit r) (ap is_none open_to))) in
-    prolonged
-    (kept limit r w w seats _ (Begin h) keeps (ap is_none open_to) refl keeps.left states)
-    (ap is_none open_to)
-    (ap (λ o. reply_by o (accepted_answer limit (past_of limit r) (Begin h))) open_to
-    ∙ ap (λ b. if b then Ended else Looked) mark)
+  past : IsPast limit p
+  past = IsPast-past_of limit r
 
-pub keeps-clone : (limit : ℕ) (r : List Step) (w : FlagAndCount) (seats : List HandleState) (h : ℕ)
-    → Keeps limit r w seats → slice_get seats h ≡ Some Free
-    → Prolongs limit r (Clone h) (Handle (length seats)) (cloned_of limit w) (seats ++ Free ∷ [])
-keeps-clone limit r w seats h keeps seat =
-    let i : IsIn limit (past_of limit r) h Free = seat_is limit r w seats h Free keeps seat in
-    let open_to : unless_free (handle_state limit (past_of limit r) h) ≡ None = accepts_free limit (past_of limit r) h i in
-    let on : block_of (past_of limit r) h ≡ 0 = on_block limit r w seats h Free keeps i in
-    let states : seats ++ Free ∷ [] ≡ states_in limit (Clone h ∷ past_of limit r) =
-    ap (λ old. old ++ Free ∷ []) keeps.states
-    ∙ sym (states_in-push limit (past_of limit r) (Clone h ∷ past_of limit r) _
-    (handles-Clone limit (past_of limit r) h (IsPast-past_of limit r))) in
-    let left : cloned_of limit w ≡ word_left limit (Clone h ∷ past_of limit r) 0 =
-    ap (cloned_of limit) keeps.left
-    ∙ sym (ap (λ b. if b == 0 then cloned_of limit (word_left limit (past_of limit r) 0) else word_left limit (past_of limit r) 0) on) in
-    let born : births (past_of limit r) ≡ length seats =
-    sym (length-states_in limit (past_of limit r)) ∙ ap length (sym keeps.states) in
-    prolonged
-    (kept limit r w (cloned_of limit w) seats _ (Clone h) keeps (ap is_none open_to) refl left states)
-    (ap is_none open_to)
-    (ap (λ o. reply_by o (accepted_answer limit (past_of limit r) (Clone h))) open_to ∙ ap Handle born)
+  -- a step of a handle whose seat has the state that the step needs
+  keeps-step : (s : Step) (needed : HandleState) (reply : Reply) (new : FlagAndCount) (new_seats : List HandleState)
+      → needs s ≡ Some (record { handle = h; state = needed }) → slice_get seats h ≡ Some needed → makes (s ∷ p) ≡ makes p
+      → (is_accepted limit p s ≡ true → block_of p h ≡ 0 → StepLeaves limit p s reply new new_seats)
+      → Prolongs limit r s reply new new_seats
+  keeps-step s needed reply new new_seats need seat same_makes leaves =
+      let i = seat_is limit r w seats h needed keeps seat in
+      let open_to : refusal_of limit p s ≡ None =
+      ap (λ n. refusal_by (λ k. handle_state limit p k) n) need
+      ∙ ap (refusal_unless needed) (state_is limit p h needed i) ∙ accepts_needed needed in
+      let accepted : is_accepted limit p s ≡ true = ap is_none open_to in
+      let left = leaves accepted (on_first_block limit r w seats h needed keeps i) in
+      prolonged (kept limit r w new seats new_seats s keeps accepted same_makes left.word left.states) accepted
+      (ap (λ o. reply_by o (accepted_answer limit p s)) open_to ∙ left.answer)
 
-pub keeps-leak : (limit : ℕ) (r : List Step) (w : FlagAndCount) (seats : List HandleState) (h : ℕ)
-    → Keeps limit r w seats → slice_get seats h ≡ Some Free
-    → Prolongs limit r (Leak h) Marked (marked_of w) seats
-keeps-leak limit r w seats h keeps seat =
-    let i : IsIn limit (past_of limit r) h Free = seat_is limit r w seats h Free keeps seat in
-    let open_to : unless_free (handle_state limit (past_of limit r) h) ≡ None = accepts_free limit (past_of limit r) h i in
-    let on : block_of (past_of limit r) h ≡ 0 = on_block limit r w seats h Free keeps i in
-    let left : marked_of w ≡ word_left limit (Leak h ∷ past_of limit r) 0 =
-    ap marked_of keeps.left
-    ∙ sym (ap (λ b. if b == 0 then marked_of (word_left limit (past_of limit r) 0) else word_left limit (past_of limit r) 0) on) in
-    prolonged
-    (kept limit r w (marked_of w) seats seats (Leak h) keeps (ap is_none open_to) refl left keeps.states)
-    (ap is_none open_to)
-    (ap (λ o. reply_by o (accepted_answer limit (past_of limit r) (Leak h))) open_to)
+  -- the word, where the step changes that of its handle's block
+  word_is : (F : FlagAndCount → FlagAndCount) → block_of p h ≡ 0 → F w ≡ (if block_of p h == 0 then F (word_left limit p 0) else word_left limit p 0)
+  word_is F on = ap F keeps.left ∙ sym (ap (λ b. if b == 0 then F (word_left limit p 0) else word_left limit p 0) on)
 
-pub keeps-sub : (limit : ℕ) (r : List Step) (w : FlagAndCount) (seats : List HandleState) (h : ℕ)
-    → Keeps limit r w seats → slice_get seats h ≡ Some Dropping
-    → (0 < w.count)
-    × Prolongs limit r (Sub h) (if is_last w then Owes else Left) (dropped_of w) (set seats h (if is_last w then Owing else Gone))
-keeps-sub limit r w seats h keeps seat =
-    let i : IsIn limit (past_of limit r) h Dropping = seat_is limit r w seats h Dropping keeps seat in
-    let open_to : unless_dropping (handle_state limit (past_of limit r) h) ≡ None =
-    ap unless_dropping (found_in limit (past_of limit r) h Dropping i) in
-    let on : block_of (past_of limit r) h ≡ 0 = on_block limit r w seats h Dropping keeps i in
-    let takes : Subtracts limit (past_of limit r) h w = subtracts limit r w seats h keeps i in
-    let left : dropped_of w ≡ word_left limit (Sub h ∷ past_of limit r) 0 =
-    ap dropped_of keeps.left
-    ∙ sym (ap (λ b. if b == 0 then dropped_of (word_left limit (past_of limit r) 0) else word_left limit (past_of limit r) 0) on) in
-    let states : set seats h (if is_last w then Owing else Gone) ≡ states_in limit (Sub h ∷ past_of limit r) =
-    ap (λ old. set old h (if is_last w then Owing else Gone)) keeps.states
-    ∙ ap (λ b. set (states_in limit (past_of limit r)) h (if b then Owing else Gone)) (sym takes.last)
-    ∙ sym (states_in-set limit (past_of limit r) (Sub h ∷ past_of limit r) h _
-    (handles-Sub limit (past_of limit r) h (IsPast-past_of limit r) (ap is_none open_to))) in (
-      takes.counted,
-      prolonged
-          (kept limit r w (dropped_of w) seats _ (Sub h) keeps (ap is_none open_to) refl left states)
-          (ap is_none open_to)
-          (ap (λ o. reply_by o (accepted_answer limit (past_of limit r) (Sub h))) open_to
-          ∙ ap (λ b. if b then Owes else Left) takes.last),
-    )
+  -- the seats, where the step changes its handle's state
+  seats_are : (s : Step) (old new : HandleState) → ChangesOne limit p s h old new → set seats h new ≡ states_in limit (s ∷ p)
+  seats_are s old new c = ap (λ states. set states h new) keeps.states
+      ∙ sym (states_in-set limit p (s ∷ p) h _ (handles-changed limit p s h old new c))
 
-pub keeps-back : (limit : ℕ) (r : List Step) (w : FlagAndCount) (seats : List HandleState) (h : ℕ)
-    → Keeps limit r w seats → slice_get seats h ≡ Some Owing → Prolongs limit r (Back h) Given w (set seats h Gone)
-keeps-back limit r w seats h keeps seat =
-    let i : IsIn limit (past_of limit r) h Owing = seat_is limit r w seats h Owing keeps seat in
-    let open_to : unless_owing (handle_state limit (past_of limit r) h) ≡ None =
-    ap unless_owing (found_in limit (past_of limit r) h Owing i) in
-    let states : set seats h Gone ≡ states_in limit (Back h ∷ past_of limit r) =
-    ap (λ old. set old h Gone) keeps.states
-    ∙ sym (states_in-set limit (past_of limit r) (Back h ∷ past_of limit r) h _
-    (handles-Back limit (past_of limit r) h (ap is_none open_to))) in
-    prolonged
-    (kept limit r w w seats _ (Back h) keeps (ap is_none open_to) refl keeps.left states)
-    (ap is_none open_to)
-    (ap (λ o. reply_by o (accepted_answer limit (past_of limit r) (Back h))) open_to)
+  pub keeps-look : slice_get seats h ≡ Some Free → Prolongs limit r (Look h) (look_reply (looked_of w)) w seats
+  keeps-look seat = keeps-step (Look h) Free _ w seats refl seat refl (λ a on. record {
+    answer = look_answers limit p (block_of p h) w (rw on (stands limit r w seats keeps));
+    word = keeps.left;
+    states = keeps.states;
+  })
+
+  pub keeps-begin : slice_get seats h ≡ Some Free
+      → Prolongs limit r (Begin h) (if w.flag then Ended else Looked) w (set seats h (if w.flag then Gone else Dropping))
+  keeps-begin seat = keeps-step (Begin h) Free _ w _ refl seat refl (λ a on.
+      let mark : is_marked limit p (block_of p h) ≡ w.flag =
+      ap (λ b. is_marked limit p b) on ∙ sym (stands limit r w seats keeps).flag in record {
+        answer = ap (λ m. if m then Ended else Looked) mark;
+        word = keeps.left;
+        states = seats_are (Begin h) Free _
+            (subst (λ m. ChangesOne limit p (Begin h) h Free (if m then Gone else Dropping)) mark (Begin-changes limit p h past a));
+      })
+
+  pub keeps-clone : slice_get seats h ≡ Some Free
+      → Prolongs limit r (Clone h) (Handle (length seats)) (cloned_of limit w) (seats ++ Free ∷ [])
+  keeps-clone seat = keeps-step (Clone h) Free _ _ _ refl seat refl (λ a on. record {
+    answer = ap Handle (sym (length-states_in limit p) ∙ ap length (sym keeps.states));
+    word = word_is (cloned_of limit) on;
+    states = ap (λ states. states ++ Free ∷ []) keeps.states
+        ∙ sym (states_in-push limit p (Clone h ∷ p) _ (handles-Clone limit p h past));
+  })
+
+  pub keeps-leak : slice_get seats h ≡ Some Free → Prolongs limit r (Leak h) Marked (marked_of w) seats
+  keeps-leak seat = keeps-step (Leak h) Free _ _ _ refl seat refl (λ a on. record {
+    answer = refl;
+    word = word_is marked_of on;
+    states = keeps.states;
+  })
+
+  pub keeps-sub : slice_get seats h ≡ Some Dropping → (0 < w.count)
+      × Prolongs limit r (Sub h) (if is_last w then Owes else Left) (dropped_of w) (set seats h (if is_last w then Owing else Gone))
+  keeps-sub seat =
+      let takes : Subtracts limit p h w = subtracts limit r w seats h keeps (seat_is limit r w seats h Dropping keeps seat) in (
+        takes.counted,
+        keeps-step (Sub h) Dropping _ _ _ refl seat refl (λ a on. record {
+          answer = ap (λ m. if m then Owes else Left) takes.last;
+          word = word_is dropped_of on;
+          states = seats_are (Sub h) Dropping _
+              (subst (λ m. ChangesOne limit p (Sub h) h Dropping (if m then Owing else Gone)) takes.last (Sub-changes limit p h past a));
+        }),
+      )
+
+  pub keeps-back : slice_get seats h ≡ Some Owing → Prolongs limit r (Back h) Given w (set seats h Gone)
+  keeps-back seat = keeps-step (Back h) Owing _ w _ refl seat refl (λ a on. record {
+    answer = refl;
+    word = keeps.left;
+    states = seats_are (Back h) Owing Gone (Back-changes limit p h past a);
+  })

@@ -2,7 +2,7 @@
 use Rattle.std.proofs.Common.{◌≡◌, ◌↔◌, ℕ, Bool, true, false, not, ◌&&◌, if◌then◌else◌, is_none, IsTrue, Option, None, Some, List, ◌⊎◌, inl, inr, refl, sym}
 use Rattle.std.proofs.lemmas.Bool.{not-true, not_from_false, and_parts, and_from}
 use Rattle.arcstr_count.specs.declared.steps.Step.{Step}
-use Rattle.arcstr_count.specs.declared.steps.Step.TheVariants.{Make, Look, Clone, Begin, Sub, Back, Leak, IntoRaw, FromRaw}
+use Rattle.arcstr_count.specs.declared.steps.Step.TheVariants.{Look, Begin, Sub}
 use Rattle.arcstr_count.specs.declared.steps.Reply.{Reply}
 use Rattle.arcstr_count.specs.declared.steps.Reply.TheVariants.{Refused}
 use Rattle.arcstr_count.specs.declared.faults.StepFault.{StepFault}
@@ -10,7 +10,7 @@ use Rattle.arcstr_count.specs.History.{block_of}
 use Rattle.arcstr_count.specs.Marks.{is_marked, living, is_only}
 use Rattle.arcstr_count.specs.Answer.{reply_by, refusal_of, accepted_answer}
 use Rattle.arcstr_count.specs.Past.{past_of, answer_after}
-use Rattle.arcstr_count.specs.Sentences.{LivesAlone, RefusedSentence, ByFact, AcceptedAnswer, AnswerSentence}
+use Rattle.arcstr_count.specs.Sentences.{LivesAlone, ByFact, AcceptedAnswer, AnswerSentence}
 use Rattle.arcstr_count.proofs.SentencesDone.{only_one, is_only_one}
 use Rattle.arcstr_count.proofs.SentencesTable.{accepted_sentence}
 
@@ -41,28 +41,10 @@ module _ (limit : ℕ) (history : List Step) where
       )
 
   accepted_answer_sentence : (s : Step) (reply : Reply) → (accepted_answer limit (past_of limit history) s ≡ reply) ↔ AcceptedAnswer limit history s reply
-  accepted_answer_sentence Make reply = same _ reply
   accepted_answer_sentence (Look h) reply = by_test (is_marked limit (past_of limit history) (block_of (past_of limit history) h)) _ ((λ e. e), (λ e. e)) _ _ reply
-  accepted_answer_sentence (Clone h) reply = same _ reply
   accepted_answer_sentence (Begin h) reply = by_test (is_marked limit (past_of limit history) (block_of (past_of limit history) h)) _ ((λ e. e), (λ e. e)) _ _ reply
   accepted_answer_sentence (Sub h) reply = by_test _ (LivesAlone limit history h) (alone_sentence h) _ _ reply
-  accepted_answer_sentence (Back h) reply = same _ reply
-  accepted_answer_sentence (Leak h) reply = same _ reply
-  accepted_answer_sentence (IntoRaw h) reply = same _ reply
-  accepted_answer_sentence (FromRaw h) reply = same _ reply
-
-  -- ---- a refused step
-
-  refused_sentence : (s : Step) (fault : StepFault) → (refusal_of limit (past_of limit history) s ≡ Some fault) ↔ RefusedSentence limit history s fault
-  refused_sentence Make fault = ((λ e. cc), (λ e. absurd e))
-  refused_sentence (Look h) fault = ((λ e. e), (λ e. e))
-  refused_sentence (Clone h) fault = ((λ e. e), (λ e. e))
-  refused_sentence (Begin h) fault = ((λ e. e), (λ e. e))
-  refused_sentence (Sub h) fault = ((λ e. e), (λ e. e))
-  refused_sentence (Back h) fault = ((λ e. e), (λ e. e))
-  refused_sentence (Leak h) fault = ((λ e. e), (λ e. e))
-  refused_sentence (IntoRaw h) fault = ((λ e. e), (λ e. e))
-  refused_sentence (FromRaw h) fault = ((λ e. e), (λ e. e))
+  accepted_answer_sentence s reply = same _ reply
 
 -- ---- both
 
@@ -85,10 +67,10 @@ answer_sentence limit history s reply =
     let replied = by_refusal (refusal_of limit (past_of limit history) s) (accepted_answer limit (past_of limit history) s) reply in (
       (λ e. elim (replied.0 e) [
         | inl w ↦ inl (accepted.0 w.0, answered.0 w.1)
-        | inr w ↦ inr (w.0, (refused_sentence limit history s w.0).0 w.1, w.2)
+        | inr w ↦ inr w
       ]),
       elim [
         | inl w ↦ replied.1 (inl (accepted.1 w.0, answered.1 w.1))
-        | inr w ↦ replied.1 (inr (w.0, (refused_sentence limit history s w.0).1 w.1, w.2))
+        | inr w ↦ replied.1 (inr w)
       ],
     )

@@ -67,11 +67,11 @@ by_make (x ∷ p) h b (inl w) = subst (λ s. Born (s ∷ p) h b) (sym w.0)
     (let e : births p ≡ h = w.1.0 in (omega arith, block_of-newest p h b (makes p) e w.1.1))
 by_make (x ∷ p) h b (inr w) = Born-more x p h b (by_make p h b w)
 
-by_clone : (p : List Step) (g h b : ℕ) → InPast p (Clone g) (ClonesOn g h b) → Born p h b
-by_clone [] g h b w = absurd w
-by_clone (x ∷ p) g h b (inl w) = subst (λ s. Born (s ∷ p) h b) (sym w.0)
+born_by_clone : (p : List Step) (g h b : ℕ) → InPast p (Clone g) (ClonesOn g h b) → Born p h b
+born_by_clone [] g h b w = absurd w
+born_by_clone (x ∷ p) g h b (inl w) = subst (λ s. Born (s ∷ p) h b) (sym w.0)
     (let e : births p ≡ h = w.1.0 in (omega arith, block_of-newest p h b (block_of p g) e w.1.1))
-by_clone (x ∷ p) g h b (inr w) = Born-more x p h b (by_clone p g h b w)
+born_by_clone (x ∷ p) g h b (inr w) = Born-more x p h b (born_by_clone p g h b w)
 
 pub born_sentence : (limit : ℕ) (history : List Step) (h b : ℕ)
     → ((h < births_after limit history) × (block_after limit history h ≡ b)) ↔ BornSentence limit history h b
@@ -82,6 +82,6 @@ born_sentence limit history h b = (
   ]),
   elim [
     | inl m ↦ by_make (past_of limit history) h b (in_past limit Make (MakesOn h b) history m)
-    | inr c ↦ by_clone (past_of limit history) c.0 h b (in_past limit (Clone c.0) (ClonesOn c.0 h b) history c.1)
+    | inr c ↦ born_by_clone (past_of limit history) c.0 h b (in_past limit (Clone c.0) (ClonesOn c.0 h b) history c.1)
   ],
 )

@@ -7,11 +7,11 @@ use Rattle.std.proofs.lemmas.Option.{slice_get-get_or}
 use Rattle.std.proofs.Math.Seq.{take-append_seam}
 use Rattle.arcstr_count.specs.declared.steps.Step.{Step}
 use Rattle.arcstr_count.specs.declared.steps.Step.TheVariants.{Make, Clone, Back}
-use Rattle.arcstr_count.specs.History.{makes, births, block_of, numbers_below}
+use Rattle.arcstr_count.specs.History.{makes, births, block_of, numbers_below, is_make, is_birth}
 use Rattle.arcstr_count.specs.Answer.{is_accepted}
 use Rattle.arcstr_count.specs.Past.{past_of, times_given}
 use Rattle.arcstr_count.specs.After.{given_after}
-use Rattle.arcstr_count.specs.Sentences.{accepted_after, passes_after, accepted_count, births_after, makes_after, is_make, is_birth, is_back_on, given_count}
+use Rattle.arcstr_count.specs.Sentences.{accepted_after, passes_after, accepted_count, births_after, makes_after, is_back_on, given_count}
 use Rattle.arcstr_count.proofs.SentencesPrefixes.{by_steps, past_of-accepted, past_of-refused}
 
 -- ---- the numbers below another

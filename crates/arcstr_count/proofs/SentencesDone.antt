@@ -12,7 +12,8 @@ use Rattle.arcstr_count.specs.Sentences.{AcceptedWhere, HasAccepted, BeganUnmark
 use Rattle.arcstr_count.proofs.Pasts.{IsPast-past_of}
 use Rattle.arcstr_count.proofs.SentencesPrefixes.{InPast, in_past, in_history}
 use Rattle.arcstr_count.proofs.SentencesFirst.{tests_owing, state_of_test}
-use Rattle.arcstr_count.proofs.SentencesTable.{free_passes, dropping_passes, handle_state_sentence}
+use Rattle.arcstr_count.proofs.LawsOfHandles.{needed_state}
+use Rattle.arcstr_count.proofs.SentencesTable.{handle_state_sentence}
 
 -- ---- a test of pasts, and an accepted step
 
@@ -95,21 +96,21 @@ given_sentence limit h history = test_sentence limit (Back h) (λ _. Unit {0}) (
 
 pub begins_once : (limit : ℕ) (p : List Step) (h : ℕ) → is_accepted limit p (Begin h) ≡ true → has_begun p h ≡ false
 begins_once limit p h e =
-    let born = (handle_state_sentence limit p h Free).0 (free_passes (handle_state limit p h) e) in
+    let born = (handle_state_sentence limit p h Free).0 (needed_state Free (handle_state limit p h) e) in
     let free = (state_of_test limit p h Free).0 born.1 in
     not-true (has_begun p h) free.1
 
 subtracts_once : (limit : ℕ) (p : List Step) (h : ℕ) → is_accepted limit p (Sub h) ≡ true → has_subtracted p h ≡ false
 subtracts_once limit p h e =
-    let born = (handle_state_sentence limit p h Dropping).0 (dropping_passes (handle_state limit p h) e) in
+    let born = (handle_state_sentence limit p h Dropping).0 (needed_state Dropping (handle_state limit p h) e) in
     let dropping = (state_of_test limit p h Dropping).0 born.1 in
     let parts = and_parts (began_unmarked limit p h) (not (has_subtracted p h)) dropping.2 in
     not-true (has_subtracted p h) parts.1
 
 -- ---- begun where the block was unmarked
 
-abbrev Unmarked : ℕ → ℕ → List Step → Type 0
-Unmarked limit h q = IsFalse (is_marked limit q (block_of q h))
+abbrev IsOnUnmarked : ℕ → ℕ → List Step → Type 0
+IsOnUnmarked limit h q = IsFalse (is_marked limit q (block_of q h))
 
 began_unmarked-begun : (limit : ℕ) (h : ℕ) (p : List Step) → began_unmarked limit p h ≡ true → has_begun p h ≡ true
 began_unmarked-begun limit h [] e = e
@@ -122,11 +123,11 @@ began_unmarked-begun limit h (Begin g ∷ p) e = go (g == h) e (began_unmarked-b
 began_unmarked-begun limit h (s ∷ p) e = began_unmarked-begun limit h p e
 
 began_unmarked-latest : (limit : ℕ) (h : ℕ) (x : Step) (p : List Step) → began_unmarked limit (x ∷ p) h ≡ true
-    → ((x ≡ Begin h) × Unmarked limit h p) ⊎ (began_unmarked limit p h ≡ true)
+    → ((x ≡ Begin h) × IsOnUnmarked limit h p) ⊎ (began_unmarked limit p h ≡ true)
 began_unmarked-latest limit h (Begin g) p e = go (g == h) refl e
   where
     go : (b : Bool) → (g == h) ≡ b → (if b then not (is_marked limit p (block_of p h)) else began_unmarked limit p h) ≡ true
-        → ((Begin g ≡ Begin h) × Unmarked limit h p) ⊎ (began_unmarked limit p h ≡ true)
+        → ((Begin g ≡ Begin h) × IsOnUnmarked limit h p) ⊎ (began_unmarked limit p h ≡ true)
     go true d e = inl (ap Begin (eqb-true g h d), not-true (is_marked limit p (block_of p h)) e)
     go false d e = inr e
 began_unmarked-latest limit h s p e = inr e
@@ -144,7 +145,7 @@ began_unmarked-kept limit h (Begin g) p accepted e = go (g == h) refl
 began_unmarked-kept limit h s p accepted e = e
 
 pub began_unmarked_sentence : (limit : ℕ) (h : ℕ) (history : List Step) → (began_unmarked limit (past_of limit history) h ≡ true) ↔ BeganUnmarked limit history h
-began_unmarked_sentence limit h history = test_sentence limit (Begin h) (Unmarked limit h) (λ p. began_unmarked limit p h) refl
+began_unmarked_sentence limit h history = test_sentence limit (Begin h) (IsOnUnmarked limit h) (λ p. began_unmarked limit p h) refl
     (began_unmarked-latest limit h)
     (λ p q. here_if h (not (is_marked limit p (block_of p h))) (began_unmarked limit p h) (not_from_false (is_marked limit p (block_of p h)) q))
     (began_unmarked-kept limit h)

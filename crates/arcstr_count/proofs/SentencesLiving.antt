@@ -8,7 +8,7 @@ use Rattle.std.proofs.lemmas.List.Elements.{Contains-append_left, Contains-push,
 use Rattle.std.proofs.lemmas.List.Kept.{IsStrictlyIncreasing-filter}
 use Rattle.arcstr_count.specs.declared.steps.Step.{Step}
 use Rattle.arcstr_count.specs.declared.steps.HandleState.{HandleState}
-use Rattle.arcstr_count.specs.declared.steps.HandleState.TheVariants.{Free, Raw, Dropping, Owing, Gone}
+use Rattle.arcstr_count.specs.declared.steps.HandleState.TheVariants.{Free, Raw, Dropping, Owing}
 use Rattle.arcstr_count.specs.History.{births, block_of, lives, numbers_below}
 use Rattle.arcstr_count.specs.Marks.{state_of, living}
 use Rattle.arcstr_count.specs.Answer.{handle_state}
@@ -71,20 +71,19 @@ lives_cases : (s : HandleState) → lives s ≡ true → (s ≡ Free) ⊎ ((s �
 lives_cases Free e = inl refl
 lives_cases Raw e = inr (inl refl)
 lives_cases Dropping e = inr (inr refl)
-lives_cases Owing e = absurd (cc)
-lives_cases Gone e = absurd (cc)
+lives_cases s e = absurd (cc)
 
 module _ (limit : ℕ) (p : List Step) (h : ℕ) where
-  born_in : (s : HandleState) → handle_state limit p h ≡ Some s → (h < births p) × (state_of limit p h ≡ s)
-  born_in s = (handle_state_sentence limit p h s).0
+  born_with : (s : HandleState) → handle_state limit p h ≡ Some s → (h < births p) × (state_of limit p h ≡ s)
+  born_with s = (handle_state_sentence limit p h s).0
 
   in_state : (s : HandleState) → h < births p → state_of limit p h ≡ s → handle_state limit p h ≡ Some s
   in_state s lt e = (handle_state_sentence limit p h s).1 (lt, e)
 
   -- a handle that was born and whose state passes a test
-  passes_at : (test : HandleState → Bool) (s : HandleState) → test s ≡ true → handle_state limit p h ≡ Some s
+  state_passes : (test : HandleState → Bool) (s : HandleState) → test s ≡ true → handle_state limit p h ≡ Some s
       → (h < births p) × (test (state_of limit p h) ≡ true)
-  passes_at test s e w = let at = born_in s w in (at.0, rw (at.1) e)
+  state_passes test s e w = let at = born_with s w in (at.0, rw (at.1) e)
 
   members : (test : HandleState → Bool) (b : ℕ) → Contains (filter (λ k. (block_of p k == b) && test (state_of limit p k)) (numbers_below (births p))) h
       ↔ ((h < births p) × (block_of p h ≡ b) × (test (state_of limit p h) ≡ true))
@@ -108,9 +107,9 @@ module _ (limit : ℕ) (p : List Step) (h : ℕ) where
 
   alive : (handle_state limit p h ≡ Some Free) ⊎ ((handle_state limit p h ≡ Some Raw) ⊎ (handle_state limit p h ≡ Some Dropping))
       → (h < births p) × (lives (state_of limit p h) ≡ true)
-  alive (inl e) = passes_at lives Free refl e
-  alive (inr (inl e)) = passes_at lives Raw refl e
-  alive (inr (inr e)) = passes_at lives Dropping refl e
+  alive (inl e) = state_passes lives Free refl e
+  alive (inr (inl e)) = state_passes lives Raw refl e
+  alive (inr (inr e)) = state_passes lives Dropping refl e
 
   from_living : (b : ℕ) → (block_of p h ≡ b)
       × ((handle_state limit p h ≡ Some Free) ⊎ ((handle_state limit p h ≡ Some Raw) ⊎ (handle_state limit p h ≡ Some Dropping)))
@@ -126,37 +125,30 @@ living_rising limit history b = passing_rising
 
 -- ---- a drop under way
 
+-- the handles on a block that are in one state, which is what the test passes
+one_state_sentence : (test : HandleState → Bool) (s : HandleState) → test s ≡ true → ((t : HandleState) → test t ≡ true → t ≡ s)
+    → (limit : ℕ) (p : List Step) (b h : ℕ) → Contains (filter (λ k. (block_of p k == b) && test (state_of limit p k)) (numbers_below (births p))) h
+    ↔ ((block_of p h ≡ b) × (handle_state limit p h ≡ Some s))
+one_state_sentence test s passes only limit p b h = (
+  (λ c. let w = (members limit p h test b).0 c in (w.1, in_state limit p h s w.0 (only (state_of limit p h) w.2))),
+  (λ w. let a = state_passes limit p h test s passes w.1 in (members limit p h test b).1 (a.0, w.0, a.1)),
+)
+
 is_dropping-true : (s : HandleState) → is_dropping s ≡ true → s ≡ Dropping
-is_dropping-true Free e = cc
-is_dropping-true Raw e = cc
 is_dropping-true Dropping e = refl
-is_dropping-true Owing e = cc
-is_dropping-true Gone e = cc
+is_dropping-true s e = cc
 
 is_owing-true : (s : HandleState) → is_owing s ≡ true → s ≡ Owing
-is_owing-true Free e = cc
-is_owing-true Raw e = cc
-is_owing-true Dropping e = cc
 is_owing-true Owing e = refl
-is_owing-true Gone e = cc
+is_owing-true s e = cc
 
 pub dropping_sentence : (limit : ℕ) (history : List Step) (b h : ℕ) → Contains (dropping_after limit history b) h
     ↔ ((block_after limit history h ≡ b) × (state_after limit history h ≡ Some Dropping))
-dropping_sentence limit history b h = (
-  (λ c. let w = (members limit (past_of limit history) h is_dropping b).0 c in
-      (w.1, in_state limit (past_of limit history) h Dropping w.0 (is_dropping-true (state_of limit (past_of limit history) h) w.2))),
-  (λ w. let a = passes_at limit (past_of limit history) h is_dropping Dropping refl w.1 in
-      (members limit (past_of limit history) h is_dropping b).1 (a.0, w.0, a.1)),
-)
+dropping_sentence limit history b h = one_state_sentence is_dropping Dropping refl is_dropping-true limit (past_of limit history) b h
 
 pub owing_sentence : (limit : ℕ) (history : List Step) (b h : ℕ) → Contains (owing_after limit history b) h
     ↔ ((block_after limit history h ≡ b) × (state_after limit history h ≡ Some Owing))
-owing_sentence limit history b h = (
-  (λ c. let w = (members limit (past_of limit history) h is_owing b).0 c in
-      (w.1, in_state limit (past_of limit history) h Owing w.0 (is_owing-true (state_of limit (past_of limit history) h) w.2))),
-  (λ w. let a = passes_at limit (past_of limit history) h is_owing Owing refl w.1 in
-      (members limit (past_of limit history) h is_owing b).1 (a.0, w.0, a.1)),
-)
+owing_sentence limit history b h = one_state_sentence is_owing Owing refl is_owing-true limit (past_of limit history) b h
 
 not_empty : (xs : List ℕ) (h : ℕ) → Contains xs h → xs ≢ []
 not_empty xs h c e = let none : Contains [] h = subst (λ ys. Contains ys h) e c in absurd (omega (arith, none.1))

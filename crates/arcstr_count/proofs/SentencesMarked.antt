@@ -56,14 +56,14 @@ by_leak limit (x ∷ p) h b (inl w) =
     (or_left (block_of p h == b) (is_marked limit p b) (eq-eqb (block_of p h) b w.1))
 by_leak limit (x ∷ p) h b (inr w) = is_marked-more limit x p b (by_leak limit p h b w)
 
-by_clone : (limit : ℕ) (p : List Step) (h b : ℕ) → InPast p (Clone h) (OnFull limit h b) → is_marked limit p b ≡ true
-by_clone limit [] h b w = absurd w
-by_clone limit (x ∷ p) h b (inl w) =
+marked_by_clone : (limit : ℕ) (p : List Step) (h b : ℕ) → InPast p (Clone h) (OnFull limit h b) → is_marked limit p b ≡ true
+marked_by_clone limit [] h b w = absurd w
+marked_by_clone limit (x ∷ p) h b (inl w) =
     subst (λ s. is_marked limit (s ∷ p) b ≡ true) (sym w.0)
     (or_right (is_marked limit p b) ((block_of p h == b) && nat_lt limit (length (living limit p b)))
     (and_from (block_of p h == b) (nat_lt limit (length (living limit p b)))
     (eq-eqb (block_of p h) b w.1.0) (lt-ltb limit (length (living limit p b)) w.1.2)))
-by_clone limit (x ∷ p) h b (inr w) = is_marked-more limit x p b (by_clone limit p h b w)
+marked_by_clone limit (x ∷ p) h b (inr w) = is_marked-more limit x p b (marked_by_clone limit p h b w)
 
 pub marked_sentence : (limit : ℕ) (history : List Step) (b : ℕ) → IsTrue (marked_after limit history b) ↔ MarkedSentence limit history b
 marked_sentence limit history b = (
@@ -73,6 +73,6 @@ marked_sentence limit history b = (
   ]),
   elim [
     | inl w ↦ by_leak limit (past_of limit history) w.0 b (in_past limit (Leak w.0) (On w.0 b) history w.1)
-    | inr w ↦ by_clone limit (past_of limit history) w.0 b (in_past limit (Clone w.0) (OnFull limit w.0 b) history w.1)
+    | inr w ↦ marked_by_clone limit (past_of limit history) w.0 b (in_past limit (Clone w.0) (OnFull limit w.0 b) history w.1)
   ],
 )

@@ -16,7 +16,8 @@ use Rattle.arcstr_count.proofs.SentencesRaw.{is_raw-latest, raw_sentence}
 use Rattle.arcstr_count.proofs.SentencesDone.{has_begun-kept, has_subtracted-latest, begins_once, was_last-subtracted, begun_sentence}
 use Rattle.arcstr_count.proofs.SentencesDone.{began_unmarked_sentence, subtracted_sentence, owes_test, not_sentence, and_not_sentence}
 use Rattle.arcstr_count.proofs.SentencesFirst.{tests_free, tests_dropping, tests_owing, state_of_test}
-use Rattle.arcstr_count.proofs.SentencesTable.{dropping_passes, handle_state_sentence}
+use Rattle.arcstr_count.proofs.LawsOfHandles.{needed_state}
+use Rattle.arcstr_count.proofs.SentencesTable.{handle_state_sentence}
 
 -- ---- from tests to sentences
 
@@ -51,8 +52,8 @@ module _ (limit : ℕ) (history : List Step) (h : ℕ) where
   free_sentence : TestsFree ↔ NeverBegan
   free_sentence = not_sentence (has_begun (past_of limit history) h) (HasAccepted limit history (Begin h)) (begun_sentence limit h history)
 
-  dropping_sentence : TestsDropping ↔ BeganAndStays
-  dropping_sentence = and_not_sentence (began_unmarked limit (past_of limit history) h) (has_subtracted (past_of limit history) h)
+  stays_sentence : TestsDropping ↔ BeganAndStays
+  stays_sentence = and_not_sentence (began_unmarked limit (past_of limit history) h) (has_subtracted (past_of limit history) h)
       (BeganUnmarked limit history h) (HasAccepted limit history (Sub h))
       (began_unmarked_sentence limit h history) (subtracted_sentence limit h history)
 
@@ -60,13 +61,13 @@ module _ (limit : ℕ) (history : List Step) (h : ℕ) where
   state_of_sentence s = (
     (λ e. FirstThatHolds-along IsRaw TestsFree TestsDropping TestsOwing
         (LastIsIntoRaw limit history h) NeverBegan BeganAndStays (OwesSentence limit history h)
-        (raw_sentence limit history h) free_sentence dropping_sentence (owes_test limit history h) s
+        (raw_sentence limit history h) free_sentence stays_sentence (owes_test limit history h) s
         ((state_of_test limit (past_of limit history) h s).0 e)),
     (λ w. (state_of_test limit (past_of limit history) h s).1 (FirstThatHolds-along
         (LastIsIntoRaw limit history h) NeverBegan BeganAndStays (OwesSentence limit history h)
         IsRaw TestsFree TestsDropping TestsOwing
         ((raw_sentence limit history h).1, (raw_sentence limit history h).0) (free_sentence.1, free_sentence.0)
-        (dropping_sentence.1, dropping_sentence.0) ((owes_test limit history h).1, (owes_test limit history h).0) s w)),
+        (stays_sentence.1, stays_sentence.0) ((owes_test limit history h).1, (owes_test limit history h).0) s w)),
   )
 
 pub state_sentence : (limit : ℕ) (history : List Step) (h : ℕ) (s : HandleState)
@@ -86,7 +87,7 @@ subtracted_began limit h (x ∷ p) past e = elim (has_subtracted-latest h x p e)
     first : x ≡ Sub h → (h < births (x ∷ p)) × (is_raw (x ∷ p) h ≡ false) × (has_begun (x ∷ p) h ≡ true)
     first d =
         let accepted : is_accepted limit p (Sub h) ≡ true = subst (λ s. is_accepted limit p s ≡ true) d past.0 in
-        let born = (handle_state_sentence limit p h Dropping).0 (dropping_passes (handle_state limit p h) accepted) in
+        let born = (handle_state_sentence limit p h Dropping).0 (needed_state Dropping (handle_state limit p h) accepted) in
         let dropping = (state_of_test limit p h Dropping).0 born.1 in
         subst (λ s. (h < births (s ∷ p)) × (is_raw (s ∷ p) h ≡ false) × (has_begun (s ∷ p) h ≡ true)) (sym d)
         (born.0, false_from_ne_true (is_raw p h) dropping.0, began (has_begun p h) dropping.1)

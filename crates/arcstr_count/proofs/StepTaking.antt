@@ -1,6 +1,6 @@
 -- What a world needs to take a step: what is found in its tables, and what they become.
 use Rattle.std.proofs.Common.{◌≡◌, ℕ, ◌<◌, ◌≤◌, Bool, true, false, nat_lt, if◌then◌else◌, Option, None, Some, option_map, List, [], ◌∷◌, ◌++◌, length}
-use Rattle.std.proofs.Common.{get_or, refl, sym, ◌∙◌, ap, subst, arith, is_none, IfSome, lt-ltb, ltb-true, ltb-false}
+use Rattle.std.proofs.Common.{get_or, refl, sym, ◌∙◌, ap, subst, arith, is_none, IfSome, ltb-true, ltb-false}
 use Rattle.std.proofs.Math.Logic.{∥∥₁_map, ∥∥₁_elim}
 use Rattle.std.proofs.Props.{props}
 use Rattle.std.proofs.lemmas.Option.{slice_get_within, get_or_from_slice_get, slice_get-get_or, slice_get_past}
@@ -16,14 +16,14 @@ use Rattle.arcstr_count.specs.declared.faults.StepFault.{StepFault}
 use Rattle.arcstr_count.specs.declared.worlds.BlockEntry.{BlockEntry}
 use Rattle.arcstr_count.specs.History.{makes, births, block_of}
 use Rattle.arcstr_count.specs.Marks.{state_of}
-use Rattle.arcstr_count.specs.Answer.{unless_free, handle_state, refusal_of, accepted_answer, reply_by}
+use Rattle.arcstr_count.specs.Answer.{Need, needs, handle_state, refusal_unless, refusal_by, refusal_of, accepted_answer, reply_by}
 use Rattle.arcstr_count.specs.Past.{IsPast, past_of}
 use Rattle.arcstr_count.specs.Summary.{Summary, WorldView, StandsFor, handle_summary, handles_of, summary_of, words_left}
 use Rattle.arcstr_count.specs.Tables.{view_of, IsWorld}
 use Rattle.arcstr_count.specs.Taken.{IsRefusal, IsAcceptedBy, Answers, Follows, Takes, HasHistory}
 use Rattle.arcstr_count.specs.OneHandle.{state_at, IsAt}
 use Rattle.arcstr_count.proofs.Pasts.{past_of-step, IsPast-past_of}
-use Rattle.arcstr_count.proofs.LawsOfHandles.{block_made}
+use Rattle.arcstr_count.proofs.LawsOfHandles.{IsIn, state_is, block_made}
 use Rattle.arcstr_count.proofs.Tables.{handle_at, length-handles_of, length-words_left}
 use Rattle.arcstr_count.proofs.Entries.{AreTablesOf, entry_of, entries_of, entry_at, tables_from_view, view_from_tables}
 
@@ -31,9 +31,8 @@ use Rattle.arcstr_count.proofs.Entries.{AreTablesOf, entry_of, entries_of, entry
 
 -- the handle was born, on this block and in this state, and the block was made
 pub record FoundIn (limit : ℕ) (p : List Step) (h b : ℕ) (s : HandleState) : Type 0 where
-  pub born : h < births p
+  pub is_in : IsIn limit p h s
   pub block : block_of p h ≡ b
-  pub state : state_of limit p h ≡ s
   pub made : b < makes p
 
 -- what a world's view has about a handle is what the past has about it
@@ -41,9 +40,8 @@ pub found_in_past : (w : WorldView) (p : List Step) (h b : ℕ) (s : HandleState
     → w.summary.handles ≡ handles_of w.summary.limit p → w.words ≡ words_left w.summary.limit p → IsAt w h b s
     → FoundIn w.summary.limit p h b s
 found_in_past w p h b s handles words at = record {
-  born = born;
+  is_in = record { born = born; state = ap (λ (found : HandleSummary). found.state) is };
   block = ap (λ (found : HandleSummary). found.block) is;
-  state = ap (λ (found : HandleSummary). found.state) is;
   made = let long = ap length words ∙ length-words_left w.summary.limit p in let made = at.made in omega arith;
 }
   where
@@ -56,11 +54,6 @@ found_in_past w p h b s handles words at = record {
     is : handle_summary w.summary.limit p h ≡ here
     is = sym (handle_at w.summary.limit p h here born) ∙ ap (λ hs. get_or hs h here) (sym handles)
         ∙ get_or_from_slice_get w.summary.handles h here here at.found
-
--- the past has the state of a handle that was found
-pub handle_state-found : (limit : ℕ) (p : List Step) (h b : ℕ) (s : HandleState) → FoundIn limit p h b s
-    → handle_state limit p h ≡ Some s
-handle_state-found limit p h b s found = rw (lt-ltb h (births p) found.born, found.state) refl
 
 -- a world has each of its handles on a block that it has
 pub placed : (limit : ℕ) (handles : List HandleSummary) (blocks : List BlockEntry) (w : WorldView) (h : ℕ) (known : Option HandleSummary)
@@ -122,10 +115,10 @@ entry_read limit p blocks b e are made read =
 
 -- ---- a step that is refused
 
-pub takes_refused : (w : WorldView) (s : Step) (fault : StepFault)
-    → ((p : List Step) → w.summary.handles ≡ handles_of w.summary.limit p → refusal_of w.summary.limit p s ≡ Some fault)
-    → Takes w s (Refused fault) w
-takes_refused w s fault refusal = record {
+-- a step that the table refuses for the state of its handle
+pub takes_refused : (w : WorldView) (s : Step) (need : Need) (fault : StepFault) → needs s ≡ Some need
+    → refusal_unless need.state (state_at w need.handle) ≡ Some fault → Takes w s (Refused fault) w
+takes_refused w s need fault needed row = record {
   answers = λ history stands.
       sym (ap (λ r. reply_by r (accepted_answer w.summary.limit (past_of w.summary.limit history) s)) (refused history stands));
   follows = follows;
@@ -135,7 +128,11 @@ takes_refused w s fault refusal = record {
   where
     refused : (history : List Step) → StandsFor w history
         → refusal_of w.summary.limit (past_of w.summary.limit history) s ≡ Some fault
-    refused history stands = refusal (past_of w.summary.limit history) (ap (λ (t : Summary). t.handles) stands.summary)
+    refused history stands =
+        ap (λ n. refusal_by (λ h. handle_state w.summary.limit (past_of w.summary.limit history) h) n) needed
+        ∙ ap (refusal_unless need.state)
+        (sym (state_at-past w (past_of w.summary.limit history) need.handle (ap (λ (t : Summary). t.handles) stands.summary)))
+        ∙ row
 
     same_past : (history : List Step) → StandsFor w history
         → past_of w.summary.limit (history ++ s ∷ []) ≡ past_of w.summary.limit history
@@ -148,27 +145,20 @@ takes_refused w s fault refusal = record {
       words = stands.words ∙ ap (λ p. words_left w.summary.limit p) (sym (same_past history stands));
     }
 
--- a step of a handle whose state the table's row refuses
-pub takes_refused_by : (unless : Option HandleState → Option StepFault) (w : WorldView) (s : Step) (h : ℕ) (fault : StepFault)
-    → ((p : List Step) → refusal_of w.summary.limit p s ≡ unless (handle_state w.summary.limit p h))
-    → unless (state_at w h) ≡ Some fault → Takes w s (Refused fault) w
-takes_refused_by unless w s h fault row refused =
-    takes_refused w s fault (λ p handles. row p ∙ ap unless (sym (state_at-past w p h handles)) ∙ refused)
-
 -- ---- a step that is accepted
 
--- the step is accepted after the past, with this reply, and leaves these tables
+-- the step, accepted after the past, has this reply and leaves these tables
 pub record Changes (limit : ℕ) (p : List Step) (s : Step) (reply : Reply) (handles : List HandleSummary) (blocks : List BlockEntry) : Type 0 where
-  pub unrefused : refusal_of limit p s ≡ None
   pub answer : reply ≡ accepted_answer limit p s
   pub tables : AreTablesOf limit (s ∷ p) handles blocks
 
 pub takes_accepted : (limit : ℕ) (handles : List HandleSummary) (blocks : List BlockEntry) (old : WorldView) (s : Step) (reply : Reply)
     (new_handles : List HandleSummary) (new_blocks : List BlockEntry)
     → view_of limit handles blocks ≡ old → (IsRefusal reply → ⊥)
+    → ((p : List Step) → AreTablesOf limit p handles blocks → refusal_of limit p s ≡ None)
     → ((p : List Step) → IsPast limit p → AreTablesOf limit p handles blocks → Changes limit p s reply new_handles new_blocks)
     → Takes old s reply (view_of limit new_handles new_blocks)
-takes_accepted limit handles blocks old s reply new_handles new_blocks view_is unrefused change =
+takes_accepted limit handles blocks old s reply new_handles new_blocks view_is unrefused accepted change =
     subst (λ w. Takes w s reply (view_of limit new_handles new_blocks)) view_is (record {
       answers = answers;
       follows = follows;
@@ -184,13 +174,16 @@ takes_accepted limit handles blocks old s reply new_handles new_blocks view_is u
     changed history stands = change (past_of limit history) (IsPast-past_of limit history)
         (tables_from_view limit handles blocks history stands)
 
+    accepts : (history : List Step) → StandsFor before history → refusal_of limit (past_of limit history) s ≡ None
+    accepts history stands = accepted (past_of limit history) (tables_from_view limit handles blocks history stands)
+
     answers : Answers before s reply
     answers history stands = (changed history stands).answer
-        ∙ ap (λ r. reply_by r (accepted_answer limit (past_of limit history) s)) (sym (changed history stands).unrefused)
+        ∙ ap (λ r. reply_by r (accepted_answer limit (past_of limit history) s)) (sym (accepts history stands))
 
     longer_past : (history : List Step) → StandsFor before history → past_of limit (history ++ s ∷ []) ≡ s ∷ past_of limit history
     longer_past history stands = past_of-step limit history s
-        ∙ ap (λ r. if is_none r then s ∷ past_of limit history else past_of limit history) (changed history stands).unrefused
+        ∙ ap (λ r. if is_none r then s ∷ past_of limit history else past_of limit history) (accepts history stands)
 
     follows : Follows before s (view_of limit new_handles new_blocks)
     follows history stands = view_from_tables limit new_handles new_blocks (history ++ s ∷ [])
@@ -212,7 +205,7 @@ world_kept limit handles blocks old s reply new_handles new_blocks world view_is
 -- a clone of a handle that a world has as free is accepted
 pub clone_accepted : (w : WorldView) (h b : ℕ) → IsAt w h b Free → IsAcceptedBy w (Clone h)
 clone_accepted w h b at history stands =
-    ap is_none (ap unless_free (handle_state-found w.summary.limit p h b Free found))
+    ap (λ o. is_none (refusal_unless Free o)) (state_is w.summary.limit p h Free found.is_in)
   where
     p : List Step
     p = past_of w.summary.limit history

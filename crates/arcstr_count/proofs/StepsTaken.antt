@@ -1,5 +1,5 @@
 -- Each accepted step: what it makes of the world's tables.
-use Rattle.std.proofs.Common.{◌≡◌, ℕ, ◌<◌, Bool, true, false, not, ◌&&◌, if◌then◌else◌, None, Some, List, [], ◌∷◌, ◌++◌, length, get_or, set, map}
+use Rattle.std.proofs.Common.{◌≡◌, ℕ, ◌<◌, Bool, true, false, not, ◌&&◌, if◌then◌else◌, Option, None, Some, List, [], ◌∷◌, ◌++◌, length, get_or, set, map}
 use Rattle.std.proofs.Common.{is_none, refl, sym, ◌∙◌, ap, ap₂, subst}
 use Rattle.std.proofs.Math.Logic.{∥∥₁_elim}
 use Rattle.std.proofs.Props.{props}
@@ -9,25 +9,26 @@ use Rattle.arcstr_count.specs.declared.steps.HandleState.{HandleState}
 use Rattle.arcstr_count.specs.declared.steps.HandleState.TheVariants.{Free, Raw, Dropping, Owing, Gone}
 use Rattle.arcstr_count.specs.declared.steps.HandleSummary.{HandleSummary}
 use Rattle.arcstr_count.specs.declared.steps.Reply.{Reply}
-use Rattle.arcstr_count.specs.declared.steps.Reply.TheVariants.{Made, Count, Static, Handle, Looked, Ended, Left, Owes, Given, Marked, Raw as RawReply, Unraw}
+use Rattle.arcstr_count.specs.declared.steps.Reply.TheVariants.{Made, Handle, Looked, Ended, Left, Owes, Given, Marked, Raw as RawReply, Unraw}
 use Rattle.arcstr_count.specs.declared.worlds.BlockEntry.{BlockEntry}
 use Rattle.arcstr_count.specs.Word.{FlagAndCount, fresh_word, looked_of, cloned_of, dropped_of, marked_of, is_last}
 use Rattle.arcstr_count.specs.History.{makes, block_of}
 use Rattle.arcstr_count.specs.Marks.{is_marked, living, is_only}
-use Rattle.arcstr_count.specs.Answer.{unless_free, unless_dropping, unless_owing, unless_raw, refusal_of}
+use Rattle.arcstr_count.specs.Answer.{needs, handle_state, refusal_unless, refusal_by, refusal_of, is_accepted, accepted_answer}
 use Rattle.arcstr_count.specs.Past.{IsPast, past_of}
 use Rattle.arcstr_count.specs.Left.{word_left}
 use Rattle.arcstr_count.specs.Summary.{WorldView, StandsFor, handles_of}
 use Rattle.arcstr_count.specs.Tables.{word_in, view_of, no_handle, no_block, handles_with_state, blocks_with_word, blocks_with_mark, blocks_with_given, IsWorld}
 use Rattle.arcstr_count.specs.Taken.{IsRefusal, Takes}
 use Rattle.arcstr_count.specs.OneHandle.{IsAt}
+use Rattle.arcstr_count.specs.OneBlock.{look_reply}
 use Rattle.arcstr_count.proofs.Pasts.{IsPast-past_of}
-use Rattle.arcstr_count.proofs.Tables.{handle_is, handle_at, length-handles_of, handles-Make, handles-Clone, handles-Begin, handles-Sub, handles-Back}
-use Rattle.arcstr_count.proofs.Tables.{handles-IntoRaw, handles-FromRaw}
+use Rattle.arcstr_count.proofs.LawsOfHandles.{state_is, accepts_needed, ChangesOne, Begin-changes, Sub-changes, Back-changes, IntoRaw-changes, FromRaw-changes}
+use Rattle.arcstr_count.proofs.Tables.{handle_is, handle_at, length-handles_of, handles-Make, handles-Clone, handles-changed}
 use Rattle.arcstr_count.proofs.Entries.{AreTablesOf, entry_of, entries_of, entry_at, entry_with, with_word, tables_from_view, length-entries_of, entries-Make}
 use Rattle.arcstr_count.proofs.Entries.{entries-Clone, entries-Sub, entries-Leak, entries-Back, words_of-entries}
-use Rattle.arcstr_count.proofs.LawsOfPasts.{word_stands, Sub_counted, Sub_last}
-use Rattle.arcstr_count.proofs.StepTaking.{FoundIn, found_in_past, handle_state-found, entry_read, Changes, takes_accepted}
+use Rattle.arcstr_count.proofs.LawsOfPasts.{word_stands, look_answers, Sub_counted, Sub_last}
+use Rattle.arcstr_count.proofs.StepTaking.{FoundIn, found_in_past, entry_read, Changes, takes_accepted}
 
 -- equal lists with one entry changed in the same way are equal
 set_with : {X : Type 0} {xs ys : List X} {i j : ℕ} {x y : X} → xs ≡ ys → i ≡ j → x ≡ y → set xs i x ≡ set ys j y
@@ -35,21 +36,6 @@ set_with lists places entries = λ t. set (lists t) (places t) (entries t)
 
 pub push_with : {X : Type 0} {xs ys : List X} {x y : X} → xs ≡ ys → x ≡ y → xs ++ x ∷ [] ≡ ys ++ y ∷ []
 push_with lists entries = λ t. lists t ++ entries t ∷ []
-
--- what a look finds determines the flag of the word, and the count of an unmarked one
-looked_none : (w : FlagAndCount) → looked_of w ≡ None → w.flag ≡ true
-looked_none w nothing = by_flag w.flag refl
-  where
-    by_flag : (m : Bool) → w.flag ≡ m → w.flag ≡ true
-    by_flag true is = is
-    by_flag false is = let some = sym nothing ∙ ap (λ m. if m then None else Some w.count) is in cc
-
-looked_some : (w : FlagAndCount) (n : ℕ) → looked_of w ≡ Some n → (w.flag ≡ false) × (w.count ≡ n)
-looked_some w n some = by_flag w.flag refl
-  where
-    by_flag : (m : Bool) → w.flag ≡ m → (w.flag ≡ false) × (w.count ≡ n)
-    by_flag true is = let nothing = sym some ∙ ap (λ m. if m then None else Some w.count) is in cc
-    by_flag false is = let same = sym (ap (λ m. if m then None else Some w.count) is) ∙ some in (is, cc)
 
 -- ---- `Make`
 
@@ -60,12 +46,11 @@ pub takes_make : (limit : ℕ) (handles : List HandleSummary) (blocks : List Blo
     → new_blocks ≡ blocks ++ record { word = w; given = false } ∷ []
     → Takes old Make (Made born) (view_of limit new_handles new_blocks)
 takes_make limit handles blocks old born made w new_handles new_blocks view_is births_is makes_is word more_handles more_blocks =
-    takes_accepted limit handles blocks old Make (Made born) new_handles new_blocks view_is (λ refusal. refusal) change
+    takes_accepted limit handles blocks old Make (Made born) new_handles new_blocks view_is (λ refusal. refusal) (λ p tables. refl) change
   where
     change : (p : List Step) → IsPast limit p → AreTablesOf limit p handles blocks
         → Changes limit p Make (Made born) new_handles new_blocks
     change p past tables = record {
-      unrefused = refl;
       answer = ap Made (births_is ∙ ap length tables.handles_are ∙ length-handles_of limit p);
       tables = record {
         handles_are = more_handles
@@ -77,11 +62,17 @@ takes_make limit handles blocks old born made w new_handles new_blocks view_is b
 
 -- ---- the steps of a handle h, on block b with entry e
 
+-- the accepted step has this reply, brings the handle from one state to another, and leaves this table of blocks
+record ChangesState (limit : ℕ) (p : List Step) (s : Step) (h : ℕ) (old new : HandleState) (reply : Reply) (blocks : List BlockEntry) : Type 0 where
+  changes : ChangesOne limit p s h old new
+  answer : reply ≡ accepted_answer limit p s
+  blocks_are : blocks ≡ entries_of limit (s ∷ p)
+
 module _ (limit : ℕ) (handles : List HandleSummary) (blocks : List BlockEntry) (old : WorldView) (h b : ℕ)
     (view_is : view_of limit handles blocks ≡ old) where
   -- what the tables have about the handle is what the past has
-  found : (s : HandleState) (p : List Step) → IsAt old h b s → AreTablesOf limit p handles blocks → FoundIn limit p h b s
-  found s p at tables = found_in_past (view_of limit handles blocks) p h b s tables.handles_are
+  found_after : (s : HandleState) (p : List Step) → IsAt old h b s → AreTablesOf limit p handles blocks → FoundIn limit p h b s
+  found_after s p at tables = found_in_past (view_of limit handles blocks) p h b s tables.handles_are
       (ap (λ es. map word_in es) tables.blocks_are ∙ words_of-entries limit p)
       (subst (λ w. IsAt w h b s) (sym view_is) at)
 
@@ -90,13 +81,13 @@ module _ (limit : ℕ) (handles : List HandleSummary) (blocks : List BlockEntry)
   block_read p tables made = ap (λ (es : List BlockEntry). get_or es b no_block) tables.blocks_are ∙ entry_at limit p b no_block made
 
   -- the table of handles with the handle in another state
-  state_changed : (s t u : HandleState) (p : List Step) → AreTablesOf limit p handles blocks → FoundIn limit p h b s → t ≡ u
-      → handles_with_state handles h t ≡ set (handles_of limit p) h (record { block = block_of p h; state = u })
-  state_changed s t u p tables f is = set_with tables.handles_are refl (handle_is block is)
+  state_changed : (s : HandleState) (p : List Step) → AreTablesOf limit p handles blocks → FoundIn limit p h b s → (new : HandleState)
+      → handles_with_state handles h new ≡ set (handles_of limit p) h (record { block = block_of p h; state = new })
+  state_changed s p tables f new = set_with tables.handles_are refl (handle_is block refl)
     where
       block : (get_or handles h no_handle).block ≡ block_of p h
       block = ap (λ (hs : List HandleSummary). (get_or hs h no_handle).block) tables.handles_are
-          ∙ ap (λ (x : HandleSummary). x.block) (handle_at limit p h no_handle f.born)
+          ∙ ap (λ (x : HandleSummary). x.block) (handle_at limit p h no_handle f.is_in.born)
 
   -- the table of blocks with another word on the handle's block
   word_changed : (s : HandleState) (w : FlagAndCount) (F : FlagAndCount → FlagAndCount) (p : List Step)
@@ -119,6 +110,35 @@ module _ (limit : ℕ) (handles : List HandleSummary) (blocks : List BlockEntry)
       word : (get_or blocks b no_block).word ≡ word_left limit p (block_of p h)
       word = ap (λ (x : BlockEntry). x.word) (block_read p tables f.made) ∙ ap (λ k. word_left limit p k) (sym f.block)
 
+  -- a step that needs the handle in a state, given what it changes after each past
+  takes_step : (s : Step) (needed : HandleState) (reply : Reply) (new_handles : List HandleSummary) (new_blocks : List BlockEntry)
+      → needs s ≡ Some (record { handle = h; state = needed }) → IsAt old h b needed → (IsRefusal reply → ⊥)
+      → ((p : List Step) → IsPast limit p → AreTablesOf limit p handles blocks → FoundIn limit p h b needed → is_accepted limit p s ≡ true
+      → Changes limit p s reply new_handles new_blocks)
+      → Takes old s reply (view_of limit new_handles new_blocks)
+  takes_step s needed reply new_handles new_blocks need at answers change =
+      takes_accepted limit handles blocks old s reply new_handles new_blocks view_is answers accepted
+      (λ p past tables. change p past tables (found_after needed p at tables) (ap is_none (accepted p tables)))
+    where
+      accepted : (p : List Step) → AreTablesOf limit p handles blocks → refusal_of limit p s ≡ None
+      accepted p tables = ap (λ n. refusal_by (λ k. handle_state limit p k) n) need
+          ∙ ap (refusal_unless needed) (state_is limit p h needed (found_after needed p at tables).is_in) ∙ accepts_needed needed
+
+  -- a step that changes the handle's state
+  takes_change : (s : Step) (needed new : HandleState) (reply : Reply) (new_blocks : List BlockEntry)
+      → needs s ≡ Some (record { handle = h; state = needed }) → IsAt old h b needed → (IsRefusal reply → ⊥)
+      → ((p : List Step) → IsPast limit p → AreTablesOf limit p handles blocks → FoundIn limit p h b needed → is_accepted limit p s ≡ true
+      → ChangesState limit p s h needed new reply new_blocks)
+      → Takes old s reply (view_of limit (handles_with_state handles h new) new_blocks)
+  takes_change s needed new reply new_blocks need at answers change =
+      takes_step s needed reply _ new_blocks need at answers (λ p past tables f a. let changed = change p past tables f a in record {
+        answer = changed.answer;
+        tables = record {
+          handles_are = state_changed needed p tables f new ∙ sym (handles-changed limit p s h needed new changed.changes);
+          blocks_are = changed.blocks_are;
+        };
+      })
+
   module _ (e : BlockEntry) (read : e ≡ get_or blocks b e) where
     entry_is : (p : List Step) → AreTablesOf limit p handles blocks → b < makes p → e ≡ entry_of limit p b
     entry_is p tables made = entry_read limit p blocks b e tables.blocks_are made read
@@ -132,46 +152,20 @@ module _ (limit : ℕ) (handles : List HandleSummary) (blocks : List BlockEntry)
 
     -- ---- `Look`
 
-    pub takes_look_static : IsAt old h b Free → looked_of e.word ≡ None → Takes old (Look h) Static old
-    takes_look_static at nothing = subst (λ w. Takes old (Look h) Static w) view_is
-        (takes_accepted limit handles blocks old (Look h) Static handles blocks view_is (λ refusal. refusal) change)
+    pub takes_look : IsAt old h b Free → Takes old (Look h) (look_reply (looked_of e.word)) old
+    takes_look at = subst (λ w. Takes old (Look h) (look_reply (looked_of e.word)) w) view_is
+        (takes_step (Look h) Free _ handles blocks refl at (answers (looked_of e.word)) change)
       where
-        change : (p : List Step) → IsPast limit p → AreTablesOf limit p handles blocks
-            → Changes limit p (Look h) Static handles blocks
-        change p past tables = record {
-          unrefused = ap unless_free (handle_state-found limit p h b Free f);
-          answer = sym (ap (λ m. if m then Static else Count (length (living limit p (block_of p h))))
-              (mark_is Free p past tables f ∙ looked_none e.word nothing));
+        answers : (o : Option ℕ) → IsRefusal (look_reply o) → ⊥
+        answers None refusal = refusal
+        answers (Some n) refusal = refusal
+
+        change : (p : List Step) → IsPast limit p → AreTablesOf limit p handles blocks → FoundIn limit p h b Free → is_accepted limit p (Look h) ≡ true
+            → Changes limit p (Look h) (look_reply (looked_of e.word)) handles blocks
+        change p past tables f a = record {
+          answer = sym (look_answers limit p (block_of p h) e.word (rw (f.block, entry_is p tables f.made) (word_stands limit p b past f.made)));
           tables = record { handles_are = tables.handles_are; blocks_are = tables.blocks_are };
         }
-          where
-            f : FoundIn limit p h b Free
-            f = found Free p at tables
-
-    pub takes_look_count : (n : ℕ) → IsAt old h b Free → looked_of e.word ≡ Some n → Takes old (Look h) (Count n) old
-    takes_look_count n at some = subst (λ w. Takes old (Look h) (Count n) w) view_is
-        (takes_accepted limit handles blocks old (Look h) (Count n) handles blocks view_is (λ refusal. refusal) change)
-      where
-        change : (p : List Step) → IsPast limit p → AreTablesOf limit p handles blocks
-            → Changes limit p (Look h) (Count n) handles blocks
-        change p past tables = record {
-          unrefused = ap unless_free (handle_state-found limit p h b Free f);
-          answer = ap Count counted
-              ∙ sym (ap (λ m. if m then Static else Count (length (living limit p (block_of p h)))) unmarked);
-          tables = record { handles_are = tables.handles_are; blocks_are = tables.blocks_are };
-        }
-          where
-            f : FoundIn limit p h b Free
-            f = found Free p at tables
-
-            unmarked : is_marked limit p (block_of p h) ≡ false
-            unmarked = mark_is Free p past tables f ∙ (looked_some e.word n some).0
-
-            counted : n ≡ length (living limit p (block_of p h))
-            counted = sym (looked_some e.word n some).1
-                ∙ ap (λ (x : BlockEntry). x.word.count) (entry_is p tables f.made)
-                ∙ ap (λ k. (word_left limit p k).count) (sym f.block)
-                ∙ (word_stands limit p (block_of p h) past (rw f.block f.made)).exact unmarked
 
     -- ---- `Clone`
 
@@ -179,12 +173,7 @@ module _ (limit : ℕ) (handles : List HandleSummary) (blocks : List BlockEntry)
         → born ≡ length handles → new_handles ≡ handles ++ record { block = b; state = Free } ∷ [] → w ≡ cloned_of limit e.word
         → Takes old (Clone h) (Handle born) (view_of limit new_handles (blocks_with_word blocks b w))
     takes_clone born new_handles w at births_is more_handles word =
-        takes_accepted limit handles blocks old (Clone h) (Handle born) new_handles _ view_is (λ refusal. refusal) change
-      where
-        change : (p : List Step) → IsPast limit p → AreTablesOf limit p handles blocks
-            → Changes limit p (Clone h) (Handle born) new_handles (blocks_with_word blocks b w)
-        change p past tables = record {
-          unrefused = ap unless_free (handle_state-found limit p h b Free f);
+        takes_step (Clone h) Free (Handle born) new_handles _ refl at (λ refusal. refusal) (λ p past tables f a. record {
           answer = ap Handle (births_is ∙ ap length tables.handles_are ∙ length-handles_of limit p);
           tables = record {
             handles_are = more_handles ∙ push_with tables.handles_are (handle_is (sym f.block) refl) ∙ sym (handles-Clone limit p h past);
@@ -192,47 +181,24 @@ module _ (limit : ℕ) (handles : List HandleSummary) (blocks : List BlockEntry)
                 (word ∙ ap (λ (x : BlockEntry). cloned_of limit x.word) (entry_is p tables f.made))
                 ∙ sym (entries-Clone limit p h (rw f.block f.made));
           };
-        }
-          where
-            f : FoundIn limit p h b Free
-            f = found Free p at tables
+        })
 
     -- ---- `Begin`
-
-    takes_begin_by : (m : Bool) → IsAt old h b Free → e.word.flag ≡ m
-        → Takes old (Begin h) (if m then Ended else Looked)
-        (view_of limit (handles_with_state handles h (if m then Gone else Dropping)) blocks)
-    takes_begin_by m at flag = takes_accepted limit handles blocks old (Begin h) _ _ blocks view_is (unrefused_by m) change
-      where
-        unrefused_by : (m : Bool) → IsRefusal (if m then Ended else Looked) → ⊥
-        unrefused_by true refusal = refusal
-        unrefused_by false refusal = refusal
-
-        change : (p : List Step) → IsPast limit p → AreTablesOf limit p handles blocks
-            → Changes limit p (Begin h) (if m then Ended else Looked) (handles_with_state handles h (if m then Gone else Dropping)) blocks
-        change p past tables = record {
-          unrefused = unrefused;
-          answer = sym (ap (λ t. if t then Ended else Looked) mark);
-          tables = record {
-            handles_are = state_changed Free _ _ p tables f (sym (ap (λ t. if t then Gone else Dropping) mark))
-                ∙ sym (handles-Begin limit p h past (ap is_none unrefused));
-            blocks_are = tables.blocks_are;
-          };
-        }
-          where
-            f : FoundIn limit p h b Free
-            f = found Free p at tables
-
-            unrefused : refusal_of limit p (Begin h) ≡ None
-            unrefused = ap unless_free (handle_state-found limit p h b Free f)
-
-            mark : is_marked limit p (block_of p h) ≡ m
-            mark = mark_is Free p past tables f ∙ flag
 
     pub takes_begin : (state : HandleState) (reply : Reply) → IsAt old h b Free
         → state ≡ (if e.word.flag then Gone else Dropping) → reply ≡ (if e.word.flag then Ended else Looked)
         → Takes old (Begin h) reply (view_of limit (handles_with_state handles h state) blocks)
-    takes_begin state reply at state_is reply_is = rw (state_is, reply_is) (takes_begin_by e.word.flag at refl)
+    takes_begin state reply at state_is reply_is =
+        rw (state_is, reply_is) (takes_change (Begin h) Free _ _ blocks refl at (answers e.word.flag) (λ p past tables f a.
+        let mark = mark_is Free p past tables f in record {
+          changes = subst (λ m. ChangesOne limit p (Begin h) h Free (if m then Gone else Dropping)) mark (Begin-changes limit p h past a);
+          answer = sym (ap (λ m. if m then Ended else Looked) mark);
+          blocks_are = tables.blocks_are;
+        }))
+      where
+        answers : (m : Bool) → IsRefusal (if m then Ended else Looked) → ⊥
+        answers true refusal = refusal
+        answers false refusal = refusal
 
     -- ---- `Sub`
 
@@ -244,142 +210,64 @@ module _ (limit : ℕ) (handles : List HandleSummary) (blocks : List BlockEntry)
         counted known =
             let past = IsPast-past_of limit known.0 in
             let tables = tables_from_view limit handles blocks known.0 known.1 in
-            let f = found Dropping (past_of limit known.0) at tables in
+            let f = found_after Dropping (past_of limit known.0) at tables in
             rw (entry_is (past_of limit known.0) tables f.made, ← f.block)
             (Sub_counted limit (past_of limit known.0) h past
-            (ap is_none (ap unless_dropping (handle_state-found limit (past_of limit known.0) h b Dropping f))))
-
-    takes_sub_by : (last : Bool) (w : FlagAndCount) → IsAt old h b Dropping → w ≡ dropped_of e.word → is_last e.word ≡ last
-        → Takes old (Sub h) (if last then Owes else Left)
-        (view_of limit (handles_with_state handles h (if last then Owing else Gone)) (blocks_with_word blocks b w))
-    takes_sub_by last w at word is = takes_accepted limit handles blocks old (Sub h) _ _ _ view_is (unrefused_by last) change
-      where
-        unrefused_by : (t : Bool) → IsRefusal (if t then Owes else Left) → ⊥
-        unrefused_by true refusal = refusal
-        unrefused_by false refusal = refusal
-
-        change : (p : List Step) → IsPast limit p → AreTablesOf limit p handles blocks
-            → Changes limit p (Sub h) (if last then Owes else Left)
-            (handles_with_state handles h (if last then Owing else Gone)) (blocks_with_word blocks b w)
-        change p past tables = record {
-          unrefused = unrefused;
-          answer = sym (ap (λ t. if t then Owes else Left) owes);
-          tables = record {
-            handles_are = state_changed Dropping _ _ p tables f (sym (ap (λ t. if t then Owing else Gone) owes))
-                ∙ sym (handles-Sub limit p h past (ap is_none unrefused));
-            blocks_are = word_changed Dropping w dropped_of p tables f
-                (word ∙ ap (λ (x : BlockEntry). dropped_of x.word) (entry_is p tables f.made))
-                ∙ sym (entries-Sub limit p h (rw f.block f.made));
-          };
-        }
-          where
-            f : FoundIn limit p h b Dropping
-            f = found Dropping p at tables
-
-            unrefused : refusal_of limit p (Sub h) ≡ None
-            unrefused = ap unless_dropping (handle_state-found limit p h b Dropping f)
-
-            owes : (not (is_marked limit p (block_of p h)) && is_only h (living limit p (block_of p h))) ≡ last
-            owes = sym (Sub_last limit p h past (ap is_none unrefused))
-                ∙ ap (λ k. is_last (word_left limit p k)) f.block
-                ∙ sym (ap (λ (x : BlockEntry). is_last x.word) (entry_is p tables f.made))
-                ∙ is
+            (ap (λ o. is_none (refusal_unless Dropping o)) (state_is limit (past_of limit known.0) h Dropping f.is_in)))
 
     pub takes_sub : (last : Bool) (w : FlagAndCount) → IsAt old h b Dropping → w ≡ dropped_of e.word → last ≡ is_last e.word
         → (state : HandleState) (reply : Reply)
         → state ≡ (if last then Owing else Gone) → reply ≡ (if last then Owes else Left)
         → Takes old (Sub h) reply
         (view_of limit (handles_with_state handles h state) (blocks_with_word blocks b w))
-    takes_sub last w at word is state reply state_is reply_is = rw (state_is, reply_is) (takes_sub_by last w at word (sym is))
+    takes_sub last w at word is state reply state_is reply_is =
+        rw (state_is, reply_is) (takes_change (Sub h) Dropping _ _ _ refl at (answers last) (λ p past tables f a.
+        let owes : (not (is_marked limit p (block_of p h)) && is_only h (living limit p (block_of p h))) ≡ last =
+        sym (Sub_last limit p h past a)
+        ∙ ap (λ k. is_last (word_left limit p k)) f.block
+        ∙ sym (ap (λ (x : BlockEntry). is_last x.word) (entry_is p tables f.made))
+        ∙ sym is in record {
+          changes = subst (λ m. ChangesOne limit p (Sub h) h Dropping (if m then Owing else Gone)) owes (Sub-changes limit p h past a);
+          answer = sym (ap (λ m. if m then Owes else Left) owes);
+          blocks_are = word_changed Dropping w dropped_of p tables f
+              (word ∙ ap (λ (x : BlockEntry). dropped_of x.word) (entry_is p tables f.made))
+              ∙ sym (entries-Sub limit p h (rw f.block f.made));
+        }))
+      where
+        answers : (m : Bool) → IsRefusal (if m then Owes else Left) → ⊥
+        answers true refusal = refusal
+        answers false refusal = refusal
 
-  -- ---- `Back`
+  -- ---- `Back`, `Leak`, `IntoRaw` and `FromRaw`
 
   pub takes_back : IsAt old h b Owing
-      → Takes old (Back h) Given
-      (view_of limit (handles_with_state handles h Gone) (blocks_with_given blocks b))
-  takes_back at = takes_accepted limit handles blocks old (Back h) Given _ _ view_is (λ refusal. refusal) change
-    where
-      change : (p : List Step) → IsPast limit p → AreTablesOf limit p handles blocks
-          → Changes limit p (Back h) Given (handles_with_state handles h Gone) (blocks_with_given blocks b)
-      change p past tables = record {
-        unrefused = unrefused;
-        answer = refl;
-        tables = record {
-          handles_are = state_changed Owing _ _ p tables f refl
-              ∙ sym (handles-Back limit p h (ap is_none unrefused));
-          blocks_are = given_changed Owing p tables f
-              ∙ sym (entries-Back limit p h (rw f.block f.made));
-        };
-      }
-        where
-          f : FoundIn limit p h b Owing
-          f = found Owing p at tables
-
-          unrefused : refusal_of limit p (Back h) ≡ None
-          unrefused = ap unless_owing (handle_state-found limit p h b Owing f)
-
-  -- ---- `Leak`
+      → Takes old (Back h) Given (view_of limit (handles_with_state handles h Gone) (blocks_with_given blocks b))
+  takes_back at = takes_change (Back h) Owing Gone Given _ refl at (λ refusal. refusal) (λ p past tables f a. record {
+    changes = Back-changes limit p h past a;
+    answer = refl;
+    blocks_are = given_changed Owing p tables f ∙ sym (entries-Back limit p h (rw f.block f.made));
+  })
 
   pub takes_leak : IsAt old h b Free → Takes old (Leak h) Marked (view_of limit handles (blocks_with_mark blocks b))
-  takes_leak at = takes_accepted limit handles blocks old (Leak h) Marked handles _ view_is (λ refusal. refusal) change
-    where
-      change : (p : List Step) → IsPast limit p → AreTablesOf limit p handles blocks
-          → Changes limit p (Leak h) Marked handles (blocks_with_mark blocks b)
-      change p past tables = record {
-        unrefused = ap unless_free (handle_state-found limit p h b Free f);
-        answer = refl;
-        tables = record {
-          handles_are = tables.handles_are;
-          blocks_are = word_changed Free _ marked_of p tables f (ap (λ (x : BlockEntry). marked_of x.word) (block_read p tables f.made))
-              ∙ sym (entries-Leak limit p h (rw f.block f.made));
-        };
-      }
-        where
-          f : FoundIn limit p h b Free
-          f = found Free p at tables
+  takes_leak at = takes_step (Leak h) Free Marked handles _ refl at (λ refusal. refusal) (λ p past tables f a. record {
+    answer = refl;
+    tables = record {
+      handles_are = tables.handles_are;
+      blocks_are = word_changed Free _ marked_of p tables f (ap (λ (x : BlockEntry). marked_of x.word) (block_read p tables f.made))
+          ∙ sym (entries-Leak limit p h (rw f.block f.made));
+    };
+  })
 
-  -- ---- `IntoRaw` and `FromRaw`
+  pub takes_into_raw : IsAt old h b Free → Takes old (IntoRaw h) RawReply (view_of limit (handles_with_state handles h Raw) blocks)
+  takes_into_raw at = takes_change (IntoRaw h) Free Raw RawReply blocks refl at (λ refusal. refusal) (λ p past tables f a. record {
+    changes = IntoRaw-changes limit p h past a;
+    answer = refl;
+    blocks_are = tables.blocks_are;
+  })
 
-  pub takes_into_raw : IsAt old h b Free
-      → Takes old (IntoRaw h) RawReply (view_of limit (handles_with_state handles h Raw) blocks)
-  takes_into_raw at = takes_accepted limit handles blocks old (IntoRaw h) RawReply _ blocks view_is (λ refusal. refusal) change
-    where
-      change : (p : List Step) → IsPast limit p → AreTablesOf limit p handles blocks
-          → Changes limit p (IntoRaw h) RawReply (handles_with_state handles h Raw) blocks
-      change p past tables = record {
-        unrefused = unrefused;
-        answer = refl;
-        tables = record {
-          handles_are = state_changed Free _ _ p tables f refl
-              ∙ sym (handles-IntoRaw limit p h (ap is_none unrefused));
-          blocks_are = tables.blocks_are;
-        };
-      }
-        where
-          f : FoundIn limit p h b Free
-          f = found Free p at tables
-
-          unrefused : refusal_of limit p (IntoRaw h) ≡ None
-          unrefused = ap unless_free (handle_state-found limit p h b Free f)
-
-  pub takes_from_raw : IsAt old h b Raw
-      → Takes old (FromRaw h) Unraw (view_of limit (handles_with_state handles h Free) blocks)
-  takes_from_raw at = takes_accepted limit handles blocks old (FromRaw h) Unraw _ blocks view_is (λ refusal. refusal) change
-    where
-      change : (p : List Step) → IsPast limit p → AreTablesOf limit p handles blocks
-          → Changes limit p (FromRaw h) Unraw (handles_with_state handles h Free) blocks
-      change p past tables = record {
-        unrefused = unrefused;
-        answer = refl;
-        tables = record {
-          handles_are = state_changed Raw _ _ p tables f refl
-              ∙ sym (handles-FromRaw limit p h past (ap is_none unrefused));
-          blocks_are = tables.blocks_are;
-        };
-      }
-        where
-          f : FoundIn limit p h b Raw
-          f = found Raw p at tables
-
-          unrefused : refusal_of limit p (FromRaw h) ≡ None
-          unrefused = ap unless_raw (handle_state-found limit p h b Raw f)
+  pub takes_from_raw : IsAt old h b Raw → Takes old (FromRaw h) Unraw (view_of limit (handles_with_state handles h Free) blocks)
+  takes_from_raw at = takes_change (FromRaw h) Raw Free Unraw blocks refl at (λ refusal. refusal) (λ p past tables f a. record {
+    changes = FromRaw-changes limit p h past a;
+    answer = refl;
+    blocks_are = tables.blocks_are;
+  })

@@ -1,24 +1,21 @@
 -- How the tables of a past (handles, blocks and words) follow from those of the steps before.
-use Rattle.std.proofs.Common.{◌≡◌, ◌≢◌, ℕ, zero, suc, ◌+◌, ◌<◌, ◌≤◌, Bool, true, false, not, ◌&&◌, ◌||◌, ◌==◌, nat_lt, if◌then◌else◌, List, [], ◌∷◌}
+use Rattle.std.proofs.Common.{◌≡◌, ◌≢◌, ℕ, zero, suc, ◌+◌, ◌<◌, ◌≤◌, Bool, true, false, ◌||◌, ◌==◌, List, [], ◌∷◌}
 use Rattle.std.proofs.Common.{◌++◌, map, length, get_or, set, refl, sym, ◌∙◌, ap, ◌⊎◌, inl, inr, arith, ne_eqb}
 use Rattle.std.proofs.lemmas.List.{map_push, length-map, length_push, set_at, set-append_left, get_or_push, get_or_append_left}
 use Rattle.std.proofs.lemmas.Bool.{cases_eq}
 use Rattle.arcstr_count.specs.declared.steps.Step.{Step}
-use Rattle.arcstr_count.specs.declared.steps.Step.TheVariants.{Make, Look, Clone, Begin, Sub, Back, Leak, IntoRaw, FromRaw}
+use Rattle.arcstr_count.specs.declared.steps.Step.TheVariants.{Make, Clone, Back, Leak}
 use Rattle.arcstr_count.specs.declared.steps.HandleState.{HandleState}
-use Rattle.arcstr_count.specs.declared.steps.HandleState.TheVariants.{Free, Raw, Dropping, Owing, Gone}
+use Rattle.arcstr_count.specs.declared.steps.HandleState.TheVariants.{Free, Owing}
 use Rattle.arcstr_count.specs.declared.steps.HandleSummary.{HandleSummary}
-use Rattle.arcstr_count.specs.Word.{FlagAndCount, fresh_word, cloned_of, dropped_of, marked_of}
+use Rattle.arcstr_count.specs.Word.{FlagAndCount}
 use Rattle.arcstr_count.specs.History.{makes, births, block_of, numbers_below}
-use Rattle.arcstr_count.specs.Marks.{is_marked, living, is_only}
-use Rattle.arcstr_count.specs.Answer.{is_accepted}
+use Rattle.arcstr_count.specs.Marks.{is_marked}
 use Rattle.arcstr_count.specs.Past.{IsPast, times_given}
 use Rattle.arcstr_count.specs.Left.{word_left}
 use Rattle.arcstr_count.specs.Summary.{BlockSummary, handle_summary, block_summary, handles_of, blocks_of, words_left}
 pub use Rattle.arcstr_count.proofs.LawsOfHandles.{same_test, other_test}
-use Rattle.arcstr_count.proofs.LawsOfHandles.{ChangesOne, Begin-changes, Sub-changes, Back-changes, IntoRaw-changes, FromRaw-changes, Clone-finds}
-use Rattle.arcstr_count.proofs.LawsOfHandles.{Sub-finds, Back-finds, Leak-finds, state-born, block-Make, block-Make_other, block-Clone}
-use Rattle.arcstr_count.proofs.LawsOfHandles.{block-Clone_other, block_made}
+use Rattle.arcstr_count.proofs.LawsOfHandles.{ChangesOne, step_finds, state-born, block-Make, block-Make_other, block-Clone, block-Clone_other, block_made}
 
 -- ---- tables of a function of the numbers below n
 
@@ -92,11 +89,11 @@ pub handle_at : (limit : ℕ) (p : List Step) (h : ℕ) (d : HandleSummary) → 
 handle_at limit p h d born = table-at (λ k. handle_summary limit p k) (births p) h d born
 
 -- a step that changes the state of one handle sets that handle's entry
-handles-set : (limit : ℕ) (p : List Step) (s : Step) (h : ℕ) (old new : HandleState) → ChangesOne limit p s h old new
-    → map (λ k. handle_summary limit (s ∷ p) k) (numbers_below (births p))
-    ≡ set (handles_of limit p) h (record { block = block_of p h; state = new })
-handles-set limit p s h old new c =
-    table-set (λ k. handle_summary limit p k) (λ k. handle_summary limit (s ∷ p) k) (births p) h
+pub handles-changed : (limit : ℕ) (p : List Step) (s : Step) (h : ℕ) (old new : HandleState) → ChangesOne limit p s h old new
+    → handles_of limit (s ∷ p) ≡ set (handles_of limit p) h (record { block = block_of p h; state = new })
+handles-changed limit p s h old new c =
+    ap (λ n. map (λ k. handle_summary limit (s ∷ p) k) (numbers_below n)) c.same_births
+    ∙ table-set (λ k. handle_summary limit p k) (λ k. handle_summary limit (s ∷ p) k) (births p) h
     (record { block = block_of p h; state = new }) c.found.born
     (λ k apart. handle_is (c.blocks k) (c.others k apart)) (handle_is (c.blocks h) c.left)
 
@@ -114,46 +111,7 @@ handles-Clone limit p h past =
     (record { block = block_of p h; state = Free })
     (λ k born. handle_is (block-Clone_other p h k born) refl) (handle_is (block-Clone p h) (state-born limit p past))
 
-pub handles-Look : (limit : ℕ) (p : List Step) (h : ℕ) → handles_of limit (Look h ∷ p) ≡ handles_of limit p
-handles-Look limit p h = refl
-
-pub handles-Leak : (limit : ℕ) (p : List Step) (h : ℕ) → handles_of limit (Leak h ∷ p) ≡ handles_of limit p
-handles-Leak limit p h = refl
-
-pub handles-Begin : (limit : ℕ) (p : List Step) (h : ℕ) → IsPast limit p → is_accepted limit p (Begin h) ≡ true
-    → handles_of limit (Begin h ∷ p)
-    ≡ set (handles_of limit p) h (record { block = block_of p h; state = if is_marked limit p (block_of p h) then Gone else Dropping })
-handles-Begin limit p h past a = handles-set limit p (Begin h) h _ _ (Begin-changes limit p h past a)
-
-pub handles-Sub : (limit : ℕ) (p : List Step) (h : ℕ) → IsPast limit p → is_accepted limit p (Sub h) ≡ true
-    → handles_of limit (Sub h ∷ p)
-    ≡ set (handles_of limit p) h (record {
-      block = block_of p h;
-      state =
-          if not (is_marked limit p (block_of p h)) && is_only h (living limit p (block_of p h)) then Owing else Gone;
-    })
-handles-Sub limit p h past a = handles-set limit p (Sub h) h _ _ (Sub-changes limit p h past a)
-
-pub handles-Back : (limit : ℕ) (p : List Step) (h : ℕ) → is_accepted limit p (Back h) ≡ true
-    → handles_of limit (Back h ∷ p) ≡ set (handles_of limit p) h (record { block = block_of p h; state = Gone })
-handles-Back limit p h a = handles-set limit p (Back h) h _ _ (Back-changes limit p h a)
-
-pub handles-IntoRaw : (limit : ℕ) (p : List Step) (h : ℕ) → is_accepted limit p (IntoRaw h) ≡ true
-    → handles_of limit (IntoRaw h ∷ p) ≡ set (handles_of limit p) h (record { block = block_of p h; state = Raw })
-handles-IntoRaw limit p h a = handles-set limit p (IntoRaw h) h _ _ (IntoRaw-changes limit p h a)
-
-pub handles-FromRaw : (limit : ℕ) (p : List Step) (h : ℕ) → IsPast limit p → is_accepted limit p (FromRaw h) ≡ true
-    → handles_of limit (FromRaw h ∷ p) ≡ set (handles_of limit p) h (record { block = block_of p h; state = Free })
-handles-FromRaw limit p h past a = handles-set limit p (FromRaw h) h _ _ (FromRaw-changes limit p h past a)
-
 -- ---- blocks
-
-block_is : {m n : Bool} {g k : ℕ} → m ≡ n → g ≡ k
-    → ◌≡◌ {A = BlockSummary} (record { marked = m; given = g }) (record { marked = n; given = k })
-block_is marked given = λ i. record { marked = marked i; given = given i }
-
-pub length-blocks_of : (limit : ℕ) (p : List Step) → length (blocks_of limit p) ≡ makes p
-length-blocks_of limit p = length-table (λ b. block_summary limit p b) (makes p)
 
 pub block_at : (limit : ℕ) (p : List Step) (b : ℕ) (d : BlockSummary) → b < makes p
     → get_or (blocks_of limit p) b d ≡ block_summary limit p b
@@ -170,108 +128,34 @@ pub unmade_block : (limit : ℕ) (p : List Step) (b : ℕ) → IsPast limit p �
     → (is_marked limit p b ≡ false) × (times_given p b ≡ 0)
 unmade_block limit [] b past unmade = (refl, refl)
 unmade_block limit (Make ∷ p) b past unmade = unmade_block limit p b past.1 (omega arith)
-unmade_block limit (Look h ∷ p) b past unmade = unmade_block limit p b past.1 unmade
 unmade_block limit (Clone h ∷ p) b past unmade =
     let before = unmade_block limit p b past.1 unmade in
-    let elsewhere = other_block limit p h b past.1 (Clone-finds limit p h past.0).born unmade in
+    let elsewhere = other_block limit p h b past.1 (step_finds limit p h Free past.0).born unmade in
     (rw (before.0, elsewhere) refl, before.1)
-unmade_block limit (Begin h ∷ p) b past unmade = unmade_block limit p b past.1 unmade
-unmade_block limit (Sub h ∷ p) b past unmade = unmade_block limit p b past.1 unmade
 unmade_block limit (Back h ∷ p) b past unmade =
     let before = unmade_block limit p b past.1 unmade in
-    let elsewhere = other_block limit p h b past.1 (Back-finds limit p h past.0).born unmade in
+    let elsewhere = other_block limit p h b past.1 (step_finds limit p h Owing past.0).born unmade in
     (before.0, rw (elsewhere) before.1)
 unmade_block limit (Leak h ∷ p) b past unmade =
     let before = unmade_block limit p b past.1 unmade in
-    let elsewhere = other_block limit p h b past.1 (Leak-finds limit p h past.0).born unmade in
+    let elsewhere = other_block limit p h b past.1 (step_finds limit p h Free past.0).born unmade in
     (rw (before.0, elsewhere) refl, before.1)
-unmade_block limit (IntoRaw h ∷ p) b past unmade = unmade_block limit p b past.1 unmade
-unmade_block limit (FromRaw h ∷ p) b past unmade = unmade_block limit p b past.1 unmade
+unmade_block limit (s ∷ p) b past unmade = unmade_block limit p b past.1 unmade
 
 or_false : (m : Bool) → (m || false) ≡ m
 or_false true = refl
 or_false false = refl
 
-pub blocks-Make : (limit : ℕ) (p : List Step) → IsPast limit p
-    → blocks_of limit (Make ∷ p) ≡ blocks_of limit p ++ record { marked = false; given = 0 } ∷ []
-blocks-Make limit p past =
-    let unmade = unmade_block limit p (makes p) past (omega arith) in
-    table-more (λ b. block_summary limit p b) (λ b. block_summary limit (Make ∷ p) b) (makes p)
-    (record { marked = false; given = 0 }) (λ b made. refl) (block_is unmade.0 unmade.1)
-
-pub blocks-Look : (limit : ℕ) (p : List Step) (h : ℕ) → blocks_of limit (Look h ∷ p) ≡ blocks_of limit p
-blocks-Look limit p h = refl
-
--- whether a clone leaves its block marked
-pub marked-Clone : (limit : ℕ) (p : List Step) (h : ℕ)
-    → is_marked limit (Clone h ∷ p) (block_of p h)
-    ≡ (is_marked limit p (block_of p h) || nat_lt limit (length (living limit p (block_of p h))))
-marked-Clone limit p h = rw (same_test (block_of p h)) refl
-
 pub marked-Clone_other : (limit : ℕ) (p : List Step) (h b : ℕ) → b ≢ block_of p h
     → is_marked limit (Clone h ∷ p) b ≡ is_marked limit p b
 marked-Clone_other limit p h b apart = rw (other_test (block_of p h) b apart) (or_false (is_marked limit p b))
 
-pub blocks-Clone : (limit : ℕ) (p : List Step) (h : ℕ) → IsPast limit p → is_accepted limit p (Clone h) ≡ true
-    → blocks_of limit (Clone h ∷ p) ≡ set (blocks_of limit p) (block_of p h) (record {
-      marked = is_marked limit p (block_of p h) || nat_lt limit (length (living limit p (block_of p h)));
-      given = times_given p (block_of p h);
-    })
-blocks-Clone limit p h past a =
-    table-set (λ b. block_summary limit p b) (λ b. block_summary limit (Clone h ∷ p) b) (makes p) (block_of p h)
-    (record {
-      marked = is_marked limit p (block_of p h) || nat_lt limit (length (living limit p (block_of p h)));
-      given = times_given p (block_of p h);
-    })
-    (block_made limit p h past (Clone-finds limit p h a).born)
-    (λ b apart. block_is (marked-Clone_other limit p h b apart) refl) (block_is (marked-Clone limit p h) refl)
-
-pub blocks-Begin : (limit : ℕ) (p : List Step) (h : ℕ) → blocks_of limit (Begin h ∷ p) ≡ blocks_of limit p
-blocks-Begin limit p h = refl
-
-pub blocks-Sub : (limit : ℕ) (p : List Step) (h : ℕ) → blocks_of limit (Sub h ∷ p) ≡ blocks_of limit p
-blocks-Sub limit p h = refl
-
 pub given-Back : (p : List Step) (h : ℕ) → times_given (Back h ∷ p) (block_of p h) ≡ times_given p (block_of p h) + 1
 given-Back p h = rw (same_test (block_of p h)) (omega arith)
-
-pub given-Back_other : (p : List Step) (h b : ℕ) → b ≢ block_of p h → times_given (Back h ∷ p) b ≡ times_given p b
-given-Back_other p h b apart = rw (other_test (block_of p h) b apart) refl
-
-pub blocks-Back : (limit : ℕ) (p : List Step) (h : ℕ) → IsPast limit p → is_accepted limit p (Back h) ≡ true
-    → blocks_of limit (Back h ∷ p) ≡ set (blocks_of limit p) (block_of p h) (record {
-      marked = is_marked limit p (block_of p h);
-      given = times_given p (block_of p h) + 1;
-    })
-blocks-Back limit p h past a =
-    table-set (λ b. block_summary limit p b) (λ b. block_summary limit (Back h ∷ p) b) (makes p) (block_of p h)
-    (record { marked = is_marked limit p (block_of p h); given = times_given p (block_of p h) + 1 })
-    (block_made limit p h past (Back-finds limit p h a).born)
-    (λ b apart. block_is refl (given-Back_other p h b apart)) (block_is refl (given-Back p h))
-
-pub marked-Leak : (limit : ℕ) (p : List Step) (h : ℕ) → is_marked limit (Leak h ∷ p) (block_of p h) ≡ true
-marked-Leak limit p h = rw (same_test (block_of p h)) refl
 
 pub marked-Leak_other : (limit : ℕ) (p : List Step) (h b : ℕ) → b ≢ block_of p h
     → is_marked limit (Leak h ∷ p) b ≡ is_marked limit p b
 marked-Leak_other limit p h b apart = rw (other_test (block_of p h) b apart) refl
-
-pub blocks-Leak : (limit : ℕ) (p : List Step) (h : ℕ) → IsPast limit p → is_accepted limit p (Leak h) ≡ true
-    → blocks_of limit (Leak h ∷ p) ≡ set (blocks_of limit p) (block_of p h) (record {
-      marked = true;
-      given = times_given p (block_of p h);
-    })
-blocks-Leak limit p h past a =
-    table-set (λ b. block_summary limit p b) (λ b. block_summary limit (Leak h ∷ p) b) (makes p) (block_of p h)
-    (record { marked = true; given = times_given p (block_of p h) })
-    (block_made limit p h past (Leak-finds limit p h a).born)
-    (λ b apart. block_is (marked-Leak_other limit p h b apart) refl) (block_is (marked-Leak limit p h) refl)
-
-pub blocks-IntoRaw : (limit : ℕ) (p : List Step) (h : ℕ) → blocks_of limit (IntoRaw h ∷ p) ≡ blocks_of limit p
-blocks-IntoRaw limit p h = refl
-
-pub blocks-FromRaw : (limit : ℕ) (p : List Step) (h : ℕ) → blocks_of limit (FromRaw h ∷ p) ≡ blocks_of limit p
-blocks-FromRaw limit p h = refl
 
 -- ---- words
 
@@ -281,52 +165,3 @@ length-words_left limit p = length-table (λ b. word_left limit p b) (makes p)
 pub word_at : (limit : ℕ) (p : List Step) (b : ℕ) (d : FlagAndCount) → b < makes p
     → get_or (words_left limit p) b d ≡ word_left limit p b
 word_at limit p b d made = table-at (λ c. word_left limit p c) (makes p) b d made
-
-pub words-Make : (limit : ℕ) (p : List Step) → words_left limit (Make ∷ p) ≡ words_left limit p ++ fresh_word ∷ []
-words-Make limit p =
-    table-more (λ b. word_left limit p b) (λ b. word_left limit (Make ∷ p) b) (makes p) fresh_word older newest
-  where
-    older : (b : ℕ) → b < makes p → word_left limit (Make ∷ p) b ≡ word_left limit p b
-    older b made = rw (other_test b (makes p) (λ same. omega arith)) refl
-
-    newest : word_left limit (Make ∷ p) (makes p) ≡ fresh_word
-    newest = rw (same_test (makes p)) refl
-
-pub words-Look : (limit : ℕ) (p : List Step) (h : ℕ) → words_left limit (Look h ∷ p) ≡ words_left limit p
-words-Look limit p h = refl
-
-pub words-Clone : (limit : ℕ) (p : List Step) (h : ℕ) → IsPast limit p → is_accepted limit p (Clone h) ≡ true
-    → words_left limit (Clone h ∷ p)
-    ≡ set (words_left limit p) (block_of p h) (cloned_of limit (word_left limit p (block_of p h)))
-words-Clone limit p h past a =
-    table-set (λ b. word_left limit p b) (λ b. word_left limit (Clone h ∷ p) b) (makes p) (block_of p h)
-    (cloned_of limit (word_left limit p (block_of p h))) (block_made limit p h past (Clone-finds limit p h a).born)
-    (λ b apart. rw (other_test (block_of p h) b apart) refl) (rw (same_test (block_of p h)) refl)
-
-pub words-Begin : (limit : ℕ) (p : List Step) (h : ℕ) → words_left limit (Begin h ∷ p) ≡ words_left limit p
-words-Begin limit p h = refl
-
-pub words-Sub : (limit : ℕ) (p : List Step) (h : ℕ) → IsPast limit p → is_accepted limit p (Sub h) ≡ true
-    → words_left limit (Sub h ∷ p)
-    ≡ set (words_left limit p) (block_of p h) (dropped_of (word_left limit p (block_of p h)))
-words-Sub limit p h past a =
-    table-set (λ b. word_left limit p b) (λ b. word_left limit (Sub h ∷ p) b) (makes p) (block_of p h)
-    (dropped_of (word_left limit p (block_of p h))) (block_made limit p h past (Sub-finds limit p h a).born)
-    (λ b apart. rw (other_test (block_of p h) b apart) refl) (rw (same_test (block_of p h)) refl)
-
-pub words-Back : (limit : ℕ) (p : List Step) (h : ℕ) → words_left limit (Back h ∷ p) ≡ words_left limit p
-words-Back limit p h = refl
-
-pub words-Leak : (limit : ℕ) (p : List Step) (h : ℕ) → IsPast limit p → is_accepted limit p (Leak h) ≡ true
-    → words_left limit (Leak h ∷ p)
-    ≡ set (words_left limit p) (block_of p h) (marked_of (word_left limit p (block_of p h)))
-words-Leak limit p h past a =
-    table-set (λ b. word_left limit p b) (λ b. word_left limit (Leak h ∷ p) b) (makes p) (block_of p h)
-    (marked_of (word_left limit p (block_of p h))) (block_made limit p h past (Leak-finds limit p h a).born)
-    (λ b apart. rw (other_test (block_of p h) b apart) refl) (rw (same_test (block_of p h)) refl)
-
-pub words-IntoRaw : (limit : ℕ) (p : List Step) (h : ℕ) → words_left limit (IntoRaw h ∷ p) ≡ words_left limit p
-words-IntoRaw limit p h = refl
-
-pub words-FromRaw : (limit : ℕ) (p : List Step) (h : ℕ) → words_left limit (FromRaw h ∷ p) ≡ words_left limit p
-words-FromRaw limit p h = refl

@@ -16,55 +16,50 @@ use Rattle.arcstr_count.specs.Marks.{is_marked, state_of, living, is_only}
 abbrev pub handle_state : ℕ → List Step → ℕ → Option HandleState
 handle_state limit p h = if nat_lt h (births p) then Some (state_of limit p h) else None
 
--- ---- the table of refusals, a function for each of its rows
+-- ---- the table of refusals
 
--- `Look`, `Clone`, `Begin`, `Leak` and `IntoRaw` need a free handle
-abbrev pub unless_free : Option HandleState → Option StepFault
-unless_free None = Some NoHandle
-unless_free (Some Free) = None
-unless_free (Some Raw) = Some IsRaw
-unless_free (Some Dropping) = Some InDrop
-unless_free (Some Owing) = Some NoHandle
-unless_free (Some Gone) = Some NoHandle
+-- the state in which a step needs its handle
+pub record Need : Type 0 where
+  pub handle : ℕ
+  pub state : HandleState
 
--- `Sub` needs a dropping handle
-abbrev pub unless_dropping : Option HandleState → Option StepFault
-unless_dropping None = Some NoHandle
-unless_dropping (Some Free) = Some NotInDrop
-unless_dropping (Some Raw) = Some NotInDrop
-unless_dropping (Some Dropping) = None
-unless_dropping (Some Owing) = Some NoHandle
-unless_dropping (Some Gone) = Some NoHandle
+-- what each step needs; `Make` needs no handle
+abbrev pub needs : Step → Option Need
+needs Make = None
+needs (Look h) = Some (record { handle = h; state = Free })
+needs (Clone h) = Some (record { handle = h; state = Free })
+needs (Begin h) = Some (record { handle = h; state = Free })
+needs (Sub h) = Some (record { handle = h; state = Dropping })
+needs (Back h) = Some (record { handle = h; state = Owing })
+needs (Leak h) = Some (record { handle = h; state = Free })
+needs (IntoRaw h) = Some (record { handle = h; state = Free })
+needs (FromRaw h) = Some (record { handle = h; state = Raw })
 
--- `Back` needs an owing handle
-abbrev pub unless_owing : Option HandleState → Option StepFault
-unless_owing None = Some NoHandle
-unless_owing (Some Free) = Some NotOwing
-unless_owing (Some Raw) = Some NotOwing
-unless_owing (Some Dropping) = Some NotOwing
-unless_owing (Some Owing) = None
-unless_owing (Some Gone) = Some NotOwing
+-- why a step that needs a handle in the first state is refused for one in the second, which is `None` for a handle that
+-- was never born; `None` where the step is accepted
+abbrev pub refusal_unless : HandleState → Option HandleState → Option StepFault
+refusal_unless Free (Some Free) = None
+refusal_unless Free (Some Raw) = Some IsRaw
+refusal_unless Free (Some Dropping) = Some InDrop
+refusal_unless Raw (Some Raw) = None
+refusal_unless Raw (Some Free) = Some NotRaw
+refusal_unless Raw (Some Dropping) = Some InDrop
+refusal_unless Dropping (Some Dropping) = None
+refusal_unless Dropping (Some Free) = Some NotInDrop
+refusal_unless Dropping (Some Raw) = Some NotInDrop
+refusal_unless Owing (Some Owing) = None
+refusal_unless Owing (Some state) = Some NotOwing
+refusal_unless Gone (Some Gone) = None
+refusal_unless needed state = Some NoHandle
 
--- `FromRaw` needs a raw handle
-abbrev pub unless_raw : Option HandleState → Option StepFault
-unless_raw None = Some NoHandle
-unless_raw (Some Free) = Some NotRaw
-unless_raw (Some Raw) = None
-unless_raw (Some Dropping) = Some InDrop
-unless_raw (Some Owing) = Some NoHandle
-unless_raw (Some Gone) = Some NoHandle
+-- why a step with this need is refused, where the function has the state of each handle
+abbrev pub refusal_by : (ℕ → Option HandleState) → Option Need → Option StepFault
+refusal_by state None = None
+refusal_by state (Some need) = refusal_unless need.state (state need.handle)
 
 -- why a step is refused after a past; `None` where it is accepted
 abbrev pub refusal_of : ℕ → List Step → Step → Option StepFault
-refusal_of limit p Make = None
-refusal_of limit p (Look h) = unless_free (handle_state limit p h)
-refusal_of limit p (Clone h) = unless_free (handle_state limit p h)
-refusal_of limit p (Begin h) = unless_free (handle_state limit p h)
-refusal_of limit p (Sub h) = unless_dropping (handle_state limit p h)
-refusal_of limit p (Back h) = unless_owing (handle_state limit p h)
-refusal_of limit p (Leak h) = unless_free (handle_state limit p h)
-refusal_of limit p (IntoRaw h) = unless_free (handle_state limit p h)
-refusal_of limit p (FromRaw h) = unless_raw (handle_state limit p h)
+refusal_of limit p s = refusal_by (λ h. handle_state limit p h) (needs s)
 
 abbrev pub is_accepted : ℕ → List Step → Step → Bool
 is_accepted limit p s = is_none (refusal_of limit p s)

@@ -10,6 +10,17 @@ use Rattle.arcstr_count.specs.declared.steps.HandleState.TheVariants.{Free, Raw,
 
 -- ---- births
 
+-- `Make` makes a block
+abbrev pub is_make : Step → Bool
+is_make Make = true
+is_make s = false
+
+-- `Make` and `Clone` give birth to a handle
+abbrev pub is_birth : Step → Bool
+is_birth Make = true
+is_birth (Clone h) = true
+is_birth s = false
+
 -- how many blocks were made
 abbrev pub makes : List Step → ℕ
 makes [] = 0
@@ -75,8 +86,7 @@ abbrev pub lives : HandleState → Bool
 lives Free = true
 lives Raw = true
 lives Dropping = true
-lives Owing = false
-lives Gone = false
+lives s = false
 
 -- the numbers below n, in ascending order
 abbrev pub numbers_below : ℕ → List ℕ

@@ -2,7 +2,7 @@
 --
 -- A history is the list of its steps in their natural order. A prefix of it has its first n steps, for some n.
 -- The laws in `src/sentences.rt` prove each sentence equal to its definition.
-use Rattle.std.specs.Prelude.{◌≡◌, ℕ, ◌<◌, Bool, true, false, ◌&&◌, ◌==◌, ◌⊎◌, IsTrue, IsFalse, Option, None, Some}
+use Rattle.std.specs.Prelude.{◌≡◌, ℕ, ◌<◌, Bool, false, ◌&&◌, ◌==◌, ◌⊎◌, IsTrue, IsFalse, Option, None, Some, IfSome}
 use Rattle.std.specs.Prelude.{List, [], ◌∷◌, ◌++◌, length, filter, take, slice_get}
 use Rattle.arcstr_count.specs.declared.steps.Step.{Step}
 use Rattle.arcstr_count.specs.declared.steps.Step.TheVariants.{Make, Look, Clone, Begin, Sub, Back, Leak, IntoRaw, FromRaw}
@@ -13,7 +13,7 @@ use Rattle.arcstr_count.specs.declared.steps.Reply.TheVariants.{Made, Count, Sta
 use Rattle.arcstr_count.specs.declared.steps.Reply.TheVariants.{Given, Marked, Raw as RawReply, Unraw, Refused}
 use Rattle.arcstr_count.specs.declared.faults.StepFault.{StepFault}
 use Rattle.arcstr_count.specs.History.{makes, births, block_of, numbers_below}
-use Rattle.arcstr_count.specs.Answer.{handle_state, is_accepted, unless_free, unless_dropping, unless_owing, unless_raw}
+use Rattle.arcstr_count.specs.Answer.{needs, handle_state, refusal_by, is_accepted}
 use Rattle.arcstr_count.specs.Past.{past_of}
 use Rattle.arcstr_count.specs.After.{marked_after, living_after}
 
@@ -65,32 +65,11 @@ accepted_count limit history test =
 
 -- ---- accepted
 
--- A step is accepted after a history if the state of its handle there has 'ok' in the table of refusals:
--- a free handle for `Look`, `Clone`, `Begin`, `Leak` and `IntoRaw`, a dropping one for `Sub`, an owing one
--- for `Back` and a raw one for `FromRaw`. `Make` is always accepted.
+-- A step is accepted after a history if its handle is there in the state that the step needs. `Make` is always accepted.
 abbrev pub AcceptedSentence : ℕ → List Step → Step → Type 0
-AcceptedSentence limit history Make = Unit {0}
-AcceptedSentence limit history (Look h) = state_after limit history h ≡ Some Free
-AcceptedSentence limit history (Clone h) = state_after limit history h ≡ Some Free
-AcceptedSentence limit history (Begin h) = state_after limit history h ≡ Some Free
-AcceptedSentence limit history (Sub h) = state_after limit history h ≡ Some Dropping
-AcceptedSentence limit history (Back h) = state_after limit history h ≡ Some Owing
-AcceptedSentence limit history (Leak h) = state_after limit history h ≡ Some Free
-AcceptedSentence limit history (IntoRaw h) = state_after limit history h ≡ Some Free
-AcceptedSentence limit history (FromRaw h) = state_after limit history h ≡ Some Raw
+AcceptedSentence limit history s = IfSome (needs s) (λ need. state_after limit history need.handle ≡ Some need.state)
 
 -- ---- births
-
--- `Make` makes a block
-abbrev pub is_make : Step → Bool
-is_make Make = true
-is_make s = false
-
--- `Make` and `Clone` give birth to a handle
-abbrev pub is_birth : Step → Bool
-is_birth Make = true
-is_birth (Clone h) = true
-is_birth s = false
 
 -- Handle h is born on block b: at an accepted `Make` with h births before it, where b is the number of
 -- `Make`s before it; or at an accepted `Clone` with h births before it, of a handle on b.
@@ -200,18 +179,10 @@ given_count limit history b = accepted_count limit history (λ prefix s. is_back
 
 -- ---- answers
 
--- Why a step is refused after a history: its row of the table of refusals has this fault for the state of its
--- handle there. `Make` is never refused.
+-- Why a step is refused after a history: the table of refusals has this fault for the state that the step needs and the
+-- state of its handle there. `Make` is never refused.
 abbrev pub RefusedSentence : ℕ → List Step → Step → StepFault → Type 0
-RefusedSentence limit history Make fault = ⊥
-RefusedSentence limit history (Look h) fault = unless_free (state_after limit history h) ≡ Some fault
-RefusedSentence limit history (Clone h) fault = unless_free (state_after limit history h) ≡ Some fault
-RefusedSentence limit history (Begin h) fault = unless_free (state_after limit history h) ≡ Some fault
-RefusedSentence limit history (Sub h) fault = unless_dropping (state_after limit history h) ≡ Some fault
-RefusedSentence limit history (Back h) fault = unless_owing (state_after limit history h) ≡ Some fault
-RefusedSentence limit history (Leak h) fault = unless_free (state_after limit history h) ≡ Some fault
-RefusedSentence limit history (IntoRaw h) fault = unless_free (state_after limit history h) ≡ Some fault
-RefusedSentence limit history (FromRaw h) fault = unless_raw (state_after limit history h) ≡ Some fault
+RefusedSentence limit history s fault = refusal_by (λ h. state_after limit history h) (needs s) ≡ Some fault
 
 -- The first reply if the fact holds, else the second one.
 abbrev pub ByFact : Type 0 → (holds fails reply : Reply) → Type 0

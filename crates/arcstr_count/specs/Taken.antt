@@ -1,39 +1,15 @@
 -- What a world does when it takes a step.
 use Rattle.std.specs.Prelude.{◌≡◌, IsTrue, List, [], ◌∷◌, ◌++◌}
 use Rattle.arcstr_count.specs.declared.steps.Step.{Step}
-use Rattle.arcstr_count.specs.declared.steps.Step.TheVariants.{Make, Look, Clone, Begin, Sub, Back, Leak, IntoRaw, FromRaw}
 use Rattle.arcstr_count.specs.declared.steps.Reply.{Reply}
-use Rattle.arcstr_count.specs.declared.steps.Reply.TheVariants.{Made, Count, Static, Handle, Looked, Ended, Left, Owes, Given, Marked, Raw, Unraw, Refused}
+use Rattle.arcstr_count.specs.declared.steps.Reply.TheVariants.{Refused}
 use Rattle.arcstr_count.specs.Answer.{is_accepted}
 use Rattle.arcstr_count.specs.Past.{past_of, answer_after}
 use Rattle.arcstr_count.specs.Summary.{WorldView, StandsFor}
 
--- `Make` and `Clone` give birth to a handle
-abbrev pub GivesBirth : Step → Type 0
-GivesBirth Make = Unit {0}
-GivesBirth (Clone h) = Unit {0}
-GivesBirth (Look h) = ⊥
-GivesBirth (Begin h) = ⊥
-GivesBirth (Sub h) = ⊥
-GivesBirth (Back h) = ⊥
-GivesBirth (Leak h) = ⊥
-GivesBirth (IntoRaw h) = ⊥
-GivesBirth (FromRaw h) = ⊥
-
 abbrev pub IsRefusal : Reply → Type 0
 IsRefusal (Refused fault) = Unit {0}
-IsRefusal (Made h) = ⊥
-IsRefusal (Count n) = ⊥
-IsRefusal Static = ⊥
-IsRefusal (Handle h) = ⊥
-IsRefusal Looked = ⊥
-IsRefusal Ended = ⊥
-IsRefusal Left = ⊥
-IsRefusal Owes = ⊥
-IsRefusal Given = ⊥
-IsRefusal Marked = ⊥
-IsRefusal Raw = ⊥
-IsRefusal Unraw = ⊥
+IsRefusal reply = ⊥
 
 -- the step is accepted after every history that the world stands for
 abbrev pub IsAcceptedBy : WorldView → Step → Type 0

@@ -3,7 +3,7 @@
 ghost use Rattle.std.specs.Prelude.{◌≡◌, ◌<◌, ◌↔◌, [], IfOk, IfErr};
 ghost use Rattle.arcstr_count.specs.Summary.{StandsFor};
 ghost use Rattle.arcstr_count.specs.After.{AnswersEach};
-ghost use Rattle.arcstr_count.specs.Laws.{WordsStand, LooksAreExact, MarksStay, AtMostOneOwes, GivenAtMostOnce, GivenExactlyIfUnmarked};
+ghost use Rattle.arcstr_count.specs.Laws.{HoldsInEveryInterleaving};
 
 use crate::faults::RunFault;
 use crate::history_laws::every_interleaving;
@@ -34,12 +34,7 @@ pub fn run<A: Allocator + Copy>(
     ensures replies { IfOk result (λ replies. AnswersEach limit steps.now replies.items) }
 
     // What holds after every prefix of the steps, for every block made in it.
-    ensures words_stand { WordsStand limit steps.now }
-    ensures looks_exact { LooksAreExact limit steps.now }
-    ensures marks_stay { MarksStay limit steps.now }
-    ensures one_owes { AtMostOneOwes limit steps.now }
-    ensures given_once { GivenAtMostOnce limit steps.now }
-    ensures given_exactly { GivenExactlyIfUnmarked limit steps.now }
+    ensures laws { HoldsInEveryInterleaving limit steps.now }
 {
     every_interleaving(limit, steps);
     let world = World::new(alloc, limit)?;

@@ -1,14 +1,15 @@
 //! The world of counted blocks, which answers one step at a time by the meaning of its history.
 
 ghost use Rattle.std.specs.Prelude.{◌≡◌, ◌<◌, ◌≤◌, ◌↔◌, ◌+◌, ◌++◌, if◌then◌else◌, [], ◌∷◌, List, length};
-ghost use Rattle.std.specs.Prelude.{IfOk, IfErr, OnOk, OnErr, IsOk, IfSome, IsNone, Some, slice_get, vec_len, vec_capacity};
+ghost use Rattle.std.specs.Prelude.{IsTrue, IfOk, IfErr, OnOk, OnErr, IsOk, IfSome, IsNone, Some, slice_get, vec_len, vec_capacity};
 ghost use Rattle.arcstr_count.specs.declared.steps.Step.{Step};
+ghost use Rattle.arcstr_count.specs.History.{is_birth};
 ghost use Rattle.arcstr_count.specs.Summary.{StandsFor};
 ghost use Rattle.arcstr_count.specs.After.{given_after};
 ghost use Rattle.arcstr_count.specs.Tables.{handles_with_state, blocks_with_word, blocks_with_mark, blocks_with_given};
-ghost use Rattle.arcstr_count.specs.Answer.{unless_free, unless_dropping, unless_owing, unless_raw};
-ghost use Rattle.arcstr_count.specs.Taken.{GivesBirth, IsRefusal, IsAcceptedBy, Answers, Follows, Takes, HasHistory};
-ghost use Rattle.arcstr_count.specs.Laws.{WordsStand, LooksAreExact, MarksStay, AtMostOneOwes, GivenAtMostOnce, GivenExactlyIfUnmarked, InEachHistoryOf};
+ghost use Rattle.arcstr_count.specs.Answer.{refusal_unless};
+ghost use Rattle.arcstr_count.specs.Taken.{IsRefusal, IsAcceptedBy, Answers, Follows, Takes, HasHistory};
+ghost use Rattle.arcstr_count.specs.Laws.{HoldsInEveryInterleaving};
 ghost use Rattle.arcstr_count.specs.OneHandle.{state_at, IsAt};
 
 use crate::faults::{RunFault, StepFault};
@@ -96,7 +97,7 @@ impl<A: Allocator + Copy> World<A> {
         ensures refused { IfOk result (λ reply. IsRefusal reply → self.new ≡ self.old) }
 
         ensures memory { IfErr result (λ fault. (fault ≡ RunFault.Memory) × (self.new ≡ self.old)) }
-        ensures memory_only_to_births { OnErr result (GivesBirth step × IsAcceptedBy self.old step) }
+        ensures memory_only_to_births { OnErr result (IsTrue (is_birth step) × IsAcceptedBy self.old step) }
 
         ensures limit { self.new.summary.limit ≡ self.old.summary.limit }
     {
@@ -142,13 +143,8 @@ impl<A: Allocator + Copy> World<A> {
     /// ```
     pub fn stands_for_a_history(&self)
         ensures some { HasHistory self.now }
-
-        ensures words_stand { InEachHistoryOf self.now WordsStand }
-        ensures looks_exact { InEachHistoryOf self.now LooksAreExact }
-        ensures marks_stay { InEachHistoryOf self.now MarksStay }
-        ensures one_owes { InEachHistoryOf self.now AtMostOneOwes }
-        ensures given_once { InEachHistoryOf self.now GivenAtMostOnce }
-        ensures given_exactly { InEachHistoryOf self.now GivenExactlyIfUnmarked }
+        ensures laws { (history : List Step) → StandsFor self.now history
+            → HoldsInEveryInterleaving self.now.summary.limit history }
     {
         // A clause knows the invariant of a value behind a `&` once the body reads the value. Without this read
         // nothing is known of the world.
@@ -163,64 +159,16 @@ impl<A: Allocator + Copy> World<A> {
         entry_at(&self.handles, handle)
     }
 
-    /// Why a step that needs a free handle is refused, or the block of the free handle.
-    fn free_handle(&self, handle: u64) -> Result<u64, StepFault>
-        ensures refused { IfErr result (λ fault. unless_free (state_at self.now handle) ≡ Some fault) }
-        ensures found { IfOk result (λ block. IsAt self.now handle block HandleState.Free) }
+    /// Why a step that needs a handle in this state is refused, or the block of the handle.
+    fn handle_in(&self, needed: HandleState, handle: u64) -> Result<u64, StepFault>
+        ensures refused { IfErr result (λ fault. refusal_unless needed (state_at self.now handle) ≡ Some fault) }
+        ensures found { IfOk result (λ block. IsAt self.now handle block needed) }
     {
         match self.known_handle(handle) {
             None => Err(StepFault::NoHandle),
-            Some(found) => match found.state {
-                HandleState::Free => Ok(found.block),
-                HandleState::Raw => Err(StepFault::IsRaw),
-                HandleState::Dropping => Err(StepFault::InDrop),
-                HandleState::Owing | HandleState::Gone => Err(StepFault::NoHandle),
-            },
-        }
-    }
-
-    /// Why `Sub` is refused, or the block of the dropping handle.
-    fn dropping_handle(&self, handle: u64) -> Result<u64, StepFault>
-        ensures refused { IfErr result (λ fault. unless_dropping (state_at self.now handle) ≡ Some fault) }
-        ensures found { IfOk result (λ block. IsAt self.now handle block HandleState.Dropping) }
-    {
-        match self.known_handle(handle) {
-            None => Err(StepFault::NoHandle),
-            Some(found) => match found.state {
-                HandleState::Dropping => Ok(found.block),
-                HandleState::Free | HandleState::Raw => Err(StepFault::NotInDrop),
-                HandleState::Owing | HandleState::Gone => Err(StepFault::NoHandle),
-            },
-        }
-    }
-
-    /// Why `Back` is refused, or the block of the owing handle.
-    fn owing_handle(&self, handle: u64) -> Result<u64, StepFault>
-        ensures refused { IfErr result (λ fault. unless_owing (state_at self.now handle) ≡ Some fault) }
-        ensures found { IfOk result (λ block. IsAt self.now handle block HandleState.Owing) }
-    {
-        match self.known_handle(handle) {
-            None => Err(StepFault::NoHandle),
-            Some(found) => match found.state {
-                HandleState::Owing => Ok(found.block),
-                HandleState::Free | HandleState::Raw | HandleState::Dropping | HandleState::Gone =>
-                    Err(StepFault::NotOwing),
-            },
-        }
-    }
-
-    /// Why `FromRaw` is refused, or the block of the raw handle.
-    fn raw_handle(&self, handle: u64) -> Result<u64, StepFault>
-        ensures refused { IfErr result (λ fault. unless_raw (state_at self.now handle) ≡ Some fault) }
-        ensures found { IfOk result (λ block. IsAt self.now handle block HandleState.Raw) }
-    {
-        match self.known_handle(handle) {
-            None => Err(StepFault::NoHandle),
-            Some(found) => match found.state {
-                HandleState::Raw => Ok(found.block),
-                HandleState::Free => Err(StepFault::NotRaw),
-                HandleState::Dropping => Err(StepFault::InDrop),
-                HandleState::Owing | HandleState::Gone => Err(StepFault::NoHandle),
+            Some(found) => match refusal(needed, found.state) {
+                None => Ok(found.block),
+                Some(fault) => Err(fault),
             },
         }
     }
@@ -245,7 +193,7 @@ impl<A: Allocator + Copy> World<A> {
     fn look(&self, handle: u64) -> Reply
         ensures { Takes self.now (Step.Look handle) result self.now }
     {
-        match self.free_handle(handle) {
+        match self.handle_in(HandleState::Free, handle) {
             Err(fault) => Reply::Refused(fault),
             Ok(block) => match self.blocks[block as usize].word.looked() {
                 None => Reply::Static,
@@ -259,7 +207,7 @@ impl<A: Allocator + Copy> World<A> {
         ensures memory { IfErr result (λ fault. (fault ≡ RunFault.Memory) × (self.new ≡ self.old)) }
         ensures accepted { OnErr result (IsAcceptedBy self.old (Step.Clone handle)) }
     {
-        let block = match self.free_handle(handle) {
+        let block = match self.handle_in(HandleState::Free, handle) {
             Ok(block) => block,
             Err(fault) => return Ok(Reply::Refused(fault)),
         };
@@ -274,7 +222,7 @@ impl<A: Allocator + Copy> World<A> {
     fn begin(&mut self, handle: u64) -> Reply
         ensures { Takes self.old (Step.Begin handle) result self.new }
     {
-        let block = match self.free_handle(handle) {
+        let block = match self.handle_in(HandleState::Free, handle) {
             Ok(block) => block,
             Err(fault) => return Reply::Refused(fault),
         };
@@ -286,7 +234,7 @@ impl<A: Allocator + Copy> World<A> {
     fn sub(&mut self, handle: u64) -> Reply
         ensures { Takes self.old (Step.Sub handle) result self.new }
     {
-        let block = match self.dropping_handle(handle) {
+        let block = match self.handle_in(HandleState::Dropping, handle) {
             Ok(block) => block,
             Err(fault) => return Reply::Refused(fault),
         };
@@ -300,7 +248,7 @@ impl<A: Allocator + Copy> World<A> {
     fn back(&mut self, handle: u64) -> Reply
         ensures { Takes self.old (Step.Back handle) result self.new }
     {
-        let block = match self.owing_handle(handle) {
+        let block = match self.handle_in(HandleState::Owing, handle) {
             Ok(block) => block,
             Err(fault) => return Reply::Refused(fault),
         };
@@ -312,7 +260,7 @@ impl<A: Allocator + Copy> World<A> {
     fn leak(&mut self, handle: u64) -> Reply
         ensures { Takes self.old (Step.Leak handle) result self.new }
     {
-        let block = match self.free_handle(handle) {
+        let block = match self.handle_in(HandleState::Free, handle) {
             Ok(block) => block,
             Err(fault) => return Reply::Refused(fault),
         };
@@ -323,7 +271,7 @@ impl<A: Allocator + Copy> World<A> {
     fn into_raw(&mut self, handle: u64) -> Reply
         ensures { Takes self.old (Step.IntoRaw handle) result self.new }
     {
-        match self.free_handle(handle) {
+        match self.handle_in(HandleState::Free, handle) {
             Err(fault) => Reply::Refused(fault),
             Ok(_) => {
                 set_state(&mut self.handles, handle, HandleState::Raw);
@@ -335,13 +283,32 @@ impl<A: Allocator + Copy> World<A> {
     fn from_raw(&mut self, handle: u64) -> Reply
         ensures { Takes self.old (Step.FromRaw handle) result self.new }
     {
-        match self.raw_handle(handle) {
+        match self.handle_in(HandleState::Raw, handle) {
             Err(fault) => Reply::Refused(fault),
             Ok(_) => {
                 set_state(&mut self.handles, handle, HandleState::Free);
                 Reply::Unraw
             }
         }
+    }
+}
+
+/// The table of refusals: why a step that needs a handle in one state is refused for a handle in another.
+fn refusal(needed: HandleState, state: HandleState) -> Option<StepFault>
+    ensures { result ≡ refusal_unless needed (Some state) }
+{
+    match (needed, state) {
+        (HandleState::Free, HandleState::Free)
+        | (HandleState::Raw, HandleState::Raw)
+        | (HandleState::Dropping, HandleState::Dropping)
+        | (HandleState::Owing, HandleState::Owing)
+        | (HandleState::Gone, HandleState::Gone) => None,
+        (HandleState::Free, HandleState::Raw) => Some(StepFault::IsRaw),
+        (HandleState::Raw, HandleState::Free) => Some(StepFault::NotRaw),
+        (HandleState::Free | HandleState::Raw, HandleState::Dropping) => Some(StepFault::InDrop),
+        (HandleState::Dropping, HandleState::Free | HandleState::Raw) => Some(StepFault::NotInDrop),
+        (HandleState::Owing, _) => Some(StepFault::NotOwing),
+        _ => Some(StepFault::NoHandle),
     }
 }
 

@@ -1,13 +1,12 @@
 use Rattle.std.proofs.Common.{refl, ◌∙◌, ap, length}
 use Rattle.arcstr_count.specs.declared.steps.Step.TheVariants.{Clone}
-use Rattle.arcstr_count.specs.Answer.{unless_free}
-use Rattle.arcstr_count.proofs.StepTaking.{takes_refused_by, world_kept, clone_accepted}
+use Rattle.arcstr_count.proofs.StepTaking.{takes_refused, world_kept, clone_accepted}
 use Rattle.arcstr_count.proofs.StepsTaken.{push_with, takes_clone}
 use Rattle.arcstr_count.proofs.worlds.World.clone.Goals as goal
 
 pub returns-in-Err-clause-takes : goal.returns-in-Err-clause-takes
 returns-in-Err-clause-takes g c =
-    takes_refused_by unless_free c.args.self.now (Clone c.args.handle) c.args.handle c.in-Err.fault (λ p. refl) c.in-Err.ensures.refused
+    takes_refused c.args.self.now (Clone c.args.handle) _ c.in-Err.fault refl c.in-Err.ensures.refused
 
 pub invariant_of-self : goal.invariant_of-self
 invariant_of-self g c = rw c.reserve.ensures.items c.self.invariant

@@ -1,13 +1,12 @@
 use Rattle.std.proofs.Common.{refl}
 use Rattle.arcstr_count.specs.declared.steps.Step.TheVariants.{FromRaw}
-use Rattle.arcstr_count.specs.Answer.{unless_raw}
-use Rattle.arcstr_count.proofs.StepTaking.{takes_refused_by, world_kept}
+use Rattle.arcstr_count.proofs.StepTaking.{takes_refused, world_kept}
 use Rattle.arcstr_count.proofs.StepsTaken.{takes_from_raw}
 use Rattle.arcstr_count.proofs.worlds.World.from_raw.Goals as goal
 
 pub returns-in-Err : goal.returns-in-Err
 returns-in-Err g c =
-    takes_refused_by unless_raw c.args.self.now (FromRaw c.args.handle) c.args.handle c.in-Err.fault (λ p. refl) c.in-Err.ensures.refused
+    takes_refused c.args.self.now (FromRaw c.args.handle) _ c.in-Err.fault refl c.in-Err.ensures.refused
 
 pub returns-in-Ok : goal.returns-in-Ok
 returns-in-Ok g c = rw c.set_state.ensures

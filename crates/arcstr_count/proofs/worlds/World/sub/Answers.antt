@@ -1,13 +1,12 @@
 use Rattle.std.proofs.Common.{refl}
 use Rattle.arcstr_count.specs.declared.steps.Step.TheVariants.{Sub}
-use Rattle.arcstr_count.specs.Answer.{unless_dropping}
-use Rattle.arcstr_count.proofs.StepTaking.{takes_refused_by, world_kept}
+use Rattle.arcstr_count.proofs.StepTaking.{takes_refused, world_kept}
 use Rattle.arcstr_count.proofs.StepsTaken.{takes_sub, dropping_is_counted}
 use Rattle.arcstr_count.proofs.worlds.World.sub.Goals as goal
 
 pub returns-in-Err : goal.returns-in-Err
 returns-in-Err g c =
-    takes_refused_by unless_dropping c.args.self.now (Sub c.args.handle) c.args.handle c.in-Err.fault (λ p. refl) c.in-Err.ensures.refused
+    takes_refused c.args.self.now (Sub c.args.handle) _ c.in-Err.fault refl c.in-Err.ensures.refused
 
 pub dropped-word-requires : goal.dropped-word-requires
 dropped-word-requires g c =
