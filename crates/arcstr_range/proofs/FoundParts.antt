@@ -8,7 +8,7 @@ use Rattle.std.proofs.lemmas.Slice.{between_is}
 use Rattle.std.proofs.lemmas.Str.{IsCharBoundary-end, IsCharBoundary-start, IsUtf8-between, encodes-append, encodes-chars}
 use Rattle.arcstr_range.proofs.Boundaries.{IsCharBoundary-from_prefix, cut-cut}
 use Rattle.arcstr_range.proofs.Trims.{TrimsEnd-trim_end, TrimsStart-trim_start}
-use Rattle.arcstr_range.specs.Ends.{IsLawful, IsSliceable}
+use Rattle.arcstr_range.specs.Ends.{IsLawful}
 use Rattle.arcstr_range.specs.Text.{cut}
 use Rattle.arcstr_range.specs.Trim.{Trims, TrimsEnd, TrimsStart}
 use Rattle.arcstr_range.specs.View.{IsFoundAt, StandsAt, View, end_of, view_at}
@@ -38,7 +38,7 @@ boundary_of_part text start end place in_order at_end at =
 cut-nil : (start end : ℕ) → cut [] start end ≡ []
 cut-nil start end = grind arith
 
-stands_part : (parent text : List ℕ) (place start end : ℕ) → IsSliceable text start end → StandsAt parent text place
+stands_part : (parent text : List ℕ) (place start end : ℕ) → IsLawful text start end → StandsAt parent text place
     → StandsAt parent (cut text start end) (place + start)
 stands_part parent text place start end sliced at =
     let size = length-cut text start end sliced.in_order sliced.within in
@@ -47,7 +47,8 @@ stands_part parent text place start end sliced at =
     let ends : place + start + length (cut text start end) ≡ place + end = omega (arith, size, sliced.in_order) in
     record {
       lawful = record {
-        fits = record { in_order = omega arith; within = omega (arith, ends, sliced.within, at.lawful.fits.within) };
+        in_order = omega arith;
+        within = omega (arith, ends, sliced.within, at.lawful.within);
         at_boundaries = (boundary start sliced.at_boundaries.0, subst (λ n. IsCharBoundary parent n) (sym ends) (boundary end sliced.at_boundaries.1));
       };
       same =
@@ -57,7 +58,7 @@ stands_part parent text place start end sliced at =
     }
 
 -- a part of a view is found wherever the view is found
-pub found_part : (parent text : List ℕ) (place start end : ℕ) → IsSliceable text start end → IsFoundAt parent text place
+pub found_part : (parent text : List ℕ) (place start end : ℕ) → IsLawful text start end → IsFoundAt parent text place
     → IsFoundAt parent (cut text start end) (place + start)
 found_part parent text place start end sliced (inl empty) = inl (ap (λ bytes. cut bytes start end) empty ∙ cut-nil start end)
 found_part parent text place start end sliced (inr at) = inr (stands_part parent text place start end sliced at)
@@ -66,7 +67,7 @@ found_part parent text place start end sliced (inr at) = inr (stands_part parent
 record IsPart (old new : View) : Type 0 where
   pub start : ℕ
   pub end : ℕ
-  pub sliced : IsSliceable old.text start end
+  pub sliced : IsLawful old.text start end
   pub text : cut old.text start end ≡ new.text
   pub place : old.place + start ≡ new.place
 
@@ -129,7 +130,8 @@ stands_whole text utf8 =
     let ends : 0 + length text ≡ length text = omega arith in
     record {
       lawful = record {
-        fits = record { in_order = omega arith; within = omega arith };
+        in_order = omega arith;
+        within = omega arith;
         at_boundaries = (IsCharBoundary-start text utf8, subst (λ n. IsCharBoundary text n) (sym ends) (IsCharBoundary-end text));
       };
       same = ap (λ n. cut text 0 n) ends ∙ between_is text 0 (length text) ∙ take_all (length text) text (omega arith);

@@ -39,13 +39,8 @@ pub record FitsLength (len start end : ℕ) : Type 0 where
   pub in_order : length_rule len start end OutOfOrder
   pub within : length_rule len start end PastEnd
 
--- the ends are valid in this text: each of its rules holds
+-- the ends are valid in this text, as those of a slice of Rust's `str`: each rule of the text holds
 pub record IsLawful (text : List ℕ) (start end : ℕ) : Type 0 where
-  pub fits : FitsLength (length text) start end
-  pub at_boundaries : text_rule text start end OffBoundary
-
--- the ends are those of a slice of Rust's `str`: each rule of the text holds, as for valid ends
-pub record IsSliceable (text : List ℕ) (start end : ℕ) : Type 0 where
   pub in_order : text_rule text start end OutOfOrder
   pub within : text_rule text start end PastEnd
   pub at_boundaries : text_rule text start end OffBoundary
@@ -61,9 +56,6 @@ cut_by text range = let ends = ends_in text range in cut text ends.0 ends.1
 
 abbrev pub IsLawfulRange : List ℕ → StrRange → Type 0
 IsLawfulRange text range = let ends = ends_in text range in IsLawful text ends.0 ends.1
-
-abbrev pub IsSliceRange : List ℕ → StrRange → Type 0
-IsSliceRange text range = let ends = ends_in text range in IsSliceable text ends.0 ends.1
 
 abbrev pub IsFirstRangeFault : List ℕ → StrRange → RangeFault → Type 0
 IsFirstRangeFault text range = let ends = ends_in text range in IsFirstFault (text_rule text ends.0 ends.1)

@@ -3,7 +3,7 @@ ghost use Rattle.std.specs.Prelude.{◌≡◌, ◌+◌, ◌↔◌, OnOk, length,
 ghost use Rattle.std.specs.Str.{IsCharBoundary};
 ghost use Rattle.arcstr_range.specs.Text.{IsPrefixLength, SpellsBetween};
 ghost use Rattle.arcstr_range.specs.declared.range.fault.RangeFault.{RangeFault};
-ghost use Rattle.arcstr_range.specs.Ends.{ends_in, cut_by, IsLawfulRange, IsSliceRange, IsFirstRangeFault};
+ghost use Rattle.arcstr_range.specs.Ends.{ends_in, cut_by, IsLawfulRange, IsFirstRangeFault};
 ghost use Rattle.arcstr_range.specs.Substring.{substring_at, text_of, inner_by, IsSound};
 
 use crate::range::{RangeFault, StrRange};
@@ -93,7 +93,7 @@ pub fn inner_ends(
 /// ```
 #[tactic(auto, using(crate::proofs::Boundaries::slices_by_characters))]
 pub fn slice(text: &str, range: StrRange) -> Option<&str>
-    ensures some { IsSome result ↔ IsSliceRange text.now range }
+    ensures some { IsSome result ↔ IsLawfulRange text.now range }
     ensures value { IfSome result (λ part. part.now ≡ cut_by text.now range) }
     ensures characters { let ends = ends_in text.now range in
         IfSome result (λ part. SpellsBetween text.now ends.0 ends.1 part.now) }

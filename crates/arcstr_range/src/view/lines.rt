@@ -2,7 +2,7 @@
 ghost use Rattle.std.specs.Prelude.{◌≡◌, ◌+◌, ◌<◌, ◌≤◌, [], ◌∷◌, length, map, IfNone, IfSome};
 ghost use Rattle.std.specs.Iterator.{YieldsFirst, item_count};
 ghost use Rattle.std.specs.Str.Lines.{lines, strip_carriage_return};
-ghost use Rattle.arcstr_range.specs.Ends.{IsSliceable};
+ghost use Rattle.arcstr_range.specs.Ends.{IsLawful};
 ghost use Rattle.arcstr_range.specs.Pieces.{AreFoundWith, lines_of};
 ghost use Rattle.arcstr_range.specs.Text.{cut};
 ghost use Rattle.arcstr_range.specs.View.{part_of, view_at};
@@ -102,8 +102,8 @@ fn first_newline(view: &StrView<'_>) -> Option<usize>
     ensures none { IfNone result (0 < length view.now.text → lines_of view.now ≡ view.now ∷ []) }
     ensures some { IfSome result (λ place. lines_of view.now ≡ view_at (strip_carriage_return (cut view.now.text 0 place)) view.now.place
         ∷ lines_of (part_of view.now (place + 1) (length view.now.text))) }
-    ensures before { IfSome result (λ place. IsSliceable view.now.text 0 place) }
-    ensures behind { IfSome result (λ place. IsSliceable view.now.text (place + 1) (length view.now.text)) }
+    ensures before { IfSome result (λ place. IsLawful view.now.text 0 place) }
+    ensures behind { IfSome result (λ place. IsLawful view.now.text (place + 1) (length view.now.text)) }
 {
     view.text().find('\n')
 }
