@@ -1,10 +1,9 @@
 //! Ranges and byte offsets in a text.
-ghost use Rattle.std.specs.Prelude.{◌≡◌, ◌+◌, ◌↔◌, OnOk, length, IsTrue, IsOk, IsErrOf, IfOk, IfErr, IsSome, IfSome};
+ghost use Rattle.std.specs.Prelude.{◌≡◌, ◌+◌, ◌↔◌, length, IsTrue, IsOk, IsErrOf, IfOk, IfErr, IsSome, IfSome};
 ghost use Rattle.std.specs.Str.{IsCharBoundary};
-ghost use Rattle.arcstr_range.specs.Text.{IsPrefixLength, SpellsBetween};
+ghost use Rattle.arcstr_range.specs.Text.{IsPrefixLength, SpellsBetween, cut};
 ghost use Rattle.arcstr_range.specs.declared.range.fault.RangeFault.{RangeFault};
-ghost use Rattle.arcstr_range.specs.Ends.{ends_in, cut_by, IsLawfulRange, IsFirstRangeFault};
-ghost use Rattle.arcstr_range.specs.Substring.{substring_at, text_of, inner_by, IsSound};
+ghost use Rattle.arcstr_range.specs.Ends.{ends_in, cut_by, IsLawful, IsLawfulRange, IsFirstRangeFault};
 
 use crate::range::{RangeFault, StrRange};
 use std::ops::Range;
@@ -64,19 +63,17 @@ pub fn inner_ends(
     outer: Range<usize>,
     range: StrRange,
 ) -> Result<(usize, usize), RangeFault>
-    requires { IsSound (substring_at parent.now outer.start outer.end) }
-    ensures value { let inner = inner_by (substring_at parent.now outer.start outer.end) range in
-        IfOk result (λ ends. ends ≡ (inner.start, inner.end)) }
-    ensures sound { let inner = inner_by (substring_at parent.now outer.start outer.end) range in
-        OnOk result (IsSound inner) }
-    ensures same_text { let substring = substring_at parent.now outer.start outer.end in
-        OnOk result (text_of (inner_by substring range) ≡ cut_by (text_of substring) range) }
-
-    ensures lawful { let own = text_of (substring_at parent.now outer.start outer.end) in
+    requires { IsLawful parent.now outer.start outer.end }
+    ensures value { let own_ends = ends_in (cut parent.now outer.start outer.end) range in
+        IfOk result (λ ends. ends ≡ (outer.start + own_ends.0, outer.start + own_ends.1)) }
+    ensures sound { IfOk result (λ ends. IsLawful parent.now ends.0 ends.1) }
+    ensures same_text { let own = cut parent.now outer.start outer.end in
+        IfOk result (λ ends. cut parent.now ends.0 ends.1 ≡ cut_by own range) }
+    ensures lawful { let own = cut parent.now outer.start outer.end in
         IsOk result ↔ IsLawfulRange own range }
-    ensures fault { let own = text_of (substring_at parent.now outer.start outer.end) in
+    ensures fault { let own = cut parent.now outer.start outer.end in
         IfErr result (IsFirstRangeFault own range) }
-    ensures only_fault { let own = text_of (substring_at parent.now outer.start outer.end) in
+    ensures only_fault { let own = cut parent.now outer.start outer.end in
         (fault : RangeFault) → IsFirstRangeFault own range fault → IsErrOf result fault }
 {
     let own = &parent[outer.start..outer.end];
