@@ -1,5 +1,5 @@
 -- The ends of a range, the rules for them, and the first fault of ends that break one.
-use Rattle.std.specs.Prelude.{ℕ, ◌+◌, ◌<◌, ◌≤◌, List, length, ⊤}
+use Rattle.std.specs.Prelude.{◌≡◌, ◌↔◌, ℕ, ◌+◌, ◌<◌, ◌≤◌, List, length, ⊤, Result, IsOk, IsErrOf, IfOk, IfErr}
 use Rattle.std.specs.Str.{IsCharBoundary}
 use Rattle.arcstr_range.specs.declared.range.StrRange.{StrRange}
 use Rattle.arcstr_range.specs.declared.range.StrRange.TheVariants.{Between, From, To, Full, Inclusive, ToInclusive}
@@ -33,6 +33,13 @@ text_rule text start end OffBoundary = IsCharBoundary text start × IsCharBounda
 pub record IsFirstFault (rule : RangeFault → Type 0) (fault : RangeFault) : Type 0 where
   pub broken : ¬ (rule fault)
   pub kept_before : (earlier : RangeFault) → range_fault_number earlier < range_fault_number fault → rule earlier
+
+-- the result for a range: its ends, exactly if they are valid, and otherwise the first fault
+pub record AnswersEnds (ends : ℕ × ℕ) (valid : Type 0) (is_first : RangeFault → Type 0) (answer : Result (ℕ × ℕ) RangeFault) : Type 0 where
+  pub value : IfOk answer (λ given. given ≡ ends)
+  pub lawful : IsOk answer ↔ valid
+  pub fault : IfErr answer is_first
+  pub only_fault : (fault : RangeFault) → is_first fault → IsErrOf answer fault
 
 -- each rule of a length holds
 pub record FitsLength (len start end : ℕ) : Type 0 where
