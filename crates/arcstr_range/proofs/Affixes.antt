@@ -62,11 +62,11 @@ lawful_rest text place lawful =
       at_boundaries = (lawful.at_boundaries.1, IsCharBoundary-end text);
     }
 
-pub cut_start : (text : List ℕ) (place : ℕ) → cut text 0 place ≡ take place text
-cut_start text place = between_is text 0 place
+pub cut_is_take : (text : List ℕ) (place : ℕ) → cut text 0 place ≡ take place text
+cut_is_take text place = between_is text 0 place
 
-pub cut_rest : (text : List ℕ) (place : ℕ) → cut text place (length text) ≡ drop place text
-cut_rest text place = take_all (length text - place) (drop place text) (omega (arith, length-drop place text))
+pub cut_is_drop : (text : List ℕ) (place : ℕ) → cut text place (length text) ≡ drop place text
+cut_is_drop text place = take_all (length text - place) (drop place text) (omega (arith, length-drop place text))
 
 -- the functions whose proofs use these rulesets name them
 pub ruleset found_prefixes = (found_prefix)
@@ -77,4 +77,4 @@ pub ruleset slices_of_prefixes = (lawful_prefix, cut_prefix)
 
 pub ruleset slices_of_suffixes = (lawful_suffix, cut_suffix)
 
-pub ruleset slices_of_rests = (lawful_rest, cut_start, cut_rest)
+pub ruleset slices_of_rests = (lawful_rest, cut_is_take, cut_is_drop)

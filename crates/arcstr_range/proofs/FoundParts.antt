@@ -5,8 +5,8 @@ use Rattle.std.specs.Str.{IsUtf8, IsCharBoundary, chars, trim_end, trim_start}
 use Rattle.std.proofs.lemmas.Bool.{cases_lt}
 use Rattle.std.proofs.lemmas.List.{length-append, length-take-le, length-drop, get_or-take, get_or-drop, drop_at, take_all, take_at}
 use Rattle.std.proofs.lemmas.Slice.{between_is}
-use Rattle.std.proofs.lemmas.Str.{IsCharBoundary-end, IsCharBoundary-start, IsUtf8-between, encodes-append, encodes-chars}
-use Rattle.arcstr_range.proofs.Boundaries.{IsCharBoundary-from_prefix, cut-cut}
+use Rattle.std.proofs.lemmas.Str.{IsCharBoundary-end, IsCharBoundary-start, IsUtf8-between}
+use Rattle.arcstr_range.proofs.Boundaries.{IsCharBoundary-from_prefix, cut-cut, halves_join_to_text}
 use Rattle.arcstr_range.proofs.Trims.{TrimsEnd-trim_end, TrimsStart-trim_start}
 use Rattle.arcstr_range.specs.Ends.{IsLawful}
 use Rattle.arcstr_range.specs.Text.{cut}
@@ -81,10 +81,6 @@ stands_IsPart parent old new part at =
     subst (λ n. StandsAt parent new.text n) part.place
     (subst (λ bytes. StandsAt parent bytes (old.place + part.start)) part.text (stands_part parent old.text old.place part.start part.end part.sliced at))
 
--- the text of a list of characters, cut after a prefix, is the prefix and the rest
-joined : (text prefix rest : List ℕ) → IsUtf8 text → chars text ≡ prefix ++ rest → text ≡ encode_utf8_all prefix ++ encode_utf8_all rest
-joined text prefix rest utf8 split = sym (encodes-chars text utf8) ∙ ap encode_utf8_all split ∙ encodes-append prefix rest
-
 seam : (text prefix rest : List ℕ) → IsUtf8 text → chars text ≡ prefix ++ rest → IsCharBoundary text (length (encode_utf8_all prefix))
 seam text prefix rest utf8 split =
     IsCharBoundary-from_prefix text _ utf8 (record { prefix = prefix; rest = rest; split = split; measured = refl })
@@ -93,7 +89,7 @@ IsPart-trim_start : (old new : View) → IsUtf8 old.text → TrimsStart old new 
 IsPart-trim_start old new utf8 trims =
     let prefix = encode_utf8_all trims.prefix in
     let rest = encode_utf8_all trims.rest in
-    let whole = joined old.text trims.prefix trims.rest utf8 trims.removed.split in
+    let whole = halves_join_to_text old.text trims.prefix trims.rest utf8 trims.removed.split in
     let size : length old.text ≡ length prefix + length rest = ap length whole ∙ length-append prefix rest in
     let behind : drop (length prefix) old.text ≡ rest = ap (drop (length prefix)) whole ∙ drop_at prefix rest (length prefix) refl in
     record {
@@ -112,7 +108,7 @@ IsPart-trim_end : (old new : View) → IsUtf8 old.text → TrimsEnd old new → 
 IsPart-trim_end old new utf8 trims =
     let rest = encode_utf8_all trims.rest in
     let back = encode_utf8_all trims.back in
-    let whole = joined old.text trims.rest trims.back utf8 trims.removed.split in
+    let whole = halves_join_to_text old.text trims.rest trims.back utf8 trims.removed.split in
     record {
       start = 0;
       end = length rest;

@@ -72,7 +72,7 @@ impl<'a> Iterator for Lines<'a> {
         if self.rest.text().is_empty() {
             return None;
         }
-        let (line, rest) = first_line(&self.rest);
+        let (line, rest) = split_first_line(&self.rest);
         self.rest = rest;
         Some(line)
     }
@@ -80,7 +80,7 @@ impl<'a> Iterator for Lines<'a> {
 
 /// Returns the first line, and the view after its newline.
 #[tactic(auto, using(crate::proofs::LinePlaces::empty_views))]
-fn first_line<'a>(view: &StrView<'a>) -> (StrView<'a>, StrView<'a>)
+fn split_first_line<'a>(view: &StrView<'a>) -> (StrView<'a>, StrView<'a>)
     requires { 0 < length view.now.text }
     ensures { lines_of view.now ≡ result.0 ∷ lines_of result.1 }
 {
