@@ -10,7 +10,8 @@ use Rattle.arcstr.specs.Substr.{SubstrView, IsSoundSlice, slice_within, text_of}
 -- the range of the whole text is valid
 pub IsLawful-whole : (text : List ℕ) → IsUtf8 text → IsLawful text 0 (length text)
 IsLawful-whole text utf8 = record {
-  fits = record { in_order = omega arith; within = omega arith };
+  in_order = omega arith;
+  within = omega arith;
   at_boundaries = (IsCharBoundary-start text utf8, IsCharBoundary-end text);
 }
 
@@ -18,4 +19,4 @@ IsLawful-whole text utf8 = record {
 pub text_of-slice_within_view : (outer : SubstrView) (view : View) → IsSoundSlice outer → view.text ≢ [] → IsFoundAt (text_of outer) view.text view.place → text_of (slice_within outer view.place (end_of view)) ≡ view.text
 text_of-slice_within_view outer view sound shown (inl empty) = absurd (shown empty)
 text_of-slice_within_view outer view sound shown (inr stands) =
-    cut-cut outer.parent.text outer.start outer.end view.place (end_of view) sound.fits.in_order stands.lawful.fits.within ∙ stands.same
+    cut-cut outer.parent.text outer.start outer.end view.place (end_of view) sound.in_order stands.lawful.within ∙ stands.same

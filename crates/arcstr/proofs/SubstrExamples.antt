@@ -56,7 +56,7 @@ past_own_end : AnswersRange (text_of bar) (slice_within bar) (Between 0 5) (Err 
 past_own_end = record {
   value = search rules;
   same_text = search rules;
-  lawful = (search rules, λ lawful. absurd (omega (arith, lawful.fits.within)));
+  lawful = (search rules, λ lawful. absurd (omega (arith, lawful.within)));
   refused = past_own_end_alone;
 }
 

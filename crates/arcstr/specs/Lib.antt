@@ -12,7 +12,6 @@ pub mod JsonFault
 pub mod Json
 pub use Rattle.arcstr_range.specs.Ends
 pub use Rattle.arcstr_range.specs.RangeFault
-pub use Rattle.arcstr_range.specs.Substring
 pub use Rattle.arcstr_range.specs.Text
 pub use Rattle.arcstr_range.specs.Trim
 pub use Rattle.arcstr_range.specs.View

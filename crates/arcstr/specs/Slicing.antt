@@ -5,7 +5,7 @@ use Rattle.std.specs.declared.ops.Range.{Range}
 use Rattle.arcstr_range.specs.declared.range.StrRange.{StrRange}
 use Rattle.arcstr_range.specs.declared.range.StrRange.TheVariants.{Between}
 use Rattle.arcstr_range.specs.declared.range.fault.RangeFault.{RangeFault}
-use Rattle.arcstr_range.specs.Ends.{ends_in, cut_by, IsLawfulRange, IsSliceRange, IsFirstRangeFault}
+use Rattle.arcstr_range.specs.Ends.{ends_in, cut_by, IsLawfulRange, IsFirstRangeFault}
 use Rattle.arcstr_range.specs.Text.{SpellsBetween}
 use Rattle.arcstr_range.specs.View.{View, end_of}
 use Rattle.arcstr.specs.Substr.{SubstrView, empty_slice, text_of}
@@ -30,6 +30,6 @@ pub record IsSliceOfView (between : ℕ → ℕ → SubstrView) (view : View) (s
 
 -- the bytes that `get` returns for a range: those between its ends, exactly if Rust's `str` has a slice there
 pub record AnswersGet (text : List ℕ) (range : StrRange) (answer : Option (List ℕ)) : Type 0 where
-  pub some : IsSome answer ↔ IsSliceRange text range
+  pub some : IsSome answer ↔ IsLawfulRange text range
   pub value : IfSome answer (λ part. part ≡ cut_by text range)
   pub characters : IfSome answer (SpellsBetween text (ends_in text range).0 (ends_in text range).1)

@@ -1,7 +1,7 @@
 -- How contracts see a shared slice: its parent, and its byte range in the parent's text.
 use Rattle.std.specs.Prelude.{ℕ, ◌+◌, List, [], length}
-use Rattle.arcstr_range.specs.Substring.{Substring, substring_at, IsSound}
-use Rattle.arcstr_range.specs.Substring.{text_of as text_of_substring}
+use Rattle.arcstr_range.specs.Ends.{IsLawful}
+use Rattle.arcstr_range.specs.Text.{cut}
 use Rattle.arcstr.specs.TextView.{TextView, literal_of}
 
 -- a shared slice in a contract, with byte offsets in the parent's text
@@ -22,17 +22,13 @@ whole_of parent = slice_of parent 0 (length parent.text)
 abbrev pub empty_slice : SubstrView
 empty_slice = slice_of (literal_of []) 0 0
 
--- the slice as a substring of its parent's text
-abbrev pub substring_of : SubstrView → Substring
-substring_of slice = substring_at slice.parent.text slice.start slice.end
-
 -- the slice's own text
 abbrev pub text_of : SubstrView → List ℕ
-text_of slice = text_of_substring (substring_of slice)
+text_of slice = cut slice.parent.text slice.start slice.end
 
 -- its byte range is valid in its parent's text
 abbrev pub IsSoundSlice : SubstrView → Type 0
-IsSoundSlice slice = IsSound (substring_of slice)
+IsSoundSlice slice = IsLawful slice.parent.text slice.start slice.end
 
 -- the slice between two byte offsets of a slice's own text: of the same parent, at the sums of the offsets
 abbrev pub slice_within : SubstrView → ℕ → ℕ → SubstrView

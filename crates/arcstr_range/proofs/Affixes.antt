@@ -5,7 +5,7 @@ use Rattle.std.proofs.lemmas.List.{length-drop, take_all}
 use Rattle.std.proofs.lemmas.Slice.{between_is}
 use Rattle.std.proofs.lemmas.Str.{IsCharBoundary-end, IsCharBoundary-from_drop, IsCharBoundary-from_take, IsCharBoundary-start}
 use Rattle.arcstr_range.proofs.FoundParts.{found_part}
-use Rattle.arcstr_range.specs.Ends.{IsLawful, IsSliceable}
+use Rattle.arcstr_range.specs.Ends.{IsLawful}
 use Rattle.arcstr_range.specs.Text.{cut}
 use Rattle.arcstr_range.specs.View.{IsFoundAt}
 
@@ -14,7 +14,8 @@ pub lawful_prefix : (text prefix : List ℕ) → IsUtf8 text → IsUtf8 prefix �
     → IsLawful text 0 (length prefix)
 lawful_prefix text prefix utf8 own within is =
     record {
-      fits = record { in_order = omega arith; within = within };
+      in_order = omega arith;
+      within = within;
       at_boundaries = (IsCharBoundary-start text utf8, IsCharBoundary-from_take text (length prefix) utf8 within (subst IsUtf8 is own));
     }
 
@@ -25,17 +26,17 @@ pub found_prefix : (parent text prefix : List ℕ) (place : ℕ) → IsUtf8 text
     → IsFoundAt parent text place → IsFoundAt parent prefix place
 found_prefix parent text prefix place utf8 own within is found =
     let lawful = lawful_prefix text prefix utf8 own within is in
-    let sliced : IsSliceable text 0 (length prefix) = record { in_order = lawful.fits.in_order; within = lawful.fits.within; at_boundaries = lawful.at_boundaries } in
     let here : place + 0 ≡ place = omega arith in
     subst (λ n. IsFoundAt parent prefix n) here
-    (subst (λ bytes. IsFoundAt parent bytes (place + 0)) (cut_prefix text prefix is) (found_part parent text place 0 (length prefix) sliced found))
+    (subst (λ bytes. IsFoundAt parent bytes (place + 0)) (cut_prefix text prefix is) (found_part parent text place 0 (length prefix) lawful found))
 
 -- a suffix lies from the text's length less its own to the end
 pub lawful_suffix : (text suffix : List ℕ) → IsUtf8 text → IsUtf8 suffix → length suffix ≤ length text → suffix ≡ drop (length text - length suffix) text
     → IsLawful text (length text - length suffix) (length text)
 lawful_suffix text suffix utf8 own within is =
     record {
-      fits = record { in_order = omega arith; within = omega arith };
+      in_order = omega arith;
+      within = omega arith;
       at_boundaries = (IsCharBoundary-from_drop text (length text - length suffix) (omega arith) (subst IsUtf8 is own), IsCharBoundary-end text);
     }
 
@@ -49,23 +50,23 @@ pub found_suffix : (parent text suffix : List ℕ) (place : ℕ) → IsUtf8 text
     → suffix ≡ drop (length text - length suffix) text → IsFoundAt parent text place → IsFoundAt parent suffix (place + (length text - length suffix))
 found_suffix parent text suffix place utf8 own within is found =
     let lawful = lawful_suffix text suffix utf8 own within is in
-    let sliced : IsSliceable text (length text - length suffix) (length text) = record { in_order = lawful.fits.in_order; within = lawful.fits.within; at_boundaries = lawful.at_boundaries } in
     subst (λ bytes. IsFoundAt parent bytes (place + (length text - length suffix))) (cut_suffix text suffix within is)
-    (found_part parent text place (length text - length suffix) (length text) sliced found)
+    (found_part parent text place (length text - length suffix) (length text) lawful found)
 
 -- the rest of a text after the end of a prefix has a valid range
 pub lawful_rest : (text : List ℕ) (place : ℕ) → IsLawful text 0 place → IsLawful text place (length text)
 lawful_rest text place lawful =
     record {
-      fits = record { in_order = lawful.fits.within; within = omega arith };
+      in_order = lawful.within;
+      within = omega arith;
       at_boundaries = (lawful.at_boundaries.1, IsCharBoundary-end text);
     }
 
-pub cut_start : (text : List ℕ) (place : ℕ) → cut text 0 place ≡ take place text
-cut_start text place = between_is text 0 place
+pub cut_is_take : (text : List ℕ) (place : ℕ) → cut text 0 place ≡ take place text
+cut_is_take text place = between_is text 0 place
 
-pub cut_rest : (text : List ℕ) (place : ℕ) → cut text place (length text) ≡ drop place text
-cut_rest text place = take_all (length text - place) (drop place text) (omega (arith, length-drop place text))
+pub cut_is_drop : (text : List ℕ) (place : ℕ) → cut text place (length text) ≡ drop place text
+cut_is_drop text place = take_all (length text - place) (drop place text) (omega (arith, length-drop place text))
 
 -- the functions whose proofs use these rulesets name them
 pub ruleset found_prefixes = (found_prefix)
@@ -76,4 +77,4 @@ pub ruleset slices_of_prefixes = (lawful_prefix, cut_prefix)
 
 pub ruleset slices_of_suffixes = (lawful_suffix, cut_suffix)
 
-pub ruleset slices_of_rests = (lawful_rest, cut_start, cut_rest)
+pub ruleset slices_of_rests = (lawful_rest, cut_is_take, cut_is_drop)

@@ -23,11 +23,14 @@ IsPrefixLength-from_boundary text place utf8 boundary =
       measured = ap length (encodes-chars (take place text) prefix_utf8) ∙ length-take-le place text boundary.0;
     }
 
+-- a text is the UTF-8 of its characters before a split and of those behind it
+pub halves_join_to_text : (text prefix rest : List ℕ) → IsUtf8 text → chars text ≡ prefix ++ rest → text ≡ encode_utf8_all prefix ++ encode_utf8_all rest
+halves_join_to_text text prefix rest utf8 split = sym (encodes-chars text utf8) ∙ ap encode_utf8_all split ∙ encodes-append prefix rest
+
 pub IsCharBoundary-from_prefix : (text : List ℕ) (place : ℕ) → IsUtf8 text → IsPrefixLength text place → IsCharBoundary text place
 IsCharBoundary-from_prefix text place utf8 at =
-    let whole : text ≡ encode_utf8_all at.prefix ++ encode_utf8_all at.rest = sym (encodes-chars text utf8) ∙ ap encode_utf8_all at.split ∙ encodes-append at.prefix at.rest in
     let rest_utf8 : IsUtf8 (encode_utf8_all at.rest) = (at.rest, (scalars-rest at.prefix at.rest (ap all_scalars (sym at.split) ∙ scalars-chars text utf8), refl)) in
-    subst (λ (n : ℕ). IsCharBoundary text n) at.measured (IsCharBoundary-at_seam text _ _ whole rest_utf8)
+    subst (λ (n : ℕ). IsCharBoundary text n) at.measured (IsCharBoundary-at_seam text _ _ (halves_join_to_text text at.prefix at.rest utf8 at.split) rest_utf8)
 
 -- a prefix of a text is a shorter prefix and the part between
 take-cut : (text : List ℕ) (start end : ℕ) → start ≤ end → take end text ≡ take start text ++ cut text start end

@@ -5,10 +5,10 @@ use Rattle.std.specs.Str.{IsUtf8, IsCharBoundary, chars, trim_end, trim_start}
 use Rattle.std.proofs.lemmas.Bool.{cases_lt}
 use Rattle.std.proofs.lemmas.List.{length-append, length-take-le, length-drop, get_or-take, get_or-drop, drop_at, take_all, take_at}
 use Rattle.std.proofs.lemmas.Slice.{between_is}
-use Rattle.std.proofs.lemmas.Str.{IsCharBoundary-end, IsCharBoundary-start, IsUtf8-between, encodes-append, encodes-chars}
-use Rattle.arcstr_range.proofs.Boundaries.{IsCharBoundary-from_prefix, cut-cut}
+use Rattle.std.proofs.lemmas.Str.{IsCharBoundary-end, IsCharBoundary-start, IsUtf8-between}
+use Rattle.arcstr_range.proofs.Boundaries.{IsCharBoundary-from_prefix, cut-cut, halves_join_to_text}
 use Rattle.arcstr_range.proofs.Trims.{TrimsEnd-trim_end, TrimsStart-trim_start}
-use Rattle.arcstr_range.specs.Ends.{IsLawful, IsSliceable}
+use Rattle.arcstr_range.specs.Ends.{IsLawful}
 use Rattle.arcstr_range.specs.Text.{cut}
 use Rattle.arcstr_range.specs.Trim.{Trims, TrimsEnd, TrimsStart}
 use Rattle.arcstr_range.specs.View.{IsFoundAt, StandsAt, View, end_of, view_at}
@@ -38,7 +38,7 @@ boundary_of_part text start end place in_order at_end at =
 cut-nil : (start end : ℕ) → cut [] start end ≡ []
 cut-nil start end = grind arith
 
-stands_part : (parent text : List ℕ) (place start end : ℕ) → IsSliceable text start end → StandsAt parent text place
+stands_part : (parent text : List ℕ) (place start end : ℕ) → IsLawful text start end → StandsAt parent text place
     → StandsAt parent (cut text start end) (place + start)
 stands_part parent text place start end sliced at =
     let size = length-cut text start end sliced.in_order sliced.within in
@@ -47,7 +47,8 @@ stands_part parent text place start end sliced at =
     let ends : place + start + length (cut text start end) ≡ place + end = omega (arith, size, sliced.in_order) in
     record {
       lawful = record {
-        fits = record { in_order = omega arith; within = omega (arith, ends, sliced.within, at.lawful.fits.within) };
+        in_order = omega arith;
+        within = omega (arith, ends, sliced.within, at.lawful.within);
         at_boundaries = (boundary start sliced.at_boundaries.0, subst (λ n. IsCharBoundary parent n) (sym ends) (boundary end sliced.at_boundaries.1));
       };
       same =
@@ -57,7 +58,7 @@ stands_part parent text place start end sliced at =
     }
 
 -- a part of a view is found wherever the view is found
-pub found_part : (parent text : List ℕ) (place start end : ℕ) → IsSliceable text start end → IsFoundAt parent text place
+pub found_part : (parent text : List ℕ) (place start end : ℕ) → IsLawful text start end → IsFoundAt parent text place
     → IsFoundAt parent (cut text start end) (place + start)
 found_part parent text place start end sliced (inl empty) = inl (ap (λ bytes. cut bytes start end) empty ∙ cut-nil start end)
 found_part parent text place start end sliced (inr at) = inr (stands_part parent text place start end sliced at)
@@ -66,7 +67,7 @@ found_part parent text place start end sliced (inr at) = inr (stands_part parent
 record IsPart (old new : View) : Type 0 where
   pub start : ℕ
   pub end : ℕ
-  pub sliced : IsSliceable old.text start end
+  pub sliced : IsLawful old.text start end
   pub text : cut old.text start end ≡ new.text
   pub place : old.place + start ≡ new.place
 
@@ -80,10 +81,6 @@ stands_IsPart parent old new part at =
     subst (λ n. StandsAt parent new.text n) part.place
     (subst (λ bytes. StandsAt parent bytes (old.place + part.start)) part.text (stands_part parent old.text old.place part.start part.end part.sliced at))
 
--- the text of a list of characters, cut after a prefix, is the prefix and the rest
-joined : (text prefix rest : List ℕ) → IsUtf8 text → chars text ≡ prefix ++ rest → text ≡ encode_utf8_all prefix ++ encode_utf8_all rest
-joined text prefix rest utf8 split = sym (encodes-chars text utf8) ∙ ap encode_utf8_all split ∙ encodes-append prefix rest
-
 seam : (text prefix rest : List ℕ) → IsUtf8 text → chars text ≡ prefix ++ rest → IsCharBoundary text (length (encode_utf8_all prefix))
 seam text prefix rest utf8 split =
     IsCharBoundary-from_prefix text _ utf8 (record { prefix = prefix; rest = rest; split = split; measured = refl })
@@ -92,7 +89,7 @@ IsPart-trim_start : (old new : View) → IsUtf8 old.text → TrimsStart old new 
 IsPart-trim_start old new utf8 trims =
     let prefix = encode_utf8_all trims.prefix in
     let rest = encode_utf8_all trims.rest in
-    let whole = joined old.text trims.prefix trims.rest utf8 trims.removed.split in
+    let whole = halves_join_to_text old.text trims.prefix trims.rest utf8 trims.removed.split in
     let size : length old.text ≡ length prefix + length rest = ap length whole ∙ length-append prefix rest in
     let behind : drop (length prefix) old.text ≡ rest = ap (drop (length prefix)) whole ∙ drop_at prefix rest (length prefix) refl in
     record {
@@ -111,7 +108,7 @@ IsPart-trim_end : (old new : View) → IsUtf8 old.text → TrimsEnd old new → 
 IsPart-trim_end old new utf8 trims =
     let rest = encode_utf8_all trims.rest in
     let back = encode_utf8_all trims.back in
-    let whole = joined old.text trims.rest trims.back utf8 trims.removed.split in
+    let whole = halves_join_to_text old.text trims.rest trims.back utf8 trims.removed.split in
     record {
       start = 0;
       end = length rest;
@@ -129,7 +126,8 @@ stands_whole text utf8 =
     let ends : 0 + length text ≡ length text = omega arith in
     record {
       lawful = record {
-        fits = record { in_order = omega arith; within = omega arith };
+        in_order = omega arith;
+        within = omega arith;
         at_boundaries = (IsCharBoundary-start text utf8, subst (λ n. IsCharBoundary text n) (sym ends) (IsCharBoundary-end text));
       };
       same = ap (λ n. cut text 0 n) ends ∙ between_is text 0 (length text) ∙ take_all (length text) text (omega arith);

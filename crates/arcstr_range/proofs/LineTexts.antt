@@ -11,7 +11,7 @@ use Rattle.std.proofs.lemmas.List.Elements.{All-nil, All-cons, All-head, All-tai
 use Rattle.std.proofs.lemmas.List.Splits.{length-slice_split, slice_split-cons_no, slice_split-cons_yes}
 use Rattle.std.proofs.lemmas.Slice.{between_is}
 use Rattle.std.proofs.lemmas.Str.{IsCharBoundary-before_ascii, encode_ascii, encodes-chars}
-use Rattle.arcstr_range.specs.Ends.{IsSliceable}
+use Rattle.arcstr_range.specs.Ends.{IsLawful}
 use Rattle.arcstr_range.specs.Pieces.{AreFoundWith, lines_of, parts_between, texts_between}
 use Rattle.arcstr_range.specs.Text.{cut}
 use Rattle.arcstr_range.specs.View.{IsFoundAt, StandsAt, View, view_at}
@@ -105,7 +105,7 @@ starts_at_boundary parent text place at = (
       let same : get_or (cut parent place (place + length text)) 0 0 ≡ get_or text 0 0 = ap (λ (l : List ℕ). get_or l 0 0) at.same in
       let zero_more : get_or parent (place + 0) 0 ≡ get_or parent place 0 = ap (λ (n : ℕ). get_or parent n 0) (omega arith) in
       let first : 192 ≤ get_or parent place 0 =
-      at.lawful.at_boundaries.0.1 (omega (arith, at.lawful.fits.within)) (omega (arith, read, read_whole, same, zero_more, lead)) in
+      at.lawful.at_boundaries.0.1 (omega (arith, at.lawful.within)) (omega (arith, read, read_whole, same, zero_more, lead)) in
       omega (arith, read, read_whole, same, zero_more, first),
 )
 
@@ -113,7 +113,7 @@ found_prefix_of : (parent text : List ℕ) (place n : ℕ) → n < length text �
 found_prefix_of parent text place n below ascii (inl empty) = absurd (omega (arith, ap length empty))
 found_prefix_of parent text place n below ascii (inr at) =
     let boundary = IsCharBoundary-before_ascii text n below ascii in
-    let sliced : IsSliceable text 0 n = record { in_order = omega arith; within = omega arith; at_boundaries = (starts_at_boundary parent text place at, boundary) } in
+    let sliced : IsLawful text 0 n = record { in_order = omega arith; within = omega arith; at_boundaries = (starts_at_boundary parent text place at, boundary) } in
     subst (λ (l : List ℕ). IsFoundAt parent l place) (between_is text 0 n)
     (subst (λ (m : ℕ). IsFoundAt parent (cut text 0 n) m) (omega arith) (found_part parent text place 0 n sliced (inr at)))
 

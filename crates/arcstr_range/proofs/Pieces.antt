@@ -11,7 +11,7 @@ use Rattle.std.proofs.lemmas.Str.{chars-append, chars_past_char, chars_from_enco
 use Rattle.std.proofs.lemmas.List.{append-nil, drop_at, length-append, length-drop, length-take-le, take-append-drop, take_all, take_at}
 use Rattle.std.proofs.lemmas.Slice.{between_is}
 use Rattle.arcstr_range.specs.Pieces.{AreFoundWith, laid_out, parts_at, parts_between, separators_of, texts_between}
-use Rattle.arcstr_range.specs.Ends.{IsSliceable}
+use Rattle.arcstr_range.specs.Ends.{IsLawful}
 use Rattle.arcstr_range.specs.Text.{cut}
 use Rattle.arcstr_range.specs.View.{IsFoundAt, View, part_of, view_at}
 use Rattle.arcstr_range.proofs.Boundaries.{scalars-rest}
@@ -125,14 +125,14 @@ module _ (parent prefix rest : List ℕ) (place : ℕ) (whole_utf8 : IsUtf8 (pre
 
   prefix_is_found : IsFoundAt parent prefix place
   prefix_is_found =
-      let sliced : IsSliceable (prefix ++ rest) 0 (length prefix) = record { in_order = omega arith; within = at_seam.0; at_boundaries = (IsCharBoundary-start (prefix ++ rest) whole_utf8, at_seam) } in
+      let sliced : IsLawful (prefix ++ rest) 0 (length prefix) = record { in_order = omega arith; within = at_seam.0; at_boundaries = (IsCharBoundary-start (prefix ++ rest) whole_utf8, at_seam) } in
       subst (λ (l : List ℕ). IsFoundAt parent l place) (between_is (prefix ++ rest) 0 (length prefix) ∙ take_at prefix rest (length prefix) refl)
       (subst (λ (n : ℕ). IsFoundAt parent (cut (prefix ++ rest) 0 (length prefix)) n) (omega arith) (found_part parent (prefix ++ rest) place 0 (length prefix) sliced found))
 
   found_rest : IsFoundAt parent rest (place + length prefix)
   found_rest =
       let size = length-append prefix rest in
-      let sliced : IsSliceable (prefix ++ rest) (length prefix) (length (prefix ++ rest)) = record { in_order = at_seam.0; within = omega arith; at_boundaries = (at_seam, IsCharBoundary-end (prefix ++ rest)) } in
+      let sliced : IsLawful (prefix ++ rest) (length prefix) (length (prefix ++ rest)) = record { in_order = at_seam.0; within = omega arith; at_boundaries = (at_seam, IsCharBoundary-end (prefix ++ rest)) } in
       subst (λ (l : List ℕ). IsFoundAt parent l (place + length prefix))
       (ap (take (length (prefix ++ rest) - length prefix)) (drop_at prefix rest (length prefix) refl) ∙ take_all (length (prefix ++ rest) - length prefix) rest (omega (arith, size)))
       (found_part parent (prefix ++ rest) place (length prefix) (length (prefix ++ rest)) sliced found)
@@ -214,13 +214,13 @@ first_some c view None utf8 cases = tt
 first_some c view (Some place) utf8 cases = before_place c view place utf8 cases
 
 pub lawful_before : (c : ℕ) (text : List ℕ) (answer : Option ℕ) → IsUtf8 text
-    → MatchOption answer (FindsChar c text None) (MatchBeginsAt (FindsChar c) text) → IfSome answer (λ place. IsSliceable text 0 place)
+    → MatchOption answer (FindsChar c text None) (MatchBeginsAt (FindsChar c) text) → IfSome answer (λ place. IsLawful text 0 place)
 lawful_before c text None utf8 cases = tt
 lawful_before c text (Some place) utf8 cases =
     record { in_order = omega arith; within = cases.3.0; at_boundaries = (IsCharBoundary-start text utf8, cases.3) }
 
 pub lawful_behind : (c : ℕ) (text : List ℕ) (answer : Option ℕ)
-    → MatchOption answer (FindsChar c text None) (MatchBeginsAt (FindsChar c) text) → IfSome answer (λ place. IsSliceable text (place + len_utf8 c) (length text))
+    → MatchOption answer (FindsChar c text None) (MatchBeginsAt (FindsChar c) text) → IfSome answer (λ place. IsLawful text (place + len_utf8 c) (length text))
 lawful_behind c text None cases = tt
 lawful_behind c text (Some place) cases =
     let past = subst (IsCharBoundary text) cases.1.1.ends cases.4 in

@@ -1,8 +1,8 @@
 -- The trims of a view, from the trims of its text.
-use Rattle.std.proofs.Common.{◌≡◌, ◌+◌, ◌-◌, ◌++◌, length, sym, ap, ◌∙◌, arith, length-append}
+use Rattle.std.proofs.Common.{◌≡◌, ◌+◌, ◌-◌, length, ap, arith, length-append}
 use Rattle.std.specs.Prelude.{encode_utf8_all}
 use Rattle.std.specs.Str.{IsUtf8, chars, skip_leading_whitespace, drop_trailing_whitespace, trim_start, trim_end}
-use Rattle.std.proofs.lemmas.Str.{encodes-chars, encodes-append}
+use Rattle.arcstr_range.proofs.Boundaries.{halves_join_to_text}
 use Rattle.arcstr_range.proofs.WhiteSpace.{IsLongestWhitePrefix-skip, IsLongestWhiteBack-drop}
 use Rattle.arcstr_range.specs.Trim.{TrimsStart, TrimsEnd}
 use Rattle.arcstr_range.specs.View.{View}
@@ -14,8 +14,7 @@ unfolding trim_start
 TrimsStart-trim_start old new utf8 text place =
     let skipped = IsLongestWhitePrefix-skip (chars old.text) in
     let rest = skip_leading_whitespace (chars old.text) in
-    let whole : old.text ≡ encode_utf8_all skipped.0 ++ encode_utf8_all rest =
-    sym (encodes-chars old.text utf8) ∙ ap encode_utf8_all skipped.1.split ∙ encodes-append skipped.0 rest in
+    let whole = halves_join_to_text old.text skipped.0 rest utf8 skipped.1.split in
     record {
       prefix = skipped.0;
       rest = rest;

@@ -1,5 +1,5 @@
 -- The ends of a range, the rules for them, and the first fault of ends that break one.
-use Rattle.std.specs.Prelude.{ℕ, ◌+◌, ◌<◌, ◌≤◌, List, length, ⊤}
+use Rattle.std.specs.Prelude.{◌≡◌, ◌↔◌, ℕ, ◌+◌, ◌<◌, ◌≤◌, List, length, ⊤, Result, IsOk, IsErrOf, IfOk, IfErr}
 use Rattle.std.specs.Str.{IsCharBoundary}
 use Rattle.arcstr_range.specs.declared.range.StrRange.{StrRange}
 use Rattle.arcstr_range.specs.declared.range.StrRange.TheVariants.{Between, From, To, Full, Inclusive, ToInclusive}
@@ -34,18 +34,20 @@ pub record IsFirstFault (rule : RangeFault → Type 0) (fault : RangeFault) : Ty
   pub broken : ¬ (rule fault)
   pub kept_before : (earlier : RangeFault) → range_fault_number earlier < range_fault_number fault → rule earlier
 
+-- the result for a range: its ends, exactly if they are valid, and otherwise the first fault
+pub record AnswersEnds (ends : ℕ × ℕ) (valid : Type 0) (is_first : RangeFault → Type 0) (answer : Result (ℕ × ℕ) RangeFault) : Type 0 where
+  pub value : IfOk answer (λ given. given ≡ ends)
+  pub lawful : IsOk answer ↔ valid
+  pub fault : IfErr answer is_first
+  pub only_fault : (fault : RangeFault) → is_first fault → IsErrOf answer fault
+
 -- each rule of a length holds
 pub record FitsLength (len start end : ℕ) : Type 0 where
   pub in_order : length_rule len start end OutOfOrder
   pub within : length_rule len start end PastEnd
 
--- the ends are valid in this text: each of its rules holds
+-- the ends are valid in this text, as those of a slice of Rust's `str`: each rule of the text holds
 pub record IsLawful (text : List ℕ) (start end : ℕ) : Type 0 where
-  pub fits : FitsLength (length text) start end
-  pub at_boundaries : text_rule text start end OffBoundary
-
--- the ends are those of a slice of Rust's `str`: each rule of the text holds, as for valid ends
-pub record IsSliceable (text : List ℕ) (start end : ℕ) : Type 0 where
   pub in_order : text_rule text start end OutOfOrder
   pub within : text_rule text start end PastEnd
   pub at_boundaries : text_rule text start end OffBoundary
@@ -61,9 +63,6 @@ cut_by text range = let ends = ends_in text range in cut text ends.0 ends.1
 
 abbrev pub IsLawfulRange : List ℕ → StrRange → Type 0
 IsLawfulRange text range = let ends = ends_in text range in IsLawful text ends.0 ends.1
-
-abbrev pub IsSliceRange : List ℕ → StrRange → Type 0
-IsSliceRange text range = let ends = ends_in text range in IsSliceable text ends.0 ends.1
 
 abbrev pub IsFirstRangeFault : List ℕ → StrRange → RangeFault → Type 0
 IsFirstRangeFault text range = let ends = ends_in text range in IsFirstFault (text_rule text ends.0 ends.1)

@@ -1,7 +1,6 @@
 pub mod Ends
 pub mod Pieces
 pub mod RangeFault
-pub mod Substring
 pub mod Text
 pub mod Trim
 pub mod View

@@ -4,7 +4,7 @@ use Rattle.std.specs.Char.{is_newline, is_whitespace}
 use Rattle.std.specs.List.{filter, slice_split, zip}
 use Rattle.std.specs.Str.{chars}
 use Rattle.std.specs.Str.Lines.{lines}
-use Rattle.arcstr_range.specs.Ends.{IsSliceable}
+use Rattle.arcstr_range.specs.Ends.{IsLawful}
 use Rattle.arcstr_range.specs.View.{IsFoundAt, View, part_of, view_at}
 
 -- texts one after another from a place on, with a separator after each as long as there are separators
@@ -46,8 +46,8 @@ words_of view = filter has_text (parts_between is_whitespace view)
 -- the first word of the view lies between the two byte offsets of its text, and the other words lie after it
 pub record IsFirstWordAt (view : View) (start end : ℕ) : Type 0 where
   pub words : words_of view ≡ part_of view start end ∷ words_of (part_of view end (length view.text))
-  pub word : IsSliceable view.text start end
-  pub behind : IsSliceable view.text end (length view.text)
+  pub word : IsLawful view.text start end
+  pub behind : IsLawful view.text end (length view.text)
 
 -- each of the views is found wherever the whole view is found
 pub record AreFoundWith (whole : View) (views : List View) : Type 0 where

@@ -1,11 +1,10 @@
 //! Ranges of byte offsets in a text, and their tests. No call here allocates.
 //!
 //! Offsets and lengths are counted in bytes. An offset is a boundary if `str::is_char_boundary` says so.
-ghost use Rattle.std.specs.Prelude.{◌≡◌, ◌≢◌, ◌↔◌, IsOk, IsErrOf, ◌<◌, nat_le, ◌&&◌, if◌then◌else◌, IfOk, IfErr, MatchOption};
+ghost use Rattle.std.specs.Prelude.{◌≡◌, ◌≢◌, ◌<◌, nat_le, ◌&&◌, if◌then◌else◌, MatchOption};
 ghost use Rattle.std.specs.Range.{range_inclusive_start, range_inclusive_end, range_inclusive_exhausted};
 ghost use Rattle.arcstr_range.specs.declared.range.StrRange.TheVariants.{Between, From as FromStart, To, Full, Inclusive, ToInclusive};
-ghost use Rattle.arcstr_range.specs.declared.range.fault.RangeFault.{RangeFault};
-ghost use Rattle.arcstr_range.specs.Ends.{ends_of, length_rule, FitsLength, IsFirstFault};
+ghost use Rattle.arcstr_range.specs.Ends.{AnswersEnds, ends_of, length_rule, FitsLength, IsFirstFault};
 
 mod fault;
 mod places;
@@ -53,12 +52,8 @@ impl StrRange {
     /// ```
     #[tactic(auto, using(crate::proofs::Faults::refused_with))]
     pub fn ends(self, len: usize) -> Result<(usize, usize), RangeFault>
-        ensures value { IfOk result (λ ends. ends ≡ ends_of self len) }
-        ensures fits { let ends = ends_of self len in IsOk result ↔ FitsLength len ends.0 ends.1 }
-        ensures fault { let ends = ends_of self len in
-            IfErr result (IsFirstFault (length_rule len ends.0 ends.1)) }
-        ensures only_fault { let ends = ends_of self len in
-            (fault : RangeFault) → IsFirstFault (length_rule len ends.0 ends.1) fault → IsErrOf result fault }
+        ensures answer { let ends = ends_of self len in
+            AnswersEnds ends (FitsLength len ends.0 ends.1) (IsFirstFault (length_rule len ends.0 ends.1)) result }
         ensures no_characters { result ≢ Err RangeFault.OffBoundary }
     {
         let Some((start, end)) = self.usize_ends(len) else {

@@ -1,7 +1,7 @@
 //! Views of a text that remember their place in a parent.
 ghost use Rattle.std.specs.Prelude.{◌≡◌, ℕ, List, ◌↔◌, ◌+◌, ◌≤◌, length, IsTrue, IsSome, IfSome};
 ghost use Rattle.std.specs.Str.{trim, trim_end, trim_start};
-ghost use Rattle.arcstr_range.specs.Ends.{IsSliceable};
+ghost use Rattle.arcstr_range.specs.Ends.{IsLawful};
 ghost use Rattle.arcstr_range.specs.Trim.{Trims, TrimsEnd, TrimsStart};
 ghost use Rattle.arcstr_range.specs.View.{IsFoundAt, end_of, part_of, view_at};
 
@@ -124,7 +124,7 @@ impl<'a> StrView<'a> {
     /// ```
     #[tactic(auto, using(crate::proofs::FoundParts::parts_are_found))]
     pub fn cut(&self, range: Range<usize>) -> Option<StrView<'a>>
-        ensures some { IsSome result ↔ IsSliceable self.now.text range.start range.end }
+        ensures some { IsSome result ↔ IsLawful self.now.text range.start range.end }
         ensures value { IfSome result (λ part. part ≡ part_of self.now range.start range.end) }
         ensures found { (parent : List ℕ) → IsFoundAt parent self.now.text self.now.place
             → IfSome result (λ part. IsFoundAt parent part.text part.place) }

@@ -122,6 +122,7 @@ AreTokens-before text place slices before none =
 pub IsLawful-word : (text : List ℕ) (start end : ℕ) → IsWord text start end → IsLawful text start end
 IsLawful-word text start end word =
     record {
-      fits = record { in_order = omega (arith, word.in_order); within = word.at_end.0 };
+      in_order = omega (arith, word.in_order);
+      within = word.at_end.0;
       at_boundaries = (word.at_start, word.at_end);
     }

@@ -3,19 +3,13 @@ use Rattle.std.proofs.Common.{◌≡◌, ◌⊎◌, inl, inr, ℕ, ◌<◌, ◌�
 use Rattle.std.specs.Str.{IsUtf8, IsCharBoundary}
 use Rattle.std.proofs.lemmas.Bool.{cases_lt, cases_order}
 use Rattle.arctokens.specs.Words.{IsWhiteBefore, IsWhiteAfter, IsWord}
-use Rattle.arctokens.specs.Runs.{IsFirstAfter, IsLastBefore, AreAlike, IsRun, IsBetweenWords, IsFirstWord, HasNoWord}
+use Rattle.arctokens.specs.Runs.{AreAlike, IsRun, IsBetweenWords, IsFirstWord, HasNoWord}
 use Rattle.arctokens.proofs.OneKind.{kind_after, kind_before, one_after, one_before}
 
 -- the characters of a word are of one kind
 word_alike : (text : List ℕ) (start end : ℕ) → IsWord text start end → AreAlike text start end false
 word_alike text start end word =
     record { in_order = omega (arith, word.in_order); at_end = word.at_end; kinds = word.not_white }
-
-white_after : (text : List ℕ) (place : ℕ) → IsWhiteAfter text place → IsFirstAfter text place true
-white_after text place h = record { character = h.character; rest = h.rest; split = h.split; kind = h.white }
-
-white_before : (text : List ℕ) (place : ℕ) → IsWhiteBefore text place → IsLastBefore text place true
-white_before text place h = record { prefix = h.prefix; character = h.character; split = h.split; kind = h.white }
 
 -- no word starts in white space
 starts_past_white : (text : List ℕ) (from start a b : ℕ) → IsUtf8 text → IsCharBoundary text from → AreAlike text from start true
@@ -28,20 +22,20 @@ starts_past_white text from start a b utf8 at_from white word low high =
 pub none_inside : (text : List ℕ) (start end a b : ℕ) → IsUtf8 text → IsWord text start end → IsWord text a b → start < a → a < end → ⊥
 none_inside text start end a b utf8 word inner low high = of_case inner.white_before
   where
-    of_case : (a ≡ 0) ⊎ IsWhiteBefore text a → ⊥
+    of_case : (a ≡ 0) ⊎ IsWhiteBefore text a true → ⊥
     of_case (inl first) = omega (arith, low, first)
     of_case (inr white) =
-        one_before text a (white_before text a white)
+        one_before text a white
         (kind_before text start a end false utf8 word.at_start inner.at_start low (omega (arith, high)) (word_alike text start end word))
 
 -- no word ends inside another word with the same start
 none_shorter : (text : List ℕ) (start end longer : ℕ) → IsUtf8 text → IsWord text start end → IsWord text start longer → end < longer → ⊥
 none_shorter text start end longer utf8 word other short = of_case word.white_after
   where
-    of_case : (end ≡ length text) ⊎ IsWhiteAfter text end → ⊥
+    of_case : (end ≡ length text) ⊎ IsWhiteAfter text end true → ⊥
     of_case (inl all) = omega (arith, short, all, other.at_end.0)
     of_case (inr white) =
-        one_after text end (white_after text end white)
+        one_after text end white
         (kind_after text start end longer false utf8 other.at_start word.at_end (omega (arith, word.in_order)) short (word_alike text start longer other))
 
 -- words with the same start are equal
@@ -54,36 +48,31 @@ one_end text start end other utf8 word again = of_case (cases_order end other)
     of_case (inr (inr long)) = absurd (none_shorter text start other end utf8 again word long)
 
 -- a run that starts at a character that is not white space, and contains no white space, is not empty
-grows : (text : List ℕ) (start end : ℕ) → start < length text → IsFirstAfter text start false → IsRun text start end false → start < end
+grows : (text : List ℕ) (start end : ℕ) → start < length text → IsWhiteAfter text start false → IsRun text start end false → start < end
 grows text start end inside black run = of_case (cases_lt start end) run.longest
   where
-    of_case : (start < end) ⊎ (end ≤ start) → (end ≡ length text) ⊎ IsFirstAfter text end true → start < end
+    of_case : (start < end) ⊎ (end ≤ start) → (end ≡ length text) ⊎ IsWhiteAfter text end true → start < end
     of_case (inl more) next = more
     of_case (inr none) (inl all) = absurd (omega arith)
     of_case (inr none) (inr white) =
         let same : end ≡ start = omega (arith, run.alike.in_order) in
-        absurd (one_after text start (subst (λ n. IsFirstAfter text n true) same white) black)
+        absurd (one_after text start (subst (λ n. IsWhiteAfter text n true) same white) black)
 
 -- a run of white space that starts between words has white space, or nothing, before the character after it
 opens : (text : List ℕ) (from start : ℕ) → IsUtf8 text → IsCharBoundary text from → IsBetweenWords text from → start < length text
-    → AreAlike text from start true → IsFirstAfter text start false → (start ≡ 0) ⊎ IsWhiteBefore text start
+    → AreAlike text from start true → IsWhiteAfter text start false → (start ≡ 0) ⊎ IsWhiteBefore text start true
 opens text from start utf8 at_from between inside white black = of_case (cases_lt from start) between
   where
-    of_case : (from < start) ⊎ (start ≤ from) → IsBetweenWords text from → (start ≡ 0) ⊎ IsWhiteBefore text start
+    of_case : (from < start) ⊎ (start ≤ from) → IsBetweenWords text from → (start ≡ 0) ⊎ IsWhiteBefore text start true
     of_case (inl more) where_from =
-        let last = kind_before text from start start true utf8 at_from white.at_end more (omega arith) white in
-        inr (record { prefix = last.prefix; character = last.character; split = last.split; white = last.kind })
+        inr (kind_before text from start start true utf8 at_from white.at_end more (omega arith) white)
     of_case (inr none) (inl first) = inl (omega (arith, white.in_order, first))
     of_case (inr none) (inr (inl all)) = absurd (omega (arith, white.in_order, all))
     of_case (inr none) (inr (inr next)) =
         let same : from ≡ start = omega (arith, white.in_order) in
-        absurd (one_after text start (subst (λ n. IsFirstAfter text n true) same (white_after text from next)) black)
+        absurd (one_after text start (subst (λ n. IsWhiteAfter text n true) same next) black)
 
-closes : (text : List ℕ) (end : ℕ) → (end ≡ length text) ⊎ IsFirstAfter text end true → (end ≡ length text) ⊎ IsWhiteAfter text end
-closes text end (inl all) = inl all
-closes text end (inr next) = inr (record { character = next.character; rest = next.rest; split = next.split; white = next.kind })
-
-black_after : (text : List ℕ) (place : ℕ) → place < length text → (place ≡ length text) ⊎ IsFirstAfter text place false → IsFirstAfter text place false
+black_after : (text : List ℕ) (place : ℕ) → place < length text → (place ≡ length text) ⊎ IsWhiteAfter text place false → IsWhiteAfter text place false
 black_after text place inside (inl all) = absurd (omega arith)
 black_after text place inside (inr next) = next
 
@@ -108,7 +97,7 @@ IsFirstWord-runs text from start end utf8 at_from between inside white run =
         at_end = run.alike.at_end;
         not_white = run.alike.kinds;
         white_before = opens text from start utf8 at_from between inside white.alike black;
-        white_after = closes text end run.longest;
+        white_after = run.longest;
       };
       not_before = white.alike.in_order;
       first = λ a b word low. starts_later text from start a b utf8 at_from white.alike word low;

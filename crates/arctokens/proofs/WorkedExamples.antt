@@ -26,8 +26,8 @@ accented_word =
       at_start = search rules;
       at_end = search rules;
       not_white = All-cons IsBlack 97 (233 ∷ []) refl (All-cons IsBlack 233 [] refl (All-nil IsBlack));
-      white_before = inr (record { prefix = []; character = 32; split = refl; white = refl });
-      white_after = inr (record { character = 32; rest = 32 ∷ 98 ∷ 32 ∷ []; split = refl; white = refl });
+      white_before = inr (record { prefix = []; character = 32; split = refl; kind = refl });
+      white_after = inr (record { character = 32; rest = 32 ∷ 98 ∷ 32 ∷ []; split = refl; kind = refl });
     }
 
 -- a part of it is not a word, since the next character is not white space
@@ -35,11 +35,11 @@ short_word : IsWord accented 1 2 → ⊥
 unfolding chars
 short_word word = of_case word.white_after
   where
-    of_case : (2 ≡ length accented) ⊎ IsWhiteAfter accented 2 → ⊥
+    of_case : (2 ≡ length accented) ⊎ IsWhiteAfter accented 2 true → ⊥
     of_case (inl all) = omega (arith, all)
     of_case (inr next) =
         let character : next.character ≡ 233 = cc (next.split) in
-        let white : false ≡ true = sym (ap is_whitespace character) ∙ next.white in
+        let white : false ≡ true = sym (ap is_whitespace character) ∙ next.kind in
         cc
 
 -- the first word, and the last one, which follows white space of two bytes
@@ -52,7 +52,7 @@ first_word =
       at_end = search rules;
       not_white = All-cons IsBlack 97 [] refl (All-nil IsBlack);
       white_before = inl refl;
-      white_after = inr (record { character = 160; rest = 98 ∷ []; split = refl; white = refl });
+      white_after = inr (record { character = 160; rest = 98 ∷ []; split = refl; kind = refl });
     }
 
 last_word : IsWord wide_space 3 4
@@ -63,7 +63,7 @@ last_word =
       at_start = search rules;
       at_end = search rules;
       not_white = All-cons IsBlack 98 [] refl (All-nil IsBlack);
-      white_before = inr (record { prefix = 97 ∷ []; character = 160; split = refl; white = refl });
+      white_before = inr (record { prefix = 97 ∷ []; character = 160; split = refl; kind = refl });
       white_after = inl refl;
     }
 

@@ -1,5 +1,5 @@
 -- Runs of a text: characters that are all white space, or of which none is white space.
-use Rattle.std.specs.Prelude.{◌≡◌, ◌⊎◌, ℕ, ◌<◌, ◌≤◌, List, [], ◌∷◌, ◌++◌, length, Bool, not, ◌&&◌, nat_lt, IsTrue, All}
+use Rattle.std.specs.Prelude.{◌≡◌, ◌⊎◌, ℕ, ◌<◌, ◌≤◌, List, [], ◌∷◌, length, Bool, true, not, ◌&&◌, nat_lt, IsTrue, All}
 use Rattle.std.specs.Char.{is_whitespace}
 use Rattle.std.specs.Str.{IsCharBoundary, chars}
 use Rattle.arcstr_range.specs.Text.{cut}
@@ -20,20 +20,6 @@ is_visible byte = nat_lt 32 byte && nat_lt byte 128
 abbrev pub IsVisible : ℕ → Type 0
 IsVisible byte = IsTrue (is_visible byte)
 
--- the first character after `place` is white space exactly if `white` is true
-pub record IsFirstAfter (text : List ℕ) (place : ℕ) (white : Bool) : Type 0 where
-  pub character : ℕ
-  pub rest : List ℕ
-  pub split : chars (cut text place (length text)) ≡ character ∷ rest
-  pub kind : is_whitespace character ≡ white
-
--- the last character before `place` is white space exactly if `white` is true
-pub record IsLastBefore (text : List ℕ) (place : ℕ) (white : Bool) : Type 0 where
-  pub prefix : List ℕ
-  pub character : ℕ
-  pub split : chars (cut text 0 place) ≡ prefix ++ character ∷ []
-  pub kind : is_whitespace character ≡ white
-
 -- the characters are all white space, or none is
 abbrev pub AreOfKind : Bool → List ℕ → Type 0
 AreOfKind white characters = All (λ character. is_whitespace character ≡ white) characters
@@ -47,11 +33,11 @@ pub record AreAlike (text : List ℕ) (start end : ℕ) (white : Bool) : Type 0 
 -- the characters are of one kind, and the next one, if any, is of the other kind
 pub record IsRun (text : List ℕ) (start end : ℕ) (white : Bool) : Type 0 where
   pub alike : AreAlike text start end white
-  pub longest : (end ≡ length text) ⊎ IsFirstAfter text end (not white)
+  pub longest : (end ≡ length text) ⊎ IsWhiteAfter text end (not white)
 
 -- no word lies across `place`: it is the start or the end of the text, or white space follows it
 abbrev pub IsBetweenWords : List ℕ → ℕ → Type 0
-IsBetweenWords text place = (place ≡ 0) ⊎ ((place ≡ length text) ⊎ IsWhiteAfter text place)
+IsBetweenWords text place = (place ≡ 0) ⊎ ((place ≡ length text) ⊎ IsWhiteAfter text place true)
 
 -- the byte offsets are those of the first word that starts at or after `from`
 pub record IsFirstWord (text : List ℕ) (from start end : ℕ) : Type 0 where

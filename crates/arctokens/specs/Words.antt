@@ -1,23 +1,23 @@
 -- The words of a text: its longest runs of characters that are not white space. A text is the list of its bytes, and a place in it is a byte offset. White
 -- space is that of Rust's `char::is_whitespace`.
-use Rattle.std.specs.Prelude.{◌≡◌, ◌⊎◌, ℕ, ◌<◌, List, [], ◌∷◌, ◌++◌, length, IsTrue, IsFalse, All, AllPairs, Contains}
+use Rattle.std.specs.Prelude.{◌≡◌, ◌⊎◌, ℕ, ◌<◌, List, [], ◌∷◌, ◌++◌, length, Bool, true, IsFalse, All, AllPairs, Contains}
 use Rattle.std.specs.Char.{is_whitespace}
 use Rattle.std.specs.Str.{IsCharBoundary, chars}
 use Rattle.arcstr_range.specs.Text.{cut}
 
--- the last character before `place` is white space
-pub record IsWhiteBefore (text : List ℕ) (place : ℕ) : Type 0 where
+-- a character lies before `place`, and the last one is white space exactly if `white` is true
+pub record IsWhiteBefore (text : List ℕ) (place : ℕ) (white : Bool) : Type 0 where
   pub prefix : List ℕ
   pub character : ℕ
   pub split : chars (cut text 0 place) ≡ prefix ++ character ∷ []
-  pub white : IsTrue (is_whitespace character)
+  pub kind : is_whitespace character ≡ white
 
--- the first character after `place` is white space
-pub record IsWhiteAfter (text : List ℕ) (place : ℕ) : Type 0 where
+-- a character lies after `place`, and the first one is white space exactly if `white` is true
+pub record IsWhiteAfter (text : List ℕ) (place : ℕ) (white : Bool) : Type 0 where
   pub character : ℕ
   pub rest : List ℕ
   pub split : chars (cut text place (length text)) ≡ character ∷ rest
-  pub white : IsTrue (is_whitespace character)
+  pub kind : is_whitespace character ≡ white
 
 -- a word lies between the two byte offsets: they are boundaries in order, no character between them is white space, and on each side there is white space or
 -- no more text
@@ -26,8 +26,8 @@ pub record IsWord (text : List ℕ) (start end : ℕ) : Type 0 where
   pub at_start : IsCharBoundary text start
   pub at_end : IsCharBoundary text end
   pub not_white : All (λ character. IsFalse (is_whitespace character)) (chars (cut text start end))
-  pub white_before : (start ≡ 0) ⊎ IsWhiteBefore text start
-  pub white_after : (end ≡ length text) ⊎ IsWhiteAfter text end
+  pub white_before : (start ≡ 0) ⊎ IsWhiteBefore text start true
+  pub white_after : (end ≡ length text) ⊎ IsWhiteAfter text end true
 
 -- one pair of byte offsets starts before another
 abbrev pub StartsBefore : ℕ × ℕ → ℕ × ℕ → Type 0

@@ -99,7 +99,7 @@ pub(crate) fn pieces_of_all<R: Threads + Wait + Sync, G: Gate + Sync>(
                 }
             }
             let shares = shares_of_all(rt, alloc, texts, workers, gate, threads, shares);
-            joined(rt, texts, workers, shares, pieces)
+            pieces_of_shares(rt, texts, workers, shares, pieces)
         },
     )
 }
@@ -186,8 +186,8 @@ fn tokens_of_one<R: Wait>(
     tokens(rt, alloc, &texts[number])
 }
 
-/// Joins every thread first, and then returns an error if an allocation of any worker failed.
-fn joined<'a, R: Threads>(
+/// Returns the pieces of all shares. Joins every thread first, and then returns an error if an allocation of any worker failed.
+fn pieces_of_shares<'a, R: Threads>(
     rt: &R,
     texts: &[ArcStr],
     workers: usize,

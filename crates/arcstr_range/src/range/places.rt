@@ -1,10 +1,8 @@
 //! Ranges and byte offsets in a text.
-ghost use Rattle.std.specs.Prelude.{◌≡◌, ◌+◌, ◌↔◌, OnOk, length, IsTrue, IsOk, IsErrOf, IfOk, IfErr, IsSome, IfSome};
+ghost use Rattle.std.specs.Prelude.{◌≡◌, ◌+◌, ◌↔◌, IsTrue, IfOk, IsSome, IfSome};
 ghost use Rattle.std.specs.Str.{IsCharBoundary};
-ghost use Rattle.arcstr_range.specs.Text.{IsPrefixLength, SpellsBetween};
-ghost use Rattle.arcstr_range.specs.declared.range.fault.RangeFault.{RangeFault};
-ghost use Rattle.arcstr_range.specs.Ends.{ends_in, cut_by, IsLawfulRange, IsSliceRange, IsFirstRangeFault};
-ghost use Rattle.arcstr_range.specs.Substring.{substring_at, text_of, inner_by, IsSound};
+ghost use Rattle.arcstr_range.specs.Text.{IsPrefixLength, SpellsBetween, cut};
+ghost use Rattle.arcstr_range.specs.Ends.{AnswersEnds, ends_in, cut_by, IsLawful, IsLawfulRange, IsFirstRangeFault};
 
 use crate::range::{RangeFault, StrRange};
 use std::ops::Range;
@@ -34,10 +32,7 @@ pub fn is_boundary(text: &str, place: usize) -> bool
 /// assert_eq!(rt; cut, Err(RangeFault::OffBoundary));
 /// ```
 pub fn checked_ends(text: &str, range: StrRange) -> Result<(usize, usize), RangeFault>
-    ensures value { IfOk result (λ ends. ends ≡ ends_in text.now range) }
-    ensures lawful { IsOk result ↔ IsLawfulRange text.now range }
-    ensures fault { IfErr result (IsFirstRangeFault text.now range) }
-    ensures only_fault { (fault : RangeFault) → IsFirstRangeFault text.now range fault → IsErrOf result fault }
+    ensures { AnswersEnds (ends_in text.now range) (IsLawfulRange text.now range) (IsFirstRangeFault text.now range) result }
 {
     let (start, end) = range.ends(text.len())?;
     if !text.is_char_boundary(start) || !text.is_char_boundary(end) {
@@ -64,24 +59,19 @@ pub fn inner_ends(
     outer: Range<usize>,
     range: StrRange,
 ) -> Result<(usize, usize), RangeFault>
-    requires { IsSound (substring_at parent.now outer.start outer.end) }
-    ensures value { let inner = inner_by (substring_at parent.now outer.start outer.end) range in
-        IfOk result (λ ends. ends ≡ (inner.start, inner.end)) }
-    ensures sound { let inner = inner_by (substring_at parent.now outer.start outer.end) range in
-        OnOk result (IsSound inner) }
-    ensures same_text { let substring = substring_at parent.now outer.start outer.end in
-        OnOk result (text_of (inner_by substring range) ≡ cut_by (text_of substring) range) }
-
-    ensures lawful { let own = text_of (substring_at parent.now outer.start outer.end) in
-        IsOk result ↔ IsLawfulRange own range }
-    ensures fault { let own = text_of (substring_at parent.now outer.start outer.end) in
-        IfErr result (IsFirstRangeFault own range) }
-    ensures only_fault { let own = text_of (substring_at parent.now outer.start outer.end) in
-        (fault : RangeFault) → IsFirstRangeFault own range fault → IsErrOf result fault }
+    requires { IsLawful parent.now outer.start outer.end }
+    ensures answer { let own = cut parent.now outer.start outer.end in
+        let ends = ends_in own range in
+        AnswersEnds (outer.start + ends.0, outer.start + ends.1) (IsLawfulRange own range) (IsFirstRangeFault own range) result }
+    ensures sound { IfOk result (λ ends. IsLawful parent.now ends.0 ends.1) }
+    ensures same_text { let own = cut parent.now outer.start outer.end in
+        IfOk result (λ ends. cut parent.now ends.0 ends.1 ≡ cut_by own range) }
 {
     let own = &parent[outer.start..outer.end];
-    let (start, end) = checked_ends(own, range)?;
-    Ok((outer.start + start, outer.start + end))
+    match checked_ends(own, range) {
+        Ok((start, end)) => Ok((outer.start + start, outer.start + end)),
+        Err(fault) => Err(fault),
+    }
 }
 
 /// Returns the slice of the text between the ends of the range, as `str::get` does. Returns `None` exactly if the ends are out of order, past the text or
@@ -93,7 +83,7 @@ pub fn inner_ends(
 /// ```
 #[tactic(auto, using(crate::proofs::Boundaries::slices_by_characters))]
 pub fn slice(text: &str, range: StrRange) -> Option<&str>
-    ensures some { IsSome result ↔ IsSliceRange text.now range }
+    ensures some { IsSome result ↔ IsLawfulRange text.now range }
     ensures value { IfSome result (λ part. part.now ≡ cut_by text.now range) }
     ensures characters { let ends = ends_in text.now range in
         IfSome result (λ part. SpellsBetween text.now ends.0 ends.1 part.now) }

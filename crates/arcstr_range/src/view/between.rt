@@ -1,6 +1,6 @@
 //! A copy of a view, and its part between two byte offsets that are known to be valid.
 ghost use Rattle.std.specs.Prelude.{◌≡◌};
-ghost use Rattle.arcstr_range.specs.Ends.{IsSliceable};
+ghost use Rattle.arcstr_range.specs.Ends.{IsLawful};
 ghost use Rattle.arcstr_range.specs.View.{part_of};
 
 use crate::view::StrView;
@@ -18,7 +18,7 @@ impl<'a> StrView<'a> {
 
     /// Returns the part between two byte offsets of the view's own text, without a test.
     pub(super) fn between(&self, start: usize, end: usize) -> StrView<'a>
-        requires { IsSliceable self.now.text start end }
+        requires { IsLawful self.now.text start end }
         ensures { result ≡ part_of self.now start end }
     {
         StrView {

@@ -2,7 +2,7 @@
 ghost use Rattle.std.specs.Prelude.{◌≡◌, ◌+◌, ◌<◌, ◌≤◌, [], ◌∷◌, length, map, IfNone, IfSome};
 ghost use Rattle.std.specs.Iterator.{YieldsFirst, item_count};
 ghost use Rattle.std.specs.Str.Lines.{lines, strip_carriage_return};
-ghost use Rattle.arcstr_range.specs.Ends.{IsSliceable};
+ghost use Rattle.arcstr_range.specs.Ends.{IsLawful};
 ghost use Rattle.arcstr_range.specs.Pieces.{AreFoundWith, lines_of};
 ghost use Rattle.arcstr_range.specs.Text.{cut};
 ghost use Rattle.arcstr_range.specs.View.{part_of, view_at};
@@ -72,7 +72,7 @@ impl<'a> Iterator for Lines<'a> {
         if self.rest.text().is_empty() {
             return None;
         }
-        let (line, rest) = first_line(&self.rest);
+        let (line, rest) = split_first_line(&self.rest);
         self.rest = rest;
         Some(line)
     }
@@ -80,7 +80,7 @@ impl<'a> Iterator for Lines<'a> {
 
 /// Returns the first line, and the view after its newline.
 #[tactic(auto, using(crate::proofs::LinePlaces::empty_views))]
-fn first_line<'a>(view: &StrView<'a>) -> (StrView<'a>, StrView<'a>)
+fn split_first_line<'a>(view: &StrView<'a>) -> (StrView<'a>, StrView<'a>)
     requires { 0 < length view.now.text }
     ensures { lines_of view.now ≡ result.0 ∷ lines_of result.1 }
 {
@@ -102,8 +102,8 @@ fn first_newline(view: &StrView<'_>) -> Option<usize>
     ensures none { IfNone result (0 < length view.now.text → lines_of view.now ≡ view.now ∷ []) }
     ensures some { IfSome result (λ place. lines_of view.now ≡ view_at (strip_carriage_return (cut view.now.text 0 place)) view.now.place
         ∷ lines_of (part_of view.now (place + 1) (length view.now.text))) }
-    ensures before { IfSome result (λ place. IsSliceable view.now.text 0 place) }
-    ensures behind { IfSome result (λ place. IsSliceable view.now.text (place + 1) (length view.now.text)) }
+    ensures before { IfSome result (λ place. IsLawful view.now.text 0 place) }
+    ensures behind { IfSome result (λ place. IsLawful view.now.text (place + 1) (length view.now.text)) }
 {
     view.text().find('\n')
 }

@@ -3,7 +3,7 @@ ghost use Rattle.std.specs.Prelude.{◌≡◌, ◌+◌, ◌==◌, List, [], ◌�
 ghost use Rattle.std.specs.Iterator.{YieldsFirst, item_count};
 ghost use Rattle.std.specs.Char.{len_utf8};
 ghost use Rattle.std.specs.Option.{option_map_or};
-ghost use Rattle.arcstr_range.specs.Ends.{IsSliceable};
+ghost use Rattle.arcstr_range.specs.Ends.{IsLawful};
 ghost use Rattle.arcstr_range.specs.Pieces.{AreFoundWith, parts_at, texts_between};
 ghost use Rattle.arcstr_range.specs.View.{part_of};
 
@@ -95,8 +95,8 @@ fn first_place(view: &StrView<'_>, separator: char) -> Option<usize>
     ensures none { IfNone result (parts_at separator view.now ≡ view.now ∷ []) }
     ensures some { IfSome result (λ place. parts_at separator view.now ≡ part_of view.now 0 place
         ∷ parts_at separator (part_of view.now (place + len_utf8 separator) (length view.now.text))) }
-    ensures before { IfSome result (λ place. IsSliceable view.now.text 0 place) }
-    ensures behind { IfSome result (λ place. IsSliceable view.now.text (place + len_utf8 separator) (length view.now.text)) }
+    ensures before { IfSome result (λ place. IsLawful view.now.text 0 place) }
+    ensures behind { IfSome result (λ place. IsLawful view.now.text (place + len_utf8 separator) (length view.now.text)) }
 {
     view.text().find(separator)
 }

@@ -6,7 +6,7 @@ use Rattle.arctokens.specs.Pieces.{ArePiecesOfFirst}
 use Rattle.arctokens.specs.Shares.{IsShare}
 use Rattle.arctokens.specs.declared.workers.Share.{Share}
 use Rattle.arctokens.proofs.PieceSteps.{ArePiecesOfFirst-more}
-use Rattle.arctokens.proofs.workers.joined.Goals as goal
+use Rattle.arctokens.proofs.workers.pieces_of_shares.Goals as goal
 
 -- the share and its piece belong to the next worker
 pub loop-share-preserved-in-Ok : goal.loop-share-preserved-in-Ok

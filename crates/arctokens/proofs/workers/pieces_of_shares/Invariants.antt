@@ -1,7 +1,7 @@
 -- So far, there is a piece for each share, or an allocation of some share failed; and there is capacity for the rest.
 use Rattle.std.proofs.Common.{◌≡◌, ◌≤◌, length, vec_len, vec_capacity}
 use Rattle.arctokens.specs.Pieces.{ArePiecesOfFirst}
-use Rattle.arctokens.proofs.workers.joined.Given as goal
+use Rattle.arctokens.proofs.workers.pieces_of_shares.Given as goal
 
 abbrev pub invariant-loop-share : goal.invariant-loop-share
 invariant-loop-share g l =
