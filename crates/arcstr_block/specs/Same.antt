@@ -7,7 +7,7 @@ use Rattle.arcstr_count.specs.declared.steps.Reply.TheVariants.{Ended, Looked as
 use Rattle.arcstr_count.specs.Word.{looked_of}
 use Rattle.arcstr_count.specs.OneBlock.{EndsIn, look_reply}
 use Rattle.arcstr_block.specs.Word.{word_of, IsMarked, IsUnmarked, IsLast}
-use Rattle.arcstr_block.specs.Handle.{IsMarkedIn}
+use Rattle.arcstr_block.specs.Handle.{Handle, IsMarkedIn}
 use Rattle.arcstr_block.specs.declared.pointer.Pointer.{Pointer}
 
 -- the history ends in a look of handle h that found the word, and has marked its block if the word is marked; the load of a clone,
@@ -20,6 +20,10 @@ module _ {A : Type 0} where
   -- the two have one allocator, one content, one limit and one history
   abbrev pub IsSameBlock : Pointer A → Pointer A → Type 0
   IsSameBlock q p = (q.home ≡ p.home) × (q.text ≡ p.text) × (q.limit ≡ p.limit) × (q.block ≡ p.block)
+
+  -- what contracts see of a handle that has this pointer
+  abbrev pub handle_of : Pointer A → Handle
+  handle_of p = record { text = p.text; block = p.block; seat = p.seat; limit = p.limit }
 
   -- a clone made by p has its text and its block
   abbrev pub IsCloneOf : Pointer A → Pointer A → Type 0

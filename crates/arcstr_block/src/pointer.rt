@@ -5,14 +5,14 @@
 //! (`proofs/pointer/Pointer/NAME/Proof.antt`) moves them, so a body shows only the machine's step. Each step gets the
 //! word offset, `place`: how many bytes past the address the word lies. `make` begins the history with `Make`, and `back`
 //! ends it with `Back`; `IntoRaw` and `FromRaw` never occur in it.
-ghost use Rattle.std.specs.Prelude.{◌≡◌, ◌≢◌, ℕ, Bool, List, length, IsUtf8};
+ghost use Rattle.std.specs.Prelude.{◌≡◌, ℕ, Bool, List, length, IsUtf8};
 ghost use Rattle.std.specs.Coded.{coded_list};
 ghost use Rattle.arcstr_count.specs.declared.steps.Step.{Step};
 ghost use Rattle.arcstr_count.specs.contracts.steps.Step.{the_row as step_row};
 ghost use Rattle.arcstr_count.specs.Word.{bits_of, fresh_word};
 ghost use Rattle.arcstr_block.specs.Word.{IsLimit, IsWord, IsClone};
 ghost use Rattle.arcstr_block.specs.Rights.{Right, right_code, nothing, counted, fixed, dropping, owed};
-ghost use Rattle.arcstr_block.specs.Rights.{IsFree, HasSeat, MaySee, IsIdle, Looks, Finds, Loads, Gains, Begins, Leaves};
+ghost use Rattle.arcstr_block.specs.Rights.{IsFree, MaySee, IsIdle, Looks, Finds, Loads, Gains, Begins, Leaves};
 ghost use Rattle.arcstr_block.specs.Memory.{Fits, word_offset};
 ghost use Rattle.arcstr_block.specs.Ledger.{pointer_owns, pointer_shares};
 
@@ -245,38 +245,6 @@ impl<A: Allocator> Pointer<A> {
         Seen {
             marker: PhantomData,
         }
-    }
-
-    /// The law of two pointers that have seats: on one block they have two, and a block that is owed has no other. No atomic step.
-    pub(crate) fn apart(self, other: Pointer<A>) -> (Pointer<A>, Pointer<A>)
-        requires first { HasSeat self.right }
-        requires second { HasSeat other.right }
-        ensures first { result.0 ≡ self }
-        ensures second { result.1 ≡ other }
-        ensures apart { self.block ≡ other.block → self.seat ≢ other.seat }
-        ensures alone { self.right ≡ owed → self.block ≢ other.block }
-    {
-        (self, other)
-    }
-
-    /// The law that a block that is owed has no free handle: a free one is on another block. No atomic step.
-    pub(crate) fn alone(self, other: &Pointer<A>) -> Pointer<A>
-        requires owed { self.right ≡ owed }
-        requires free { IsFree other.now.right }
-        ensures same { result ≡ self }
-        ensures alone { self.block ≢ other.now.block }
-    {
-        self
-    }
-
-    /// The law that a block that is owed is not marked: a pointer that knows of a mark is on another block. No atomic step.
-    pub(crate) fn unmarked(self, other: &Pointer<A>) -> Pointer<A>
-        requires owed { self.right ≡ owed }
-        requires fixed { other.now.right ≡ fixed }
-        ensures same { result ≡ self }
-        ensures unmarked { self.block ≢ other.now.block }
-    {
-        self
     }
 
     /// Drops a pointer that stands for nothing in the block's history.

@@ -1,35 +1,15 @@
 -- `clone_exchange` is one compare-exchange. If it finds the old word or a marked one, the clone succeeds.
-use Rattle.std.proofs.Common.{◌≡◌, ℕ, ◌+◌, List, [], ◌∷◌, sym, refl, ap, ◌∙◌, w64, length, arith}
-use mir.Syntax.{dcons, dnil, a_type, named}
-use mir.Val.{Val, vint, vptr}
-use mir.MapTy.{inst_fn}
-use base.Logic.{SProp, emp, via}
-use base.Fml.{Lft, Share, Fml, ftrue, fsep, fex, flft, fhide, finv, fshr_bor}
-use types.Kit.{‵, raw, ◌⊛◌, later, mean, at_ret, ◌$◌, ◌∵◌, !, qed, by, move, keep, drop, split, split3, join, fsplit, fsplit3, fjoin, fpick}
-use types.Kit.{use0, use1, use3, await, rewrite}
-use types.Run.{stop, fld, load, addr, of_opd, no_more, and_then, first, blocks, exec, Calls-last, returns, enter, bin}
-use types.ByLocal.{alloc_all, pass_all, free_all, look_at, get, through, sets, lands_last, is, env}
-use types.Part.{agg, sub, whole, look_in}
-use contract.Running.{tables}
-use contract.Monad.{fact, fact_i}
-use denote.Exit.{yes}
-use denote.RattleType.{RattleType, Valss, owns}
-use denote.Signature.{types_at, plain}
-use denote.RawPtr.{Ptr, block_ptr, block_of, count_of, at_block}
-use denote.Steps.{nothing, peeks, heard, looks, shuts}
-use denote.Opens.{unhide}
-use denote.Laws.{Is, shows}
-use denote.Memory.{cell_at, hidden_shr}
-use denote.Param.{param, bounded}
-use denote.Builtin.{RefOf, u64}
-use denote.Ref.{shr_vals, shr_Tells}
-use denote.Plain.{uint_vals, uint_Tells}
-use denote.Struct.Lending.{lent_out}
-use denote.Triple.Walked.{Stays, stay_dropped, walk_of, Goes-dropped}
-use Rattle.core.proofs.atomic.Steps.{tail}
+use Rattle.arcstr_block.proofs.WholeProofs.{◌≡◌, ℕ, ◌+◌, List, [], ◌∷◌, sym, refl, ap, ◌∙◌, w64, length, arith, dcons, dnil, a_type, named, Val, vint, vptr}
+use Rattle.arcstr_block.proofs.WholeProofs.{inst_fn, SProp, emp, via, Lft, Share, Fml, ftrue, fsep, fex, flft, fhide, finv, fshr_bor, ‵, raw, ◌⊛◌, later, mean}
+use Rattle.arcstr_block.proofs.WholeProofs.{at_ret, ◌$◌, ◌∵◌, !, qed, by, move, keep, drop, split, split3, join, fsplit, fsplit3, fjoin, fpick, use0, use1}
+use Rattle.arcstr_block.proofs.WholeProofs.{use3, await, rewrite, stop, fld, load, addr, of_opd, no_more, and_then, first, blocks, exec, Calls-last, returns}
+use Rattle.arcstr_block.proofs.WholeProofs.{enter, bin, alloc_all, pass_all, free_all, look_at, get, through, sets, lands_last, is, env, agg, sub, whole}
+use Rattle.arcstr_block.proofs.WholeProofs.{look_in, tables, fact, fact_i, yes, RattleType, Valss, owns, types_at, plain, Ptr, block_ptr, block_of, count_of}
+use Rattle.arcstr_block.proofs.WholeProofs.{at_block, nothing, peeks, heard, looks, shuts, unhide, Is, shows, cell_at, hidden_shr, param, bounded, RefOf, u64}
+use Rattle.arcstr_block.proofs.WholeProofs.{shr_vals, shr_Tells, uint_vals, uint_Tells, lent_out, Stays, stay_dropped, walk_of, Goes-dropped, tail, proved}
+use Rattle.arcstr_block.proofs.WholeProofs.{leaves, fm, found, finds}
 use Rattle.core.specs.contracts.marker.PhantomData as Marker
-use Rattle.atomic_table.proofs.Walks.{proved, leaves}
-use Rattle.atomic_table.proofs.Calls.{fm, found, finds, exchanges}
+use Rattle.atomic_table.proofs.Calls.{exchanges}
 use Rattle.arcstr_block.specs.Word.{IsWord, IsClone}
 use Rattle.arcstr_block.specs.Rights.{IsFree, Gains, Right}
 use Rattle.arcstr_block.specs.Memory.{block_owns, block_shares, word_at, word_offset}

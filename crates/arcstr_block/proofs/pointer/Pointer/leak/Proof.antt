@@ -1,35 +1,15 @@
 -- `leak` is one fetch-or. Whoever sets or finds the static flag has a permanent share.
-use Rattle.std.proofs.Common.{◌≡◌, ℕ, ◌+◌, List, [], ◌∷◌, sym, refl, ap, ◌∙◌, lit<, w64, length, arith, ◌^◌, ◌<◌}
-use mir.Syntax.{dcons, dnil, a_type, named}
-use mir.Val.{Val, vint, vptr}
-use mir.MapTy.{inst_fn}
-use base.Logic.{SProp, via}
-use base.Fml.{Lft, Share, Fml, ftrue, fsep, flft, fhide, finv, fshr_bor, fex}
-use types.Kit.{‵, raw, ◌⊛◌, later, mean, at_ret, ◌$◌, ◌∵◌, !, qed, by, move, keep, drop, split, split3, join, fsplit, fsplit3, fjoin, fpick, use0, use1}
-use types.Kit.{use2, use3, await, rewrite}
-use types.Run.{stop, fld, load, addr, lit, of_opd, no_more, and_then, first, blocks, exec, Calls-last, returns, enter, bin}
-use types.ByLocal.{alloc_all, pass_all, free_all, look_at, get, through, sets, lands_last, is, env}
-use types.Part.{agg, sub, whole, look_in}
-use contract.Running.{tables}
-use contract.Monad.{fact}
-use denote.Exit.{yes}
-use denote.Plain.{uint_vals, uint_Tells}
-use denote.RattleType.{RattleType, owns}
-use denote.Signature.{types_at, plain}
-use denote.RawPtr.{Ptr, block_ptr, block_of, count_of, at_block}
-use denote.Steps.{nothing, peeks, heard, looks, shuts}
-use denote.Opens.{unhide}
-use denote.Laws.{Is, shows}
-use denote.Memory.{cell_at, hidden_shr}
-use denote.Param.{param, bounded}
-use denote.Builtin.{RefOf, usize}
-use denote.Ref.{shr_vals, shr_Tells}
-use denote.Struct.Lending.{lent_out}
-use denote.Triple.Walked.{Stays, stay_dropped, walk_of, Goes-dropped}
-use Rattle.core.proofs.atomic.Steps.{tail}
+use Rattle.arcstr_block.proofs.WholeProofs.{◌≡◌, ℕ, ◌+◌, List, [], ◌∷◌, sym, refl, ap, ◌∙◌, lit<, w64, length, arith, ◌^◌, ◌<◌, dcons, dnil, a_type, named}
+use Rattle.arcstr_block.proofs.WholeProofs.{Val, vint, vptr, inst_fn, SProp, via, Lft, Share, Fml, ftrue, fsep, flft, fhide, finv, fshr_bor, fex, ‵, raw, ◌⊛◌}
+use Rattle.arcstr_block.proofs.WholeProofs.{later, mean, at_ret, ◌$◌, ◌∵◌, !, qed, by, move, keep, drop, split, split3, join, fsplit, fsplit3, fjoin, fpick}
+use Rattle.arcstr_block.proofs.WholeProofs.{use0, use1, use2, use3, await, rewrite, stop, fld, load, addr, lit, of_opd, no_more, and_then, first, blocks, exec}
+use Rattle.arcstr_block.proofs.WholeProofs.{Calls-last, returns, enter, bin, alloc_all, pass_all, free_all, look_at, get, through, sets, lands_last, is, env}
+use Rattle.arcstr_block.proofs.WholeProofs.{agg, sub, whole, look_in, tables, fact, yes, uint_vals, uint_Tells, RattleType, owns, types_at, plain, Ptr}
+use Rattle.arcstr_block.proofs.WholeProofs.{block_ptr, block_of, count_of, at_block, nothing, peeks, heard, looks, shuts, unhide, Is, shows, cell_at}
+use Rattle.arcstr_block.proofs.WholeProofs.{hidden_shr, param, bounded, RefOf, usize, shr_vals, shr_Tells, lent_out, Stays, stay_dropped, walk_of}
+use Rattle.arcstr_block.proofs.WholeProofs.{Goes-dropped, tail, proved, leaves, fm, seq_cst, found, finds}
 use Rattle.core.specs.contracts.marker.PhantomData as Marker
-use Rattle.atomic_table.proofs.Walks.{proved, leaves}
-use Rattle.atomic_table.proofs.Calls.{fm, seq_cst, found, finds, ors}
+use Rattle.atomic_table.proofs.Calls.{ors}
 use Rattle.arcstr_block.specs.Rights.{IsFree, fixed, Right}
 use Rattle.arcstr_block.specs.Memory.{block_owns, block_shares, word_at, word_offset}
 use Rattle.arcstr_block.specs.Ledger.{Inv, knows, right_to, pointer_shares}

@@ -1,35 +1,15 @@
 -- `load` is one load. A look that finds the word marked has a permanent share, and a clone that finds it marked succeeds.
-use Rattle.std.proofs.Common.{◌≡◌, ℕ, Bool, ◌+◌, List, [], ◌∷◌, sym, refl, ap, ◌∙◌, lit<, length, arith, w64, ◌^◌, ◌<◌}
-use mir.Syntax.{dcons, dnil, a_type, named}
-use mir.Val.{Val, vptr, vint}
-use mir.MapTy.{inst_fn}
-use base.Logic.{SProp, emp, via}
-use base.Fml.{Lft, Share, Fml, ftrue, fsep, flft, fhide, finv, fshr_bor, fex}
-use types.Kit.{‵, raw, ◌⊛◌, later, mean, at_ret, ◌$◌, ◌∵◌, !, qed, by, move, keep, drop, split, split3, join, fsplit, fsplit3, fjoin, fjoin3, fpick, fpack}
-use types.Kit.{use0, use1, use2, use3, await, rewrite, feq_i, flt_i}
-use types.Run.{stop, fld, load, addr, lit, of_opd, no_more, and_then, first, blocks, exec, Calls-last, returns, enter, bin}
-use types.ByLocal.{alloc_all, pass_all, free_all, look_at, get, through, sets, lands_last, is, env}
-use types.Part.{agg, sub, whole, look_in}
-use contract.Running.{tables}
-use contract.Monad.{fact, fact_i}
-use denote.Exit.{yes}
-use denote.Plain.{uint_vals, uint_Tells}
-use denote.RattleType.{RattleType, Valss, owns}
-use denote.Signature.{types_at, plain}
-use denote.RawPtr.{Ptr, block_ptr, block_of, count_of, at_block}
-use denote.Steps.{nothing, peeks, heard, looks, shuts}
-use denote.Opens.{unhide}
-use denote.Laws.{Is, shows}
-use denote.Memory.{cell_at, hidden_shr}
-use denote.Param.{param, bounded}
-use denote.Builtin.{RefOf, u64, usize}
-use denote.Ref.{shr_vals, shr_Tells}
-use denote.Struct.Lending.{lent_out}
-use denote.Triple.Walked.{Stays, stay_dropped, walk_of, Goes-dropped}
-use Rattle.core.proofs.atomic.Steps.{tail}
+use Rattle.arcstr_block.proofs.WholeProofs.{◌≡◌, ℕ, Bool, ◌+◌, List, [], ◌∷◌, sym, refl, ap, ◌∙◌, lit<, length, arith, w64, ◌^◌, ◌<◌, dcons, dnil, a_type}
+use Rattle.arcstr_block.proofs.WholeProofs.{named, Val, vptr, vint, inst_fn, SProp, emp, via, Lft, Share, Fml, ftrue, fsep, flft, fhide, finv, fshr_bor, fex}
+use Rattle.arcstr_block.proofs.WholeProofs.{‵, raw, ◌⊛◌, later, mean, at_ret, ◌$◌, ◌∵◌, !, qed, by, move, keep, drop, split, split3, join, fsplit, fsplit3}
+use Rattle.arcstr_block.proofs.WholeProofs.{fjoin, fpick, use0, use1, use3, await, rewrite, stop, fld, load, addr, lit}
+use Rattle.arcstr_block.proofs.WholeProofs.{of_opd, no_more, and_then, first, blocks, exec, Calls-last, returns, enter, bin, alloc_all, pass_all, free_all}
+use Rattle.arcstr_block.proofs.WholeProofs.{look_at, get, through, sets, lands_last, is, env, agg, sub, whole, look_in, tables, fact, fact_i, yes, uint_vals}
+use Rattle.arcstr_block.proofs.WholeProofs.{uint_Tells, RattleType, Valss, owns, types_at, plain, Ptr, block_ptr, block_of, count_of, at_block, nothing, peeks}
+use Rattle.arcstr_block.proofs.WholeProofs.{heard, looks, shuts, unhide, Is, shows, cell_at, hidden_shr, param, bounded, RefOf, u64, usize, shr_vals}
+use Rattle.arcstr_block.proofs.WholeProofs.{shr_Tells, lent_out, Stays, stay_dropped, walk_of, Goes-dropped, tail, proved, leaves, fm, seq_cst, found, finds}
+use Rattle.arcstr_block.proofs.WholeProofs.{loads}
 use Rattle.core.specs.contracts.marker.PhantomData as Marker
-use Rattle.atomic_table.proofs.Walks.{proved, leaves}
-use Rattle.atomic_table.proofs.Calls.{fm, seq_cst, found, finds, loads}
 use Rattle.arcstr_block.specs.Word.{IsWord}
 use Rattle.arcstr_block.specs.Rights.{IsFree, Loads, Right}
 use Rattle.arcstr_block.specs.Memory.{block_owns, block_shares, word_at, word_offset}
