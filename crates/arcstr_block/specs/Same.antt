@@ -33,10 +33,6 @@ module _ {A : Type 0} where
   abbrev pub SawStep : Pointer A → Pointer A → Step → Reply → Type 0
   SawStep p q s reply = EndsIn p.limit q.history s reply
 
-  -- a look of p that found the word; a marked word means that the block is marked
-  abbrev pub Looked : Pointer A → ℕ → Pointer A → Type 0
-  Looked p word q = SawStep p q (Look p.seat) (look_reply (looked_of (word_of word))) × (IsMarked word → IsMarkedIn q.limit q.history)
-
   -- a load of p that found the word, of a clone or as a look
   abbrev pub LoadedAs : Bool → Pointer A → ℕ → Pointer A → Type 0
   LoadedAs clones p word q = LoadEnds clones p.limit p.seat word q.history

@@ -12,7 +12,7 @@ ghost use Rattle.arcstr_count.specs.contracts.steps.Step.{the_row as step_row};
 ghost use Rattle.arcstr_count.specs.Word.{bits_of, fresh_word};
 ghost use Rattle.arcstr_block.specs.Word.{IsLimit, IsWord, IsClone};
 ghost use Rattle.arcstr_block.specs.Rights.{Right, right_code, nothing, counted, fixed, dropping, owed};
-ghost use Rattle.arcstr_block.specs.Rights.{IsFree, MaySee, IsIdle, Looks, Finds, Loads, Gains, Begins, Leaves};
+ghost use Rattle.arcstr_block.specs.Rights.{IsFree, MaySee, IsIdle, Loads, Gains, Begins, Leaves};
 ghost use Rattle.arcstr_block.specs.Memory.{Fits, word_offset};
 ghost use Rattle.arcstr_block.specs.Ledger.{pointer_owns, pointer_shares};
 
@@ -47,7 +47,7 @@ impl<A: Allocator> Model for Pointer<A> {
 }
 
 impl<A: Allocator> Pointer<A> {
-    ghost use Rattle.arcstr_block.specs.Same.{IsSameBlock, Looked, LoadedAs, Leaked, BegunAs, SubtractedAs};
+    ghost use Rattle.arcstr_block.specs.Same.{IsSameBlock, LoadedAs, Leaked, BegunAs, SubtractedAs};
 
     /// The first pointer to a block, whose word counts only this pointer.
     pub(crate) fn make(block: Sole<A>) -> Pointer<A>
@@ -84,31 +84,8 @@ impl<A: Allocator> Pointer<A> {
         unsafe { str::from_utf8_unchecked(bytes) }
     }
 
-    /// The look of a free handle: one load.
-    pub(crate) fn look(&self, place: usize) -> (u64, Pointer<A>)
-        requires right { IsFree self.now.right }
-        requires place { place ≡ word_offset (length self.now.text) }
-        ensures word { IsWord self.now.limit result.0 }
-        ensures right { Looks result.0 result.1.right }
-        ensures history { Looked self.now result.0 result.1 }
-        ensures same { IsSameBlock result.1 self.now }
-    {
-        self.load(place)
-    }
-
-    /// The load of a clone: if it finds the block marked, the clone succeeds.
-    pub(crate) fn clone_load(&self, place: usize) -> (u64, Pointer<A>)
-        requires right { IsFree self.now.right }
-        requires place { place ≡ word_offset (length self.now.text) }
-        ensures word { IsWord self.now.limit result.0 }
-        ensures right { Finds result.0 result.1.right }
-        ensures same { IsSameBlock result.1 self.now }
-    {
-        self.load(place)
-    }
-
-    /// One load, for a clone or as a look.
-    fn load(&self, place: usize) -> (u64, Pointer<A>)
+    /// One load of a free handle, for a clone or as a look. A clone that finds the block marked succeeds.
+    pub(crate) fn load(&self, place: usize) -> (u64, Pointer<A>)
         ghost clones: { Bool }
         requires right { IsFree self.now.right }
         requires place { place ≡ word_offset (length self.now.text) }

@@ -118,7 +118,7 @@ impl<const LIMIT: u64, A: Allocator + Copy> Shared<LIMIT, A> {
         ensures seen { MatchOption result.0 (SawMark LIMIT result.1.history self.now.seat) (λ count. SawCount LIMIT result.1.history self.now.seat count) }
         ensures block { result.1.block ≡ self.now.block }
     {
-        let (found, gained) = self.handle.pointer.look(offset_of_word(self.handle.len));
+        let (found, gained) = self.handle.pointer.load(offset_of_word(self.handle.len));
         let seen = gained.seen();
         gained.forget();
         (looked(found), seen)
@@ -138,7 +138,7 @@ impl<const LIMIT: u64, A: Allocator + Copy> Shared<LIMIT, A> {
         ensures seen { MatchOption result.0 ((n : ℕ) × SawCount LIMIT result.1.history self.now.seat n) (λ _. SawMark LIMIT result.1.history self.now.seat) }
         ensures block { result.1.block ≡ self.now.block }
     {
-        let (found, gained) = self.handle.pointer.look(offset_of_word(self.handle.len));
+        let (found, gained) = self.handle.pointer.load(offset_of_word(self.handle.len));
         let seen = gained.seen();
         match looked(found) {
             None => {
@@ -289,7 +289,7 @@ impl<const LIMIT: u64, A: Allocator + Copy> Counted<LIMIT, A> {
         ensures unmarked { IfErr result IsUnmarked }
         ensures word { IfErr result (IsWord LIMIT) }
     {
-        let (found, gained) = self.pointer.clone_load(offset_of_word(self.len));
+        let (found, gained) = self.pointer.load(offset_of_word(self.len));
         if marked(found) {
             Ok(self.beside(gained))
         } else {
