@@ -53,7 +53,7 @@ module _ {M : Type 1} {𝓤 : Ura M} (𝓛 : Logic 𝓤) where
     I = Inv P L b o t
 
     abbrev a : Lft
-    a = t.0 ∷ []
+    a = t.sharing ∷ []
 
     -- the invariant of a block, a share of its token that is lent for κ, and κ
     abbrev pub Lent : Lft → Share → Fml
@@ -61,13 +61,13 @@ module _ {M : Type 1} {𝓤 : Ura M} (𝓛 : Logic 𝓤) where
 
     module _ (L₀ : ℕ) (Z : Pr) where
       abbrev Book₀ : Fml
-      Book₀ = Book L₀ t.2 t.3 0
+      Book₀ = Book L₀ t.name.history t.name.seats 0
 
       -- a block whose content is still shared has its book in its invariant
       inside : (alive : Bool) (u : Share) (Y : Pr) → ⟦ if_alive P L b o t alive ⟧ ∗ A.lft a u ∗ ⟦ Book₀ ⟧ ⊢ Y
       inside false u Y = qed 𝓛 (‵ (fdead a) ∷ ‵ (flft a u) ∷ ‵ Book₀ ∷ []) ∵ keep ! (1 ∷ 0 ∷ []) $ by ! (via 𝓤 (never 𝓤) (𝓛.lfts.lft-dead a u) (never_e 𝓤 Y))
       inside true u Y = qed 𝓛 (‵ (if_alive P L b o t true) ∷ ‵ (flft a u) ∷ ‵ Book₀ ∷ []) ∵ fpick ! (λ n. fsplit ! $ fsplit ! $ keep ! (1 ∷ 4 ∷ []) $
-          by ! (one_book L L₀ t.2 t.3 t.3 n 0 Y))
+          by ! (one_book L L₀ t.name.history t.name.seats t.name.seats n 0 Y))
 
       opened : (u : Share) → A.lft a u ∗ ⟦ Book₀ ⟧ ⊢ ⟦ I ⟧ -∗ upd 𝓤 (⟦ I ⟧ ∗ Z)
       opened u = qed 𝓛 (‵ (flft a u) ∷ ‵ Book₀ ∷ []) ∵ assume ! (‵ I) $ fpick ! (λ alive. by ! (inside alive u (upd 𝓤 (⟦ I ⟧ ∗ Z))))
@@ -98,4 +98,4 @@ module _ {M : Type 1} {𝓤 : Ura M} (𝓛 : Logic 𝓤) where
         no_other dropping may = qed 𝓛 (‵ Book₀ ∷ ‵ (held_with P L b o t s h dropping) ∷ []) ∵ move ! (1 ∷ []) $ fsplit ! $ move ! (1 ∷ []) $ fsplit3 ! $
             fpick ! (λ e. fpick ! (λ _. keep ! (4 ∷ 3 ∷ 0 ∷ []) $ by ! (not_shared e)))
         no_other owed may = qed 𝓛 (‵ Book₀ ∷ ‵ (held_with P L b o t s h owed) ∷ []) ∵ move ! (1 ∷ []) $ fsplit ! $ move ! (1 ∷ []) $ fsplit ! $ fsplit ! $
-            keep ! (4 ∷ 1 ∷ []) $ by ! (one_book L₀ L t.2 t.3 t.3 0 0 (H.⇛ Z))
+            keep ! (4 ∷ 1 ∷ []) $ by ! (one_book L₀ L t.name.history t.name.seats t.name.seats 0 0 (H.⇛ Z))

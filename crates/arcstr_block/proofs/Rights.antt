@@ -73,7 +73,7 @@ module _ {M : Type 1} {𝓤 : Ura M} (𝓛 : Logic 𝓤) (P : Fml) (L b o : ℕ)
 
   module _ (s : Lft → Fml) (laws : denote.Sharing.ShrLaws s) where
     abbrev a : Lft
-    a = t.0 ∷ []
+    a = t.sharing ∷ []
 
     abbrev Shown : ℕ → Right → Lft → Fml
     Shown h = shown P L b o t s h
@@ -93,7 +93,7 @@ module _ {M : Type 1} {𝓤 : Ura M} (𝓛 : Logic 𝓤) (P : Fml) (L b o : ℕ)
 
     -- what a free handle shows
     pub may_step : (h : ℕ) (right : Right) → IsFree right → (κ : Lft)
-        → ⟦ Shown h right κ ⟧ ⊢ ⟦ fshr_bor κ (λ q. flft a q) ⟧ ∗ ⟦ fshr_bor κ (λ q. seat_share t.3 h q Free) ⟧ ∗ ⟦ knows t right ⟧ ∗ ⟦ finv I ⟧ ∗ ⟦ s a ⟧
+        → ⟦ Shown h right κ ⟧ ⊢ ⟦ fshr_bor κ (λ q. flft a q) ⟧ ∗ ⟦ fshr_bor κ (λ q. seat_share t.name.seats h q Free) ⟧ ∗ ⟦ knows t right ⟧ ∗ ⟦ finv I ⟧ ∗ ⟦ s a ⟧
     may_step h nothing may κ = absurd (may.0 refl)
     may_step h counted may κ = id⊢ 𝓤 _
     may_step h uncounted may κ = id⊢ 𝓤 _
@@ -110,12 +110,12 @@ module _ {M : Type 1} {𝓤 : Ura M} (𝓛 : Logic 𝓤) (P : Fml) (L b o : ℕ)
     is_free h dropping may = absurd (may.2 refl)
     is_free h owed may = absurd (may.3 refl)
 
-    free_has_seat : (h : ℕ) (right : Right) → ⟦ Rattle.arcstr_block.specs.Ledger.free P L b o t s h right ⟧ ⊢ ⟦ seat t.3 h Free ⟧
+    free_has_seat : (h : ℕ) (right : Right) → ⟦ Rattle.arcstr_block.specs.Ledger.free P L b o t s h right ⟧ ⊢ ⟦ seat t.name.seats h Free ⟧
     free_has_seat h right = qed 𝓛 (‵ (Rattle.arcstr_block.specs.Ledger.free P L b o t s h right) ∷ []) ∵ fpick ! (λ e. fsplit3 ! $ move ! (2 ∷ []) $ fsplit3 ! $
         keep ! (2 ∷ []) $ done !)
 
     -- each right except nothing and fixed has the seat of its handle
-    pub has_seat : (h : ℕ) (right : Right) → HasSeat right → ⟦ Held h right ⟧ ⊢ ⟦ seat t.3 h (seat_state right) ⟧
+    pub has_seat : (h : ℕ) (right : Right) → HasSeat right → ⟦ Held h right ⟧ ⊢ ⟦ seat t.name.seats h (seat_state right) ⟧
     has_seat h nothing may = absurd (may.0 refl)
     has_seat h counted may = free_has_seat h counted
     has_seat h uncounted may = free_has_seat h uncounted
@@ -124,10 +124,10 @@ module _ {M : Type 1} {𝓤 : Ura M} (𝓛 : Logic 𝓤) (P : Fml) (L b o : ℕ)
     has_seat h owed may = qed 𝓛 (‵ (Held h owed) ∷ []) ∵ fsplit3 ! $ keep ! (2 ∷ []) $ done !
 
     knows_nothing : ⟦ ftrue ⟧ ⊢ ⟦ knows t counted ⟧
-    knows_nothing = all_i 𝓤 {P = emp 𝓤} (λ (_ : counted ≡ uncounted). A.dead (t.1 ∷ [])) (λ e. absurd cc)
+    knows_nothing = all_i 𝓤 {P = emp 𝓤} (λ (_ : counted ≡ uncounted). A.dead (t.counting ∷ [])) (λ e. absurd cc)
 
-    knows_mark : A.dead (t.1 ∷ []) ⊢ ⟦ knows t uncounted ⟧
-    knows_mark = all_i 𝓤 {P = A.dead (t.1 ∷ [])} (λ (_ : uncounted ≡ uncounted). A.dead (t.1 ∷ [])) (λ _. id⊢ 𝓤 (A.dead (t.1 ∷ [])))
+    knows_mark : A.dead (t.counting ∷ []) ⊢ ⟦ knows t uncounted ⟧
+    knows_mark = all_i 𝓤 {P = A.dead (t.counting ∷ [])} (λ (_ : uncounted ≡ uncounted). A.dead (t.counting ∷ [])) (λ _. id⊢ 𝓤 (A.dead (t.counting ∷ [])))
 
     -- a share becomes permanent when it is borrowed for a lifetime that never ends
     permanent_of : ⟦ gained 𝓛 P L b o t share ⟧ ∗ ⟦ s a ⟧ ⊢ H.⇛ ⟦ Held 0 fixed ⟧
@@ -147,7 +147,7 @@ module _ {M : Type 1} {𝓤 : Ura M} (𝓛 : Logic 𝓤) (P : Fml) (L b o : ℕ)
 
     pub looked : (n : ℕ) (g : Gain) → (IsMarked n → g ≡ share) → (IsUnmarked n → g ≡ none) → Becomes (Looks n) (FromLook g) ToIdle
     looked n none m u = record { right = nothing; said = ((λ odd. let e = m odd in absurd cc), (λ _. refl)); turns = nothing_of ftrue }
-    looked n part m u = record { right = nothing; said = ((λ odd. let e = m odd in absurd cc), (λ _. refl)); turns = nothing_of (parts t.0 1) }
+    looked n part m u = record { right = nothing; said = ((λ odd. let e = m odd in absurd cc), (λ _. refl)); turns = nothing_of (parts t.sharing 1) }
     looked n share m u = record { right = fixed; said = ((λ _. refl), (λ even. let e = u even in absurd cc)); turns = permanent_of }
     looked n last m u = record { right = nothing; said = ((λ odd. let e = m odd in absurd cc), (λ _. refl)); turns = nothing_of (gained 𝓛 P L b o t last) }
 
@@ -159,7 +159,7 @@ module _ {M : Type 1} {𝓤 : Ura M} (𝓛 : Logic 𝓤) (P : Fml) (L b o : ℕ)
 
     -- ---- a clone; `event` says whether it succeeds
     abbrev pub newborn : Type 0 → Fml
-    newborn event = fall event (λ _. Born 𝓛 L t.2 t.3)
+    newborn event = fall event (λ _. Born 𝓛 L t.name.history t.name.seats)
 
     abbrev FromClone : Type 0 → Gain → Pr
     FromClone event g = ⟦ gained 𝓛 P L b o t g ⟧ ∗ ⟦ s a ⟧ ∗ ⟦ newborn event ⟧
@@ -171,14 +171,14 @@ module _ {M : Type 1} {𝓤 : Ura M} (𝓛 : Logic 𝓤) (P : Fml) (L b o : ℕ)
     no_clone event X = qed 𝓛 (‵ X ∷ ‵ (s a) ∷ ‵ (newborn event) ∷ []) ∵ updating ! $ keep ! (1 ∷ []) $ fpack ! ℕ (λ j. Held j nothing) 0 $ now ! $ done !
 
     counted_clone : (event : Type 0) → event → FromClone event part ⊢ H.⇛ (ToClone counted)
-    counted_clone event y = qed 𝓛 (‵ (parts t.0 1) ∷ ‵ (s a) ∷ ‵ (newborn event) ∷ []) ∵ updating ! $ fpick ! (λ e. fpick ! (λ c. move ! (2 ∷ []) $
-        use1 𝓛 (‵ (Born 𝓛 L t.2 t.3)) (all_e 𝓤 (λ (_ : event). ⟦ Born 𝓛 L t.2 t.3 ⟧) y) $ fpick ! (λ j. no_item ! $ use1 𝓛 (‵ (knows t counted)) knows_nothing $
+    counted_clone event y = qed 𝓛 (‵ (parts t.sharing 1) ∷ ‵ (s a) ∷ ‵ (newborn event) ∷ []) ∵ updating ! $ fpick ! (λ e. fpick ! (λ c. move ! (2 ∷ []) $
+        use1 𝓛 (‵ (Born 𝓛 L t.name.history t.name.seats)) (all_e 𝓤 (λ (_ : event). ⟦ Born 𝓛 L t.name.history t.name.seats ⟧) y) $ fpick ! (λ j. no_item ! $ use1 𝓛 (‵ (knows t counted)) knows_nothing $
         move ! (2 ∷ 0 ∷ 3 ∷ 1 ∷ []) $ types.Kit.group ! 4 $
         use1 𝓛 (‵ (Held j counted)) (free_in P L b o s laws j 𝓛 t counted e (λ _. c)) $ fpack ! ℕ (λ i. Held i counted) j $ now ! $ done !)))
 
     uncounted_clone : (event : Type 0) → event → FromClone event share ⊢ H.⇛ (ToClone uncounted)
     uncounted_clone event y = qed 𝓛 (‵ (gained 𝓛 P L b o t share) ∷ ‵ (s a) ∷ ‵ (newborn event) ∷ []) ∵ updating ! $ fsplit ! $ fpick ! (λ e. move ! (3 ∷ []) $
-        use1 𝓛 (‵ (Born 𝓛 L t.2 t.3)) (all_e 𝓤 (λ (_ : event). ⟦ Born 𝓛 L t.2 t.3 ⟧) y) $ fpick ! (λ j. move ! (2 ∷ []) $
+        use1 𝓛 (‵ (Born 𝓛 L t.name.history t.name.seats)) (all_e 𝓤 (λ (_ : event). ⟦ Born 𝓛 L t.name.history t.name.seats ⟧) y) $ fpick ! (λ j. move ! (2 ∷ []) $
         use1 𝓛 (‵ (knows t uncounted)) knows_mark $ move ! (2 ∷ 0 ∷ 3 ∷ 1 ∷ []) $ types.Kit.group ! 4 $
         use1 𝓛 (‵ (Held j uncounted)) (free_in P L b o s laws j 𝓛 t uncounted e (λ w. absurd cc)) $ fpack ! ℕ (λ i. Held i uncounted) j $ now ! $ done !))
 
@@ -256,18 +256,18 @@ module _ {M : Type 1} {𝓤 : Ura M} (𝓛 : Logic 𝓤) (P : Fml) (L b o : ℕ)
     -- ---- the drop: its look and its subtraction
     module _ (n h : ℕ) where
       abbrev FromBegin : Share → Pr
-      FromBegin e = A.lft a e ∗ ⟦ s a ⟧ ∗ ⟦ seat t.3 h (begun 𝓛 L t.2 t.3 n) ⟧
+      FromBegin e = A.lft a e ∗ ⟦ s a ⟧ ∗ ⟦ seat t.name.seats h (begun 𝓛 L t.name.history t.name.seats n) ⟧
 
       abbrev To : Right → Pr
       To k = ⟦ Held h k ⟧
 
       goes_on : (e : Share) → Counts 63 e 1 → IsUnmarked n → FromBegin e ⊢ H.⇛ (To dropping)
-      goes_on e c even = let is : begun 𝓛 L t.2 t.3 n ≡ Dropping = ap (λ (w : FlagAndCount). if w.flag then Gone else Dropping) (unmarked_word n even) in
-          qed 𝓛 (‵ (flft a e) ∷ ‵ (s a) ∷ ‵ (seat t.3 h (begun 𝓛 L t.2 t.3 n)) ∷ []) ∵ updating ! $
-          rewrite ! 2 (λ (v : HandleState). ‵ (seat t.3 h v)) is refl $ use1 𝓛 (‵ (parts t.0 1)) (parts_in 𝓛 t.0 1 e c) $ fjoin3 ! $ now ! $ done !
+      goes_on e c even = let is : begun 𝓛 L t.name.history t.name.seats n ≡ Dropping = ap (λ (w : FlagAndCount). if w.flag then Gone else Dropping) (unmarked_word n even) in
+          qed 𝓛 (‵ (flft a e) ∷ ‵ (s a) ∷ ‵ (seat t.name.seats h (begun 𝓛 L t.name.history t.name.seats n)) ∷ []) ∵ updating ! $
+          rewrite ! 2 (λ (v : HandleState). ‵ (seat t.name.seats h v)) is refl $ use1 𝓛 (‵ (parts t.sharing 1)) (parts_in 𝓛 t.sharing 1 e c) $ fjoin3 ! $ now ! $ done !
 
       stops : (e : Share) → FromBegin e ⊢ H.⇛ (To nothing)
-      stops e = qed 𝓛 (‵ (flft a e) ∷ ‵ (s a) ∷ ‵ (seat t.3 h (begun 𝓛 L t.2 t.3 n)) ∷ []) ∵ updating ! $ keep ! (1 ∷ []) $ now ! $ done !
+      stops e = qed 𝓛 (‵ (flft a e) ∷ ‵ (s a) ∷ ‵ (seat t.name.seats h (begun 𝓛 L t.name.history t.name.seats n)) ∷ []) ∵ updating ! $ keep ! (1 ∷ []) $ now ! $ done !
 
       pub begins : (right : Right) (e : Share) → IsFree right → (right ≡ counted → Counts 63 e 1) → (right ≡ uncounted → IsMarked n)
           → Becomes (Begins n) (FromBegin e) To
@@ -278,24 +278,24 @@ module _ {M : Type 1} {𝓤 : Ura M} (𝓛 : Logic 𝓤) (P : Fml) (L b o : ℕ)
       ]
 
       abbrev FromSub : Gain → Pr
-      FromSub g = ⟦ gained 𝓛 P L b o t g ⟧ ∗ ⟦ s a ⟧ ∗ ⟦ seat t.3 h (left_in 𝓛 L t.2 t.3 n) ⟧
+      FromSub g = ⟦ gained 𝓛 P L b o t g ⟧ ∗ ⟦ s a ⟧ ∗ ⟦ seat t.name.seats h (left_in 𝓛 L t.name.history t.name.seats n) ⟧
 
       owes : IsLast n → FromSub last ⊢ H.⇛ (To owed)
-      owes two = let is : left_in 𝓛 L t.2 t.3 n ≡ Owing = ap (λ y. if y then Owing else Gone) (last_two n two) in
-          qed 𝓛 (‵ (gained 𝓛 P L b o t last) ∷ ‵ (s a) ∷ ‵ (seat t.3 h (left_in 𝓛 L t.2 t.3 n)) ∷ []) ∵ updating ! $
-          rewrite ! 2 (λ (v : HandleState). ‵ (seat t.3 h v)) is refl $ fsplit3 ! $ move ! (1 ∷ 2 ∷ []) $ lent_back ! tt $
+      owes two = let is : left_in 𝓛 L t.name.history t.name.seats n ≡ Owing = ap (λ y. if y then Owing else Gone) (last_two n two) in
+          qed 𝓛 (‵ (gained 𝓛 P L b o t last) ∷ ‵ (s a) ∷ ‵ (seat t.name.seats h (left_in 𝓛 L t.name.history t.name.seats n)) ∷ []) ∵ updating ! $
+          rewrite ! 2 (λ (v : HandleState). ‵ (seat t.name.seats h v)) is refl $ fsplit3 ! $ move ! (1 ∷ 2 ∷ []) $ lent_back ! tt $
           -- [what the block owns; the word and the book; what was shared; the seat]
           move ! (0 ∷ 3 ∷ []) $ fjoin ! $ move ! (1 ∷ 0 ∷ []) $ fjoin ! $ now ! $ keep ! (0 ∷ []) $ done !
 
-      leaves : (X : Fml) → ⟦ X ⟧ ∗ ⟦ s a ⟧ ∗ ⟦ seat t.3 h (left_in 𝓛 L t.2 t.3 n) ⟧ ⊢ H.⇛ (To nothing)
-      leaves X = qed 𝓛 (‵ X ∷ ‵ (s a) ∷ ‵ (seat t.3 h (left_in 𝓛 L t.2 t.3 n)) ∷ []) ∵ updating ! $ keep ! (1 ∷ []) $ now ! $ done !
+      leaves : (X : Fml) → ⟦ X ⟧ ∗ ⟦ s a ⟧ ∗ ⟦ seat t.name.seats h (left_in 𝓛 L t.name.history t.name.seats n) ⟧ ⊢ H.⇛ (To nothing)
+      leaves X = qed 𝓛 (‵ X ∷ ‵ (s a) ∷ ‵ (seat t.name.seats h (left_in 𝓛 L t.name.history t.name.seats n)) ∷ []) ∵ updating ! $ keep ! (1 ∷ []) $ now ! $ done !
 
       not_last : (g : Gain) → (g ≡ last → ⊥) → (IsLast n → g ≡ last) → Leaves n nothing
       not_last g other ok = ((λ e. absurd (other (ok e))), (λ _. refl))
 
       pub subtracted : (g : Gain) → (IsLast n → g ≡ last) → ((¬ IsLast n) → g ≡ none) → Becomes (Leaves n) (FromSub g) To
       subtracted none m u = record { right = nothing; said = not_last none (λ e. absurd cc) m; turns = leaves ftrue }
-      subtracted part m u = record { right = nothing; said = not_last part (λ e. absurd cc) m; turns = leaves (parts t.0 1) }
+      subtracted part m u = record { right = nothing; said = not_last part (λ e. absurd cc) m; turns = leaves (parts t.sharing 1) }
       subtracted share m u = record { right = nothing; said = not_last share (λ e. absurd cc) m; turns = leaves (gained 𝓛 P L b o t share) }
       subtracted last m u = dite (ℕ_discrete n one) (λ two. record { right = owed; said = ((λ _. refl), (λ ne. absurd (ne two))); turns = owes two }) (λ ne.
           let e = u ne in absurd cc)

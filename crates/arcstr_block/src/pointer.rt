@@ -14,6 +14,7 @@ ghost use Rattle.arcstr_block.specs.Word.{IsLimit, IsWord, IsClone};
 ghost use Rattle.arcstr_block.specs.Rights.{Right, right_code, nothing, counted, fixed, dropping, owed};
 ghost use Rattle.arcstr_block.specs.Rights.{IsFree, MaySee, IsIdle, Loads, Gains, Begins, Leaves};
 ghost use Rattle.arcstr_block.specs.Memory.{Fits, word_offset};
+ghost use Rattle.arcstr_block.specs.Book.{BlockName, name_code};
 ghost use Rattle.arcstr_block.specs.Ledger.{pointer_owns, pointer_shares};
 
 use crate::block::{Sole, Tail};
@@ -27,7 +28,7 @@ use std::sync::atomic::Ordering::SeqCst;
 use std::sync::atomic::raw;
 
 /// A pointer to a block, with a right, which `specs/Rights.antt` lists, and with a prefix of the block's history.
-/// `seat` is the number of its handle in that history, and `block` has the names of the history and of its seats.
+/// `seat` is the number of its handle in that history, and `block` names the history and its seats.
 pub(crate) struct Pointer<A: Allocator> {
     at: *const u8,
     marker: PhantomData<A>,
@@ -36,7 +37,7 @@ pub(crate) struct Pointer<A: Allocator> {
     pub ghost limit: { ℕ },
     pub ghost right: { Right } by { right_code },
     pub ghost seat: { ℕ },
-    pub ghost block: { ℕ × ℕ },
+    pub ghost block: { BlockName } by { name_code },
     pub ghost history: { List Step } by { coded_list step_row.coded },
 }
 

@@ -41,7 +41,7 @@ again_spec 𝓤 𝓛 𝓜 𝓡 wired Y K g d dd met md =
     use1 𝓛 (‵ (hidden_shr D κ (p, (tt, tt)) b o) ⊛ ‵ (fhide (pointer_shares holds lim p h.text right h.seat h.block h.history κ)))
     (lent_out 𝓛 (C.struct B g) (C.the_codes Y.Denot B.coded (Marker.the_row B).coded) (C.the_heap B g) (C.the_lent B g) κ h b o) $
     split ! $ move ! (1 ∷ []) $ unhide ! $ fsplit ! $ fpick ! (λ inb. drop ! $ let at : p ≡ block_ptr pb (count_of p) = at_block p inb.0 in fpick ! (λ t.
-    let I : Fml = Inv P lim pb po t in let af : Lft = t.0 ∷ [] in
+    let I : Fml = Inv P lim pb po t in let af : Lft = t.sharing ∷ [] in
     fsplit ! $ move ! (1 ∷ []) $ rewrite ! 0 (λ (k : Right). ‵ (shown P lim pb po t s h.seat k κ)) same_right refl $ fsplit3 ! $
     -- [the permanent share; the invariant; what is shared; what is known; the fields; κ; the others]
     move ! (4 ∷ 5 ∷ []) $ looks ! tt D (opened B g 𝓛) (p, (tt, tt)) b o (λ e vs. move ! (1 ∷ []) $ peeks ! D (Is D) (shows 𝓛 D) (p, (tt, tt)) vs (λ so.

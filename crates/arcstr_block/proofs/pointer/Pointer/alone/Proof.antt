@@ -9,7 +9,7 @@ use Rattle.std.proofs.Common.{◌≢◌}
 use Rattle.core.specs.contracts.marker.PhantomData as Marker
 use Rattle.arcstr_block.specs.Rights.{Right, MaySee, owed}
 use Rattle.arcstr_block.specs.Memory.{block_owns, block_shares, word_at}
-use Rattle.arcstr_block.specs.Ledger.{Inv, names, pointer_shares}
+use Rattle.arcstr_block.specs.Ledger.{Inv, pointer_shares}
 use Rattle.arcstr_block.specs.contracts.pointer.Pointer as C
 use Rattle.arcstr_block.proofs.LoneBlocks.{Lent, not_lent}
 use Rattle.arcstr_block.proofs.TwoPointers.{away}
@@ -47,14 +47,14 @@ alone_spec 𝓤 𝓛 𝓜 𝓡 wired Y K g d dd met md =
     enter ! 𝓣.C 𝓣.Λ fn (pointer_val p ∷ vptr b o ∷ []) Post $ alloc_all ! (λ l. pass_all ! refl (typed p, ((tt, tt), tt)) $
     use1 𝓛 (‵ (hidden_shr D κ (r, (tt, tt)) b o) ⊛ ‵ (fhide (pointer_shares holds lim r j.text right j.seat j.block j.history κ)))
     (lent_out 𝓛 (C.struct B g) (C.the_codes Y.Denot B.coded (Marker.the_row B).coded) (C.the_heap B g) (C.the_lent B g) κ j b o) $
-    split ! $ drop ! $ unhide ! $ fsplit ! $ drop ! $ fpick ! (λ t. let I : Fml = Inv P lim rb ro t in let af : Lft = t.0 ∷ [] in fsplit ! $ fsplit ! $
+    split ! $ drop ! $ unhide ! $ fsplit ! $ drop ! $ fpick ! (λ t. let I : Fml = Inv P lim rb ro t in let af : Lft = t.sharing ∷ [] in fsplit ! $ fsplit ! $
     fpick ! (λ is. drop ! $ drop ! $
     use1 𝓛 (‵ (fshr_bor κ (λ u. flft af u)) ⊛ ‵ (finv I) ⊛ ‵ (s af)) (rights.may_see 𝓛 P lim rb ro t s (shares_laws r j.text) j.seat right may κ) $
     split3 ! $ move ! (2 ∷ []) $ drop ! $ move ! (0 ∷ 3 ∷ []) $ fjoin ! $ move ! (1 ∷ 0 ∷ []) $ fjoin ! $
     -- [the invariant with the share and κ; the owed pointer; the others]
     let X : Fml = Lent 𝓛 P lim rb ro t κ q in
-    move ! (1 ∷ 0 ∷ []) $ use2 𝓛 (later (given (h.block ≢ names t) (‵ (Row.own_val h vs) ⊛ ‵ X)))
-    (away 𝓛 B g h vs X (names t) mine (not_lent 𝓛 P lim rb ro t h.limit _ κ q)) $ await ! tt $ learn ! (λ differ. split ! $
+    move ! (1 ∷ 0 ∷ []) $ use2 𝓛 (later (given (h.block ≢ t.name) (‵ (Row.own_val h vs) ⊛ ‵ X)))
+    (away 𝓛 B g h vs X t.name mine (not_lent 𝓛 P lim rb ro t h.limit _ κ q)) $ await ! tt $ learn ! (λ differ. split ! $
     move ! (1 ∷ []) $ fsplit3 ! $ drop ! $ drop ! $ move ! (0 ∷ 2 ∷ []) $ join ! $ move ! (1 ∷ 0 ∷ []) $
     sets ! (of_opd ! (get ! refl)) refl (typed p) $
     let Differ : Type 0 = h.block ≢ j.block in use0 𝓛 (raw (fact 𝓤 Differ)) (fact_i 𝓤 Differ (emp 𝓤) (λ e. differ (e ∙ sym is))) $

@@ -53,7 +53,7 @@ begin_spec 𝓤 𝓛 𝓜 𝓡 wired Y K g d dd met md =
     let there : place + count_of p ≡ count_of p + word_offset (length h.text) = omega (arith, placed) in
     split ! $ move ! (1 ∷ []) $ fsplit ! $ fsplit ! $ keep ! (1 ∷ 3 ∷ []) $ fsplit ! $ fpick ! (λ inb.
     drop ! $ let at : p ≡ block_ptr pb (count_of p) = at_block p inb.0 in
-    fpick ! (λ t. let I : Fml = Inv P lim pb po t in let af : Lft = t.0 ∷ [] in fsplit ! $ move ! (1 ∷ []) $
+    fpick ! (λ t. let I : Fml = Inv P lim pb po t in let af : Lft = t.sharing ∷ [] in fsplit ! $ move ! (1 ∷ []) $
     fsplit ! $ use1 𝓛 (‵ (finv I) ⊛ ‵ (finv I)) (𝓛.invs.inv_dup I) $ split ! $ move ! (2 ∷ []) $
     use1 𝓛 (‵ (free P lim pb po t s h.seat right)) (rights.is_free 𝓛 P lim pb po t s sl h.seat right may) $ fpick ! (λ e. fsplit ! $ fpick ! (λ one. drop ! $
     fsplit3 ! $ move ! (2 ∷ []) $ fsplit ! $
@@ -63,11 +63,11 @@ begin_spec 𝓤 𝓛 𝓜 𝓡 wired Y K g d dd met md =
     alloc_all ! (λ l. pass_all ! refl (typed p, ((tt, record { fits = fits_place }), tt)) $ let Ev = env fn.locals l in
     sets ! (is ! (of_opd ! (get_in ! (fld ! refl (stop !)) (sub ! 0 refl (whole !)))) (ap ptr_val at)) refl (tt, tt) $
     sets ! (of_opd ! (get_in ! (fld ! refl (stop !)) (sub ! 1 refl (whole !)))) refl (tt, tt) $
-    let said : ℕ → Fml = λ n. fsep (seat t.3 h.seat (begun 𝓛 lim t.2 t.3 n)) (Ends lim t.2 t.3 (Begin h.seat) (begin_reply 𝓛 lim t.2 t.3 n)) in
+    let said : ℕ → Fml = λ n. fsep (seat t.name.seats h.seat (begun 𝓛 lim t.name.history t.name.seats n)) (Ends lim t.name.history t.name.seats (Begin h.seat) (begin_reply 𝓛 lim t.name.history t.name.seats n)) in
     let after : ℕ → Fml = steps.all_after 𝓛 P lim pb po t (λ n. n) (steps.Told 𝓛 P lim pb po t e right) (steps.With 𝓛 P lim pb po t e right) (flft af e) said in
     use3 𝓛 (raw (𝓣.C _ (vptr pb po ∷ seq_cst ∷ []) (λ r. mean 𝓛 (found after r))))
-    (via 𝓤 _ (steps.loads 𝓛 P lim pb po t e right (seat t.3 h.seat Free) said (λ n _.
-    book_begin 𝓛 lim t.2 t.3 n h.seat)) (loads 𝓛 𝓜 𝓡 (code.calls-core::raw_atomic::load 𝓡.env wired) (block_ptr pb po) after)) $
+    (via 𝓤 _ (steps.loads 𝓛 P lim pb po t e right (seat t.name.seats h.seat Free) said (λ n _.
+    book_begin 𝓛 lim t.name.history t.name.seats n h.seat)) (loads 𝓛 𝓜 𝓡 (code.calls-core::raw_atomic::load 𝓡.env wired) (block_ptr pb po) after)) $
     first ! $ blocks ! $ sets ! (is ! (bin ! (get ! refl) (get ! refl) tt) (ap (vptr pb) there)) refl (tt, tt) $
     sets ! (of_opd ! (get ! refl)) refl (tt, tt) $ sets ! (addr ! (through ! refl (fld ! refl (stop !)))) refl (tt, tt) $
     sets ! (agg ! (and_then ! (lit ! tt) (no_more !))) refl (tt, (record { fits = lit< tt }, tt)) $

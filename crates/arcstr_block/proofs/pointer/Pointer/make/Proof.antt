@@ -12,7 +12,7 @@ use Rattle.arcstr_block.specs.Word.{IsLimit}
 use Rattle.arcstr_block.specs.Rights.{counted}
 use Rattle.arcstr_block.specs.Book.{reached}
 use Rattle.arcstr_block.specs.Memory.{block_owns, block_shares, word_offset}
-use Rattle.arcstr_block.specs.Ledger.{Id, names, held_with}
+use Rattle.arcstr_block.specs.Ledger.{Id, held_with}
 use Rattle.arcstr_block.specs.contracts.block.Sole as S
 use Rattle.arcstr_block.specs.contracts.pointer.Pointer as C
 use Rattle.arcstr_block.proofs.NewBlocks.{begins}
@@ -45,7 +45,7 @@ make_spec 𝓤 𝓛 𝓜 𝓡 wired Y K g d dd met md =
     -- [the word; what the block owns; the tokens]
     enter ! 𝓣.C 𝓣.Λ fn (pointer_val p ∷ []) Post $ alloc_all ! (λ l. pass_all ! refl (typed p, tt) $
     rewrite ! 0 (λ (n : ℕ). ‵ (word b (o + word_offset (length xs) + 0) n)) fresh refl $ fjoin ! $ move ! (1 ∷ []) $ split ! $ move ! (2 ∷ 0 ∷ []) $
-    use2 𝓛 (later (‵ (fex Id (λ t. fsep (reached t.2 (Make ∷ [])) (held_with P lim b (o + word_offset (length xs) + 0) t s 0 counted))) ⊛ t₁))
+    use2 𝓛 (later (‵ (fex Id (λ t. fsep (reached t.name.history (Make ∷ [])) (held_with P lim b (o + word_offset (length xs) + 0) t s 0 counted))) ⊛ t₁))
     (begins 𝓛 P lim b (o + word_offset (length xs) + 0) s (shares_laws p xs) small κs.0 (lends_block 𝓛 holds p xs κs.0) κs.0 qs.0 (Incl-refl κs.0)) $
     await ! tt $ split ! $
     fpick ! (λ t. fsplit ! $ move ! (1 ∷ []) $ fsplit ! $
@@ -58,7 +58,7 @@ make_spec 𝓤 𝓛 𝓜 𝓡 wired Y K g d dd met md =
       limit = lim;
       right = counted;
       seat = 0;
-      block = names t;
+      block = t.name;
       history = Make ∷ [];
     } in
     move ! (1 ∷ 0 ∷ 2 ∷ []) $ use3 𝓛 (‵ (Row.own_val h' (pointer_val p ∷ []))) (framed.pointer_in 𝓛 B g h' t refl (inb.0, (inb.1, text))) $

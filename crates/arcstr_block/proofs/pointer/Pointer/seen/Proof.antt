@@ -7,11 +7,11 @@ use Rattle.arcstr_block.proofs.WholeProofs.{RefOf, unit, shr_vals, shr_Tells, le
 use Rattle.core.specs.contracts.marker.PhantomData as Marker
 use Rattle.arcstr_block.specs.Rights.{Right}
 use Rattle.arcstr_block.specs.Memory.{block_owns, block_shares, word_at}
-use Rattle.arcstr_block.specs.Ledger.{Names, pointer_shares}
+use Rattle.arcstr_block.specs.Ledger.{pointer_shares}
 use Rattle.arcstr_block.proofs.Memory.{shares_laws}
 use Rattle.arcstr_block.specs.contracts.pointer.Pointer as C
 use Rattle.arcstr_block.specs.contracts.seen.Seen as Seen
-use Rattle.arcstr_block.specs.Book.{reached}
+use Rattle.arcstr_block.specs.Book.{BlockName, reached}
 use Rattle.logbook.proofs.Fields.{token, token_made}
 use Rattle.arcstr_block.proofs.Fields.{Words}
 use Rattle.arcstr_block.specs.contracts.pointer.Pointer.seen.{ended, clauses}
@@ -42,7 +42,7 @@ seen_spec 𝓤 𝓛 𝓜 𝓡 wired Y K g d dd met md =
     use1 𝓛 (‵ (hidden_shr D κ (p, (tt, tt)) b o) ⊛ ‵ (fhide (pointer_shares holds lim p h.text right h.seat h.block h.history κ)))
     (lent_out 𝓛 (C.struct B g) (C.the_codes Y.Denot B.coded (Marker.the_row B).coded) (C.the_heap B g) (C.the_lent B g) κ h b o) $
     split ! $ drop ! $ unhide ! $ fsplit ! $ drop ! $ fpick ! (λ t. fsplit ! $ move ! (1 ∷ []) $ drop ! $ fsplit ! $ fpick ! (λ named. drop ! $
-    rewrite ! 0 (λ (block : Names). ‵ (reached block.0 h.history)) named refl $
+    rewrite ! 0 (λ (block : BlockName). ‵ (reached block.history h.history)) named refl $
     -- [the prefix of the history; κ; the others]
     use0 𝓛 (‵ (D'.own_val (record {}, tt) (token ∷ []))) (token_made unit 𝓛) $ fjoin ! $ sets ! (agg ! (no_more !)) refl (tt, tt) $
     sets ! (agg ! (and_then ! (get ! refl) (no_more !))) refl (tt, (tt, tt)) $
