@@ -1,5 +1,5 @@
 -- Whoever has the word at 0 with its book has the block alone: the book of a block that is still shared lies in its invariant. Assumes `Logic`.
-use Rattle.std.proofs.Common.{ℕ, Bool, true, false, List, [], ◌∷◌, refl}
+use Rattle.std.proofs.Common.{ℕ, Bool, true, false, List, [], ◌∷◌, sym, subst, inl, inr}
 use mathlib.Core.Option.{some}
 use seplogic.Ra.Ura.{Ura}
 use base.Fraction.{full_share}
@@ -13,7 +13,8 @@ use types.Kit.{‵, raw, later, ◌$◌, ◌∵◌, !, qed, by, move, keep, fspl
 use types.Tokens.{shr_bor-open}
 use types.Within.{tokens_halve}
 use Rattle.arcstr_count.specs.declared.steps.Step.{Step}
-use Rattle.arcstr_block.specs.Rights.{HasSeat, Right, nothing, counted, uncounted, fixed, dropping, owed}
+use Rattle.arcstr_block.specs.Rights.{HasSeat, Right, counted, uncounted, dropping, owed}
+use Rattle.arcstr_block.proofs.Rights.{by_free}
 use Rattle.arcstr_block.specs.Book.{steps, Book}
 use Rattle.arcstr_block.specs.Ledger.{Id, Inv, if_alive, free, held_with}
 
@@ -89,13 +90,17 @@ module _ {M : Type 1} {𝓤 : Ura M} (𝓛 : Logic 𝓤) where
         not_free right = qed 𝓛 (‵ Book₀ ∷ ‵ (finv I) ∷ ‵ (free P L b o t s h right) ∷ []) ∵ move ! (2 ∷ []) $ fpick ! (λ e. fsplit3 ! $
             keep ! (3 ∷ 4 ∷ 1 ∷ []) $ by ! (not_shared e))
 
+        not_dropping : ⟦ Book₀ ⟧ ∗ ⟦ held_with P L b o t s h dropping ⟧ ⊢ H.⇛ Z
+        not_dropping = qed 𝓛 (‵ Book₀ ∷ ‵ (held_with P L b o t s h dropping) ∷ []) ∵ move ! (1 ∷ []) $ fsplit ! $ move ! (1 ∷ []) $ fsplit3 ! $
+            fpick ! (λ e. fpick ! (λ _. keep ! (4 ∷ 3 ∷ 0 ∷ []) $ by ! (not_shared e)))
+
+        not_owed : ⟦ Book₀ ⟧ ∗ ⟦ held_with P L b o t s h owed ⟧ ⊢ H.⇛ Z
+        not_owed = qed 𝓛 (‵ Book₀ ∷ ‵ (held_with P L b o t s h owed) ∷ []) ∵ move ! (1 ∷ []) $ fsplit ! $ move ! (1 ∷ []) $ fsplit ! $ fsplit ! $
+            keep ! (4 ∷ 1 ∷ []) $ by ! (one_book L₀ L t.name.history t.name.seats t.name.seats 0 0 (H.⇛ Z))
+
         -- and no handle has a seat
         pub no_other : (right : Right) → HasSeat right → ⟦ Book₀ ⟧ ∗ ⟦ held_with P L b o t s h right ⟧ ⊢ H.⇛ Z
-        no_other nothing may = absurd (may.0 refl)
-        no_other counted may = not_free counted
-        no_other uncounted may = not_free uncounted
-        no_other fixed may = absurd (may.1 refl)
-        no_other dropping may = qed 𝓛 (‵ Book₀ ∷ ‵ (held_with P L b o t s h dropping) ∷ []) ∵ move ! (1 ∷ []) $ fsplit ! $ move ! (1 ∷ []) $ fsplit3 ! $
-            fpick ! (λ e. fpick ! (λ _. keep ! (4 ∷ 3 ∷ 0 ∷ []) $ by ! (not_shared e)))
-        no_other owed may = qed 𝓛 (‵ Book₀ ∷ ‵ (held_with P L b o t s h owed) ∷ []) ∵ move ! (1 ∷ []) $ fsplit ! $ move ! (1 ∷ []) $ fsplit ! $ fsplit ! $
-            keep ! (4 ∷ 1 ∷ []) $ by ! (one_book L₀ L t.name.history t.name.seats t.name.seats 0 0 (H.⇛ Z))
+        no_other right may = let X : Right → Type 1 = λ k. ⟦ Book₀ ⟧ ∗ ⟦ held_with P L b o t s h k ⟧ ⊢ H.⇛ Z in elim may [
+          | inl free ↦ by_free X (not_free counted) (not_free uncounted) right free
+          | inr other ↦ elim other [ inl e ↦ subst X (sym e) not_dropping | inr e ↦ subst X (sym e) not_owed ]
+        ]

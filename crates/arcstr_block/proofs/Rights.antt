@@ -1,5 +1,5 @@
 -- A right as a `&` shows it, and the right that a step's gain becomes. Assumes `Logic`.
-use Rattle.std.proofs.Common.{◌≡◌, ◌≢◌, ℕ, if◌then◌else◌, inl, inr, [], ◌∷◌, refl, ap, arith}
+use Rattle.std.proofs.Common.{◌≡◌, ◌≢◌, ℕ, if◌then◌else◌, inl, inr, [], ◌∷◌, refl, sym, ap, subst, arith}
 use Rattle.std.specs.Prelude.{◌⊎◌}
 use mathlib.Core.Logic.{dite}
 use native.Mathlib.Decide.{ℕ_discrete}
@@ -19,21 +19,16 @@ use Rattle.arcstr_count.specs.Word.{FlagAndCount}
 use Rattle.arcstr_block.specs.Word.{IsMarked, IsUnmarked, IsLast, one}
 use Rattle.arcstr_block.specs.Rights.{MaySee, IsFree, HasSeat, counted, uncounted, Looks, Finds, Gains, Begins, Leaves, Right, nothing, fixed, dropping, owed}
 use Rattle.arcstr_block.specs.Book.{seat, seat_share}
-use Rattle.arcstr_block.specs.Ledger.{Id, parts, some_share, Inv, stated, permanent, right_to, shown, knows}
+use Rattle.arcstr_block.specs.Ledger.{Id, parts, some_share, Inv, stated, permanent, right_to, shown, free, free_shown, knows}
 use Rattle.arcstr_block.proofs.TokenParts.{parts_in}
 use Rattle.arcstr_block.proofs.Words.{odd_or_even, unmarked_word, last_two}
 use Rattle.arcstr_block.proofs.Book.{begun, left_in, Born}
 use Rattle.arcstr_block.proofs.PointerShares.{free_in}
 use Rattle.arcstr_block.proofs.Steps.{Gain, none, part, share, last, gained}
 
--- a free handle that is not uncounted is counted
-counted_of : (right : Right) → IsFree right → (right ≡ uncounted → ⊥) → right ≡ counted
-counted_of nothing may other = absurd (may.0 refl)
-counted_of counted may other = refl
-counted_of uncounted may other = absurd (other refl)
-counted_of fixed may other = absurd (may.1 refl)
-counted_of dropping may other = absurd (may.2 refl)
-counted_of owed may other = absurd (may.3 refl)
+-- a free handle is counted or uncounted
+pub by_free : (X : Right → Type 1) → X counted → X uncounted → (right : Right) → IsFree right → X right
+by_free X one other right may = elim may [ inl e ↦ subst X (sym e) one | inr e ↦ subst X (sym e) other ]
 
 -- the state of the seat of a right that has one
 abbrev pub seat_state : Right → HandleState
@@ -82,46 +77,41 @@ module _ {M : Type 1} {𝓤 : Ura M} (𝓛 : Logic 𝓤) (P : Fml) (L b o : ℕ)
     Held h = right_to P L b o t s h
 
     -- what a right that may read the block shows
-    pub may_see : (h : ℕ) (right : Right) → MaySee right → (κ : Lft) → ⟦ Shown h right κ ⟧ ⊢ ⟦ fshr_bor κ (λ q. flft a q) ⟧ ∗ ⟦ finv I ⟧ ∗ ⟦ s a ⟧
-    may_see h nothing may κ = absurd (may.0 refl)
-    may_see h counted may κ = qed 𝓛 (‵ (Shown h counted κ) ∷ []) ∵ fsplit3 ! $ move ! (2 ∷ []) $ fsplit3 ! $ keep ! (3 ∷ 1 ∷ 2 ∷ []) $ done !
-    may_see h uncounted may κ = qed 𝓛 (‵ (Shown h uncounted κ) ∷ []) ∵ fsplit3 ! $ move ! (2 ∷ []) $ fsplit3 ! $ keep ! (3 ∷ 1 ∷ 2 ∷ []) $ done !
-    may_see h fixed may κ = qed 𝓛 (‵ (Shown h fixed κ) ∷ []) ∵ fsplit3 ! $ fsplit ! $
+    abbrev Sees : Lft → Pr
+    Sees κ = ⟦ fshr_bor κ (λ q. flft a q) ⟧ ∗ ⟦ finv I ⟧ ∗ ⟦ s a ⟧
+
+    free_sees : (h : ℕ) (right : Right) (κ : Lft) → ⟦ free_shown P L b o t s h right κ ⟧ ⊢ Sees κ
+    free_sees h right κ = qed 𝓛 (‵ (free_shown P L b o t s h right κ) ∷ []) ∵ fsplit3 ! $ move ! (2 ∷ []) $ fsplit3 ! $ keep ! (3 ∷ 1 ∷ 2 ∷ []) $ done !
+
+    fixed_sees : (h : ℕ) (κ : Lft) → ⟦ Shown h fixed κ ⟧ ⊢ Sees κ
+    fixed_sees h κ = qed 𝓛 (‵ (Shown h fixed κ) ∷ []) ∵ fsplit3 ! $ fsplit ! $
         use1 𝓛 (‵ (fshr_bor κ (λ q. flft a q))) (𝓛.shr_bors.shr_bor_shorten [] κ (λ q. flft a q) (⊑_static κ)) $ keep ! (0 ∷ 2 ∷ 3 ∷ []) $ done !
-    may_see h dropping may κ = absurd (may.1 refl)
-    may_see h owed may κ = absurd (may.2 refl)
+
+    pub may_see : (h : ℕ) (right : Right) → MaySee right → (κ : Lft) → ⟦ Shown h right κ ⟧ ⊢ Sees κ
+    may_see h right may κ = let X : Right → Type 1 = λ k. ⟦ Shown h k κ ⟧ ⊢ Sees κ in
+        elim may [ inl free ↦ by_free X (free_sees h counted κ) (free_sees h uncounted κ) right free | inr e ↦ subst X (sym e) (fixed_sees h κ) ]
 
     -- what a free handle shows
     pub may_step : (h : ℕ) (right : Right) → IsFree right → (κ : Lft)
         → ⟦ Shown h right κ ⟧ ⊢ ⟦ fshr_bor κ (λ q. flft a q) ⟧ ∗ ⟦ fshr_bor κ (λ q. seat_share t.name.seats h q Free) ⟧ ∗ ⟦ knows t right ⟧ ∗ ⟦ finv I ⟧ ∗ ⟦ s a ⟧
-    may_step h nothing may κ = absurd (may.0 refl)
-    may_step h counted may κ = id⊢ 𝓤 _
-    may_step h uncounted may κ = id⊢ 𝓤 _
-    may_step h fixed may κ = absurd (may.1 refl)
-    may_step h dropping may κ = absurd (may.2 refl)
-    may_step h owed may κ = absurd (may.3 refl)
+    may_step h right may κ = by_free (λ k. ⟦ Shown h k κ ⟧ ⊢ ⟦ free_shown P L b o t s h k κ ⟧) (id⊢ 𝓤 _) (id⊢ 𝓤 _) right may
 
     -- what a free handle's right contains, which is the same for both
-    pub is_free : (h : ℕ) (right : Right) → IsFree right → ⟦ Held h right ⟧ ⊢ ⟦ Rattle.arcstr_block.specs.Ledger.free P L b o t s h right ⟧
-    is_free h nothing may = absurd (may.0 refl)
-    is_free h counted may = id⊢ 𝓤 _
-    is_free h uncounted may = id⊢ 𝓤 _
-    is_free h fixed may = absurd (may.1 refl)
-    is_free h dropping may = absurd (may.2 refl)
-    is_free h owed may = absurd (may.3 refl)
+    pub is_free : (h : ℕ) (right : Right) → IsFree right → ⟦ Held h right ⟧ ⊢ ⟦ free P L b o t s h right ⟧
+    is_free h right may = by_free (λ k. ⟦ Held h k ⟧ ⊢ ⟦ free P L b o t s h k ⟧) (id⊢ 𝓤 _) (id⊢ 𝓤 _) right may
 
-    free_has_seat : (h : ℕ) (right : Right) → ⟦ Rattle.arcstr_block.specs.Ledger.free P L b o t s h right ⟧ ⊢ ⟦ seat t.name.seats h Free ⟧
-    free_has_seat h right = qed 𝓛 (‵ (Rattle.arcstr_block.specs.Ledger.free P L b o t s h right) ∷ []) ∵ fpick ! (λ e. fsplit3 ! $ move ! (2 ∷ []) $ fsplit3 ! $
+    free_has_seat : (h : ℕ) (right : Right) → ⟦ free P L b o t s h right ⟧ ⊢ ⟦ seat t.name.seats h Free ⟧
+    free_has_seat h right = qed 𝓛 (‵ (free P L b o t s h right) ∷ []) ∵ fpick ! (λ e. fsplit3 ! $ move ! (2 ∷ []) $ fsplit3 ! $
         keep ! (2 ∷ []) $ done !)
 
-    -- each right except nothing and fixed has the seat of its handle
     pub has_seat : (h : ℕ) (right : Right) → HasSeat right → ⟦ Held h right ⟧ ⊢ ⟦ seat t.name.seats h (seat_state right) ⟧
-    has_seat h nothing may = absurd (may.0 refl)
-    has_seat h counted may = free_has_seat h counted
-    has_seat h uncounted may = free_has_seat h uncounted
-    has_seat h fixed may = absurd (may.1 refl)
-    has_seat h dropping may = qed 𝓛 (‵ (Held h dropping) ∷ []) ∵ fsplit3 ! $ keep ! (2 ∷ []) $ done !
-    has_seat h owed may = qed 𝓛 (‵ (Held h owed) ∷ []) ∵ fsplit3 ! $ keep ! (2 ∷ []) $ done !
+    has_seat h right may = let X : Right → Type 1 = λ k. ⟦ Held h k ⟧ ⊢ ⟦ seat t.name.seats h (seat_state k) ⟧ in elim may [
+      | inl free ↦ by_free X (free_has_seat h counted) (free_has_seat h uncounted) right free
+      | inr other ↦ elim other [
+        | inl e ↦ subst X (sym e) (qed 𝓛 (‵ (Held h dropping) ∷ []) ∵ fsplit3 ! $ keep ! (2 ∷ []) $ done !)
+        | inr e ↦ subst X (sym e) (qed 𝓛 (‵ (Held h owed) ∷ []) ∵ fsplit3 ! $ keep ! (2 ∷ []) $ done !)
+      ]
+    ]
 
     knows_nothing : ⟦ ftrue ⟧ ⊢ ⟦ knows t counted ⟧
     knows_nothing = all_i 𝓤 {P = emp 𝓤} (λ (_ : counted ≡ uncounted). A.dead (t.counting ∷ [])) (λ e. absurd cc)
@@ -273,7 +263,7 @@ module _ {M : Type 1} {𝓤 : Ura M} (𝓛 : Logic 𝓤) (P : Fml) (L b o : ℕ)
           → Becomes (Begins n) (FromBegin e) To
       begins right e may c known = elim (odd_or_even n) [
         | inl odd ↦ record { right = nothing; said = ((λ _. refl), (λ even. absurd (omega (arith, odd, even)))); turns = stops e }
-        | inr even ↦ let one : right ≡ counted = counted_of right may (λ marks. let odd = known marks in omega (arith, odd, even)) in
+        | inr even ↦ let one : right ≡ counted = elim may [ inl e ↦ e | inr marks ↦ let odd = known marks in absurd (omega (arith, odd, even)) ] in
             record { right = dropping; said = ((λ odd. absurd (omega (arith, odd, even))), (λ _. refl)); turns = goes_on e (c one) even }
       ]
 

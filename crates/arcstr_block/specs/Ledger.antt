@@ -21,6 +21,7 @@ use Rattle.arcstr_block.specs.Rights.{Right, nothing, counted, uncounted, fixed,
 use Rattle.arcstr_block.specs.Book.{BlockName, Book, reached, seat, seat_share}
 use Rattle.arcstr_block.specs.Memory.{block_owns, block_shares, placed, word_at, IsText}
 
+-- the statement as something that can be owned
 abbrev pub fact : Type 0 → Fml
 fact φ = fex φ (λ _. ftrue)
 
@@ -28,6 +29,7 @@ fact φ = fex φ (λ _. ftrue)
 abbrev pub parts : ℕ → ℕ → Fml
 parts a k = fex Share (λ e. fex (Counts 63 e k) (λ _. flft (a ∷ []) e))
 
+-- some share of a's token
 abbrev pub some_share : ℕ → Fml
 some_share a = fex Share (λ s. flft (a ∷ []) s)
 
@@ -45,16 +47,19 @@ knows t right = fall (right ≡ uncounted) (λ _. fdead (t.counting ∷ []))
 abbrev pub known : Id → BlockName → List Step → Fml
 known t block history = fsep (fact (t.name ≡ block)) (reached t.name.history history)
 
+-- an unmarked block with k parts out, or a marked one with m
 pub data Phase : Type 0 where
   unmarked : ℕ → Phase
   marked : ℕ → Phase
 
 -- P is what the block owns, L its limit, and b and o where its word lies.
 module _ (P : Fml) (L b o : ℕ) (t : Id) where
+  -- the phase is one of the word n
   abbrev pub Fits : ℕ → Phase → Type 0
   Fits n (unmarked k) = (n ≡ counting_word k) × (0 < k) × (k ≤ L + 1) × IsLimit L
   Fits n (marked m) = IsMarked n × (m ≤ count_in n) × (count_in n ≤ L + 1) × IsLimit L
 
+  -- what lies beside the word in this phase
   abbrev pub rest : Phase → Fml
   rest (unmarked k) = fsep (parts t.sharing (2 ^ 63 - k)) (fsep (flft (t.counting ∷ []) full_share) (flent (t.sharing ∷ []) P))
   rest (marked m) = fsep (parts t.sharing (2 ^ 63 - (m + 1))) (fsep (some_share t.sharing) (fdead (t.counting ∷ [])))
@@ -70,9 +75,11 @@ module _ (P : Fml) (L b o : ℕ) (t : Id) where
   abbrev pub stated : ℕ → Fml
   stated n = fsep (word b o n) (Book L t.name.history t.name.seats n)
 
+  -- the word with its history and its ledger
   abbrev pub counting : ℕ → Fml
   counting n = fsep (stated n) (Ledger n)
 
+  -- before a ends there is a word, and after it nothing
   abbrev pub if_alive : Bool → Fml
   if_alive true = fex ℕ counting
   if_alive false = fdead (t.sharing ∷ [])
@@ -103,6 +110,7 @@ module _ (P : Fml) (L b o : ℕ) (t : Id) where
     right_to dropping = fsep (parts t.sharing 1) (fsep (s (t.sharing ∷ [])) (seat t.name.seats h Dropping))
     right_to owed = fsep (stated (counting_word 0)) (fsep P (seat t.name.seats h Owing))
 
+    -- what a pointer holds of its block: the invariant and a right
     abbrev pub held_with : Right → Fml
     held_with right = fsep (finv Inv) (right_to right)
 
@@ -110,9 +118,11 @@ module _ (P : Fml) (L b o : ℕ) (t : Id) where
     abbrev pub seen : Lft → Fml
     seen = beside (always Inv) (held (t.sharing ∷ []) s)
 
+    -- what it holds of a free handle
     abbrev pub free_shown : Right → Lft → Fml
     free_shown right = beside (one (λ q. flft (t.sharing ∷ []) q)) (beside (one (λ q. seat_share t.name.seats h q Free)) (beside (said (knows t right)) seen))
 
+    -- what it holds of each right
     abbrev pub shown : Right → Lft → Fml
     shown nothing = no_part
     shown counted = free_shown counted

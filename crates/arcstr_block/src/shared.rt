@@ -3,7 +3,7 @@ ghost use Rattle.std.specs.Prelude.{◌≡◌, ℕ, length, IsUtf8, ◌<◌, ◌
 ghost use Rattle.arcstr_count.specs.Word.{bits_of, fresh_word};
 ghost use Rattle.arcstr_block.specs.Memory.{Fits};
 ghost use Rattle.arcstr_block.specs.Word.{IsLimit, IsUnmarked, IsWord, IsOtherWord};
-ghost use Rattle.arcstr_block.specs.Rights.{IsFree};
+ghost use Rattle.arcstr_block.specs.Rights.{IsFree, is_free_once};
 ghost use Rattle.arcstr_block.specs.Handle.{Handle, SawCount, SawMark, SawLeak, kept_of};
 ghost use Rattle.arcstr_block.specs.Same.{handle_of};
 
@@ -24,7 +24,7 @@ pub(crate) struct Counted<const LIMIT: u64, A: Allocator + Copy> {
     pub(crate) pointer: Pointer<A>,
     pub(crate) len: usize,
     pub(crate) alloc: A,
-    ghost free: { IsFree pointer.right },
+    ghost free: { IsFree pointer.right } by { is_free_once pointer.right },
     ghost measured: { len ≡ length pointer.text },
     ghost fits: { Fits len },
     ghost home: { alloc ≡ pointer.home },
