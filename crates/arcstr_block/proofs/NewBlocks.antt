@@ -4,7 +4,7 @@ use seplogic.Ra.Ura.{Ura}
 use base.Fraction.{full_share}
 use base.FractionLaws.{Counts-all}
 use base.Logic.{SProp, ent, sep, wand, emp, via, all_i}
-use base.Fml.{Lft, GName, Share, Incl, Incl-trans, Fml, fsep, fex, flft, finv}
+use base.Fml.{Lft, Share, Incl, Incl-trans, Fml, fsep, fex, flft, finv}
 use contract.BorrowLft.{meet_⊑_left, meet_⊑_right}
 use types.Logic.{Logic, sem}
 use types.Kit.{‵, ◌⊛◌, some, later, ◌$◌, ◌∵◌, !, qed, move, group, pick, use0, use1, use2, split, split3, join, fsplit, fjoin, fjoin3, fpick, fpack, await}

@@ -19,7 +19,7 @@ use Rattle.arcstr_count.specs.Word.{FlagAndCount}
 use Rattle.arcstr_block.specs.Word.{IsMarked, IsUnmarked, IsLast, one}
 use Rattle.arcstr_block.specs.Rights.{MaySee, IsFree, HasSeat, counted, uncounted, Looks, Finds, Gains, Begins, Leaves, Right, nothing, fixed, dropping, owed}
 use Rattle.arcstr_block.specs.Book.{seat, seat_share}
-use Rattle.arcstr_block.specs.Ledger.{Id, parts, some_share, Inv, stated, permanent, right_to, shown, free, free_shown, knows}
+use Rattle.arcstr_block.specs.Ledger.{Id, parts, Inv, right_to, shown, free, free_shown, knows}
 use Rattle.arcstr_block.proofs.TokenParts.{parts_in}
 use Rattle.arcstr_block.proofs.Words.{odd_or_even, unmarked_word, last_two}
 use Rattle.arcstr_block.proofs.Book.{begun, left_in, Born}

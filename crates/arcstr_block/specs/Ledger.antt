@@ -9,7 +9,7 @@
 use Rattle.std.specs.Prelude.{◌≡◌, ℕ, ◌+◌, ◌-◌, ◌^◌, ◌<◌, ◌≤◌, Bool, true, false, List, [], ◌∷◌, length}
 use base.Fraction.{full_share}
 use base.FractionLaws.{Counts}
-use base.Fml.{Lft, GName, Share, Fml, ftrue, fsep, fex, fall, flft, fdead, flent, fshr_bor, finv}
+use base.Fml.{Lft, Share, Fml, ftrue, fsep, fex, fall, flft, fdead, flent, fshr_bor, finv}
 use mir.Syntax.{Ty}
 use denote.RawPtr.{Ptr, block_of}
 use denote.Sharing.{said, beside, some, one, held, always, nothing as no_part}
