@@ -167,7 +167,8 @@ module _ {M : Type 1} {𝓤 : Ura M} (𝓛 : Logic 𝓤) where
         settle 𝓛 Z (some (λ (δ : GName). ‵ (unused state_code δ 0 Gone))) $ pick ! (λ δ.
         fpack ! HandleState (unused state_code δ 0) Gone $
         use1 𝓛 (raw (upd 𝓤 (⟦ roster state_code δ 0 (Free ∷ []) ⟧ ∗ ⟦ seat δ (0 + 0) Free ⟧))) (adds 𝓛 δ [] 0 Free) $
-        settle 𝓛 Z (‵ (roster state_code δ 0 (Free ∷ [])) ⊛ ‵ (seat δ (0 + 0) Free)) $ split ! $ suffices ! _ (upd_i 𝓤 Z) $ show ! Fresh (record { history = γ; seats = δ }) $
+        settle 𝓛 Z (‵ (roster state_code δ 0 (Free ∷ [])) ⊛ ‵ (seat δ (0 + 0) Free)) $ split ! $ suffices ! _ (upd_i 𝓤 Z) $
+        show ! Fresh (record { history = γ; seats = δ }) $
         move ! (2 ∷ []) $
         use1 𝓛 (‵ (latest steps full_share γ r) ⊛ ‵ (reached γ r)) (latest_shows steps 𝓛 full_share γ r r (steps.same r)) $ split ! $ move ! (0 ∷ 2 ∷ []) $
         use2 𝓛 (‵ (Book L γ δ 2)) (book_in L γ δ 2 r (Free ∷ []) (keeps-make L)) $ move ! (0 ∷ 2 ∷ 1 ∷ []) $ done !))

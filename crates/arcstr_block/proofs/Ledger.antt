@@ -51,14 +51,16 @@ module _ {M : Type 1} {𝓤 : Ura M} (𝓛 : Logic 𝓤) (P : Fml) (L b o : ℕ)
   -- one more handle
   pub takes : (k : ℕ) → k < 2 ^ 62 → ⟦ Keeps (unmarked k) ⟧ ⊢ ⟦ Keeps (unmarked (k + 1)) ⟧ ∗ ⟦ parts t.sharing 1 ⟧
   takes k small = qed 𝓛 (‵ (Keeps (unmarked k)) ∷ []) ∵ fsplit3 ! $
-      use1 𝓛 (‵ (parts t.sharing (2 ^ 63 - (k + 1))) ⊛ ‵ (parts t.sharing 1)) (parts_cut 𝓛 t.sharing (2 ^ 63 - k) (2 ^ 63 - (k + 1)) 1 (omega arith) (omega arith) (omega arith)
+      use1 𝓛 (‵ (parts t.sharing (2 ^ 63 - (k + 1))) ⊛ ‵ (parts t.sharing 1)) (parts_cut 𝓛 t.sharing (2 ^ 63 - k) (2 ^ 63 - (k + 1)) 1 (omega arith)
+      (omega arith) (omega arith)
       (omega arith)) $ split ! $
       move ! (0 ∷ 2 ∷ 3 ∷ []) $ fjoin3 ! $ done !
 
   -- one handle less, which is not the last
   pub gives : (k : ℕ) → 1 < k → k < 2 ^ 63 → ⟦ Keeps (unmarked k) ⟧ ∗ ⟦ parts t.sharing 1 ⟧ ⊢ ⟦ Keeps (unmarked (k - 1)) ⟧
   gives k many small = qed 𝓛 (‵ (Keeps (unmarked k)) ∷ ‵ (parts t.sharing 1) ∷ []) ∵ fsplit3 ! $ move ! (0 ∷ 3 ∷ []) $
-      use2 𝓛 (‵ (parts t.sharing (2 ^ 63 - (k - 1)))) (parts_glue 𝓛 t.sharing (2 ^ 63 - k) 1 (2 ^ 63 - (k - 1)) (omega arith) (omega arith) (omega arith)) $ fjoin3 ! $
+      use2 𝓛 (‵ (parts t.sharing (2 ^ 63 - (k - 1)))) (parts_glue 𝓛 t.sharing (2 ^ 63 - k) 1 (2 ^ 63 - (k - 1)) (omega arith) (omega arith)
+      (omega arith)) $ fjoin3 ! $
       done !
 
   -- the last one has the whole token, and with it what was lent
@@ -79,11 +81,14 @@ module _ {M : Type 1} {𝓤 : Ura M} (𝓛 : Logic 𝓤) (P : Fml) (L b o : ℕ)
 
   -- the token of c ends with the mark, and one more part is kept, of which the handle that marks has a share
   pub marks : (k : ℕ) → k < 2 ^ 63 - 1
-      → ⟦ Keeps (unmarked k) ⟧ ⊢ A.lft (t.counting ∷ []) full_share ∗ ⟦ parts t.sharing (2 ^ 63 - (k + 1)) ⟧ ∗ ⟦ some_share t.sharing ⟧ ∗ ⟦ some_share t.sharing ⟧
+      → ⟦ Keeps (unmarked k) ⟧ ⊢ A.lft (t.counting ∷ []) full_share ∗ ⟦ parts t.sharing (2 ^ 63 - (k + 1)) ⟧ ∗ ⟦ some_share t.sharing ⟧
+      ∗ ⟦ some_share t.sharing ⟧
   marks k small = qed 𝓛 (‵ (Keeps (unmarked k)) ∷ []) ∵ fsplit3 ! $
-      use1 𝓛 (‵ (parts t.sharing (2 ^ 63 - (k + 1))) ⊛ ‵ (parts t.sharing 1)) (parts_cut 𝓛 t.sharing (2 ^ 63 - k) (2 ^ 63 - (k + 1)) 1 (omega arith) (omega arith) (omega arith)
+      use1 𝓛 (‵ (parts t.sharing (2 ^ 63 - (k + 1))) ⊛ ‵ (parts t.sharing 1)) (parts_cut 𝓛 t.sharing (2 ^ 63 - k) (2 ^ 63 - (k + 1)) 1 (omega arith)
+      (omega arith) (omega arith)
       (omega arith)) $ split ! $
-      move ! (1 ∷ []) $ use1 𝓛 (‵ (some_share t.sharing)) (part_share 𝓛 t.sharing 1) $ use1 𝓛 (‵ (some_share t.sharing) ⊛ ‵ (some_share t.sharing)) (share_halves 𝓛 t.sharing) $ split ! $
+      move ! (1 ∷ []) $ use1 𝓛 (‵ (some_share t.sharing)) (part_share 𝓛 t.sharing 1) $
+      use1 𝓛 (‵ (some_share t.sharing) ⊛ ‵ (some_share t.sharing)) (share_halves 𝓛 t.sharing) $ split ! $
       keep ! (3 ∷ 2 ∷ 0 ∷ 1 ∷ []) $ done !
 
   pub marked_in : (m : ℕ) → ⟦ parts t.sharing (2 ^ 63 - (m + 1)) ⟧ ∗ ⟦ some_share t.sharing ⟧ ∗ A.dead (t.counting ∷ []) ⊢ ⟦ Keeps (marked m) ⟧
@@ -91,7 +96,8 @@ module _ {M : Type 1} {𝓤 : Ura M} (𝓛 : Logic 𝓤) (P : Fml) (L b o : ℕ)
 
   -- every handle that finds the mark has a share
   pub finds_mark : (m : ℕ) → ⟦ Keeps (marked m) ⟧ ⊢ ⟦ Keeps (marked m) ⟧ ∗ ⟦ some_share t.sharing ⟧ ∗ A.dead (t.counting ∷ [])
-  finds_mark m = qed 𝓛 (‵ (Keeps (marked m)) ∷ []) ∵ fsplit3 ! $ move ! (1 ∷ []) $ use1 𝓛 (‵ (some_share t.sharing) ⊛ ‵ (some_share t.sharing)) (share_halves 𝓛 t.sharing) $
+  finds_mark m = qed 𝓛 (‵ (Keeps (marked m)) ∷ []) ∵ fsplit3 ! $ move ! (1 ∷ []) $
+      use1 𝓛 (‵ (some_share t.sharing) ⊛ ‵ (some_share t.sharing)) (share_halves 𝓛 t.sharing) $
       split ! $
       move ! (3 ∷ []) $ use1 𝓛 (‵ (fdead (t.counting ∷ [])) ⊛ ‵ (fdead (t.counting ∷ []))) (𝓛.lfts.dead_dup (t.counting ∷ [])) $ split ! $
       move ! (4 ∷ 2 ∷ 0 ∷ []) $ fjoin3 ! $ move ! (0 ∷ 2 ∷ 1 ∷ []) $ done !

@@ -53,7 +53,8 @@ module _ {M : Type 1} {𝓤 : Ura M} (𝓛 : Logic 𝓤) (P : Fml) (L b o : ℕ)
 
     pub begins : (l : Lft) → Lends 𝓛 P s l → (μ : Lft) (q : Share) → Incl μ l → ⟦ fsep (word b o 2) P ⟧ ∗ A.lft μ q ⊢ H.⇛ (⟦ Owner ⟧ ∗ A.lft μ q)
     begins l lends μ q inc = qed 𝓛 (‵ (fsep (word b o 2) P) ∷ ‵ (flft μ q) ∷ []) ∵ updating ! $ fsplit ! $
-        use0 𝓛 (later (some (λ (z : BlockName). ‵ (Book L z.history z.seats 2) ⊛ ‵ (seat z.seats 0 Free) ⊛ ‵ (reached z.history (Make ∷ []))))) (via 𝓤 _ (book_new 𝓛 L)
+        use0 𝓛 (later (some (λ (z : BlockName). ‵ (Book L z.history z.seats 2) ⊛ ‵ (seat z.seats 0 Free) ⊛ ‵ (reached z.history (Make ∷
+        []))))) (via 𝓤 _ (book_new 𝓛 L)
         (basic 𝓛 _)) $ await ! tt $ pick ! (λ z. split3 ! $
         -- [the book; the seat; the first step; the word; P; μ]
         move ! (3 ∷ 0 ∷ []) $ fjoin ! $ move ! (0 ∷ 3 ∷ 1 ∷ 2 ∷ 4 ∷ []) $

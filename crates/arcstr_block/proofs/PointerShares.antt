@@ -31,7 +31,8 @@ permanent_twice : {M : Type 1} {𝓤 : Ura M} (𝓛 : Logic 𝓤) (P : Fml) (L b
     → ent 𝓤 (sem 𝓛 (permanent P L b o t)) (sep 𝓤 (sem 𝓛 (permanent P L b o t)) (sem 𝓛 (permanent P L b o t)))
 permanent_twice 𝓛 P L b o t = let a : Lft = t.sharing ∷ [] in qed 𝓛 (‵ (permanent P L b o t) ∷ []) ∵ fsplit ! $
     use1 𝓛 (‵ (fshr_bor [] (λ q. flft a q)) ⊛ ‵ (fshr_bor [] (λ q. flft a q))) (𝓛.shr_bors.shr_bor_dup [] (λ q. flft a q)) $ split ! $ move ! (2 ∷ []) $
-    use1 𝓛 (‵ (fdead (t.counting ∷ [])) ⊛ ‵ (fdead (t.counting ∷ []))) (𝓛.lfts.dead_dup (t.counting ∷ [])) $ split ! $ move ! (2 ∷ 0 ∷ []) $ fjoin ! $ move ! (2 ∷ 1 ∷ []) $
+    use1 𝓛 (‵ (fdead (t.counting ∷ [])) ⊛ ‵ (fdead (t.counting ∷ []))) (𝓛.lfts.dead_dup (t.counting ∷ [])) $ split ! $ move ! (2 ∷ 0 ∷ []) $ fjoin ! $
+    move ! (2 ∷ 1 ∷ []) $
     fjoin ! $ done !
 
 permanent_laws : (P : Fml) (L b o : ℕ) (t : Id) → ShrLaws (said (permanent P L b o t))
@@ -64,7 +65,8 @@ module _ (P : Fml) (L b o : ℕ) (s : Lft → Fml) (laws : ShrLaws s) (h : ℕ) 
   free_laws : (t : Id) (right : Right) → ShrLaws (free_shown P L b o t s h right)
   free_laws t right = beside_shr_laws (one (λ q. flft (t.sharing ∷ []) q)) (beside (one (λ q.
       seat_share t.name.seats h q Free)) (beside (said (knows t right)) (seen P L b o t s h))) (one_shr_laws (λ q. flft (t.sharing ∷ []) q))
-      (beside_shr_laws (one (λ q. seat_share t.name.seats h q Free)) (beside (said (knows t right)) (seen P L b o t s h)) (one_shr_laws (λ q. seat_share t.name.seats h q Free))
+      (beside_shr_laws (one (λ q. seat_share t.name.seats h q Free)) (beside (said (knows t right)) (seen P L b o t s h)) (one_shr_laws
+      (λ q. seat_share t.name.seats h q Free))
       (beside_shr_laws (said (knows t right)) (seen P L b o t s h) (knows_laws t right) (seen_laws t)))
 
   pub shown_laws : (t : Id) (right : Right) → ShrLaws (shown P L b o t s h right)

@@ -93,7 +93,8 @@ module _ {M : Type 1} {𝓤 : Ura M} (𝓛 : Logic 𝓤) (P : Fml) (L b o : ℕ)
 
     -- what a free handle shows
     pub may_step : (h : ℕ) (right : Right) → IsFree right → (κ : Lft)
-        → ⟦ Shown h right κ ⟧ ⊢ ⟦ fshr_bor κ (λ q. flft a q) ⟧ ∗ ⟦ fshr_bor κ (λ q. seat_share t.name.seats h q Free) ⟧ ∗ ⟦ knows t right ⟧ ∗ ⟦ finv I ⟧ ∗ ⟦ s a ⟧
+        → ⟦ Shown h right κ ⟧ ⊢ ⟦ fshr_bor κ (λ q. flft a q) ⟧ ∗ ⟦ fshr_bor κ (λ q. seat_share t.name.seats h q Free) ⟧ ∗ ⟦ knows t right ⟧ ∗ ⟦ finv I ⟧
+        ∗ ⟦ s a ⟧
     may_step h right may κ = by_free (λ k. ⟦ Shown h k κ ⟧ ⊢ ⟦ free_shown P L b o t s h k κ ⟧) (id⊢ 𝓤 _) (id⊢ 𝓤 _) right may
 
     -- what a free handle's right contains, which is the same for both
@@ -162,13 +163,15 @@ module _ {M : Type 1} {𝓤 : Ura M} (𝓛 : Logic 𝓤) (P : Fml) (L b o : ℕ)
 
     counted_clone : (event : Type 0) → event → FromClone event part ⊢ H.⇛ (ToClone counted)
     counted_clone event y = qed 𝓛 (‵ (parts t.sharing 1) ∷ ‵ (s a) ∷ ‵ (newborn event) ∷ []) ∵ updating ! $ fpick ! (λ e. fpick ! (λ c. move ! (2 ∷ []) $
-        use1 𝓛 (‵ (Born 𝓛 L t.name.history t.name.seats)) (all_e 𝓤 (λ (_ : event). ⟦ Born 𝓛 L t.name.history t.name.seats ⟧) y) $ fpick ! (λ j. no_item ! $ use1 𝓛 (‵ (knows t counted)) knows_nothing $
+        use1 𝓛 (‵ (Born 𝓛 L t.name.history t.name.seats)) (all_e 𝓤 (λ (_ : event). ⟦ Born 𝓛 L t.name.history t.name.seats ⟧) y) $ fpick ! (λ j. no_item ! $
+        use1 𝓛 (‵ (knows t counted)) knows_nothing $
         move ! (2 ∷ 0 ∷ 3 ∷ 1 ∷ []) $ types.Kit.group ! 4 $
         use1 𝓛 (‵ (Held j counted)) (free_in P L b o s laws j 𝓛 t counted e (λ _. c)) $ fpack ! ℕ (λ i. Held i counted) j $ now ! $ done !)))
 
     uncounted_clone : (event : Type 0) → event → FromClone event share ⊢ H.⇛ (ToClone uncounted)
     uncounted_clone event y = qed 𝓛 (‵ (gained 𝓛 P L b o t share) ∷ ‵ (s a) ∷ ‵ (newborn event) ∷ []) ∵ updating ! $ fsplit ! $ fpick ! (λ e. move ! (3 ∷ []) $
-        use1 𝓛 (‵ (Born 𝓛 L t.name.history t.name.seats)) (all_e 𝓤 (λ (_ : event). ⟦ Born 𝓛 L t.name.history t.name.seats ⟧) y) $ fpick ! (λ j. move ! (2 ∷ []) $
+        use1 𝓛 (‵ (Born 𝓛 L t.name.history t.name.seats)) (all_e 𝓤 (λ (_ : event). ⟦ Born 𝓛 L t.name.history t.name.seats ⟧) y) $
+        fpick ! (λ j. move ! (2 ∷ []) $
         use1 𝓛 (‵ (knows t uncounted)) knows_mark $ move ! (2 ∷ 0 ∷ 3 ∷ 1 ∷ []) $ types.Kit.group ! 4 $
         use1 𝓛 (‵ (Held j uncounted)) (free_in P L b o s laws j 𝓛 t uncounted e (λ w. absurd cc)) $ fpack ! ℕ (λ i. Held i uncounted) j $ now ! $ done !))
 
@@ -252,12 +255,15 @@ module _ {M : Type 1} {𝓤 : Ura M} (𝓛 : Logic 𝓤) (P : Fml) (L b o : ℕ)
       To k = ⟦ Held h k ⟧
 
       goes_on : (e : Share) → Counts 63 e 1 → IsUnmarked n → FromBegin e ⊢ H.⇛ (To dropping)
-      goes_on e c even = let is : begun 𝓛 L t.name.history t.name.seats n ≡ Dropping = ap (λ (w : FlagAndCount). if w.flag then Gone else Dropping) (unmarked_word n even) in
+      goes_on e c even = let is : begun 𝓛 L t.name.history t.name.seats n ≡ Dropping = ap (λ (w : FlagAndCount). if w.flag then Gone else Dropping)
+          (unmarked_word n even) in
           qed 𝓛 (‵ (flft a e) ∷ ‵ (s a) ∷ ‵ (seat t.name.seats h (begun 𝓛 L t.name.history t.name.seats n)) ∷ []) ∵ updating ! $
-          rewrite ! 2 (λ (v : HandleState). ‵ (seat t.name.seats h v)) is refl $ use1 𝓛 (‵ (parts t.sharing 1)) (parts_in 𝓛 t.sharing 1 e c) $ fjoin3 ! $ now ! $ done !
+          rewrite ! 2 (λ (v : HandleState). ‵ (seat t.name.seats h v)) is refl $ use1 𝓛 (‵ (parts t.sharing 1)) (parts_in 𝓛 t.sharing 1 e c) $ fjoin3 ! $
+          now ! $ done !
 
       stops : (e : Share) → FromBegin e ⊢ H.⇛ (To nothing)
-      stops e = qed 𝓛 (‵ (flft a e) ∷ ‵ (s a) ∷ ‵ (seat t.name.seats h (begun 𝓛 L t.name.history t.name.seats n)) ∷ []) ∵ updating ! $ keep ! (1 ∷ []) $ now ! $ done !
+      stops e = qed 𝓛 (‵ (flft a e) ∷ ‵ (s a) ∷ ‵ (seat t.name.seats h (begun 𝓛 L t.name.history t.name.seats n)) ∷ []) ∵ updating ! $ keep ! (1 ∷ []) $
+          now ! $ done !
 
       pub begins : (right : Right) (e : Share) → IsFree right → (right ≡ counted → Counts 63 e 1) → (right ≡ uncounted → IsMarked n)
           → Becomes (Begins n) (FromBegin e) To
@@ -278,7 +284,8 @@ module _ {M : Type 1} {𝓤 : Ura M} (𝓛 : Logic 𝓤) (P : Fml) (L b o : ℕ)
           move ! (0 ∷ 3 ∷ []) $ fjoin ! $ move ! (1 ∷ 0 ∷ []) $ fjoin ! $ now ! $ keep ! (0 ∷ []) $ done !
 
       leaves : (X : Fml) → ⟦ X ⟧ ∗ ⟦ s a ⟧ ∗ ⟦ seat t.name.seats h (left_in 𝓛 L t.name.history t.name.seats n) ⟧ ⊢ H.⇛ (To nothing)
-      leaves X = qed 𝓛 (‵ X ∷ ‵ (s a) ∷ ‵ (seat t.name.seats h (left_in 𝓛 L t.name.history t.name.seats n)) ∷ []) ∵ updating ! $ keep ! (1 ∷ []) $ now ! $ done !
+      leaves X = qed 𝓛 (‵ X ∷ ‵ (s a) ∷ ‵ (seat t.name.seats h (left_in 𝓛 L t.name.history t.name.seats n)) ∷ []) ∵ updating ! $ keep ! (1 ∷ []) $ now ! $
+          done !
 
       not_last : (g : Gain) → (g ≡ last → ⊥) → (IsLast n → g ≡ last) → Leaves n nothing
       not_last g other ok = ((λ e. absurd (other (ok e))), (λ _. refl))

@@ -92,7 +92,8 @@ module _ {M : Type 1} {𝓤 : Ura M} (𝓛 : Logic 𝓤) where
           → ⟦ right_to P h.limit pb po t (block_shares h.at h.text) h.seat h.right ⟧ ∗ ⟦ finv (Inv P h.limit pb po t) ⟧ ∗ ⟦ reached t.name.history h.history ⟧
           ⊢ ⟦ Row.own_val h (pointer_val h.at ∷ []) ⟧
       pointer_in t named inb =
-          qed 𝓛 (‵ (right_to P h.limit pb po t (block_shares h.at h.text) h.seat h.right) ∷ ‵ (finv (Inv P h.limit pb po t)) ∷ ‵ (reached t.name.history h.history) ∷ []) ∵
+          qed 𝓛 (‵ (right_to P h.limit pb po t (block_shares h.at h.text) h.seat h.right) ∷ ‵ (finv (Inv P h.limit pb po t)) ∷
+          ‵ (reached t.name.history h.history) ∷ []) ∵
           move ! (1 ∷ 0 ∷ []) $ fjoin ! $ move ! (1 ∷ []) $ nothing ! $ fpack ! (t.name ≡ h.block) (λ _. ftrue) named $ fjoin ! $ fjoin ! $
           fpack ! Id (of_block (g.dealloc_token h.home) h.limit h.at h.text h.right h.seat h.block h.history) t $
           nothing ! $ fpack ! (InBlock h.at × IsText h.text) (λ _. ftrue) inb $ fjoin ! $

@@ -111,15 +111,18 @@ module _ {M : Type 1} {𝓤 : Ura M} (𝓛 : Logic 𝓤) (P : Fml) (L b o : ℕ)
     pub marking : (n k : ℕ) → k < 2 ^ 63 - 1 → In (f n) (marked k) → ok n share → ⟦ St (f n) ⟧ ∗ ⟦ Keeps (unmarked k) ⟧ ∗ ⟦ kept ⟧ ⊢ Stepped n
     marking n k small h y =
         qed 𝓛 (‵ (St (f n)) ∷ ‵ (Keeps (unmarked k)) ∷ ‵ kept ∷ []) ∵ move ! (1 ∷ []) $
-        use1 𝓛 (‵ (flft (t.counting ∷ []) full_share) ⊛ ‵ (parts t.sharing (2 ^ 63 - (k + 1))) ⊛ ‵ (some_share t.sharing) ⊛ ‵ (some_share t.sharing)) (marks 𝓛 P L b o t k small) $
+        use1 𝓛 (‵ (flft (t.counting ∷ []) full_share) ⊛ ‵ (parts t.sharing (2 ^ 63 - (k + 1))) ⊛ ‵ (some_share t.sharing) ⊛
+        ‵ (some_share t.sharing)) (marks 𝓛 P L b o t k small) $
         split3 ! $ move ! (2 ∷ []) $ split ! $
         -- [a share; a share; the token of c; the parts; the word; what is returned]
         suffices ! _ (ending n t.counting) $ move ! (2 ∷ []) $ frame ! $ assume ! (‵ (fdead (t.counting ∷ []))) $ suffices ! _ (upd_i 𝓤 (Shut n)) $
-        use1 𝓛 (‵ (fdead (t.counting ∷ [])) ⊛ ‵ (fdead (t.counting ∷ []))) (𝓛.lfts.dead_dup (t.counting ∷ [])) $ split ! $ move ! (3 ∷ 0 ∷ []) $ fjoin ! $ move ! (3 ∷ 2 ∷ 1 ∷ []) $
+        use1 𝓛 (‵ (fdead (t.counting ∷ [])) ⊛ ‵ (fdead (t.counting ∷ []))) (𝓛.lfts.dead_dup (t.counting ∷ [])) $ split ! $ move ! (3 ∷ 0 ∷ []) $ fjoin ! $
+        move ! (3 ∷ 2 ∷ 1 ∷ []) $
         use3 𝓛 (‵ (Keeps (marked k))) (marked_in 𝓛 P L b o t k) $ move ! (2 ∷ 0 ∷ 3 ∷ 1 ∷ []) $ by ! (shuts n (marked k) h share y)
 
     -- B is what the history's law takes, and `said` is what it gives
-    module _ (alive : ⟦ K ⟧ ∗ A.dead (t.sharing ∷ []) ⊢ never 𝓤) (law : (n : ℕ) → n < 2 ^ 64 → (s : Phase) → In n s → ⟦ St (f n) ⟧ ∗ ⟦ Keeps s ⟧ ∗ ⟦ K ⟧ ⊢ Stepped n)
+    module _ (alive : ⟦ K ⟧ ∗ A.dead (t.sharing ∷ []) ⊢ never 𝓤) (law : (n : ℕ) → n < 2 ^ 64 → (s : Phase) → In n s
+        → ⟦ St (f n) ⟧ ∗ ⟦ Keeps s ⟧ ∗ ⟦ K ⟧ ⊢ Stepped n)
         (B : Fml) (said : ℕ → Fml) (turn : (n : ℕ) → n < 2 ^ 64 → ⟦ Bk n ⟧ ∗ ⟦ B ⟧ ⊢ upd 𝓤 (⟦ Bk (f n) ⟧ ∗ ⟦ said n ⟧)) where
       abbrev After : ℕ → Fml
       After = all_after said
@@ -161,7 +164,8 @@ module _ {M : Type 1} {𝓤 : Ura M} (𝓛 : Logic 𝓤) (P : Fml) (L b o : ℕ)
     sees : (n : ℕ) → n < 2 ^ 64 → (s : Phase) → In n s → ⟦ St n ⟧ ∗ ⟦ Keeps s ⟧ ∗ ⟦ With ⟧ ⊢ Stepped (λ m. m) Told With Tok n
     sees n fits (unmarked k) h = let even : IsUnmarked n = omega (arith, h.0) in let h₁ = h.1 in let h₂ = h.2 in let h₀ = h.0 in
         qed 𝓛 (‵ (St n) ∷ ‵ (Keeps (unmarked k)) ∷ ‵ With ∷ []) ∵ move ! (2 ∷ []) $ fsplit ! $ dite (uncounted_or_not right)
-        (λ e. move ! (1 ∷ 3 ∷ []) $ use1 𝓛 (‵ (fdead (t.counting ∷ []))) (all_e 𝓤 (λ (_ : right ≡ uncounted). A.dead (t.counting ∷ [])) e) $ move ! (1 ∷ []) $ fsplit3 ! $
+        (λ e. move ! (1 ∷ 3 ∷ []) $ use1 𝓛 (‵ (fdead (t.counting ∷ []))) (all_e 𝓤 (λ (_ : right ≡ uncounted). A.dead (t.counting ∷ [])) e) $
+        move ! (1 ∷ []) $ fsplit3 ! $
         keep ! (1 ∷ 3 ∷ []) $ by ! (not_alive 𝓛 P L b o t full_share t.counting _))
         (λ ne. move ! (1 ∷ []) $ drop ! $ nothing ! $ move ! (2 ∷ 3 ∷ 1 ∷ 0 ∷ []) $
         by ! (keeps (λ m. m) Told With Tok n (unmarked k) h none (
@@ -173,7 +177,8 @@ module _ {M : Type 1} {𝓤 : Ura M} (𝓛 : Logic 𝓤) (P : Fml) (L b o : ℕ)
         )))
     sees n fits (marked m) h = let odd : IsMarked n = h.0 in
         qed 𝓛 (‵ (St n) ∷ ‵ (Keeps (marked m)) ∷ ‵ With ∷ []) ∵ move ! (2 ∷ []) $ fsplit ! $ move ! (3 ∷ []) $
-        use1 𝓛 (‵ (Keeps (marked m)) ⊛ ‵ (some_share t.sharing) ⊛ ‵ (fdead (t.counting ∷ []))) (finds_mark 𝓛 P L b o t m) $ split3 ! $ move ! (1 ∷ 2 ∷ []) $ fjoin ! $
+        use1 𝓛 (‵ (Keeps (marked m)) ⊛ ‵ (some_share t.sharing) ⊛ ‵ (fdead (t.counting ∷ []))) (finds_mark 𝓛 P L b o t m) $ split3 ! $
+        move ! (1 ∷ 2 ∷ []) $ fjoin ! $
         keep ! (4 ∷ 1 ∷ 2 ∷ 0 ∷ []) $
         by ! (keeps (λ x. x) Told With Tok n (marked m) h share ((λ even. absurd (omega arith)), (λ _. odd), (λ _. refl), (λ even. absurd (omega arith))))
 

@@ -79,7 +79,8 @@ module _ {M : Type 1} {𝓤 : Ura M} (𝓛 : Logic 𝓤) (P : Fml) (L b o : ℕ)
         )) refl
     mark n fits (marked m) h = let odd : IsMarked n = h.0 in
         qed 𝓛 (‵ (St (with_mark n)) ∷ ‵ (Keeps (marked m)) ∷ ‵ Tok ∷ []) ∵ move ! (1 ∷ []) $
-        use1 𝓛 (‵ (Keeps (marked m)) ⊛ ‵ (some_share t.sharing) ⊛ ‵ (fdead (t.counting ∷ []))) (finds_mark 𝓛 P L b o t m) $ split3 ! $ move ! (1 ∷ 2 ∷ []) $ fjoin ! $
+        use1 𝓛 (‵ (Keeps (marked m)) ⊛ ‵ (some_share t.sharing) ⊛ ‵ (fdead (t.counting ∷ []))) (finds_mark 𝓛 P L b o t m) $ split3 ! $
+        move ! (1 ∷ 2 ∷ []) $ fjoin ! $
         move ! (2 ∷ 1 ∷ 3 ∷ 0 ∷ []) $
         by ! (keeps 𝓛 P L b o t with_mark Fixed Tok Tok n (marked m) (subst (λ (x : ℕ). In x (marked m)) (sym (or_marked n odd)) h) share refl)
 
@@ -119,7 +120,8 @@ module _ {M : Type 1} {𝓤 : Ura M} (𝓛 : Logic 𝓤) (P : Fml) (L b o : ℕ)
           ))
       misses n miss (marked m) h = let odd : IsMarked n = h.0 in
           qed 𝓛 (‵ (St (exchanged n)) ∷ ‵ (Keeps (marked m)) ∷ ‵ Tok ∷ []) ∵ move ! (1 ∷ []) $
-          use1 𝓛 (‵ (Keeps (marked m)) ⊛ ‵ (some_share t.sharing) ⊛ ‵ (fdead (t.counting ∷ []))) (finds_mark 𝓛 P L b o t m) $ split3 ! $ move ! (1 ∷ 2 ∷ []) $ fjoin ! $
+          use1 𝓛 (‵ (Keeps (marked m)) ⊛ ‵ (some_share t.sharing) ⊛ ‵ (fdead (t.counting ∷ []))) (finds_mark 𝓛 P L b o t m) $ split3 ! $
+          move ! (1 ∷ 2 ∷ []) $ fjoin ! $
           move ! (2 ∷ 1 ∷ 3 ∷ 0 ∷ []) $
           by ! (keeps 𝓛 P L b o t exchanged Raised Tok Tok n (marked m) (subst (λ (x : ℕ). In x (marked m)) (sym (lost n miss)) h) share (
             (λ even. absurd (omega (arith, odd, even))),
@@ -136,7 +138,8 @@ module _ {M : Type 1} {𝓤 : Ura M} (𝓛 : Logic 𝓤) (P : Fml) (L b o : ℕ)
           let good : IsWord L old = λ _. (omega (arith, h₀, h₁), omega (arith, h₀, h₂)) in dite (dec_le (old / 2) L)
           (λ room. let is : new ≡ old + 2 = asked.2 room in
           qed 𝓛 (‵ (St (exchanged old)) ∷ ‵ (Keeps (unmarked k)) ∷ ‵ Tok ∷ []) ∵ move ! (1 ∷ []) $
-          use1 𝓛 (‵ (Keeps (unmarked (k + 1))) ⊛ ‵ (parts t.sharing 1)) (takes 𝓛 P L b o t k (omega (arith, h₀, room, h₃))) $ split ! $ move ! (2 ∷ 0 ∷ 3 ∷ 1 ∷ []) $
+          use1 𝓛 (‵ (Keeps (unmarked (k + 1))) ⊛ ‵ (parts t.sharing 1)) (takes 𝓛 P L b o t k (omega (arith, h₀, room, h₃))) $ split ! $
+          move ! (2 ∷ 0 ∷ 3 ∷ 1 ∷ []) $
           by ! (keeps 𝓛 P L b o t exchanged Raised Tok Tok old (unmarked (k + 1)) (subst (λ (x : ℕ). In x (unmarked (k + 1))) (sym won) (
             omega
                 (arith, h₀, is),
@@ -185,7 +188,8 @@ module _ {M : Type 1} {𝓤 : Ura M} (𝓛 : Logic 𝓤) (P : Fml) (L b o : ℕ)
       qed 𝓛 (‵ (St 0) ∷ ‵ (Keeps (unmarked 1)) ∷ ‵ One ∷ []) ∵ move ! (1 ∷ 2 ∷ []) $
       use2 𝓛 (‵ (flft (t.sharing ∷ []) full_share) ⊛ ‵ (flent (t.sharing ∷ []) P)) (gives_last 𝓛 P L b o t) $ split ! $
       suffices ! _ (ending 𝓛 P L b o t less Left One ftrue 2 t.sharing) $ frame ! $ assume ! (‵ (fdead (t.sharing ∷ []))) $ suffices ! _ (upd_i 𝓤 shut) $
-      use1 𝓛 (‵ (fdead (t.sharing ∷ [])) ⊛ ‵ (fdead (t.sharing ∷ []))) (𝓛.lfts.dead_dup (t.sharing ∷ [])) $ split ! $ move ! (3 ∷ 1 ∷ 2 ∷ []) $ fjoin3 ! $ nothing ! $
+      use1 𝓛 (‵ (fdead (t.sharing ∷ [])) ⊛ ‵ (fdead (t.sharing ∷ []))) (𝓛.lfts.dead_dup (t.sharing ∷ [])) $ split ! $ move ! (3 ∷ 1 ∷ 2 ∷ []) $ fjoin3 ! $
+      nothing ! $
       move ! (0 ∷ 1 ∷ []) $
       use2 𝓛 (‵ (after 𝓛 P L b o t less Left One ftrue 2)) (gains 𝓛 P L b o t less Left One ftrue 2 last ((λ _. refl), (λ ne. absurd (ne refl)))) $
       move ! (1 ∷ []) $

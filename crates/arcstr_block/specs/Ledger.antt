@@ -95,7 +95,8 @@ module _ (P : Fml) (L b o : ℕ) (t : Id) where
   -- s is what is shared, and h the number of the handle
   module _ (s : Lft → Fml) (h : ℕ) where
     abbrev pub with_share : Right → Share → Fml
-    with_share right e = fsep (fact (right ≡ counted → Counts 63 e 1)) (fsep (flft (t.sharing ∷ []) e) (fsep (knows t right) (fsep (s (t.sharing ∷ [])) (seat t.name.seats h Free))))
+    with_share right e = fsep (fact (right ≡ counted → Counts 63 e 1)) (fsep (flft (t.sharing ∷ []) e) (fsep (knows t right) (fsep (s (t.sharing ∷
+        [])) (seat t.name.seats h Free))))
 
     -- a free handle: a share of a's token, which is one part if the handle is counted
     abbrev pub free : Right → Fml

@@ -52,7 +52,8 @@ back_spec 𝓤 𝓛 𝓜 𝓡 wired Y K g d dd met md =
     enter ! 𝓣.C 𝓣.Λ fn (pointer_val p ∷ vint w64 place ∷ []) Post $
     alloc_all ! (λ l. pass_all ! refl (typed p, ((tt, record { fits = fits_place }), tt)) $ let Ev = env fn.locals l in
     -- [the word; the book; what the block owns; the seat; the tokens]
-    move ! (1 ∷ 3 ∷ []) $ use2 𝓛 (later (‵ (Book lim t.name.history t.name.seats 0) ⊛ ‵ (seat t.name.seats h.seat Gone) ⊛ ‵ (Ends lim t.name.history t.name.seats (Back h.seat) Given))) (via 𝓤 _
+    move ! (1 ∷ 3 ∷ []) $ use2 𝓛 (later (‵ (Book lim t.name.history t.name.seats 0) ⊛ ‵ (seat t.name.seats h.seat Gone) ⊛
+    ‵ (Ends lim t.name.history t.name.seats (Back h.seat) Given))) (via 𝓤 _
     (book_back 𝓛 lim t.name.history t.name.seats 0 h.seat) (basic 𝓛 _)) $ await ! tt $ split3 ! $ drop ! $ drop ! $ drop ! $
     -- [the word; what the block owns; the tokens]
     move ! (1 ∷ []) $ fsplit ! $ rewrite ! 0 (λ (r : Ptr). ‵ (length_lies r n)) at refl $ use1 𝓛 (‵ (word b (u + 8) n)) (word_out 𝓛 b (u + 8) n) $

@@ -63,7 +63,8 @@ begin_spec 𝓤 𝓛 𝓜 𝓡 wired Y K g d dd met md =
     alloc_all ! (λ l. pass_all ! refl (typed p, ((tt, record { fits = fits_place }), tt)) $ let Ev = env fn.locals l in
     sets ! (is ! (of_opd ! (get_in ! (fld ! refl (stop !)) (sub ! 0 refl (whole !)))) (ap ptr_val at)) refl (tt, tt) $
     sets ! (of_opd ! (get_in ! (fld ! refl (stop !)) (sub ! 1 refl (whole !)))) refl (tt, tt) $
-    let said : ℕ → Fml = λ n. fsep (seat t.name.seats h.seat (begun 𝓛 lim t.name.history t.name.seats n)) (Ends lim t.name.history t.name.seats (Begin h.seat) (begin_reply 𝓛 lim t.name.history t.name.seats n)) in
+    let said : ℕ → Fml = λ n. fsep (seat t.name.seats h.seat (begun 𝓛 lim t.name.history t.name.seats n)) (Ends lim t.name.history t.name.seats
+    (Begin h.seat) (begin_reply 𝓛 lim t.name.history t.name.seats n)) in
     let after : ℕ → Fml = steps.all_after 𝓛 P lim pb po t (λ n. n) (steps.Told 𝓛 P lim pb po t e right) (steps.With 𝓛 P lim pb po t e right) (flft af e) said in
     use3 𝓛 (raw (𝓣.C _ (vptr pb po ∷ seq_cst ∷ []) (λ r. mean 𝓛 (found after r))))
     (via 𝓤 _ (steps.loads 𝓛 P lim pb po t e right (seat t.name.seats h.seat Free) said (λ n _.

@@ -74,7 +74,8 @@ leak_spec 𝓤 𝓛 𝓜 𝓡 wired Y K g d dd met md =
     rewrite ! 1 (λ (ws : List Val). ‵ (cell_at e D.mir ws b o)) (sym ev) refl $ move ! (1 ∷ 0 ∷ 2 ∷ []) $ shuts ! tt D e (p, (tt, tt)) vs b o $
     move ! (1 ∷ []) $ drop ! $ move ! (4 ∷ 5 ∷ 0 ∷ []) $
     -- [the share; the seat; κ; what is known; the invariant; what is shared; the prefix; the others]
-    use3 𝓛 (later (‵ (fex (Share × Share) (framed.lent_for 𝓛 t.sharing t.name.seats h.seat κ q)))) (framed.borrows 𝓛 t.sharing t.name.seats h.seat κ q) $ await ! tt $ fpick ! (λ out.
+    use3 𝓛 (later (‵ (fex (Share × Share) (framed.lent_for 𝓛 t.sharing t.name.seats h.seat κ q)))) (framed.borrows 𝓛 t.sharing t.name.seats h.seat κ q) $
+    await ! tt $ fpick ! (λ out.
     let u : Share = out.0 in let v : Share = out.1 in let Mine : Fml = seat_share t.name.seats h.seat v Free in
     fsplit ! $ move ! (1 ∷ []) $ fsplit ! $
     -- [the token; the seat; the open borrows; what is known; the invariant; what is shared; the prefix; the others]
@@ -85,7 +86,8 @@ leak_spec 𝓤 𝓛 𝓜 𝓡 wired Y K g d dd met md =
     (changes.Tok 𝓛 P lim pb po t u) (flft af u) said in
     use3 𝓛 (raw (𝓣.C _ (vptr pb po ∷ vint w64 1 ∷ seq_cst ∷ []) (λ r. mean 𝓛 (found after r))))
     (via 𝓤 _ (changes.marks_it 𝓛 P lim pb po t u Mine said (λ n _.
-    book_mark 𝓛 lim t.name.history t.name.seats n h.seat v)) (ors 𝓛 𝓜 𝓡 (code.calls-core::raw_atomic::fetch_or 𝓡.env wired) (block_ptr pb po) 1 (lit< tt) after)) $
+    book_mark 𝓛 lim t.name.history t.name.seats n h.seat v)) (ors 𝓛 𝓜 𝓡 (code.calls-core::raw_atomic::fetch_or 𝓡.env wired) (block_ptr pb po) 1
+    (lit< tt) after)) $
     first ! $ blocks ! $ sets ! (is ! (bin ! (get ! refl) (get ! refl) tt) (ap (vptr pb) there)) refl (tt, tt) $
     sets ! (of_opd ! (get ! refl)) refl (tt, tt) $ sets ! (addr ! (through ! refl (fld ! refl (stop !)))) refl (tt, tt) $
     sets ! (agg ! (and_then ! (lit ! tt) (no_more !))) refl (tt, (record { fits = lit< tt }, tt)) $

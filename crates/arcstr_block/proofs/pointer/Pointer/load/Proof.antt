@@ -71,7 +71,8 @@ load_spec 𝓤 𝓛 𝓜 𝓡 wired Y K g d dd met md =
     rewrite ! 1 (λ (ws : List Val). ‵ (cell_at e D.mir ws b o)) (sym ev) refl $ move ! (1 ∷ 0 ∷ 2 ∷ []) $ shuts ! tt D e (p, (tt, tt)) vs b o $
     move ! (1 ∷ []) $ drop ! $ move ! (4 ∷ 5 ∷ 0 ∷ []) $
     -- [the share; the seat; κ; what is known; the invariant; what is shared; the prefix; the others]
-    use3 𝓛 (later (‵ (fex (Share × Share) (framed.lent_for 𝓛 t.sharing t.name.seats h.seat κ q)))) (framed.borrows 𝓛 t.sharing t.name.seats h.seat κ q) $ await ! tt $ fpick ! (λ out.
+    use3 𝓛 (later (‵ (fex (Share × Share) (framed.lent_for 𝓛 t.sharing t.name.seats h.seat κ q)))) (framed.borrows 𝓛 t.sharing t.name.seats h.seat κ q) $
+    await ! tt $ fpick ! (λ out.
     let u : Share = out.0 in let v : Share = out.1 in let Mine : Fml = seat_share t.name.seats h.seat v Free in
     fsplit ! $ move ! (1 ∷ []) $ fsplit ! $
     -- [the token; the seat; the open borrows; what is known; the invariant; what is shared; the prefix; the others]

@@ -63,12 +63,14 @@ sub_spec 𝓤 𝓛 𝓜 𝓡 wired Y K g d dd met md =
     alloc_all ! (λ l. pass_all ! refl (typed p, ((tt, record { fits = fits_place }), tt)) $ let Ev = env fn.locals l in
     sets ! (is ! (of_opd ! (get_in ! (fld ! refl (stop !)) (sub ! 0 refl (whole !)))) (ap ptr_val at)) refl (tt, tt) $
     sets ! (of_opd ! (get_in ! (fld ! refl (stop !)) (sub ! 1 refl (whole !)))) refl (tt, tt) $
-    let said : ℕ → Fml = λ n. fsep (seat t.name.seats h.seat (left_in 𝓛 lim t.name.history t.name.seats n)) (Ends lim t.name.history t.name.seats (Sub h.seat) (sub_reply 𝓛 lim t.name.history t.name.seats n)) in
+    let said : ℕ → Fml = λ n. fsep (seat t.name.seats h.seat (left_in 𝓛 lim t.name.history t.name.seats n)) (Ends lim t.name.history t.name.seats
+    (Sub h.seat) (sub_reply 𝓛 lim t.name.history t.name.seats n)) in
     let after : ℕ → Fml = steps.all_after 𝓛 P lim pb po t (changes.less 𝓛 P lim pb po t) (changes.Left 𝓛 P lim pb po t)
     (changes.One 𝓛 P lim pb po t) ftrue said in
     use3 𝓛 (raw (𝓣.C _ (vptr pb po ∷ vint w64 2 ∷ seq_cst ∷ []) (λ r. mean 𝓛 (found after r))))
     (via 𝓤 _ (changes.leaves_it 𝓛 P lim pb po t (seat t.name.seats h.seat Dropping) said (λ n fits.
-    book_sub 𝓛 lim t.name.history t.name.seats n h.seat fits)) (subs 𝓛 𝓜 𝓡 (code.calls-core::raw_atomic::fetch_sub 𝓡.env wired) (block_ptr pb po) 2 (lit< tt) after)) $
+    book_sub 𝓛 lim t.name.history t.name.seats n h.seat fits)) (subs 𝓛 𝓜 𝓡 (code.calls-core::raw_atomic::fetch_sub 𝓡.env wired) (block_ptr pb po) 2
+    (lit< tt) after)) $
     first ! $ blocks ! $ sets ! (is ! (bin ! (get ! refl) (get ! refl) tt) (ap (vptr pb) there)) refl (tt, tt) $
     sets ! (of_opd ! (get ! refl)) refl (tt, tt) $ sets ! (addr ! (through ! refl (fld ! refl (stop !)))) refl (tt, tt) $
     sets ! (agg ! (and_then ! (lit ! tt) (no_more !))) refl (tt, (record { fits = lit< tt }, tt)) $
