@@ -25,7 +25,7 @@ use Rattle.arcstr_count.specs.Word.{FlagAndCount, looked_of, cloned_of, is_last}
 use Rattle.arcstr_count.specs.OneBlock.{Keeps, EndsIn, look_reply}
 use Rattle.arcstr_count.proofs.OneBlock.{Prolongs, keeps-make, keeps-look, keeps-begin, keeps-clone, keeps-leak, keeps-sub, keeps-back}
 use Rattle.arcstr_block.specs.Word.{word_of}
-use Rattle.arcstr_block.specs.Book.{steps, state_code, reached, seat, seat_share, book, Book, Ends, ends_in}
+use Rattle.arcstr_block.specs.Book.{BlockName, steps, state_code, reached, seat, seat_share, book, Book, Ends, ends_in}
 use Rattle.arcstr_block.proofs.Words.{word_marked, word_dropped}
 use Rattle.arcstr_block.proofs.Seats.{agrees, moves, adds}
 
@@ -156,8 +156,8 @@ module _ {M : Type 1} {𝓤 : Ura M} (𝓛 : Logic 𝓤) where
 
   -- the book of a new block
   module _ (L : ℕ) where
-    abbrev Fresh : GName × GName → Pr
-    Fresh z = ⟦ Book L z.0 z.1 2 ⟧ ∗ ⟦ seat z.1 0 Free ⟧ ∗ ⟦ reached z.0 (Make ∷ []) ⟧
+    abbrev Fresh : BlockName → Pr
+    Fresh z = ⟦ Book L z.history z.seats 2 ⟧ ∗ ⟦ seat z.seats 0 Free ⟧ ∗ ⟦ reached z.history (Make ∷ []) ⟧
 
     pub book_new : emp 𝓤 ⊢ upd 𝓤 (ex 𝓤 Fresh)
     book_new = let Z : Pr = ex 𝓤 Fresh in let r : List Step = Make ∷ [] in
@@ -167,7 +167,8 @@ module _ {M : Type 1} {𝓤 : Ura M} (𝓛 : Logic 𝓤) where
         settle 𝓛 Z (some (λ (δ : GName). ‵ (unused state_code δ 0 Gone))) $ pick ! (λ δ.
         fpack ! HandleState (unused state_code δ 0) Gone $
         use1 𝓛 (raw (upd 𝓤 (⟦ roster state_code δ 0 (Free ∷ []) ⟧ ∗ ⟦ seat δ (0 + 0) Free ⟧))) (adds 𝓛 δ [] 0 Free) $
-        settle 𝓛 Z (‵ (roster state_code δ 0 (Free ∷ [])) ⊛ ‵ (seat δ (0 + 0) Free)) $ split ! $ suffices ! _ (upd_i 𝓤 Z) $ show ! Fresh (γ, δ) $
+        settle 𝓛 Z (‵ (roster state_code δ 0 (Free ∷ [])) ⊛ ‵ (seat δ (0 + 0) Free)) $ split ! $ suffices ! _ (upd_i 𝓤 Z) $
+        show ! Fresh (record { history = γ; seats = δ }) $
         move ! (2 ∷ []) $
         use1 𝓛 (‵ (latest steps full_share γ r) ⊛ ‵ (reached γ r)) (latest_shows steps 𝓛 full_share γ r r (steps.same r)) $ split ! $ move ! (0 ∷ 2 ∷ []) $
         use2 𝓛 (‵ (Book L γ δ 2)) (book_in L γ δ 2 r (Free ∷ []) (keeps-make L)) $ move ! (0 ∷ 2 ∷ 1 ∷ []) $ done !))

@@ -49,49 +49,55 @@ module _ {M : Type 1} {𝓤 : Ura M} (𝓛 : Logic 𝓤) (P : Fml) (L b o : ℕ)
   share_not_alive d Z = qed 𝓛 (‵ (some_share d) ∷ ‵ (fdead (d ∷ [])) ∷ []) ∵ fpick ! (λ s. by ! (not_alive s d Z))
 
   -- one more handle
-  pub takes : (k : ℕ) → k < 2 ^ 62 → ⟦ Keeps (unmarked k) ⟧ ⊢ ⟦ Keeps (unmarked (k + 1)) ⟧ ∗ ⟦ parts t.0 1 ⟧
+  pub takes : (k : ℕ) → k < 2 ^ 62 → ⟦ Keeps (unmarked k) ⟧ ⊢ ⟦ Keeps (unmarked (k + 1)) ⟧ ∗ ⟦ parts t.sharing 1 ⟧
   takes k small = qed 𝓛 (‵ (Keeps (unmarked k)) ∷ []) ∵ fsplit3 ! $
-      use1 𝓛 (‵ (parts t.0 (2 ^ 63 - (k + 1))) ⊛ ‵ (parts t.0 1)) (parts_cut 𝓛 t.0 (2 ^ 63 - k) (2 ^ 63 - (k + 1)) 1 (omega arith) (omega arith) (omega arith)
+      use1 𝓛 (‵ (parts t.sharing (2 ^ 63 - (k + 1))) ⊛ ‵ (parts t.sharing 1)) (parts_cut 𝓛 t.sharing (2 ^ 63 - k) (2 ^ 63 - (k + 1)) 1 (omega arith)
+      (omega arith) (omega arith)
       (omega arith)) $ split ! $
       move ! (0 ∷ 2 ∷ 3 ∷ []) $ fjoin3 ! $ done !
 
   -- one handle less, which is not the last
-  pub gives : (k : ℕ) → 1 < k → k < 2 ^ 63 → ⟦ Keeps (unmarked k) ⟧ ∗ ⟦ parts t.0 1 ⟧ ⊢ ⟦ Keeps (unmarked (k - 1)) ⟧
-  gives k many small = qed 𝓛 (‵ (Keeps (unmarked k)) ∷ ‵ (parts t.0 1) ∷ []) ∵ fsplit3 ! $ move ! (0 ∷ 3 ∷ []) $
-      use2 𝓛 (‵ (parts t.0 (2 ^ 63 - (k - 1)))) (parts_glue 𝓛 t.0 (2 ^ 63 - k) 1 (2 ^ 63 - (k - 1)) (omega arith) (omega arith) (omega arith)) $ fjoin3 ! $
+  pub gives : (k : ℕ) → 1 < k → k < 2 ^ 63 → ⟦ Keeps (unmarked k) ⟧ ∗ ⟦ parts t.sharing 1 ⟧ ⊢ ⟦ Keeps (unmarked (k - 1)) ⟧
+  gives k many small = qed 𝓛 (‵ (Keeps (unmarked k)) ∷ ‵ (parts t.sharing 1) ∷ []) ∵ fsplit3 ! $ move ! (0 ∷ 3 ∷ []) $
+      use2 𝓛 (‵ (parts t.sharing (2 ^ 63 - (k - 1)))) (parts_glue 𝓛 t.sharing (2 ^ 63 - k) 1 (2 ^ 63 - (k - 1)) (omega arith) (omega arith)
+      (omega arith)) $ fjoin3 ! $
       done !
 
   -- the last one has the whole token, and with it what was lent
-  pub gives_last : ⟦ Keeps (unmarked 1) ⟧ ∗ ⟦ parts t.0 1 ⟧ ⊢ A.lft (t.0 ∷ []) full_share ∗ A.lent (t.0 ∷ []) P
-  gives_last = qed 𝓛 (‵ (Keeps (unmarked 1)) ∷ ‵ (parts t.0 1) ∷ []) ∵ fsplit3 ! $ move ! (0 ∷ 3 ∷ []) $
-      use2 𝓛 (‵ (flft (t.0 ∷ []) full_share)) (parts_whole 𝓛 t.0) $ keep ! (0 ∷ 2 ∷ []) $ done !
+  pub gives_last : ⟦ Keeps (unmarked 1) ⟧ ∗ ⟦ parts t.sharing 1 ⟧ ⊢ A.lft (t.sharing ∷ []) full_share ∗ A.lent (t.sharing ∷ []) P
+  gives_last = qed 𝓛 (‵ (Keeps (unmarked 1)) ∷ ‵ (parts t.sharing 1) ∷ []) ∵ fsplit3 ! $ move ! (0 ∷ 3 ∷ []) $
+      use2 𝓛 (‵ (flft (t.sharing ∷ []) full_share)) (parts_whole 𝓛 t.sharing) $ keep ! (0 ∷ 2 ∷ []) $ done !
 
   -- a drop that looked before the mark
-  pub gives_marked : (m : ℕ) → 0 < m → m < 2 ^ 63 → ⟦ Keeps (marked m) ⟧ ∗ ⟦ parts t.0 1 ⟧ ⊢ ⟦ Keeps (marked (m - 1)) ⟧
-  gives_marked m some small = qed 𝓛 (‵ (Keeps (marked m)) ∷ ‵ (parts t.0 1) ∷ []) ∵ fsplit3 ! $ move ! (0 ∷ 3 ∷ []) $
-      use2 𝓛 (‵ (parts t.0 (2 ^ 63 - ((m - 1) + 1)))) (parts_glue 𝓛 t.0 (2 ^ 63 - (m + 1)) 1 (2 ^ 63 - ((m - 1) + 1)) (omega arith) (omega arith)
+  pub gives_marked : (m : ℕ) → 0 < m → m < 2 ^ 63 → ⟦ Keeps (marked m) ⟧ ∗ ⟦ parts t.sharing 1 ⟧ ⊢ ⟦ Keeps (marked (m - 1)) ⟧
+  gives_marked m some small = qed 𝓛 (‵ (Keeps (marked m)) ∷ ‵ (parts t.sharing 1) ∷ []) ∵ fsplit3 ! $ move ! (0 ∷ 3 ∷ []) $
+      use2 𝓛 (‵ (parts t.sharing (2 ^ 63 - ((m - 1) + 1)))) (parts_glue 𝓛 t.sharing (2 ^ 63 - (m + 1)) 1 (2 ^ 63 - ((m - 1) + 1)) (omega arith) (omega arith)
       (omega arith)) $ fjoin3 ! $ done !
 
   -- more parts than are out
-  pub too_many : ⟦ Keeps (marked 0) ⟧ ∗ ⟦ parts t.0 1 ⟧ ⊢ A.lft (t.0 ∷ []) full_share ∗ ⟦ some_share t.0 ⟧
-  too_many = qed 𝓛 (‵ (Keeps (marked 0)) ∷ ‵ (parts t.0 1) ∷ []) ∵ fsplit3 ! $ move ! (0 ∷ 3 ∷ []) $
-      use2 𝓛 (‵ (flft (t.0 ∷ []) full_share)) (parts_whole 𝓛 t.0) $ keep ! (0 ∷ 1 ∷ []) $ done !
+  pub too_many : ⟦ Keeps (marked 0) ⟧ ∗ ⟦ parts t.sharing 1 ⟧ ⊢ A.lft (t.sharing ∷ []) full_share ∗ ⟦ some_share t.sharing ⟧
+  too_many = qed 𝓛 (‵ (Keeps (marked 0)) ∷ ‵ (parts t.sharing 1) ∷ []) ∵ fsplit3 ! $ move ! (0 ∷ 3 ∷ []) $
+      use2 𝓛 (‵ (flft (t.sharing ∷ []) full_share)) (parts_whole 𝓛 t.sharing) $ keep ! (0 ∷ 1 ∷ []) $ done !
 
   -- the token of c ends with the mark, and one more part is kept, of which the handle that marks has a share
   pub marks : (k : ℕ) → k < 2 ^ 63 - 1
-      → ⟦ Keeps (unmarked k) ⟧ ⊢ A.lft (t.1 ∷ []) full_share ∗ ⟦ parts t.0 (2 ^ 63 - (k + 1)) ⟧ ∗ ⟦ some_share t.0 ⟧ ∗ ⟦ some_share t.0 ⟧
+      → ⟦ Keeps (unmarked k) ⟧ ⊢ A.lft (t.counting ∷ []) full_share ∗ ⟦ parts t.sharing (2 ^ 63 - (k + 1)) ⟧ ∗ ⟦ some_share t.sharing ⟧
+      ∗ ⟦ some_share t.sharing ⟧
   marks k small = qed 𝓛 (‵ (Keeps (unmarked k)) ∷ []) ∵ fsplit3 ! $
-      use1 𝓛 (‵ (parts t.0 (2 ^ 63 - (k + 1))) ⊛ ‵ (parts t.0 1)) (parts_cut 𝓛 t.0 (2 ^ 63 - k) (2 ^ 63 - (k + 1)) 1 (omega arith) (omega arith) (omega arith)
+      use1 𝓛 (‵ (parts t.sharing (2 ^ 63 - (k + 1))) ⊛ ‵ (parts t.sharing 1)) (parts_cut 𝓛 t.sharing (2 ^ 63 - k) (2 ^ 63 - (k + 1)) 1 (omega arith)
+      (omega arith) (omega arith)
       (omega arith)) $ split ! $
-      move ! (1 ∷ []) $ use1 𝓛 (‵ (some_share t.0)) (part_share 𝓛 t.0 1) $ use1 𝓛 (‵ (some_share t.0) ⊛ ‵ (some_share t.0)) (share_halves 𝓛 t.0) $ split ! $
+      move ! (1 ∷ []) $ use1 𝓛 (‵ (some_share t.sharing)) (part_share 𝓛 t.sharing 1) $
+      use1 𝓛 (‵ (some_share t.sharing) ⊛ ‵ (some_share t.sharing)) (share_halves 𝓛 t.sharing) $ split ! $
       keep ! (3 ∷ 2 ∷ 0 ∷ 1 ∷ []) $ done !
 
-  pub marked_in : (m : ℕ) → ⟦ parts t.0 (2 ^ 63 - (m + 1)) ⟧ ∗ ⟦ some_share t.0 ⟧ ∗ A.dead (t.1 ∷ []) ⊢ ⟦ Keeps (marked m) ⟧
-  marked_in m = qed 𝓛 (‵ (parts t.0 (2 ^ 63 - (m + 1))) ∷ ‵ (some_share t.0) ∷ ‵ (fdead (t.1 ∷ [])) ∷ []) ∵ fjoin3 ! $ done !
+  pub marked_in : (m : ℕ) → ⟦ parts t.sharing (2 ^ 63 - (m + 1)) ⟧ ∗ ⟦ some_share t.sharing ⟧ ∗ A.dead (t.counting ∷ []) ⊢ ⟦ Keeps (marked m) ⟧
+  marked_in m = qed 𝓛 (‵ (parts t.sharing (2 ^ 63 - (m + 1))) ∷ ‵ (some_share t.sharing) ∷ ‵ (fdead (t.counting ∷ [])) ∷ []) ∵ fjoin3 ! $ done !
 
   -- every handle that finds the mark has a share
-  pub finds_mark : (m : ℕ) → ⟦ Keeps (marked m) ⟧ ⊢ ⟦ Keeps (marked m) ⟧ ∗ ⟦ some_share t.0 ⟧ ∗ A.dead (t.1 ∷ [])
-  finds_mark m = qed 𝓛 (‵ (Keeps (marked m)) ∷ []) ∵ fsplit3 ! $ move ! (1 ∷ []) $ use1 𝓛 (‵ (some_share t.0) ⊛ ‵ (some_share t.0)) (share_halves 𝓛 t.0) $
+  pub finds_mark : (m : ℕ) → ⟦ Keeps (marked m) ⟧ ⊢ ⟦ Keeps (marked m) ⟧ ∗ ⟦ some_share t.sharing ⟧ ∗ A.dead (t.counting ∷ [])
+  finds_mark m = qed 𝓛 (‵ (Keeps (marked m)) ∷ []) ∵ fsplit3 ! $ move ! (1 ∷ []) $
+      use1 𝓛 (‵ (some_share t.sharing) ⊛ ‵ (some_share t.sharing)) (share_halves 𝓛 t.sharing) $
       split ! $
-      move ! (3 ∷ []) $ use1 𝓛 (‵ (fdead (t.1 ∷ [])) ⊛ ‵ (fdead (t.1 ∷ []))) (𝓛.lfts.dead_dup (t.1 ∷ [])) $ split ! $
+      move ! (3 ∷ []) $ use1 𝓛 (‵ (fdead (t.counting ∷ [])) ⊛ ‵ (fdead (t.counting ∷ []))) (𝓛.lfts.dead_dup (t.counting ∷ [])) $ split ! $
       move ! (4 ∷ 2 ∷ 0 ∷ []) $ fjoin3 ! $ move ! (0 ∷ 2 ∷ 1 ∷ []) $ done !

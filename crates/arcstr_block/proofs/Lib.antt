@@ -1,8 +1,6 @@
 pub mod TokenParts
 pub mod TwoPointers
 pub mod LoneBlocks
-pub mod OwedBlocks
-pub mod UnmarkedBlocks
 pub mod Atomic
 pub mod PointerShares
 pub mod Words
@@ -16,6 +14,7 @@ pub mod CloneSteps
 pub mod NewBlocks
 pub mod Fields
 pub mod StepFrames
+pub mod WholeProofs
 pub mod Seats
 pub mod Book
 pub mod Memory

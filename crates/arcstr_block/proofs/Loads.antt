@@ -41,41 +41,41 @@ module _ {M : Type 1} {𝓤 : Ura M} (𝓛 : Logic 𝓤) (P : Fml) (L b o : ℕ)
   infix 26 ◌⊢◌
   infixr 35 ◌∗◌
   abbrev Bk : ℕ → Fml
-  Bk = Book L t.2 t.3
+  Bk = Book L t.name.history t.name.seats
 
   -- the history after the load found the word n
   abbrev pub entered : Bool → ℕ → Fml
   entered true n = newborn 𝓛 P L b o t s laws (IsMarked n)
-  entered false n = Ends L t.2 t.3 (Look h) (look_reply (looked_of (word_of n)))
+  entered false n = Ends L t.name.history t.name.seats (Look h) (look_reply (looked_of (word_of n)))
 
   pub enters : (clones : Bool) (q : Share) (n : ℕ)
-      → ⟦ Bk n ⟧ ∗ ⟦ seat_share t.3 h q Free ⟧ ⊢ upd 𝓤 (⟦ Bk n ⟧ ∗ ⟦ seat_share t.3 h q Free ⟧ ∗ ⟦ entered clones n ⟧)
-  enters true q n = finds 𝓛 L t.2 t.3 h q n
-  enters false q n = book_look 𝓛 L t.2 t.3 n h q
+      → ⟦ Bk n ⟧ ∗ ⟦ seat_share t.name.seats h q Free ⟧ ⊢ upd 𝓤 (⟦ Bk n ⟧ ∗ ⟦ seat_share t.name.seats h q Free ⟧ ∗ ⟦ entered clones n ⟧)
+  enters true q n = finds 𝓛 L t.name.history t.name.seats h q n
+  enters false q n = book_look 𝓛 L t.name.history t.name.seats n h q
 
   -- a right of the handle x.0, with the prefix x.1 of the history
   abbrev pub right_after : Bool → ℕ → Right → ℕ × List Step → Fml
-  right_after clones n k x = fsep (fact (LoadEnds clones L h n x.1)) (fsep (reached t.2 x.1) (right_to P L b o t s x.0 k))
+  right_after clones n k x = fsep (fact (LoadEnds clones L h n x.1)) (fsep (reached t.name.history x.1) (right_to P L b o t s x.0 k))
 
   abbrev pub After : Bool → ℕ → Right → Fml
   After clones n k = fex (ℕ × List Step) (right_after clones n k)
 
   abbrev FromLoad : Bool → ℕ → List Step → Gain → Pr
-  FromLoad clones n r g = ⟦ gained 𝓛 P L b o t g ⟧ ∗ ⟦ s (t.0 ∷ []) ⟧ ∗ ⟦ entered clones n ⟧ ∗ ⟦ reached t.2 r ⟧
+  FromLoad clones n r g = ⟦ gained 𝓛 P L b o t g ⟧ ∗ ⟦ s (t.sharing ∷ []) ⟧ ∗ ⟦ entered clones n ⟧ ∗ ⟦ reached t.name.history r ⟧
 
   pub loaded : (clones : Bool) (n : ℕ) (r : List Step) (g : Gain) → (IsMarked n → g ≡ share) → (IsUnmarked n → g ≡ none)
       → Becomes 𝓛 P L b o t (Loads clones n) (FromLoad clones n r g) (λ k. ⟦ After clones n k ⟧)
   loaded true n r g m u = let got = found 𝓛 P L b o t s laws n g m u in record {
     right = got.right;
     said = got.said;
-    turns = qed 𝓛 (‵ (gained 𝓛 P L b o t g) ∷ ‵ (s (t.0 ∷ [])) ∷ ‵ (entered true n) ∷ ‵ (reached t.2 r) ∷ []) ∵ updating ! $
+    turns = qed 𝓛 (‵ (gained 𝓛 P L b o t g) ∷ ‵ (s (t.sharing ∷ [])) ∷ ‵ (entered true n) ∷ ‵ (reached t.name.history r) ∷ []) ∵ updating ! $
         use3 𝓛 (later (‵ (fex ℕ (λ j. right_to P L b o t s j got.right)))) got.turns $ await ! tt $ fpick ! (λ j. move ! (1 ∷ 0 ∷ []) $ fjoin ! $
         nothing ! $ fpack ! (LoadEnds true L h n r) (λ _. ftrue) tt $ fjoin ! $ fpack ! (ℕ × List Step) (right_after true n got.right) (j, r) $ now ! $ done !);
   }
   loaded false n r g m u = let got = looked 𝓛 P L b o t s laws n g m u in record {
     right = got.right;
     said = got.said;
-    turns = qed 𝓛 (‵ (gained 𝓛 P L b o t g) ∷ ‵ (s (t.0 ∷ [])) ∷ ‵ (entered false n) ∷ ‵ (reached t.2 r) ∷ []) ∵ updating ! $
+    turns = qed 𝓛 (‵ (gained 𝓛 P L b o t g) ∷ ‵ (s (t.sharing ∷ [])) ∷ ‵ (entered false n) ∷ ‵ (reached t.name.history r) ∷ []) ∵ updating ! $
         use2 𝓛 (later (‵ (right_to P L b o t s 0 got.right))) got.turns $ await ! tt $ move ! (1 ∷ []) $ fpick ! (λ r'. fsplit ! $ fpick ! (λ ends. drop ! $
         fjoin ! $
         nothing ! $ fpack ! (LoadEnds false L h n r') (λ _. ftrue) (ends, marked_by_word L n r' h ends) $ fjoin ! $ fpack ! (ℕ × List Step) (right_after false n got.right) (0, r') $ now ! $

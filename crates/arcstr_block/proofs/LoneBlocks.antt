@@ -1,49 +1,26 @@
--- Whoever has the word at 0 with its book has the block alone: no handle has a seat beside that book. Assumes `Logic`.
-use Rattle.std.proofs.Common.{◌≡◌, ℕ, zero, suc, ◌<◌, Bool, true, false, if◌then◌else◌, List, [], ◌∷◌, length, filter, Some, sym, refl, ap, ◌∙◌, arith}
-use Rattle.std.specs.Prelude.{slice_get}
-use Rattle.std.proofs.lemmas.Option.{get_or_from_slice_get, slice_get_within}
+-- Whoever has the word at 0 with its book has the block alone: the book of a block that is still shared lies in its invariant. Assumes `Logic`.
+use Rattle.std.proofs.Common.{ℕ, Bool, true, false, List, [], ◌∷◌, sym, subst, inl, inr}
 use mathlib.Core.Option.{some}
 use seplogic.Ra.Ura.{Ura}
 use base.Fraction.{full_share}
-use base.Share.{three_quarters}
 use base.FractionLaws.{not-OpDef-full_share}
 use base.Growing.{growing, latest}
-use base.Logic.{SProp, ent, sep}
-use base.Fml.{Lft, GName, Fml}
+use base.Logic.{SProp, ent, sep, wand, upd, never, never_e, via}
+use base.Fml.{Lft, GName, Share, Fml, fsep, flft, fdead, finv, fshr_bor}
 use types.Logic.{Logic, sem}
 use types.Owned.{own_sum}
-use types.Kit.{‵, ◌⊛◌, given, ◌$◌, ◌∵◌, !, qed, by, move, keep, drop, fsplit, fsplit3, fpick, learn, use1, use2}
-use Rattle.atomic_table.specs.Seated.{roster}
+use types.Kit.{‵, raw, later, ◌$◌, ◌∵◌, !, qed, by, move, keep, fsplit, fsplit3, fpick, assume, await, updating, now, use1, use2, done}
+use types.Tokens.{shr_bor-open}
+use types.Within.{tokens_halve}
 use Rattle.arcstr_count.specs.declared.steps.Step.{Step}
-use Rattle.arcstr_count.specs.declared.steps.HandleState.{HandleState}
-use Rattle.arcstr_count.specs.declared.steps.HandleState.TheVariants.{Free, Dropping}
-use Rattle.arcstr_count.specs.History.{lives}
-use Rattle.arcstr_count.specs.OneBlock.{Keeps}
-use Rattle.arcstr_count.proofs.Seats.{seats-counted}
-use Rattle.arcstr_block.specs.Word.{word_of}
-use Rattle.arcstr_block.specs.Rights.{HasSeat, Right, nothing, counted, uncounted, fixed, dropping, owed}
-use Rattle.arcstr_block.specs.Book.{steps, state_code, seat, Book}
-use Rattle.arcstr_block.specs.Ledger.{Id, right_to}
-use Rattle.arcstr_block.proofs.Rights.{has_seat}
-use Rattle.arcstr_block.proofs.Seats.{agrees}
-
--- if an item passes a test, some item does
-some_passes : {X : Type 0} (test : X → Bool) (xs : List X) (i : ℕ) (x : X) → slice_get xs i ≡ Some x → test x ≡ true → 0 < length (filter test xs)
-some_passes test [] i x at passes = let within = slice_get_within [] i x at in absurd (omega (arith, within))
-some_passes test (y ∷ ys) zero x at passes = let same : test y ≡ true = ap test (get_or_from_slice_get (y ∷ ys) 0 x x at) ∙ passes in rw same (omega arith)
-some_passes test (y ∷ ys) (suc i) x at passes = by_test (test y) (some_passes test ys i x at passes)
-  where
-    by_test : (t : Bool) → 0 < length (filter test ys) → 0 < length (if t then y ∷ filter test ys else filter test ys)
-    by_test true later = omega arith
-    by_test false later = later
-
--- the unmarked word 0 counts no handle that lives
-pub none_lives : (L : ℕ) (history : List Step) (seats : List HandleState) (h : ℕ) (state : HandleState) → Keeps L history (word_of 0) seats
-    → slice_get seats h ≡ Some state → lives state ≡ true → ⊥
-none_lives L history seats h state keeps at alive = let counted = seats-counted L history (word_of 0) seats keeps refl in
-    let some_lives = some_passes lives seats h state at alive in absurd (omega (arith, counted, some_lives))
+use Rattle.arcstr_block.specs.Rights.{HasSeat, Right, counted, uncounted, dropping, owed}
+use Rattle.arcstr_block.proofs.Rights.{by_free}
+use Rattle.arcstr_block.specs.Book.{steps, Book}
+use Rattle.arcstr_block.specs.Ledger.{Id, Inv, if_alive, free, held_with}
 
 module _ {M : Type 1} {𝓤 : Ura M} (𝓛 : Logic 𝓤) where
+  open 𝓛 use {H, A}
+
   abbrev Pr : Type 2
   Pr = SProp 𝓤
 
@@ -53,46 +30,77 @@ module _ {M : Type 1} {𝓤 : Ura M} (𝓛 : Logic 𝓤) where
   abbrev ◌∗◌ : Pr → Pr → Pr
   X ∗ Y = sep 𝓤 X Y
 
+  abbrev ◌-∗◌ : Pr → Pr → Pr
+  X -∗ Y = wand 𝓤 X Y
+
   abbrev ⟦◌⟧ : Fml → Pr
   ⟦ X ⟧ = sem 𝓛 X
 
   infix 26 ◌⊢◌
   infixr 35 ◌∗◌
+  infixr 30 ◌-∗◌
   -- a block has one history
   one_history : (γ : GName) (r r' : List Step) (Z : Pr) → ⟦ latest steps full_share γ r ⟧ ∗ ⟦ latest steps full_share γ r' ⟧ ⊢ Z
   unfolding latest
   one_history γ r r' Z = own_sum 𝓛 (growing steps) γ (some full_share, r) (some full_share, r') Z (λ c m. absurd (not-OpDef-full_share full_share m.0.1.0.0))
 
   -- so a block has one book
-  pub one_book : (L L' : ℕ) (γ δ δ' : GName) (n n' : ℕ) (Z : Pr) → ⟦ Book L γ δ n ⟧ ∗ ⟦ Book L' γ δ' n' ⟧ ⊢ Z
+  one_book : (L L' : ℕ) (γ δ δ' : GName) (n n' : ℕ) (Z : Pr) → ⟦ Book L γ δ n ⟧ ∗ ⟦ Book L' γ δ' n' ⟧ ⊢ Z
   one_book L L' γ δ δ' n n' Z = qed 𝓛 (‵ (Book L γ δ n) ∷ ‵ (Book L' γ δ' n') ∷ []) ∵ fpick ! (λ x. fsplit3 ! $ move ! (3 ∷ []) $ fpick ! (λ y. fsplit3 ! $
       keep ! (1 ∷ 4 ∷ []) $ by ! (one_history γ y.0 x.0 Z)))
 
-  -- beside the book of the word 0 no seat belongs to a living handle
-  no_living_seat : (L : ℕ) (γ δ : GName) (h : ℕ) (state : HandleState) → lives state ≡ true → (Z : Pr) → ⟦ Book L γ δ 0 ⟧ ∗ ⟦ seat δ h state ⟧ ⊢ Z
-  no_living_seat L γ δ h state alive Z = qed 𝓛 (‵ (Book L γ δ 0) ∷ ‵ (seat δ h state) ∷ []) ∵ fpick ! (λ x. fsplit3 ! $ fpick ! (λ keeps. drop ! $
-      move ! (1 ∷ 2 ∷ []) $
-      use2 𝓛 (given (slice_get x.1 h ≡ Some state) (‵ (roster state_code δ 0 x.1) ⊛ ‵ (seat δ h state))) (agrees 𝓛 δ x.1 0 h h three_quarters state (sym
-      (Rattle.std.proofs.Common.zero-add h))) $
-      learn ! (λ at. absurd (none_lives L x.0 x.1 h state keeps at alive))))
+  module _ (P : Fml) (L b o : ℕ) (t : Id) where
+    abbrev I : Fml
+    I = Inv P L b o t
 
-  -- so no right has a seat
-  module _ (P : Fml) (L b o : ℕ) (t : Id) (s : Lft → Fml) (laws : denote.Sharing.ShrLaws s) (L₀ h : ℕ) (Z : Pr) where
-    abbrev Held : Right → Fml
-    Held right = right_to P L b o t s h right
+    abbrev a : Lft
+    a = t.sharing ∷ []
 
-    abbrev Book₀ : Fml
-    Book₀ = Book L₀ t.2 t.3 0
+    -- the invariant of a block, a share of its token that is lent for κ, and κ
+    abbrev pub Lent : Lft → Share → Fml
+    Lent κ q = fsep (finv I) (fsep (fshr_bor κ (λ u. flft a u)) (flft κ q))
 
-    by_seat : (right : Right) (state : HandleState) → lives state ≡ true → ⟦ Held right ⟧ ⊢ ⟦ seat t.3 h state ⟧ → ⟦ Book₀ ⟧ ∗ ⟦ Held right ⟧ ⊢ Z
-    by_seat right state alive has = qed 𝓛 (‵ Book₀ ∷ ‵ (Held right) ∷ []) ∵ move ! (1 ∷ []) $ use1 𝓛 (‵ (seat t.3 h state)) has $ move ! (1 ∷ 0 ∷ []) $
-        by ! (no_living_seat L₀ t.2 t.3 h state alive Z)
+    module _ (L₀ : ℕ) (Z : Pr) where
+      abbrev Book₀ : Fml
+      Book₀ = Book L₀ t.name.history t.name.seats 0
 
-    pub no_other : (right : Right) → HasSeat right → ⟦ Book₀ ⟧ ∗ ⟦ Held right ⟧ ⊢ Z
-    no_other nothing may = absurd (may.0 refl)
-    no_other counted may = by_seat counted Free refl (has_seat 𝓛 P L b o t s laws h counted may)
-    no_other uncounted may = by_seat uncounted Free refl (has_seat 𝓛 P L b o t s laws h uncounted may)
-    no_other fixed may = absurd (may.1 refl)
-    no_other dropping may = by_seat dropping Dropping refl (has_seat 𝓛 P L b o t s laws h dropping may)
-    no_other owed may = qed 𝓛 (‵ Book₀ ∷ ‵ (Held owed) ∷ []) ∵ move ! (1 ∷ []) $ fsplit ! $ fsplit ! $ keep ! (3 ∷ 1 ∷ []) $
-        by ! (one_book L₀ L t.2 t.3 t.3 0 0 Z)
+      -- a block whose content is still shared has its book in its invariant
+      inside : (alive : Bool) (u : Share) (Y : Pr) → ⟦ if_alive P L b o t alive ⟧ ∗ A.lft a u ∗ ⟦ Book₀ ⟧ ⊢ Y
+      inside false u Y = qed 𝓛 (‵ (fdead a) ∷ ‵ (flft a u) ∷ ‵ Book₀ ∷ []) ∵ keep ! (1 ∷ 0 ∷ []) $ by ! (via 𝓤 (never 𝓤) (𝓛.lfts.lft-dead a u) (never_e 𝓤 Y))
+      inside true u Y = qed 𝓛 (‵ (if_alive P L b o t true) ∷ ‵ (flft a u) ∷ ‵ Book₀ ∷ []) ∵ fpick ! (λ n. fsplit ! $ fsplit ! $ keep ! (1 ∷ 4 ∷ []) $
+          by ! (one_book L L₀ t.name.history t.name.seats t.name.seats n 0 Y))
+
+      opened : (u : Share) → A.lft a u ∗ ⟦ Book₀ ⟧ ⊢ ⟦ I ⟧ -∗ upd 𝓤 (⟦ I ⟧ ∗ Z)
+      opened u = qed 𝓛 (‵ (flft a u) ∷ ‵ Book₀ ∷ []) ∵ assume ! (‵ I) $ fpick ! (λ alive. by ! (inside alive u (upd 𝓤 (⟦ I ⟧ ∗ Z))))
+
+      -- so no share of its token lies beside another book of it
+      not_shared : (u : Share) → ⟦ Book₀ ⟧ ∗ ⟦ finv I ⟧ ∗ A.lft a u ⊢ H.⇛ Z
+      not_shared u = qed 𝓛 (‵ Book₀ ∷ ‵ (finv I) ∷ ‵ (flft a u) ∷ []) ∵ updating ! $ keep ! (2 ∷ 0 ∷ 1 ∷ []) $
+          use2 𝓛 (raw (⟦ I ⟧ -∗ upd 𝓤 (⟦ I ⟧ ∗ Z))) (opened u) $ move ! (1 ∷ 0 ∷ []) $
+          use2 𝓛 (later (raw Z)) (𝓛.invs.inv_acc I Z) $ await ! tt $ now ! $ done !
+
+      pub not_lent : (κ : Lft) (q : Share) → ⟦ Book₀ ⟧ ∗ ⟦ Lent κ q ⟧ ⊢ H.⇛ Z
+      not_lent κ q = qed 𝓛 (‵ Book₀ ∷ ‵ (Lent κ q) ∷ []) ∵ updating ! $ move ! (1 ∷ []) $ fsplit3 ! $ move ! (1 ∷ 2 ∷ []) $
+          shr_bor-open ! tt (tokens_halve 𝓛 a) (λ u.
+          -- [the open borrow; a share of the token; the invariant; the book]
+          keep ! (3 ∷ 2 ∷ 1 ∷ []) $ types.Kit.group ! 3 $ use1 𝓛 (later (raw Z)) (not_shared u) $ await ! tt $ now ! $ done !)
+
+      module _ (s : Lft → Fml) (h : ℕ) where
+        not_free : (right : Right) → ⟦ Book₀ ⟧ ∗ ⟦ finv I ⟧ ∗ ⟦ free P L b o t s h right ⟧ ⊢ H.⇛ Z
+        not_free right = qed 𝓛 (‵ Book₀ ∷ ‵ (finv I) ∷ ‵ (free P L b o t s h right) ∷ []) ∵ move ! (2 ∷ []) $ fpick ! (λ e. fsplit3 ! $
+            keep ! (3 ∷ 4 ∷ 1 ∷ []) $ by ! (not_shared e))
+
+        not_dropping : ⟦ Book₀ ⟧ ∗ ⟦ held_with P L b o t s h dropping ⟧ ⊢ H.⇛ Z
+        not_dropping = qed 𝓛 (‵ Book₀ ∷ ‵ (held_with P L b o t s h dropping) ∷ []) ∵ move ! (1 ∷ []) $ fsplit ! $ move ! (1 ∷ []) $ fsplit3 ! $
+            fpick ! (λ e. fpick ! (λ _. keep ! (4 ∷ 3 ∷ 0 ∷ []) $ by ! (not_shared e)))
+
+        not_owed : ⟦ Book₀ ⟧ ∗ ⟦ held_with P L b o t s h owed ⟧ ⊢ H.⇛ Z
+        not_owed = qed 𝓛 (‵ Book₀ ∷ ‵ (held_with P L b o t s h owed) ∷ []) ∵ move ! (1 ∷ []) $ fsplit ! $ move ! (1 ∷ []) $ fsplit ! $ fsplit ! $
+            keep ! (4 ∷ 1 ∷ []) $ by ! (one_book L₀ L t.name.history t.name.seats t.name.seats 0 0 (H.⇛ Z))
+
+        -- and no handle has a seat
+        pub no_other : (right : Right) → HasSeat right → ⟦ Book₀ ⟧ ∗ ⟦ held_with P L b o t s h right ⟧ ⊢ H.⇛ Z
+        no_other right may = let X : Right → Type 1 = λ k. ⟦ Book₀ ⟧ ∗ ⟦ held_with P L b o t s h k ⟧ ⊢ H.⇛ Z in elim may [
+          | inl free ↦ by_free X (not_free counted) (not_free uncounted) right free
+          | inr other ↦ elim other [ inl e ↦ subst X (sym e) not_dropping | inr e ↦ subst X (sym e) not_owed ]
+        ]

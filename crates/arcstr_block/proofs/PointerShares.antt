@@ -23,15 +23,16 @@ use Rattle.arcstr_count.specs.declared.steps.Step.{Step}
 use Rattle.arcstr_count.specs.declared.steps.HandleState.TheVariants.{Free}
 use Rattle.arcstr_block.proofs.RightTests.{uncounted_or_not}
 use Rattle.arcstr_block.specs.Rights.{counted, uncounted, Right, nothing, fixed, dropping, owed}
-use Rattle.arcstr_block.specs.Book.{reached, seat, seat_share}
-use Rattle.arcstr_block.specs.Ledger.{Id, Names, Inv, knows, names, known, permanent, with_share, free, held_with, seen, free_shown, shown}
+use Rattle.arcstr_block.specs.Book.{BlockName, reached, seat, seat_share}
+use Rattle.arcstr_block.specs.Ledger.{Id, Inv, knows, known, permanent, with_share, free, held_with, seen, free_shown, shown}
 use Rattle.arcstr_block.proofs.Book.{reached_twice}
 
 permanent_twice : {M : Type 1} {𝓤 : Ura M} (𝓛 : Logic 𝓤) (P : Fml) (L b o : ℕ) (t : Id)
     → ent 𝓤 (sem 𝓛 (permanent P L b o t)) (sep 𝓤 (sem 𝓛 (permanent P L b o t)) (sem 𝓛 (permanent P L b o t)))
-permanent_twice 𝓛 P L b o t = let a : Lft = t.0 ∷ [] in qed 𝓛 (‵ (permanent P L b o t) ∷ []) ∵ fsplit ! $
+permanent_twice 𝓛 P L b o t = let a : Lft = t.sharing ∷ [] in qed 𝓛 (‵ (permanent P L b o t) ∷ []) ∵ fsplit ! $
     use1 𝓛 (‵ (fshr_bor [] (λ q. flft a q)) ⊛ ‵ (fshr_bor [] (λ q. flft a q))) (𝓛.shr_bors.shr_bor_dup [] (λ q. flft a q)) $ split ! $ move ! (2 ∷ []) $
-    use1 𝓛 (‵ (fdead (t.1 ∷ [])) ⊛ ‵ (fdead (t.1 ∷ []))) (𝓛.lfts.dead_dup (t.1 ∷ [])) $ split ! $ move ! (2 ∷ 0 ∷ []) $ fjoin ! $ move ! (2 ∷ 1 ∷ []) $
+    use1 𝓛 (‵ (fdead (t.counting ∷ [])) ⊛ ‵ (fdead (t.counting ∷ []))) (𝓛.lfts.dead_dup (t.counting ∷ [])) $ split ! $ move ! (2 ∷ 0 ∷ []) $ fjoin ! $
+    move ! (2 ∷ 1 ∷ []) $
     fjoin ! $ done !
 
 permanent_laws : (P : Fml) (L b o : ℕ) (t : Id) → ShrLaws (said (permanent P L b o t))
@@ -39,32 +40,33 @@ permanent_laws P L b o t = record { contraction = λ M 𝓤 𝓛 κ. permanent_t
 
 pub knows_twice : {M : Type 1} {𝓤 : Ura M} (𝓛 : Logic 𝓤) (t : Id) (right : Right)
     → ent 𝓤 (sem 𝓛 (knows t right)) (sep 𝓤 (sem 𝓛 (knows t right)) (sem 𝓛 (knows t right)))
-knows_twice {𝓤 = 𝓤} 𝓛 t right = let D = 𝓛.A.dead (t.1 ∷ []) in let K = λ (_ : right ≡ uncounted). D in dite (uncounted_or_not right)
-    (λ e. qed 𝓛 (‵ (knows t right) ∷ []) ∵ use1 𝓛 (‵ (fdead (t.1 ∷ []))) (all_e 𝓤 K e) $
-    use1 𝓛 (‵ (fdead (t.1 ∷ [])) ⊛ ‵ (fdead (t.1 ∷ []))) (𝓛.lfts.dead_dup (t.1 ∷ [])) $ split ! $
+knows_twice {𝓤 = 𝓤} 𝓛 t right = let D = 𝓛.A.dead (t.counting ∷ []) in let K = λ (_ : right ≡ uncounted). D in dite (uncounted_or_not right)
+    (λ e. qed 𝓛 (‵ (knows t right) ∷ []) ∵ use1 𝓛 (‵ (fdead (t.counting ∷ []))) (all_e 𝓤 K e) $
+    use1 𝓛 (‵ (fdead (t.counting ∷ [])) ⊛ ‵ (fdead (t.counting ∷ []))) (𝓛.lfts.dead_dup (t.counting ∷ [])) $ split ! $
     use1 𝓛 (‵ (knows t right)) (all_i 𝓤 {P = D} K (λ _. id⊢ 𝓤 D)) $ move ! (1 ∷ []) $ use1 𝓛 (‵ (knows t right)) (all_i 𝓤 {P = D} K (λ _. id⊢ 𝓤 D)) $ done !)
     (λ ne. qed 𝓛 (‵ (knows t right) ∷ []) ∵ no_item ! $ use1 𝓛 (‵ (knows t right)) (all_i 𝓤 {P = emp 𝓤} K (λ e. absurd (ne e))) $ done !)
 
 knows_laws : (t : Id) (right : Right) → ShrLaws (said (knows t right))
 knows_laws t right = record { contraction = λ M 𝓤 𝓛 κ. knows_twice 𝓛 t right; mono = λ M 𝓤 𝓛 κ' κ. snd∗ 𝓤 (sem 𝓛 (before κ' κ)) (sem 𝓛 (knows t right)) }
 
-pub known_twice : {M : Type 1} {𝓤 : Ura M} (𝓛 : Logic 𝓤) (t : Id) (block : Names) (r : List Step)
+pub known_twice : {M : Type 1} {𝓤 : Ura M} (𝓛 : Logic 𝓤) (t : Id) (block : BlockName) (r : List Step)
     → ent 𝓤 (sem 𝓛 (known t block r)) (sep 𝓤 (sem 𝓛 (known t block r)) (sem 𝓛 (known t block r)))
 known_twice 𝓛 t block r = qed 𝓛 (‵ (known t block r) ∷ []) ∵ fsplit ! $ fpick ! (λ e. drop ! $
-    use1 𝓛 (‵ (reached t.2 r) ⊛ ‵ (reached t.2 r)) (reached_twice 𝓛 0 t.2 t.3 r) $ split ! $
-    no_item ! $ fpack ! (names t ≡ block) (λ _. ftrue) e $ fjoin ! $ move ! (1 ∷ []) $ no_item ! $ fpack ! (names t ≡ block) (λ _. ftrue) e $ fjoin ! $ done !)
+    use1 𝓛 (‵ (reached t.name.history r) ⊛ ‵ (reached t.name.history r)) (reached_twice 𝓛 0 t.name.history t.name.seats r) $ split ! $
+    no_item ! $ fpack ! (t.name ≡ block) (λ _. ftrue) e $ fjoin ! $ move ! (1 ∷ []) $ no_item ! $ fpack ! (t.name ≡ block) (λ _. ftrue) e $ fjoin ! $ done !)
 
-pub known_laws : (t : Id) (block : Names) (r : List Step) → ShrLaws (said (known t block r))
+pub known_laws : (t : Id) (block : BlockName) (r : List Step) → ShrLaws (said (known t block r))
 known_laws t block r = record { contraction = λ M 𝓤 𝓛 κ. known_twice 𝓛 t block r; mono = λ M 𝓤 𝓛 κ' κ. snd∗ 𝓤 (sem 𝓛 (before κ' κ)) (sem 𝓛 (known t block r)) }
 
 module _ (P : Fml) (L b o : ℕ) (s : Lft → Fml) (laws : ShrLaws s) (h : ℕ) where
   seen_laws : (t : Id) → ShrLaws (seen P L b o t s h)
-  seen_laws t = beside_shr_laws (always (Inv P L b o t)) (held (t.0 ∷ []) s) (always_shr_laws (Inv P L b o t)) (held_shr_laws (t.0 ∷ []) s laws)
+  seen_laws t = beside_shr_laws (always (Inv P L b o t)) (held (t.sharing ∷ []) s) (always_shr_laws (Inv P L b o t)) (held_shr_laws (t.sharing ∷ []) s laws)
 
   free_laws : (t : Id) (right : Right) → ShrLaws (free_shown P L b o t s h right)
-  free_laws t right = beside_shr_laws (one (λ q. flft (t.0 ∷ []) q)) (beside (one (λ q.
-      seat_share t.3 h q Free)) (beside (said (knows t right)) (seen P L b o t s h))) (one_shr_laws (λ q. flft (t.0 ∷ []) q))
-      (beside_shr_laws (one (λ q. seat_share t.3 h q Free)) (beside (said (knows t right)) (seen P L b o t s h)) (one_shr_laws (λ q. seat_share t.3 h q Free))
+  free_laws t right = beside_shr_laws (one (λ q. flft (t.sharing ∷ []) q)) (beside (one (λ q.
+      seat_share t.name.seats h q Free)) (beside (said (knows t right)) (seen P L b o t s h))) (one_shr_laws (λ q. flft (t.sharing ∷ []) q))
+      (beside_shr_laws (one (λ q. seat_share t.name.seats h q Free)) (beside (said (knows t right)) (seen P L b o t s h)) (one_shr_laws
+      (λ q. seat_share t.name.seats h q Free))
       (beside_shr_laws (said (knows t right)) (seen P L b o t s h) (knows_laws t right) (seen_laws t)))
 
   pub shown_laws : (t : Id) (right : Right) → ShrLaws (shown P L b o t s h right)
@@ -100,10 +102,10 @@ module _ (P : Fml) (L b o : ℕ) (s : Lft → Fml) (laws : ShrLaws s) (h : ℕ) 
     I = Inv P L b o t
 
     abbrev a : Lft
-    a = t.0 ∷ []
+    a = t.sharing ∷ []
 
     abbrev Mine : Fml
-    Mine = seat t.3 h Free
+    Mine = seat t.name.seats h Free
 
     abbrev Holds : Right → Fml
     Holds = held_with P L b o t s h
@@ -144,7 +146,7 @@ module _ (P : Fml) (L b o : ℕ) (s : Lft → Fml) (laws : ShrLaws s) (h : ℕ) 
         -- [the way back; what is known; what is shared; the seat; the share; the invariant; the open borrow]
         no_item ! $ move ! (4 ∷ 0 ∷ []) $ fjoin ! $ move ! (4 ∷ 0 ∷ []) $ fjoin ! $ move ! (5 ∷ 0 ∷ 1 ∷ []) $ obor_alter ! tt (flft a e ∷ Mine ∷ []) $
         use1 𝓛 (‵ (fbor κ (flft a e)) ⊛ ‵ (fbor κ Mine) ⊛ ‵ ftrue) (id⊢ 𝓤 _) $ split3 ! $ bor_fracture ! tt (λ r. flft a r) e $ move ! (1 ∷ []) $
-        bor_fracture ! tt (λ r. seat_share t.3 h r Free) three_quarters $
+        bor_fracture ! tt (λ r. seat_share t.name.seats h r Free) three_quarters $
         -- [the seat; the share; nothing; κ; what is known; what is shared; the invariant]
         move ! (6 ∷ 5 ∷ []) $ fjoin ! $ move ! (5 ∷ 0 ∷ []) $ fjoin ! $ move ! (1 ∷ 0 ∷ []) $ fjoin ! $ move ! (1 ∷ 0 ∷ []) $ fjoin ! $ now ! $
         keep ! (0 ∷ 2 ∷ []) $ done !))

@@ -1,5 +1,5 @@
 -- A right as a `&` shows it, and the right that a step's gain becomes. Assumes `Logic`.
-use Rattle.std.proofs.Common.{◌≡◌, ◌≢◌, ℕ, if◌then◌else◌, inl, inr, [], ◌∷◌, refl, ap, arith}
+use Rattle.std.proofs.Common.{◌≡◌, ◌≢◌, ℕ, if◌then◌else◌, inl, inr, [], ◌∷◌, refl, sym, ap, subst, arith}
 use Rattle.std.specs.Prelude.{◌⊎◌}
 use mathlib.Core.Logic.{dite}
 use native.Mathlib.Decide.{ℕ_discrete}
@@ -19,21 +19,16 @@ use Rattle.arcstr_count.specs.Word.{FlagAndCount}
 use Rattle.arcstr_block.specs.Word.{IsMarked, IsUnmarked, IsLast, one}
 use Rattle.arcstr_block.specs.Rights.{MaySee, IsFree, HasSeat, counted, uncounted, Looks, Finds, Gains, Begins, Leaves, Right, nothing, fixed, dropping, owed}
 use Rattle.arcstr_block.specs.Book.{seat, seat_share}
-use Rattle.arcstr_block.specs.Ledger.{Id, parts, some_share, Inv, stated, permanent, right_to, shown, knows}
+use Rattle.arcstr_block.specs.Ledger.{Id, parts, Inv, right_to, shown, free, free_shown, knows}
 use Rattle.arcstr_block.proofs.TokenParts.{parts_in}
 use Rattle.arcstr_block.proofs.Words.{odd_or_even, unmarked_word, last_two}
 use Rattle.arcstr_block.proofs.Book.{begun, left_in, Born}
 use Rattle.arcstr_block.proofs.PointerShares.{free_in}
 use Rattle.arcstr_block.proofs.Steps.{Gain, none, part, share, last, gained}
 
--- a free handle that is not uncounted is counted
-counted_of : (right : Right) → IsFree right → (right ≡ uncounted → ⊥) → right ≡ counted
-counted_of nothing may other = absurd (may.0 refl)
-counted_of counted may other = refl
-counted_of uncounted may other = absurd (other refl)
-counted_of fixed may other = absurd (may.1 refl)
-counted_of dropping may other = absurd (may.2 refl)
-counted_of owed may other = absurd (may.3 refl)
+-- a free handle is counted or uncounted
+pub by_free : (X : Right → Type 1) → X counted → X uncounted → (right : Right) → IsFree right → X right
+by_free X one other right may = elim may [ inl e ↦ subst X (sym e) one | inr e ↦ subst X (sym e) other ]
 
 -- the state of the seat of a right that has one
 abbrev pub seat_state : Right → HandleState
@@ -73,7 +68,7 @@ module _ {M : Type 1} {𝓤 : Ura M} (𝓛 : Logic 𝓤) (P : Fml) (L b o : ℕ)
 
   module _ (s : Lft → Fml) (laws : denote.Sharing.ShrLaws s) where
     abbrev a : Lft
-    a = t.0 ∷ []
+    a = t.sharing ∷ []
 
     abbrev Shown : ℕ → Right → Lft → Fml
     Shown h = shown P L b o t s h
@@ -82,52 +77,48 @@ module _ {M : Type 1} {𝓤 : Ura M} (𝓛 : Logic 𝓤) (P : Fml) (L b o : ℕ)
     Held h = right_to P L b o t s h
 
     -- what a right that may read the block shows
-    pub may_see : (h : ℕ) (right : Right) → MaySee right → (κ : Lft) → ⟦ Shown h right κ ⟧ ⊢ ⟦ fshr_bor κ (λ q. flft a q) ⟧ ∗ ⟦ finv I ⟧ ∗ ⟦ s a ⟧
-    may_see h nothing may κ = absurd (may.0 refl)
-    may_see h counted may κ = qed 𝓛 (‵ (Shown h counted κ) ∷ []) ∵ fsplit3 ! $ move ! (2 ∷ []) $ fsplit3 ! $ keep ! (3 ∷ 1 ∷ 2 ∷ []) $ done !
-    may_see h uncounted may κ = qed 𝓛 (‵ (Shown h uncounted κ) ∷ []) ∵ fsplit3 ! $ move ! (2 ∷ []) $ fsplit3 ! $ keep ! (3 ∷ 1 ∷ 2 ∷ []) $ done !
-    may_see h fixed may κ = qed 𝓛 (‵ (Shown h fixed κ) ∷ []) ∵ fsplit3 ! $ fsplit ! $
+    abbrev Sees : Lft → Pr
+    Sees κ = ⟦ fshr_bor κ (λ q. flft a q) ⟧ ∗ ⟦ finv I ⟧ ∗ ⟦ s a ⟧
+
+    free_sees : (h : ℕ) (right : Right) (κ : Lft) → ⟦ free_shown P L b o t s h right κ ⟧ ⊢ Sees κ
+    free_sees h right κ = qed 𝓛 (‵ (free_shown P L b o t s h right κ) ∷ []) ∵ fsplit3 ! $ move ! (2 ∷ []) $ fsplit3 ! $ keep ! (3 ∷ 1 ∷ 2 ∷ []) $ done !
+
+    fixed_sees : (h : ℕ) (κ : Lft) → ⟦ Shown h fixed κ ⟧ ⊢ Sees κ
+    fixed_sees h κ = qed 𝓛 (‵ (Shown h fixed κ) ∷ []) ∵ fsplit3 ! $ fsplit ! $
         use1 𝓛 (‵ (fshr_bor κ (λ q. flft a q))) (𝓛.shr_bors.shr_bor_shorten [] κ (λ q. flft a q) (⊑_static κ)) $ keep ! (0 ∷ 2 ∷ 3 ∷ []) $ done !
-    may_see h dropping may κ = absurd (may.1 refl)
-    may_see h owed may κ = absurd (may.2 refl)
+
+    pub may_see : (h : ℕ) (right : Right) → MaySee right → (κ : Lft) → ⟦ Shown h right κ ⟧ ⊢ Sees κ
+    may_see h right may κ = let X : Right → Type 1 = λ k. ⟦ Shown h k κ ⟧ ⊢ Sees κ in
+        elim may [ inl free ↦ by_free X (free_sees h counted κ) (free_sees h uncounted κ) right free | inr e ↦ subst X (sym e) (fixed_sees h κ) ]
 
     -- what a free handle shows
     pub may_step : (h : ℕ) (right : Right) → IsFree right → (κ : Lft)
-        → ⟦ Shown h right κ ⟧ ⊢ ⟦ fshr_bor κ (λ q. flft a q) ⟧ ∗ ⟦ fshr_bor κ (λ q. seat_share t.3 h q Free) ⟧ ∗ ⟦ knows t right ⟧ ∗ ⟦ finv I ⟧ ∗ ⟦ s a ⟧
-    may_step h nothing may κ = absurd (may.0 refl)
-    may_step h counted may κ = id⊢ 𝓤 _
-    may_step h uncounted may κ = id⊢ 𝓤 _
-    may_step h fixed may κ = absurd (may.1 refl)
-    may_step h dropping may κ = absurd (may.2 refl)
-    may_step h owed may κ = absurd (may.3 refl)
+        → ⟦ Shown h right κ ⟧ ⊢ ⟦ fshr_bor κ (λ q. flft a q) ⟧ ∗ ⟦ fshr_bor κ (λ q. seat_share t.name.seats h q Free) ⟧ ∗ ⟦ knows t right ⟧ ∗ ⟦ finv I ⟧
+        ∗ ⟦ s a ⟧
+    may_step h right may κ = by_free (λ k. ⟦ Shown h k κ ⟧ ⊢ ⟦ free_shown P L b o t s h k κ ⟧) (id⊢ 𝓤 _) (id⊢ 𝓤 _) right may
 
     -- what a free handle's right contains, which is the same for both
-    pub is_free : (h : ℕ) (right : Right) → IsFree right → ⟦ Held h right ⟧ ⊢ ⟦ Rattle.arcstr_block.specs.Ledger.free P L b o t s h right ⟧
-    is_free h nothing may = absurd (may.0 refl)
-    is_free h counted may = id⊢ 𝓤 _
-    is_free h uncounted may = id⊢ 𝓤 _
-    is_free h fixed may = absurd (may.1 refl)
-    is_free h dropping may = absurd (may.2 refl)
-    is_free h owed may = absurd (may.3 refl)
+    pub is_free : (h : ℕ) (right : Right) → IsFree right → ⟦ Held h right ⟧ ⊢ ⟦ free P L b o t s h right ⟧
+    is_free h right may = by_free (λ k. ⟦ Held h k ⟧ ⊢ ⟦ free P L b o t s h k ⟧) (id⊢ 𝓤 _) (id⊢ 𝓤 _) right may
 
-    free_has_seat : (h : ℕ) (right : Right) → ⟦ Rattle.arcstr_block.specs.Ledger.free P L b o t s h right ⟧ ⊢ ⟦ seat t.3 h Free ⟧
-    free_has_seat h right = qed 𝓛 (‵ (Rattle.arcstr_block.specs.Ledger.free P L b o t s h right) ∷ []) ∵ fpick ! (λ e. fsplit3 ! $ move ! (2 ∷ []) $ fsplit3 ! $
+    free_has_seat : (h : ℕ) (right : Right) → ⟦ free P L b o t s h right ⟧ ⊢ ⟦ seat t.name.seats h Free ⟧
+    free_has_seat h right = qed 𝓛 (‵ (free P L b o t s h right) ∷ []) ∵ fpick ! (λ e. fsplit3 ! $ move ! (2 ∷ []) $ fsplit3 ! $
         keep ! (2 ∷ []) $ done !)
 
-    -- each right except nothing and fixed has the seat of its handle
-    pub has_seat : (h : ℕ) (right : Right) → HasSeat right → ⟦ Held h right ⟧ ⊢ ⟦ seat t.3 h (seat_state right) ⟧
-    has_seat h nothing may = absurd (may.0 refl)
-    has_seat h counted may = free_has_seat h counted
-    has_seat h uncounted may = free_has_seat h uncounted
-    has_seat h fixed may = absurd (may.1 refl)
-    has_seat h dropping may = qed 𝓛 (‵ (Held h dropping) ∷ []) ∵ fsplit3 ! $ keep ! (2 ∷ []) $ done !
-    has_seat h owed may = qed 𝓛 (‵ (Held h owed) ∷ []) ∵ fsplit3 ! $ keep ! (2 ∷ []) $ done !
+    pub has_seat : (h : ℕ) (right : Right) → HasSeat right → ⟦ Held h right ⟧ ⊢ ⟦ seat t.name.seats h (seat_state right) ⟧
+    has_seat h right may = let X : Right → Type 1 = λ k. ⟦ Held h k ⟧ ⊢ ⟦ seat t.name.seats h (seat_state k) ⟧ in elim may [
+      | inl free ↦ by_free X (free_has_seat h counted) (free_has_seat h uncounted) right free
+      | inr other ↦ elim other [
+        | inl e ↦ subst X (sym e) (qed 𝓛 (‵ (Held h dropping) ∷ []) ∵ fsplit3 ! $ keep ! (2 ∷ []) $ done !)
+        | inr e ↦ subst X (sym e) (qed 𝓛 (‵ (Held h owed) ∷ []) ∵ fsplit3 ! $ keep ! (2 ∷ []) $ done !)
+      ]
+    ]
 
     knows_nothing : ⟦ ftrue ⟧ ⊢ ⟦ knows t counted ⟧
-    knows_nothing = all_i 𝓤 {P = emp 𝓤} (λ (_ : counted ≡ uncounted). A.dead (t.1 ∷ [])) (λ e. absurd cc)
+    knows_nothing = all_i 𝓤 {P = emp 𝓤} (λ (_ : counted ≡ uncounted). A.dead (t.counting ∷ [])) (λ e. absurd cc)
 
-    knows_mark : A.dead (t.1 ∷ []) ⊢ ⟦ knows t uncounted ⟧
-    knows_mark = all_i 𝓤 {P = A.dead (t.1 ∷ [])} (λ (_ : uncounted ≡ uncounted). A.dead (t.1 ∷ [])) (λ _. id⊢ 𝓤 (A.dead (t.1 ∷ [])))
+    knows_mark : A.dead (t.counting ∷ []) ⊢ ⟦ knows t uncounted ⟧
+    knows_mark = all_i 𝓤 {P = A.dead (t.counting ∷ [])} (λ (_ : uncounted ≡ uncounted). A.dead (t.counting ∷ [])) (λ _. id⊢ 𝓤 (A.dead (t.counting ∷ [])))
 
     -- a share becomes permanent when it is borrowed for a lifetime that never ends
     permanent_of : ⟦ gained 𝓛 P L b o t share ⟧ ∗ ⟦ s a ⟧ ⊢ H.⇛ ⟦ Held 0 fixed ⟧
@@ -147,7 +138,7 @@ module _ {M : Type 1} {𝓤 : Ura M} (𝓛 : Logic 𝓤) (P : Fml) (L b o : ℕ)
 
     pub looked : (n : ℕ) (g : Gain) → (IsMarked n → g ≡ share) → (IsUnmarked n → g ≡ none) → Becomes (Looks n) (FromLook g) ToIdle
     looked n none m u = record { right = nothing; said = ((λ odd. let e = m odd in absurd cc), (λ _. refl)); turns = nothing_of ftrue }
-    looked n part m u = record { right = nothing; said = ((λ odd. let e = m odd in absurd cc), (λ _. refl)); turns = nothing_of (parts t.0 1) }
+    looked n part m u = record { right = nothing; said = ((λ odd. let e = m odd in absurd cc), (λ _. refl)); turns = nothing_of (parts t.sharing 1) }
     looked n share m u = record { right = fixed; said = ((λ _. refl), (λ even. let e = u even in absurd cc)); turns = permanent_of }
     looked n last m u = record { right = nothing; said = ((λ odd. let e = m odd in absurd cc), (λ _. refl)); turns = nothing_of (gained 𝓛 P L b o t last) }
 
@@ -159,7 +150,7 @@ module _ {M : Type 1} {𝓤 : Ura M} (𝓛 : Logic 𝓤) (P : Fml) (L b o : ℕ)
 
     -- ---- a clone; `event` says whether it succeeds
     abbrev pub newborn : Type 0 → Fml
-    newborn event = fall event (λ _. Born 𝓛 L t.2 t.3)
+    newborn event = fall event (λ _. Born 𝓛 L t.name.history t.name.seats)
 
     abbrev FromClone : Type 0 → Gain → Pr
     FromClone event g = ⟦ gained 𝓛 P L b o t g ⟧ ∗ ⟦ s a ⟧ ∗ ⟦ newborn event ⟧
@@ -171,14 +162,16 @@ module _ {M : Type 1} {𝓤 : Ura M} (𝓛 : Logic 𝓤) (P : Fml) (L b o : ℕ)
     no_clone event X = qed 𝓛 (‵ X ∷ ‵ (s a) ∷ ‵ (newborn event) ∷ []) ∵ updating ! $ keep ! (1 ∷ []) $ fpack ! ℕ (λ j. Held j nothing) 0 $ now ! $ done !
 
     counted_clone : (event : Type 0) → event → FromClone event part ⊢ H.⇛ (ToClone counted)
-    counted_clone event y = qed 𝓛 (‵ (parts t.0 1) ∷ ‵ (s a) ∷ ‵ (newborn event) ∷ []) ∵ updating ! $ fpick ! (λ e. fpick ! (λ c. move ! (2 ∷ []) $
-        use1 𝓛 (‵ (Born 𝓛 L t.2 t.3)) (all_e 𝓤 (λ (_ : event). ⟦ Born 𝓛 L t.2 t.3 ⟧) y) $ fpick ! (λ j. no_item ! $ use1 𝓛 (‵ (knows t counted)) knows_nothing $
+    counted_clone event y = qed 𝓛 (‵ (parts t.sharing 1) ∷ ‵ (s a) ∷ ‵ (newborn event) ∷ []) ∵ updating ! $ fpick ! (λ e. fpick ! (λ c. move ! (2 ∷ []) $
+        use1 𝓛 (‵ (Born 𝓛 L t.name.history t.name.seats)) (all_e 𝓤 (λ (_ : event). ⟦ Born 𝓛 L t.name.history t.name.seats ⟧) y) $ fpick ! (λ j. no_item ! $
+        use1 𝓛 (‵ (knows t counted)) knows_nothing $
         move ! (2 ∷ 0 ∷ 3 ∷ 1 ∷ []) $ types.Kit.group ! 4 $
         use1 𝓛 (‵ (Held j counted)) (free_in P L b o s laws j 𝓛 t counted e (λ _. c)) $ fpack ! ℕ (λ i. Held i counted) j $ now ! $ done !)))
 
     uncounted_clone : (event : Type 0) → event → FromClone event share ⊢ H.⇛ (ToClone uncounted)
     uncounted_clone event y = qed 𝓛 (‵ (gained 𝓛 P L b o t share) ∷ ‵ (s a) ∷ ‵ (newborn event) ∷ []) ∵ updating ! $ fsplit ! $ fpick ! (λ e. move ! (3 ∷ []) $
-        use1 𝓛 (‵ (Born 𝓛 L t.2 t.3)) (all_e 𝓤 (λ (_ : event). ⟦ Born 𝓛 L t.2 t.3 ⟧) y) $ fpick ! (λ j. move ! (2 ∷ []) $
+        use1 𝓛 (‵ (Born 𝓛 L t.name.history t.name.seats)) (all_e 𝓤 (λ (_ : event). ⟦ Born 𝓛 L t.name.history t.name.seats ⟧) y) $
+        fpick ! (λ j. move ! (2 ∷ []) $
         use1 𝓛 (‵ (knows t uncounted)) knows_mark $ move ! (2 ∷ 0 ∷ 3 ∷ 1 ∷ []) $ types.Kit.group ! 4 $
         use1 𝓛 (‵ (Held j uncounted)) (free_in P L b o s laws j 𝓛 t uncounted e (λ w. absurd cc)) $ fpack ! ℕ (λ i. Held i uncounted) j $ now ! $ done !))
 
@@ -256,46 +249,50 @@ module _ {M : Type 1} {𝓤 : Ura M} (𝓛 : Logic 𝓤) (P : Fml) (L b o : ℕ)
     -- ---- the drop: its look and its subtraction
     module _ (n h : ℕ) where
       abbrev FromBegin : Share → Pr
-      FromBegin e = A.lft a e ∗ ⟦ s a ⟧ ∗ ⟦ seat t.3 h (begun 𝓛 L t.2 t.3 n) ⟧
+      FromBegin e = A.lft a e ∗ ⟦ s a ⟧ ∗ ⟦ seat t.name.seats h (begun 𝓛 L t.name.history t.name.seats n) ⟧
 
       abbrev To : Right → Pr
       To k = ⟦ Held h k ⟧
 
       goes_on : (e : Share) → Counts 63 e 1 → IsUnmarked n → FromBegin e ⊢ H.⇛ (To dropping)
-      goes_on e c even = let is : begun 𝓛 L t.2 t.3 n ≡ Dropping = ap (λ (w : FlagAndCount). if w.flag then Gone else Dropping) (unmarked_word n even) in
-          qed 𝓛 (‵ (flft a e) ∷ ‵ (s a) ∷ ‵ (seat t.3 h (begun 𝓛 L t.2 t.3 n)) ∷ []) ∵ updating ! $
-          rewrite ! 2 (λ (v : HandleState). ‵ (seat t.3 h v)) is refl $ use1 𝓛 (‵ (parts t.0 1)) (parts_in 𝓛 t.0 1 e c) $ fjoin3 ! $ now ! $ done !
+      goes_on e c even = let is : begun 𝓛 L t.name.history t.name.seats n ≡ Dropping = ap (λ (w : FlagAndCount). if w.flag then Gone else Dropping)
+          (unmarked_word n even) in
+          qed 𝓛 (‵ (flft a e) ∷ ‵ (s a) ∷ ‵ (seat t.name.seats h (begun 𝓛 L t.name.history t.name.seats n)) ∷ []) ∵ updating ! $
+          rewrite ! 2 (λ (v : HandleState). ‵ (seat t.name.seats h v)) is refl $ use1 𝓛 (‵ (parts t.sharing 1)) (parts_in 𝓛 t.sharing 1 e c) $ fjoin3 ! $
+          now ! $ done !
 
       stops : (e : Share) → FromBegin e ⊢ H.⇛ (To nothing)
-      stops e = qed 𝓛 (‵ (flft a e) ∷ ‵ (s a) ∷ ‵ (seat t.3 h (begun 𝓛 L t.2 t.3 n)) ∷ []) ∵ updating ! $ keep ! (1 ∷ []) $ now ! $ done !
+      stops e = qed 𝓛 (‵ (flft a e) ∷ ‵ (s a) ∷ ‵ (seat t.name.seats h (begun 𝓛 L t.name.history t.name.seats n)) ∷ []) ∵ updating ! $ keep ! (1 ∷ []) $
+          now ! $ done !
 
       pub begins : (right : Right) (e : Share) → IsFree right → (right ≡ counted → Counts 63 e 1) → (right ≡ uncounted → IsMarked n)
           → Becomes (Begins n) (FromBegin e) To
       begins right e may c known = elim (odd_or_even n) [
         | inl odd ↦ record { right = nothing; said = ((λ _. refl), (λ even. absurd (omega (arith, odd, even)))); turns = stops e }
-        | inr even ↦ let one : right ≡ counted = counted_of right may (λ marks. let odd = known marks in omega (arith, odd, even)) in
+        | inr even ↦ let one : right ≡ counted = elim may [ inl e ↦ e | inr marks ↦ let odd = known marks in absurd (omega (arith, odd, even)) ] in
             record { right = dropping; said = ((λ odd. absurd (omega (arith, odd, even))), (λ _. refl)); turns = goes_on e (c one) even }
       ]
 
       abbrev FromSub : Gain → Pr
-      FromSub g = ⟦ gained 𝓛 P L b o t g ⟧ ∗ ⟦ s a ⟧ ∗ ⟦ seat t.3 h (left_in 𝓛 L t.2 t.3 n) ⟧
+      FromSub g = ⟦ gained 𝓛 P L b o t g ⟧ ∗ ⟦ s a ⟧ ∗ ⟦ seat t.name.seats h (left_in 𝓛 L t.name.history t.name.seats n) ⟧
 
       owes : IsLast n → FromSub last ⊢ H.⇛ (To owed)
-      owes two = let is : left_in 𝓛 L t.2 t.3 n ≡ Owing = ap (λ y. if y then Owing else Gone) (last_two n two) in
-          qed 𝓛 (‵ (gained 𝓛 P L b o t last) ∷ ‵ (s a) ∷ ‵ (seat t.3 h (left_in 𝓛 L t.2 t.3 n)) ∷ []) ∵ updating ! $
-          rewrite ! 2 (λ (v : HandleState). ‵ (seat t.3 h v)) is refl $ fsplit3 ! $ move ! (1 ∷ 2 ∷ []) $ lent_back ! tt $
+      owes two = let is : left_in 𝓛 L t.name.history t.name.seats n ≡ Owing = ap (λ y. if y then Owing else Gone) (last_two n two) in
+          qed 𝓛 (‵ (gained 𝓛 P L b o t last) ∷ ‵ (s a) ∷ ‵ (seat t.name.seats h (left_in 𝓛 L t.name.history t.name.seats n)) ∷ []) ∵ updating ! $
+          rewrite ! 2 (λ (v : HandleState). ‵ (seat t.name.seats h v)) is refl $ fsplit3 ! $ move ! (1 ∷ 2 ∷ []) $ lent_back ! tt $
           -- [what the block owns; the word and the book; what was shared; the seat]
           move ! (0 ∷ 3 ∷ []) $ fjoin ! $ move ! (1 ∷ 0 ∷ []) $ fjoin ! $ now ! $ keep ! (0 ∷ []) $ done !
 
-      leaves : (X : Fml) → ⟦ X ⟧ ∗ ⟦ s a ⟧ ∗ ⟦ seat t.3 h (left_in 𝓛 L t.2 t.3 n) ⟧ ⊢ H.⇛ (To nothing)
-      leaves X = qed 𝓛 (‵ X ∷ ‵ (s a) ∷ ‵ (seat t.3 h (left_in 𝓛 L t.2 t.3 n)) ∷ []) ∵ updating ! $ keep ! (1 ∷ []) $ now ! $ done !
+      leaves : (X : Fml) → ⟦ X ⟧ ∗ ⟦ s a ⟧ ∗ ⟦ seat t.name.seats h (left_in 𝓛 L t.name.history t.name.seats n) ⟧ ⊢ H.⇛ (To nothing)
+      leaves X = qed 𝓛 (‵ X ∷ ‵ (s a) ∷ ‵ (seat t.name.seats h (left_in 𝓛 L t.name.history t.name.seats n)) ∷ []) ∵ updating ! $ keep ! (1 ∷ []) $ now ! $
+          done !
 
       not_last : (g : Gain) → (g ≡ last → ⊥) → (IsLast n → g ≡ last) → Leaves n nothing
       not_last g other ok = ((λ e. absurd (other (ok e))), (λ _. refl))
 
       pub subtracted : (g : Gain) → (IsLast n → g ≡ last) → ((¬ IsLast n) → g ≡ none) → Becomes (Leaves n) (FromSub g) To
       subtracted none m u = record { right = nothing; said = not_last none (λ e. absurd cc) m; turns = leaves ftrue }
-      subtracted part m u = record { right = nothing; said = not_last part (λ e. absurd cc) m; turns = leaves (parts t.0 1) }
+      subtracted part m u = record { right = nothing; said = not_last part (λ e. absurd cc) m; turns = leaves (parts t.sharing 1) }
       subtracted share m u = record { right = nothing; said = not_last share (λ e. absurd cc) m; turns = leaves (gained 𝓛 P L b o t share) }
       subtracted last m u = dite (ℕ_discrete n one) (λ two. record { right = owed; said = ((λ _. refl), (λ ne. absurd (ne two))); turns = owes two }) (λ ne.
           let e = u ne in absurd cc)

@@ -20,7 +20,7 @@ use Rattle.core.specs.declared.alloc.Allocator.{Ghosts}
 use Rattle.arcstr_count.specs.declared.steps.HandleState.TheVariants.{Free}
 use Rattle.arcstr_block.specs.Book.{reached, seat_share}
 use Rattle.arcstr_block.specs.Memory.{IsText, block_owns, block_shares, word_at}
-use Rattle.arcstr_block.specs.Ledger.{Id, names, Inv, right_to, of_block}
+use Rattle.arcstr_block.specs.Ledger.{Id, Inv, right_to, of_block}
 use Rattle.arcstr_block.specs.contracts.pointer.Pointer as C
 use Rattle.arcstr_block.proofs.Fields.{pointer_val, found_val, Words, made}
 use Rattle.arcstr_block.proofs.Seats.{seat_halves}
@@ -88,12 +88,13 @@ module _ {M : Type 1} {𝓤 : Ura M} (𝓛 : Logic 𝓤) where
       po = word_at h.at (length h.text)
 
       -- a right, with the names of the block and a prefix of its history
-      pub pointer_in : (t : Id) → names t ≡ h.block → InBlock h.at × IsText h.text
-          → ⟦ right_to P h.limit pb po t (block_shares h.at h.text) h.seat h.right ⟧ ∗ ⟦ finv (Inv P h.limit pb po t) ⟧ ∗ ⟦ reached t.2 h.history ⟧
+      pub pointer_in : (t : Id) → t.name ≡ h.block → InBlock h.at × IsText h.text
+          → ⟦ right_to P h.limit pb po t (block_shares h.at h.text) h.seat h.right ⟧ ∗ ⟦ finv (Inv P h.limit pb po t) ⟧ ∗ ⟦ reached t.name.history h.history ⟧
           ⊢ ⟦ Row.own_val h (pointer_val h.at ∷ []) ⟧
       pointer_in t named inb =
-          qed 𝓛 (‵ (right_to P h.limit pb po t (block_shares h.at h.text) h.seat h.right) ∷ ‵ (finv (Inv P h.limit pb po t)) ∷ ‵ (reached t.2 h.history) ∷ []) ∵
-          move ! (1 ∷ 0 ∷ []) $ fjoin ! $ move ! (1 ∷ []) $ nothing ! $ fpack ! (names t ≡ h.block) (λ _. ftrue) named $ fjoin ! $ fjoin ! $
+          qed 𝓛 (‵ (right_to P h.limit pb po t (block_shares h.at h.text) h.seat h.right) ∷ ‵ (finv (Inv P h.limit pb po t)) ∷
+          ‵ (reached t.name.history h.history) ∷ []) ∵
+          move ! (1 ∷ 0 ∷ []) $ fjoin ! $ move ! (1 ∷ []) $ nothing ! $ fpack ! (t.name ≡ h.block) (λ _. ftrue) named $ fjoin ! $ fjoin ! $
           fpack ! Id (of_block (g.dealloc_token h.home) h.limit h.at h.text h.right h.seat h.block h.history) t $
           nothing ! $ fpack ! (InBlock h.at × IsText h.text) (λ _. ftrue) inb $ fjoin ! $
           use0 𝓛 (‵ ((Words B g).own_val (h.at, (tt, tt)) (pointer_val h.at ∷ []))) (made B g 𝓛 h.at) $ fjoin ! $ done !

@@ -62,13 +62,13 @@ module _ {M : Type 1} {𝓤 : Ura M} (𝓛 : Logic 𝓤) (P : Fml) (L b o : ℕ)
   St = stated P L b o t
 
   abbrev pub Bk : ℕ → Fml
-  Bk = Book L t.2 t.3
+  Bk = Book L t.name.history t.name.seats
 
   abbrev pub gained : Gain → Fml
   gained none = ftrue
-  gained part = parts t.0 1
-  gained share = fsep (some_share t.0) (fdead (t.1 ∷ []))
-  gained last = fsep (St 0) (fsep (fdead (t.0 ∷ [])) (flent (t.0 ∷ []) P))
+  gained part = parts t.sharing 1
+  gained share = fsep (some_share t.sharing) (fdead (t.counting ∷ []))
+  gained last = fsep (St 0) (fsep (fdead (t.sharing ∷ [])) (flent (t.sharing ∷ []) P))
 
   -- The word n becomes f n. `ok` says which gain goes with n, K is what the step takes, and `kept` is what it returns.
   module _ (f : ℕ → ℕ) (ok : ℕ → Gain → Type 0) (K kept : Fml) where
@@ -111,15 +111,18 @@ module _ {M : Type 1} {𝓤 : Ura M} (𝓛 : Logic 𝓤) (P : Fml) (L b o : ℕ)
     pub marking : (n k : ℕ) → k < 2 ^ 63 - 1 → In (f n) (marked k) → ok n share → ⟦ St (f n) ⟧ ∗ ⟦ Keeps (unmarked k) ⟧ ∗ ⟦ kept ⟧ ⊢ Stepped n
     marking n k small h y =
         qed 𝓛 (‵ (St (f n)) ∷ ‵ (Keeps (unmarked k)) ∷ ‵ kept ∷ []) ∵ move ! (1 ∷ []) $
-        use1 𝓛 (‵ (flft (t.1 ∷ []) full_share) ⊛ ‵ (parts t.0 (2 ^ 63 - (k + 1))) ⊛ ‵ (some_share t.0) ⊛ ‵ (some_share t.0)) (marks 𝓛 P L b o t k small) $
+        use1 𝓛 (‵ (flft (t.counting ∷ []) full_share) ⊛ ‵ (parts t.sharing (2 ^ 63 - (k + 1))) ⊛ ‵ (some_share t.sharing) ⊛
+        ‵ (some_share t.sharing)) (marks 𝓛 P L b o t k small) $
         split3 ! $ move ! (2 ∷ []) $ split ! $
         -- [a share; a share; the token of c; the parts; the word; what is returned]
-        suffices ! _ (ending n t.1) $ move ! (2 ∷ []) $ frame ! $ assume ! (‵ (fdead (t.1 ∷ []))) $ suffices ! _ (upd_i 𝓤 (Shut n)) $
-        use1 𝓛 (‵ (fdead (t.1 ∷ [])) ⊛ ‵ (fdead (t.1 ∷ []))) (𝓛.lfts.dead_dup (t.1 ∷ [])) $ split ! $ move ! (3 ∷ 0 ∷ []) $ fjoin ! $ move ! (3 ∷ 2 ∷ 1 ∷ []) $
+        suffices ! _ (ending n t.counting) $ move ! (2 ∷ []) $ frame ! $ assume ! (‵ (fdead (t.counting ∷ []))) $ suffices ! _ (upd_i 𝓤 (Shut n)) $
+        use1 𝓛 (‵ (fdead (t.counting ∷ [])) ⊛ ‵ (fdead (t.counting ∷ []))) (𝓛.lfts.dead_dup (t.counting ∷ [])) $ split ! $ move ! (3 ∷ 0 ∷ []) $ fjoin ! $
+        move ! (3 ∷ 2 ∷ 1 ∷ []) $
         use3 𝓛 (‵ (Keeps (marked k))) (marked_in 𝓛 P L b o t k) $ move ! (2 ∷ 0 ∷ 3 ∷ 1 ∷ []) $ by ! (shuts n (marked k) h share y)
 
     -- B is what the history's law takes, and `said` is what it gives
-    module _ (alive : ⟦ K ⟧ ∗ A.dead (t.0 ∷ []) ⊢ never 𝓤) (law : (n : ℕ) → n < 2 ^ 64 → (s : Phase) → In n s → ⟦ St (f n) ⟧ ∗ ⟦ Keeps s ⟧ ∗ ⟦ K ⟧ ⊢ Stepped n)
+    module _ (alive : ⟦ K ⟧ ∗ A.dead (t.sharing ∷ []) ⊢ never 𝓤) (law : (n : ℕ) → n < 2 ^ 64 → (s : Phase) → In n s
+        → ⟦ St (f n) ⟧ ∗ ⟦ Keeps s ⟧ ∗ ⟦ K ⟧ ⊢ Stepped n)
         (B : Fml) (said : ℕ → Fml) (turn : (n : ℕ) → n < 2 ^ 64 → ⟦ Bk n ⟧ ∗ ⟦ B ⟧ ⊢ upd 𝓤 (⟦ Bk (f n) ⟧ ∗ ⟦ said n ⟧)) where
       abbrev After : ℕ → Fml
       After = all_after said
@@ -128,7 +131,7 @@ module _ {M : Type 1} {𝓤 : Ura M} (𝓛 : Logic 𝓤) (P : Fml) (L b o : ℕ)
       Opened = upd 𝓤 (ex 𝓤 (Lies 𝓛 I b o f After))
 
       opened : (y : Bool) → ⟦ if_alive P L b o t y ⟧ ∗ ⟦ K ⟧ ∗ ⟦ B ⟧ ⊢ Opened
-      opened false = qed 𝓛 (‵ (fdead (t.0 ∷ [])) ∷ ‵ K ∷ ‵ B ∷ []) ∵ keep ! (1 ∷ 0 ∷ []) $ by ! (via 𝓤 (never 𝓤) alive (never_e 𝓤 Opened))
+      opened false = qed 𝓛 (‵ (fdead (t.sharing ∷ [])) ∷ ‵ K ∷ ‵ B ∷ []) ∵ keep ! (1 ∷ 0 ∷ []) $ by ! (via 𝓤 (never 𝓤) alive (never_e 𝓤 Opened))
       opened true = qed 𝓛 (‵ (if_alive P L b o t true) ∷ ‵ K ∷ ‵ B ∷ []) ∵ suffices ! _ (upd_i 𝓤 (ex 𝓤 (Lies 𝓛 I b o f After))) $ fpick ! (λ n.
           let Z : Pr = ex 𝓤 (Out 𝓛 I b o f After n) in fsplit ! $ fsplit ! $
           use1 𝓛 (given (lib.Dec.T (has_ty (ty_int w64) (vint w64 n)) ×
@@ -144,13 +147,13 @@ module _ {M : Type 1} {𝓤 : Ura M} (𝓛 : Logic 𝓤) (P : Fml) (L b o : ℕ)
       pub stepped : A.inv I ∗ ⟦ K ⟧ ∗ ⟦ B ⟧ ⊢ asks 𝓛 (block_ptr b o) f always After
       stepped = asked 𝓛 I b o f After (⟦ K ⟧ ∗ ⟦ B ⟧) (qed 𝓛 (‵ I ∷ ‵ K ∷ ‵ B ∷ []) ∵ fpick ! (λ y. by ! (opened y)))
 
-  pub token_alive : (q : Share) → A.lft (t.0 ∷ []) q ∗ A.dead (t.0 ∷ []) ⊢ never 𝓤
-  token_alive q = 𝓛.lfts.lft-dead (t.0 ∷ []) q
+  pub token_alive : (q : Share) → A.lft (t.sharing ∷ []) q ∗ A.dead (t.sharing ∷ []) ⊢ never 𝓤
+  token_alive q = 𝓛.lfts.lft-dead (t.sharing ∷ []) q
 
   -- ---- the load. `right` is what the caller knows
   module _ (q : Share) (right : Right) where
     abbrev pub Tok : Fml
-    Tok = flft (t.0 ∷ []) q
+    Tok = flft (t.sharing ∷ []) q
 
     abbrev pub Told : ℕ → Gain → Type 0
     Told n g = IsWord L n × (right ≡ uncounted → IsMarked n) × (IsMarked n → g ≡ share) × (IsUnmarked n → g ≡ none)
@@ -161,8 +164,9 @@ module _ {M : Type 1} {𝓤 : Ura M} (𝓛 : Logic 𝓤) (P : Fml) (L b o : ℕ)
     sees : (n : ℕ) → n < 2 ^ 64 → (s : Phase) → In n s → ⟦ St n ⟧ ∗ ⟦ Keeps s ⟧ ∗ ⟦ With ⟧ ⊢ Stepped (λ m. m) Told With Tok n
     sees n fits (unmarked k) h = let even : IsUnmarked n = omega (arith, h.0) in let h₁ = h.1 in let h₂ = h.2 in let h₀ = h.0 in
         qed 𝓛 (‵ (St n) ∷ ‵ (Keeps (unmarked k)) ∷ ‵ With ∷ []) ∵ move ! (2 ∷ []) $ fsplit ! $ dite (uncounted_or_not right)
-        (λ e. move ! (1 ∷ 3 ∷ []) $ use1 𝓛 (‵ (fdead (t.1 ∷ []))) (all_e 𝓤 (λ (_ : right ≡ uncounted). A.dead (t.1 ∷ [])) e) $ move ! (1 ∷ []) $ fsplit3 ! $
-        keep ! (1 ∷ 3 ∷ []) $ by ! (not_alive 𝓛 P L b o t full_share t.1 _))
+        (λ e. move ! (1 ∷ 3 ∷ []) $ use1 𝓛 (‵ (fdead (t.counting ∷ []))) (all_e 𝓤 (λ (_ : right ≡ uncounted). A.dead (t.counting ∷ [])) e) $
+        move ! (1 ∷ []) $ fsplit3 ! $
+        keep ! (1 ∷ 3 ∷ []) $ by ! (not_alive 𝓛 P L b o t full_share t.counting _))
         (λ ne. move ! (1 ∷ []) $ drop ! $ nothing ! $ move ! (2 ∷ 3 ∷ 1 ∷ 0 ∷ []) $
         by ! (keeps (λ m. m) Told With Tok n (unmarked k) h none (
           (λ _. (omega arith, omega arith)),
@@ -173,12 +177,13 @@ module _ {M : Type 1} {𝓤 : Ura M} (𝓛 : Logic 𝓤) (P : Fml) (L b o : ℕ)
         )))
     sees n fits (marked m) h = let odd : IsMarked n = h.0 in
         qed 𝓛 (‵ (St n) ∷ ‵ (Keeps (marked m)) ∷ ‵ With ∷ []) ∵ move ! (2 ∷ []) $ fsplit ! $ move ! (3 ∷ []) $
-        use1 𝓛 (‵ (Keeps (marked m)) ⊛ ‵ (some_share t.0) ⊛ ‵ (fdead (t.1 ∷ []))) (finds_mark 𝓛 P L b o t m) $ split3 ! $ move ! (1 ∷ 2 ∷ []) $ fjoin ! $
+        use1 𝓛 (‵ (Keeps (marked m)) ⊛ ‵ (some_share t.sharing) ⊛ ‵ (fdead (t.counting ∷ []))) (finds_mark 𝓛 P L b o t m) $ split3 ! $
+        move ! (1 ∷ 2 ∷ []) $ fjoin ! $
         keep ! (4 ∷ 1 ∷ 2 ∷ 0 ∷ []) $
         by ! (keeps (λ x. x) Told With Tok n (marked m) h share ((λ even. absurd (omega arith)), (λ _. odd), (λ _. refl), (λ even. absurd (omega arith))))
 
-    with_alive : ⟦ With ⟧ ∗ A.dead (t.0 ∷ []) ⊢ never 𝓤
-    with_alive = qed 𝓛 (‵ With ∷ ‵ (fdead (t.0 ∷ [])) ∷ []) ∵ fsplit ! $ keep ! (0 ∷ 2 ∷ []) $ by ! (token_alive q)
+    with_alive : ⟦ With ⟧ ∗ A.dead (t.sharing ∷ []) ⊢ never 𝓤
+    with_alive = qed 𝓛 (‵ With ∷ ‵ (fdead (t.sharing ∷ [])) ∷ []) ∵ fsplit ! $ keep ! (0 ∷ 2 ∷ []) $ by ! (token_alive q)
 
     pub loads : (B : Fml) (said : ℕ → Fml) → ((n : ℕ) → n < 2 ^ 64 → ⟦ Bk n ⟧ ∗ ⟦ B ⟧ ⊢ upd 𝓤 (⟦ Bk n ⟧ ∗ ⟦ said n ⟧))
         → A.inv I ∗ ⟦ With ⟧ ∗ ⟦ B ⟧ ⊢ asks 𝓛 (block_ptr b o) (λ n. n) always (all_after (λ m. m) Told With Tok said)

@@ -22,9 +22,9 @@ use Rattle.arcstr_count.specs.declared.steps.Step.{Step}
 use Rattle.arcstr_count.specs.declared.steps.HandleState.{HandleState}
 use Rattle.arcstr_count.specs.declared.steps.HandleState.TheVariants.{Free, Dropping, Owing}
 use Rattle.arcstr_block.specs.Rights.{Right, nothing, counted, uncounted, fixed, dropping, owed}
-use Rattle.arcstr_block.specs.Book.{steps, state_code, reached, seat_share, Book}
+use Rattle.arcstr_block.specs.Book.{BlockName, steps, state_code, reached, seat_share, Book}
 use Rattle.arcstr_block.specs.Memory.{block_type, length_at, block_owns, block_shares, word_at}
-use Rattle.arcstr_block.specs.Ledger.{Id, Names, Phase, unmarked, marked, rest, stated, if_alive, known, right_to, shown}
+use Rattle.arcstr_block.specs.Ledger.{Id, Phase, unmarked, marked, rest, stated, if_alive, known, right_to, shown}
 use Rattle.arcstr_block.specs.contracts.block.Sole as S
 use Rattle.arcstr_block.specs.contracts.pointer.Pointer as C
 
@@ -48,7 +48,7 @@ book_keyless L γ δ n = λ x. ((λ _. tt), (now_keyless γ x.0, roster_keyless 
 
 module _ (P : Fml) (L b o : ℕ) (t : Id) (k : Keyless P) where
   stated_keyless : (n : ℕ) → Keyless (stated P L b o t n)
-  stated_keyless n = (tt, book_keyless L t.2 t.3 n)
+  stated_keyless n = (tt, book_keyless L t.name.history t.name.seats n)
 
   rest_keyless : (s : Phase) → Keyless (rest P L b o t s)
   rest_keyless (unmarked m) = ((λ e c. tt), (tt, k))
@@ -61,22 +61,22 @@ module _ (P : Fml) (L b o : ℕ) (t : Id) (k : Keyless P) where
   module _ (s : Lft → Fml) (common : Common s) (h : ℕ) where
     right_keyless : (right : Right) → Keyless (right_to P L b o t s h right)
     right_keyless nothing = common _
-    right_keyless counted = λ e. ((λ _. tt), (tt, ((λ _. tt), (common _, seat_keyless t.3 h three_quarters Free))))
-    right_keyless uncounted = λ e. ((λ _. tt), (tt, ((λ _. tt), (common _, seat_keyless t.3 h three_quarters Free))))
+    right_keyless counted = λ e. ((λ _. tt), (tt, ((λ _. tt), (common _, seat_keyless t.name.seats h three_quarters Free))))
+    right_keyless uncounted = λ e. ((λ _. tt), (tt, ((λ _. tt), (common _, seat_keyless t.name.seats h three_quarters Free))))
     right_keyless fixed = (((λ q. tt), tt), common _)
-    right_keyless dropping = ((λ e c. tt), (common _, seat_keyless t.3 h three_quarters Dropping))
-    right_keyless owed = (stated_keyless 0, (k, seat_keyless t.3 h three_quarters Owing))
+    right_keyless dropping = ((λ e c. tt), (common _, seat_keyless t.name.seats h three_quarters Dropping))
+    right_keyless owed = (stated_keyless 0, (k, seat_keyless t.name.seats h three_quarters Owing))
 
     shown_common : (right : Right) → Common (shown P L b o t s h right)
     shown_common nothing κ = tt
-    shown_common counted κ = ((λ q. tt), ((λ q. seat_keyless t.3 h q Free), ((λ _. tt), (alive_keyless, common _))))
-    shown_common uncounted κ = ((λ q. tt), ((λ q. seat_keyless t.3 h q Free), ((λ _. tt), (alive_keyless, common _))))
+    shown_common counted κ = ((λ q. tt), ((λ q. seat_keyless t.name.seats h q Free), ((λ _. tt), (alive_keyless, common _))))
+    shown_common uncounted κ = ((λ q. tt), ((λ q. seat_keyless t.name.seats h q Free), ((λ _. tt), (alive_keyless, common _))))
     shown_common fixed κ = (((λ q. tt), tt), (alive_keyless, common _))
     shown_common dropping κ = tt
     shown_common owed κ = tt
 
-known_keyless : (t : Id) (block : Names) (history : List Step) → Keyless (known t block history)
-known_keyless t block history = ((λ _. tt), reached_keyless t.2 history)
+known_keyless : (t : Id) (block : BlockName) (history : List Step) → Keyless (known t block history)
+known_keyless t block history = ((λ _. tt), reached_keyless t.name.history history)
 
 byte_send : IsSend u8
 byte_send = search sendable

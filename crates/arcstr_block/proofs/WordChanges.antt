@@ -55,11 +55,11 @@ module _ {M : Type 1} {𝓤 : Ura M} (𝓛 : Logic 𝓤) (P : Fml) (L b o : ℕ)
   St = stated P L b o t
 
   abbrev Bk : ℕ → Fml
-  Bk = Book L t.2 t.3
+  Bk = Book L t.name.history t.name.seats
 
   module _ (q : Share) where
     abbrev pub Tok : Fml
-    Tok = flft (t.0 ∷ []) q
+    Tok = flft (t.sharing ∷ []) q
 
     -- ---- the mark
     abbrev pub Fixed : ℕ → Gain → Type 0
@@ -79,7 +79,8 @@ module _ {M : Type 1} {𝓤 : Ura M} (𝓛 : Logic 𝓤) (P : Fml) (L b o : ℕ)
         )) refl
     mark n fits (marked m) h = let odd : IsMarked n = h.0 in
         qed 𝓛 (‵ (St (with_mark n)) ∷ ‵ (Keeps (marked m)) ∷ ‵ Tok ∷ []) ∵ move ! (1 ∷ []) $
-        use1 𝓛 (‵ (Keeps (marked m)) ⊛ ‵ (some_share t.0) ⊛ ‵ (fdead (t.1 ∷ []))) (finds_mark 𝓛 P L b o t m) $ split3 ! $ move ! (1 ∷ 2 ∷ []) $ fjoin ! $
+        use1 𝓛 (‵ (Keeps (marked m)) ⊛ ‵ (some_share t.sharing) ⊛ ‵ (fdead (t.counting ∷ []))) (finds_mark 𝓛 P L b o t m) $ split3 ! $
+        move ! (1 ∷ 2 ∷ []) $ fjoin ! $
         move ! (2 ∷ 1 ∷ 3 ∷ 0 ∷ []) $
         by ! (keeps 𝓛 P L b o t with_mark Fixed Tok Tok n (marked m) (subst (λ (x : ℕ). In x (marked m)) (sym (or_marked n odd)) h) share refl)
 
@@ -119,7 +120,8 @@ module _ {M : Type 1} {𝓤 : Ura M} (𝓛 : Logic 𝓤) (P : Fml) (L b o : ℕ)
           ))
       misses n miss (marked m) h = let odd : IsMarked n = h.0 in
           qed 𝓛 (‵ (St (exchanged n)) ∷ ‵ (Keeps (marked m)) ∷ ‵ Tok ∷ []) ∵ move ! (1 ∷ []) $
-          use1 𝓛 (‵ (Keeps (marked m)) ⊛ ‵ (some_share t.0) ⊛ ‵ (fdead (t.1 ∷ []))) (finds_mark 𝓛 P L b o t m) $ split3 ! $ move ! (1 ∷ 2 ∷ []) $ fjoin ! $
+          use1 𝓛 (‵ (Keeps (marked m)) ⊛ ‵ (some_share t.sharing) ⊛ ‵ (fdead (t.counting ∷ []))) (finds_mark 𝓛 P L b o t m) $ split3 ! $
+          move ! (1 ∷ 2 ∷ []) $ fjoin ! $
           move ! (2 ∷ 1 ∷ 3 ∷ 0 ∷ []) $
           by ! (keeps 𝓛 P L b o t exchanged Raised Tok Tok n (marked m) (subst (λ (x : ℕ). In x (marked m)) (sym (lost n miss)) h) share (
             (λ even. absurd (omega (arith, odd, even))),
@@ -136,7 +138,8 @@ module _ {M : Type 1} {𝓤 : Ura M} (𝓛 : Logic 𝓤) (P : Fml) (L b o : ℕ)
           let good : IsWord L old = λ _. (omega (arith, h₀, h₁), omega (arith, h₀, h₂)) in dite (dec_le (old / 2) L)
           (λ room. let is : new ≡ old + 2 = asked.2 room in
           qed 𝓛 (‵ (St (exchanged old)) ∷ ‵ (Keeps (unmarked k)) ∷ ‵ Tok ∷ []) ∵ move ! (1 ∷ []) $
-          use1 𝓛 (‵ (Keeps (unmarked (k + 1))) ⊛ ‵ (parts t.0 1)) (takes 𝓛 P L b o t k (omega (arith, h₀, room, h₃))) $ split ! $ move ! (2 ∷ 0 ∷ 3 ∷ 1 ∷ []) $
+          use1 𝓛 (‵ (Keeps (unmarked (k + 1))) ⊛ ‵ (parts t.sharing 1)) (takes 𝓛 P L b o t k (omega (arith, h₀, room, h₃))) $ split ! $
+          move ! (2 ∷ 0 ∷ 3 ∷ 1 ∷ []) $
           by ! (keeps 𝓛 P L b o t exchanged Raised Tok Tok old (unmarked (k + 1)) (subst (λ (x : ℕ). In x (unmarked (k + 1))) (sym won) (
             omega
                 (arith, h₀, is),
@@ -172,10 +175,10 @@ module _ {M : Type 1} {𝓤 : Ura M} (𝓛 : Logic 𝓤) (P : Fml) (L b o : ℕ)
   Left n g = (IsLast n → g ≡ last) × ((¬ IsLast n) → g ≡ none)
 
   abbrev pub One : Fml
-  One = parts t.0 1
+  One = parts t.sharing 1
 
-  one_alive : ⟦ One ⟧ ∗ A.dead (t.0 ∷ []) ⊢ never 𝓤
-  one_alive = qed 𝓛 (‵ One ∷ ‵ (fdead (t.0 ∷ [])) ∷ []) ∵ fpick ! (λ e. fpick ! (λ _. by ! (token_alive 𝓛 P L b o t e)))
+  one_alive : ⟦ One ⟧ ∗ A.dead (t.sharing ∷ []) ⊢ never 𝓤
+  one_alive = qed 𝓛 (‵ One ∷ ‵ (fdead (t.sharing ∷ [])) ∷ []) ∵ fpick ! (λ e. fpick ! (λ _. by ! (token_alive 𝓛 P L b o t e)))
 
   abbrev Gone : ℕ → Pr
   Gone = Stepped 𝓛 P L b o t less Left One ftrue
@@ -183,9 +186,10 @@ module _ {M : Type 1} {𝓤 : Ura M} (𝓛 : Logic 𝓤) (P : Fml) (L b o : ℕ)
   last_one : ⟦ St 0 ⟧ ∗ ⟦ Keeps (unmarked 1) ⟧ ∗ ⟦ One ⟧ ⊢ Gone 2
   last_one = let shut : Pr = Shut 𝓛 P L b o t less Left One ftrue 2 in
       qed 𝓛 (‵ (St 0) ∷ ‵ (Keeps (unmarked 1)) ∷ ‵ One ∷ []) ∵ move ! (1 ∷ 2 ∷ []) $
-      use2 𝓛 (‵ (flft (t.0 ∷ []) full_share) ⊛ ‵ (flent (t.0 ∷ []) P)) (gives_last 𝓛 P L b o t) $ split ! $
-      suffices ! _ (ending 𝓛 P L b o t less Left One ftrue 2 t.0) $ frame ! $ assume ! (‵ (fdead (t.0 ∷ []))) $ suffices ! _ (upd_i 𝓤 shut) $
-      use1 𝓛 (‵ (fdead (t.0 ∷ [])) ⊛ ‵ (fdead (t.0 ∷ []))) (𝓛.lfts.dead_dup (t.0 ∷ [])) $ split ! $ move ! (3 ∷ 1 ∷ 2 ∷ []) $ fjoin3 ! $ nothing ! $
+      use2 𝓛 (‵ (flft (t.sharing ∷ []) full_share) ⊛ ‵ (flent (t.sharing ∷ []) P)) (gives_last 𝓛 P L b o t) $ split ! $
+      suffices ! _ (ending 𝓛 P L b o t less Left One ftrue 2 t.sharing) $ frame ! $ assume ! (‵ (fdead (t.sharing ∷ []))) $ suffices ! _ (upd_i 𝓤 shut) $
+      use1 𝓛 (‵ (fdead (t.sharing ∷ [])) ⊛ ‵ (fdead (t.sharing ∷ []))) (𝓛.lfts.dead_dup (t.sharing ∷ [])) $ split ! $ move ! (3 ∷ 1 ∷ 2 ∷ []) $ fjoin3 ! $
+      nothing ! $
       move ! (0 ∷ 1 ∷ []) $
       use2 𝓛 (‵ (after 𝓛 P L b o t less Left One ftrue 2)) (gains 𝓛 P L b o t less Left One ftrue 2 last ((λ _. refl), (λ ne. absurd (ne refl)))) $
       move ! (1 ∷ []) $
@@ -210,10 +214,10 @@ module _ {M : Type 1} {𝓤 : Ura M} (𝓛 : Logic 𝓤) (P : Fml) (L b o : ℕ)
   leave n fits (marked m) h = let odd : IsMarked n = h.0 in let h₁ = h.1 in let h₂ = h.2 in let h₃ = h.3 in dite (ℕ_discrete m 0)
       (λ e. subst (λ (x : ℕ). ⟦ St (less n) ⟧ ∗ ⟦ Keeps (marked x) ⟧ ∗ ⟦ One ⟧ ⊢ Gone n) (sym e) (
       qed 𝓛 (‵ (St (less n)) ∷ ‵ (Keeps (marked 0)) ∷ ‵ One ∷ []) ∵ move ! (1 ∷ 2 ∷ []) $
-      use2 𝓛 (‵ (flft (t.0 ∷ []) full_share) ⊛ ‵ (some_share t.0)) (too_many 𝓛 P L b o t) $ split ! $
-      suffices ! _ (ending 𝓛 P L b o t less Left One ftrue n t.0) $ frame ! $ assume ! (‵ (fdead (t.0 ∷ []))) $
+      use2 𝓛 (‵ (flft (t.sharing ∷ []) full_share) ⊛ ‵ (some_share t.sharing)) (too_many 𝓛 P L b o t) $ split ! $
+      suffices ! _ (ending 𝓛 P L b o t less Left One ftrue n t.sharing) $ frame ! $ assume ! (‵ (fdead (t.sharing ∷ []))) $
       suffices ! _ (upd_i 𝓤 (Shut 𝓛 P L b o t less Left One ftrue n)) $ keep ! (1 ∷ 0 ∷ []) $
-      by ! (share_not_alive 𝓛 P L b o t t.0 (Shut 𝓛 P L b o t less Left One ftrue n))))
+      by ! (share_not_alive 𝓛 P L b o t t.sharing (Shut 𝓛 P L b o t less Left One ftrue n))))
       (λ some. let more : 0 < m = omega (arith, some) in let is : less n ≡ n - 2 = omega (arith, odd, more, h₁, fits) in
       qed 𝓛 (‵ (St (less n)) ∷ ‵ (Keeps (marked m)) ∷ ‵ One ∷ []) ∵ move ! (1 ∷ 2 ∷ []) $
       use2 𝓛 (‵ (Keeps (marked (m - 1)))) (gives_marked 𝓛 P L b o t m more (omega (arith, h₁, h₂, h₃))) $ nothing ! $ nothing ! $ move ! (3 ∷ 2 ∷ 0 ∷ 1 ∷ []) $

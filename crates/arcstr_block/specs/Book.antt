@@ -1,5 +1,6 @@
 -- The history of a block, kept beside its word: the steps so far, which only grow, and a seat for each handle that was ever born.
-use Rattle.std.specs.Prelude.{ℕ, List}
+use Rattle.std.specs.Prelude.{ℕ, List, refl}
+use Rattle.std.specs.Coded.{Coded, code_by, coded×, coded_ℕ}
 use base.Fraction.{full_share}
 use base.Share.{three_quarters}
 use base.Growing.{Order, prefixes, latest, at_least}
@@ -13,6 +14,14 @@ use Rattle.arcstr_count.specs.contracts.steps.HandleState.{the_row as state_row}
 use Rattle.arcstr_count.specs.declared.steps.Reply.{Reply}
 use Rattle.arcstr_count.specs.OneBlock.{Keeps, EndsIn}
 use Rattle.arcstr_block.specs.Word.{word_of}
+
+-- what names a block: its history, and the seats of its handles
+pub record BlockName : Type 0 where
+  pub history : GName
+  pub seats : GName
+
+abbrev pub name_code : Coded BlockName
+name_code = code_by (GName × GName) (coded× coded_ℕ coded_ℕ) (λ n. (n.history, n.seats)) (λ p. record { history = p.0; seats = p.1 }) (λ _. refl)
 
 abbrev pub steps : Order (List Step)
 steps = prefixes step_row.coded

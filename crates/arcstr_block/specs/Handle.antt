@@ -5,12 +5,12 @@ use Rattle.arcstr_count.specs.declared.steps.Step.TheVariants.{Look, Leak}
 use Rattle.arcstr_count.specs.declared.steps.Reply.TheVariants.{Count, Static, Marked}
 use Rattle.arcstr_count.specs.OneBlock.{IsOneBlock, EndsIn}
 use Rattle.arcstr_count.specs.After.{marked_after}
+use Rattle.arcstr_block.specs.Book.{BlockName}
 
--- the bytes of the text, the name of the block (of its history, and of the seats of its handles), the number of the handle in it, and the limit
--- on the count of the block
+-- the bytes of the text, the name of the block, the number of the handle in it, and the limit on the count of the block
 pub record Handle : Type 0 where
   pub text : List ℕ
-  pub block : ℕ × ℕ
+  pub block : BlockName
   pub seat : ℕ
   pub limit : ℕ
 
@@ -18,7 +18,7 @@ pub record Handle : Type 0 where
 -- and the prefix of its history that was seen when it was marked or found marked
 pub record Kept : Type 0 where
   pub text : List ℕ
-  pub block : ℕ × ℕ
+  pub block : BlockName
   pub limit : ℕ
   pub history : List Step
 
@@ -28,7 +28,7 @@ kept_of limit handle history = record { text = handle.text; block = handle.block
 
 -- what the last subtraction on a block leaves owed: the block, and the handle in it that was subtracted
 pub record Debt : Type 0 where
-  pub block : ℕ × ℕ
+  pub block : BlockName
   pub seat : ℕ
 
 -- the history ends in a look of handle h, to which the core answers this number of handles

@@ -1,7 +1,7 @@
 -- Who owns what of a block. Its word lies in an invariant, with the parts of a token that no handle has.
---     a      the lifetime for which the content is shared. Each counted handle has one part in 2 ^ 63 of its token.
---     c      the lifetime that ends with the mark: its token lies beside an unmarked word. That c has ended is a permanent fact.
---     γ, δ   the names of the block's history and of the seats of its handles, which lie beside the word.
+--     a      `sharing`, the lifetime for which the content is shared. Each counted handle has one part in 2 ^ 63 of its token.
+--     c      `counting`, the lifetime that ends with the mark: its token lies beside an unmarked word. That c has ended is a permanent fact.
+--     γ, δ   the name of the block: of its history and of the seats of its handles, which lie beside the word.
 -- An unmarked word that counts k has k parts out, one for each counted handle. A marked word has m parts out, and keeps one part permanently;
 -- each handle that finds the mark has a share of that part.
 -- When the block is marked, m is k. Each later subtraction, by a drop that looked before the mark, lowers m by one. A handle whose drop finds the
@@ -9,7 +9,7 @@
 use Rattle.std.specs.Prelude.{◌≡◌, ℕ, ◌+◌, ◌-◌, ◌^◌, ◌<◌, ◌≤◌, Bool, true, false, List, [], ◌∷◌, length}
 use base.Fraction.{full_share}
 use base.FractionLaws.{Counts}
-use base.Fml.{Lft, GName, Share, Fml, ftrue, fsep, fex, fall, flft, fdead, flent, fshr_bor, finv}
+use base.Fml.{Lft, Share, Fml, ftrue, fsep, fex, fall, flft, fdead, flent, fshr_bor, finv}
 use mir.Syntax.{Ty}
 use denote.RawPtr.{Ptr, block_of}
 use denote.Sharing.{said, beside, some, one, held, always, nothing as no_part}
@@ -18,9 +18,10 @@ use Rattle.arcstr_count.specs.declared.steps.Step.{Step}
 use Rattle.arcstr_count.specs.declared.steps.HandleState.TheVariants.{Free, Dropping, Owing}
 use Rattle.arcstr_block.specs.Word.{IsLimit, IsMarked, counting_word, count_in}
 use Rattle.arcstr_block.specs.Rights.{Right, nothing, counted, uncounted, fixed, dropping, owed}
-use Rattle.arcstr_block.specs.Book.{Book, reached, seat, seat_share}
+use Rattle.arcstr_block.specs.Book.{BlockName, Book, reached, seat, seat_share}
 use Rattle.arcstr_block.specs.Memory.{block_owns, block_shares, placed, word_at, IsText}
 
+-- the statement as something that can be owned
 abbrev pub fact : Type 0 → Fml
 fact φ = fex φ (λ _. ftrue)
 
@@ -28,42 +29,40 @@ fact φ = fex φ (λ _. ftrue)
 abbrev pub parts : ℕ → ℕ → Fml
 parts a k = fex Share (λ e. fex (Counts 63 e k) (λ _. flft (a ∷ []) e))
 
+-- some share of a's token
 abbrev pub some_share : ℕ → Fml
 some_share a = fex Share (λ s. flft (a ∷ []) s)
 
--- what identifies a block: the lifetime a for which its content is shared, the lifetime c that ends with the mark, the name γ of its history, and
--- the name δ of the seats of its handles
-abbrev pub Id : Type 0
-Id = ℕ × ℕ × GName × GName
+-- what identifies a block: the lifetime for which its content is shared, the lifetime that ends with the mark, and its name
+pub record Id : Type 0 where
+  pub sharing : ℕ
+  pub counting : ℕ
+  pub name : BlockName
 
 -- an uncounted handle knows that c has ended
 abbrev pub knows : Id → Right → Fml
-knows t right = fall (right ≡ uncounted) (λ _. fdead (t.1 ∷ []))
+knows t right = fall (right ≡ uncounted) (λ _. fdead (t.counting ∷ []))
 
--- the block's names: of its history, and of its seats
-abbrev pub Names : Type 0
-Names = GName × GName
+-- the block's name, and a prefix of its history
+abbrev pub known : Id → BlockName → List Step → Fml
+known t block history = fsep (fact (t.name ≡ block)) (reached t.name.history history)
 
-abbrev pub names : Id → Names
-names t = (t.2, t.3)
-
--- the block's names, and a prefix of its history
-abbrev pub known : Id → Names → List Step → Fml
-known t block history = fsep (fact (names t ≡ block)) (reached t.2 history)
-
+-- an unmarked block with k parts out, or a marked one with m
 pub data Phase : Type 0 where
   unmarked : ℕ → Phase
   marked : ℕ → Phase
 
 -- P is what the block owns, L its limit, and b and o where its word lies.
 module _ (P : Fml) (L b o : ℕ) (t : Id) where
+  -- the phase is one of the word n
   abbrev pub Fits : ℕ → Phase → Type 0
   Fits n (unmarked k) = (n ≡ counting_word k) × (0 < k) × (k ≤ L + 1) × IsLimit L
   Fits n (marked m) = IsMarked n × (m ≤ count_in n) × (count_in n ≤ L + 1) × IsLimit L
 
+  -- what lies beside the word in this phase
   abbrev pub rest : Phase → Fml
-  rest (unmarked k) = fsep (parts t.0 (2 ^ 63 - k)) (fsep (flft (t.1 ∷ []) full_share) (flent (t.0 ∷ []) P))
-  rest (marked m) = fsep (parts t.0 (2 ^ 63 - (m + 1))) (fsep (some_share t.0) (fdead (t.1 ∷ [])))
+  rest (unmarked k) = fsep (parts t.sharing (2 ^ 63 - k)) (fsep (flft (t.counting ∷ []) full_share) (flent (t.sharing ∷ []) P))
+  rest (marked m) = fsep (parts t.sharing (2 ^ 63 - (m + 1))) (fsep (some_share t.sharing) (fdead (t.counting ∷ [])))
 
   abbrev pub phase : ℕ → Phase → Fml
   phase n s = fsep (fact (Fits n s)) (rest s)
@@ -74,14 +73,16 @@ module _ (P : Fml) (L b o : ℕ) (t : Id) where
 
   -- the word and its history
   abbrev pub stated : ℕ → Fml
-  stated n = fsep (word b o n) (Book L t.2 t.3 n)
+  stated n = fsep (word b o n) (Book L t.name.history t.name.seats n)
 
+  -- the word with its history and its ledger
   abbrev pub counting : ℕ → Fml
   counting n = fsep (stated n) (Ledger n)
 
+  -- before a ends there is a word, and after it nothing
   abbrev pub if_alive : Bool → Fml
   if_alive true = fex ℕ counting
-  if_alive false = fdead (t.0 ∷ [])
+  if_alive false = fdead (t.sharing ∷ [])
 
   -- what holds between any two steps
   abbrev pub Inv : Fml
@@ -89,12 +90,13 @@ module _ (P : Fml) (L b o : ℕ) (t : Id) where
 
   -- the block is marked, with a permanent share of a's token
   abbrev pub permanent : Fml
-  permanent = fsep (fshr_bor [] (λ q. flft (t.0 ∷ []) q)) (fdead (t.1 ∷ []))
+  permanent = fsep (fshr_bor [] (λ q. flft (t.sharing ∷ []) q)) (fdead (t.counting ∷ []))
 
   -- s is what is shared, and h the number of the handle
   module _ (s : Lft → Fml) (h : ℕ) where
     abbrev pub with_share : Right → Share → Fml
-    with_share right e = fsep (fact (right ≡ counted → Counts 63 e 1)) (fsep (flft (t.0 ∷ []) e) (fsep (knows t right) (fsep (s (t.0 ∷ [])) (seat t.3 h Free))))
+    with_share right e = fsep (fact (right ≡ counted → Counts 63 e 1)) (fsep (flft (t.sharing ∷ []) e) (fsep (knows t right) (fsep (s (t.sharing ∷
+        [])) (seat t.name.seats h Free))))
 
     -- a free handle: a share of a's token, which is one part if the handle is counted
     abbrev pub free : Right → Fml
@@ -102,23 +104,26 @@ module _ (P : Fml) (L b o : ℕ) (t : Id) where
 
     -- what a right contains
     abbrev pub right_to : Right → Fml
-    right_to nothing = s (t.0 ∷ [])
+    right_to nothing = s (t.sharing ∷ [])
     right_to counted = free counted
     right_to uncounted = free uncounted
-    right_to fixed = fsep permanent (s (t.0 ∷ []))
-    right_to dropping = fsep (parts t.0 1) (fsep (s (t.0 ∷ [])) (seat t.3 h Dropping))
-    right_to owed = fsep (stated (counting_word 0)) (fsep P (seat t.3 h Owing))
+    right_to fixed = fsep permanent (s (t.sharing ∷ []))
+    right_to dropping = fsep (parts t.sharing 1) (fsep (s (t.sharing ∷ [])) (seat t.name.seats h Dropping))
+    right_to owed = fsep (stated (counting_word 0)) (fsep P (seat t.name.seats h Owing))
 
+    -- what a pointer holds of its block: the invariant and a right
     abbrev pub held_with : Right → Fml
     held_with right = fsep (finv Inv) (right_to right)
 
     -- what a `&` to a pointer holds of a right
     abbrev pub seen : Lft → Fml
-    seen = beside (always Inv) (held (t.0 ∷ []) s)
+    seen = beside (always Inv) (held (t.sharing ∷ []) s)
 
+    -- what it holds of a free handle
     abbrev pub free_shown : Right → Lft → Fml
-    free_shown right = beside (one (λ q. flft (t.0 ∷ []) q)) (beside (one (λ q. seat_share t.3 h q Free)) (beside (said (knows t right)) seen))
+    free_shown right = beside (one (λ q. flft (t.sharing ∷ []) q)) (beside (one (λ q. seat_share t.name.seats h q Free)) (beside (said (knows t right)) seen))
 
+    -- what it holds of each right
     abbrev pub shown : Right → Lft → Fml
     shown nothing = no_part
     shown counted = free_shown counted
@@ -128,8 +133,8 @@ module _ (P : Fml) (L b o : ℕ) (t : Id) where
     shown owed = no_part
 
 -- what a pointer owns: its allocator's right to free, its limit, its address, its text, its right, its handle's number, its block's
--- names and a prefix of its history
-module _ (holds : Ty → Ptr → Fml) (L : ℕ) (p : Ptr) (text : List ℕ) (right : Right) (h : ℕ) (block : Names) (history : List Step) where
+-- name and a prefix of its history
+module _ (holds : Ty → Ptr → Fml) (L : ℕ) (p : Ptr) (text : List ℕ) (right : Right) (h : ℕ) (block : BlockName) (history : List Step) where
   abbrev pub of_block : Id → Fml
   of_block t = fsep (known t block history) (held_with (block_owns holds p text) L (block_of p) (word_at p (length text)) t (block_shares p text) h right)
 

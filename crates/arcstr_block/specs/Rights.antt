@@ -1,6 +1,8 @@
 -- The right that a pointer to a block has, and the right that each step on the word gains.
-use Rattle.std.specs.Prelude.{◌≡◌, ◌≢◌, ℕ, zero, suc, Bool, true, false, refl}
-use Rattle.std.specs.Coded.{Coded, code_by, coded_ℕ}
+use Rattle.std.specs.Prelude.{◌≡◌, ◌≢◌, ◌⊎◌, ℕ, zero, suc, Bool, true, false, refl}
+use mathlib.Core.Path.{ap}
+use mathlib.Core.Logic.{inl, inr}
+use Rattle.std.specs.Coded.{Coded, Coded-set, code_by, coded_ℕ}
 use Rattle.arcstr_block.specs.Word.{IsMarked, IsUnmarked, IsLast}
 
 pub data Right : Type 0 where
@@ -45,21 +47,27 @@ right_at_place owed = refl
 abbrev pub right_code : Coded Right
 right_code = code_by ℕ coded_ℕ place_of right_at right_at_place
 
--- the rights of a free handle, which can step on the block: counted and uncounted
+-- the rights of a free handle, which can step on the block
 abbrev pub IsFree : Right → Type 0
-IsFree right = (right ≢ nothing) × (right ≢ fixed) × (right ≢ dropping) × (right ≢ owed)
+IsFree right = (right ≡ counted) ⊎ (right ≡ uncounted)
 
--- the rights by which the block can be read: counted, uncounted and fixed
+pub is_free_once : (right : Right) → IsProp (IsFree right)
+is_free_once right (inl e) (inl f) = ap inl (Coded-set right_code right counted e f)
+is_free_once right (inl e) (inr f) = absurd cc
+is_free_once right (inr e) (inl f) = absurd cc
+is_free_once right (inr e) (inr f) = ap inr (Coded-set right_code right uncounted e f)
+
+-- the rights by which the block can be read
 abbrev pub MaySee : Right → Type 0
-MaySee right = (right ≢ nothing) × (right ≢ dropping) × (right ≢ owed)
+MaySee right = IsFree right ⊎ (right ≡ fixed)
 
--- the rights with which a pointer has the seat of its handle: all except nothing and fixed
+-- the rights with which a pointer has the seat of its handle
 abbrev pub HasSeat : Right → Type 0
-HasSeat right = (right ≢ nothing) × (right ≢ fixed)
+HasSeat right = IsFree right ⊎ ((right ≡ dropping) ⊎ (right ≡ owed))
 
--- the rights that stand for nothing in the block's history, and can be dropped: nothing and fixed
+-- the rights that stand for nothing in the block's history, and can be dropped
 abbrev pub IsIdle : Right → Type 0
-IsIdle right = (right ≢ counted) × (right ≢ uncounted) × (right ≢ dropping) × (right ≢ owed)
+IsIdle right = (right ≡ nothing) ⊎ (right ≡ fixed)
 
 -- a look that found the word: at a marked word it gains the permanent block
 abbrev pub Looks : ℕ → Right → Type 0

@@ -7,7 +7,7 @@ use Rattle.arcstr_count.specs.declared.steps.Reply.TheVariants.{Ended, Looked as
 use Rattle.arcstr_count.specs.Word.{looked_of}
 use Rattle.arcstr_count.specs.OneBlock.{EndsIn, look_reply}
 use Rattle.arcstr_block.specs.Word.{word_of, IsMarked, IsUnmarked, IsLast}
-use Rattle.arcstr_block.specs.Handle.{IsMarkedIn}
+use Rattle.arcstr_block.specs.Handle.{Handle, IsMarkedIn}
 use Rattle.arcstr_block.specs.declared.pointer.Pointer.{Pointer}
 
 -- the history ends in a look of handle h that found the word, and has marked its block if the word is marked; the load of a clone,
@@ -21,6 +21,10 @@ module _ {A : Type 0} where
   abbrev pub IsSameBlock : Pointer A → Pointer A → Type 0
   IsSameBlock q p = (q.home ≡ p.home) × (q.text ≡ p.text) × (q.limit ≡ p.limit) × (q.block ≡ p.block)
 
+  -- what contracts see of a handle that has this pointer
+  abbrev pub handle_of : Pointer A → Handle
+  handle_of p = record { text = p.text; block = p.block; seat = p.seat; limit = p.limit }
+
   -- a clone made by p has its text and its block
   abbrev pub IsCloneOf : Pointer A → Pointer A → Type 0
   IsCloneOf q p = (q.text ≡ p.text) × (q.block ≡ p.block)
@@ -28,10 +32,6 @@ module _ {A : Type 0} where
   -- what q has seen ends in this step of p's handle, and the core answered with this reply
   abbrev pub SawStep : Pointer A → Pointer A → Step → Reply → Type 0
   SawStep p q s reply = EndsIn p.limit q.history s reply
-
-  -- a look of p that found the word; a marked word means that the block is marked
-  abbrev pub Looked : Pointer A → ℕ → Pointer A → Type 0
-  Looked p word q = SawStep p q (Look p.seat) (look_reply (looked_of (word_of word))) × (IsMarked word → IsMarkedIn q.limit q.history)
 
   -- a load of p that found the word, of a clone or as a look
   abbrev pub LoadedAs : Bool → Pointer A → ℕ → Pointer A → Type 0

@@ -15,6 +15,7 @@ mod block;
 mod fault;
 mod fixed;
 mod joining;
+mod laws;
 mod making;
 mod owed;
 mod pointer;

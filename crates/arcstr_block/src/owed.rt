@@ -1,13 +1,11 @@
 //! What remains after the end of a handle.
-ghost use Rattle.std.specs.Prelude.{◌≡◌, ◌≢◌, length};
+ghost use Rattle.std.specs.Prelude.{◌≡◌, length};
 ghost use Rattle.arcstr_block.specs.Rights.{owed};
 ghost use Rattle.arcstr_block.specs.Handle.{Debt};
 ghost use Rattle.arcstr_block.specs.Memory.{word_offset};
 
 use crate::block::size_of_block;
-use crate::fixed::Fixed;
 use crate::pointer::Pointer;
-use crate::shared::Shared;
 use std::alloc::Allocator;
 use std::marker::Model;
 
@@ -78,129 +76,6 @@ impl<A: Allocator> Owed<A> {
         } = self;
         let (block, len) = pointer.back(place);
         block.give_back(&alloc, size_of_block(len));
-    }
-}
-
-impl<A: Allocator + Copy> Owed<A> {
-    /// The law that no handle is left on a block that is owed. It returns both, and takes no atomic step.
-    ///
-    /// ```
-    /// let other = Shared::<5, _>::from_text(rt.alloc(), "b")?;
-    /// match Shared::<5, _>::from_text(rt.alloc(), "a")?.down().0 {
-    ///     Down::Owes(owed) => owed.alone(other).0.give_back(),
-    ///     Down::Left | Down::Ended => {}
-    /// }
-    /// ```
-    pub fn alone<const LIMIT: u64>(self, other: Shared<LIMIT, A>) -> (Owed<A>, Shared<LIMIT, A>)
-        ensures first { result.0 ≡ self }
-        ensures second { result.1 ≡ other }
-        ensures alone { self.block ≢ other.block }
-    {
-        let Owed {
-            pointer,
-            place,
-            alloc,
-        } = self;
-        let (other, pointer) = other.apart_from(pointer);
-        let owed = Owed {
-            pointer,
-            place,
-            alloc,
-        };
-        (owed, other)
-    }
-
-    /// The law that a borrowed handle is on a different block from the one that is owed. It returns what is owed, and takes no
-    /// atomic step.
-    ///
-    /// ```
-    /// let other = Shared::<5, _>::from_text(rt.alloc(), "b")?;
-    /// match Shared::<5, _>::from_text(rt.alloc(), "a")?.down().0 {
-    ///     Down::Owes(owed) => owed.alone_beside(&other).give_back(),
-    ///     Down::Left | Down::Ended => {}
-    /// }
-    /// ```
-    pub fn alone_beside<const LIMIT: u64>(self, handle: &Shared<LIMIT, A>) -> Owed<A>
-        ensures same { result ≡ self }
-        ensures alone { self.block ≢ handle.now.block }
-    {
-        let Owed {
-            pointer,
-            place,
-            alloc,
-        } = self;
-        let pointer = handle.alone_from(pointer);
-        Owed {
-            pointer,
-            place,
-            alloc,
-        }
-    }
-
-    /// The law that a block that is owed is not marked. It returns what is owed, and takes no atomic step.
-    ///
-    /// ```
-    /// let fixed = Shared::<5, _>::from_text(rt.alloc(), "b")?.mark();
-    /// match Shared::<5, _>::from_text(rt.alloc(), "a")?.down().0 {
-    ///     Down::Owes(owed) => owed.unmarked(&fixed).give_back(),
-    ///     Down::Left | Down::Ended => {}
-    /// }
-    /// ```
-    pub fn unmarked(self, fixed: &Fixed<A>) -> Owed<A>
-        ensures same { result ≡ self }
-        ensures unmarked { self.block ≢ fixed.now.block }
-    {
-        let Owed {
-            pointer,
-            place,
-            alloc,
-        } = self;
-        let pointer = pointer.unmarked(&fixed.pointer);
-        Owed {
-            pointer,
-            place,
-            alloc,
-        }
-    }
-}
-
-impl<A: Allocator> Owed<A> {
-    /// The law that a block is owed once. It returns both, in their order, and takes no atomic step.
-    ///
-    /// ```
-    /// let give_both_back = |owed: Owed<Global>, other: Owed<Global>| {
-    ///     let (owed, other) = owed.apart(other);
-    ///     owed.give_back();
-    ///     other.give_back();
-    /// };
-    /// ```
-    pub fn apart(self, other: Owed<A>) -> (Owed<A>, Owed<A>)
-        ensures first { result.0 ≡ self }
-        ensures second { result.1 ≡ other }
-        ensures apart { self.block ≢ other.block }
-    {
-        let Owed {
-            pointer,
-            place,
-            alloc,
-        } = self;
-        let Owed {
-            pointer: beside,
-            place: there,
-            alloc: home,
-        } = other;
-        let (pointer, beside) = pointer.apart(beside);
-        let first = Owed {
-            pointer,
-            place,
-            alloc,
-        };
-        let second = Owed {
-            pointer: beside,
-            place: there,
-            alloc: home,
-        };
-        (first, second)
     }
 }
 

@@ -5,15 +5,16 @@
 //! (`proofs/pointer/Pointer/NAME/Proof.antt`) moves them, so a body shows only the machine's step. Each step gets the
 //! word offset, `place`: how many bytes past the address the word lies. `make` begins the history with `Make`, and `back`
 //! ends it with `Back`; `IntoRaw` and `FromRaw` never occur in it.
-ghost use Rattle.std.specs.Prelude.{◌≡◌, ◌≢◌, ℕ, Bool, List, length, IsUtf8};
+ghost use Rattle.std.specs.Prelude.{◌≡◌, ℕ, Bool, List, length, IsUtf8};
 ghost use Rattle.std.specs.Coded.{coded_list};
 ghost use Rattle.arcstr_count.specs.declared.steps.Step.{Step};
 ghost use Rattle.arcstr_count.specs.contracts.steps.Step.{the_row as step_row};
 ghost use Rattle.arcstr_count.specs.Word.{bits_of, fresh_word};
 ghost use Rattle.arcstr_block.specs.Word.{IsLimit, IsWord, IsClone};
 ghost use Rattle.arcstr_block.specs.Rights.{Right, right_code, nothing, counted, fixed, dropping, owed};
-ghost use Rattle.arcstr_block.specs.Rights.{IsFree, HasSeat, MaySee, IsIdle, Looks, Finds, Loads, Gains, Begins, Leaves};
+ghost use Rattle.arcstr_block.specs.Rights.{IsFree, MaySee, IsIdle, Loads, Gains, Begins, Leaves};
 ghost use Rattle.arcstr_block.specs.Memory.{Fits, word_offset};
+ghost use Rattle.arcstr_block.specs.Book.{BlockName, name_code};
 ghost use Rattle.arcstr_block.specs.Ledger.{pointer_owns, pointer_shares};
 
 use crate::block::{Sole, Tail};
@@ -27,7 +28,7 @@ use std::sync::atomic::Ordering::SeqCst;
 use std::sync::atomic::raw;
 
 /// A pointer to a block, with a right, which `specs/Rights.antt` lists, and with a prefix of the block's history.
-/// `seat` is the number of its handle in that history, and `block` has the names of the history and of its seats.
+/// `seat` is the number of its handle in that history, and `block` names the history and its seats.
 pub(crate) struct Pointer<A: Allocator> {
     at: *const u8,
     marker: PhantomData<A>,
@@ -36,7 +37,7 @@ pub(crate) struct Pointer<A: Allocator> {
     pub ghost limit: { ℕ },
     pub ghost right: { Right } by { right_code },
     pub ghost seat: { ℕ },
-    pub ghost block: { ℕ × ℕ },
+    pub ghost block: { BlockName } by { name_code },
     pub ghost history: { List Step } by { coded_list step_row.coded },
 }
 
@@ -47,7 +48,7 @@ impl<A: Allocator> Model for Pointer<A> {
 }
 
 impl<A: Allocator> Pointer<A> {
-    ghost use Rattle.arcstr_block.specs.Same.{IsSameBlock, Looked, LoadedAs, Leaked, BegunAs, SubtractedAs};
+    ghost use Rattle.arcstr_block.specs.Same.{IsSameBlock, LoadedAs, Leaked, BegunAs, SubtractedAs};
 
     /// The first pointer to a block, whose word counts only this pointer.
     pub(crate) fn make(block: Sole<A>) -> Pointer<A>
@@ -84,31 +85,8 @@ impl<A: Allocator> Pointer<A> {
         unsafe { str::from_utf8_unchecked(bytes) }
     }
 
-    /// The look of a free handle: one load.
-    pub(crate) fn look(&self, place: usize) -> (u64, Pointer<A>)
-        requires right { IsFree self.now.right }
-        requires place { place ≡ word_offset (length self.now.text) }
-        ensures word { IsWord self.now.limit result.0 }
-        ensures right { Looks result.0 result.1.right }
-        ensures history { Looked self.now result.0 result.1 }
-        ensures same { IsSameBlock result.1 self.now }
-    {
-        self.load(place)
-    }
-
-    /// The load of a clone: if it finds the block marked, the clone succeeds.
-    pub(crate) fn clone_load(&self, place: usize) -> (u64, Pointer<A>)
-        requires right { IsFree self.now.right }
-        requires place { place ≡ word_offset (length self.now.text) }
-        ensures word { IsWord self.now.limit result.0 }
-        ensures right { Finds result.0 result.1.right }
-        ensures same { IsSameBlock result.1 self.now }
-    {
-        self.load(place)
-    }
-
-    /// One load, for a clone or as a look.
-    fn load(&self, place: usize) -> (u64, Pointer<A>)
+    /// One load of a free handle, for a clone or as a look. A clone that finds the block marked succeeds.
+    pub(crate) fn load(&self, place: usize) -> (u64, Pointer<A>)
         ghost clones: { Bool }
         requires right { IsFree self.now.right }
         requires place { place ≡ word_offset (length self.now.text) }
@@ -245,38 +223,6 @@ impl<A: Allocator> Pointer<A> {
         Seen {
             marker: PhantomData,
         }
-    }
-
-    /// The law of two pointers that have seats: on one block they have two, and a block that is owed has no other. No atomic step.
-    pub(crate) fn apart(self, other: Pointer<A>) -> (Pointer<A>, Pointer<A>)
-        requires first { HasSeat self.right }
-        requires second { HasSeat other.right }
-        ensures first { result.0 ≡ self }
-        ensures second { result.1 ≡ other }
-        ensures apart { self.block ≡ other.block → self.seat ≢ other.seat }
-        ensures alone { self.right ≡ owed → self.block ≢ other.block }
-    {
-        (self, other)
-    }
-
-    /// The law that a block that is owed has no free handle: a free one is on another block. No atomic step.
-    pub(crate) fn alone(self, other: &Pointer<A>) -> Pointer<A>
-        requires owed { self.right ≡ owed }
-        requires free { IsFree other.now.right }
-        ensures same { result ≡ self }
-        ensures alone { self.block ≢ other.now.block }
-    {
-        self
-    }
-
-    /// The law that a block that is owed is not marked: a pointer that knows of a mark is on another block. No atomic step.
-    pub(crate) fn unmarked(self, other: &Pointer<A>) -> Pointer<A>
-        requires owed { self.right ≡ owed }
-        requires fixed { other.now.right ≡ fixed }
-        ensures same { result ≡ self }
-        ensures unmarked { self.block ≢ other.now.block }
-    {
-        self
     }
 
     /// Drops a pointer that stands for nothing in the block's history.

@@ -1,10 +1,9 @@
 //! What was seen of a block's history.
-ghost use Rattle.std.specs.Prelude.{◌≡◌, ◌≤◌, ℕ, List, length};
+ghost use Rattle.std.specs.Prelude.{List};
 ghost use Rattle.std.specs.Coded.{coded_list};
 ghost use Rattle.arcstr_count.specs.declared.steps.Step.{Step};
 ghost use Rattle.arcstr_count.specs.contracts.steps.Step.{the_row as step_row};
-ghost use Rattle.arcstr_block.specs.Book.{reached};
-ghost use mathlib.Core.List.{IsPrefix};
+ghost use Rattle.arcstr_block.specs.Book.{reached, BlockName, name_code};
 
 use std::marker::{Model, PhantomData};
 
@@ -21,29 +20,14 @@ use std::marker::{Model, PhantomData};
 #[derive(Drop)]
 pub struct Seen {
     pub(crate) marker: PhantomData<()>,
-    pub ghost block: { ℕ × ℕ },
+    pub ghost block: { BlockName } by { name_code },
     pub ghost history: { List Step } by { coded_list step_row.coded },
 }
 
 impl Model for Seen {
-    ghost also_owns = { λ s. reached s.block.0 s.history };
+    ghost also_owns = { λ s. reached s.block.history s.history };
 
-    ghost also_shares = { λ s _ κ. reached s.block.0 s.history };
-}
-
-impl Seen {
-    /// The law that a block has one history: of two prefixes of it, the longer extends the other. It takes no atomic step.
-    ///
-    /// ```
-    /// let text = Shared::<5, _>::from_text(rt.alloc(), "aé")?;
-    /// let (_, first) = text.look();
-    /// let (_, second) = text.look();
-    /// first.agree(&second);
-    /// ```
-    pub fn agree(&self, other: &Seen)
-        ensures prefix { self.now.block ≡ other.now.block → length self.now.history ≤ length other.now.history → IsPrefix self.now.history other.now.history }
-        ensures longer { self.now.block ≡ other.now.block → length other.now.history ≤ length self.now.history → IsPrefix other.now.history self.now.history }
-    {}
+    ghost also_shares = { λ s _ κ. reached s.block.history s.history };
 }
 
 unsafe impl Send for Seen {}

@@ -1,10 +1,11 @@
 //! One handle on a block.
-ghost use Rattle.std.specs.Prelude.{◌≡◌, ◌≢◌, ℕ, length, IsUtf8, ◌<◌, ◌≤◌, ◌+◌, MatchOption, IfOk, IfErr, IfSome};
+ghost use Rattle.std.specs.Prelude.{◌≡◌, ℕ, length, IsUtf8, ◌<◌, ◌≤◌, ◌+◌, MatchOption, IfOk, IfErr, IfSome};
 ghost use Rattle.arcstr_count.specs.Word.{bits_of, fresh_word};
 ghost use Rattle.arcstr_block.specs.Memory.{Fits};
 ghost use Rattle.arcstr_block.specs.Word.{IsLimit, IsUnmarked, IsWord, IsOtherWord};
-ghost use Rattle.arcstr_block.specs.Rights.{owed, IsFree, HasSeat};
+ghost use Rattle.arcstr_block.specs.Rights.{IsFree, is_free_once};
 ghost use Rattle.arcstr_block.specs.Handle.{Handle, SawCount, SawMark, SawLeak, kept_of};
+ghost use Rattle.arcstr_block.specs.Same.{handle_of};
 
 use crate::block::{Sole, offset_of_word};
 use crate::fixed::Fixed;
@@ -19,11 +20,11 @@ use std::sync::Wait;
 
 /// A pointer that may read its block, with the length of the text in bytes, so that reading the text takes no load from
 /// the block, with the allocator of the block and the limit on its count.
-struct Counted<const LIMIT: u64, A: Allocator + Copy> {
-    pointer: Pointer<A>,
-    len: usize,
-    alloc: A,
-    ghost free: { IsFree pointer.right },
+pub(crate) struct Counted<const LIMIT: u64, A: Allocator + Copy> {
+    pub(crate) pointer: Pointer<A>,
+    pub(crate) len: usize,
+    pub(crate) alloc: A,
+    ghost free: { IsFree pointer.right } by { is_free_once pointer.right },
     ghost measured: { len ≡ length pointer.text },
     ghost fits: { Fits len },
     ghost home: { alloc ≡ pointer.home },
@@ -46,13 +47,13 @@ struct Counted<const LIMIT: u64, A: Allocator + Copy> {
 /// assert_eq!(rt; (clone.as_str(), clone.look().0), ("aé", Some(1)));
 /// ```
 pub struct Shared<const LIMIT: u64, A: Allocator + Copy> {
-    handle: Counted<LIMIT, A>,
+    pub(crate) handle: Counted<LIMIT, A>,
 }
 
 impl<const LIMIT: u64, A: Allocator + Copy> Model for Shared<LIMIT, A> {
     ghost Value = { Handle };
 
-    ghost view = { λ s. record { text = s.handle.pointer.text; block = s.handle.pointer.block; seat = s.handle.pointer.seat; limit = s.handle.pointer.limit } };
+    ghost view = { λ s. handle_of s.handle.pointer };
 }
 
 impl<const LIMIT: u64, A: Allocator + Copy> Shared<LIMIT, A> {
@@ -117,7 +118,7 @@ impl<const LIMIT: u64, A: Allocator + Copy> Shared<LIMIT, A> {
         ensures seen { MatchOption result.0 (SawMark LIMIT result.1.history self.now.seat) (λ count. SawCount LIMIT result.1.history self.now.seat count) }
         ensures block { result.1.block ≡ self.now.block }
     {
-        let (found, gained) = self.handle.pointer.look(offset_of_word(self.handle.len));
+        let (found, gained) = self.handle.pointer.load(offset_of_word(self.handle.len));
         let seen = gained.seen();
         gained.forget();
         (looked(found), seen)
@@ -137,7 +138,7 @@ impl<const LIMIT: u64, A: Allocator + Copy> Shared<LIMIT, A> {
         ensures seen { MatchOption result.0 ((n : ℕ) × SawCount LIMIT result.1.history self.now.seat n) (λ _. SawMark LIMIT result.1.history self.now.seat) }
         ensures block { result.1.block ≡ self.now.block }
     {
-        let (found, gained) = self.handle.pointer.look(offset_of_word(self.handle.len));
+        let (found, gained) = self.handle.pointer.load(offset_of_word(self.handle.len));
         let seen = gained.seen();
         match looked(found) {
             None => {
@@ -227,70 +228,12 @@ impl<const LIMIT: u64, A: Allocator + Copy> Shared<LIMIT, A> {
         None
     }
 
-    /// The law that two handles on one block have two seats in its history. It returns both, in their order. It takes no atomic
-    /// step and does not allocate.
-    ///
-    /// ```
-    /// let text = Shared::<5, _>::from_text(rt.alloc(), "aé")?;
-    /// let clone = text.up(&rt);
-    /// let (text, clone) = text.apart(clone);
-    /// assert_eq!(rt; (text.as_str(), clone.as_str()), ("aé", "aé"));
-    /// ```
-    pub fn apart(self, other: Shared<LIMIT, A>) -> (Shared<LIMIT, A>, Shared<LIMIT, A>)
-        ensures first { result.0 ≡ self }
-        ensures second { result.1 ≡ other }
-        ensures apart { self.block ≡ other.block → self.seat ≢ other.seat }
-    {
-        let Shared { handle } = other;
-        let Counted {
-            pointer,
-            len,
-            alloc,
-        } = handle;
-        let (first, pointer) = self.apart_from(pointer);
-        let second = Shared {
-            handle: Counted {
-                pointer,
-                len,
-                alloc,
-            },
-        };
-        (first, second)
-    }
-
-    /// The law of this handle and a pointer that has a seat: on one block they have two seats, and what is owed is another
-    /// block. No atomic step.
-    pub(crate) fn apart_from(self, other: Pointer<A>) -> (Shared<LIMIT, A>, Pointer<A>)
-        requires { HasSeat other.right }
-        ensures first { result.0 ≡ self }
-        ensures second { result.1 ≡ other }
-        ensures apart { self.block ≡ other.block → self.seat ≢ other.seat }
-        ensures alone { other.right ≡ owed → other.block ≢ self.block }
+    /// The handle without its drop.
+    pub(crate) fn taken(self) -> Counted<LIMIT, A>
+        ensures { self ≡ handle_of result.pointer }
     {
         let Shared { handle } = self;
-        let Counted {
-            pointer,
-            len,
-            alloc,
-        } = handle;
-        let (other, pointer) = other.apart(pointer);
-        let first = Shared {
-            handle: Counted {
-                pointer,
-                len,
-                alloc,
-            },
-        };
-        (first, other)
-    }
-
-    /// The law that what is owed is a different block from this handle's. No atomic step.
-    pub(crate) fn alone_from(&self, other: Pointer<A>) -> Pointer<A>
-        requires { other.right ≡ owed }
-        ensures same { result ≡ other }
-        ensures alone { other.block ≢ self.now.block }
-    {
-        other.alone(&self.handle.pointer)
+        handle
     }
 
     /// The end of the handle, with which its drop begins: a load and, if the block is unmarked, a fetch-sub that lowers the count
@@ -346,7 +289,7 @@ impl<const LIMIT: u64, A: Allocator + Copy> Counted<LIMIT, A> {
         ensures unmarked { IfErr result IsUnmarked }
         ensures word { IfErr result (IsWord LIMIT) }
     {
-        let (found, gained) = self.pointer.clone_load(offset_of_word(self.len));
+        let (found, gained) = self.pointer.load(offset_of_word(self.len));
         if marked(found) {
             Ok(self.beside(gained))
         } else {

@@ -1,51 +1,42 @@
 -- `lend` lends the bytes of the text for writing, and the block has what is written. Assumes `Logic`.
+use Rattle.arcstr_block.proofs.WholeProofs.{full_share, a_type, dcons, dnil, named, Ty, inst_fn, Val, vptr, vint, SProp, ent, id⊢, Lft, GName, Share, Fml}
+use Rattle.arcstr_block.proofs.WholeProofs.{ftrue, fsep, feq, flft, WpFn, fact, tables, Item, ‵, raw, ◌⊛◌, some, later, await, pick, at_ret, ◌$◌, ◌∵◌, !, qed}
+use Rattle.arcstr_block.proofs.WholeProofs.{by, move, keep, drop, use1, split, join, rewrite, fsplit, fsplit3, fjoin, fjoin3, fpick, fpack, feq_i, suffices}
+use Rattle.arcstr_block.proofs.WholeProofs.{whole, sub, agg, look_in, stop, fld, of_opd, and_then, no_more, first, blocks, exec, returns, enter, load}
+use Rattle.arcstr_block.proofs.WholeProofs.{alloc_all, pass_all, free_all, look_at, get, through, sets, sets_last, env, Array, u8, usize, yes, no, Is, shows}
+use Rattle.arcstr_block.proofs.WholeProofs.{cell_at, part_at, param, bounded, RattleType, owns, Ptr, InBlock, block_ptr, block_of, count_of, at_block, bytes}
+use Rattle.arcstr_block.proofs.WholeProofs.{bytes_whole, plain, slice_val, nothing, peeks, Stays, stay_dropped, walk_of, Goes-dropped, word, tail}
 use mathlib.Core.Path.{◌≡◌, refl, sym, ap, subst, ◌∙◌}
 use Prim.Native.Nat.{ℕ, ◌+◌, ◌*◌, ◌<◌, ◌^◌}
 use native.Mathlib.Omega.{arith}
 use mathlib.Core.List.{List, [], ◌∷◌, ◌++◌}
 use lib.ListN.{length}
 use seplogic.Ra.Ura.{Ura}
-use base.Fraction.{full_share}
-use mir.Syntax.{Fn, Args, Dict, a_type, dcons, dnil, named, w64, Ty}
-use mir.MapTy.{inst_fn}
-use mir.Val.{Val, vptr, vint}
-use base.Logic.{SProp, ent, sep, id⊢, mono_r}
-use base.Fml.{Lft, GName, Share, Fml, ftrue, fsep, feq, flft, fobs, fbor}
-use prog.Wp.{Env, Calls, Loops, WpFn, Tables}
+use mir.Syntax.{Fn, Args, Dict, w64}
+use base.Logic.{sep, mono_r}
+use base.Fml.{fobs, fbor}
+use prog.Wp.{Env, Calls, Loops, Tables}
 use types.Logic.{Logic, sem}
-use contract.Monad.{fact}
-use contract.Running.{tables, tables_of}
+use contract.Running.{tables_of}
 use sound.WpLaws.{WpFn-mono}
-use types.Kit.{Item, ⋆, ‵, raw, ◌⊛◌, some, later, await, pick, at_ret, ◌$◌, ◌∵◌, !, qed, by, move, keep, drop, use1, split, join, group, rewrite, fsplit}
-use types.Kit.{fsplit3, fjoin, fjoin3, fpick, fpack, feq_i, feq_l, flt_l, suffices, frame, done}
-use types.Part.{whole, sub, agg, look_in}
-use types.Run.{stop, fld, of_opd, and_then, no_more, first, blocks, exec, returns, enter, load}
-use types.ByLocal.{alloc_all, pass_all, free_all, look_at, get, through, sets, sets_last, env}
+use types.Kit.{⋆, group, feq_l, flt_l, frame, done}
 use types.SemTy.{Body as Borrowed, cells}
-use denote.Array.{Array}
-use denote.Builtin.{RefMutOf, SliceRefMutOf, u8, usize}
-use denote.Exit.{yes, no}
+use denote.Builtin.{RefMutOf, SliceRefMutOf}
 use denote.Follow.{follows}
 use denote.FollowSlice.{Elements, lends_Elements}
-use denote.Laws.{Is, shows}
-use denote.Memory.{mem, cell_at, part_at, part_of}
-use denote.Param.{param, bounded}
-use denote.RattleType.{RattleType, owns}
-use denote.RawPtr.{Ptr, InBlock, block_ptr, block_of, count_of, at_block}
-use denote.RawPtr.Bytes.{bytes, bytes_apart, bytes_whole}
+use denote.Memory.{mem, part_of}
+use denote.RawPtr.Bytes.{bytes_apart}
 use denote.Ref.{MutBor, MutRef}
-use denote.Signature.{plain, mut_ref_to}
-use denote.Slice.{MutSlice, slice_val}
-use denote.Steps.{nothing, opens, peeks}
+use denote.Signature.{mut_ref_to}
+use denote.Slice.{MutSlice}
+use denote.Steps.{opens}
 use denote.Triple.Carry.{spared}
 use denote.Triple.Clauses.{Clauses, Ended, closing}
 use denote.Triple.Entry.{on_entry}
 use denote.Triple.Spec.{Meets, triple_of}
 use denote.Triple.Table.{entered, run_framed}
-use denote.Triple.Walked.{says, needs, Stays, stay_dropped, walk_of, ends_at, Goes-dropped, Goes-spent_ref, walk_Meets}
+use denote.Triple.Walked.{says, needs, ends_at, Goes-spent_ref, walk_Meets}
 use Rattle.core.specs.declared.alloc.Allocator.{Ghosts}
-use Rattle.core.specs.Sync.RawAtomic.{word}
-use Rattle.core.proofs.atomic.Steps.{tail}
 use Rattle.arcstr_block.specs.Lends.{with_text}
 use Rattle.arcstr_block.specs.Memory.{Fits, length_lies, text_lies, rim, word_offset, word_lies}
 use Rattle.arcstr_block.specs.contracts.block.Sole as S

@@ -1,31 +1,12 @@
 -- `again` takes no step: a permanent share can be duplicated.
-use Rattle.std.proofs.Common.{◌≡◌, ℕ, List, [], ◌∷◌, sym, refl, ap, ◌∙◌, length}
-use mir.Syntax.{dcons, dnil, a_type, named}
-use mir.Val.{Val, vptr}
-use mir.MapTy.{inst_fn}
-use base.Logic.{SProp, emp}
-use base.Fml.{Lft, Share, Fml, ftrue, fsep, flft, fhide}
-use types.Kit.{‵, raw, ◌⊛◌, ◌$◌, ◌∵◌, !, qed, by, move, keep, drop, split, join, fsplit, fsplit3, fjoin, fpick, use0, use1, use3, rewrite}
-use types.Run.{stop, fld, load, of_opd, no_more, and_then, returns, enter}
-use types.ByLocal.{alloc_all, pass_all, free_all, look_at, get, through, sets, is, env}
-use types.Part.{agg, sub, whole, look_in}
-use contract.Running.{tables}
-use contract.Monad.{fact, fact_i}
-use denote.Exit.{yes}
-use denote.RattleType.{RattleType, owns}
-use denote.Signature.{types_at, plain}
-use denote.RawPtr.{Ptr, block_ptr, block_of, count_of, at_block}
-use denote.Steps.{nothing, peeks, heard, looks, shuts}
-use denote.Opens.{unhide}
-use denote.Laws.{Is, shows}
-use denote.Memory.{cell_at, hidden_shr}
-use denote.Param.{param, bounded}
-use denote.Builtin.{RefOf}
-use denote.Ref.{shr_vals, shr_Tells}
-use denote.Struct.Lending.{lent_out}
-use denote.Triple.Walked.{Stays, stay_dropped, walk_of, Goes-dropped}
+use Rattle.arcstr_block.proofs.WholeProofs.{◌≡◌, ℕ, List, [], ◌∷◌, sym, refl, ap, ◌∙◌, length, dcons, dnil, a_type, named, Val, vptr, inst_fn, SProp, emp, Lft}
+use Rattle.arcstr_block.proofs.WholeProofs.{Share, Fml, ftrue, fsep, flft, fhide, ‵, raw, ◌⊛◌, ◌$◌, ◌∵◌, !, qed, by, move, keep, drop, split, join, fsplit}
+use Rattle.arcstr_block.proofs.WholeProofs.{fsplit3, fjoin, fpick, use0, use1, use3, rewrite, stop, fld, load, of_opd, no_more, and_then, returns, enter}
+use Rattle.arcstr_block.proofs.WholeProofs.{alloc_all, pass_all, free_all, look_at, get, through, sets, is, env, agg, sub, whole, look_in, tables, fact}
+use Rattle.arcstr_block.proofs.WholeProofs.{fact_i, yes, RattleType, owns, types_at, plain, Ptr, block_ptr, block_of, count_of, at_block, nothing, peeks}
+use Rattle.arcstr_block.proofs.WholeProofs.{heard, looks, shuts, unhide, Is, shows, cell_at, hidden_shr, param, bounded, RefOf, shr_vals, shr_Tells, lent_out}
+use Rattle.arcstr_block.proofs.WholeProofs.{Stays, stay_dropped, walk_of, Goes-dropped, proved, leaves}
 use Rattle.core.specs.contracts.marker.PhantomData as Marker
-use Rattle.atomic_table.proofs.Walks.{proved, leaves}
 use Rattle.arcstr_block.specs.Rights.{fixed, Right}
 use Rattle.arcstr_block.specs.Memory.{block_owns, block_shares, word_at}
 use Rattle.arcstr_block.specs.Ledger.{Inv, shown, pointer_shares}
@@ -60,7 +41,7 @@ again_spec 𝓤 𝓛 𝓜 𝓡 wired Y K g d dd met md =
     use1 𝓛 (‵ (hidden_shr D κ (p, (tt, tt)) b o) ⊛ ‵ (fhide (pointer_shares holds lim p h.text right h.seat h.block h.history κ)))
     (lent_out 𝓛 (C.struct B g) (C.the_codes Y.Denot B.coded (Marker.the_row B).coded) (C.the_heap B g) (C.the_lent B g) κ h b o) $
     split ! $ move ! (1 ∷ []) $ unhide ! $ fsplit ! $ fpick ! (λ inb. drop ! $ let at : p ≡ block_ptr pb (count_of p) = at_block p inb.0 in fpick ! (λ t.
-    let I : Fml = Inv P lim pb po t in let af : Lft = t.0 ∷ [] in
+    let I : Fml = Inv P lim pb po t in let af : Lft = t.sharing ∷ [] in
     fsplit ! $ move ! (1 ∷ []) $ rewrite ! 0 (λ (k : Right). ‵ (shown P lim pb po t s h.seat k κ)) same_right refl $ fsplit3 ! $
     -- [the permanent share; the invariant; what is shared; what is known; the fields; κ; the others]
     move ! (4 ∷ 5 ∷ []) $ looks ! tt D (opened B g 𝓛) (p, (tt, tt)) b o (λ e vs. move ! (1 ∷ []) $ peeks ! D (Is D) (shows 𝓛 D) (p, (tt, tt)) vs (λ so.

@@ -1,41 +1,21 @@
--- `alone` opens what a `&` shows of a free handle's seat, which cannot be on a block that is owed.
-use Rattle.std.proofs.Common.{◌≡◌, ◌≢◌, ℕ, List, [], ◌∷◌, refl, sym, ◌∙◌, length}
-use mir.Syntax.{dcons, dnil, a_type, named}
-use mir.Val.{Val, vptr}
-use mir.MapTy.{inst_fn}
-use base.Logic.{SProp, emp}
-use base.Fml.{Lft, Share, Fml, ftrue, fsep, flft, fhide, finv, fshr_bor}
-use types.Kit.{‵, raw, ◌⊛◌, given, ◌$◌, ◌∵◌, !, qed, by, move, keep, drop, split, split3, join, fsplit, fsplit3, fjoin, fpick, use0, use1, use2, learn}
-use types.Run.{of_opd, returns, enter}
-use types.ByLocal.{alloc_all, pass_all, free_all, look_at, get, sets}
-use types.Tokens.{shr_bor-open, obor_close}
-use contract.Running.{tables}
-use contract.Monad.{fact, fact_i}
-use denote.Builtin.{RefOf}
-use denote.Exit.{yes, no}
-use denote.Memory.{hidden_shr}
-use denote.Opens.{unhide}
-use denote.Param.{param, bounded}
-use denote.RattleType.{RattleType, owns}
-use denote.RawPtr.{Ptr, block_of}
-use denote.Ref.{shr_vals, shr_Tells}
-use denote.Signature.{types_at, plain}
-use denote.Steps.{nothing, heard}
-use denote.Struct.Lending.{lent_out}
-use denote.Triple.Walked.{Stays, stay_dropped, walk_of, Goes-dropped}
+-- `alone` returns the owed pointer: the book of its block does not lie beside the share of a token that the other shows.
+use Rattle.arcstr_block.proofs.WholeProofs.{◌≡◌, ℕ, List, [], ◌∷◌, refl, sym, ◌∙◌, length, dcons, dnil, a_type, named, Val, vptr, inst_fn, SProp, emp, Lft}
+use Rattle.arcstr_block.proofs.WholeProofs.{Share, Fml, ftrue, fsep, flft, fhide, finv, fshr_bor, ‵, raw, ◌⊛◌, later, given, await, ◌$◌, ◌∵◌, !, qed, by, move}
+use Rattle.arcstr_block.proofs.WholeProofs.{keep, drop, split, split3, join, fsplit, fsplit3, fjoin, fpick, use0, use1, use2, learn, of_opd, returns, enter}
+use Rattle.arcstr_block.proofs.WholeProofs.{alloc_all, pass_all, free_all, look_at, get, sets, tables, fact, fact_i, RefOf, yes, no, hidden_shr, unhide, param}
+use Rattle.arcstr_block.proofs.WholeProofs.{bounded, RattleType, owns, Ptr, block_of, shr_vals, shr_Tells, types_at, plain, nothing, heard, lent_out, Stays}
+use Rattle.arcstr_block.proofs.WholeProofs.{stay_dropped, walk_of, Goes-dropped, proved, leaves}
+use Rattle.std.proofs.Common.{◌≢◌}
 use Rattle.core.specs.contracts.marker.PhantomData as Marker
-use Rattle.atomic_table.proofs.Walks.{proved, leaves}
-use Rattle.arcstr_count.specs.declared.steps.HandleState.TheVariants.{Free}
-use Rattle.arcstr_block.specs.Rights.{Right, IsFree, owed}
-use Rattle.arcstr_block.specs.Book.{seat_share}
+use Rattle.arcstr_block.specs.Rights.{Right, MaySee, owed}
 use Rattle.arcstr_block.specs.Memory.{block_owns, block_shares, word_at}
-use Rattle.arcstr_block.specs.Ledger.{Inv, knows, names, pointer_shares}
+use Rattle.arcstr_block.specs.Ledger.{Inv, pointer_shares}
 use Rattle.arcstr_block.specs.contracts.pointer.Pointer as C
-use Rattle.arcstr_block.proofs.OwedBlocks.{other_block}
+use Rattle.arcstr_block.proofs.LoneBlocks.{Lent, not_lent}
+use Rattle.arcstr_block.proofs.TwoPointers.{away}
 use Rattle.arcstr_block.proofs.Fields.{pointer_val, typed, Words, told}
 use Rattle.arcstr_block.proofs.Memory.{shares_laws}
 use Rattle.arcstr_block.proofs.Rights as rights
-use Rattle.arcstr_block.proofs.Seats.{seat_halves}
 use Rattle.arcstr_block.specs.contracts.pointer.Pointer.alone.{ended, clauses}
 use Rattle.arcstr_block.specs.contracts.pointer.Pointer.alone.Key.{name as #self}
 use Rattle.arcstr_block.proofs.pointer.Pointer.alone.Statement.{statement}
@@ -60,25 +40,24 @@ alone_spec 𝓤 𝓛 𝓜 𝓡 wired Y K g d dd met md =
     let rb : ℕ = block_of r in let ro : ℕ = word_at r (length j.text) in
     let y : (walk_of 𝓛 En hs c).Ghost = ((κs, qs, bounds, a, (vs, (vptr b o ∷ [], tt))), gh) in let Post : Val → SProp 𝓤 = (walk_of 𝓛 En hs c).post y in
     qed 𝓛 (((‵ (flft κ q) ⊛ ‵ others) ⊛ ‵ (owns (types_at En.signature.params κs) a y.0.4)) ∷ raw (fact 𝓤 _) ∷
-    raw (fact 𝓤 (h.right ≡ owed)) ∷ raw (fact 𝓤 (IsFree right)) ∷ []) ∵
-    keep ! (2 ∷ 3 ∷ 0 ∷ []) $ heard ! (h.right ≡ owed) (λ mine. heard ! (IsFree right) (λ may. split ! $ split ! $ move ! (2 ∷ []) $ fsplit3 ! $
+    raw (fact 𝓤 (h.right ≡ owed)) ∷ raw (fact 𝓤 (MaySee right)) ∷ []) ∵
+    keep ! (2 ∷ 3 ∷ 0 ∷ []) $ heard ! (h.right ≡ owed) (λ mine. heard ! (MaySee right) (λ may. split ! $ split ! $ move ! (2 ∷ []) $ fsplit3 ! $
     move ! (1 ∷ []) $ fsplit ! $ keep ! (1 ∷ 2 ∷ 4 ∷ 5 ∷ []) $
     -- [what the `&` shows; the owed pointer; κ; the others]
     enter ! 𝓣.C 𝓣.Λ fn (pointer_val p ∷ vptr b o ∷ []) Post $ alloc_all ! (λ l. pass_all ! refl (typed p, ((tt, tt), tt)) $
     use1 𝓛 (‵ (hidden_shr D κ (r, (tt, tt)) b o) ⊛ ‵ (fhide (pointer_shares holds lim r j.text right j.seat j.block j.history κ)))
     (lent_out 𝓛 (C.struct B g) (C.the_codes Y.Denot B.coded (Marker.the_row B).coded) (C.the_heap B g) (C.the_lent B g) κ j b o) $
-    split ! $ drop ! $ unhide ! $ fsplit ! $ drop ! $ fpick ! (λ t. let I : Fml = Inv P lim rb ro t in let af : Lft = t.0 ∷ [] in fsplit ! $ fsplit ! $
+    split ! $ drop ! $ unhide ! $ fsplit ! $ drop ! $ fpick ! (λ t. let I : Fml = Inv P lim rb ro t in let af : Lft = t.sharing ∷ [] in fsplit ! $ fsplit ! $
     fpick ! (λ is. drop ! $ drop ! $
-    use1 𝓛 (‵ (fshr_bor κ (λ u. flft af u)) ⊛
-    ‵ (fshr_bor κ (λ u. seat_share t.3 j.seat u Free)) ⊛ ‵ (knows t right) ⊛ ‵ (finv I) ⊛ ‵ (s af))
-    (rights.may_step 𝓛 P lim rb ro t s (shares_laws r j.text) j.seat right may κ) $
-    split3 ! $ drop ! $ move ! (1 ∷ []) $ drop ! $ move ! (0 ∷ 2 ∷ []) $ shr_bor-open ! tt (seat_halves 𝓛 t.3 j.seat Free) (λ u.
-    -- [the open seat; its share; the owed pointer; the others]
-    move ! (2 ∷ 1 ∷ []) $ use2 𝓛 (given (h.block ≢ names t) (‵ (Row.own_val h vs) ⊛ ‵ (seat_share t.3 j.seat u Free)))
-    (other_block 𝓛 B g h vs (names t) j.seat u mine) $ learn ! (λ away. split ! $
-    move ! (2 ∷ 1 ∷ []) $ obor_close ! tt $ drop ! $ move ! (0 ∷ 2 ∷ []) $ join ! $ move ! (1 ∷ 0 ∷ []) $
+    use1 𝓛 (‵ (fshr_bor κ (λ u. flft af u)) ⊛ ‵ (finv I) ⊛ ‵ (s af)) (rights.may_see 𝓛 P lim rb ro t s (shares_laws r j.text) j.seat right may κ) $
+    split3 ! $ move ! (2 ∷ []) $ drop ! $ move ! (0 ∷ 3 ∷ []) $ fjoin ! $ move ! (1 ∷ 0 ∷ []) $ fjoin ! $
+    -- [the invariant with the share and κ; the owed pointer; the others]
+    let X : Fml = Lent 𝓛 P lim rb ro t κ q in
+    move ! (1 ∷ 0 ∷ []) $ use2 𝓛 (later (given (h.block ≢ t.name) (‵ (Row.own_val h vs) ⊛ ‵ X)))
+    (away 𝓛 B g h vs X t.name mine (not_lent 𝓛 P lim rb ro t h.limit _ κ q)) $ await ! tt $ learn ! (λ differ. split ! $
+    move ! (1 ∷ []) $ fsplit3 ! $ drop ! $ drop ! $ move ! (0 ∷ 2 ∷ []) $ join ! $ move ! (1 ∷ 0 ∷ []) $
     sets ! (of_opd ! (get ! refl)) refl (typed p) $
-    let Differ : Type 0 = h.block ≢ j.block in use0 𝓛 (raw (fact 𝓤 Differ)) (fact_i 𝓤 Differ (emp 𝓤) (λ e. away (e ∙ sym is))) $
+    let Differ : Type 0 = h.block ≢ j.block in use0 𝓛 (raw (fact 𝓤 Differ)) (fact_i 𝓤 Differ (emp 𝓤) (λ e. differ (e ∙ sym is))) $
     use0 𝓛 (raw (fact 𝓤 (h ≡ h))) (fact_i 𝓤 (h ≡ h) (emp 𝓤) refl) $ join ! $
     nothing ! $ nothing ! $ fjoin ! $ nothing ! $ fjoin ! $ returns ! (look_at ! 0 refl) $ free_all ! refl $ keep ! (3 ∷ 0 ∷ 2 ∷ 1 ∷ []) $
-    by ! (leaves 𝓛 En hs c y (pointer_val p) h (tt, (tt, tt)) (tt, (tt, tt)))))))))))
+    by ! (leaves 𝓛 En hs c y (pointer_val p) h (tt, (tt, tt)) (tt, (tt, tt))))))))))

@@ -1,25 +1,9 @@
 -- `apart` returns both pointers: it does nothing.
-use Rattle.std.proofs.Common.{◌≡◌, List, [], ◌∷◌, ◌++◌, refl}
-use mir.Syntax.{dcons, dnil, a_type}
-use mir.Val.{Val, vstruct, of_list}
-use mir.MapTy.{inst_fn}
-use base.Logic.{SProp, emp}
-use base.Fml.{fsep, feq}
-use types.Kit.{‵, raw, ◌⊛◌, given, ◌$◌, ◌∵◌, !, qed, by, move, keep, split, join, learn, fsplit3, fjoin, fjoin3, fpack, use0, use2, feq_i}
-use types.Run.{of_opd, no_more, and_then, returns, enter}
-use types.ByLocal.{alloc_all, pass_all, free_all, look_at, get, sets}
-use types.Part.{agg}
-use contract.Running.{tables}
-use contract.Monad.{fact, fact_i}
-use denote.Exit.{no}
-use denote.RattleType.{RattleType, Valss, owns}
-use denote.Signature.{types_at, plain}
-use denote.RawPtr.{Ptr}
-use denote.Steps.{nothing, heard}
-use denote.Param.{param, bounded}
-use denote.Triple.Entry.{alive}
-use denote.Triple.Walked.{Stays, stay_dropped, walk_of, Goes-dropped}
-use Rattle.atomic_table.proofs.Walks.{proved, leaves}
+use Rattle.arcstr_block.proofs.WholeProofs.{◌≡◌, List, [], ◌∷◌, ◌++◌, refl, dcons, dnil, a_type, Val, vstruct, of_list, inst_fn, SProp, emp, fsep, feq, ‵, raw}
+use Rattle.arcstr_block.proofs.WholeProofs.{◌⊛◌, later, given, await, ◌$◌, ◌∵◌, !, qed, by, move, keep, split, join, learn, fsplit3, fjoin, fjoin3, fpack}
+use Rattle.arcstr_block.proofs.WholeProofs.{use0, use2, feq_i, of_opd, no_more, and_then, returns, enter, alloc_all, pass_all, free_all, look_at, get, sets}
+use Rattle.arcstr_block.proofs.WholeProofs.{agg, tables, fact, fact_i, no, RattleType, Valss, owns, types_at, plain, Ptr, nothing, heard, param, bounded}
+use Rattle.arcstr_block.proofs.WholeProofs.{alive, Stays, stay_dropped, walk_of, Goes-dropped, proved, leaves}
 use Rattle.arcstr_block.specs.Rights.{HasSeat}
 use Rattle.arcstr_block.specs.contracts.pointer.Pointer as C
 use Rattle.arcstr_block.proofs.Fields.{pointer_val, typed, two_val, two_typed, told}
@@ -52,9 +36,10 @@ apart_spec 𝓤 𝓛 𝓜 𝓡 wired Y K g d dd met md =
     (fact 𝓤 (HasSeat j.right)) ∷ []) ∵
     keep ! (2 ∷ 3 ∷ 0 ∷ []) $ heard ! (HasSeat h.right) (λ may. heard ! (HasSeat j.right) (λ may'. split ! $ move ! (1 ∷ []) $ fsplit3 ! $
     keep ! (0 ∷ 1 ∷ 3 ∷ []) $
-    use2 𝓛 (given (Distinct 𝓛 B g h j vs ws) (‵ (Row.own_val h vs) ⊛ ‵ (Row.own_val j ws))) (are_apart 𝓛 B g h j vs ws may may') $ learn ! (λ laws. split ! $
-    -- [the first; the second; the tokens]
     enter ! 𝓣.C 𝓣.Λ fn (pointer_val p ∷ pointer_val q ∷ []) Post $ alloc_all ! (λ l. pass_all ! refl (typed p, (typed q, tt)) $
+    use2 𝓛 (later (given (Distinct 𝓛 B g h j vs ws) (‵ (Row.own_val h vs) ⊛ ‵ (Row.own_val j ws)))) (are_apart 𝓛 B g h j vs ws may may') $ await ! tt $
+    learn ! (λ laws. split ! $
+    -- [the first; the second; the tokens]
     sets ! (of_opd ! (get ! refl)) refl (typed p) $ sets ! (of_opd ! (get ! refl)) refl (typed q) $
     sets ! (agg ! (and_then ! (get ! refl) (and_then ! (get ! refl) (no_more !)))) refl (two_typed p q) $
     nothing ! $ move ! (1 ∷ 2 ∷ 0 ∷ []) $ fjoin3 ! $ feq_i ! (List Val) (r ∷ []) (r ∷ []) refl $ fjoin ! $

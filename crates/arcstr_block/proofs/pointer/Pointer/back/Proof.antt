@@ -1,34 +1,15 @@
 -- `back` takes the whole block with its length, and ends the history of the block.
-use Rattle.std.proofs.Common.{◌≡◌, ℕ, ◌+◌, ◌^◌, ◌<◌, List, [], ◌∷◌, ◌++◌, length, sym, refl, ap, arith}
-use mir.Syntax.{dcons, dnil, a_type, w64}
-use mir.Val.{Val, vint, vstruct, of_list, vptr}
-use mir.MapTy.{inst_fn}
-use base.Fraction.{full_share}
-use base.Logic.{SProp, emp, via}
-use base.Fml.{Fml, ftrue, fsep, feq}
+use Rattle.arcstr_block.proofs.WholeProofs.{◌≡◌, ℕ, ◌+◌, ◌^◌, ◌<◌, List, [], ◌∷◌, ◌++◌, length, sym, refl, ap, arith, dcons, dnil, a_type, Val, vint, vstruct}
+use Rattle.arcstr_block.proofs.WholeProofs.{of_list, vptr, inst_fn, full_share, SProp, emp, via, Fml, ftrue, fsep, feq, ‵, raw, ◌⊛◌, later, ◌$◌, ◌∵◌, !, qed}
+use Rattle.arcstr_block.proofs.WholeProofs.{by, move, keep, drop, split, split3, join, fsplit, fsplit3, fjoin, fjoin3, fpick, fpack, use0, use1, use2, await}
+use Rattle.arcstr_block.proofs.WholeProofs.{rewrite, feq_i, flt_i, at_ret, stop, fld, load, of_opd, no_more, and_then, first, blocks, exec, returns, enter}
+use Rattle.arcstr_block.proofs.WholeProofs.{bin, alloc_all, pass_all, free_all, look_at, get, get_in, through, sets, sets_last, is, env, agg, sub, whole}
+use Rattle.arcstr_block.proofs.WholeProofs.{look_in, tables, fact, fact_i, no, yes, uint_vals, uint_Tells, RattleType, Valss, owns, usize, part_at, types_at}
+use Rattle.arcstr_block.proofs.WholeProofs.{plain, Ptr, InBlock, block_ptr, ptr_val, block_of, count_of, at_block, nothing, heard, param, bounded, alive}
+use Rattle.arcstr_block.proofs.WholeProofs.{Stays, stay_dropped, walk_of, Goes-dropped, word, tail, word_in, proved, leaves}
+use mir.Syntax.{w64}
 use types.Owned.{basic}
-use types.Kit.{‵, raw, ◌⊛◌, later, ◌$◌, ◌∵◌, !, qed, by, move, keep, drop, split, split3, join, fsplit, fsplit3, fjoin, fjoin3, fpick, fpack, use0, use1, use2}
-use types.Kit.{await, rewrite, feq_i, flt_i, at_ret}
-use types.Run.{stop, fld, load, of_opd, no_more, and_then, first, blocks, exec, returns, enter, bin}
-use types.ByLocal.{alloc_all, pass_all, free_all, look_at, get, get_in, through, sets, sets_last, is, env}
-use types.Part.{agg, sub, whole, look_in}
-use contract.Running.{tables}
-use contract.Monad.{fact, fact_i}
-use denote.Exit.{no, yes}
-use denote.Plain.{uint_vals, uint_Tells}
-use denote.RattleType.{RattleType, Valss, owns}
-use denote.Builtin.{usize}
-use denote.Memory.{part_at}
-use denote.Signature.{types_at, plain}
-use denote.RawPtr.{Ptr, InBlock, block_ptr, ptr_val, block_of, count_of, at_block}
-use denote.Steps.{nothing, heard}
-use denote.Param.{param, bounded}
-use denote.Triple.Entry.{alive}
-use denote.Triple.Walked.{Stays, stay_dropped, walk_of, Goes-dropped}
-use Rattle.core.specs.Sync.RawAtomic.{word}
-use Rattle.core.proofs.atomic.Steps.{tail}
-use Rattle.core.proofs.tally.Steps.{word_out, word_in}
-use Rattle.atomic_table.proofs.Walks.{proved, leaves}
+use Rattle.core.proofs.tally.Steps.{word_out}
 use Rattle.arcstr_count.specs.declared.steps.Step.TheVariants.{Back}
 use Rattle.arcstr_count.specs.declared.steps.HandleState.TheVariants.{Gone}
 use Rattle.arcstr_count.specs.declared.steps.Reply.TheVariants.{Given}
@@ -71,8 +52,9 @@ back_spec 𝓤 𝓛 𝓜 𝓡 wired Y K g d dd met md =
     enter ! 𝓣.C 𝓣.Λ fn (pointer_val p ∷ vint w64 place ∷ []) Post $
     alloc_all ! (λ l. pass_all ! refl (typed p, ((tt, record { fits = fits_place }), tt)) $ let Ev = env fn.locals l in
     -- [the word; the book; what the block owns; the seat; the tokens]
-    move ! (1 ∷ 3 ∷ []) $ use2 𝓛 (later (‵ (Book lim t.2 t.3 0) ⊛ ‵ (seat t.3 h.seat Gone) ⊛ ‵ (Ends lim t.2 t.3 (Back h.seat) Given))) (via 𝓤 _
-    (book_back 𝓛 lim t.2 t.3 0 h.seat) (basic 𝓛 _)) $ await ! tt $ split3 ! $ drop ! $ drop ! $ drop ! $
+    move ! (1 ∷ 3 ∷ []) $ use2 𝓛 (later (‵ (Book lim t.name.history t.name.seats 0) ⊛ ‵ (seat t.name.seats h.seat Gone) ⊛
+    ‵ (Ends lim t.name.history t.name.seats (Back h.seat) Given))) (via 𝓤 _
+    (book_back 𝓛 lim t.name.history t.name.seats 0 h.seat) (basic 𝓛 _)) $ await ! tt $ split3 ! $ drop ! $ drop ! $ drop ! $
     -- [the word; what the block owns; the tokens]
     move ! (1 ∷ []) $ fsplit ! $ rewrite ! 0 (λ (r : Ptr). ‵ (length_lies r n)) at refl $ use1 𝓛 (‵ (word b (u + 8) n)) (word_out 𝓛 b (u + 8) n) $
     -- [the length; the bytes and the rim; the word; the tokens]

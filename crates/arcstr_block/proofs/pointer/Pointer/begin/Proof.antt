@@ -1,30 +1,12 @@
 -- `begin` is one load. A drop goes on if it finds the word unmarked.
-use Rattle.std.proofs.Common.{◌≡◌, ℕ, ◌+◌, [], ◌∷◌, sym, refl, ap, subst, if◌then◌else◌, lit<, length, arith, w64, ◌^◌, ◌<◌}
-use mir.Syntax.{dcons, dnil, a_type}
-use mir.Val.{Val, vptr, vint}
-use mir.MapTy.{inst_fn}
-use base.Logic.{SProp, via}
-use base.Fml.{Lft, Fml, fsep, flft, finv, fex}
-use types.Kit.{‵, raw, ◌⊛◌, later, mean, at_ret, ◌$◌, ◌∵◌, !, qed, by, move, keep, drop, split, fsplit, fsplit3, fjoin, fpick, use0, use1}
-use types.Kit.{use3, await}
-use types.Run.{stop, fld, addr, lit, of_opd, no_more, and_then, first, blocks, exec, Calls-last, returns, enter, bin}
-use types.ByLocal.{alloc_all, pass_all, free_all, look_at, get, get_in, through, sets, lands_last, is, env}
-use types.Part.{agg, sub, whole}
-use contract.Running.{tables}
-use contract.Monad.{fact}
-use denote.Exit.{yes, no}
-use denote.Plain.{uint_vals, uint_Tells}
-use denote.RattleType.{RattleType, Valss, owns}
-use denote.Signature.{types_at, plain}
-use denote.RawPtr.{Ptr, block_ptr, ptr_val, block_of, count_of, at_block}
-use denote.Steps.{nothing, heard}
-use denote.Param.{param, bounded}
-use denote.Builtin.{u64, usize}
-use denote.Triple.Entry.{alive}
-use denote.Triple.Walked.{Stays, stay_dropped, walk_of, Goes-dropped}
-use Rattle.core.proofs.atomic.Steps.{tail}
-use Rattle.atomic_table.proofs.Walks.{proved, leaves}
-use Rattle.atomic_table.proofs.Calls.{fm, seq_cst, found, finds, loads}
+use Rattle.arcstr_block.proofs.WholeProofs.{◌≡◌, ℕ, ◌+◌, [], ◌∷◌, sym, refl, ap, subst, if◌then◌else◌, lit<, length, arith, w64, ◌^◌, ◌<◌, dcons, dnil, a_type}
+use Rattle.arcstr_block.proofs.WholeProofs.{Val, vptr, vint, inst_fn, SProp, via, Lft, Fml, fsep, flft, finv, fex, ‵, raw, ◌⊛◌, later, mean, at_ret, ◌$◌, ◌∵◌}
+use Rattle.arcstr_block.proofs.WholeProofs.{ !, qed, by, move, keep, drop, split, fsplit, fsplit3, fjoin, fpick, use0, use1, use3, await, stop, fld, addr, lit}
+use Rattle.arcstr_block.proofs.WholeProofs.{of_opd, no_more, and_then, first, blocks, exec, Calls-last, returns, enter, bin, alloc_all, pass_all, free_all}
+use Rattle.arcstr_block.proofs.WholeProofs.{look_at, get, get_in, through, sets, lands_last, is, env, agg, sub, whole, tables, fact, yes, no, uint_vals}
+use Rattle.arcstr_block.proofs.WholeProofs.{uint_Tells, RattleType, Valss, owns, types_at, plain, Ptr, block_ptr, ptr_val, block_of, count_of, at_block}
+use Rattle.arcstr_block.proofs.WholeProofs.{nothing, heard, param, bounded, u64, usize, alive, Stays, stay_dropped, walk_of, Goes-dropped, tail, proved}
+use Rattle.arcstr_block.proofs.WholeProofs.{leaves, fm, seq_cst, found, finds, loads}
 use Rattle.arcstr_block.specs.Word.{IsMarked, IsUnmarked}
 use Rattle.arcstr_block.specs.Rights.{IsFree, Begins, Right}
 use Rattle.arcstr_block.specs.Memory.{block_owns, block_shares, word_at, word_offset}
@@ -71,7 +53,7 @@ begin_spec 𝓤 𝓛 𝓜 𝓡 wired Y K g d dd met md =
     let there : place + count_of p ≡ count_of p + word_offset (length h.text) = omega (arith, placed) in
     split ! $ move ! (1 ∷ []) $ fsplit ! $ fsplit ! $ keep ! (1 ∷ 3 ∷ []) $ fsplit ! $ fpick ! (λ inb.
     drop ! $ let at : p ≡ block_ptr pb (count_of p) = at_block p inb.0 in
-    fpick ! (λ t. let I : Fml = Inv P lim pb po t in let af : Lft = t.0 ∷ [] in fsplit ! $ move ! (1 ∷ []) $
+    fpick ! (λ t. let I : Fml = Inv P lim pb po t in let af : Lft = t.sharing ∷ [] in fsplit ! $ move ! (1 ∷ []) $
     fsplit ! $ use1 𝓛 (‵ (finv I) ⊛ ‵ (finv I)) (𝓛.invs.inv_dup I) $ split ! $ move ! (2 ∷ []) $
     use1 𝓛 (‵ (free P lim pb po t s h.seat right)) (rights.is_free 𝓛 P lim pb po t s sl h.seat right may) $ fpick ! (λ e. fsplit ! $ fpick ! (λ one. drop ! $
     fsplit3 ! $ move ! (2 ∷ []) $ fsplit ! $
@@ -81,11 +63,12 @@ begin_spec 𝓤 𝓛 𝓜 𝓡 wired Y K g d dd met md =
     alloc_all ! (λ l. pass_all ! refl (typed p, ((tt, record { fits = fits_place }), tt)) $ let Ev = env fn.locals l in
     sets ! (is ! (of_opd ! (get_in ! (fld ! refl (stop !)) (sub ! 0 refl (whole !)))) (ap ptr_val at)) refl (tt, tt) $
     sets ! (of_opd ! (get_in ! (fld ! refl (stop !)) (sub ! 1 refl (whole !)))) refl (tt, tt) $
-    let said : ℕ → Fml = λ n. fsep (seat t.3 h.seat (begun 𝓛 lim t.2 t.3 n)) (Ends lim t.2 t.3 (Begin h.seat) (begin_reply 𝓛 lim t.2 t.3 n)) in
+    let said : ℕ → Fml = λ n. fsep (seat t.name.seats h.seat (begun 𝓛 lim t.name.history t.name.seats n)) (Ends lim t.name.history t.name.seats
+    (Begin h.seat) (begin_reply 𝓛 lim t.name.history t.name.seats n)) in
     let after : ℕ → Fml = steps.all_after 𝓛 P lim pb po t (λ n. n) (steps.Told 𝓛 P lim pb po t e right) (steps.With 𝓛 P lim pb po t e right) (flft af e) said in
     use3 𝓛 (raw (𝓣.C _ (vptr pb po ∷ seq_cst ∷ []) (λ r. mean 𝓛 (found after r))))
-    (via 𝓤 _ (steps.loads 𝓛 P lim pb po t e right (seat t.3 h.seat Free) said (λ n _.
-    book_begin 𝓛 lim t.2 t.3 n h.seat)) (loads 𝓛 𝓜 𝓡 (code.calls-core::raw_atomic::load 𝓡.env wired) (block_ptr pb po) after)) $
+    (via 𝓤 _ (steps.loads 𝓛 P lim pb po t e right (seat t.name.seats h.seat Free) said (λ n _.
+    book_begin 𝓛 lim t.name.history t.name.seats n h.seat)) (loads 𝓛 𝓜 𝓡 (code.calls-core::raw_atomic::load 𝓡.env wired) (block_ptr pb po) after)) $
     first ! $ blocks ! $ sets ! (is ! (bin ! (get ! refl) (get ! refl) tt) (ap (vptr pb) there)) refl (tt, tt) $
     sets ! (of_opd ! (get ! refl)) refl (tt, tt) $ sets ! (addr ! (through ! refl (fld ! refl (stop !)))) refl (tt, tt) $
     sets ! (agg ! (and_then ! (lit ! tt) (no_more !))) refl (tt, (record { fits = lit< tt }, tt)) $

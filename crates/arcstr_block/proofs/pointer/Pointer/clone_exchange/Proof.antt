@@ -1,35 +1,15 @@
 -- `clone_exchange` is one compare-exchange. If it finds the old word or a marked one, the clone succeeds.
-use Rattle.std.proofs.Common.{◌≡◌, ℕ, ◌+◌, List, [], ◌∷◌, sym, refl, ap, ◌∙◌, w64, length, arith}
-use mir.Syntax.{dcons, dnil, a_type, named}
-use mir.Val.{Val, vint, vptr}
-use mir.MapTy.{inst_fn}
-use base.Logic.{SProp, emp, via}
-use base.Fml.{Lft, Share, Fml, ftrue, fsep, fex, flft, fhide, finv, fshr_bor}
-use types.Kit.{‵, raw, ◌⊛◌, later, mean, at_ret, ◌$◌, ◌∵◌, !, qed, by, move, keep, drop, split, split3, join, fsplit, fsplit3, fjoin, fpick}
-use types.Kit.{use0, use1, use3, await, rewrite}
-use types.Run.{stop, fld, load, addr, of_opd, no_more, and_then, first, blocks, exec, Calls-last, returns, enter, bin}
-use types.ByLocal.{alloc_all, pass_all, free_all, look_at, get, through, sets, lands_last, is, env}
-use types.Part.{agg, sub, whole, look_in}
-use contract.Running.{tables}
-use contract.Monad.{fact, fact_i}
-use denote.Exit.{yes}
-use denote.RattleType.{RattleType, Valss, owns}
-use denote.Signature.{types_at, plain}
-use denote.RawPtr.{Ptr, block_ptr, block_of, count_of, at_block}
-use denote.Steps.{nothing, peeks, heard, looks, shuts}
-use denote.Opens.{unhide}
-use denote.Laws.{Is, shows}
-use denote.Memory.{cell_at, hidden_shr}
-use denote.Param.{param, bounded}
-use denote.Builtin.{RefOf, u64}
-use denote.Ref.{shr_vals, shr_Tells}
-use denote.Plain.{uint_vals, uint_Tells}
-use denote.Struct.Lending.{lent_out}
-use denote.Triple.Walked.{Stays, stay_dropped, walk_of, Goes-dropped}
-use Rattle.core.proofs.atomic.Steps.{tail}
+use Rattle.arcstr_block.proofs.WholeProofs.{◌≡◌, ℕ, ◌+◌, List, [], ◌∷◌, sym, refl, ap, ◌∙◌, w64, length, arith, dcons, dnil, a_type, named, Val, vint, vptr}
+use Rattle.arcstr_block.proofs.WholeProofs.{inst_fn, SProp, emp, via, Lft, Share, Fml, ftrue, fsep, fex, flft, fhide, finv, fshr_bor, ‵, raw, ◌⊛◌, later, mean}
+use Rattle.arcstr_block.proofs.WholeProofs.{at_ret, ◌$◌, ◌∵◌, !, qed, by, move, keep, drop, split, split3, join, fsplit, fsplit3, fjoin, fpick, use0, use1}
+use Rattle.arcstr_block.proofs.WholeProofs.{use3, await, rewrite, stop, fld, load, addr, of_opd, no_more, and_then, first, blocks, exec, Calls-last, returns}
+use Rattle.arcstr_block.proofs.WholeProofs.{enter, bin, alloc_all, pass_all, free_all, look_at, get, through, sets, lands_last, is, env, agg, sub, whole}
+use Rattle.arcstr_block.proofs.WholeProofs.{look_in, tables, fact, fact_i, yes, RattleType, Valss, owns, types_at, plain, Ptr, block_ptr, block_of, count_of}
+use Rattle.arcstr_block.proofs.WholeProofs.{at_block, nothing, peeks, heard, looks, shuts, unhide, Is, shows, cell_at, hidden_shr, param, bounded, RefOf, u64}
+use Rattle.arcstr_block.proofs.WholeProofs.{shr_vals, shr_Tells, uint_vals, uint_Tells, lent_out, Stays, stay_dropped, walk_of, Goes-dropped, tail, proved}
+use Rattle.arcstr_block.proofs.WholeProofs.{leaves, fm, found, finds}
 use Rattle.core.specs.contracts.marker.PhantomData as Marker
-use Rattle.atomic_table.proofs.Walks.{proved, leaves}
-use Rattle.atomic_table.proofs.Calls.{fm, found, finds, exchanges}
+use Rattle.atomic_table.proofs.Calls.{exchanges}
 use Rattle.arcstr_block.specs.Word.{IsWord, IsClone}
 use Rattle.arcstr_block.specs.Rights.{IsFree, Gains, Right}
 use Rattle.arcstr_block.specs.Memory.{block_owns, block_shares, word_at, word_offset}
@@ -127,9 +107,9 @@ clone_exchange_spec 𝓤 𝓛 𝓜 𝓡 wired Y K g d dd met md =
     use1 𝓛 (‵ (hidden_shr D κ (p, (tt, tt)) b o) ⊛ ‵ (fhide (pointer_shares holds lim p h.text right h.seat h.block h.history κ)))
     (lent_out 𝓛 (C.struct B g) (C.the_codes Y.Denot B.coded (Marker.the_row B).coded) (C.the_heap B g) (C.the_lent B g) κ h b o) $
     split ! $ move ! (1 ∷ []) $ unhide ! $ fsplit ! $ fpick ! (λ inb. drop ! $ let at : p ≡ block_ptr pb (count_of p) = at_block p inb.0 in fpick ! (λ t.
-    let I : Fml = Inv P lim pb po t in let af : Lft = t.0 ∷ [] in
+    let I : Fml = Inv P lim pb po t in let af : Lft = t.sharing ∷ [] in
     fsplit ! $ move ! (1 ∷ []) $ use1 𝓛 (‵ (fshr_bor κ (λ r. flft af r)) ⊛ ‵ (fshr_bor κ (λ r.
-    seat_share t.3 h.seat r Free)) ⊛ ‵ (knows t right) ⊛ ‵ (finv I) ⊛ ‵ (s af)) (rights.may_step 𝓛 P lim pb po t s sl h.seat right may κ) $
+    seat_share t.name.seats h.seat r Free)) ⊛ ‵ (knows t right) ⊛ ‵ (finv I) ⊛ ‵ (s af)) (rights.may_step 𝓛 P lim pb po t s sl h.seat right may κ) $
     split3 ! $ move ! (2 ∷ []) $ split3 ! $
     -- [what is known; the invariant; what is shared; the share; the seat; the prefix; the fields; κ; the others]
     move ! (6 ∷ 7 ∷ []) $ looks ! tt D (opened B g 𝓛) (p, (tt, tt)) b o (λ e vs. move ! (1 ∷ []) $ peeks ! D (Is D) (shows 𝓛 D) (p, (tt, tt)) vs (λ so.
@@ -139,8 +119,9 @@ clone_exchange_spec 𝓤 𝓛 𝓜 𝓡 wired Y K g d dd met md =
     rewrite ! 1 (λ (ws : List Val). ‵ (cell_at e D.mir ws b o)) (sym ev) refl $ move ! (1 ∷ 0 ∷ 2 ∷ []) $ shuts ! tt D e (p, (tt, tt)) vs b o $
     move ! (1 ∷ []) $ drop ! $ move ! (4 ∷ 5 ∷ 0 ∷ []) $
     -- [the share; the seat; κ; what is known; the invariant; what is shared; the prefix; the others]
-    use3 𝓛 (later (‵ (fex (Share × Share) (framed.lent_for 𝓛 t.0 t.3 h.seat κ q)))) (framed.borrows 𝓛 t.0 t.3 h.seat κ q) $ await ! tt $ fpick ! (λ out.
-    let u : Share = out.0 in let v : Share = out.1 in let Mine : Fml = seat_share t.3 h.seat v Free in
+    use3 𝓛 (later (‵ (fex (Share × Share) (framed.lent_for 𝓛 t.sharing t.name.seats h.seat κ q)))) (framed.borrows 𝓛 t.sharing t.name.seats h.seat κ q) $
+    await ! tt $ fpick ! (λ out.
+    let u : Share = out.0 in let v : Share = out.1 in let Mine : Fml = seat_share t.name.seats h.seat v Free in
     fsplit ! $ move ! (1 ∷ []) $ fsplit ! $
     -- [the token; the seat; the open borrows; what is known; the invariant; what is shared; the prefix; the others]
     move ! (4 ∷ []) $ use1 𝓛 (‵ (finv I) ⊛ ‵ (finv I)) (𝓛.invs.inv_dup I) $ split ! $
@@ -150,7 +131,7 @@ clone_exchange_spec 𝓤 𝓛 𝓜 𝓡 wired Y K g d dd met md =
     (changes.Raised 𝓛 P lim pb po t u old new asked) (changes.Tok 𝓛 P lim pb po t u) (flft af u) said in
     use3 𝓛 (raw (𝓣.C _ (vptr pb po ∷ vint w64 old ∷ vint w64 new ∷ []) (λ r. mean 𝓛 (found after r))))
     (via 𝓤 _ (changes.raises 𝓛 P lim pb po t u old new asked Mine said (λ n _.
-    turn_raises 𝓛 lim t.2 t.3 h.seat v old new asked n)) (exchanges 𝓛 𝓜 𝓡 (code.calls-atomic_table::exchange 𝓡.env wired)
+    turn_raises 𝓛 lim t.name.history t.name.seats h.seat v old new asked n)) (exchanges 𝓛 𝓜 𝓡 (code.calls-atomic_table::exchange 𝓡.env wired)
     (block_ptr pb po) old new are.1.1.0.1 are.1.1.1.0.1 after)) $
     first ! $ blocks ! $ sets ! (is ! (bin ! (get ! refl) (get ! refl) tt) (ap (vptr pb) there)) refl (tt, tt) $
     sets ! (of_opd ! (get ! refl)) refl (tt, tt) $ sets ! (addr ! (through ! refl (fld ! refl (stop !)))) refl (tt, tt) $
@@ -164,7 +145,7 @@ clone_exchange_spec 𝓤 𝓛 𝓜 𝓡 wired Y K g d dd met md =
     -- [what is said; the token; the gain; the invariant; the open borrows; what is known; what is shared; the prefix; the others]
     move ! (3 ∷ []) $ drop ! $
     fsplit3 ! $ fsplit ! $ move ! (2 ∷ 0 ∷ []) $ fjoin ! $ move ! (4 ∷ 0 ∷ []) $ fjoin ! $
-    use1 𝓛 (later (‵ (flft κ q))) (framed.restores 𝓛 t.0 t.3 h.seat κ q out) $ await ! tt $
+    use1 𝓛 (later (‵ (flft κ q))) (framed.restores 𝓛 t.sharing t.name.seats h.seat κ q out) $ await ! tt $
     -- [κ; what is said; the gain; the invariant; what is shared; the prefix; the others]
     move ! (0 ∷ 6 ∷ []) $ join ! $ move ! (2 ∷ []) $ fpick ! (λ w. fsplit ! $ fpick ! (λ ok. drop ! $
     -- [the gain; the tokens; what is said; the invariant; what is shared; the prefix]

@@ -1,35 +1,15 @@
 -- `load` is one load. A look that finds the word marked has a permanent share, and a clone that finds it marked succeeds.
-use Rattle.std.proofs.Common.{◌≡◌, ℕ, Bool, ◌+◌, List, [], ◌∷◌, sym, refl, ap, ◌∙◌, lit<, length, arith, w64, ◌^◌, ◌<◌}
-use mir.Syntax.{dcons, dnil, a_type, named}
-use mir.Val.{Val, vptr, vint}
-use mir.MapTy.{inst_fn}
-use base.Logic.{SProp, emp, via}
-use base.Fml.{Lft, Share, Fml, ftrue, fsep, flft, fhide, finv, fshr_bor, fex}
-use types.Kit.{‵, raw, ◌⊛◌, later, mean, at_ret, ◌$◌, ◌∵◌, !, qed, by, move, keep, drop, split, split3, join, fsplit, fsplit3, fjoin, fjoin3, fpick, fpack}
-use types.Kit.{use0, use1, use2, use3, await, rewrite, feq_i, flt_i}
-use types.Run.{stop, fld, load, addr, lit, of_opd, no_more, and_then, first, blocks, exec, Calls-last, returns, enter, bin}
-use types.ByLocal.{alloc_all, pass_all, free_all, look_at, get, through, sets, lands_last, is, env}
-use types.Part.{agg, sub, whole, look_in}
-use contract.Running.{tables}
-use contract.Monad.{fact, fact_i}
-use denote.Exit.{yes}
-use denote.Plain.{uint_vals, uint_Tells}
-use denote.RattleType.{RattleType, Valss, owns}
-use denote.Signature.{types_at, plain}
-use denote.RawPtr.{Ptr, block_ptr, block_of, count_of, at_block}
-use denote.Steps.{nothing, peeks, heard, looks, shuts}
-use denote.Opens.{unhide}
-use denote.Laws.{Is, shows}
-use denote.Memory.{cell_at, hidden_shr}
-use denote.Param.{param, bounded}
-use denote.Builtin.{RefOf, u64, usize}
-use denote.Ref.{shr_vals, shr_Tells}
-use denote.Struct.Lending.{lent_out}
-use denote.Triple.Walked.{Stays, stay_dropped, walk_of, Goes-dropped}
-use Rattle.core.proofs.atomic.Steps.{tail}
+use Rattle.arcstr_block.proofs.WholeProofs.{◌≡◌, ℕ, Bool, ◌+◌, List, [], ◌∷◌, sym, refl, ap, ◌∙◌, lit<, length, arith, w64, ◌^◌, ◌<◌, dcons, dnil, a_type}
+use Rattle.arcstr_block.proofs.WholeProofs.{named, Val, vptr, vint, inst_fn, SProp, emp, via, Lft, Share, Fml, ftrue, fsep, flft, fhide, finv, fshr_bor, fex}
+use Rattle.arcstr_block.proofs.WholeProofs.{‵, raw, ◌⊛◌, later, mean, at_ret, ◌$◌, ◌∵◌, !, qed, by, move, keep, drop, split, split3, join, fsplit, fsplit3}
+use Rattle.arcstr_block.proofs.WholeProofs.{fjoin, fpick, use0, use1, use3, await, rewrite, stop, fld, load, addr, lit}
+use Rattle.arcstr_block.proofs.WholeProofs.{of_opd, no_more, and_then, first, blocks, exec, Calls-last, returns, enter, bin, alloc_all, pass_all, free_all}
+use Rattle.arcstr_block.proofs.WholeProofs.{look_at, get, through, sets, lands_last, is, env, agg, sub, whole, look_in, tables, fact, fact_i, yes, uint_vals}
+use Rattle.arcstr_block.proofs.WholeProofs.{uint_Tells, RattleType, Valss, owns, types_at, plain, Ptr, block_ptr, block_of, count_of, at_block, nothing, peeks}
+use Rattle.arcstr_block.proofs.WholeProofs.{heard, looks, shuts, unhide, Is, shows, cell_at, hidden_shr, param, bounded, RefOf, u64, usize, shr_vals}
+use Rattle.arcstr_block.proofs.WholeProofs.{shr_Tells, lent_out, Stays, stay_dropped, walk_of, Goes-dropped, tail, proved, leaves, fm, seq_cst, found, finds}
+use Rattle.arcstr_block.proofs.WholeProofs.{loads}
 use Rattle.core.specs.contracts.marker.PhantomData as Marker
-use Rattle.atomic_table.proofs.Walks.{proved, leaves}
-use Rattle.atomic_table.proofs.Calls.{fm, seq_cst, found, finds, loads}
 use Rattle.arcstr_block.specs.Word.{IsWord}
 use Rattle.arcstr_block.specs.Rights.{IsFree, Loads, Right}
 use Rattle.arcstr_block.specs.Memory.{block_owns, block_shares, word_at, word_offset}
@@ -79,9 +59,9 @@ load_spec 𝓤 𝓛 𝓜 𝓡 wired Y K g d dd met md =
     use1 𝓛 (‵ (hidden_shr D κ (p, (tt, tt)) b o) ⊛ ‵ (fhide (pointer_shares holds lim p h.text right h.seat h.block h.history κ)))
     (lent_out 𝓛 (C.struct B g) (C.the_codes Y.Denot B.coded (Marker.the_row B).coded) (C.the_heap B g) (C.the_lent B g) κ h b o) $
     split ! $ move ! (1 ∷ []) $ unhide ! $ fsplit ! $ fpick ! (λ inb. drop ! $ let at : p ≡ block_ptr pb (count_of p) = at_block p inb.0 in fpick ! (λ t.
-    let I : Fml = Inv P lim pb po t in let af : Lft = t.0 ∷ [] in
+    let I : Fml = Inv P lim pb po t in let af : Lft = t.sharing ∷ [] in
     fsplit ! $ move ! (1 ∷ []) $ use1 𝓛 (‵ (fshr_bor κ (λ r. flft af r)) ⊛ ‵ (fshr_bor κ (λ r.
-    seat_share t.3 h.seat r Free)) ⊛ ‵ (knows t right) ⊛ ‵ (finv I) ⊛ ‵ (s af)) (rights.may_step 𝓛 P lim pb po t s sl h.seat right may κ) $
+    seat_share t.name.seats h.seat r Free)) ⊛ ‵ (knows t right) ⊛ ‵ (finv I) ⊛ ‵ (s af)) (rights.may_step 𝓛 P lim pb po t s sl h.seat right may κ) $
     split3 ! $ move ! (2 ∷ []) $ split3 ! $
     -- [what is known; the invariant; what is shared; the share; the seat; the prefix; the fields; κ; the others]
     move ! (6 ∷ 7 ∷ []) $ looks ! tt D (opened B g 𝓛) (p, (tt, tt)) b o (λ e vs. move ! (1 ∷ []) $ peeks ! D (Is D) (shows 𝓛 D) (p, (tt, tt)) vs (λ so.
@@ -91,8 +71,9 @@ load_spec 𝓤 𝓛 𝓜 𝓡 wired Y K g d dd met md =
     rewrite ! 1 (λ (ws : List Val). ‵ (cell_at e D.mir ws b o)) (sym ev) refl $ move ! (1 ∷ 0 ∷ 2 ∷ []) $ shuts ! tt D e (p, (tt, tt)) vs b o $
     move ! (1 ∷ []) $ drop ! $ move ! (4 ∷ 5 ∷ 0 ∷ []) $
     -- [the share; the seat; κ; what is known; the invariant; what is shared; the prefix; the others]
-    use3 𝓛 (later (‵ (fex (Share × Share) (framed.lent_for 𝓛 t.0 t.3 h.seat κ q)))) (framed.borrows 𝓛 t.0 t.3 h.seat κ q) $ await ! tt $ fpick ! (λ out.
-    let u : Share = out.0 in let v : Share = out.1 in let Mine : Fml = seat_share t.3 h.seat v Free in
+    use3 𝓛 (later (‵ (fex (Share × Share) (framed.lent_for 𝓛 t.sharing t.name.seats h.seat κ q)))) (framed.borrows 𝓛 t.sharing t.name.seats h.seat κ q) $
+    await ! tt $ fpick ! (λ out.
+    let u : Share = out.0 in let v : Share = out.1 in let Mine : Fml = seat_share t.name.seats h.seat v Free in
     fsplit ! $ move ! (1 ∷ []) $ fsplit ! $
     -- [the token; the seat; the open borrows; what is known; the invariant; what is shared; the prefix; the others]
     move ! (4 ∷ []) $ use1 𝓛 (‵ (finv I) ⊛ ‵ (finv I)) (𝓛.invs.inv_dup I) $ split ! $
@@ -114,7 +95,7 @@ load_spec 𝓤 𝓛 𝓜 𝓡 wired Y K g d dd met md =
     sets ! (agg ! (and_then ! (get ! refl) (and_then ! (get ! refl) (no_more !)))) refl (found_typed n fits p) $
     -- [the seat and what is said; the token; the gain; the invariant; the open borrows; what is shared; the prefix; the others]
     fsplit3 ! $ fsplit ! $ move ! (2 ∷ 0 ∷ []) $ fjoin ! $ move ! (4 ∷ 0 ∷ []) $ fjoin ! $
-    use1 𝓛 (later (‵ (flft κ q))) (framed.restores 𝓛 t.0 t.3 h.seat κ q out) $ await ! tt $
+    use1 𝓛 (later (‵ (flft κ q))) (framed.restores 𝓛 t.sharing t.name.seats h.seat κ q out) $ await ! tt $
     -- [κ; what is said; the gain; the invariant; what is shared; the prefix; the others]
     move ! (0 ∷ 6 ∷ []) $ join ! $ move ! (2 ∷ []) $ fpick ! (λ w. fsplit ! $ fpick ! (λ ok. drop ! $
     -- [the gain; the tokens; what is said; the invariant; what is shared; the prefix]

@@ -1,33 +1,18 @@
 -- `make` puts the word under the ledger's invariant, and lends what the block owns.
-use Rattle.std.proofs.Common.{◌≡◌, ℕ, ◌+◌, List, [], ◌∷◌, sym, refl, ap, length}
-use mir.Syntax.{dcons, dnil, a_type}
-use mir.Val.{Val}
-use mir.MapTy.{inst_fn}
-use base.Logic.{SProp, emp}
-use base.Fml.{Fml, ftrue, fsep, fex, flft, Incl-refl}
-use types.Kit.{Item, ‵, raw, ◌⊛◌, later, ◌$◌, ◌∵◌, !, qed, by, move, keep, drop, split, join, fsplit, fsplit3, fjoin, fpick, use0, use2, use3, await, rewrite}
-use types.Run.{stop, fld, of_opd, no_more, and_then, returns, enter}
-use types.ByLocal.{alloc_all, pass_all, free_all, look_at, get, get_in, sets, is}
-use types.Part.{agg, sub, whole}
-use contract.Running.{tables}
-use contract.Monad.{fact, fact_i}
-use denote.Exit.{no}
-use denote.RattleType.{RattleType, owns}
-use denote.Signature.{types_at, plain}
-use denote.RawPtr.{Ptr, block_ptr, ptr_val, block_of, count_of, at_block}
-use denote.Steps.{nothing, heard}
-use denote.Param.{param, bounded}
-use denote.Triple.Walked.{Stays, stay_dropped, walk_of, Goes-dropped}
-use Rattle.std.specs.Prelude.{IsUtf8}
-use Rattle.core.specs.Sync.RawAtomic.{word}
-use Rattle.atomic_table.proofs.Walks.{proved, leaves}
+use Rattle.arcstr_block.proofs.WholeProofs.{◌≡◌, ℕ, ◌+◌, List, [], ◌∷◌, sym, refl, ap, length, dcons, dnil, a_type, Val, inst_fn, SProp, emp, Fml, ftrue, fsep}
+use Rattle.arcstr_block.proofs.WholeProofs.{fex, flft, Item, ‵, raw, ◌⊛◌, later, ◌$◌, ◌∵◌, !, qed, by, move, keep, drop, split, join, fsplit, fsplit3, fjoin}
+use Rattle.arcstr_block.proofs.WholeProofs.{fpick, use0, use2, use3, await, rewrite, stop, fld, of_opd, no_more, and_then, returns, enter, alloc_all, pass_all}
+use Rattle.arcstr_block.proofs.WholeProofs.{free_all, look_at, get, get_in, sets, is, agg, sub, whole, tables, fact, fact_i, no, RattleType, owns, types_at}
+use Rattle.arcstr_block.proofs.WholeProofs.{plain, Ptr, block_ptr, ptr_val, block_of, count_of, at_block, nothing, heard, param, bounded, Stays, stay_dropped}
+use Rattle.arcstr_block.proofs.WholeProofs.{walk_of, Goes-dropped, IsUtf8, word, proved, leaves}
+use base.Fml.{Incl-refl}
 use Rattle.arcstr_count.specs.Word.{bits_of, fresh_word}
 use Rattle.arcstr_count.specs.declared.steps.Step.TheVariants.{Make}
 use Rattle.arcstr_block.specs.Word.{IsLimit}
 use Rattle.arcstr_block.specs.Rights.{counted}
 use Rattle.arcstr_block.specs.Book.{reached}
 use Rattle.arcstr_block.specs.Memory.{block_owns, block_shares, word_offset}
-use Rattle.arcstr_block.specs.Ledger.{Id, names, held_with}
+use Rattle.arcstr_block.specs.Ledger.{Id, held_with}
 use Rattle.arcstr_block.specs.contracts.block.Sole as S
 use Rattle.arcstr_block.specs.contracts.pointer.Pointer as C
 use Rattle.arcstr_block.proofs.NewBlocks.{begins}
@@ -60,7 +45,7 @@ make_spec 𝓤 𝓛 𝓜 𝓡 wired Y K g d dd met md =
     -- [the word; what the block owns; the tokens]
     enter ! 𝓣.C 𝓣.Λ fn (pointer_val p ∷ []) Post $ alloc_all ! (λ l. pass_all ! refl (typed p, tt) $
     rewrite ! 0 (λ (n : ℕ). ‵ (word b (o + word_offset (length xs) + 0) n)) fresh refl $ fjoin ! $ move ! (1 ∷ []) $ split ! $ move ! (2 ∷ 0 ∷ []) $
-    use2 𝓛 (later (‵ (fex Id (λ t. fsep (reached t.2 (Make ∷ [])) (held_with P lim b (o + word_offset (length xs) + 0) t s 0 counted))) ⊛ t₁))
+    use2 𝓛 (later (‵ (fex Id (λ t. fsep (reached t.name.history (Make ∷ [])) (held_with P lim b (o + word_offset (length xs) + 0) t s 0 counted))) ⊛ t₁))
     (begins 𝓛 P lim b (o + word_offset (length xs) + 0) s (shares_laws p xs) small κs.0 (lends_block 𝓛 holds p xs κs.0) κs.0 qs.0 (Incl-refl κs.0)) $
     await ! tt $ split ! $
     fpick ! (λ t. fsplit ! $ move ! (1 ∷ []) $ fsplit ! $
@@ -73,7 +58,7 @@ make_spec 𝓤 𝓛 𝓜 𝓡 wired Y K g d dd met md =
       limit = lim;
       right = counted;
       seat = 0;
-      block = names t;
+      block = t.name;
       history = Make ∷ [];
     } in
     move ! (1 ∷ 0 ∷ 2 ∷ []) $ use3 𝓛 (‵ (Row.own_val h' (pointer_val p ∷ []))) (framed.pointer_in 𝓛 B g h' t refl (inb.0, (inb.1, text))) $

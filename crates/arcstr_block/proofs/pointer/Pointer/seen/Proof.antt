@@ -1,38 +1,18 @@
 -- `seen` returns what the pointer knows of the history, which is permanent.
-use Rattle.std.proofs.Common.{◌≡◌, ℕ, [], ◌∷◌, refl, length}
-use mir.Syntax.{dcons, dnil, a_type, named}
-use mir.Val.{Val, vptr}
-use mir.MapTy.{inst_fn}
-use base.Logic.{SProp, emp}
-use base.Fml.{Lft, Share, Fml, ftrue, fsep, flft, fhide}
-use types.Kit.{‵, raw, ◌⊛◌, ◌$◌, ◌∵◌, !, qed, by, move, keep, drop, split, join, fsplit, fjoin, fpick, use0, use1, rewrite}
-use types.Run.{no_more, and_then, returns, enter}
-use types.ByLocal.{alloc_all, pass_all, free_all, look_at, get, sets}
-use types.Part.{agg}
-use contract.Running.{tables}
-use contract.Monad.{fact, fact_i}
-use denote.Exit.{yes}
-use denote.RattleType.{RattleType, owns}
-use denote.Signature.{types_at, plain}
-use denote.RawPtr.{Ptr, block_of}
-use denote.Steps.{nothing}
-use denote.Opens.{unhide}
-use denote.Memory.{hidden_shr}
-use denote.Param.{param, bounded}
-use denote.Builtin.{RefOf, unit}
-use denote.Ref.{shr_vals, shr_Tells}
-use denote.Struct.Lending.{lent_out}
-use denote.Triple.Walked.{Stays, stay_dropped, walk_of, Goes-dropped}
+use Rattle.arcstr_block.proofs.WholeProofs.{◌≡◌, ℕ, [], ◌∷◌, refl, length, dcons, dnil, a_type, named, Val, vptr, inst_fn, SProp, emp, Lft, Share, Fml, ftrue}
+use Rattle.arcstr_block.proofs.WholeProofs.{fsep, flft, fhide, ‵, raw, ◌⊛◌, ◌$◌, ◌∵◌, !, qed, by, move, keep, drop, split, join, fsplit, fjoin, fpick, use0}
+use Rattle.arcstr_block.proofs.WholeProofs.{use1, rewrite, no_more, and_then, returns, enter, alloc_all, pass_all, free_all, look_at, get, sets, agg, tables}
+use Rattle.arcstr_block.proofs.WholeProofs.{fact, fact_i, yes, RattleType, owns, types_at, plain, Ptr, block_of, nothing, unhide, hidden_shr, param, bounded}
+use Rattle.arcstr_block.proofs.WholeProofs.{RefOf, unit, shr_vals, shr_Tells, lent_out, Stays, stay_dropped, walk_of, Goes-dropped, proved, leaves, Token}
 use Rattle.core.specs.contracts.marker.PhantomData as Marker
-use Rattle.atomic_table.proofs.Walks.{proved, leaves}
 use Rattle.arcstr_block.specs.Rights.{Right}
 use Rattle.arcstr_block.specs.Memory.{block_owns, block_shares, word_at}
-use Rattle.arcstr_block.specs.Ledger.{Names, pointer_shares}
+use Rattle.arcstr_block.specs.Ledger.{pointer_shares}
 use Rattle.arcstr_block.proofs.Memory.{shares_laws}
 use Rattle.arcstr_block.specs.contracts.pointer.Pointer as C
 use Rattle.arcstr_block.specs.contracts.seen.Seen as Seen
-use Rattle.arcstr_block.specs.Book.{reached}
-use Rattle.logbook.proofs.Fields.{token, Token, token_made}
+use Rattle.arcstr_block.specs.Book.{BlockName, reached}
+use Rattle.logbook.proofs.Fields.{token, token_made}
 use Rattle.arcstr_block.proofs.Fields.{Words}
 use Rattle.arcstr_block.specs.contracts.pointer.Pointer.seen.{ended, clauses}
 use Rattle.arcstr_block.specs.contracts.pointer.Pointer.seen.Key.{name as #self}
@@ -62,7 +42,7 @@ seen_spec 𝓤 𝓛 𝓜 𝓡 wired Y K g d dd met md =
     use1 𝓛 (‵ (hidden_shr D κ (p, (tt, tt)) b o) ⊛ ‵ (fhide (pointer_shares holds lim p h.text right h.seat h.block h.history κ)))
     (lent_out 𝓛 (C.struct B g) (C.the_codes Y.Denot B.coded (Marker.the_row B).coded) (C.the_heap B g) (C.the_lent B g) κ h b o) $
     split ! $ drop ! $ unhide ! $ fsplit ! $ drop ! $ fpick ! (λ t. fsplit ! $ move ! (1 ∷ []) $ drop ! $ fsplit ! $ fpick ! (λ named. drop ! $
-    rewrite ! 0 (λ (block : Names). ‵ (reached block.0 h.history)) named refl $
+    rewrite ! 0 (λ (block : BlockName). ‵ (reached block.history h.history)) named refl $
     -- [the prefix of the history; κ; the others]
     use0 𝓛 (‵ (D'.own_val (record {}, tt) (token ∷ []))) (token_made unit 𝓛) $ fjoin ! $ sets ! (agg ! (no_more !)) refl (tt, tt) $
     sets ! (agg ! (and_then ! (get ! refl) (no_more !))) refl (tt, (tt, tt)) $

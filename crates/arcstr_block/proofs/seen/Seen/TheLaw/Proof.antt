@@ -16,8 +16,8 @@ use Rattle.arcstr_block.proofs.seen.Seen.TheLaw.Statement.{statement}
 pub shares : statement
 shares = of_Lends C.struct (C.the_codes (Marker.the_row unit).coded) C.the_heap C.the_lent
     (λ d p. record {
-      contraction = λ M 𝓤 𝓛 κ. reached_twice 𝓛 0 d.block.0 0 d.history;
-      mono = λ M 𝓤 𝓛 κ' κ. snd∗ 𝓤 (sem 𝓛 (before κ' κ)) (sem 𝓛 (reached d.block.0 d.history));
+      contraction = λ M 𝓤 𝓛 κ. reached_twice 𝓛 0 d.block.history 0 d.history;
+      mono = λ M 𝓤 𝓛 κ' κ. snd∗ 𝓤 (sem 𝓛 (before κ' κ)) (sem 𝓛 (reached d.block.history d.history));
     })
     (copy_shared (Marker.the_field unit) (field_copy (Marker.the_type unit) tt), tt)
-    (λ M 𝓤 𝓛 d p. lends_twice 𝓛 (reached d.block.0 d.history) (reached_twice 𝓛 0 d.block.0 0 d.history) C.the_row.lives)
+    (λ M 𝓤 𝓛 d p. lends_twice 𝓛 (reached d.block.history d.history) (reached_twice 𝓛 0 d.block.history 0 d.history) C.the_row.lives)

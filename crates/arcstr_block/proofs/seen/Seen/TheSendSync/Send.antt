@@ -3,4 +3,4 @@ use Rattle.arcstr_block.specs.contracts.seen.Seen.{the_row}
 use Rattle.arcstr_block.proofs.ThreadCrossing.{reached_keyless}
 
 pub send : IsSend the_row
-send = record { owned = λ d vs. ((λ vss. (tt, ((λ uss. (tt, tt)), tt))), reached_keyless d.block.0 d.history); leaving = λ k f vs. tt }
+send = record { owned = λ d vs. ((λ vss. (tt, ((λ uss. (tt, tt)), tt))), reached_keyless d.block.history d.history); leaving = λ k f vs. tt }

@@ -6,4 +6,4 @@ use Rattle.arcstr_block.proofs.ThreadCrossing.{reached_keyless}
 
 pub sync : IsSync the_row
 sync = let fields : IsSync (Struct (shape the_type)) = search sendable depth 20 in
-    record { shared = λ d b o ν. (fields.shared (tt, tt) b o ν, reached_keyless d.block.0 d.history) }
+    record { shared = λ d b o ν. (fields.shared (tt, tt) b o ν, reached_keyless d.block.history d.history) }

@@ -1,29 +1,12 @@
 -- `agree` does nothing: what two `&` to a `Seen` hold proves its law.
-use Rattle.std.proofs.Common.{◌≡◌, ℕ, ◌≤◌, List, [], ◌∷◌, length, refl, ap}
-use mir.Syntax.{named}
-use mir.Val.{Val, vunit, vptr}
-use base.Logic.{SProp, emp}
-use base.Fml.{GName, fhide}
-use types.Kit.{‵, raw, ◌⊛◌, ◌$◌, ◌∵◌, !, qed, by, move, keep, drop, split, join, fsplit, fsplit3, fjoin, use0, use1, use2, feq_i}
-use types.Run.{unit_lit, of_opd, returns, enter}
-use types.ByLocal.{alloc_all, pass_all, free_all, look_at, sets}
-use contract.Running.{tables}
-use contract.Monad.{fact, fact_i}
-use denote.Exit.{yes}
-use denote.RattleType.{RattleType, owns}
-use denote.Signature.{types_at, plain}
-use denote.Steps.{nothing, heard}
-use denote.Opens.{unhide}
-use denote.Memory.{hidden_shr}
-use denote.Builtin.{RefOf, unit}
-use denote.Ref.{shr_vals, shr_Tells}
-use denote.Struct.Lending.{lent_out}
-use denote.Triple.Entry.{alive}
-use denote.Triple.Walked.{Stays, stay_dropped, walk_of, Goes-dropped}
+use Rattle.arcstr_block.proofs.WholeProofs.{◌≡◌, ℕ, List, [], ◌∷◌, length, refl, ap, named, Val, vunit, vptr, SProp, emp, GName, fhide, ‵, raw, ◌⊛◌, ◌$◌, ◌∵◌}
+use Rattle.arcstr_block.proofs.WholeProofs.{ !, qed, by, move, keep, drop, split, join, fsplit, fsplit3, fjoin, use0, use1, use2, feq_i, unit_lit, of_opd}
+use Rattle.arcstr_block.proofs.WholeProofs.{returns, enter, alloc_all, pass_all, free_all, look_at, sets, tables, fact, fact_i, yes, RattleType, owns}
+use Rattle.arcstr_block.proofs.WholeProofs.{types_at, plain, nothing, heard, unhide, hidden_shr, RefOf, unit, shr_vals, shr_Tells, lent_out, alive, Stays}
+use Rattle.arcstr_block.proofs.WholeProofs.{stay_dropped, walk_of, Goes-dropped, proved, leaves, Token}
+use Rattle.std.proofs.Common.{◌≤◌}
 use Rattle.core.specs.contracts.marker.PhantomData as Marker
-use Rattle.atomic_table.proofs.Walks.{proved, leaves}
-use Rattle.logbook.proofs.Fields.{Token}
-use Rattle.arcstr_block.specs.Book.{reached}
+use Rattle.arcstr_block.specs.Book.{BlockName, reached}
 use mathlib.Core.List.{IsPrefix}
 use Rattle.arcstr_block.specs.contracts.seen.Seen as C
 use Rattle.arcstr_block.proofs.HistoryOrder.{Agrees, agree}
@@ -44,7 +27,7 @@ agree_spec 𝓤 𝓛 𝓜 𝓡 wired =
     let j : S.Denot = a.1.0.now in
     let y : (walk_of 𝓛 En hs c).Ghost = ((κs, qs, bounds, a, (vptr b o ∷ [], (vptr b' o' ∷ [], tt))), gh) in
     let Post : Val → SProp 𝓤 = (walk_of 𝓛 En hs c).post y in
-    let γ : GName = h.block.0 in let δ : GName = j.block.0 in let codes = C.the_codes (Marker.the_row unit).coded in
+    let γ : GName = h.block.history in let δ : GName = j.block.history in let codes = C.the_codes (Marker.the_row unit).coded in
     qed 𝓛 ((raw (alive 𝓛 En.signature κs qs) ⊛ ‵ (owns (types_at En.signature.params κs) a y.0.4)) ∷ raw ((c κs a).requires gh) ∷ []) ∵ keep ! (0 ∷ []) $
     split ! $ move ! (1 ∷ []) $ fsplit3 ! $ fsplit ! $ move ! (2 ∷ []) $ fsplit ! $ keep ! (3 ∷ 1 ∷ 5 ∷ []) $
     use1 𝓛 (‵ (hidden_shr (Token unit) κs.0 (record {}, tt) b o) ⊛ ‵ (fhide (reached γ h.history)))
@@ -57,7 +40,7 @@ agree_spec 𝓤 𝓛 𝓜 𝓡 wired =
     sets ! (of_opd ! (unit_lit !)) refl (tt, tt) $
     let Prefix : Type 0 = h.block ≡ j.block → length h.history ≤ length j.history → IsPrefix h.history j.history in
     let Longer : Type 0 = h.block ≡ j.block → length j.history ≤ length h.history → IsPrefix j.history h.history in
-    use0 𝓛 (raw (fact 𝓤 Longer)) (fact_i 𝓤 Longer (emp 𝓤) (λ same. (told (ap (λ (z : ℕ × ℕ). z.0) same)).1)) $
-    use0 𝓛 (raw (fact 𝓤 Prefix)) (fact_i 𝓤 Prefix (emp 𝓤) (λ same. (told (ap (λ (z : ℕ × ℕ). z.0) same)).0)) $ join ! $
+    use0 𝓛 (raw (fact 𝓤 Longer)) (fact_i 𝓤 Longer (emp 𝓤) (λ same. (told (ap (λ (z : BlockName). z.history) same)).1)) $
+    use0 𝓛 (raw (fact 𝓤 Prefix)) (fact_i 𝓤 Prefix (emp 𝓤) (λ same. (told (ap (λ (z : BlockName). z.history) same)).0)) $ join ! $
     feq_i ! (List Val) (vunit ∷ []) (vunit ∷ []) refl $ nothing ! $ nothing ! $ fjoin ! $ nothing ! $ fjoin ! $
     returns ! (look_at ! 0 refl) $ free_all ! refl $ keep ! (3 ∷ 0 ∷ 1 ∷ 2 ∷ []) $ by ! (leaves 𝓛 En hs c y vunit tt (tt, (tt, tt)) (tt, (tt, tt))))))

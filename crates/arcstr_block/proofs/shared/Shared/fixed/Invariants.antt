@@ -1,5 +1,5 @@
 use Rattle.std.proofs.Common.{false}
-use Rattle.arcstr_block.proofs.pointer.Pointer.look.Given as goal
+use Rattle.arcstr_block.proofs.shared.Shared.fixed.Given as goal
 
 -- the load is a look
 abbrev pub ghost-load : goal.ghost-load

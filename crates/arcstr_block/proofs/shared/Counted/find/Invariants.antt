@@ -1,5 +1,5 @@
 use Rattle.std.proofs.Common.{true}
-use Rattle.arcstr_block.proofs.pointer.Pointer.clone_load.Given as goal
+use Rattle.arcstr_block.proofs.shared.Counted.find.Given as goal
 
 -- the load is a clone's
 abbrev pub ghost-load : goal.ghost-load

@@ -1,0 +1,6 @@
+use Rattle.std.proofs.Common.{false}
+use Rattle.arcstr_block.proofs.shared.Shared.look.Given as goal
+
+-- the load is a look
+abbrev pub ghost-load : goal.ghost-load
+ghost-load g a = false

@@ -1,0 +1,200 @@
+//! The laws of blocks. A law does nothing when it runs: it returns what it takes, takes no atomic step, and does not allocate.
+ghost use Rattle.std.specs.Prelude.{◌≡◌, ◌≢◌, ◌≤◌, length};
+ghost use Rattle.arcstr_block.specs.Rights.{owed, HasSeat, MaySee};
+ghost use mathlib.Core.List.{IsPrefix};
+
+use crate::fixed::Fixed;
+use crate::owed::Owed;
+use crate::pointer::Pointer;
+use crate::seen::Seen;
+use crate::shared::{Counted, Shared};
+use std::alloc::Allocator;
+
+impl<A: Allocator> Pointer<A> {
+    /// Two pointers that have seats have two seats on one block, and a block that is owed has no other.
+    pub(crate) fn apart(self, other: Pointer<A>) -> (Pointer<A>, Pointer<A>)
+        requires first { HasSeat self.right }
+        requires second { HasSeat other.right }
+        ensures first { result.0 ≡ self }
+        ensures second { result.1 ≡ other }
+        ensures apart { self.block ≡ other.block → self.seat ≢ other.seat }
+        ensures alone { self.right ≡ owed → self.block ≢ other.block }
+    {
+        (self, other)
+    }
+
+    /// A block that is owed has no pointer by which it can be read.
+    pub(crate) fn alone(self, other: &Pointer<A>) -> Pointer<A>
+        requires owed { self.right ≡ owed }
+        requires reads { MaySee other.now.right }
+        ensures same { result ≡ self }
+        ensures alone { self.block ≢ other.now.block }
+    {
+        self
+    }
+}
+
+impl<const LIMIT: u64, A: Allocator + Copy> Shared<LIMIT, A> {
+    /// The law that two handles on one block have two seats in its history. It returns both, in their order.
+    ///
+    /// ```
+    /// let text = Shared::<5, _>::from_text(rt.alloc(), "aé")?;
+    /// let clone = text.up(&rt);
+    /// let (text, clone) = text.apart(clone);
+    /// assert_eq!(rt; (text.as_str(), clone.as_str()), ("aé", "aé"));
+    /// ```
+    pub fn apart(self, other: Shared<LIMIT, A>) -> (Shared<LIMIT, A>, Shared<LIMIT, A>)
+        ensures first { result.0 ≡ self }
+        ensures second { result.1 ≡ other }
+        ensures apart { self.block ≡ other.block → self.seat ≢ other.seat }
+    {
+        let Counted {
+            pointer,
+            len,
+            alloc,
+        } = self.taken();
+        let Counted {
+            pointer: beside,
+            len: length,
+            alloc: home,
+        } = other.taken();
+        let (pointer, beside) = pointer.apart(beside);
+        let first = Counted {
+            pointer,
+            len,
+            alloc,
+        };
+        let second = Counted {
+            pointer: beside,
+            len: length,
+            alloc: home,
+        };
+        (Shared { handle: first }, Shared { handle: second })
+    }
+}
+
+impl<A: Allocator + Copy> Owed<A> {
+    /// The law that no handle is left on a block that is owed. It returns both.
+    ///
+    /// ```
+    /// let other = Shared::<5, _>::from_text(rt.alloc(), "b")?;
+    /// match Shared::<5, _>::from_text(rt.alloc(), "a")?.down().0 {
+    ///     Down::Owes(owed) => owed.alone(other).0.give_back(),
+    ///     Down::Left | Down::Ended => {}
+    /// }
+    /// ```
+    pub fn alone<const LIMIT: u64>(self, other: Shared<LIMIT, A>) -> (Owed<A>, Shared<LIMIT, A>)
+        ensures first { result.0 ≡ self }
+        ensures second { result.1 ≡ other }
+        ensures alone { self.block ≢ other.block }
+    {
+        let owed = self.alone_beside(&other);
+        (owed, other)
+    }
+
+    /// The law that a borrowed handle is on a different block from the one that is owed. It returns what is owed.
+    ///
+    /// ```
+    /// let other = Shared::<5, _>::from_text(rt.alloc(), "b")?;
+    /// match Shared::<5, _>::from_text(rt.alloc(), "a")?.down().0 {
+    ///     Down::Owes(owed) => owed.alone_beside(&other).give_back(),
+    ///     Down::Left | Down::Ended => {}
+    /// }
+    /// ```
+    pub fn alone_beside<const LIMIT: u64>(self, handle: &Shared<LIMIT, A>) -> Owed<A>
+        ensures same { result ≡ self }
+        ensures alone { self.block ≢ handle.now.block }
+    {
+        self.alone_from(&handle.handle.pointer)
+    }
+
+    /// The law that a block that is owed is not marked. It returns what is owed.
+    ///
+    /// ```
+    /// let fixed = Shared::<5, _>::from_text(rt.alloc(), "b")?.mark();
+    /// match Shared::<5, _>::from_text(rt.alloc(), "a")?.down().0 {
+    ///     Down::Owes(owed) => owed.unmarked(&fixed).give_back(),
+    ///     Down::Left | Down::Ended => {}
+    /// }
+    /// ```
+    pub fn unmarked(self, fixed: &Fixed<A>) -> Owed<A>
+        ensures same { result ≡ self }
+        ensures unmarked { self.block ≢ fixed.now.block }
+    {
+        self.alone_from(&fixed.pointer)
+    }
+}
+
+impl<A: Allocator> Owed<A> {
+    /// A pointer by which a block can be read is on a different block from the one that is owed.
+    fn alone_from(self, other: &Pointer<A>) -> Owed<A>
+        requires { MaySee other.now.right }
+        ensures same { result ≡ self }
+        ensures alone { self.block ≢ other.now.block }
+    {
+        let Owed {
+            pointer,
+            place,
+            alloc,
+        } = self;
+        let pointer = pointer.alone(other);
+        Owed {
+            pointer,
+            place,
+            alloc,
+        }
+    }
+
+    /// The law that a block is owed once. It returns both, in their order.
+    ///
+    /// ```
+    /// let give_both_back = |owed: Owed<Global>, other: Owed<Global>| {
+    ///     let (owed, other) = owed.apart(other);
+    ///     owed.give_back();
+    ///     other.give_back();
+    /// };
+    /// ```
+    pub fn apart(self, other: Owed<A>) -> (Owed<A>, Owed<A>)
+        ensures first { result.0 ≡ self }
+        ensures second { result.1 ≡ other }
+        ensures apart { self.block ≢ other.block }
+    {
+        let Owed {
+            pointer,
+            place,
+            alloc,
+        } = self;
+        let Owed {
+            pointer: beside,
+            place: there,
+            alloc: home,
+        } = other;
+        let (pointer, beside) = pointer.apart(beside);
+        let first = Owed {
+            pointer,
+            place,
+            alloc,
+        };
+        let second = Owed {
+            pointer: beside,
+            place: there,
+            alloc: home,
+        };
+        (first, second)
+    }
+}
+
+impl Seen {
+    /// The law that a block has one history: of two prefixes of it, the longer extends the other. It takes no atomic step.
+    ///
+    /// ```
+    /// let text = Shared::<5, _>::from_text(rt.alloc(), "aé")?;
+    /// let (_, first) = text.look();
+    /// let (_, second) = text.look();
+    /// first.agree(&second);
+    /// ```
+    pub fn agree(&self, other: &Seen)
+        ensures prefix { self.now.block ≡ other.now.block → length self.now.history ≤ length other.now.history → IsPrefix self.now.history other.now.history }
+        ensures longer { self.now.block ≡ other.now.block → length other.now.history ≤ length self.now.history → IsPrefix other.now.history self.now.history }
+    {}
+}
