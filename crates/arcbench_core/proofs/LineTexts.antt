@@ -15,7 +15,7 @@ use Rattle.arcstr_count.specs.declared.steps.Step.{Step}
 use Rattle.arcstr_count.specs.declared.steps.Step.TheVariants.{Make, Look, Clone, Begin, Sub, Back, Leak, IntoRaw, FromRaw}
 use Rattle.arcbench_core.specs.Line.{word_of, after_word, is_decimal, has_idle_zero, number_of, step_named, step_of, limit_of}
 use Rattle.arcbench_core.specs.LineText.{line_text, limit_text, HasHandle}
-use Rattle.arcbench_core.proofs.Numbers.{own, is_decimal-true, from_is_decimal}
+use Rattle.arcbench_core.proofs.ParsedNumbers.{own, is_decimal-true, from_is_decimal}
 
 -- ---- numbers
 

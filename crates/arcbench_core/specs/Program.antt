@@ -7,9 +7,9 @@ use Rattle.std.specs.Io.KnownBytes.{Appends}
 use Rattle.arcbench_core.specs.declared.program.Command.{Command}
 use Rattle.arcbench_core.specs.declared.program.Command.TheVariants.{Script, Threads, Tokens}
 use Rattle.arcbench_core.specs.declared.program.Fault.{Fault}
-use Rattle.arcbench_core.specs.declared.program.Fault.TheVariants.{Usage, Copy, Pool, NotUtf8}
-use Rattle.arcbench_core.specs.declared.script.copies.CopyFault.TheVariants.{LimitTooLarge, Memory, Io}
-use Rattle.arcbench_core.specs.declared.pool.PoolFault.TheVariants.{Memory as PoolMemory, NoThread}
+use Rattle.arcbench_core.specs.declared.program.Fault.TheVariants.{Usage, LimitTooLarge, Memory, Io, NoThread, NotUtf8}
+use Rattle.arcbench_core.specs.declared.script.copies.CopyFault.{CopyFault}
+use Rattle.arcbench_core.specs.declared.script.copies.CopyFault.TheVariants.{LimitTooLarge as CopyLimitTooLarge, Memory as CopyMemory, Io as CopyIo}
 use Rattle.arcbench_core.specs.Copy.{WritesAnswer}
 use Rattle.arcbench_core.specs.Line.{number_of}
 use Rattle.arcbench_core.specs.Threads.{threads_answer}
@@ -69,30 +69,25 @@ IsDone Script input old new = IfSome input (λ script. WritesAnswer script old n
 IsDone (Threads n) input old new = Appends old new (threads_answer n)
 IsDone (Tokens n) input old new = IfSome input (λ bytes. WritesTokens bytes old new)
 
--- what a command for threads can fail with: a fault of the pool or of writing
+-- what a command for threads can fail with
 abbrev pub IsFaultOfThreads : Fault → Type 0
-IsFaultOfThreads Usage = ⊥
-IsFaultOfThreads (Copy LimitTooLarge) = ⊥
-IsFaultOfThreads (Copy Memory) = ⊥
-IsFaultOfThreads (Copy Io) = Unit {0}
-IsFaultOfThreads (Pool fault) = Unit {0}
-IsFaultOfThreads NotUtf8 = ⊥
+IsFaultOfThreads fault = (fault ≡ Memory) ⊎ (fault ≡ Io) ⊎ (fault ≡ NoThread)
 
--- what a command for tokens can fail with: out of memory, a fault of reading or writing, or an input that is not UTF-8
+-- what a command for tokens can fail with
 abbrev pub IsFaultOfTokens : Fault → Type 0
-IsFaultOfTokens Usage = ⊥
-IsFaultOfTokens (Copy LimitTooLarge) = ⊥
-IsFaultOfTokens (Copy Memory) = Unit {0}
-IsFaultOfTokens (Copy Io) = Unit {0}
-IsFaultOfTokens (Pool fault) = ⊥
-IsFaultOfTokens NotUtf8 = Unit {0}
+IsFaultOfTokens fault = (fault ≡ Memory) ⊎ (fault ≡ Io) ⊎ (fault ≡ NotUtf8)
+
+-- the fault of the program after a fault of a run of a script
+abbrev pub fault_of : CopyFault → Fault
+fault_of CopyLimitTooLarge = LimitTooLarge
+fault_of CopyMemory = Memory
+fault_of CopyIo = Io
 
 -- the status of the program after a fault
 abbrev pub status_of : Fault → ℕ
 status_of Usage = 1
-status_of (Copy LimitTooLarge) = 2
-status_of (Copy Memory) = 3
-status_of (Copy Io) = 4
-status_of (Pool PoolMemory) = 3
-status_of (Pool NoThread) = 5
+status_of LimitTooLarge = 2
+status_of Memory = 3
+status_of Io = 4
+status_of NoThread = 5
 status_of NotUtf8 = 6

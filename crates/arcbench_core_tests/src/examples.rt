@@ -138,7 +138,7 @@ fn script_copy(rt: HostRuntime) -> Result<(), Fail> {
 }
 
 #[test]
-fn script_number_of(rt: HostRuntime) {
+fn numbers_number_of(rt: HostRuntime) {
     assert_eq!(rt; number_of(b"64"), Some(64));
     assert_eq!(rt; number_of(b"064"), None);
 }

@@ -1,77 +1,13 @@
-//! The lines of a script, and the step that a line stands for.
-ghost use Rattle.std.specs.Prelude.{◌≡◌, ◌≢◌, ℕ, ◌^◌, ◌==◌, ◌<◌, ◌∷◌, length, slice_index, if◌then◌else◌, position, Some, IfSome};
-ghost use Rattle.std.specs.Fmt.{decimal};
-ghost use Rattle.std.specs.List.{before_first, after_first};
+//! The step that a line of a script stands for.
+ghost use Rattle.std.specs.Prelude.{◌≡◌, ℕ, ◌^◌, ◌<◌, Some, IfSome};
 ghost use Rattle.std.specs.Str.{bytes_eq};
-ghost use Rattle.std.specs.Str.Parse.{digits_value};
 ghost use Rattle.arcstr_count.specs.declared.steps.Step.{Step};
 ghost use Rattle.arcbench_core.specs.LineText.{line_text, limit_text, HasHandle};
-ghost use Rattle.arcbench_core.specs.Line.{is_decimal, number_of, step_named, step_of, limit_of, lines_of};
+ghost use Rattle.arcbench_core.specs.Line.{step_named, step_of, limit_of};
 
+use crate::lines::parts_at;
+use crate::numbers::number_of;
 use arcstr::count::Step;
-use std::str;
-
-/// The index of the first `byte`.
-fn place_of(bytes: &[u8], byte: u8) -> Option<usize>
-    ensures { result ≡ position (λ b. b == byte) bytes.now }
-{
-    bytes.iter().position(|b| *b == byte)
-}
-
-/// The bytes before the first `byte` and those after it; if there is none, all bytes and no bytes.
-fn parts_at(bytes: &[u8], byte: u8) -> (&[u8], &[u8])
-    ensures prefix { result.0.now ≡ before_first (λ b. b == byte) bytes.now }
-    ensures back { result.1.now ≡ after_first (λ b. b == byte) bytes.now }
-{
-    match place_of(bytes, byte) {
-        Some(i) => (&bytes[..i], &bytes[i + 1..]),
-        None => (bytes, &[]),
-    }
-}
-
-/// The first line of a script, and what comes after it.
-pub(crate) fn first_line(bytes: &[u8]) -> (&[u8], &[u8])
-    requires { 0 < length bytes.now }
-    ensures lines { lines_of bytes.now ≡ result.0.now ∷ lines_of result.1.now }
-    ensures shorter { length result.1.now < length bytes.now }
-{
-    parts_at(bytes, b'\n')
-}
-
-/// The value of decimal digits, below `2^64`.
-fn decimal_of(text: &[u8]) -> Option<u64>
-    requires no_sign { slice_index text.now 0 ≢ 43 }
-    ensures { result ≡ (if is_decimal text.now then Some (digits_value 10 text.now) else None) }
-{
-    match str::from_utf8(text) {
-        Ok(text) => text.parse::<u64>().ok(),
-        Err(_) => None,
-    }
-}
-
-/// The value of a NUMBER: `0`, or digits that do not begin with `0`, below `2^64`.
-///
-/// ```
-/// assert_eq!(rt; number_of(b"64"), Some(64));
-/// assert_eq!(rt; number_of(b"064"), None);
-/// ```
-pub fn number_of(text: &[u8]) -> Option<u64>
-    ensures value { result ≡ number_of text.now }
-    ensures written { IfSome result (λ n. text.now ≡ decimal n) }
-    ensures read { (n : ℕ) → n < 2 ^ 64 → text.now ≡ decimal n → result ≡ Some n }
-{
-    read_number(text)
-}
-
-/// The value of a NUMBER, by the definition of `number_of`.
-fn read_number(text: &[u8]) -> Option<u64>
-    ensures { result ≡ number_of text.now }
-{
-    match text {
-        [b'+', ..] | [b'0', _, ..] => None,
-        _ => decimal_of(text),
-    }
-}
 
 /// Whether the bytes are those of the text.
 fn is_text(bytes: &[u8], text: &str) -> bool
