@@ -76,16 +76,16 @@ impl From<CopyFault> for Fault {
 /// `two_workers_print_their_texts` and `prints_the_words_of_each_line` catch a body that always answers 3 to a command.
 ///
 /// ```
-/// let words = [String::from_str(rt.alloc(), "script")?];
+/// let args = [String::from_str(rt.alloc(), "script")?];
 /// let mut input = Port::new(b"limit 5\nmake\n".as_slice());
 /// let (mut out, mut errors) = (Port::new(Vec::new(rt.alloc())), Vec::new(rt.alloc()));
-/// let status = serve(&rt, rt.alloc(), &words, &mut input, &mut out, &mut errors);
+/// let status = serve(&rt, rt.alloc(), &args, &mut input, &mut out, &mut errors);
 /// assert_eq!(rt; status, 0);
 /// ```
 pub fn serve<H, A: Allocator + Copy, R: Read, W: Write, E: Write>(
     rt: &H,
     alloc: A,
-    words: &[String],
+    arguments: &[String],
     input: &mut Port<R>,
     output: &mut Port<W>,
     errors: &mut E,
@@ -96,27 +96,27 @@ where
     requires output_is_sound { output.old.failed ≡ false }
 
     ensures statuses { result ≤ 6 }
-    ensures usage { (result ≡ 1) ↔ (command_in words.now ≡ None) }
-    ensures done { result ≡ 0 → IfSome (command_in words.now) (λ command. IsDone command
+    ensures usage { (result ≡ 1) ↔ (command_in arguments.now ≡ None) }
+    ensures done { result ≡ 0 → IfSome (command_in arguments.now) (λ command. IsDone command
         (R.remaining input.old.value) (W.contents output.old.value) (W.contents output.new.value)) }
-    ensures at_end { result ≡ 0 → ReadsInput words.now → IsAtEnd (R.remaining input.new.value) }
-    ensures too_large { result ≢ 3 → result ≢ 4 → IsForScript words.now → IfSome (R.remaining input.old.value)
+    ensures at_end { result ≡ 0 → ReadsInput arguments.now → IsAtEnd (R.remaining input.new.value) }
+    ensures too_large { result ≢ 3 → result ≢ 4 → IsForScript arguments.now → IfSome (R.remaining input.old.value)
         (λ script. (result ≡ 2) ↔ (answer_to script ≡ Err LimitTooLarge)) }
-    ensures too_large_of_scripts { result ≡ 2 → IsForScript words.now }
-    ensures memory { result ≡ 3 → IsSome (command_in words.now) }
+    ensures too_large_of_scripts { result ≡ 2 → IsForScript arguments.now }
+    ensures memory { result ≡ 3 → IsSome (command_in arguments.now) }
     ensures io { (result ≡ 4) ↔ (IsTrue input.new.failed ⊎ IsTrue output.new.failed) }
-    ensures no_thread { result ≡ 5 → IsForThreads words.now }
-    ensures not_utf8 { result ≢ 3 → result ≢ 4 → IsForTokens words.now → IfSome (R.remaining input.old.value)
+    ensures no_thread { result ≡ 5 → IsForThreads arguments.now }
+    ensures not_utf8 { result ≢ 3 → result ≢ 4 → IsForTokens arguments.now → IfSome (R.remaining input.old.value)
         (λ bytes. (result ≡ 6) ↔ ¬ (IsUtf8 bytes)) }
-    ensures not_utf8_of_tokens { result ≡ 6 → IsForTokens words.now }
+    ensures not_utf8_of_tokens { result ≡ 6 → IsForTokens arguments.now }
 
     // What stays the same.
-    ensures unread { ¬ (ReadsInput words.now) → input.new ≡ input.old }
+    ensures unread { ¬ (ReadsInput arguments.now) → input.new ≡ input.old }
     ensures unwritten { result ≢ 0 → result ≢ 4 → output.new ≡ output.old }
     ensures unwritten_unread { IsTrue input.new.failed → output.new ≡ output.old }
     ensures silent { result ≡ 0 → errors.new ≡ errors.old }
 {
-    let done = match command_of(words) {
+    let done = match command_of(arguments) {
         None => Err(Fault::Usage),
         Some(Command::Script) => copy(alloc, input, output).map_err(Fault::from),
         Some(Command::Threads(workers)) => {
@@ -241,16 +241,16 @@ fn report<E: Write>(errors: &mut E, fault: Fault) -> u8
 }
 
 /// The command that the arguments mean; `None` for other arguments.
-fn command_of(words: &[String]) -> Option<Command>
-    ensures value { result ≡ command_in words.now }
+fn command_of(arguments: &[String]) -> Option<Command>
+    ensures value { result ≡ command_in arguments.now }
     ensures lawful { IfSome result HasLawfulCount }
 {
-    match words {
-        [word] if word.as_str() == "script" => Some(Command::Script),
-        [word, count] if word.as_str() == "threads" => {
+    match arguments {
+        [command] if command.as_str() == "script" => Some(Command::Script),
+        [command, count] if command.as_str() == "threads" => {
             worker_count(count.as_bytes()).map(Command::Threads)
         }
-        [word, count] if word.as_str() == "tokens" => {
+        [command, count] if command.as_str() == "tokens" => {
             worker_count(count.as_bytes()).map(Command::Tokens)
         }
         _ => None,
@@ -258,11 +258,11 @@ fn command_of(words: &[String]) -> Option<Command>
 }
 
 /// The number of workers that an argument means: a NUMBER from 1 to 64.
-fn worker_count(word: &[u8]) -> Option<usize>
-    ensures value { result ≡ worker_count word.now }
+fn worker_count(argument: &[u8]) -> Option<usize>
+    ensures value { result ≡ worker_count argument.now }
     ensures lawful { IfSome result (λ count. (1 ≤ count) × (count ≤ 64)) }
 {
-    match number_of(word) {
+    match number_of(argument) {
         Some(count) if 1 <= count && count <= 64 => Some(count as usize),
         _ => None,
     }

@@ -4,8 +4,6 @@
 #[cfg(test)]
 mod answers;
 #[cfg(test)]
-mod copies;
-#[cfg(test)]
 mod examples;
 #[cfg(test)]
 mod fakes;
@@ -17,6 +15,8 @@ mod pool;
 mod ports;
 #[cfg(test)]
 mod readme;
+#[cfg(test)]
+mod script_runs;
 #[cfg(test)]
 mod statuses;
 #[cfg(test)]

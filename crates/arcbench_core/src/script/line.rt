@@ -1,6 +1,5 @@
 //! The step that a line of a script stands for.
 ghost use Rattle.std.specs.Prelude.{◌≡◌, ℕ, ◌^◌, ◌<◌, Some, IfSome};
-ghost use Rattle.std.specs.Str.{bytes_eq};
 ghost use Rattle.arcstr_count.specs.declared.steps.Step.{Step};
 ghost use Rattle.arcbench_core.specs.LineText.{line_text, limit_text, HasHandle};
 ghost use Rattle.arcbench_core.specs.Line.{step_named, step_of, limit_of};
@@ -9,35 +8,20 @@ use crate::lines::parts_at;
 use crate::numbers::number_of;
 use arcstr::count::Step;
 
-/// Whether the bytes are those of the text.
-fn is_text(bytes: &[u8], text: &str) -> bool
-    ensures { result ≡ bytes_eq bytes.now text.now }
-{
-    bytes == text.as_bytes()
-}
-
 /// The step that a command stands for, on this handle.
-fn step_named(word: &[u8], handle: u64) -> Option<Step>
-    ensures { result ≡ step_named word.now handle }
+fn step_named(command: &[u8], handle: u64) -> Option<Step>
+    ensures { result ≡ step_named command.now handle }
 {
-    if is_text(word, "look") {
-        Some(Step::Look(handle))
-    } else if is_text(word, "clone") {
-        Some(Step::Clone(handle))
-    } else if is_text(word, "begin") {
-        Some(Step::Begin(handle))
-    } else if is_text(word, "sub") {
-        Some(Step::Sub(handle))
-    } else if is_text(word, "back") {
-        Some(Step::Back(handle))
-    } else if is_text(word, "leak") {
-        Some(Step::Leak(handle))
-    } else if is_text(word, "raw") {
-        Some(Step::IntoRaw(handle))
-    } else if is_text(word, "unraw") {
-        Some(Step::FromRaw(handle))
-    } else {
-        None
+    match command {
+        b"look" => Some(Step::Look(handle)),
+        b"clone" => Some(Step::Clone(handle)),
+        b"begin" => Some(Step::Begin(handle)),
+        b"sub" => Some(Step::Sub(handle)),
+        b"back" => Some(Step::Back(handle)),
+        b"leak" => Some(Step::Leak(handle)),
+        b"raw" => Some(Step::IntoRaw(handle)),
+        b"unraw" => Some(Step::FromRaw(handle)),
+        _ => None,
     }
 }
 
@@ -54,11 +38,11 @@ pub(crate) fn step_of(line: &[u8]) -> Option<Step>
 fn read_step(line: &[u8]) -> Option<Step>
     ensures { result ≡ step_of line.now }
 {
-    if is_text(line, "make") {
+    if line == b"make".as_slice() {
         return Some(Step::Make);
     }
-    let (word, number) = parts_at(line, b' ');
-    step_named(word, number_of(number)?)
+    let (command, number) = parts_at(line, b' ');
+    step_named(command, number_of(number)?)
 }
 
 /// The limit that a first line `limit NUMBER` sets. Any other line sets none.
@@ -67,8 +51,8 @@ pub(crate) fn limit_of(line: &[u8]) -> Option<u64>
     ensures written { IfSome result (λ n. line.now ≡ limit_text n) }
     ensures read { (n : ℕ) → n < 2 ^ 64 → line.now ≡ limit_text n → result ≡ Some n }
 {
-    let (word, number) = parts_at(line, b' ');
-    if is_text(word, "limit") {
+    let (command, number) = parts_at(line, b' ');
+    if command == b"limit".as_slice() {
         number_of(number)
     } else {
         None

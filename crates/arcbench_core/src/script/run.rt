@@ -3,7 +3,7 @@ ghost use Rattle.std.specs.Prelude.{◌≡◌, ◌≢◌, ◌↔◌, ◌⊎◌, 
 ghost use Rattle.std.specs.Io.KnownBytes.{IsAtEnd};
 ghost use Rattle.arcstr_count.specs.declared.faults.RunFault.TheVariants.{LimitTooLarge as RunLimitTooLarge};
 ghost use Rattle.arcbench_core.specs.Script.{answer_to};
-ghost use Rattle.arcbench_core.specs.Copy.{WritesAnswer, copy_fault_number, copy_fault_text, copy_fault_from};
+ghost use Rattle.arcbench_core.specs.ScriptRun.{WritesAnswer, copy_fault_number, copy_fault_text, copy_fault_from};
 
 use super::answers::answer;
 use crate::input::read_to_end;
@@ -90,7 +90,7 @@ impl From<RunFault> for CopyFault {
 /// `answer`; while writing, `Io`. All allocations come before the first write, so only a fault of writing
 /// can leave a part of the answer written.
 ///
-/// The test `copies_the_answer_to_a_script` catches a body that always answers `Memory`.
+/// The test `writes_the_answer_to_a_script` catches a body that always answers `Memory`.
 ///
 /// ```
 /// let mut written = Vec::new(rt.alloc());
