@@ -8,8 +8,6 @@ mod examples;
 #[cfg(test)]
 mod fakes;
 #[cfg(test)]
-mod lists;
-#[cfg(test)]
 mod pool;
 #[cfg(test)]
 mod ports;
