@@ -11,15 +11,15 @@ use std::{env, io};
 
 fn main(rt: HostRuntime) -> ExitCode {
     let mut errors = rt.stderr();
-    let status = match words(&rt) {
+    let status = match arguments(&rt) {
         Err(error) => program::serve_without_words(&mut errors, &error),
-        Ok(words) => {
+        Ok(arguments) => {
             let mut input = Port::new(rt.stdin());
             let mut output = Port::new(rt.stdout());
             program::serve(
                 &rt,
                 rt.alloc(),
-                &words,
+                &arguments,
                 &mut input,
                 &mut output,
                 &mut errors,
@@ -30,6 +30,6 @@ fn main(rt: HostRuntime) -> ExitCode {
 }
 
 /// The arguments after the program's name.
-fn words<R: Env + AllocGlobal>(rt: &R) -> io::Result<Vec<String>> {
+fn arguments<R: Env + AllocGlobal>(rt: &R) -> io::Result<Vec<String>> {
     Ok(env::args(rt)?.skip(1).collect(rt.alloc())?)
 }

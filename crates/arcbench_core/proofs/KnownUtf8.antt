@@ -3,9 +3,7 @@ use Rattle.std.proofs.Common.{◌≡◌, ◌≢◌, ◌↔◌, ℕ, List, refl, 
 use Rattle.std.specs.Prelude.{Option, None, Some, Result, Ok, Err, IfSome, IfErr, OnOk}
 use Rattle.std.specs.Str.{IsUtf8}
 use Rattle.arcbench_core.specs.declared.program.Fault.{Fault}
-use Rattle.arcbench_core.specs.declared.program.Fault.TheVariants.{Usage, Copy, Pool, NotUtf8}
-use Rattle.arcbench_core.specs.declared.script.copies.CopyFault.TheVariants.{LimitTooLarge, Memory, Io}
-use Rattle.arcbench_core.specs.declared.pool.PoolFault.TheVariants.{Memory as PoolMemory, NoThread}
+use Rattle.arcbench_core.specs.declared.program.Fault.TheVariants.{Usage, LimitTooLarge, Memory, Io, NoThread, NotUtf8}
 use Rattle.arcbench_core.specs.Program.{status_of}
 
 -- if the input is known, the sign holds exactly if the input is not UTF-8
@@ -25,18 +23,17 @@ says_of_input (Some bytes) read P same says = subst (λ (b : List ℕ). P ↔ ¬
 -- the status 6 stands for the fault `NotUtf8`
 pub says_by_status : (known : Option (List ℕ)) (done : Result (Unit {0}) Fault) (status : ℕ) → OnOk done (status ≡ 0)
     → IfErr done (λ fault. status ≡ status_of fault)
-    → (done ≢ Err (Copy Memory) → done ≢ Err (Copy Io) → SaysNotUtf8 known (done ≡ Err NotUtf8))
+    → (done ≢ Err Memory → done ≢ Err Io → SaysNotUtf8 known (done ≡ Err NotUtf8))
     → status ≢ 3 → status ≢ 4 → SaysNotUtf8 known (status ≡ 6)
 says_by_status known (Ok u) status ok err says no_memory no_io =
     same_sign known _ _ (says (λ e. cc) (λ e. cc)) (λ six. cc) (λ e. absurd (cc))
 says_by_status known (Err Usage) status ok err says no_memory no_io =
     same_sign known _ _ (says (λ e. cc) (λ e. cc)) (λ six. cc) (λ e. absurd (cc))
-says_by_status known (Err (Copy LimitTooLarge)) status ok err says no_memory no_io =
+says_by_status known (Err LimitTooLarge) status ok err says no_memory no_io =
     same_sign known _ _ (says (λ e. cc) (λ e. cc)) (λ six. cc) (λ e. absurd (cc))
-says_by_status known (Err (Copy Memory)) status ok err says no_memory no_io = absurd (no_memory err)
-says_by_status known (Err (Copy Io)) status ok err says no_memory no_io = absurd (no_io err)
-says_by_status known (Err (Pool PoolMemory)) status ok err says no_memory no_io = absurd (no_memory err)
-says_by_status known (Err (Pool NoThread)) status ok err says no_memory no_io =
+says_by_status known (Err Memory) status ok err says no_memory no_io = absurd (no_memory err)
+says_by_status known (Err Io) status ok err says no_memory no_io = absurd (no_io err)
+says_by_status known (Err NoThread) status ok err says no_memory no_io =
     same_sign known _ _ (says (λ e. cc) (λ e. cc)) (λ six. cc) (λ e. absurd (cc))
 says_by_status known (Err NotUtf8) status ok err says no_memory no_io =
     same_sign known _ _ (says (λ e. cc) (λ e. cc)) (λ six. refl) (λ e. err)

@@ -1,5 +1,5 @@
-pub mod Lines
-pub mod Numbers
+pub mod FirstLines
+pub mod ParsedNumbers
 pub mod WorkedExamples
 pub mod JoinedAnswers
 pub mod AnsweredLines

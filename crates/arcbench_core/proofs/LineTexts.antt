@@ -13,9 +13,9 @@ use Rattle.std.proofs.lemmas.Slice.Eq.{bytes_eq-Decides}
 use Rattle.std.proofs.Math.ListN.{drop_of_length-le}
 use Rattle.arcstr_count.specs.declared.steps.Step.{Step}
 use Rattle.arcstr_count.specs.declared.steps.Step.TheVariants.{Make, Look, Clone, Begin, Sub, Back, Leak, IntoRaw, FromRaw}
-use Rattle.arcbench_core.specs.Line.{word_of, after_word, is_decimal, has_idle_zero, number_of, step_named, step_of, limit_of}
+use Rattle.arcbench_core.specs.Line.{command_part, after_command, is_decimal, has_idle_zero, number_of, step_named, step_of, limit_of}
 use Rattle.arcbench_core.specs.LineText.{line_text, limit_text, HasHandle}
-use Rattle.arcbench_core.proofs.Numbers.{own, is_decimal-true, from_is_decimal}
+use Rattle.arcbench_core.proofs.ParsedNumbers.{own, is_decimal-true, from_is_decimal}
 
 -- ---- numbers
 
@@ -68,50 +68,50 @@ same_bytes : (xs ys : List ℕ) → bytes_eq xs ys ≡ true → xs ≡ ys
 same_bytes xs ys e = (bytes_eq-Decides xs ys).0 e
 
 -- a line with bytes after its command is the command, a space and those bytes
-word_and_rest : (line : List ℕ) → 0 < length (after_word line) → line ≡ word_of line ++ 32 ∷ after_word line
-word_and_rest line some =
+command_and_rest : (line : List ℕ) → 0 < length (after_command line) → line ≡ command_part line ++ 32 ∷ after_command line
+command_and_rest line some =
     elim (cases_lt (position_or_len (λ b. b == 32) line) (length line)) [
       | inl there ↦
           let stops : not (get_or line (position_or_len (λ b. b == 32) line) 0 == 32) ≡ false = prefix_len_stops (λ b. not (b == 32)) line 0 there in
           let space : get_or line (position_or_len (λ b. b == 32) line) 0 ≡ 32 = eqb-true _ _ (not-false _ stops) in
-          split_at_first (λ b. b == 32) line 0 there ∙ ap (λ b. word_of line ++ b ∷ after_word line) space
+          split_at_first (λ b. b == 32) line 0 there ∙ ap (λ b. command_part line ++ b ∷ after_command line) space
       | inr absent ↦
           let past : length line ≤ position_or_len (λ b. b == 32) line + 1 = omega arith in
-          let none : after_word line ≡ [] = drop_of_length-le line past in
+          let none : after_command line ≡ [] = drop_of_length-le line past in
           absurd (omega (arith, ap length none))
     ]
 
-number_after : (line : List ℕ) (n : ℕ) → number_of (after_word line) ≡ Some n → line ≡ word_of line ++ 32 ∷ decimal n
+number_after : (line : List ℕ) (n : ℕ) → number_of (after_command line) ≡ Some n → line ≡ command_part line ++ 32 ∷ decimal n
 number_after line n e =
-    let number = number_of-Some (after_word line) n e in
-    let some : 0 < length (after_word line) = rw number.0 (decimal_nonempty n number.1) in
-    word_and_rest line some ∙ ap (λ rest. word_of line ++ 32 ∷ rest) number.0
+    let number = number_of-Some (after_command line) n e in
+    let some : 0 < length (after_command line) = rw number.0 (decimal_nonempty n number.1) in
+    command_and_rest line some ∙ ap (λ rest. command_part line ++ 32 ∷ rest) number.0
 
 -- the commands of steps
-step_named-Some : (word : List ℕ) (h : ℕ) (step : Step) → step_named word h ≡ Some step → word ++ 32 ∷ decimal h ≡ line_text step
-step_named-Some word h step e =
-    elim (chosen (bytes_eq word (codes "look")) (Look h) step _ e) [
+step_named-Some : (command : List ℕ) (h : ℕ) (step : Step) → step_named command h ≡ Some step → command ++ 32 ∷ decimal h ≡ line_text step
+step_named-Some command h step e =
+    elim (chosen (bytes_eq command (codes "look")) (Look h) step _ e) [
       | inl c ↦ named (codes "look") c.0 ∙ ap line_text c.1
       | inr e ↦
-          elim (chosen (bytes_eq word (codes "clone")) (Clone h) step _ e) [
+          elim (chosen (bytes_eq command (codes "clone")) (Clone h) step _ e) [
             | inl c ↦ named (codes "clone") c.0 ∙ ap line_text c.1
             | inr e ↦
-                elim (chosen (bytes_eq word (codes "begin")) (Begin h) step _ e) [
+                elim (chosen (bytes_eq command (codes "begin")) (Begin h) step _ e) [
                   | inl c ↦ named (codes "begin") c.0 ∙ ap line_text c.1
                   | inr e ↦
-                      elim (chosen (bytes_eq word (codes "sub")) (Sub h) step _ e) [
+                      elim (chosen (bytes_eq command (codes "sub")) (Sub h) step _ e) [
                         | inl c ↦ named (codes "sub") c.0 ∙ ap line_text c.1
                         | inr e ↦
-                            elim (chosen (bytes_eq word (codes "back")) (Back h) step _ e) [
+                            elim (chosen (bytes_eq command (codes "back")) (Back h) step _ e) [
                               | inl c ↦ named (codes "back") c.0 ∙ ap line_text c.1
                               | inr e ↦
-                                  elim (chosen (bytes_eq word (codes "leak")) (Leak h) step _ e) [
+                                  elim (chosen (bytes_eq command (codes "leak")) (Leak h) step _ e) [
                                     | inl c ↦ named (codes "leak") c.0 ∙ ap line_text c.1
                                     | inr e ↦
-                                        elim (chosen (bytes_eq word (codes "raw")) (IntoRaw h) step _ e) [
+                                        elim (chosen (bytes_eq command (codes "raw")) (IntoRaw h) step _ e) [
                                           | inl c ↦ named (codes "raw") c.0 ∙ ap line_text c.1
                                           | inr e ↦
-                                              elim (chosen (bytes_eq word (codes "unraw")) (FromRaw h) step _ e) [
+                                              elim (chosen (bytes_eq command (codes "unraw")) (FromRaw h) step _ e) [
                                                 | inl c ↦ named (codes "unraw") c.0 ∙ ap line_text c.1
                                                 | inr e ↦
                                                     absurd cc
@@ -124,8 +124,8 @@ step_named-Some word h step e =
           ]
     ]
   where
-    named : (text : List ℕ) → bytes_eq word text ≡ true → word ++ 32 ∷ decimal h ≡ text ++ 32 ∷ decimal h
-    named text same = ap (λ w. w ++ 32 ∷ decimal h) (same_bytes word text same)
+    named : (text : List ℕ) → bytes_eq command text ≡ true → command ++ 32 ∷ decimal h ≡ text ++ 32 ∷ decimal h
+    named text same = ap (λ w. w ++ 32 ∷ decimal h) (same_bytes command text same)
 
 -- ---- lines
 
@@ -138,8 +138,8 @@ step_of-Some line step e =
     elim (chosen (bytes_eq line (codes "make")) Make step _ e) [
       | inl c ↦ same_bytes line (codes "make") c.0 ∙ ap line_text c.1
       | inr e ↦
-          let found = found_by (λ h. step_named (word_of line) h) (number_of (after_word line)) step e in
-          number_after line found.0 found.1 ∙ step_named-Some (word_of line) found.0 step found.2
+          let found = found_by (λ h. step_named (command_part line) h) (number_of (after_command line)) step e in
+          number_after line found.0 found.1 ∙ step_named-Some (command_part line) found.0 step found.2
     ]
 
 pub step_of-line_text : (step : Step) → HasHandle step → step_of (line_text step) ≡ Some step
@@ -154,10 +154,10 @@ step_of-line_text (IntoRaw n) h = rw (number_of-decimal n h) refl
 step_of-line_text (FromRaw n) h = rw (number_of-decimal n h) refl
 
 pub limit_of-Some : (line : List ℕ) (n : ℕ) → limit_of line ≡ Some n → line ≡ limit_text n
-limit_of-Some line n e = limit_by (bytes_eq (word_of line) (codes "limit")) refl e
+limit_of-Some line n e = limit_by (bytes_eq (command_part line) (codes "limit")) refl e
   where
-    limit_by : (b : Bool) → bytes_eq (word_of line) (codes "limit") ≡ b → (if b then number_of (after_word line) else None) ≡ Some n → line ≡ limit_text n
-    limit_by true same e = number_after line n e ∙ ap (λ w. w ++ 32 ∷ decimal n) (same_bytes (word_of line) (codes "limit") same)
+    limit_by : (b : Bool) → bytes_eq (command_part line) (codes "limit") ≡ b → (if b then number_of (after_command line) else None) ≡ Some n → line ≡ limit_text n
+    limit_by true same e = number_after line n e ∙ ap (λ w. w ++ 32 ∷ decimal n) (same_bytes (command_part line) (codes "limit") same)
     limit_by false same e = absurd cc
 
 pub limit_of-limit_text : (n : ℕ) → n < 2 ^ 64 → limit_of (limit_text n) ≡ Some n

@@ -61,9 +61,9 @@ bad_lines : answer_to (codes "limit 5\nmake\nlook 0\nlook  0\n\nmake 1\nlook 9\n
 unfolding digits
 bad_lines = refl
 
-all_words : answer_to (codes "limit 5\nmake\nraw 0\nlook 0\nunraw 0\nleak 0\nclone 0\nbegin 1\nlook 0\nback 0\nmake\nbegin 2\nsub 2\nback 2\n") ≡ Ok (codes "made 0\nraw\nrefused 5 IsRaw\nunraw\nmarked\nhandle 1\nended\nstatic\nrefused 4 NotOwing\nmade 2\nlooked\nowes\ngiven\n")
+all_commands : answer_to (codes "limit 5\nmake\nraw 0\nlook 0\nunraw 0\nleak 0\nclone 0\nbegin 1\nlook 0\nback 0\nmake\nbegin 2\nsub 2\nback 2\n") ≡ Ok (codes "made 0\nraw\nrefused 5 IsRaw\nunraw\nmarked\nhandle 1\nended\nstatic\nrefused 4 NotOwing\nmade 2\nlooked\nowes\ngiven\n")
 unfolding digits
-all_words = refl
+all_commands = refl
 
 empty_script : answer_to [] ≡ Ok (codes "bad limit\n")
 empty_script = refl

@@ -3,7 +3,7 @@ pub mod LineText
 pub mod Reply
 pub mod Script
 pub mod Port
-pub mod Copy
+pub mod ScriptRun
 pub mod Program
 pub mod Pool
 pub mod Threads

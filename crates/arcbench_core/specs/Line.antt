@@ -22,12 +22,12 @@ lines_of bytes = without_empty_last (slice_split (λ b. b == 10) bytes)
 -- ---- commands and numbers
 
 -- the command of a line: what is before its first space
-abbrev pub word_of : List ℕ → List ℕ
-word_of line = before_first (λ b. b == 32) line
+abbrev pub command_part : List ℕ → List ℕ
+command_part line = before_first (λ b. b == 32) line
 
 -- what is after the first space of a line
-abbrev pub after_word : List ℕ → List ℕ
-after_word line = after_first (λ b. b == 32) line
+abbrev pub after_command : List ℕ → List ℕ
+after_command line = after_first (λ b. b == 32) line
 
 -- at least one decimal digit, with a value below 2 ^ 64
 abbrev pub is_decimal : List ℕ → Bool
@@ -45,23 +45,23 @@ number_of text = if is_decimal text && not (has_idle_zero text) then Some (digit
 
 -- the step that a command stands for, on a handle
 abbrev pub step_named : List ℕ → ℕ → Option Step
-step_named word h =
-    if bytes_eq word (codes "look") then Some (Look h)
-    else (if bytes_eq word (codes "clone") then Some (Clone h)
-    else (if bytes_eq word (codes "begin") then Some (Begin h)
-    else (if bytes_eq word (codes "sub") then Some (Sub h)
-    else (if bytes_eq word (codes "back") then Some (Back h)
-    else (if bytes_eq word (codes "leak") then Some (Leak h)
-    else (if bytes_eq word (codes "raw") then Some (IntoRaw h)
-    else (if bytes_eq word (codes "unraw") then Some (FromRaw h)
+step_named command h =
+    if bytes_eq command (codes "look") then Some (Look h)
+    else (if bytes_eq command (codes "clone") then Some (Clone h)
+    else (if bytes_eq command (codes "begin") then Some (Begin h)
+    else (if bytes_eq command (codes "sub") then Some (Sub h)
+    else (if bytes_eq command (codes "back") then Some (Back h)
+    else (if bytes_eq command (codes "leak") then Some (Leak h)
+    else (if bytes_eq command (codes "raw") then Some (IntoRaw h)
+    else (if bytes_eq command (codes "unraw") then Some (FromRaw h)
     else None)))))))
 
 -- the step of a line: `make`, or a command, one space, and the number of a handle; any other line has none
 abbrev pub step_of : List ℕ → Option Step
 step_of line =
     if bytes_eq line (codes "make") then Some Make
-    else option_and_then (λ h. step_named (word_of line) h) (number_of (after_word line))
+    else option_and_then (λ h. step_named (command_part line) h) (number_of (after_command line))
 
 -- the limit that a first line `limit NUMBER` sets; any other line sets none
 abbrev pub limit_of : List ℕ → Option ℕ
-limit_of line = if bytes_eq (word_of line) (codes "limit") then number_of (after_word line) else None
+limit_of line = if bytes_eq (command_part line) (codes "limit") then number_of (after_command line) else None

@@ -7,10 +7,10 @@ use Rattle.std.specs.Io.KnownBytes.{Appends}
 use Rattle.arcbench_core.specs.declared.program.Command.{Command}
 use Rattle.arcbench_core.specs.declared.program.Command.TheVariants.{Script, Threads, Tokens}
 use Rattle.arcbench_core.specs.declared.program.Fault.{Fault}
-use Rattle.arcbench_core.specs.declared.program.Fault.TheVariants.{Usage, Copy, Pool, NotUtf8}
-use Rattle.arcbench_core.specs.declared.script.copies.CopyFault.TheVariants.{LimitTooLarge, Memory, Io}
-use Rattle.arcbench_core.specs.declared.pool.PoolFault.TheVariants.{Memory as PoolMemory, NoThread}
-use Rattle.arcbench_core.specs.Copy.{WritesAnswer}
+use Rattle.arcbench_core.specs.declared.program.Fault.TheVariants.{Usage, LimitTooLarge, Memory, Io, NoThread, NotUtf8}
+use Rattle.arcbench_core.specs.declared.script.run.CopyFault.{CopyFault}
+use Rattle.arcbench_core.specs.declared.script.run.CopyFault.TheVariants.{LimitTooLarge as CopyLimitTooLarge, Memory as CopyMemory, Io as CopyIo}
+use Rattle.arcbench_core.specs.ScriptRun.{WritesAnswer}
 use Rattle.arcbench_core.specs.Line.{number_of}
 use Rattle.arcbench_core.specs.Threads.{threads_answer}
 use Rattle.arcbench_core.specs.TokenLines.{WritesTokens}
@@ -21,40 +21,40 @@ lawful_count n = if nat_le 1 n && nat_le n 64 then Some n else None
 
 -- the number of workers that an argument means: a NUMBER from 1 to 64
 abbrev pub worker_count : List ℕ → Option ℕ
-worker_count word = option_and_then (λ n. lawful_count n) (number_of word)
+worker_count argument = option_and_then (λ n. lawful_count n) (number_of argument)
 
 -- the command that a first argument and a number of workers mean: `threads` or `tokens`
 abbrev pub command_for : List ℕ → Option ℕ → Option Command
-command_for word count =
-    if bytes_eq word (codes "threads") then option_map (λ n. Threads n) count
-    else (if bytes_eq word (codes "tokens") then option_map (λ n. Tokens n) count else None)
+command_for command count =
+    if bytes_eq command (codes "threads") then option_map (λ n. Threads n) count
+    else (if bytes_eq command (codes "tokens") then option_map (λ n. Tokens n) count else None)
 
 -- the command that arguments mean: `script` alone, or `threads` or `tokens` and a number of workers; other arguments mean none
 abbrev pub command_of : List (List ℕ) → Option Command
 command_of [] = None
-command_of (word ∷ []) = if bytes_eq word (codes "script") then Some Script else None
-command_of (word ∷ count ∷ []) = command_for word (worker_count count)
-command_of (word ∷ next ∷ third ∷ more) = None
+command_of (command ∷ []) = if bytes_eq command (codes "script") then Some Script else None
+command_of (command ∷ count ∷ []) = command_for command (worker_count count)
+command_of (command ∷ next ∷ third ∷ more) = None
 
 -- the command that the program's arguments mean
 abbrev pub command_in : List (String Global) → Option Command
-command_in words = command_of (map (λ word. string_bytes word) words)
+command_in arguments = command_of (map (λ argument. string_bytes argument) arguments)
 
 -- the arguments mean `script`
 abbrev pub IsForScript : List (String Global) → Type 0
-IsForScript words = command_in words ≡ Some Script
+IsForScript arguments = command_in arguments ≡ Some Script
 
 -- the arguments mean `threads` and a number of workers
 abbrev pub IsForThreads : List (String Global) → Type 0
-IsForThreads words = (n : ℕ) × (command_in words ≡ Some (Threads n))
+IsForThreads arguments = (n : ℕ) × (command_in arguments ≡ Some (Threads n))
 
 -- the arguments mean `tokens` and a number of workers
 abbrev pub IsForTokens : List (String Global) → Type 0
-IsForTokens words = (n : ℕ) × (command_in words ≡ Some (Tokens n))
+IsForTokens arguments = (n : ℕ) × (command_in arguments ≡ Some (Tokens n))
 
 -- the arguments mean a command that reads its input: `script`, or `tokens` and a number of workers
 abbrev pub ReadsInput : List (String Global) → Type 0
-ReadsInput words = IsForScript words ⊎ IsForTokens words
+ReadsInput arguments = IsForScript arguments ⊎ IsForTokens arguments
 
 -- a command for threads or tokens has from 1 to 64 workers
 abbrev pub HasLawfulCount : Command → Type 0
@@ -69,30 +69,25 @@ IsDone Script input old new = IfSome input (λ script. WritesAnswer script old n
 IsDone (Threads n) input old new = Appends old new (threads_answer n)
 IsDone (Tokens n) input old new = IfSome input (λ bytes. WritesTokens bytes old new)
 
--- what a command for threads can fail with: a fault of the pool or of writing
+-- what a command for threads can fail with
 abbrev pub IsFaultOfThreads : Fault → Type 0
-IsFaultOfThreads Usage = ⊥
-IsFaultOfThreads (Copy LimitTooLarge) = ⊥
-IsFaultOfThreads (Copy Memory) = ⊥
-IsFaultOfThreads (Copy Io) = Unit {0}
-IsFaultOfThreads (Pool fault) = Unit {0}
-IsFaultOfThreads NotUtf8 = ⊥
+IsFaultOfThreads fault = (fault ≡ Memory) ⊎ (fault ≡ Io) ⊎ (fault ≡ NoThread)
 
--- what a command for tokens can fail with: out of memory, a fault of reading or writing, or an input that is not UTF-8
+-- what a command for tokens can fail with
 abbrev pub IsFaultOfTokens : Fault → Type 0
-IsFaultOfTokens Usage = ⊥
-IsFaultOfTokens (Copy LimitTooLarge) = ⊥
-IsFaultOfTokens (Copy Memory) = Unit {0}
-IsFaultOfTokens (Copy Io) = Unit {0}
-IsFaultOfTokens (Pool fault) = ⊥
-IsFaultOfTokens NotUtf8 = Unit {0}
+IsFaultOfTokens fault = (fault ≡ Memory) ⊎ (fault ≡ Io) ⊎ (fault ≡ NotUtf8)
+
+-- the fault of the program after a fault of a run of a script
+abbrev pub fault_of : CopyFault → Fault
+fault_of CopyLimitTooLarge = LimitTooLarge
+fault_of CopyMemory = Memory
+fault_of CopyIo = Io
 
 -- the status of the program after a fault
 abbrev pub status_of : Fault → ℕ
 status_of Usage = 1
-status_of (Copy LimitTooLarge) = 2
-status_of (Copy Memory) = 3
-status_of (Copy Io) = 4
-status_of (Pool PoolMemory) = 3
-status_of (Pool NoThread) = 5
+status_of LimitTooLarge = 2
+status_of Memory = 3
+status_of Io = 4
+status_of NoThread = 5
 status_of NotUtf8 = 6

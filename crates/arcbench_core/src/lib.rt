@@ -2,6 +2,9 @@
 //! its arguments, a reader and two writers.
 #![tactic(auto)]
 
+mod input;
+mod lines;
+mod numbers;
 pub mod pool;
 pub mod port;
 pub mod program;

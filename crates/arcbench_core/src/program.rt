@@ -7,12 +7,14 @@ ghost use Rattle.arcstr_count.specs.declared.faults.RunFault.TheVariants.{LimitT
 ghost use Rattle.arcbench_core.specs.Script.{answer_to};
 ghost use Rattle.arcbench_core.specs.Threads.{ReadSharedText, threads_answer};
 ghost use Rattle.arcbench_core.specs.TokenLines.{WritesTokens};
-ghost use Rattle.arcbench_core.specs.Program.{command_in, worker_count, status_of, HasLawfulCount, IsDone, ReadsInput};
+ghost use Rattle.arcbench_core.specs.Program.{command_in, worker_count, fault_of, status_of, HasLawfulCount, IsDone, ReadsInput};
 ghost use Rattle.arcbench_core.specs.Program.{IsForScript, IsForThreads, IsForTokens, IsFaultOfThreads, IsFaultOfTokens};
 
+use crate::input::read_to_end;
+use crate::numbers::number_of;
 use crate::pool::PoolFault;
 use crate::port::Port;
-use crate::script::{CopyFault, copy, number_of, read_to_end};
+use crate::script::{CopyFault, copy};
 use crate::tokens::TokensFault;
 use crate::{threads, tokens};
 use arcstr::ArcStr;
@@ -35,16 +37,32 @@ pub(crate) enum Command {
 }
 
 /// Why the program ends with a status above 0, with the line that it prints.
-#[derive(Debug, Drop, Error)]
+#[derive(Clone, Copy, Debug, PartialEq, Eq, Error)]
 pub(crate) enum Fault {
     #[error("usage: arcbench script, arcbench threads N, arcbench tokens N")]
     Usage,
-    #[error("arcbench: {0}")]
-    Copy(CopyFault),
-    #[error("arcbench: {0}")]
-    Pool(PoolFault),
+    #[error("arcbench: limit too large")]
+    LimitTooLarge,
+    #[error("arcbench: out of memory")]
+    Memory,
+    #[error("arcbench: io")]
+    Io,
+    #[error("arcbench: no thread")]
+    NoThread,
     #[error("arcbench: not UTF-8")]
     NotUtf8,
+}
+
+impl From<CopyFault> for Fault {
+    ghost from_gives = { λ fault given. given ≡ fault_of fault };
+
+    fn from(fault: CopyFault) -> Fault {
+        match fault {
+            CopyFault::LimitTooLarge => Fault::LimitTooLarge,
+            CopyFault::Memory => Fault::Memory,
+            CopyFault::Io => Fault::Io,
+        }
+    }
 }
 
 /// Runs the program, and returns its status: 0 if it is done, 1 for arguments that mean no command, 2 for a
@@ -58,16 +76,16 @@ pub(crate) enum Fault {
 /// `two_workers_print_their_texts` and `prints_the_words_of_each_line` catch a body that always answers 3 to a command.
 ///
 /// ```
-/// let words = [String::from_str(rt.alloc(), "script")?];
+/// let args = [String::from_str(rt.alloc(), "script")?];
 /// let mut input = Port::new(b"limit 5\nmake\n".as_slice());
 /// let (mut out, mut errors) = (Port::new(Vec::new(rt.alloc())), Vec::new(rt.alloc()));
-/// let status = serve(&rt, rt.alloc(), &words, &mut input, &mut out, &mut errors);
+/// let status = serve(&rt, rt.alloc(), &args, &mut input, &mut out, &mut errors);
 /// assert_eq!(rt; status, 0);
 /// ```
 pub fn serve<H, A: Allocator + Copy, R: Read, W: Write, E: Write>(
     rt: &H,
     alloc: A,
-    words: &[String],
+    arguments: &[String],
     input: &mut Port<R>,
     output: &mut Port<W>,
     errors: &mut E,
@@ -78,29 +96,29 @@ where
     requires output_is_sound { output.old.failed ≡ false }
 
     ensures statuses { result ≤ 6 }
-    ensures usage { (result ≡ 1) ↔ (command_in words.now ≡ None) }
-    ensures done { result ≡ 0 → IfSome (command_in words.now) (λ command. IsDone command
+    ensures usage { (result ≡ 1) ↔ (command_in arguments.now ≡ None) }
+    ensures done { result ≡ 0 → IfSome (command_in arguments.now) (λ command. IsDone command
         (R.remaining input.old.value) (W.contents output.old.value) (W.contents output.new.value)) }
-    ensures at_end { result ≡ 0 → ReadsInput words.now → IsAtEnd (R.remaining input.new.value) }
-    ensures too_large { result ≢ 3 → result ≢ 4 → IsForScript words.now → IfSome (R.remaining input.old.value)
+    ensures at_end { result ≡ 0 → ReadsInput arguments.now → IsAtEnd (R.remaining input.new.value) }
+    ensures too_large { result ≢ 3 → result ≢ 4 → IsForScript arguments.now → IfSome (R.remaining input.old.value)
         (λ script. (result ≡ 2) ↔ (answer_to script ≡ Err LimitTooLarge)) }
-    ensures too_large_of_scripts { result ≡ 2 → IsForScript words.now }
-    ensures memory { result ≡ 3 → IsSome (command_in words.now) }
+    ensures too_large_of_scripts { result ≡ 2 → IsForScript arguments.now }
+    ensures memory { result ≡ 3 → IsSome (command_in arguments.now) }
     ensures io { (result ≡ 4) ↔ (IsTrue input.new.failed ⊎ IsTrue output.new.failed) }
-    ensures no_thread { result ≡ 5 → IsForThreads words.now }
-    ensures not_utf8 { result ≢ 3 → result ≢ 4 → IsForTokens words.now → IfSome (R.remaining input.old.value)
+    ensures no_thread { result ≡ 5 → IsForThreads arguments.now }
+    ensures not_utf8 { result ≢ 3 → result ≢ 4 → IsForTokens arguments.now → IfSome (R.remaining input.old.value)
         (λ bytes. (result ≡ 6) ↔ ¬ (IsUtf8 bytes)) }
-    ensures not_utf8_of_tokens { result ≡ 6 → IsForTokens words.now }
+    ensures not_utf8_of_tokens { result ≡ 6 → IsForTokens arguments.now }
 
     // What stays the same.
-    ensures unread { ¬ (ReadsInput words.now) → input.new ≡ input.old }
+    ensures unread { ¬ (ReadsInput arguments.now) → input.new ≡ input.old }
     ensures unwritten { result ≢ 0 → result ≢ 4 → output.new ≡ output.old }
     ensures unwritten_unread { IsTrue input.new.failed → output.new ≡ output.old }
     ensures silent { result ≡ 0 → errors.new ≡ errors.old }
 {
-    let done = match command_of(words) {
+    let done = match command_of(arguments) {
         None => Err(Fault::Usage),
-        Some(Command::Script) => copy(alloc, input, output).map_err(Fault::Copy),
+        Some(Command::Script) => copy(alloc, input, output).map_err(Fault::from),
         Some(Command::Threads(workers)) => {
             let handles = threads::start(rt, rt.alloc(), workers);
             tell_threads(rt.alloc(), handles, output)
@@ -121,19 +139,20 @@ pub(crate) fn tell_threads<W: Write>(
     requires sound { output.old.failed ≡ false }
     ensures done { IfOk handles (λ all. OnOk result (Appends (W.contents output.old.value)
         (W.contents output.new.value) (threads_answer (vec_len all)))) }
-    ensures fault_of_the_pool { IfErr handles (λ fault. result ≡ Err (Fault.Pool fault)) }
-    ensures memory { OnOk handles (result ≢ Err (Fault.Pool PoolFault.NoThread)) }
+    ensures memory_of_the_pool { handles ≡ Err PoolFault.Memory → result ≡ Err Fault.Memory }
+    ensures no_thread { (result ≡ Err Fault.NoThread) ↔ (handles ≡ Err PoolFault.NoThread) }
     ensures fault { IfErr result IsFaultOfThreads }
-    ensures io { (result ≡ Err (Fault.Copy CopyFault.Io)) ↔ IsTrue output.new.failed }
-    ensures unwritten { IfErr result (λ fault. fault ≢ Fault.Copy CopyFault.Io → output.new ≡ output.old) }
+    ensures io { (result ≡ Err Fault.Io) ↔ IsTrue output.new.failed }
+    ensures unwritten { IfErr result (λ fault. fault ≢ Fault.Io → output.new ≡ output.old) }
 {
     let lines = match threads::answer(alloc, handles) {
         Ok(lines) => lines,
-        Err(fault) => return Err(Fault::Pool(fault)),
+        Err(PoolFault::Memory) => return Err(Fault::Memory),
+        Err(PoolFault::NoThread) => return Err(Fault::NoThread),
     };
     match output.write_all(&lines) {
         Ok(()) => Ok(()),
-        Err(_) => Err(Fault::Copy(CopyFault::Io)),
+        Err(_) => Err(Fault::Io),
     }
 }
 
@@ -156,24 +175,21 @@ where
         (λ bytes. WritesTokens bytes (W.contents output.old.value) (W.contents output.new.value))) }
     ensures at_end { OnOk result (IsAtEnd (R.remaining input.new.value)) }
     ensures fault { IfErr result IsFaultOfTokens }
-    ensures io { (result ≡ Err (Fault.Copy CopyFault.Io)) ↔ (IsTrue input.new.failed ⊎ IsTrue output.new.failed) }
-    ensures not_utf8 { result ≢ Err (Fault.Copy CopyFault.Memory) → result ≢ Err (Fault.Copy CopyFault.Io)
+    ensures io { (result ≡ Err Fault.Io) ↔ (IsTrue input.new.failed ⊎ IsTrue output.new.failed) }
+    ensures not_utf8 { result ≢ Err Fault.Memory → result ≢ Err Fault.Io
         → IfSome (R.remaining input.old.value) (λ bytes. (result ≡ Err Fault.NotUtf8) ↔ ¬ (IsUtf8 bytes)) }
-    ensures unwritten { IfErr result (λ fault. fault ≢ Fault.Copy CopyFault.Io → output.new ≡ output.old) }
+    ensures unwritten { IfErr result (λ fault. fault ≢ Fault.Io → output.new ≡ output.old) }
     ensures unwritten_unread { IsTrue input.new.failed → output.new ≡ output.old }
 {
-    let bytes = match read_to_end(alloc, input) {
-        Ok(bytes) => bytes,
-        Err(fault) => return Err(Fault::Copy(fault)),
-    };
+    let bytes = read_to_end(alloc, input)?;
     let lines = match tokens::answer(rt, alloc, workers, &bytes) {
         Ok(lines) => lines,
-        Err(TokensFault::Memory) => return Err(Fault::Copy(CopyFault::Memory)),
+        Err(TokensFault::Memory) => return Err(Fault::Memory),
         Err(TokensFault::NotUtf8) => return Err(Fault::NotUtf8),
     };
     match output.write_all(&lines) {
         Ok(()) => Ok(()),
-        Err(_) => Err(Fault::Copy(CopyFault::Io)),
+        Err(_) => Err(Fault::Io),
     }
 }
 
@@ -191,9 +207,9 @@ pub fn serve_without_words<E: Write>(errors: &mut E, error: &io::Error) -> u8
     ensures usage { (result ≡ 1) ↔ (error_kind error.now ≢ ErrorKind.OutOfMemory) }
 {
     if error.kind() == ErrorKind::OutOfMemory {
-        report(errors, &Fault::Copy(CopyFault::Memory))
+        report(errors, Fault::Memory)
     } else {
-        report(errors, &Fault::Usage)
+        report(errors, Fault::Usage)
     }
 }
 
@@ -205,37 +221,36 @@ pub(crate) fn status_after<E: Write>(errors: &mut E, done: Result<(), Fault>) ->
 {
     match done {
         Ok(()) => 0,
-        Err(fault) => report(errors, &fault),
+        Err(fault) => report(errors, fault),
     }
 }
 
 /// Prints the line of a fault, and returns its status.
-fn report<E: Write>(errors: &mut E, fault: &Fault) -> u8
-    ensures { result ≡ status_of fault.now }
+fn report<E: Write>(errors: &mut E, fault: Fault) -> u8
+    ensures { result ≡ status_of fault }
 {
     let _ = writeln!(errors, "{fault}");
     match fault {
         Fault::Usage => 1,
-        Fault::Copy(CopyFault::LimitTooLarge) => 2,
-        Fault::Copy(CopyFault::Memory) => 3,
-        Fault::Copy(CopyFault::Io) => 4,
-        Fault::Pool(PoolFault::Memory) => 3,
-        Fault::Pool(PoolFault::NoThread) => 5,
+        Fault::LimitTooLarge => 2,
+        Fault::Memory => 3,
+        Fault::Io => 4,
+        Fault::NoThread => 5,
         Fault::NotUtf8 => 6,
     }
 }
 
 /// The command that the arguments mean; `None` for other arguments.
-fn command_of(words: &[String]) -> Option<Command>
-    ensures value { result ≡ command_in words.now }
+fn command_of(arguments: &[String]) -> Option<Command>
+    ensures value { result ≡ command_in arguments.now }
     ensures lawful { IfSome result HasLawfulCount }
 {
-    match words {
-        [word] if word.as_str() == "script" => Some(Command::Script),
-        [word, count] if word.as_str() == "threads" => {
+    match arguments {
+        [command] if command.as_str() == "script" => Some(Command::Script),
+        [command, count] if command.as_str() == "threads" => {
             worker_count(count.as_bytes()).map(Command::Threads)
         }
-        [word, count] if word.as_str() == "tokens" => {
+        [command, count] if command.as_str() == "tokens" => {
             worker_count(count.as_bytes()).map(Command::Tokens)
         }
         _ => None,
@@ -243,11 +258,11 @@ fn command_of(words: &[String]) -> Option<Command>
 }
 
 /// The number of workers that an argument means: a NUMBER from 1 to 64.
-fn worker_count(word: &[u8]) -> Option<usize>
-    ensures value { result ≡ worker_count word.now }
+fn worker_count(argument: &[u8]) -> Option<usize>
+    ensures value { result ≡ worker_count argument.now }
     ensures lawful { IfSome result (λ count. (1 ≤ count) × (count ≤ 64)) }
 {
-    match number_of(word) {
+    match number_of(argument) {
         Some(count) if 1 <= count && count <= 64 => Some(count as usize),
         _ => None,
     }

@@ -1,10 +1,9 @@
 //! Scripts of steps on counted blocks, and their answers.
+pub use crate::numbers::number_of;
 pub use answers::answer;
-pub(crate) use copies::read_to_end;
-pub use copies::{CopyFault, copy};
-pub use line::number_of;
+pub use run::{CopyFault, copy};
 
 mod answers;
-mod copies;
 mod line;
 mod reply;
+mod run;

@@ -27,6 +27,16 @@ pub enum TokensFault {
     NotUtf8,
 }
 
+impl From<AllocError> for TokensFault {
+    ghost use Rattle.arcbench_core.specs.declared.tokens.TokensFault.TheVariants.{Memory};
+
+    ghost from_gives = { λ _ given. given ≡ Memory };
+
+    fn from(_: AllocError) -> TokensFault {
+        TokensFault::Memory
+    }
+}
+
 /// The lines for the words of an input. Each line of the input, cut at byte 10, is a text. Each word of a
 /// text is a line `I A..B TEXT`, with the number of the text from 0, the byte offsets of the word, and its
 /// bytes. `workers` workers find the words.
@@ -52,32 +62,14 @@ where
     let Ok(text) = str::from_utf8(input) else {
         return Err(TokensFault::NotUtf8);
     };
-    match lines_of_words(rt, alloc, workers, text) {
-        Ok(lines) => Ok(lines.into_bytes()),
-        Err(_) => Err(TokensFault::Memory),
-    }
-}
-
-/// The same for an input that is UTF-8.
-fn lines_of_words<H, A: Allocator>(
-    rt: &H,
-    alloc: A,
-    workers: usize,
-    input: &str,
-) -> Result<String<A>, AllocError>
-where
-    H: Threads + Wait + Sync + AllocGlobal,
-    requires { (1 ≤ workers) × (workers ≤ 64) }
-    ensures { IfOk result (λ lines. IsTokenAnswer input.now (string_bytes lines)) }
-{
-    let texts = texts_of(rt.alloc(), input)?;
+    let texts = texts_of(rt.alloc(), text)?;
     let lists = tokens_all(rt, rt.alloc(), &texts, workers)?;
     let mut lines = String::new(alloc);
     push_lists(&mut lines, &lists)?;
-    Ok(lines)
+    Ok(lines.into_bytes())
 }
 
-/// A text for each line of the input, in order.
+/// A text for each line of the input, in order. A line that is too long for a text counts as out of memory, too.
 fn texts_of(alloc: Global, input: &str) -> Result<Vec<ArcStr>, AllocError>
     ensures { IfOk result (λ texts. texts_of texts.items ≡ lines_of input.now) }
 {
@@ -85,7 +77,10 @@ fn texts_of(alloc: Global, input: &str) -> Result<Vec<ArcStr>, AllocError>
     let mut rest = input;
     while !rest.is_empty() {
         let (line, later) = first_line(rest);
-        texts.push(text_of(alloc, line)?)?;
+        let Ok(text) = ArcStr::from_str(alloc, line) else {
+            return Err(AllocError);
+        };
+        texts.push(text)?;
         rest = later;
     }
     Ok(texts)
@@ -100,16 +95,6 @@ fn first_line(text: &str) -> (&str, &str)
     match text.split_once('\n') {
         Some(parts) => parts,
         None => (text, ""),
-    }
-}
-
-/// A text for a line. A line that is too long for a text counts as out of memory, too.
-fn text_of(alloc: Global, line: &str) -> Result<ArcStr, AllocError>
-    ensures { IfOk result (λ text. text.text ≡ line.now) }
-{
-    match ArcStr::from_str(alloc, line) {
-        Ok(text) => Ok(text),
-        Err(_) => Err(AllocError),
     }
 }
 

@@ -1,4 +1,5 @@
-//! Scripts with lines outside the grammar. `proofs/WorkedExamples.antt` computes the answers to other scripts.
+//! A script with each command and each reply, and scripts with lines outside the grammar. The library's `proofs/WorkedExamples.antt` computes the answers to
+//! other scripts, and that of `arcstr_count` the replies to lists of steps.
 use arcbench_core::script::answer;
 use std::process::Abort;
 use std::test::Fail;
@@ -9,6 +10,42 @@ fn expect<R: Abort + AllocGlobal>(rt: &R, script: &[u8], want: &str) {
         Ok(out) => assert_eq!(rt; out.as_slice(), want.as_bytes(), "{script:?}"),
         Err(fault) => panic!(rt; "{script:?}: {fault}"),
     }
+}
+
+/// Each line of a script under the limit 5, with its answer.
+const LINES: [(&str, &str); 20] = [
+    ("make", "made 0"),
+    ("look 0", "count 1"),
+    ("clone 0", "handle 1"),
+    ("raw 1", "raw"),
+    ("look 1", "refused 5 IsRaw"),
+    ("unraw 1", "unraw"),
+    ("unraw 1", "refused 6 NotRaw"),
+    ("sub 1", "refused 3 NotInDrop"),
+    ("back 1", "refused 4 NotOwing"),
+    ("begin 0", "looked"),
+    ("look 0", "refused 2 InDrop"),
+    ("sub 0", "left"),
+    ("look 0", "refused 1 NoHandle"),
+    ("begin 1", "looked"),
+    ("sub 1", "owes"),
+    ("back 1", "given"),
+    ("make", "made 2"),
+    ("leak 2", "marked"),
+    ("look 2", "static"),
+    ("begin 2", "ended"),
+];
+
+#[test]
+fn answers_each_command_with_each_reply(rt: HostRuntime) -> Result<(), Fail> {
+    let mut script = String::from_str(rt.alloc(), "limit 5\n")?;
+    let mut answers = String::new(rt.alloc());
+    for (line, answer) in LINES {
+        write!(script, "{line}\n")?;
+        write!(answers, "{answer}\n")?;
+    }
+    expect(&rt, script.as_bytes(), answers.as_str());
+    Ok(())
 }
 
 #[test]

@@ -90,10 +90,10 @@ fn port_write_all(rt: HostRuntime) -> Result<(), Fail> {
 
 #[test]
 fn program_serve(rt: HostRuntime) -> Result<(), Fail> {
-    let words = [String::from_str(rt.alloc(), "script")?];
+    let args = [String::from_str(rt.alloc(), "script")?];
     let mut input = Port::new(b"limit 5\nmake\n".as_slice());
     let (mut out, mut errors) = (Port::new(Vec::new(rt.alloc())), Vec::new(rt.alloc()));
-    let status = serve(&rt, rt.alloc(), &words, &mut input, &mut out, &mut errors);
+    let status = serve(&rt, rt.alloc(), &args, &mut input, &mut out, &mut errors);
     assert_eq!(rt; status, 0);
     Ok(())
 }
@@ -138,7 +138,7 @@ fn script_copy(rt: HostRuntime) -> Result<(), Fail> {
 }
 
 #[test]
-fn script_number_of(rt: HostRuntime) {
+fn numbers_number_of(rt: HostRuntime) {
     assert_eq!(rt; number_of(b"64"), Some(64));
     assert_eq!(rt; number_of(b"064"), None);
 }

@@ -4,19 +4,17 @@
 #[cfg(test)]
 mod answers;
 #[cfg(test)]
-mod copies;
-#[cfg(test)]
 mod examples;
 #[cfg(test)]
 mod fakes;
-#[cfg(test)]
-mod lists;
 #[cfg(test)]
 mod pool;
 #[cfg(test)]
 mod ports;
 #[cfg(test)]
 mod readme;
+#[cfg(test)]
+mod script_runs;
 #[cfg(test)]
 mod statuses;
 #[cfg(test)]

@@ -39,23 +39,23 @@ pub const NO_FAULT: FailsAt = FailsAt {
 
 pub fn run_program<R: Threads + Wait + Sync + AllocGlobal>(
     rt: &R,
-    words: &[&str],
+    arguments: &[&str],
     script: &str,
     at: FailsAt,
 ) -> Result<Outcome, AllocError> {
-    run_on_bytes(rt, words, script.as_bytes(), at)
+    run_on_bytes(rt, arguments, script.as_bytes(), at)
 }
 
 pub fn run_on_bytes<R: Threads + Wait + Sync + AllocGlobal>(
     rt: &R,
-    words: &[&str],
+    arguments: &[&str],
     bytes: &[u8],
     at: FailsAt,
 ) -> Result<Outcome, AllocError> {
     let alloc = rt.alloc();
     let mut owned = Vec::new(alloc);
-    for word in words {
-        owned.push(String::from_str(alloc, word)?)?;
+    for argument in arguments {
+        owned.push(String::from_str(alloc, argument)?)?;
     }
     let mut errors = FakeWriter::new(Vec::new(alloc), at.error);
     let mut writer = FakeWriter::new(Vec::new(alloc), at.write);
@@ -93,8 +93,8 @@ fn prints_its_usage(rt: HostRuntime) -> Result<(), Fail> {
         &["tokens"],
         &["script", "script"],
     ];
-    for words in lists {
-        let found = run_program(&rt, words, FIRST_SCRIPT, NO_FAULT)?;
+    for arguments in lists {
+        let found = run_program(&rt, arguments, FIRST_SCRIPT, NO_FAULT)?;
         expect(&rt, &found, 1, "", USAGE);
     }
     Ok(())
@@ -146,7 +146,7 @@ fn keeps_its_status_where_no_error_can_be_printed(rt: HostRuntime) -> Result<(),
 }
 
 #[test]
-fn ends_where_its_words_are_not_to_be_had(rt: HostRuntime) {
+fn ends_if_its_arguments_cannot_be_read(rt: HostRuntime) {
     for (kind, status, line) in [
         (ErrorKind::InvalidData, 1, USAGE),
         (ErrorKind::OutOfMemory, 3, NO_MEMORY),

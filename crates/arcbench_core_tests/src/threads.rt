@@ -24,7 +24,7 @@ fn sixty_four_workers_are_the_most(rt: HostRuntime) -> Result<(), Fail> {
 }
 
 #[test]
-fn other_counts_are_other_words(rt: HostRuntime) -> Result<(), Fail> {
+fn other_counts_are_no_command(rt: HostRuntime) -> Result<(), Fail> {
     for count in ["0", "65", "02", "+2", "2 ", "", "two"] {
         let found = run_program(&rt, &["threads", count], "", NO_FAULT)?;
         expect(&rt, &found, 1, "", USAGE);

@@ -52,7 +52,7 @@ fn refuses_bytes_that_are_not_utf8(rt: HostRuntime) -> Result<(), Fail> {
 }
 
 #[test]
-fn other_counts_are_other_words(rt: HostRuntime) -> Result<(), Fail> {
+fn other_counts_are_no_command(rt: HostRuntime) -> Result<(), Fail> {
     for count in ["0", "65", "02"] {
         let found = run_program(&rt, &["tokens", count], LINES, NO_FAULT)?;
         expect(&rt, &found, 1, "", USAGE);

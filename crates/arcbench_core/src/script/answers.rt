@@ -5,8 +5,9 @@ ghost use Rattle.arcstr_count.specs.Summary.{StandsFor};
 ghost use Rattle.arcbench_core.specs.Line.{lines_of, step_of};
 ghost use Rattle.arcbench_core.specs.Script.{answer_by, answer_to, answer_under, answers, bad_limit, history_with};
 
-use super::line::{first_line, limit_of, step_of};
+use super::line::{limit_of, step_of};
 use super::reply::push_reply;
+use crate::lines::first_line;
 use arcstr::count::{RunFault, World};
 use std::alloc::Allocator;
 

@@ -7,5 +7,5 @@ use Rattle.arcbench_core.proofs.program.tell_tokens.Goals as goal
 pub returns-in-Ok-write_all-clause-not_utf8 : goal.returns-in-Ok-write_all-clause-not_utf8
 returns-in-Ok-write_all-clause-not_utf8 g c no_memory no_io =
     let read = rw c.deref.ensures.value at c.answer.ensures.not_utf8 in
-    let says = says_of_input _ c.in-Ok.bytes.items (c.answer.result ≡ Err NotUtf8) c.in-Ok.ensures.bytes read in
+    let says = says_of_input _ c.in_ok-bytes.bytes.items (c.answer.result ≡ Err NotUtf8) c.in_ok-bytes.ensures.bytes read in
     same_sign _ (c.answer.result ≡ Err NotUtf8) _ says (λ wrong. absurd (cc)) (λ wrong. absurd (cc))

@@ -1,6 +1,6 @@
 use Rattle.std.proofs.Common.{lit<}
 use Rattle.std.proofs.lemmas.Str.Pattern.{split_once_first}
-use Rattle.arcbench_core.proofs.Lines.{lines_of-first, lines_of-none}
+use Rattle.arcbench_core.proofs.FirstLines.{lines_of-first, lines_of-none}
 use Rattle.arcbench_core.proofs.tokens.first_line.Goals as goal
 
 pub returns-in-Some-clause-lines : goal.returns-in-Some-clause-lines

@@ -3,5 +3,5 @@ use Rattle.std.proofs.lemmas.Grind.{common_steps}
 use Rattle.arcbench_core.proofs.LineTexts.{limit_written}
 use Rattle.arcbench_core.proofs.script.line.limit_of.Goals as goal
 
-pub returns-then-is_text-clause-written : goal.returns-then-is_text-clause-written
-returns-then-is_text-clause-written c = limit_written c.args.line.now _ (grind (arith, common_steps))
+pub returns-then-eq-clause-written : goal.returns-then-eq-clause-written
+returns-then-eq-clause-written c = limit_written c.args.line.now _ (grind (arith, common_steps))

@@ -3,9 +3,10 @@ ghost use Rattle.std.specs.Prelude.{◌≡◌, ◌≢◌, ◌↔◌, ◌⊎◌, 
 ghost use Rattle.std.specs.Io.KnownBytes.{IsAtEnd};
 ghost use Rattle.arcstr_count.specs.declared.faults.RunFault.TheVariants.{LimitTooLarge as RunLimitTooLarge};
 ghost use Rattle.arcbench_core.specs.Script.{answer_to};
-ghost use Rattle.arcbench_core.specs.Copy.{WritesAnswer, copy_fault_number, copy_fault_text, copy_fault_from};
+ghost use Rattle.arcbench_core.specs.ScriptRun.{WritesAnswer, copy_fault_number, copy_fault_text, copy_fault_from};
 
 use super::answers::answer;
+use crate::input::read_to_end;
 use crate::port::Port;
 use arcstr::count::RunFault;
 use std::alloc::Allocator;
@@ -89,7 +90,7 @@ impl From<RunFault> for CopyFault {
 /// `answer`; while writing, `Io`. All allocations come before the first write, so only a fault of writing
 /// can leave a part of the answer written.
 ///
-/// The test `copies_the_answer_to_a_script` catches a body that always answers `Memory`.
+/// The test `writes_the_answer_to_a_script` catches a body that always answers `Memory`.
 ///
 /// ```
 /// let mut written = Vec::new(rt.alloc());
@@ -125,33 +126,3 @@ pub fn copy<A: Allocator + Copy, R: Read, W: Write>(
         Err(_) => Err(CopyFault::Io),
     }
 }
-
-/// Reads all bytes that are left. Any error of a read ends it, including that of an interrupted read.
-pub(crate) fn read_to_end<A: Allocator, R: Read>(
-    alloc: A,
-    input: &mut Port<R>,
-) -> Result<Vec<u8, A>, CopyFault>
-    requires { input.old.failed ≡ false }
-    ensures bytes { IfOk result (λ script. IfSome (R.remaining input.old.value)
-        (λ bytes. script.items ≡ bytes)) }
-    ensures at_end { OnOk result (IsAtEnd (R.remaining input.new.value)) }
-    ensures io { (result ≡ Err CopyFault.Io) ↔ IsTrue input.new.failed }
-    ensures faults { result ≢ Err CopyFault.LimitTooLarge }
-{
-    let mut script = Vec::new(alloc);
-    let mut chunk = [0; CHUNK];
-    loop {
-        match input.read(&mut chunk) {
-            Err(_) => return Err(CopyFault::Io),
-            Ok(0) => return Ok(script),
-            Ok(count) => {
-                if script.extend_from_slice(&chunk[..count]).is_err() {
-                    return Err(CopyFault::Memory);
-                }
-            }
-        }
-    }
-}
-
-/// How many bytes one read asks for.
-const CHUNK: usize = 8192;

@@ -9,31 +9,31 @@ use std::test::Fail;
 
 /// What a run of the first script returned, and what it wrote.
 #[derive(Drop)]
-pub struct Copied {
+pub struct Outcome {
     pub result: Result<(), CopyFault>,
     pub written: Vec<u8>,
 }
 
 /// Runs the first script, from a reader and to a writer that fail at these calls.
-pub fn copy_first_script<A: Allocator + Copy>(
+pub fn run_first_script<A: Allocator + Copy>(
     alloc: A,
     global: Global,
     read: u64,
     write: u64,
-) -> Copied {
+) -> Outcome {
     let mut writer = FakeWriter::new(Vec::new(global), write);
     let mut input = Port::new(FakeReader::new(FIRST_SCRIPT.as_bytes(), read));
     let mut output = Port::new(&mut writer);
     let result = copy(alloc, &mut input, &mut output);
-    Copied {
+    Outcome {
         result,
         written: writer.taken,
     }
 }
 
 #[test]
-fn copies_the_answer_to_a_script(rt: HostRuntime) {
-    let found = copy_first_script(rt.alloc(), rt.alloc(), NEVER, NEVER);
+fn writes_the_answer_to_a_script(rt: HostRuntime) {
+    let found = run_first_script(rt.alloc(), rt.alloc(), NEVER, NEVER);
     assert_eq!(rt; found.result, Ok(()));
     assert_eq!(rt; found.written.as_slice(), FIRST_ANSWER.as_bytes());
 }
@@ -42,7 +42,7 @@ fn copies_the_answer_to_a_script(rt: HostRuntime) {
 #[test]
 fn writes_nothing_after_a_fault_of_reading(rt: HostRuntime) {
     for read in 0..18 {
-        let found = copy_first_script(rt.alloc(), rt.alloc(), read, NEVER);
+        let found = run_first_script(rt.alloc(), rt.alloc(), read, NEVER);
         assert_eq!(rt; found.result, Err(CopyFault::Io), "{read}");
         assert_eq!(rt; found.written.len(), 0, "{read}");
     }
@@ -52,7 +52,7 @@ fn writes_nothing_after_a_fault_of_reading(rt: HostRuntime) {
 #[test]
 fn writes_a_prefix_before_a_fault_of_writing(rt: HostRuntime) -> Result<(), Fail> {
     for write in 0..22 {
-        let found = copy_first_script(rt.alloc(), rt.alloc(), NEVER, write);
+        let found = run_first_script(rt.alloc(), rt.alloc(), NEVER, write);
         let prefix = FIRST_ANSWER.get(..2 * write as usize).ok_or("short")?;
         assert_eq!(rt; found.result, Err(CopyFault::Io), "{write}");
         assert_eq!(rt; found.written.as_slice(), prefix.as_bytes(), "{write}");
@@ -70,7 +70,7 @@ fn the_first_of_reading_and_memory_is_answered(rt: HostRuntime) -> Result<(), Fa
     let mut refused = false;
     for read in 0..18 {
         let heap = LocalHeap::new(rt.alloc(), GRAIN)?;
-        let found = copy_first_script(&heap, rt.alloc(), read, NEVER);
+        let found = run_first_script(&heap, rt.alloc(), read, NEVER);
         refused = refused || found.result == Err(CopyFault::Memory);
         let fault = if refused {
             CopyFault::Memory
@@ -108,7 +108,7 @@ fn long_answer(alloc: Global) -> Result<String, AllocError> {
 }
 
 #[test]
-fn answers_and_copies_a_long_script(rt: HostRuntime) -> Result<(), Fail> {
+fn answers_and_runs_a_long_script(rt: HostRuntime) -> Result<(), Fail> {
     let script = long_script(rt.alloc())?;
     let wanted = long_answer(rt.alloc())?;
     assert_eq!(rt; script.len(), 100_000);

@@ -1,6 +1,6 @@
 use Rattle.std.proofs.Common.{◌∙◌}
-use Rattle.arcbench_core.proofs.Numbers.{decimal_from_parse, no_decimal}
-use Rattle.arcbench_core.proofs.script.line.decimal_of.Goals as goal
+use Rattle.arcbench_core.proofs.ParsedNumbers.{decimal_from_parse, no_decimal}
+use Rattle.arcbench_core.proofs.numbers.decimal_of.Goals as goal
 
 pub returns-in-Ok : goal.returns-in-Ok
 returns-in-Ok c =

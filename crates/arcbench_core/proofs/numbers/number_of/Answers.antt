@@ -1,5 +1,5 @@
 use Rattle.arcbench_core.proofs.LineTexts.{number_written, number_read}
-use Rattle.arcbench_core.proofs.script.line.number_of.Goals as goal
+use Rattle.arcbench_core.proofs.numbers.number_of.Goals as goal
 
 pub returns-clause-written : goal.returns-clause-written
 returns-clause-written c = number_written c.args.text.now _ c.read_number.ensures

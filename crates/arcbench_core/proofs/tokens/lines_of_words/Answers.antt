@@ -1,9 +1,0 @@
-use Rattle.std.proofs.Common.{string_bytes}
-use Rattle.arcbench_core.proofs.TokensPrinted.{IsTokenAnswer-lists}
-use Rattle.arcbench_core.proofs.tokens.lines_of_words.Goals as goal
-
-pub returns : goal.returns
-returns g c =
-    IsTokenAnswer-lists c.args.input.now (string_bytes c.new-lines.result) (string_bytes c.push_lists.new.out) c.in_ok-texts.texts.items c.deref.result.now
-    c.in_ok-lists.lists.items c.deref-2.result.now c.in_ok-texts.ensures c.deref.ensures.value c.in_ok-lists.ensures c.deref-2.ensures.value
-    c.new-lines.ensures.bytes c.in_ok-push_lists.ensures

@@ -1,0 +1,42 @@
+//! Numbers in decimal, as scripts and arguments have them.
+ghost use Rattle.std.specs.Prelude.{◌≡◌, ◌≢◌, ℕ, ◌^◌, ◌<◌, slice_index, if◌then◌else◌, Some, IfSome};
+ghost use Rattle.std.specs.Fmt.{decimal};
+ghost use Rattle.std.specs.Str.Parse.{digits_value};
+ghost use Rattle.arcbench_core.specs.Line.{is_decimal, number_of};
+
+use std::str;
+
+/// The value of decimal digits, below `2^64`.
+fn decimal_of(text: &[u8]) -> Option<u64>
+    requires no_sign { slice_index text.now 0 ≢ 43 }
+    ensures { result ≡ (if is_decimal text.now then Some (digits_value 10 text.now) else None) }
+{
+    match str::from_utf8(text) {
+        Ok(text) => text.parse::<u64>().ok(),
+        Err(_) => None,
+    }
+}
+
+/// The value of a NUMBER: `0`, or digits that do not begin with `0`, below `2^64`.
+///
+/// ```
+/// assert_eq!(rt; number_of(b"64"), Some(64));
+/// assert_eq!(rt; number_of(b"064"), None);
+/// ```
+pub fn number_of(text: &[u8]) -> Option<u64>
+    ensures value { result ≡ number_of text.now }
+    ensures written { IfSome result (λ n. text.now ≡ decimal n) }
+    ensures read { (n : ℕ) → n < 2 ^ 64 → text.now ≡ decimal n → result ≡ Some n }
+{
+    read_number(text)
+}
+
+/// The value of a NUMBER, by the definition of `number_of`.
+fn read_number(text: &[u8]) -> Option<u64>
+    ensures { result ≡ number_of text.now }
+{
+    match text {
+        [b'+', ..] | [b'0', _, ..] => None,
+        _ => decimal_of(text),
+    }
+}
