@@ -36,16 +36,40 @@ const LINES: [(&str, &str); 20] = [
     ("begin 2", "ended"),
 ];
 
-#[test]
-fn answers_each_command_with_each_reply(rt: HostRuntime) -> Result<(), Fail> {
-    let mut script = String::from_str(rt.alloc(), "limit 5\n")?;
+/// Each line of a script under the limit 1, with its answer.
+const LINES_PAST_THE_LIMIT: [(&str, &str); 6] = [
+    ("make", "made 0"),
+    ("clone 0", "handle 1"),
+    ("look 1", "count 2"),
+    ("clone 1", "handle 2"),
+    ("look 0", "static"),
+    ("begin 2", "ended"),
+];
+
+/// Asserts that each line after a first line has its answer.
+fn expect_lines<R: Abort + AllocGlobal>(
+    rt: &R,
+    first_line: &str,
+    lines: &[(&str, &str)],
+) -> Result<(), Fail> {
+    let mut script = String::from_str(rt.alloc(), first_line)?;
     let mut answers = String::new(rt.alloc());
-    for (line, answer) in LINES {
+    for (line, answer) in lines {
         write!(script, "{line}\n")?;
         write!(answers, "{answer}\n")?;
     }
-    expect(&rt, script.as_bytes(), answers.as_str());
+    expect(rt, script.as_bytes(), answers.as_str());
     Ok(())
+}
+
+#[test]
+fn answers_each_command_with_each_reply(rt: HostRuntime) -> Result<(), Fail> {
+    expect_lines(&rt, "limit 5\n", &LINES)
+}
+
+#[test]
+fn a_clone_past_the_limit_marks_the_block(rt: HostRuntime) -> Result<(), Fail> {
+    expect_lines(&rt, "limit 1\n", &LINES_PAST_THE_LIMIT)
 }
 
 #[test]

@@ -1,4 +1,4 @@
--- Two pointers: on one block two seats have two owners, and whoever owes a block is on another one than any pointer that has a seat or may read.
+-- Two seats of one block have two owners, and a block that is owed has no other pointer that has a seat or may read.
 -- Assumes `Logic`.
 use Rattle.std.proofs.Common.{◌≡◌, ◌≢◌, ℕ, List, [], ◌∷◌, sym, refl, ap, length}
 use native.Mathlib.Decide.{ℕ_discrete}

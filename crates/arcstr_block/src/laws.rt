@@ -1,4 +1,4 @@
-//! The laws of blocks. A law does nothing when it runs: it returns what it takes, takes no atomic step, and does not allocate.
+//! The laws of blocks. A law does nothing when it runs: it takes no atomic step, and does not allocate.
 ghost use Rattle.std.specs.Prelude.{◌≡◌, ◌≢◌, ◌≤◌, length};
 ghost use Rattle.arcstr_block.specs.Rights.{owed, HasSeat, MaySee};
 ghost use mathlib.Core.List.{IsPrefix};
@@ -11,7 +11,7 @@ use crate::shared::{Counted, Shared};
 use std::alloc::Allocator;
 
 impl<A: Allocator> Pointer<A> {
-    /// Two pointers that have seats have two seats on one block, and a block that is owed has no other.
+    /// Two pointers with seats on one block have two seats, and a block that is owed has no other pointer with a seat.
     pub(crate) fn apart(self, other: Pointer<A>) -> (Pointer<A>, Pointer<A>)
         requires first { HasSeat self.right }
         requires second { HasSeat other.right }
@@ -185,7 +185,7 @@ impl<A: Allocator> Owed<A> {
 }
 
 impl Seen {
-    /// The law that a block has one history: of two prefixes of it, the longer extends the other. It takes no atomic step.
+    /// The law that a block has one history: of two prefixes of it, the longer extends the other.
     ///
     /// ```
     /// let text = Shared::<5, _>::from_text(rt.alloc(), "aé")?;

@@ -65,7 +65,8 @@ accepted_count limit history test =
 
 -- ---- accepted
 
--- A step is accepted after a history if its handle is there in the state that the step needs. `Make` is always accepted.
+-- A step is accepted after a history if its handle is there in the state that the step needs: free for `Look`, `Clone`, `Begin`, `Leak` and `IntoRaw`,
+-- dropping for `Sub`, owing for `Back` and raw for `FromRaw`. `Make` is always accepted.
 abbrev pub AcceptedSentence : ℕ → List Step → Step → Type 0
 AcceptedSentence limit history s = IfSome (needs s) (λ need. state_after limit history need.handle ≡ Some need.state)
 
