@@ -6,7 +6,7 @@ use Rattle.std.specs.Str.{chars, IsUtf8, IsCharBoundary}
 use Rattle.std.proofs.lemmas.List.{get_or_at, length-append, same_from_push}
 use Rattle.std.proofs.lemmas.Str.{chars-nil, IsCharBoundary-start}
 use Rattle.arcstr_range.specs.Text.{cut}
-use Rattle.arctokens.specs.Words.{IsWhiteAfter, IsWhiteBefore}
+use Rattle.arctokens.specs.Words.{IsFirstAfter, IsLastBefore}
 use Rattle.arctokens.specs.Runs.{AreOfKind, AreAlike}
 use Rattle.arctokens.proofs.Characters.{chars-split, first_between, last_between}
 
@@ -20,7 +20,7 @@ kind_within white prefix rest character all split kinds =
 
 -- the character after an offset in a run
 pub kind_after : (text : List ℕ) (start place end : ℕ) (white : Bool) → IsUtf8 text → IsCharBoundary text start → IsCharBoundary text place
-    → start ≤ place → place < end → AreAlike text start end white → IsWhiteAfter text place white
+    → start ≤ place → place < end → AreAlike text start end white → IsFirstAfter text place white
 kind_after text start place end white utf8 at_start at_place low high alike =
     let here = first_between text place end utf8 at_place alike.at_end high in
     let whole = chars-split text start place end utf8 at_start at_place low (omega (arith, high)) ∙ ap (λ l. chars (cut text start place) ++ l) here.split in
@@ -35,7 +35,7 @@ kind_after text start place end white utf8 at_start at_place low high alike =
 
 -- the character before an offset in a run
 pub kind_before : (text : List ℕ) (start place end : ℕ) (white : Bool) → IsUtf8 text → IsCharBoundary text start → IsCharBoundary text place
-    → start < place → place ≤ end → AreAlike text start end white → IsWhiteBefore text place white
+    → start < place → place ≤ end → AreAlike text start end white → IsLastBefore text place white
 kind_before text start place end white utf8 at_start at_place low high alike =
     let here = last_between text start place utf8 at_start at_place low in
     let after = chars (cut text place end) in
@@ -53,21 +53,21 @@ kind_before text start place end white utf8 at_start at_place low high alike =
     }
 
 -- the character after an offset has only one kind, and so has the character before it
-pub one_after : (text : List ℕ) (place : ℕ) → IsWhiteAfter text place true → IsWhiteAfter text place false → ⊥
+pub one_after : (text : List ℕ) (place : ℕ) → IsFirstAfter text place true → IsFirstAfter text place false → ⊥
 one_after text place one other =
     let same : one.character ∷ one.rest ≡ other.character ∷ other.rest = sym one.split ∙ other.split in
     let character : one.character ≡ other.character = cc in
     let kinds : true ≡ false = sym one.kind ∙ ap is_whitespace character ∙ other.kind in
     cc
 
-pub one_before : (text : List ℕ) (place : ℕ) → IsWhiteBefore text place true → IsWhiteBefore text place false → ⊥
+pub one_before : (text : List ℕ) (place : ℕ) → IsLastBefore text place true → IsLastBefore text place false → ⊥
 one_before text place one other =
     let same = same_from_push one.prefix other.prefix one.character other.character (sym one.split ∙ other.split) in
     let kinds : true ≡ false = sym one.kind ∙ ap is_whitespace same.1 ∙ other.kind in
     cc
 
 -- there is no character after the end
-pub none_after_end : (text : List ℕ) (place : ℕ) (white : Bool) → place ≡ length text → IsWhiteAfter text place white → ⊥
+pub none_after_end : (text : List ℕ) (place : ℕ) (white : Bool) → place ≡ length text → IsFirstAfter text place white → ⊥
 none_after_end text place white all one =
     let width : length text - place ≡ 0 = omega arith in
     let none : chars (cut text place (length text)) ≡ [] = ap (λ n. chars (take n (drop place text))) width ∙ chars-nil in

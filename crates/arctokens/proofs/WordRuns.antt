@@ -2,7 +2,7 @@
 use Rattle.std.proofs.Common.{◌≡◌, ◌⊎◌, inl, inr, ℕ, ◌<◌, ◌≤◌, true, false, List, length, subst, arith}
 use Rattle.std.specs.Str.{IsUtf8, IsCharBoundary}
 use Rattle.std.proofs.lemmas.Bool.{cases_lt, cases_order}
-use Rattle.arctokens.specs.Words.{IsWhiteBefore, IsWhiteAfter, IsWord}
+use Rattle.arctokens.specs.Words.{IsLastBefore, IsFirstAfter, IsWord}
 use Rattle.arctokens.specs.Runs.{AreAlike, IsRun, IsBetweenWords, IsFirstWord, HasNoWord}
 use Rattle.arctokens.proofs.OneKind.{kind_after, kind_before, one_after, one_before}
 
@@ -22,7 +22,7 @@ starts_past_white text from start a b utf8 at_from white word low high =
 pub none_inside : (text : List ℕ) (start end a b : ℕ) → IsUtf8 text → IsWord text start end → IsWord text a b → start < a → a < end → ⊥
 none_inside text start end a b utf8 word inner low high = of_case inner.white_before
   where
-    of_case : (a ≡ 0) ⊎ IsWhiteBefore text a true → ⊥
+    of_case : (a ≡ 0) ⊎ IsLastBefore text a true → ⊥
     of_case (inl first) = omega (arith, low, first)
     of_case (inr white) =
         one_before text a white
@@ -32,7 +32,7 @@ none_inside text start end a b utf8 word inner low high = of_case inner.white_be
 none_shorter : (text : List ℕ) (start end longer : ℕ) → IsUtf8 text → IsWord text start end → IsWord text start longer → end < longer → ⊥
 none_shorter text start end longer utf8 word other short = of_case word.white_after
   where
-    of_case : (end ≡ length text) ⊎ IsWhiteAfter text end true → ⊥
+    of_case : (end ≡ length text) ⊎ IsFirstAfter text end true → ⊥
     of_case (inl all) = omega (arith, short, all, other.at_end.0)
     of_case (inr white) =
         one_after text end white
@@ -48,31 +48,31 @@ one_end text start end other utf8 word again = of_case (cases_order end other)
     of_case (inr (inr long)) = absurd (none_shorter text start other end utf8 again word long)
 
 -- a run that starts at a character that is not white space, and contains no white space, is not empty
-grows : (text : List ℕ) (start end : ℕ) → start < length text → IsWhiteAfter text start false → IsRun text start end false → start < end
+grows : (text : List ℕ) (start end : ℕ) → start < length text → IsFirstAfter text start false → IsRun text start end false → start < end
 grows text start end inside black run = of_case (cases_lt start end) run.longest
   where
-    of_case : (start < end) ⊎ (end ≤ start) → (end ≡ length text) ⊎ IsWhiteAfter text end true → start < end
+    of_case : (start < end) ⊎ (end ≤ start) → (end ≡ length text) ⊎ IsFirstAfter text end true → start < end
     of_case (inl more) next = more
     of_case (inr none) (inl all) = absurd (omega arith)
     of_case (inr none) (inr white) =
         let same : end ≡ start = omega (arith, run.alike.in_order) in
-        absurd (one_after text start (subst (λ n. IsWhiteAfter text n true) same white) black)
+        absurd (one_after text start (subst (λ n. IsFirstAfter text n true) same white) black)
 
 -- a run of white space that starts between words has white space, or nothing, before the character after it
 opens : (text : List ℕ) (from start : ℕ) → IsUtf8 text → IsCharBoundary text from → IsBetweenWords text from → start < length text
-    → AreAlike text from start true → IsWhiteAfter text start false → (start ≡ 0) ⊎ IsWhiteBefore text start true
+    → AreAlike text from start true → IsFirstAfter text start false → (start ≡ 0) ⊎ IsLastBefore text start true
 opens text from start utf8 at_from between inside white black = of_case (cases_lt from start) between
   where
-    of_case : (from < start) ⊎ (start ≤ from) → IsBetweenWords text from → (start ≡ 0) ⊎ IsWhiteBefore text start true
+    of_case : (from < start) ⊎ (start ≤ from) → IsBetweenWords text from → (start ≡ 0) ⊎ IsLastBefore text start true
     of_case (inl more) where_from =
         inr (kind_before text from start start true utf8 at_from white.at_end more (omega arith) white)
     of_case (inr none) (inl first) = inl (omega (arith, white.in_order, first))
     of_case (inr none) (inr (inl all)) = absurd (omega (arith, white.in_order, all))
     of_case (inr none) (inr (inr next)) =
         let same : from ≡ start = omega (arith, white.in_order) in
-        absurd (one_after text start (subst (λ n. IsWhiteAfter text n true) same next) black)
+        absurd (one_after text start (subst (λ n. IsFirstAfter text n true) same next) black)
 
-black_after : (text : List ℕ) (place : ℕ) → place < length text → (place ≡ length text) ⊎ IsWhiteAfter text place false → IsWhiteAfter text place false
+black_after : (text : List ℕ) (place : ℕ) → place < length text → (place ≡ length text) ⊎ IsFirstAfter text place false → IsFirstAfter text place false
 black_after text place inside (inl all) = absurd (omega arith)
 black_after text place inside (inr next) = next
 

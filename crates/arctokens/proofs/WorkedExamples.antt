@@ -4,7 +4,7 @@ use Rattle.std.specs.Prelude.{IsFalse}
 use Rattle.std.specs.Char.{is_whitespace}
 use Rattle.std.specs.Str.{chars}
 use Rattle.std.proofs.lemmas.List.Elements.{All-nil, All-cons}
-use Rattle.arctokens.specs.Words.{AreWords, IsWhiteAfter, IsWord}
+use Rattle.arctokens.specs.Words.{AreWords, IsFirstAfter, IsWord}
 
 -- the bytes of ` aé  b `
 abbrev accented : List ℕ
@@ -35,7 +35,7 @@ short_word : IsWord accented 1 2 → ⊥
 unfolding chars
 short_word word = of_case word.white_after
   where
-    of_case : (2 ≡ length accented) ⊎ IsWhiteAfter accented 2 true → ⊥
+    of_case : (2 ≡ length accented) ⊎ IsFirstAfter accented 2 true → ⊥
     of_case (inl all) = omega (arith, all)
     of_case (inr next) =
         let character : next.character ≡ 233 = cc (next.split) in

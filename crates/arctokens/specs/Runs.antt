@@ -3,7 +3,7 @@ use Rattle.std.specs.Prelude.{◌≡◌, ◌⊎◌, ℕ, ◌<◌, ◌≤◌, Lis
 use Rattle.std.specs.Char.{is_whitespace}
 use Rattle.std.specs.Str.{IsCharBoundary, chars}
 use Rattle.arcstr_range.specs.Text.{cut}
-use Rattle.arctokens.specs.Words.{IsWhiteAfter, IsWord}
+use Rattle.arctokens.specs.Words.{IsFirstAfter, IsWord}
 
 -- exactly one character of the text lies between the two byte offsets, and it is white space exactly if `white` is true
 pub record IsCharacterBetween (text : List ℕ) (start end : ℕ) (white : Bool) : Type 0 where
@@ -33,11 +33,11 @@ pub record AreAlike (text : List ℕ) (start end : ℕ) (white : Bool) : Type 0 
 -- the characters are of one kind, and the next one, if any, is of the other kind
 pub record IsRun (text : List ℕ) (start end : ℕ) (white : Bool) : Type 0 where
   pub alike : AreAlike text start end white
-  pub longest : (end ≡ length text) ⊎ IsWhiteAfter text end (not white)
+  pub longest : (end ≡ length text) ⊎ IsFirstAfter text end (not white)
 
 -- no word lies across `place`: it is the start or the end of the text, or white space follows it
 abbrev pub IsBetweenWords : List ℕ → ℕ → Type 0
-IsBetweenWords text place = (place ≡ 0) ⊎ ((place ≡ length text) ⊎ IsWhiteAfter text place true)
+IsBetweenWords text place = (place ≡ 0) ⊎ ((place ≡ length text) ⊎ IsFirstAfter text place true)
 
 -- the byte offsets are those of the first word that starts at or after `from`
 pub record IsFirstWord (text : List ℕ) (from start end : ℕ) : Type 0 where

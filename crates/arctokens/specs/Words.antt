@@ -6,14 +6,14 @@ use Rattle.std.specs.Str.{IsCharBoundary, chars}
 use Rattle.arcstr_range.specs.Text.{cut}
 
 -- a character lies before `place`, and the last one is white space exactly if `white` is true
-pub record IsWhiteBefore (text : List ℕ) (place : ℕ) (white : Bool) : Type 0 where
+pub record IsLastBefore (text : List ℕ) (place : ℕ) (white : Bool) : Type 0 where
   pub prefix : List ℕ
   pub character : ℕ
   pub split : chars (cut text 0 place) ≡ prefix ++ character ∷ []
   pub kind : is_whitespace character ≡ white
 
 -- a character lies after `place`, and the first one is white space exactly if `white` is true
-pub record IsWhiteAfter (text : List ℕ) (place : ℕ) (white : Bool) : Type 0 where
+pub record IsFirstAfter (text : List ℕ) (place : ℕ) (white : Bool) : Type 0 where
   pub character : ℕ
   pub rest : List ℕ
   pub split : chars (cut text place (length text)) ≡ character ∷ rest
@@ -26,8 +26,8 @@ pub record IsWord (text : List ℕ) (start end : ℕ) : Type 0 where
   pub at_start : IsCharBoundary text start
   pub at_end : IsCharBoundary text end
   pub not_white : All (λ character. IsFalse (is_whitespace character)) (chars (cut text start end))
-  pub white_before : (start ≡ 0) ⊎ IsWhiteBefore text start true
-  pub white_after : (end ≡ length text) ⊎ IsWhiteAfter text end true
+  pub white_before : (start ≡ 0) ⊎ IsLastBefore text start true
+  pub white_after : (end ≡ length text) ⊎ IsFirstAfter text end true
 
 -- one pair of byte offsets starts before another
 abbrev pub StartsBefore : ℕ × ℕ → ℕ × ℕ → Type 0
