@@ -14,7 +14,7 @@ use denote.RawPtr.{block_ptr}
 use denote.Steps.{nothing}
 use Rattle.core.specs.Sync.RawAtomic.{asks, always, word}
 use Rattle.arcstr_block.proofs.RightTests.{uncounted_or_not}
-use Rattle.arcstr_block.specs.Word.{IsMarked, IsUnmarked, IsWord}
+use Rattle.arcstr_block.specs.Word.{IsMarked, IsUnmarked, IsCountWord}
 use Rattle.arcstr_block.specs.Rights.{uncounted, Right}
 use Rattle.arcstr_block.specs.Book.{Book}
 use Rattle.arcstr_block.specs.Ledger.{fact, parts, some_share, Id, Phase, unmarked, marked, Fits, rest, counting, if_alive, Inv, knows, stated}
@@ -156,7 +156,7 @@ module _ {M : Type 1} {𝓤 : Ura M} (𝓛 : Logic 𝓤) (P : Fml) (L b o : ℕ)
     Tok = flft (t.sharing ∷ []) q
 
     abbrev pub Told : ℕ → Gain → Type 0
-    Told n g = IsWord L n × (right ≡ uncounted → IsMarked n) × (IsMarked n → g ≡ share) × (IsUnmarked n → g ≡ none)
+    Told n g = IsCountWord L n × (right ≡ uncounted → IsMarked n) × (IsMarked n → g ≡ share) × (IsUnmarked n → g ≡ none)
 
     abbrev pub With : Fml
     With = fsep Tok (knows t right)

@@ -14,7 +14,7 @@ use types.Kit.{done}
 use denote.RawPtr.{block_ptr}
 use denote.Steps.{nothing}
 use Rattle.core.specs.Sync.RawAtomic.{asks, always}
-use Rattle.arcstr_block.specs.Word.{IsMarked, IsUnmarked, IsWord, IsClone, IsLast}
+use Rattle.arcstr_block.specs.Word.{IsMarked, IsUnmarked, IsCountWord, IsClone, IsLast}
 use Rattle.arcstr_block.specs.Ledger.{parts, some_share, Id, Phase, unmarked, marked, Fits, rest, Inv, stated}
 use Rattle.arcstr_block.specs.Book.{Book}
 use Rattle.arcstr_block.proofs.Words.{or_unmarked, or_marked}
@@ -91,7 +91,7 @@ module _ {M : Type 1} {𝓤 : Ura M} (𝓛 : Logic 𝓤) (P : Fml) (L b o : ℕ)
     -- ---- a clone, by a compare-exchange
     module _ (old new : ℕ) (asked : IsClone L old new) where
       abbrev pub Raised : ℕ → Gain → Type 0
-      Raised n g = IsWord L n × (IsMarked n → g ≡ share) × (IsUnmarked n → n ≢ old → g ≡ none) × (n ≡ old → IsUnmarked new → g ≡ part) ×
+      Raised n g = IsCountWord L n × (IsMarked n → g ≡ share) × (IsUnmarked n → n ≢ old → g ≡ none) × (n ≡ old → IsUnmarked new → g ≡ part) ×
           (n ≡ old → IsMarked new → g ≡ share)
 
       abbrev pub exchanged : ℕ → ℕ
@@ -135,7 +135,7 @@ module _ {M : Type 1} {𝓤 : Ura M} (𝓛 : Logic 𝓤) (P : Fml) (L b o : ℕ)
       hits : (s : Phase) → In old s → ⟦ St (exchanged old) ⟧ ∗ ⟦ Keeps s ⟧ ∗ ⟦ Tok ⟧ ⊢ Went old
       hits (marked m) h = let odd : IsMarked old = h.0 in let even = asked.0 in absurd (omega (arith, odd, even))
       hits (unmarked k) h = let h₀ = h.0 in let h₁ = h.1 in let h₂ = h.2 in let h₃ = h.3 in let even = asked.0 in
-          let good : IsWord L old = λ _. (omega (arith, h₀, h₁), omega (arith, h₀, h₂)) in dite (dec_le (old / 2) L)
+          let good : IsCountWord L old = λ _. (omega (arith, h₀, h₁), omega (arith, h₀, h₂)) in dite (dec_le (old / 2) L)
           (λ room. let is : new ≡ old + 2 = asked.2 room in
           qed 𝓛 (‵ (St (exchanged old)) ∷ ‵ (Keeps (unmarked k)) ∷ ‵ Tok ∷ []) ∵ move ! (1 ∷ []) $
           use1 𝓛 (‵ (Keeps (unmarked (k + 1))) ⊛ ‵ (parts t.sharing 1)) (takes 𝓛 P L b o t k (omega (arith, h₀, room, h₃))) $ split ! $

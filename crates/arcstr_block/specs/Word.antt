@@ -39,8 +39,8 @@ abbrev pub IsLimit : ℕ → Type 0
 IsLimit limit = limit ≤ RC_MAX
 
 -- an unmarked word counts from 1 to limit + 1
-abbrev pub IsWord : ℕ → ℕ → Type 0
-IsWord limit word = IsUnmarked word → (0 < count_in word) × (count_in word ≤ limit + 1)
+abbrev pub IsCountWord : ℕ → ℕ → Type 0
+IsCountWord limit word = IsUnmarked word → (0 < count_in word) × (count_in word ≤ limit + 1)
 
 -- a clone of the unmarked word old: with the static flag if the count is above the limit, else with one more
 abbrev pub IsClone : ℕ → ℕ → ℕ → Type 0
@@ -48,4 +48,4 @@ IsClone limit old new = IsUnmarked old × (limit < count_in old → new ≡ old 
 
 -- the unmarked word that an exchange of old found in its place
 abbrev pub IsOtherWord : ℕ → ℕ → ℕ → Type 0
-IsOtherWord limit old found = IsUnmarked found × IsWord limit found × (found ≢ old)
+IsOtherWord limit old found = IsUnmarked found × IsCountWord limit found × (found ≢ old)

@@ -45,15 +45,15 @@ impl<A: Allocator> Model for Sole<A> {
 }
 
 impl<A: Allocator> Blank<A> {
-    /// Allocates a block, `size` bytes for a text of `len`, and writes the word at the word offset `place`, and the length.
+    /// Allocates a block, `size` bytes for a text of `len`, and writes the word at the word offset `offset`, and the length.
     pub(crate) fn make(
         alloc: &A,
         word: u64,
         len: usize,
-        place: usize,
+        offset: usize,
         size: usize,
     ) -> Result<(Blank<A>, Slots<u8>), AllocError>
-        requires place { place ≡ word_offset len }
+        requires offset { offset ≡ word_offset len }
         requires size { size ≡ block_size len }
         requires fits { Fits len }
         ensures home { IfOk result (λ made. made.0.home ≡ alloc.now) }
@@ -64,7 +64,7 @@ impl<A: Allocator> Blank<A> {
     {
         match alloc.allocate(size, align_of::<Tail>()) {
             Ok(at) => unsafe {
-                let tail = at.add(place) as *mut Tail;
+                let tail = at.add(offset) as *mut Tail;
                 (&raw mut (*tail).word).write(word);
                 (&raw mut (*tail).length).write(len);
                 let bytes = Slots::from_raw_parts(at, len);

@@ -134,13 +134,13 @@ impl<A: Allocator> Owed<A> {
     {
         let Owed {
             pointer,
-            place,
+            offset,
             alloc,
         } = self;
         let pointer = pointer.alone(other);
         Owed {
             pointer,
-            place,
+            offset,
             alloc,
         }
     }
@@ -161,23 +161,23 @@ impl<A: Allocator> Owed<A> {
     {
         let Owed {
             pointer,
-            place,
+            offset,
             alloc,
         } = self;
         let Owed {
             pointer: beside,
-            place: there,
+            offset: there,
             alloc: home,
         } = other;
         let (pointer, beside) = pointer.apart(beside);
         let first = Owed {
             pointer,
-            place,
+            offset,
             alloc,
         };
         let second = Owed {
             pointer: beside,
-            place: there,
+            offset: there,
             alloc: home,
         };
         (first, second)

@@ -120,8 +120,8 @@ pub(crate) fn blank_block<A: Allocator + Copy>(
     ensures empty { IfOk result (λ made. slots_items made.1 ≡ replicate len 0) }
     ensures refused { IfErr result (λ fault. fault ≡ TextFault.Memory) }
 {
-    let place = offset_of_word(len);
-    match Blank::make(&alloc, Word::one().bits(), len, place, size_of_block(len)) {
+    let offset = offset_of_word(len);
+    match Blank::make(&alloc, Word::one().bits(), len, offset, size_of_block(len)) {
         Ok(made) => Ok(made),
         Err(_) => Err(TextFault::Memory),
     }

@@ -44,10 +44,10 @@ pub enum Down<A: Allocator> {
 pub struct Owed<A: Allocator> {
     pub(crate) pointer: Pointer<A>,
     /// The word offset: how many bytes past the address of the block its word and the length of its text lie.
-    pub(crate) place: usize,
+    pub(crate) offset: usize,
     pub(crate) alloc: A,
     ghost right: { pointer.right ≡ owed },
-    ghost placed: { place ≡ word_offset (length pointer.text) },
+    ghost placed: { offset ≡ word_offset (length pointer.text) },
     ghost home: { alloc ≡ pointer.home },
 }
 
@@ -71,10 +71,10 @@ impl<A: Allocator> Owed<A> {
     pub fn give_back(self) {
         let Owed {
             pointer,
-            place,
+            offset,
             alloc,
         } = self;
-        let (block, len) = pointer.back(place);
+        let (block, len) = pointer.back(offset);
         block.give_back(&alloc, size_of_block(len));
     }
 }

@@ -3,14 +3,14 @@
 //!
 //! A `Pointer` is one address when it runs. Its right, seat and history are ghost, and the proof of each function
 //! (`proofs/pointer/Pointer/NAME/Proof.antt`) moves them, so a body shows only the machine's step. Each step gets the
-//! word offset, `place`: how many bytes past the address the word lies. `make` begins the history with `Make`, and `back`
+//! word offset, `offset`: how many bytes past the address the word lies. `make` begins the history with `Make`, and `back`
 //! ends it with `Back`; `IntoRaw` and `FromRaw` never occur in it.
 ghost use Rattle.std.specs.Prelude.{◌≡◌, ℕ, Bool, List, length, IsUtf8};
 ghost use Rattle.std.specs.Coded.{coded_list};
 ghost use Rattle.arcstr_count.specs.declared.steps.Step.{Step};
 ghost use Rattle.arcstr_count.specs.contracts.steps.Step.{the_row as step_row};
 ghost use Rattle.arcstr_count.specs.Word.{bits_of, fresh_word};
-ghost use Rattle.arcstr_block.specs.Word.{IsLimit, IsWord, IsClone};
+ghost use Rattle.arcstr_block.specs.Word.{IsLimit, IsCountWord, IsClone};
 ghost use Rattle.arcstr_block.specs.Rights.{Right, right_code, nothing, counted, fixed, dropping, owed};
 ghost use Rattle.arcstr_block.specs.Rights.{IsFree, MaySee, IsIdle, Loads, Gains, Begins, Leaves};
 ghost use Rattle.arcstr_block.specs.Memory.{Fits, word_offset};
@@ -86,18 +86,18 @@ impl<A: Allocator> Pointer<A> {
     }
 
     /// One load of a free handle, for a clone or as a look. A clone that finds the block marked succeeds.
-    pub(crate) fn load(&self, place: usize) -> (u64, Pointer<A>)
+    pub(crate) fn load(&self, offset: usize) -> (u64, Pointer<A>)
         ghost clones: { Bool }
         requires right { IsFree self.now.right }
-        requires place { place ≡ word_offset (length self.now.text) }
-        ensures word { IsWord self.now.limit result.0 }
+        requires offset { offset ≡ word_offset (length self.now.text) }
+        ensures word { IsCountWord self.now.limit result.0 }
         ensures right { Loads clones result.0 result.1.right }
         ensures history { LoadedAs clones self.now result.0 result.1 }
         ensures same { IsSameBlock result.1 self.now }
     {
         let at = self.at;
         let found = unsafe {
-            let tail = at.add(place) as *const Tail;
+            let tail = at.add(offset) as *const Tail;
             raw::load::<Brand>(&raw const (*tail).word, SeqCst)
         };
         (
@@ -110,17 +110,17 @@ impl<A: Allocator> Pointer<A> {
     }
 
     /// One compare-exchange, from `old` to its clone `new`: if it finds `old` or a marked word, the clone succeeds.
-    pub(crate) fn clone_exchange(&self, place: usize, old: u64, new: u64) -> (u64, Pointer<A>)
+    pub(crate) fn clone_exchange(&self, offset: usize, old: u64, new: u64) -> (u64, Pointer<A>)
         requires right { IsFree self.now.right }
-        requires place { place ≡ word_offset (length self.now.text) }
+        requires offset { offset ≡ word_offset (length self.now.text) }
         requires clone { IsClone self.now.limit old new }
-        ensures word { IsWord self.now.limit result.0 }
+        ensures word { IsCountWord self.now.limit result.0 }
         ensures right { Gains old new result.0 result.1.right }
         ensures same { IsSameBlock result.1 self.now }
     {
         let at = self.at;
         let found = unsafe {
-            let tail = at.add(place) as *const Tail;
+            let tail = at.add(offset) as *const Tail;
             exchange::<Brand>(&raw const (*tail).word, old, new)
         };
         (
@@ -133,16 +133,16 @@ impl<A: Allocator> Pointer<A> {
     }
 
     /// One fetch-or, which sets the static flag.
-    pub(crate) fn leak(&self, place: usize) -> Pointer<A>
+    pub(crate) fn leak(&self, offset: usize) -> Pointer<A>
         requires right { IsFree self.now.right }
-        requires place { place ≡ word_offset (length self.now.text) }
+        requires offset { offset ≡ word_offset (length self.now.text) }
         ensures right { result.right ≡ fixed }
         ensures history { Leaked self.now result }
         ensures same { IsSameBlock result self.now }
     {
         let at = self.at;
         unsafe {
-            let tail = at.add(place) as *const Tail;
+            let tail = at.add(offset) as *const Tail;
             raw::fetch_or::<Brand>(&raw const (*tail).word, MARK, SeqCst);
         }
         Pointer {
@@ -152,32 +152,32 @@ impl<A: Allocator> Pointer<A> {
     }
 
     /// The look of a drop: one load.
-    pub(crate) fn begin(self, place: usize) -> (u64, Pointer<A>)
+    pub(crate) fn begin(self, offset: usize) -> (u64, Pointer<A>)
         requires right { IsFree self.right }
-        requires place { place ≡ word_offset (length self.text) }
+        requires offset { offset ≡ word_offset (length self.text) }
         ensures right { Begins result.0 result.1.right }
         ensures history { BegunAs self result.0 result.1 }
         ensures same { IsSameBlock result.1 self }
     {
         let Pointer { at, marker } = self;
         let found = unsafe {
-            let tail = at.add(place) as *const Tail;
+            let tail = at.add(offset) as *const Tail;
             raw::load::<Brand>(&raw const (*tail).word, SeqCst)
         };
         (found, Pointer { at, marker })
     }
 
     /// One fetch-sub, which lowers the count by one.
-    pub(crate) fn sub(self, place: usize) -> (u64, Pointer<A>)
+    pub(crate) fn sub(self, offset: usize) -> (u64, Pointer<A>)
         requires right { self.right ≡ dropping }
-        requires place { place ≡ word_offset (length self.text) }
+        requires offset { offset ≡ word_offset (length self.text) }
         ensures right { Leaves result.0 result.1.right }
         ensures history { SubtractedAs self result.0 result.1 }
         ensures same { IsSameBlock result.1 self }
     {
         let Pointer { at, marker } = self;
         let found = unsafe {
-            let tail = at.add(place) as *const Tail;
+            let tail = at.add(offset) as *const Tail;
             raw::fetch_sub::<Brand>(&raw const (*tail).word, ONE, SeqCst)
         };
         (found, Pointer { at, marker })
@@ -198,9 +198,9 @@ impl<A: Allocator> Pointer<A> {
     }
 
     /// The block and the length of its text, for whoever subtracted last and frees the block.
-    pub(crate) fn back(self, place: usize) -> (Sole<A>, usize)
+    pub(crate) fn back(self, offset: usize) -> (Sole<A>, usize)
         requires right { self.right ≡ owed }
-        requires place { place ≡ word_offset (length self.text) }
+        requires offset { offset ≡ word_offset (length self.text) }
         ensures home { result.0.home ≡ self.home }
         ensures text { result.0.text ≡ self.text }
         ensures length { result.1 ≡ length self.text }
@@ -208,7 +208,7 @@ impl<A: Allocator> Pointer<A> {
     {
         let Pointer { at, marker } = self;
         let len = unsafe {
-            let tail = at.add(place) as *const Tail;
+            let tail = at.add(offset) as *const Tail;
             (*tail).length
         };
         let at = at.cast_mut();

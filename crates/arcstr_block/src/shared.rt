@@ -2,7 +2,7 @@
 ghost use Rattle.std.specs.Prelude.{◌≡◌, ℕ, length, IsUtf8, ◌<◌, ◌≤◌, ◌+◌, MatchOption, IfOk, IfErr, IfSome};
 ghost use Rattle.arcstr_count.specs.Word.{bits_of, fresh_word};
 ghost use Rattle.arcstr_block.specs.Memory.{Fits};
-ghost use Rattle.arcstr_block.specs.Word.{IsLimit, IsUnmarked, IsWord, IsOtherWord};
+ghost use Rattle.arcstr_block.specs.Word.{IsLimit, IsUnmarked, IsCountWord, IsOtherWord};
 ghost use Rattle.arcstr_block.specs.Rights.{IsFree, is_free_once};
 ghost use Rattle.arcstr_block.specs.Handle.{Handle, SawCount, SawMark, SawLeak, kept_of};
 ghost use Rattle.arcstr_block.specs.Same.{handle_of};
@@ -258,19 +258,19 @@ impl<const LIMIT: u64, A: Allocator + Copy> Shared<LIMIT, A> {
             len,
             alloc,
         } = handle;
-        let place = offset_of_word(len);
-        let (found, pointer) = pointer.begin(place);
+        let offset = offset_of_word(len);
+        let (found, pointer) = pointer.begin(offset);
         if marked(found) {
             let seen = pointer.seen();
             pointer.forget();
             return (Down::Ended, seen);
         }
-        let (found, pointer) = pointer.sub(place);
+        let (found, pointer) = pointer.sub(offset);
         let seen = pointer.seen();
         if is_last(found) {
             let owed = Owed {
                 pointer,
-                place,
+                offset,
                 alloc,
             };
             return (Down::Owes(owed), seen);
@@ -287,7 +287,7 @@ impl<const LIMIT: u64, A: Allocator + Copy> Counted<LIMIT, A> {
     fn find(&self) -> Result<Counted<LIMIT, A>, u64>
         ensures clone { IfOk result (λ clone. IsCloneOf clone.pointer self.now.pointer) }
         ensures unmarked { IfErr result IsUnmarked }
-        ensures word { IfErr result (IsWord LIMIT) }
+        ensures word { IfErr result (IsCountWord LIMIT) }
     {
         let (found, gained) = self.pointer.load(offset_of_word(self.len));
         if marked(found) {
@@ -301,7 +301,7 @@ impl<const LIMIT: u64, A: Allocator + Copy> Counted<LIMIT, A> {
     /// One try of a clone from the unmarked word `old`: another handle, or the unmarked word that was found.
     fn exchange(&self, old: u64) -> Result<Counted<LIMIT, A>, u64>
         requires unmarked { IsUnmarked old }
-        requires word { IsWord LIMIT old }
+        requires word { IsCountWord LIMIT old }
         ensures clone { IfOk result (λ clone. IsCloneOf clone.pointer self.now.pointer) }
         ensures found { IfErr result (IsOtherWord LIMIT old) }
     {
@@ -322,7 +322,7 @@ impl<const LIMIT: u64, A: Allocator + Copy> Counted<LIMIT, A> {
     #[inline(never)]
     fn exchange_until<R: Wait>(&self, rt: &R, old: u64) -> Counted<LIMIT, A>
         requires unmarked { IsUnmarked old }
-        requires word { IsWord LIMIT old }
+        requires word { IsCountWord LIMIT old }
         ensures { IsCloneOf result.pointer self.now.pointer }
     {
         let mut old = old;

@@ -2,7 +2,7 @@
 //! alone, which is all that a step knows of the word.
 ghost use Rattle.std.specs.Prelude.{◌≡◌, ◌≤◌, IsTrue, ◌↔◌, MatchOption};
 ghost use Rattle.arcstr_count.specs.Word.{looked_of};
-ghost use Rattle.arcstr_block.specs.Word.{IsMarked, IsUnmarked, IsWord, IsClone, IsLast, word_of};
+ghost use Rattle.arcstr_block.specs.Word.{IsMarked, IsUnmarked, IsCountWord, IsClone, IsLast, word_of};
 
 use arcstr_count::{RC_MAX, Word};
 
@@ -30,7 +30,7 @@ pub(crate) fn looked(word: u64) -> Option<u64>
 /// The word after a clone of an unmarked one.
 pub(crate) fn next(limit: u64, old: u64) -> u64
     requires unmarked { IsUnmarked old }
-    requires word { IsWord limit old }
+    requires word { IsCountWord limit old }
     requires low { limit ≤ RC_MAX }
     ensures { IsClone limit old result }
 {

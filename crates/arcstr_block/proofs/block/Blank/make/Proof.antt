@@ -80,13 +80,13 @@ make_spec 𝓤 𝓛 𝓜 𝓡 wired Y K g d dd met md =
     ) (#self inst) fn closed
     (λ κs. (shr_vals, (uint_vals w64, (uint_vals w64, (uint_vals w64, (uint_vals w64, tt)))))) (λ κs.
     (shr_Tells (named 0) κs.0 B, (uint_Tells w64, (uint_Tells w64, (uint_Tells w64, (uint_Tells w64, tt)))))) (λ κs qs bounds a gh are.
-    let hp : ℕ × ℕ = a.0.ref_ptr in let heap : Y.Denot = a.0.now in let w : ℕ = a.1.0 in let n : ℕ = a.1.1.0 in let place : ℕ = a.1.1.1.0 in
+    let hp : ℕ × ℕ = a.0.ref_ptr in let heap : Y.Denot = a.0.now in let w : ℕ = a.1.0 in let n : ℕ = a.1.1.0 in let offset : ℕ = a.1.1.1.0 in
     let size : ℕ = a.1.1.1.1.0 in
     let κ : Lft = κs.0 in let q : Share = qs.0 in
     let token : Ty → Ptr → Fml = g.dealloc_token heap in let τ : Ty = bare (block_type n) in let fit_w : WT (vint w64 w) = record { fits = are.1.0.1 } in
-    let fit_n : WT (vint w64 n) = record { fits = are.1.1.0.1 } in let fit_place : WT (vint w64 place) = record { fits = are.1.1.1.0.1 } in
+    let fit_n : WT (vint w64 n) = record { fits = are.1.1.0.1 } in let fit_offset : WT (vint w64 offset) = record { fits = are.1.1.1.0.1 } in
     let small : size < 2 ^ 64 = are.1.1.1.1.0.1 in
-    let us : List Val = vptr hp.0 hp.1 ∷ vint w64 w ∷ vint w64 n ∷ vint w64 place ∷ vint w64 size ∷ [] in
+    let us : List Val = vptr hp.0 hp.1 ∷ vint w64 w ∷ vint w64 n ∷ vint w64 offset ∷ vint w64 size ∷ [] in
     let y : (walk_of 𝓛 En hs c).Ghost = (
       (
         κs,
@@ -100,7 +100,7 @@ make_spec 𝓤 𝓛 𝓜 𝓡 wired Y K g d dd met md =
             (
               vint w64 n ∷ [],
               (
-                vint w64 place ∷ [],
+                vint w64 offset ∷ [],
                 (vint w64 size ∷ [], tt),
               ),
             ),
@@ -112,13 +112,13 @@ make_spec 𝓤 𝓛 𝓜 𝓡 wired Y K g d dd met md =
     let Post : Val → SProp 𝓤 = (walk_of 𝓛 En hs c).post y in
     let others : Fml = fsep (flft κs.1.0 qs.1.0) ftrue in
     qed 𝓛 (((‵ (flft κ q) ⊛ ‵ others) ⊛ ‵ (owns (types_at En.signature.params κs) a y.0.4)) ∷ raw (fact 𝓤 (κs.1.0 ⊑ Y.lives)) ∷ raw (fact 𝓤
-    (place ≡ word_offset n)) ∷ raw (fact 𝓤 (size ≡ block_size n)) ∷ raw (fact 𝓤 (Fits n)) ∷ []) ∵
+    (offset ≡ word_offset n)) ∷ raw (fact 𝓤 (size ≡ block_size n)) ∷ raw (fact 𝓤 (Fits n)) ∷ []) ∵
     keep ! (1 ∷ 2 ∷ 3 ∷ 4 ∷ 0 ∷ []) $
-    heard ! (κs.1.0 ⊑ Y.lives) (λ inside. heard ! (place ≡ word_offset n) (λ placed. heard ! (size ≡ block_size n) (λ sized.
+    heard ! (κs.1.0 ⊑ Y.lives) (λ inside. heard ! (offset ≡ word_offset n) (λ placed. heard ! (size ≡ block_size n) (λ sized.
     heard ! (Fits n) (λ fits. split ! $ split ! $
     move ! (2 ∷ []) $ fsplit ! $ fsplit ! $ keep ! (1 ∷ 3 ∷ 4 ∷ []) $
     enter ! 𝓣.C 𝓣.Λ fn us Post $
-    alloc_all ! (λ l. pass_all ! refl ((tt, tt), ((tt, fit_w), ((tt, fit_n), ((tt, fit_place), ((tt, record { fits = small }), tt))))) $
+    alloc_all ! (λ l. pass_all ! refl ((tt, tt), ((tt, fit_w), ((tt, fit_n), ((tt, fit_offset), ((tt, record { fits = small }), tt))))) $
     let Ev = env fn.locals l in let both : Body = head (after 1 fn.body) in
     let Then = any_q (after_seq 𝓤 H (Wp 𝓤 H 𝓣.C 𝓣.Λ Ev (after 2 fn.body) (at_return 𝓤 H Ev Post)) (at_return 𝓤 H Ev Post)) in
     let Asked = Takes Z 𝓛 𝓜.mem 𝓡.returns in let z : Asked.Ghost = at_takes Z 𝓛 𝓜.mem 𝓡.returns κ q hp heap size 8 τ in
@@ -137,7 +137,7 @@ make_spec 𝓤 𝓛 𝓜 𝓡 wired Y K g d dd met md =
     lands_as ! e refl (Answer-typed true b o) $ first ! $ switches_on ! (get_tag ! (vrt ! refl (fld ! refl (stop !))) (all_of_it !)) $
     exec ! 𝓣.C 𝓣.Λ Ev (arm_body 0 both) Then $
     sets ! (of_opd ! (get_in ! (vrt ! refl (fld ! refl (stop !))) (in_variant ! 0 0 refl refl (all_of_it !)))) refl (tt, tt) $
-    sets ! (is ! (bin ! (get ! refl) (get ! refl) tt) (ap (vptr b) (let x : place + o ≡ t = omega (arith, placed) in x))) refl (tt, tt) $
+    sets ! (is ! (bin ! (get ! refl) (get ! refl) tt) (ap (vptr b) (let x : offset + o ≡ t = omega (arith, placed) in x))) refl (tt, tt) $
     sets ! (of_opd ! (get ! refl)) refl (tt, tt) $
     sets ! (addr ! (through ! refl (fld ! refl (stop !)))) refl (tt, tt) $
     assigns ! (of_opd ! (get ! refl)) (through ! refl (stop !)) (init ! 3 refl (tt, fit_w)) $

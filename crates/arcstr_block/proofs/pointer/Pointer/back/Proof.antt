@@ -39,18 +39,18 @@ back_spec 𝓤 𝓛 𝓜 𝓡 wired Y K g d dd met md =
     let h : Row.Denot = a.0 in let p : Ptr = h.at in let xs : List ℕ = h.text in let n : ℕ = length xs in let lim : ℕ = h.limit in
     let holds = g.dealloc_token h.home in let P : Fml = block_owns holds p xs in let s = block_shares p xs in
     let b : ℕ = block_of p in let o : ℕ = count_of p in
-    let place : ℕ = a.1.0 in let fits_place : place < 2 ^ 64 = are.1.0.1 in let u : ℕ = o + word_offset n in
-    let y : (walk_of 𝓛 En hs c).Ghost = ((κs, qs, bounds, a, (pointer_val p ∷ [], (vint w64 place ∷ [], tt))), gh) in
+    let offset : ℕ = a.1.0 in let fits_offset : offset < 2 ^ 64 = are.1.0.1 in let u : ℕ = o + word_offset n in
+    let y : (walk_of 𝓛 En hs c).Ghost = ((κs, qs, bounds, a, (pointer_val p ∷ [], (vint w64 offset ∷ [], tt))), gh) in
     let Post : Val → SProp 𝓤 = (walk_of 𝓛 En hs c).post y in
     qed 𝓛 ((raw (alive 𝓛 En.signature κs qs) ⊛ ‵ (owns (types_at En.signature.params κs) a y.0.4)) ∷ raw (fact 𝓤 _) ∷ raw (fact 𝓤 (h.right ≡ owed)) ∷
-    raw (fact 𝓤 (place ≡ word_offset n)) ∷ []) ∵
-    keep ! (2 ∷ 3 ∷ 0 ∷ []) $ heard ! (h.right ≡ owed) (λ mine. heard ! (place ≡ word_offset n) (λ placed.
-    let there : place + o ≡ u = omega (arith, placed) in split ! $ move ! (1 ∷ []) $ fsplit ! $ fsplit ! $ keep ! (1 ∷ 3 ∷ []) $ fsplit ! $ fpick ! (λ inb.
+    raw (fact 𝓤 (offset ≡ word_offset n)) ∷ []) ∵
+    keep ! (2 ∷ 3 ∷ 0 ∷ []) $ heard ! (h.right ≡ owed) (λ mine. heard ! (offset ≡ word_offset n) (λ placed.
+    let there : offset + o ≡ u = omega (arith, placed) in split ! $ move ! (1 ∷ []) $ fsplit ! $ fsplit ! $ keep ! (1 ∷ 3 ∷ []) $ fsplit ! $ fpick ! (λ inb.
     drop ! $ let at : p ≡ block_ptr b o = at_block p inb.0 in
     let small : n < 2 ^ 64 = (let x = inb.1.0 in omega arith) in fpick ! (λ t. fsplit ! $ drop ! $
     rewrite ! 0 (λ (k : Right). ‵ (held_with P lim b (u + 0) t s h.seat k)) mine refl $ fsplit ! $ drop ! $ fsplit3 ! $ fsplit ! $
-    enter ! 𝓣.C 𝓣.Λ fn (pointer_val p ∷ vint w64 place ∷ []) Post $
-    alloc_all ! (λ l. pass_all ! refl (typed p, ((tt, record { fits = fits_place }), tt)) $ let Ev = env fn.locals l in
+    enter ! 𝓣.C 𝓣.Λ fn (pointer_val p ∷ vint w64 offset ∷ []) Post $
+    alloc_all ! (λ l. pass_all ! refl (typed p, ((tt, record { fits = fits_offset }), tt)) $ let Ev = env fn.locals l in
     -- [the word; the book; what the block owns; the seat; the tokens]
     move ! (1 ∷ 3 ∷ []) $ use2 𝓛 (later (‵ (Book lim t.name.history t.name.seats 0) ⊛ ‵ (seat t.name.seats h.seat Gone) ⊛
     ‵ (Ends lim t.name.history t.name.seats (Back h.seat) Given))) (via 𝓤 _

@@ -10,7 +10,7 @@ use Rattle.arcstr_block.proofs.WholeProofs.{shr_vals, shr_Tells, uint_vals, uint
 use Rattle.arcstr_block.proofs.WholeProofs.{leaves, fm, found, finds}
 use Rattle.core.specs.contracts.marker.PhantomData as Marker
 use Rattle.atomic_table.proofs.Calls.{exchanges}
-use Rattle.arcstr_block.specs.Word.{IsWord, IsClone}
+use Rattle.arcstr_block.specs.Word.{IsCountWord, IsClone}
 use Rattle.arcstr_block.specs.Rights.{IsFree, Gains, Right}
 use Rattle.arcstr_block.specs.Memory.{block_owns, block_shares, word_at, word_offset}
 use Rattle.arcstr_block.specs.Ledger.{Inv, knows, right_to, pointer_shares}
@@ -63,8 +63,8 @@ clone_exchange_spec 𝓤 𝓛 𝓜 𝓡 wired Y K g d dd met md =
     let h : Row.Denot = a.0.now in let p : Ptr = h.at in let right : Right = h.right in let lim : ℕ = h.limit in let holds = g.dealloc_token h.home in
     let P : Fml = block_owns holds p h.text in let s : Lft → Fml = block_shares p h.text in
     let sl = shares_laws p h.text in
-    let place : ℕ = a.1.0 in let old : ℕ = a.1.1.0 in let new : ℕ = a.1.1.1.0 in
-    let us : List Val = vptr b o ∷ vint w64 place ∷ vint w64 old ∷ vint w64 new ∷ [] in
+    let offset : ℕ = a.1.0 in let old : ℕ = a.1.1.0 in let new : ℕ = a.1.1.1.0 in
+    let us : List Val = vptr b o ∷ vint w64 offset ∷ vint w64 old ∷ vint w64 new ∷ [] in
     let pb : ℕ = block_of p in
     let po : ℕ = word_at p (length h.text) in
     let y : (walk_of 𝓛 En hs c).Ghost = (
@@ -76,7 +76,7 @@ clone_exchange_spec 𝓤 𝓛 𝓜 𝓡 wired Y K g d dd met md =
         (
           vptr b o ∷ [],
           (
-            vint w64 place ∷ [],
+            vint w64 offset ∷ [],
             (
               vint w64 old ∷ [],
               (vint w64 new ∷ [], tt),
@@ -88,9 +88,9 @@ clone_exchange_spec 𝓤 𝓛 𝓜 𝓡 wired Y K g d dd met md =
     ) in
     let Post : Val → SProp 𝓤 = (walk_of 𝓛 En hs c).post y in
     qed 𝓛 (((‵ (flft κ q) ⊛ ‵ others) ⊛ ‵ (owns (types_at En.signature.params κs) a y.0.4)) ∷ raw (fact 𝓤 _) ∷ raw (fact 𝓤 (IsFree right)) ∷ raw (fact 𝓤
-    (place ≡ word_offset (length h.text))) ∷ raw (fact 𝓤 (IsClone lim old new)) ∷ []) ∵
-    keep ! (2 ∷ 3 ∷ 4 ∷ 0 ∷ []) $ heard ! (IsFree right) (λ may. heard ! (place ≡ word_offset (length h.text)) (λ placed.
-    let there : place + count_of p ≡ count_of p + word_offset (length h.text) = omega (arith, placed) in
+    (offset ≡ word_offset (length h.text))) ∷ raw (fact 𝓤 (IsClone lim old new)) ∷ []) ∵
+    keep ! (2 ∷ 3 ∷ 4 ∷ 0 ∷ []) $ heard ! (IsFree right) (λ may. heard ! (offset ≡ word_offset (length h.text)) (λ placed.
+    let there : offset + count_of p ≡ count_of p + word_offset (length h.text) = omega (arith, placed) in
     heard ! (IsClone lim old new) (λ asked. split ! $ split ! $ move ! (2 ∷ []) $ fsplit ! $ fsplit ! $
     keep ! (1 ∷ 3 ∷ 4 ∷ []) $
     enter ! 𝓣.C 𝓣.Λ fn us Post $ alloc_all ! (λ l. pass_all ! refl (
@@ -160,7 +160,7 @@ clone_exchange_spec 𝓤 𝓛 𝓜 𝓡 wired Y K g d dd met md =
     let Same : Type 0 = (h.home ≡ h.home) × (h.text ≡ h.text) × (lim ≡ lim) × (h.block ≡ h.block) in
     use0 𝓛 (raw (fact 𝓤 Same)) (fact_i 𝓤 Same (emp 𝓤) (refl, refl, refl, refl)) $
     use0 𝓛 (raw (fact 𝓤 (Gains old new n k))) (fact_i 𝓤 (Gains old new n k) (emp 𝓤) got.said) $ join ! $
-    use0 𝓛 (raw (fact 𝓤 (IsWord lim n))) (fact_i 𝓤 (IsWord lim n) (emp 𝓤) ok.0) $ join ! $
+    use0 𝓛 (raw (fact 𝓤 (IsCountWord lim n))) (fact_i 𝓤 (IsCountWord lim n) (emp 𝓤) ok.0) $ join ! $
     nothing ! $ nothing ! $ fjoin ! $ nothing ! $ fjoin ! $ nothing ! $ fjoin ! $ nothing ! $ fjoin ! $ returns ! (look_at ! 0 refl) $ free_all ! refl $
     keep ! (3 ∷ 0 ∷ 2 ∷ 1 ∷ []) $
     by ! (leaves 𝓛 En hs c y r (n, h') (tt, (tt, (tt, (tt, tt)))) (tt, (tt, (tt, (tt, tt)))))))))))))))))))))

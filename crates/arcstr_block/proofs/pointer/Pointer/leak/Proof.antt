@@ -49,16 +49,16 @@ leak_spec 𝓤 𝓛 𝓜 𝓡 wired Y K g d dd met md =
     let P : Fml = block_owns holds p h.text in let s : Lft → Fml = block_shares p h.text in
     let sl = shares_laws p h.text in
     let pb : ℕ = block_of p in let po : ℕ = word_at p (length h.text) in
-    let place : ℕ = a.1.0 in let fits_place : place < 2 ^ 64 = are.1.0.1 in
-    let y : (walk_of 𝓛 En hs c).Ghost = ((κs, qs, bounds, a, (vptr b o ∷ [], (vint w64 place ∷ [], tt))), gh) in
+    let offset : ℕ = a.1.0 in let fits_offset : offset < 2 ^ 64 = are.1.0.1 in
+    let y : (walk_of 𝓛 En hs c).Ghost = ((κs, qs, bounds, a, (vptr b o ∷ [], (vint w64 offset ∷ [], tt))), gh) in
     let Post : Val → SProp 𝓤 = (walk_of 𝓛 En hs c).post y in
     qed 𝓛 (((‵ (flft κ q) ⊛ ‵ others) ⊛ ‵ (owns (types_at En.signature.params κs) a y.0.4)) ∷ raw (fact 𝓤 _) ∷ raw (fact 𝓤 (IsFree right)) ∷
-    raw (fact 𝓤 (place ≡ word_offset (length h.text))) ∷ []) ∵
-    keep ! (2 ∷ 3 ∷ 0 ∷ []) $ heard ! (IsFree right) (λ may. heard ! (place ≡ word_offset (length h.text)) (λ placed.
-    let there : place + count_of p ≡ count_of p + word_offset (length h.text) = omega (arith, placed) in
+    raw (fact 𝓤 (offset ≡ word_offset (length h.text))) ∷ []) ∵
+    keep ! (2 ∷ 3 ∷ 0 ∷ []) $ heard ! (IsFree right) (λ may. heard ! (offset ≡ word_offset (length h.text)) (λ placed.
+    let there : offset + count_of p ≡ count_of p + word_offset (length h.text) = omega (arith, placed) in
     split ! $ split ! $ move ! (2 ∷ []) $ fsplit ! $ fsplit ! $ keep ! (1 ∷ 3 ∷ 4 ∷ []) $
-    enter ! 𝓣.C 𝓣.Λ fn (vptr b o ∷ vint w64 place ∷ []) Post $
-    alloc_all ! (λ l. pass_all ! refl ((tt, tt), ((tt, record { fits = fits_place }), tt)) $ let Ev = env fn.locals l in
+    enter ! 𝓣.C 𝓣.Λ fn (vptr b o ∷ vint w64 offset ∷ []) Post $
+    alloc_all ! (λ l. pass_all ! refl ((tt, tt), ((tt, record { fits = fits_offset }), tt)) $ let Ev = env fn.locals l in
     use1 𝓛 (‵ (hidden_shr D κ (p, (tt, tt)) b o) ⊛ ‵ (fhide (pointer_shares holds lim p h.text right h.seat h.block h.history κ)))
     (lent_out 𝓛 (C.struct B g) (C.the_codes Y.Denot B.coded (Marker.the_row B).coded) (C.the_heap B g) (C.the_lent B g) κ h b o) $
     split ! $ move ! (1 ∷ []) $ unhide ! $ fsplit ! $ fpick ! (λ inb. drop ! $ let at : p ≡ block_ptr pb (count_of p) = at_block p inb.0 in fpick ! (λ t.

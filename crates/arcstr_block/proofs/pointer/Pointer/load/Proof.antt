@@ -10,7 +10,7 @@ use Rattle.arcstr_block.proofs.WholeProofs.{heard, looks, shuts, unhide, Is, sho
 use Rattle.arcstr_block.proofs.WholeProofs.{shr_Tells, lent_out, Stays, stay_dropped, walk_of, Goes-dropped, tail, proved, leaves, fm, seq_cst, found, finds}
 use Rattle.arcstr_block.proofs.WholeProofs.{loads}
 use Rattle.core.specs.contracts.marker.PhantomData as Marker
-use Rattle.arcstr_block.specs.Word.{IsWord}
+use Rattle.arcstr_block.specs.Word.{IsCountWord}
 use Rattle.arcstr_block.specs.Rights.{IsFree, Loads, Right}
 use Rattle.arcstr_block.specs.Memory.{block_owns, block_shares, word_at, word_offset}
 use Rattle.arcstr_block.specs.Ledger.{Inv, knows, pointer_shares}
@@ -46,16 +46,16 @@ load_spec 𝓤 𝓛 𝓜 𝓡 wired Y K g d dd met md =
     let P : Fml = block_owns holds p h.text in let s : Lft → Fml = block_shares p h.text in
     let sl = shares_laws p h.text in
     let pb : ℕ = block_of p in let po : ℕ = word_at p (length h.text) in
-    let place : ℕ = a.1.0 in let fits_place : place < 2 ^ 64 = are.1.0.1 in
-    let y : (walk_of 𝓛 En hs c).Ghost = ((κs, qs, bounds, a, (vptr b o ∷ [], (vint w64 place ∷ [], tt))), gh) in
+    let offset : ℕ = a.1.0 in let fits_offset : offset < 2 ^ 64 = are.1.0.1 in
+    let y : (walk_of 𝓛 En hs c).Ghost = ((κs, qs, bounds, a, (vptr b o ∷ [], (vint w64 offset ∷ [], tt))), gh) in
     let Post : Val → SProp 𝓤 = (walk_of 𝓛 En hs c).post y in
     qed 𝓛 (((‵ (flft κ q) ⊛ ‵ others) ⊛ ‵ (owns (types_at En.signature.params κs) a y.0.4)) ∷ raw (fact 𝓤 _) ∷ raw (fact 𝓤 (IsFree right)) ∷
-    raw (fact 𝓤 (place ≡ word_offset (length h.text))) ∷ []) ∵
-    keep ! (2 ∷ 3 ∷ 0 ∷ []) $ heard ! (IsFree right) (λ may. heard ! (place ≡ word_offset (length h.text)) (λ placed.
-    let there : place + count_of p ≡ count_of p + word_offset (length h.text) = omega (arith, placed) in
+    raw (fact 𝓤 (offset ≡ word_offset (length h.text))) ∷ []) ∵
+    keep ! (2 ∷ 3 ∷ 0 ∷ []) $ heard ! (IsFree right) (λ may. heard ! (offset ≡ word_offset (length h.text)) (λ placed.
+    let there : offset + count_of p ≡ count_of p + word_offset (length h.text) = omega (arith, placed) in
     split ! $ split ! $ move ! (2 ∷ []) $ fsplit ! $ fsplit ! $ keep ! (1 ∷ 3 ∷ 4 ∷ []) $
-    enter ! 𝓣.C 𝓣.Λ fn (vptr b o ∷ vint w64 place ∷ []) Post $
-    alloc_all ! (λ l. pass_all ! refl ((tt, tt), ((tt, record { fits = fits_place }), tt)) $ let Ev = env fn.locals l in
+    enter ! 𝓣.C 𝓣.Λ fn (vptr b o ∷ vint w64 offset ∷ []) Post $
+    alloc_all ! (λ l. pass_all ! refl ((tt, tt), ((tt, record { fits = fits_offset }), tt)) $ let Ev = env fn.locals l in
     use1 𝓛 (‵ (hidden_shr D κ (p, (tt, tt)) b o) ⊛ ‵ (fhide (pointer_shares holds lim p h.text right h.seat h.block h.history κ)))
     (lent_out 𝓛 (C.struct B g) (C.the_codes Y.Denot B.coded (Marker.the_row B).coded) (C.the_heap B g) (C.the_lent B g) κ h b o) $
     split ! $ move ! (1 ∷ []) $ unhide ! $ fsplit ! $ fpick ! (λ inb. drop ! $ let at : p ≡ block_ptr pb (count_of p) = at_block p inb.0 in fpick ! (λ t.
@@ -111,6 +111,6 @@ load_spec 𝓤 𝓛 𝓜 𝓡 wired Y K g d dd met md =
     let Same : Type 0 = (h.home ≡ h.home) × (h.text ≡ h.text) × (lim ≡ lim) × (h.block ≡ h.block) in let Saw : Type 0 = LoadedAs clones h n h' in
     use0 𝓛 (raw (fact 𝓤 (Loads clones n k)) ⊛ raw (fact 𝓤 Saw) ⊛ raw (fact 𝓤 Same))
     (framed.three 𝓛 got.said ends (refl, refl, refl, refl)) $
-    use0 𝓛 (raw (fact 𝓤 (IsWord lim n))) (fact_i 𝓤 (IsWord lim n) (emp 𝓤) ok.0) $ join ! $
+    use0 𝓛 (raw (fact 𝓤 (IsCountWord lim n))) (fact_i 𝓤 (IsCountWord lim n) (emp 𝓤) ok.0) $ join ! $
     nothing ! $ nothing ! $ fjoin ! $ nothing ! $ fjoin ! $ returns ! (look_at ! 0 refl) $ free_all ! refl $ keep ! (3 ∷ 0 ∷ 2 ∷ 1 ∷ []) $
     by ! (leaves 𝓛 En hs c y r (n, h') (tt, (tt, tt)) (tt, (tt, tt)))))))))))))))))))

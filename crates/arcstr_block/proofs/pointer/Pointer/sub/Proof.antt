@@ -45,13 +45,13 @@ sub_spec 𝓤 𝓛 𝓜 𝓡 wired Y K g d dd met md =
     let P : Fml = block_owns holds p h.text in let s : Lft → Fml = block_shares p h.text in
     let right : Right = h.right in let sl = shares_laws p h.text in
     let pb : ℕ = block_of p in let po : ℕ = word_at p (length h.text) in
-    let place : ℕ = a.1.0 in let fits_place : place < 2 ^ 64 = are.1.0.1 in
-    let y : (walk_of 𝓛 En hs c).Ghost = ((κs, qs, bounds, a, (pointer_val p ∷ [], (vint w64 place ∷ [], tt))), gh) in
+    let offset : ℕ = a.1.0 in let fits_offset : offset < 2 ^ 64 = are.1.0.1 in
+    let y : (walk_of 𝓛 En hs c).Ghost = ((κs, qs, bounds, a, (pointer_val p ∷ [], (vint w64 offset ∷ [], tt))), gh) in
     let Post : Val → SProp 𝓤 = (walk_of 𝓛 En hs c).post y in
     qed 𝓛 ((raw (alive 𝓛 En.signature κs qs) ⊛ ‵ (owns (types_at En.signature.params κs) a y.0.4)) ∷ raw (fact 𝓤 _) ∷
-    raw (fact 𝓤 (h.right ≡ dropping)) ∷ raw (fact 𝓤 (place ≡ word_offset (length h.text))) ∷ []) ∵
-    keep ! (2 ∷ 3 ∷ 0 ∷ []) $ heard ! (h.right ≡ dropping) (λ mine. heard ! (place ≡ word_offset (length h.text)) (λ placed.
-    let there : place + count_of p ≡ count_of p + word_offset (length h.text) = omega (arith, placed) in
+    raw (fact 𝓤 (h.right ≡ dropping)) ∷ raw (fact 𝓤 (offset ≡ word_offset (length h.text))) ∷ []) ∵
+    keep ! (2 ∷ 3 ∷ 0 ∷ []) $ heard ! (h.right ≡ dropping) (λ mine. heard ! (offset ≡ word_offset (length h.text)) (λ placed.
+    let there : offset + count_of p ≡ count_of p + word_offset (length h.text) = omega (arith, placed) in
     split ! $ move ! (1 ∷ []) $ fsplit ! $ fsplit ! $ keep ! (1 ∷ 3 ∷ []) $ fsplit ! $
     fpick ! (λ inb. drop ! $ let at : p ≡ block_ptr pb (count_of p) = at_block p inb.0 in
     fpick ! (λ t. let I : Fml = Inv P lim pb po t in let af : Lft = t.sharing ∷ [] in fsplit ! $ move ! (1 ∷ []) $
@@ -59,8 +59,8 @@ sub_spec 𝓤 𝓛 𝓜 𝓡 wired Y K g d dd met md =
     move ! (2 ∷ []) $ fsplit3 ! $
     -- [the part; what is shared; the seat; the invariant, twice; what is known; the tokens]
     move ! (3 ∷ 0 ∷ 2 ∷ []) $
-    enter ! 𝓣.C 𝓣.Λ fn (pointer_val p ∷ vint w64 place ∷ []) Post $
-    alloc_all ! (λ l. pass_all ! refl (typed p, ((tt, record { fits = fits_place }), tt)) $ let Ev = env fn.locals l in
+    enter ! 𝓣.C 𝓣.Λ fn (pointer_val p ∷ vint w64 offset ∷ []) Post $
+    alloc_all ! (λ l. pass_all ! refl (typed p, ((tt, record { fits = fits_offset }), tt)) $ let Ev = env fn.locals l in
     sets ! (is ! (of_opd ! (get_in ! (fld ! refl (stop !)) (sub ! 0 refl (whole !)))) (ap ptr_val at)) refl (tt, tt) $
     sets ! (of_opd ! (get_in ! (fld ! refl (stop !)) (sub ! 1 refl (whole !)))) refl (tt, tt) $
     let said : ℕ → Fml = λ n. fsep (seat t.name.seats h.seat (left_in 𝓛 lim t.name.history t.name.seats n)) (Ends lim t.name.history t.name.seats
