@@ -7,7 +7,7 @@ use Rattle.std.proofs.lemmas.List.Elements.{All-from_get_or}
 use Rattle.std.proofs.lemmas.Bool.{cases_lt, not-true}
 use Rattle.std.proofs.lemmas.List.{take_all}
 use Rattle.std.proofs.Math.ListN.{drop_of_length-le}
-use Rattle.arcbench_core.specs.Line.{without_empty_last, lines_of}
+use Rattle.arcbench_core.specs.Line.{without_empty_last, script_lines}
 
 -- a part before other parts is a line, empty or not
 without_empty_last-cons : (part : List ℕ) (parts : List (List ℕ)) → 0 < length parts → without_empty_last (part ∷ parts) ≡ part ∷ without_empty_last parts
@@ -26,19 +26,22 @@ none_passes p bytes h =
     All-from_get_or (λ b. p b ≡ false) bytes 0
     (λ k in_bytes. not-true _ (prefix_len_passes (λ b. not (p b)) bytes k 0 (omega arith)))
 
-cut : (p : ℕ → Bool) (bytes : List ℕ) → 0 < length bytes → (position_or_len p bytes < length bytes) ⊎ (length bytes ≤ position_or_len p bytes) → without_empty_last (slice_split p bytes) ≡ before_first p bytes ∷ without_empty_last (slice_split p (after_first p bytes))
-cut p bytes h (inl there) =
+first_part_is_first_line : (p : ℕ → Bool) (bytes : List ℕ) → 0 < length bytes
+    → (position_or_len p bytes < length bytes) ⊎ (length bytes ≤ position_or_len p bytes)
+    → without_empty_last (slice_split p bytes) ≡ before_first p bytes ∷ without_empty_last (slice_split p (after_first p bytes))
+first_part_is_first_line p bytes h (inl there) =
     let more : 0 < length (slice_split p (after_first p bytes)) = omega (arith, length-slice_split p (after_first p bytes)) in
     rw (slice_split_first p bytes 0 there) (without_empty_last-cons _ _ more)
-cut p bytes h (inr absent) =
+first_part_is_first_line p bytes h (inr absent) =
     let past : length bytes ≤ position_or_len p bytes + 1 = omega arith in
     rw (slice_split_none p bytes (none_passes p bytes absent), take_all (position_or_len p bytes) bytes absent, drop_of_length-le bytes past) (without_empty_last-one bytes h)
 
-pub lines_of-first : (bytes : List ℕ) → 0 < length bytes → lines_of bytes ≡ before_first (λ b. b == 10) bytes ∷ lines_of (after_first (λ b. b == 10) bytes)
-lines_of-first bytes h = cut (λ b. b == 10) bytes h (cases_lt (position_or_len (λ b. b == 10) bytes) (length bytes))
+pub script_lines-first : (bytes : List ℕ) → 0 < length bytes
+    → script_lines bytes ≡ before_first (λ b. b == 10) bytes ∷ script_lines (after_first (λ b. b == 10) bytes)
+script_lines-first bytes h = first_part_is_first_line (λ b. b == 10) bytes h (cases_lt (position_or_len (λ b. b == 10) bytes) (length bytes))
 
 -- bytes without byte 10 are one line
-pub lines_of-none : (bytes : List ℕ) → 0 < length bytes → position_or_len (λ b. b == 10) bytes ≡ length bytes → lines_of bytes ≡ bytes ∷ []
-lines_of-none bytes h absent =
+pub script_lines-none : (bytes : List ℕ) → 0 < length bytes → position_or_len (λ b. b == 10) bytes ≡ length bytes → script_lines bytes ≡ bytes ∷ []
+script_lines-none bytes h absent =
     let past : length bytes ≤ position_or_len (λ b. b == 10) bytes = omega (arith, absent) in
     rw (slice_split_none (λ b. b == 10) bytes (none_passes (λ b. b == 10) bytes past)) (without_empty_last-one bytes h)

@@ -14,9 +14,6 @@ use Rattle.arcbench_core.specs.Script.{steps_of, history_with, line_answer, answ
 
 -- ---- the answers to the first lines
 
-joined : ℕ → List (List ℕ) → ℕ → List ℕ
-joined limit lines n = concat (map (λ k. answer_at limit lines k) (numbers_below n))
-
 pub concat-map-push : (f : ℕ → List ℕ) (ks : List ℕ) (k : ℕ) → concat (map f (ks ++ k ∷ [])) ≡ concat (map f ks) ++ f k
 concat-map-push f ks k =
     ap concat (map-append f ks (k ∷ [])) ∙ concat-append (map f ks) (f k ∷ []) ∙ ap (λ end. concat (map f ks) ++ end) (append-nil (f k))

@@ -13,7 +13,7 @@ use Rattle.std.proofs.lemmas.Slice.Eq.{bytes_eq-Decides}
 use Rattle.std.proofs.Math.ListN.{drop_of_length-le}
 use Rattle.arcstr_count.specs.declared.steps.Step.{Step}
 use Rattle.arcstr_count.specs.declared.steps.Step.TheVariants.{Make, Look, Clone, Begin, Sub, Back, Leak, IntoRaw, FromRaw}
-use Rattle.arcbench_core.specs.Line.{command_part, after_command, is_decimal, has_idle_zero, number_of, step_named, step_of, limit_of}
+use Rattle.arcbench_core.specs.Line.{command_part, after_command, is_decimal, has_idle_zero, number_of, step_named, step_of, limit_in}
 use Rattle.arcbench_core.specs.LineText.{line_text, limit_text, HasHandle}
 use Rattle.arcbench_core.proofs.ParsedNumbers.{own, is_decimal-true, from_is_decimal}
 
@@ -24,8 +24,8 @@ chosen : {X : Type 0} (b : Bool) (x y : X) (other : Option X) → (if b then Som
 chosen true x y other e = inl (refl, cc)
 chosen false x y other e = inr e
 
-idle_zero : (text : List ℕ) → has_idle_zero text ≡ false → get_or text 0 0 ≡ 48 → 0 < length text → length text ≡ 1
-idle_zero text none zero_first some =
+zero_not_idle_is_alone : (text : List ℕ) → has_idle_zero text ≡ false → get_or text 0 0 ≡ 48 → 0 < length text → length text ≡ 1
+zero_not_idle_is_alone text none zero_first some =
     elim (cases_lt 1 (length text)) [
       | inl long ↦ absurd (let e : has_idle_zero text ≡ true = rw (eq-eqb _ _ zero_first, lt-ltb _ _ long) refl in cc)
       | inr short ↦ omega arith
@@ -39,7 +39,7 @@ number_of-Some text n e =
           let parts = and_parts _ _ h.0 in
           let digits = from_is_decimal text parts.0 in
           let written : decimal (digits_value 10 text) ≡ text =
-          decimal-digits_value own text digits.0 digits.1 (λ zero_first. idle_zero text (not-false' _ parts.1) zero_first digits.1) digits.2 in
+          decimal-digits_value own text digits.0 digits.1 (λ zero_first. zero_not_idle_is_alone text (not-false' _ parts.1) zero_first digits.1) digits.2 in
           (sym written ∙ ap decimal h.1, let below : digits_value 10 text < 2 ^ 64 = digits.2 in omega (arith, h.1))
       | inr h ↦ absurd cc
     ]
@@ -153,15 +153,15 @@ step_of-line_text (Leak n) h = rw (number_of-decimal n h) refl
 step_of-line_text (IntoRaw n) h = rw (number_of-decimal n h) refl
 step_of-line_text (FromRaw n) h = rw (number_of-decimal n h) refl
 
-pub limit_of-Some : (line : List ℕ) (n : ℕ) → limit_of line ≡ Some n → line ≡ limit_text n
-limit_of-Some line n e = limit_by (bytes_eq (command_part line) (codes "limit")) refl e
+pub limit_in-Some : (line : List ℕ) (n : ℕ) → limit_in line ≡ Some n → line ≡ limit_text n
+limit_in-Some line n e = limit_by (bytes_eq (command_part line) (codes "limit")) refl e
   where
     limit_by : (b : Bool) → bytes_eq (command_part line) (codes "limit") ≡ b → (if b then number_of (after_command line) else None) ≡ Some n → line ≡ limit_text n
     limit_by true same e = number_after line n e ∙ ap (λ w. w ++ 32 ∷ decimal n) (same_bytes (command_part line) (codes "limit") same)
     limit_by false same e = absurd cc
 
-pub limit_of-limit_text : (n : ℕ) → n < 2 ^ 64 → limit_of (limit_text n) ≡ Some n
-limit_of-limit_text n h = number_of-decimal n h
+pub limit_in-limit_text : (n : ℕ) → n < 2 ^ 64 → limit_in (limit_text n) ≡ Some n
+limit_in-limit_text n h = number_of-decimal n h
 
 -- ---- the contracts of functions that compute these definitions
 
@@ -183,9 +183,9 @@ module _ (line : List ℕ) (r : Option Step) (is : r ≡ step_of line) where
   pub step_read : (step : Step) → HasHandle step → line ≡ line_text step → r ≡ Some step
   step_read step h e = is ∙ ap step_of e ∙ step_of-line_text step h
 
-module _ (line : List ℕ) (r : Option ℕ) (is : r ≡ limit_of line) where
+module _ (line : List ℕ) (r : Option ℕ) (is : r ≡ limit_in line) where
   pub limit_written : IfSome r (λ n. line ≡ limit_text n)
-  limit_written = if_some r (λ n. line ≡ limit_text n) (λ n e. limit_of-Some line n (sym is ∙ e))
+  limit_written = if_some r (λ n. line ≡ limit_text n) (λ n e. limit_in-Some line n (sym is ∙ e))
 
   pub limit_read : (n : ℕ) → n < 2 ^ 64 → line ≡ limit_text n → r ≡ Some n
-  limit_read n h e = is ∙ ap limit_of e ∙ limit_of-limit_text n h
+  limit_read n h e = is ∙ ap limit_in e ∙ limit_in-limit_text n h

@@ -7,8 +7,8 @@ use Rattle.arcstr.specs.Substr.{SubstrView, slice_of}
 use Rattle.arcstr.specs.TextView.{TextView}
 use Rattle.arctokens.specs.Tokens.{AreTokensOfEach, TokenList}
 use Rattle.arctokens.specs.Words.{AreWords}
-use Rattle.arcbench_core.specs.Line.{lines_of}
-use Rattle.arcbench_core.specs.TokenLines.{IsTokenAnswer, word_line, word_lines, lines_from, texts_of, slice_line, slice_lines, lines_of_lists}
+use Rattle.arcbench_core.specs.Line.{script_lines}
+use Rattle.arcbench_core.specs.TokenLines.{IsTokenAnswer, word_line, word_lines, lines_from, texts_of_shared, slice_line, slice_lines, lines_of_lists}
 
 -- one more slice
 slice_lines-push : (number : ℕ) (slices : List SubstrView) (slice : SubstrView)
@@ -61,8 +61,8 @@ slice_lines-words number text (word ∷ words) = ap (λ rest. word_line number t
 -- the words of each text, whose lines are the lines of all lists
 pub record HasWords (number : ℕ) (texts : List TextView) (lists : List TokenList) : Type 0 where
   pub words : List (List (ℕ × ℕ))
-  pub are_words : AllZip AreWords (texts_of texts) words
-  pub lines : lines_of_lists number lists ≡ lines_from number (texts_of texts) words
+  pub are_words : AllZip AreWords (texts_of_shared texts) words
+  pub lines : lines_of_lists number lists ≡ lines_from number (texts_of_shared texts) words
 
 pub HasWords-tokens : (number : ℕ) (texts : List TextView) (lists : List TokenList) → AreTokensOfEach texts lists → HasWords number texts lists
 HasWords-tokens number [] [] are = record { words = []; are_words = tt; lines = refl }
@@ -81,11 +81,11 @@ HasWords-tokens number (text ∷ texts) (list ∷ lists) are =
 
 -- the lines of all lists are the answer to the input whose lines are the texts
 pub IsTokenAnswer-lists : (input start output : List ℕ) (texts read : List TextView) (lists shown : List TokenList)
-    → texts_of texts ≡ lines_of input → read ≡ texts → AreTokensOfEach read lists → shown ≡ lists
+    → texts_of_shared texts ≡ script_lines input → read ≡ texts → AreTokensOfEach read lists → shown ≡ lists
     → start ≡ [] → output ≡ start ++ lines_of_lists 0 shown → IsTokenAnswer input output
 IsTokenAnswer-lists input start output texts read lists shown of_lines same_texts are same_lists empty printed =
     let has = HasWords-tokens 0 read lists are in
-    let same : texts_of read ≡ lines_of input = ap texts_of same_texts ∙ of_lines in
+    let same : texts_of_shared read ≡ script_lines input = ap texts_of_shared same_texts ∙ of_lines in
     record {
       words = has.words;
       are_words = subst (λ (l : List (List ℕ)). AllZip AreWords l has.words) same has.are_words;

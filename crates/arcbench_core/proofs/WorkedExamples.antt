@@ -4,19 +4,19 @@ use Rattle.std.specs.Prelude.{None, Some, Ok, Err, codes}
 use Rattle.std.specs.Fmt.{digits}
 use Rattle.arcstr_count.specs.declared.steps.Step.TheVariants.{Look}
 use Rattle.arcstr_count.specs.declared.faults.RunFault.TheVariants.{LimitTooLarge}
-use Rattle.arcbench_core.specs.Line.{lines_of, number_of, step_of}
+use Rattle.arcbench_core.specs.Line.{script_lines, number_of, step_of}
 use Rattle.arcbench_core.specs.Script.{answer_to}
 
 -- ---- lines, numbers and steps
 
-ends_with_newline : lines_of (codes "a\n\nb\n") ≡ codes "a" ∷ [] ∷ codes "b" ∷ []
+ends_with_newline : script_lines (codes "a\n\nb\n") ≡ codes "a" ∷ [] ∷ codes "b" ∷ []
 ends_with_newline = refl
 
-ends_without_newline : lines_of (codes "a\nb") ≡ codes "a" ∷ codes "b" ∷ []
+ends_without_newline : script_lines (codes "a\nb") ≡ codes "a" ∷ codes "b" ∷ []
 ends_without_newline = refl
 
-no_lines : lines_of [] ≡ []
-no_lines = refl
+no_bytes_have_no_lines : script_lines [] ≡ []
+no_bytes_have_no_lines = refl
 
 greatest_number : number_of (codes "18446744073709551615") ≡ Some 18446744073709551615
 greatest_number = refl
@@ -30,8 +30,8 @@ number_of_20_nines = refl
 zero_alone : number_of (codes "0") ≡ Some 0
 zero_alone = refl
 
-idle_zero : number_of (codes "05") ≡ None
-idle_zero = refl
+number_with_idle_zero : number_of (codes "05") ≡ None
+number_with_idle_zero = refl
 
 signed_number : number_of (codes "+5") ≡ None
 signed_number = refl
@@ -53,9 +53,10 @@ carriage_return = refl
 
 -- ---- scripts
 
-first_script : answer_to (codes "limit 5\nmake\nclone 0\nlook 1\nbegin 0\nsub 0\nlook 1\n") ≡ Ok (codes "made 0\nhandle 1\ncount 2\nlooked\nleft\ncount 1\n")
+clone_and_drop_script : answer_to (codes "limit 5\nmake\nclone 0\nlook 1\nbegin 0\nsub 0\nlook 1\n")
+    ≡ Ok (codes "made 0\nhandle 1\ncount 2\nlooked\nleft\ncount 1\n")
 unfolding digits
-first_script = refl
+clone_and_drop_script = refl
 
 bad_lines : answer_to (codes "limit 5\nmake\nlook 0\nlook  0\n\nmake 1\nlook 9\nlook 0") ≡ Ok (codes "made 0\ncount 1\nbad\nbad\nbad\nrefused 1 NoHandle\ncount 1\n")
 unfolding digits
@@ -74,8 +75,8 @@ idle_zero_in_limit = refl
 limit_alone : answer_to (codes "limit 5") ≡ Ok []
 limit_alone = refl
 
-limit_zero : answer_to (codes "limit 0\n") ≡ Ok []
-limit_zero = refl
+limit_line_of_zero : answer_to (codes "limit 0\n") ≡ Ok []
+limit_line_of_zero = refl
 
 greatest_limit : answer_to (codes "limit 4611686018427387903\n") ≡ Ok []
 greatest_limit = refl

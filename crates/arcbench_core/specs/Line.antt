@@ -7,6 +7,21 @@ use Rattle.std.specs.Str.Parse.{digits_value}
 use Rattle.arcstr_count.specs.declared.steps.Step.{Step}
 use Rattle.arcstr_count.specs.declared.steps.Step.TheVariants.{Make, Look, Clone, Begin, Sub, Back, Leak, IntoRaw, FromRaw}
 
+-- ---- bytes
+
+abbrev pub newline : ℕ
+newline = 10
+
+abbrev pub space : ℕ
+space = 32
+
+abbrev pub plus_sign : ℕ
+plus_sign = 43
+
+-- the digit 0
+abbrev pub zero_digit : ℕ
+zero_digit = 48
+
 -- ---- lines
 
 -- a last part that is empty is not a line
@@ -15,19 +30,19 @@ without_empty_last [] = []
 without_empty_last ([] ∷ []) = []
 without_empty_last (part ∷ parts) = part ∷ without_empty_last parts
 
--- the bytes cut at each byte 10
-abbrev pub lines_of : List ℕ → List (List ℕ)
-lines_of bytes = without_empty_last (slice_split (λ b. b == 10) bytes)
+-- the lines of a script, or of the input of `tokens`: the bytes cut at each newline
+abbrev pub script_lines : List ℕ → List (List ℕ)
+script_lines bytes = without_empty_last (slice_split (λ b. b == newline) bytes)
 
 -- ---- commands and numbers
 
 -- the command of a line: what is before its first space
 abbrev pub command_part : List ℕ → List ℕ
-command_part line = before_first (λ b. b == 32) line
+command_part line = before_first (λ b. b == space) line
 
 -- what is after the first space of a line
 abbrev pub after_command : List ℕ → List ℕ
-after_command line = after_first (λ b. b == 32) line
+after_command line = after_first (λ b. b == space) line
 
 -- at least one decimal digit, with a value below 2 ^ 64
 abbrev pub is_decimal : List ℕ → Bool
@@ -35,7 +50,7 @@ is_decimal text = all_ascii_digits text && nat_lt 0 (length text) && nat_lt (dig
 
 -- a 0 before other bytes
 abbrev pub has_idle_zero : List ℕ → Bool
-has_idle_zero text = (slice_index text 0 == 48) && nat_lt 1 (length text)
+has_idle_zero text = (slice_index text 0 == zero_digit) && nat_lt 1 (length text)
 
 -- the value of a NUMBER, which has no idle zero; `None` for any other text
 abbrev pub number_of : List ℕ → Option ℕ
@@ -63,5 +78,5 @@ step_of line =
     else option_and_then (λ h. step_named (command_part line) h) (number_of (after_command line))
 
 -- the limit that a first line `limit NUMBER` sets; any other line sets none
-abbrev pub limit_of : List ℕ → Option ℕ
-limit_of line = if bytes_eq (command_part line) (codes "limit") then number_of (after_command line) else None
+abbrev pub limit_in : List ℕ → Option ℕ
+limit_in line = if bytes_eq (command_part line) (codes "limit") then number_of (after_command line) else None

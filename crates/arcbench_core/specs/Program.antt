@@ -8,8 +8,8 @@ use Rattle.arcbench_core.specs.declared.program.Command.{Command}
 use Rattle.arcbench_core.specs.declared.program.Command.TheVariants.{Script, Threads, Tokens}
 use Rattle.arcbench_core.specs.declared.program.Fault.{Fault}
 use Rattle.arcbench_core.specs.declared.program.Fault.TheVariants.{Usage, LimitTooLarge, Memory, Io, NoThread, NotUtf8}
-use Rattle.arcbench_core.specs.declared.script.run.CopyFault.{CopyFault}
-use Rattle.arcbench_core.specs.declared.script.run.CopyFault.TheVariants.{LimitTooLarge as CopyLimitTooLarge, Memory as CopyMemory, Io as CopyIo}
+use Rattle.arcbench_core.specs.declared.script.CopyFault.{CopyFault}
+use Rattle.arcbench_core.specs.declared.script.CopyFault.TheVariants.{LimitTooLarge as CopyLimitTooLarge, Memory as CopyMemory, Io as CopyIo}
 use Rattle.arcbench_core.specs.ScriptRun.{WritesAnswer}
 use Rattle.arcbench_core.specs.Line.{number_of}
 use Rattle.arcbench_core.specs.Threads.{threads_answer}

@@ -7,7 +7,7 @@ use Rattle.arcstr_count.specs.declared.faults.RunFault.TheVariants.{LimitTooLarg
 use Rattle.arcstr_count.specs.declared.words.TheConstants.{RC_MAX}
 use Rattle.arcstr_count.specs.History.{numbers_below}
 use Rattle.arcstr_count.specs.Past.{answer_after}
-use Rattle.arcbench_core.specs.Line.{lines_of, step_of, limit_of}
+use Rattle.arcbench_core.specs.Line.{newline, script_lines, step_of, limit_in}
 use Rattle.arcbench_core.specs.Reply.{reply_text}
 
 -- the history of lines: the steps of the lines that have one
@@ -28,16 +28,16 @@ answer_by limit history (Some step) = reply_text (answer_after limit history ste
 abbrev pub line_answer : ℕ → List (List ℕ) → List ℕ → List ℕ
 line_answer limit before line = answer_by limit (steps_of before) (step_of line)
 
--- the answer to the line at an index, ended by byte 10
+-- the answer to the line at an index, ended by a newline
 abbrev pub answer_at : ℕ → List (List ℕ) → ℕ → List ℕ
-answer_at limit lines k = line_answer limit (take k lines) (slice_index_or lines k []) ++ 10 ∷ []
+answer_at limit lines k = line_answer limit (take k lines) (slice_index_or lines k []) ++ newline ∷ []
 
 -- the answers to all lines, joined
 abbrev pub answers : ℕ → List (List ℕ) → List ℕ
 answers limit lines = concat (map (λ k. answer_at limit lines k) (numbers_below (length lines)))
 
 abbrev pub bad_limit : List ℕ
-bad_limit = codes "bad limit" ++ 10 ∷ []
+bad_limit = codes "bad limit" ++ newline ∷ []
 
 -- the answer to lines whose first line sets this limit, or none
 abbrev pub answer_under : Option ℕ → List (List ℕ) → Result (List ℕ) RunFault
@@ -47,8 +47,8 @@ answer_under (Some limit) later =
 
 abbrev pub answer_to_lines : List (List ℕ) → Result (List ℕ) RunFault
 answer_to_lines [] = Ok bad_limit
-answer_to_lines (first ∷ later) = answer_under (limit_of first) later
+answer_to_lines (first ∷ later) = answer_under (limit_in first) later
 
 -- the answer to a script, or the fault that its limit is too large
 abbrev pub answer_to : List ℕ → Result (List ℕ) RunFault
-answer_to script = answer_to_lines (lines_of script)
+answer_to script = answer_to_lines (script_lines script)

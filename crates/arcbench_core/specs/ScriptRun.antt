@@ -1,8 +1,8 @@
 -- What a run of a script writes, and its faults.
 use Rattle.std.specs.Prelude.{◌≡◌, ℕ, List, Option, Ok, codes}
 use Rattle.std.specs.Io.KnownBytes.{Appends}
-use Rattle.arcbench_core.specs.declared.script.run.CopyFault.{CopyFault}
-use Rattle.arcbench_core.specs.declared.script.run.CopyFault.TheVariants.{LimitTooLarge, Memory, Io}
+use Rattle.arcbench_core.specs.declared.script.CopyFault.{CopyFault}
+use Rattle.arcbench_core.specs.declared.script.CopyFault.TheVariants.{LimitTooLarge, Memory, Io}
 use Rattle.arcstr_count.specs.declared.faults.RunFault.{RunFault}
 use Rattle.arcstr_count.specs.declared.faults.RunFault.TheVariants.{LimitTooLarge as RunLimitTooLarge, Memory as RunMemory}
 use Rattle.arcbench_core.specs.Script.{answer_to}

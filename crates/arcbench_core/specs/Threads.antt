@@ -4,6 +4,7 @@ use Rattle.std.specs.Fmt.{decimal}
 use Rattle.std.specs.List.{concat}
 use Rattle.arcstr.specs.TextView.{TextView}
 use Rattle.arcstr_count.specs.History.{numbers_below}
+use Rattle.arcbench_core.specs.Line.{newline}
 
 -- the text that the callers share
 abbrev pub shared_text : List ℕ
@@ -15,7 +16,7 @@ ReadSharedText handles = (worker : ℕ) (d : TextView) → worker < length handl
 
 -- the line of a worker: its number, and the text as it reads it
 abbrev pub worker_line : ℕ → List ℕ
-worker_line worker = codes "worker " ++ decimal worker ++ codes " " ++ shared_text ++ 10 ∷ []
+worker_line worker = codes "worker " ++ decimal worker ++ codes " " ++ shared_text ++ newline ∷ []
 
 -- the lines of the workers, in the order of their numbers
 abbrev pub worker_lines : ℕ → List ℕ
@@ -23,4 +24,4 @@ worker_lines workers = concat (map worker_line (numbers_below workers))
 
 -- all that is printed for this many workers
 abbrev pub threads_answer : ℕ → List ℕ
-threads_answer workers = worker_lines workers ++ codes "done " ++ decimal workers ++ 10 ∷ []
+threads_answer workers = worker_lines workers ++ codes "done " ++ decimal workers ++ newline ∷ []

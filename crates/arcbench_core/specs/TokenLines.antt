@@ -8,12 +8,12 @@ use Rattle.arcstr.specs.TextView.{TextView}
 use Rattle.arcstr_range.specs.Text.{cut}
 use Rattle.arctokens.specs.Tokens.{TokenList}
 use Rattle.arctokens.specs.Words.{AreWords}
-use Rattle.arcbench_core.specs.Line.{lines_of}
+use Rattle.arcbench_core.specs.Line.{newline, script_lines}
 
 -- the line of a word of a text, `I A..B TEXT`: the number of the text, the byte offsets of the word, and its bytes
 abbrev pub word_line : ℕ → List ℕ → ℕ × ℕ → List ℕ
 word_line number text word =
-    decimal number ++ codes " " ++ decimal word.0 ++ codes ".." ++ decimal word.1 ++ codes " " ++ cut text word.0 word.1 ++ 10 ∷ []
+    decimal number ++ codes " " ++ decimal word.0 ++ codes ".." ++ decimal word.1 ++ codes " " ++ cut text word.0 word.1 ++ newline ∷ []
 
 -- the lines of the words of a text
 abbrev pub word_lines : ℕ → List ℕ → List (ℕ × ℕ) → List ℕ
@@ -28,8 +28,8 @@ lines_from number (text ∷ texts) (words ∷ more) = word_lines number text wor
 -- the output has, for each line of the input as a text, the lines of its words, in order; the texts are numbered from 0
 pub record IsTokenAnswer (input output : List ℕ) : Type 0 where
   pub words : List (List (ℕ × ℕ))
-  pub are_words : AllZip AreWords (lines_of input) words
-  pub lines : output ≡ lines_from 0 (lines_of input) words
+  pub are_words : AllZip AreWords (script_lines input) words
+  pub lines : output ≡ lines_from 0 (script_lines input) words
 
 -- the bytes that a writer holds grow by that answer, and by nothing else
 abbrev pub WritesTokens : List ℕ → Option (List ℕ) → Option (List ℕ) → Type 0
@@ -38,8 +38,8 @@ WritesTokens input old new = (answer : List ℕ) × IsTokenAnswer input answer �
 -- ---- the same for slices of shared texts
 
 -- the texts of shared texts
-abbrev pub texts_of : List TextView → List (List ℕ)
-texts_of texts = map (λ shared. shared.text) texts
+abbrev pub texts_of_shared : List TextView → List (List ℕ)
+texts_of_shared texts = map (λ shared. shared.text) texts
 
 -- the line of a slice
 abbrev pub slice_line : ℕ → SubstrView → List ℕ

@@ -3,7 +3,6 @@
 #![tactic(auto)]
 
 mod input;
-mod lines;
 mod numbers;
 pub mod pool;
 pub mod port;

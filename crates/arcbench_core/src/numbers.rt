@@ -2,20 +2,9 @@
 ghost use Rattle.std.specs.Prelude.{◌≡◌, ◌≢◌, ℕ, ◌^◌, ◌<◌, slice_index, if◌then◌else◌, Some, IfSome};
 ghost use Rattle.std.specs.Fmt.{decimal};
 ghost use Rattle.std.specs.Str.Parse.{digits_value};
-ghost use Rattle.arcbench_core.specs.Line.{is_decimal, number_of};
+ghost use Rattle.arcbench_core.specs.Line.{is_decimal, number_of, plus_sign};
 
 use std::str;
-
-/// The value of decimal digits, below `2^64`.
-fn decimal_of(text: &[u8]) -> Option<u64>
-    requires no_sign { slice_index text.now 0 ≢ 43 }
-    ensures { result ≡ (if is_decimal text.now then Some (digits_value 10 text.now) else None) }
-{
-    match str::from_utf8(text) {
-        Ok(text) => text.parse::<u64>().ok(),
-        Err(_) => None,
-    }
-}
 
 /// The value of a NUMBER: `0`, or digits that do not begin with `0`, below `2^64`.
 ///
@@ -32,11 +21,25 @@ pub fn number_of(text: &[u8]) -> Option<u64>
 }
 
 /// The value of a NUMBER, by the definition of `number_of`.
+///
+/// This function stands apart so that the other clauses of `number_of` follow from one value, on whichever path
+/// the body finds it.
 fn read_number(text: &[u8]) -> Option<u64>
     ensures { result ≡ number_of text.now }
 {
     match text {
         [b'+', ..] | [b'0', _, ..] => None,
         _ => decimal_of(text),
+    }
+}
+
+/// The value of decimal digits, below `2^64`.
+fn decimal_of(text: &[u8]) -> Option<u64>
+    requires no_sign { slice_index text.now 0 ≢ plus_sign }
+    ensures { result ≡ (if is_decimal text.now then Some (digits_value 10 text.now) else None) }
+{
+    match str::from_utf8(text) {
+        Ok(text) => text.parse::<u64>().ok(),
+        Err(_) => None,
     }
 }

@@ -151,7 +151,7 @@ pub fn callers<R: Threads + Wait + Sync, G: Gate + Sync>(
                 };
                 started.push_reserved(handle);
             }
-            complete(joined(rt, text, gate, started), workers)
+            complete(join_all(rt, text, gate, started), workers)
         },
     )
 }
@@ -167,7 +167,7 @@ fn called<R: Wait, G: Gate>(rt: &R, text: &ArcStr, worker: usize, gate: &G) -> A
 }
 
 /// Joins each thread that was started, even if there is no memory for their handles.
-fn joined<'a, R: Threads, G: Gate>(
+fn join_all<'a, R: Threads, G: Gate>(
     rt: &R,
     text: &ArcStr,
     gate: &G,

@@ -128,6 +128,54 @@ where
     status_after(errors, done)
 }
 
+/// The status if the program's own arguments could not be read: out of memory, or an argument that is
+/// not a text, which counts as no command.
+///
+/// ```
+/// let mut errors = Vec::new(rt.alloc());
+/// let status = serve_without_words(&mut errors, &io::Error::from(ErrorKind::OutOfMemory));
+/// assert_eq!(rt; status, 3);
+/// assert_eq!(rt; errors.as_slice(), b"arcbench: out of memory\n".as_slice());
+/// ```
+pub fn serve_without_words<E: Write>(errors: &mut E, error: &io::Error) -> u8
+    ensures memory { (result ≡ 3) ↔ (error_kind error.now ≡ ErrorKind.OutOfMemory) }
+    ensures usage { (result ≡ 1) ↔ (error_kind error.now ≢ ErrorKind.OutOfMemory) }
+{
+    if error.kind() == ErrorKind::OutOfMemory {
+        report(errors, Fault::Memory)
+    } else {
+        report(errors, Fault::Usage)
+    }
+}
+
+/// The command that the arguments mean; `None` for other arguments.
+fn command_of(arguments: &[String]) -> Option<Command>
+    ensures value { result ≡ command_in arguments.now }
+    ensures lawful { IfSome result HasLawfulCount }
+{
+    match arguments {
+        [command] if command.as_str() == "script" => Some(Command::Script),
+        [command, count] if command.as_str() == "threads" => {
+            worker_count(count.as_bytes()).map(Command::Threads)
+        }
+        [command, count] if command.as_str() == "tokens" => {
+            worker_count(count.as_bytes()).map(Command::Tokens)
+        }
+        _ => None,
+    }
+}
+
+/// The number of workers that an argument means: a NUMBER from 1 to 64.
+fn worker_count(argument: &[u8]) -> Option<usize>
+    ensures value { result ≡ worker_count argument.now }
+    ensures lawful { IfSome result (λ count. (1 ≤ count) × (count ≤ 64)) }
+{
+    match number_of(argument) {
+        Some(count) if 1 <= count && count <= 64 => Some(count as usize),
+        _ => None,
+    }
+}
+
 /// Writes the lines of callers once all lines are there. If there are no callers, returns the fault of the
 /// pool.
 pub(crate) fn tell_threads<W: Write>(
@@ -193,26 +241,6 @@ where
     }
 }
 
-/// The status if the program's own arguments could not be read: out of memory, or an argument that is
-/// not a text, which counts as no command.
-///
-/// ```
-/// let mut errors = Vec::new(rt.alloc());
-/// let status = serve_without_words(&mut errors, &io::Error::from(ErrorKind::OutOfMemory));
-/// assert_eq!(rt; status, 3);
-/// assert_eq!(rt; errors.as_slice(), b"arcbench: out of memory\n".as_slice());
-/// ```
-pub fn serve_without_words<E: Write>(errors: &mut E, error: &io::Error) -> u8
-    ensures memory { (result ≡ 3) ↔ (error_kind error.now ≡ ErrorKind.OutOfMemory) }
-    ensures usage { (result ≡ 1) ↔ (error_kind error.now ≢ ErrorKind.OutOfMemory) }
-{
-    if error.kind() == ErrorKind::OutOfMemory {
-        report(errors, Fault::Memory)
-    } else {
-        report(errors, Fault::Usage)
-    }
-}
-
 /// The status 0 if all is done, else that of the fault, whose line is printed.
 pub(crate) fn status_after<E: Write>(errors: &mut E, done: Result<(), Fault>) -> u8
     ensures ok { OnOk done (result ≡ 0) }
@@ -237,33 +265,5 @@ fn report<E: Write>(errors: &mut E, fault: Fault) -> u8
         Fault::Io => 4,
         Fault::NoThread => 5,
         Fault::NotUtf8 => 6,
-    }
-}
-
-/// The command that the arguments mean; `None` for other arguments.
-fn command_of(arguments: &[String]) -> Option<Command>
-    ensures value { result ≡ command_in arguments.now }
-    ensures lawful { IfSome result HasLawfulCount }
-{
-    match arguments {
-        [command] if command.as_str() == "script" => Some(Command::Script),
-        [command, count] if command.as_str() == "threads" => {
-            worker_count(count.as_bytes()).map(Command::Threads)
-        }
-        [command, count] if command.as_str() == "tokens" => {
-            worker_count(count.as_bytes()).map(Command::Tokens)
-        }
-        _ => None,
-    }
-}
-
-/// The number of workers that an argument means: a NUMBER from 1 to 64.
-fn worker_count(argument: &[u8]) -> Option<usize>
-    ensures value { result ≡ worker_count argument.now }
-    ensures lawful { IfSome result (λ count. (1 ≤ count) × (count ≤ 64)) }
-{
-    match number_of(argument) {
-        Some(count) if 1 <= count && count <= 64 => Some(count as usize),
-        _ => None,
     }
 }

@@ -1,6 +1,7 @@
 //! What the program prints of callers in threads.
 ghost use Rattle.std.specs.Prelude.{◌≡◌, ◌≤◌, length, vec_len, ◌++◌, ◌∷◌, [], IfOk, IfErr, OnOk, OnErr, Err, string_bytes, codes};
 ghost use Rattle.std.specs.Fmt.{decimal};
+ghost use Rattle.arcbench_core.specs.Line.{newline};
 ghost use Rattle.arcbench_core.specs.Threads.{shared_text, ReadSharedText, worker_line, worker_lines, threads_answer};
 
 use crate::pool::{Gate, PoolFault, callers};
@@ -94,7 +95,7 @@ fn push_line(out: &mut String, worker: usize, handle: &ArcStr) -> Result<(), All
 }
 
 fn push_end(out: &mut String, workers: usize) -> Result<(), AllocError>
-    ensures { OnOk result (string_bytes out.new ≡ string_bytes out.old ++ codes "done " ++ decimal workers ++ 10 ∷ []) }
+    ensures { OnOk result (string_bytes out.new ≡ string_bytes out.old ++ codes "done " ++ decimal workers ++ newline ∷ []) }
 {
     write!(out, "done {workers}\n")
 }

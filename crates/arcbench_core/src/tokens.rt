@@ -1,8 +1,8 @@
 //! What the program prints of the words of its input's lines.
 ghost use Rattle.std.specs.Prelude.{◌≡◌, ◌≤◌, ◌<◌, ◌↔◌, ◌∷◌, ◌++◌, length, IfOk, OnOk, Err, string_bytes};
 ghost use Rattle.std.specs.Str.{IsUtf8};
-ghost use Rattle.arcbench_core.specs.Line.{lines_of};
-ghost use Rattle.arcbench_core.specs.TokenLines.{IsTokenAnswer, lines_of_lists, slice_line, slice_lines, texts_of};
+ghost use Rattle.arcbench_core.specs.Line.{script_lines};
+ghost use Rattle.arcbench_core.specs.TokenLines.{IsTokenAnswer, lines_of_lists, slice_line, slice_lines, texts_of_shared};
 
 use arcstr::{ArcStr, Substr};
 use arctokens::tokens_all;
@@ -62,7 +62,7 @@ where
     let Ok(text) = str::from_utf8(input) else {
         return Err(TokensFault::NotUtf8);
     };
-    let texts = texts_of(rt.alloc(), text)?;
+    let texts = texts_of_lines(rt.alloc(), text)?;
     let lists = tokens_all(rt, rt.alloc(), &texts, workers)?;
     let mut lines = String::new(alloc);
     push_lists(&mut lines, &lists)?;
@@ -70,13 +70,13 @@ where
 }
 
 /// A text for each line of the input, in order. A line that is too long for a text counts as out of memory, too.
-fn texts_of(alloc: Global, input: &str) -> Result<Vec<ArcStr>, AllocError>
-    ensures { IfOk result (λ texts. texts_of texts.items ≡ lines_of input.now) }
+fn texts_of_lines(alloc: Global, input: &str) -> Result<Vec<ArcStr>, AllocError>
+    ensures { IfOk result (λ texts. texts_of_shared texts.items ≡ script_lines input.now) }
 {
     let mut texts = Vec::new(alloc);
     let mut rest = input;
     while !rest.is_empty() {
-        let (line, later) = first_line(rest);
+        let (line, later) = first_line_of_text(rest);
         let Ok(text) = ArcStr::from_str(alloc, line) else {
             return Err(AllocError);
         };
@@ -87,9 +87,9 @@ fn texts_of(alloc: Global, input: &str) -> Result<Vec<ArcStr>, AllocError>
 }
 
 /// The first line of a text, and what comes after it.
-fn first_line(text: &str) -> (&str, &str)
+fn first_line_of_text(text: &str) -> (&str, &str)
     requires { 0 < length text.now }
-    ensures lines { lines_of text.now ≡ result.0.now ∷ lines_of result.1.now }
+    ensures lines { script_lines text.now ≡ result.0.now ∷ script_lines result.1.now }
     ensures shorter { length result.1.now < length text.now }
 {
     match text.split_once('\n') {

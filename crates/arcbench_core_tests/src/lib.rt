@@ -12,8 +12,6 @@ mod pool;
 #[cfg(test)]
 mod ports;
 #[cfg(test)]
-mod readme;
-#[cfg(test)]
 mod script_runs;
 #[cfg(test)]
 mod statuses;

@@ -35,12 +35,12 @@ whole : whole_of foobarbaz ≡ slice_of foobarbaz 0 9
 whole = refl
 
 -- the slice of nothing is the whole of the empty literal
-nothing : whole_of (literal_of []) ≡ empty_slice
-nothing = refl
+whole_of_nothing : whole_of (literal_of []) ≡ empty_slice
+whole_of_nothing = refl
 
 -- the end of `3..` is the length of the slice's own text
-ends_from : ends_in (text_of (slice_of foobarbaz 3 9)) (From 3) ≡ (3, 6)
-ends_from = refl
+ends_from_in_slice : ends_in (text_of (slice_of foobarbaz 3 9)) (From 3) ≡ (3, 6)
+ends_from_in_slice = refl
 
 -- the result for a range of the slice's own text
 answered : AnswersRange (text_of bar) (slice_within bar) (Between 1 3) (Ok (slice_of foobarbaz 4 6))

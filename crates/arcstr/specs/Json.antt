@@ -13,16 +13,18 @@ use Rattle.arcstr.specs.TextView.{TextView, literal_of, made_of}
 abbrev pub text_in : Value → Option (List ℕ)
 text_in value = as_str (view value)
 
--- the result for a shared text: the value's text; an error if the value is not a string, if its text is too long for a block, or if the allocation fails
-pub record ReadsArcStr (value : Value) (answer : Result TextView JsonFault) : Type 0 where
-  pub made : IfOk answer (λ made. IsSomeAnd (text_in value) (λ text. made ≡ made_of text))
+-- the result of reading a value's text into a handle: the handle on the text, or the one on nothing if the text is empty; an error if the value is not a
+-- string, if its text is too long for a block, or if the allocation fails
+pub record ReadsText {T : Type 0} (value : Value) (handle_on : List ℕ → T) (nothing : T) (answer : Result T JsonFault) : Type 0 where
+  pub made : IfOk answer (λ made. IsSomeAnd (text_in value) (λ text. made ≡ handle_on text))
   pub not_text : IsErrOf answer NotText ↔ (text_in value ≡ None)
-  pub empty : text_in value ≡ Some [] → answer ≡ Ok (literal_of [])
+  pub empty : text_in value ≡ Some [] → answer ≡ Ok nothing
   pub too_long : IsErrOf answer Length ↔ IsSomeAnd (text_in value) (λ text. IsTooLong (length text))
 
--- the result for a shared slice: all of the value's text, with the same errors
-pub record ReadsSubstr (value : Value) (answer : Result SubstrView JsonFault) : Type 0 where
-  pub made : IfOk answer (λ slice. IsSomeAnd (text_in value) (λ text. slice ≡ whole_of (made_of text)))
-  pub not_text : IsErrOf answer NotText ↔ (text_in value ≡ None)
-  pub empty : text_in value ≡ Some [] → answer ≡ Ok empty_slice
-  pub too_long : IsErrOf answer Length ↔ IsSomeAnd (text_in value) (λ text. IsTooLong (length text))
+-- the result for a shared text
+abbrev pub ReadsArcStr : Value → Result TextView JsonFault → Type 0
+ReadsArcStr value answer = ReadsText value made_of (literal_of []) answer
+
+-- the result for a shared slice, which is all of the value's text
+abbrev pub ReadsSubstr : Value → Result SubstrView JsonFault → Type 0
+ReadsSubstr value answer = ReadsText value (λ text. whole_of (made_of text)) empty_slice answer

@@ -10,12 +10,17 @@ pub use Rattle.arcstr_block.specs.Making.{IsTooLong, IsFaultOfMaking, IsFaultOfB
 abbrev pub IsFaultOfCopying : List ℕ → TextFault → Type 0
 IsFaultOfCopying bytes fault = IsFaultOfBytes bytes fault ⊎ (IsUtf8 bytes × IsFaultOfMaking (length bytes) fault)
 
--- the result of copying this text: the text, which is the empty literal if it is empty; an error if it is too long, or if the allocation fails
-pub record AnswersCopy (text : List ℕ) (answer : Result TextView TextFault) : Type 0 where
-  pub made : IfOk answer (λ made. made ≡ made_of text)
-  pub empty : text ≡ [] → answer ≡ Ok (literal_of [])
+-- the result of making a handle on a copy of this text: the handle on the copy, or the one on nothing if the text is empty; an error if it is too long, or if
+-- the allocation fails
+pub record AnswersMaking {T : Type 0} (text : List ℕ) (copy nothing : T) (answer : Result T TextFault) : Type 0 where
+  pub made : IfOk answer (λ made. made ≡ copy)
+  pub empty : text ≡ [] → answer ≡ Ok nothing
   pub too_long : IsErrOf answer Length ↔ IsTooLong (length text)
   pub refused : IfErr answer (IsFaultOfMaking (length text))
+
+-- the result of copying this text, which is the empty literal if it is empty
+abbrev pub AnswersCopy : List ℕ → Result TextView TextFault → Type 0
+AnswersCopy text answer = AnswersMaking text (made_of text) (literal_of []) answer
 
 -- the result of joining n copies of this text: the joined text, which is the empty literal if n is 0 or the text is empty; an error if it is too long, or if
 -- the allocation fails

@@ -1,6 +1,6 @@
 //! `Substr`: a slice of a shared text, which keeps its parent alive.
-ghost use Rattle.std.specs.Prelude.{◌≡◌, ◌↔◌, [], length, Ok, IsTrue, IsErrOf, IfOk, IfErr};
-ghost use Rattle.arcstr.specs.Making.{IsFaultOfMaking, IsTooLong};
+ghost use Rattle.std.specs.Prelude.{◌≡◌, ◌↔◌, [], length, IsTrue};
+ghost use Rattle.arcstr.specs.Making.{AnswersMaking};
 ghost use Rattle.arcstr_range.specs.Ends.{IsLawful};
 ghost use Rattle.arcstr_range.specs.Text.{SpellsBetween};
 ghost use Rattle.arcstr.specs.TextView.{literal_of, made_of};
@@ -81,10 +81,7 @@ impl Substr {
     /// assert_eq!(rt; slice.range(), 0..3);
     /// ```
     pub fn from_str(alloc: Global, text: &str) -> Result<Substr, TextFault>
-        ensures made { IfOk result (λ slice. slice ≡ whole_of (made_of text.now)) }
-        ensures empty { text.now ≡ [] → result ≡ Ok empty_slice }
-        ensures too_long { IsErrOf result TextFault.Length ↔ IsTooLong (length text.now) }
-        ensures refused { IfErr result (IsFaultOfMaking (length text.now)) }
+        ensures { AnswersMaking text.now (whole_of (made_of text.now)) empty_slice result }
     {
         Ok(Substr::full(ArcStr::from_str(alloc, text)?))
     }

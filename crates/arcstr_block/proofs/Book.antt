@@ -25,7 +25,7 @@ use Rattle.arcstr_count.specs.Word.{FlagAndCount, looked_of, cloned_of, is_last}
 use Rattle.arcstr_count.specs.OneBlock.{Keeps, EndsIn, look_reply}
 use Rattle.arcstr_count.proofs.OneBlock.{Prolongs, keeps-make, keeps-look, keeps-begin, keeps-clone, keeps-leak, keeps-sub, keeps-back}
 use Rattle.arcstr_block.specs.Word.{word_of}
-use Rattle.arcstr_block.specs.Book.{BlockName, steps, state_code, reached, seat, seat_share, book, Book, Ends, ends_in}
+use Rattle.arcstr_block.specs.Book.{BlockName, steps, state_code, reached, seat, seat_share, book, Book, Ends, reached_ending}
 use Rattle.arcstr_block.proofs.Words.{word_marked, word_dropped}
 use Rattle.arcstr_block.proofs.Seats.{agrees, moves, adds}
 
@@ -73,7 +73,7 @@ module _ {M : Type 1} {𝓤 : Ura M} (𝓛 : Logic 𝓤) where
         qed 𝓛 (‵ (Now r) ∷ ‵ (Seats vs) ∷ []) ∵ use1 𝓛 (raw (upd 𝓤 ⟦ Now r' ⟧)) (latest_grows steps 𝓛 γ r r' (s ∷ [], refl)) $ settle 𝓛 Z (‵ (Now r')) $
         suffices ! _ (upd_i 𝓤 Z) $
         use1 𝓛 (‵ (Now r') ⊛ ‵ (reached γ r')) (latest_shows steps 𝓛 full_share γ r' r' (steps.same r')) $ split ! $ move ! (1 ∷ []) $
-        nothing ! $ fpack ! (EndsIn L r' s reply) (λ _. ftrue) on.ends $ fjoin ! $ fpack ! (List Step) (ends_in L γ δ s reply) r' $
+        nothing ! $ fpack ! (EndsIn L r' s reply) (λ _. ftrue) on.ends $ fjoin ! $ fpack ! (List Step) (reached_ending L γ δ s reply) r' $
         move ! (1 ∷ 2 ∷ []) $ use2 𝓛 (‵ (Bk n)) (book_in n r' vs on.keeps) $ done !
 
     -- a step of a free handle, by a share of its seat

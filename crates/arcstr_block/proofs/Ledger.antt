@@ -7,7 +7,7 @@ use base.Fml.{Fml, ftrue, flft, fdead, Share}
 use types.Logic.{Logic, sem}
 use types.Kit.{‵, ◌⊛◌, ◌$◌, ◌∵◌, !, qed, by, move, keep, split, fsplit3, fjoin, fjoin3, fpick, fpack, use1, use2, done}
 use denote.Steps.{nothing}
-use Rattle.arcstr_block.specs.Ledger.{parts, some_share, Id, Phase, unmarked, marked, Fits, rest, phase, Ledger}
+use Rattle.arcstr_block.specs.Ledger.{parts, some_share, Id, Phase, unmarked, marked, IsPhaseOf, rest, phase, Ledger}
 use Rattle.arcstr_block.proofs.TokenParts.{parts_cut, parts_glue, parts_whole, share_halves, part_share}
 
 module _ {M : Type 1} {𝓤 : Ura M} (𝓛 : Logic 𝓤) (P : Fml) (L b o : ℕ) (t : Id) where
@@ -31,7 +31,7 @@ module _ {M : Type 1} {𝓤 : Ura M} (𝓛 : Logic 𝓤) (P : Fml) (L b o : ℕ)
   Keeps = rest P L b o t
 
   abbrev In : ℕ → Phase → Type 0
-  In = Fits P L b o t
+  In = IsPhaseOf P L b o t
 
   abbrev pub Ph : ℕ → Phase → Fml
   Ph = phase P L b o t

@@ -50,10 +50,10 @@ words_typed (block_ptr b o) n fits = (tt, (tt, (record { fits = fits }, tt)))
 words_typed null_ptr n fits = (tt, (record { fits = lit< tt }, (record { fits = fits }, tt)))
 
 -- the two data fields
-abbrev pub Words : RattleType
-Words = Struct (shape (SL.the_type u8))
+abbrev pub DataFields : RattleType
+DataFields = Struct (shape (SL.the_type u8))
 
-pub words_told : (p : Ptr) (n : ℕ) (vs : List Val) → Is Words (p, (n, tt)) vs → (vs ≡ words_val p n ∷ []) × (n < 2 ^ 64)
+pub words_told : (p : Ptr) (n : ℕ) (vs : List Val) → Is DataFields (p, (n, tt)) vs → (vs ≡ words_val p n ∷ []) × (n < 2 ^ 64)
 words_told p n vs is = (
   is.1.0 ∙ ap (λ (ws : List Val). vstruct (of_list (ws ++ (is.0.1.0 ++ []))) ∷ []) is.1.1.0 ∙ ap (λ (ws : List Val). vstruct (of_list
       (ptr_val p ∷ (ws ++ []))) ∷ []) is.1.1.1.0.0,
@@ -74,20 +74,20 @@ module _ {M : Type 1} {𝓤 : Ura M} (𝓛 : Logic 𝓤) (b : ℕ) where
 module _ {M : Type 1} {𝓤 : Ura M} (𝓛 : Logic 𝓤) (at_mem : Memory → SProp 𝓤) (run : Routine → Fun 𝓤) where
   open 𝓛 use {H}
 
-  abbrev pub Makes : Contract 𝓤
-  Makes = triple_of 𝓛 (FR.signature u8) (FR.spec u8 𝓛 at_mem run)
+  abbrev pub MakeContract : Contract 𝓤
+  MakeContract = triple_of 𝓛 (FR.signature u8) (FR.spec u8 𝓛 at_mem run)
 
-  abbrev pub Ends : Contract 𝓤
-  Ends = triple_of 𝓛 (IR.signature u8) (IR.spec u8 𝓛 at_mem run)
+  abbrev pub EndContract : Contract 𝓤
+  EndContract = triple_of 𝓛 (IR.signature u8) (IR.spec u8 𝓛 at_mem run)
 
   module _ (b o n : ℕ) (xs : List ℕ) (fs : List Bool) where
-    abbrev pub at_makes : Makes.Ghost
+    abbrev pub at_makes : MakeContract.Ghost
     at_makes = ((([], tt), (full_share, tt), tt, (block_ptr b o, (n, tt)), (vptr b o ∷ [], (vint w64 n ∷ [], tt))), (xs, fs))
 
     abbrev pub IsMade : Slots ℕ → Type 0
     IsMade r = (r.ptr ≡ block_ptr b o) × (r.len ≡ n) × (r.items ≡ xs) × (r.filled ≡ fs)
 
-    pub makes_goes : n ≡ length xs → n ≡ length fs → n < 2 ^ 63 → ent 𝓤 (sem 𝓛 (slots R (block_ptr b o) xs fs)) (Makes.pre at_makes)
+    pub makes_goes : n ≡ length xs → n ≡ length fs → n < 2 ^ 63 → ent 𝓤 (sem 𝓛 (slots R (block_ptr b o) xs fs)) (MakeContract.pre at_makes)
     makes_goes e e' small = let Asked : Type 0 = (n ≡ length xs) × (n ≡ length fs) in
         qed 𝓛 (‵ (slots R (block_ptr b o) xs fs) ∷ []) ∵ flt_i ! (n * 1) (2 ^ 63) (omega arith) $ fjoin ! $
         use0 𝓛 (raw (fact 𝓤 Asked)) (fact_i 𝓤 Asked (emp 𝓤) (e, e')) $ join ! $
@@ -97,30 +97,30 @@ module _ {M : Type 1} {𝓤 : Ura M} (𝓛 : Logic 𝓤) (at_mem : Memory → SP
         join ! $ done !
 
     pub makes_gives : (v : Val)
-        → ent 𝓤 (Makes.post at_makes v) (H.⇛ (ex 𝓤 (λ (r : Slots ℕ).
+        → ent 𝓤 (MakeContract.post at_makes v) (H.⇛ (ex 𝓤 (λ (r : Slots ℕ).
         guard 𝓤 (IsMade r × (v ≡ words_val (block_ptr b o) n)) (sem 𝓛 (Bytes.own_val r (v ∷ []))))))
     makes_gives v =
-        qed 𝓛 (raw (Makes.post at_makes v) ∷ []) ∵ updating ! $
+        qed 𝓛 (raw (MakeContract.post at_makes v) ∷ []) ∵ updating ! $
         use1 𝓛 (later (some (λ (r : Slots ℕ). ((‵ (flft [] full_share) ⊛ ‵ ftrue) ⊛ ‵ (Bytes.own_val r (v ∷ [])))
         ⊛ some (λ (ws : Unit {0} × (Unit {0} × Unit {0})). ‵ (fsep ftrue (fsep ftrue ftrue)) ⊛ raw (fact 𝓤 (IsMade r)))))) (id⊢ 𝓤 _) $ await ! tt $ pick ! (λ r.
         split ! $ move ! (1 ∷ []) $ pick ! (λ ws. split ! $ drop ! $ heard ! (IsMade r) (λ is. split ! $ drop ! $ fsplit ! $
-        peeks ! Words (Is Words) (shows 𝓛 Words) (r.ptr, (r.len, tt)) (v ∷ []) (λ so. fjoin ! $ now ! $
+        peeks ! DataFields (Is DataFields) (shows 𝓛 DataFields) (r.ptr, (r.len, tt)) (v ∷ []) (λ so. fjoin ! $ now ! $
         show ! (λ (z : Slots ℕ). guard 𝓤 (IsMade z × (v ≡ words_val (block_ptr b o) n)) (sem 𝓛 (Bytes.own_val z (v ∷ [])))) r $
         check ! (is, ap only (words_told r.ptr r.len (v ∷ []) so).0 ∙ (λ i. words_val (is.0 i) (is.1 i))) $ done !))))
 
   module _ (d : Slots ℕ) (u : Val) where
-    abbrev pub at_ends : Ends.Ghost
+    abbrev pub at_ends : EndContract.Ghost
     at_ends = ((([], tt), (full_share, tt), tt, (d, tt), (u ∷ [], tt)), tt)
 
-    pub ends_goes : ent 𝓤 (sem 𝓛 (Bytes.own_val d (u ∷ []))) (Ends.pre at_ends)
+    pub ends_goes : ent 𝓤 (sem 𝓛 (Bytes.own_val d (u ∷ []))) (EndContract.pre at_ends)
     ends_goes =
         qed 𝓛 (‵ (Bytes.own_val d (u ∷ [])) ∷ []) ∵ nothing ! $ use0 𝓛 (raw (fact 𝓤 ([] ⊑ []))) (fact_i 𝓤 ([] ⊑ []) (emp 𝓤) (⊑_refl [])) $ join ! $
         nothing ! $ move ! (2 ∷ 0 ∷ []) $ fjoin ! $ nothing ! $ use0 𝓛 (‵ (flft [] full_share)) (𝓛.lfts.lft-nil full_share) $ join ! $ join ! $ done !
 
     pub ends_gives : (v : Val)
-        → ent 𝓤 (Ends.post at_ends v) (H.⇛ (guard 𝓤 ((v ≡ words_val d.ptr d.len) × (d.len < 2 ^ 64)) (sem 𝓛 (owned R d.ptr d.len d.items d.filled))))
+        → ent 𝓤 (EndContract.post at_ends v) (H.⇛ (guard 𝓤 ((v ≡ words_val d.ptr d.len) × (d.len < 2 ^ 64)) (sem 𝓛 (owned R d.ptr d.len d.items d.filled))))
     ends_gives v = let Pair : RattleType = Tuple (RawPtr ∷ usize ∷ []) in
-        qed 𝓛 (raw (Ends.post at_ends v) ∷ []) ∵ updating ! $
+        qed 𝓛 (raw (EndContract.post at_ends v) ∷ []) ∵ updating ! $
         use1 𝓛 (later (some (λ (r : Ptr × ℕ). ((‵ (flft [] full_share) ⊛ ‵ ftrue) ⊛ ‵ (Pair.own_val r (v ∷ [])))
         ⊛ some (λ (ws : Unit {0} × Unit {0}). ‵ (fsep (left ((SL.the_row R).exit no) d ws.0) ftrue) ⊛ raw (fact 𝓤 ((r.0 ≡ d.ptr) ×
         (r.1 ≡ d.len))) ⊛ ‵ (owned R d.ptr d.len d.items d.filled))))) (id⊢ 𝓤 _) $ await ! tt $ pick ! (λ r.

@@ -17,7 +17,7 @@ use Rattle.arcstr_block.proofs.RightTests.{uncounted_or_not}
 use Rattle.arcstr_block.specs.Word.{IsMarked, IsUnmarked, IsCountWord}
 use Rattle.arcstr_block.specs.Rights.{uncounted, Right}
 use Rattle.arcstr_block.specs.Book.{Book}
-use Rattle.arcstr_block.specs.Ledger.{fact, parts, some_share, Id, Phase, unmarked, marked, Fits, rest, counting, if_alive, Inv, knows, stated}
+use Rattle.arcstr_block.specs.Ledger.{fact, parts, some_share, Id, Phase, unmarked, marked, IsPhaseOf, rest, counting, if_alive, Inv, knows, stated}
 use Rattle.arcstr_block.proofs.Ledger.{phase_in, not_alive, marks, marked_in, finds_mark}
 use Rattle.arcstr_block.proofs.Atomic.{Closed, Out, Lies, asked, frames}
 
@@ -56,7 +56,7 @@ module _ {M : Type 1} {𝓤 : Ura M} (𝓛 : Logic 𝓤) (P : Fml) (L b o : ℕ)
   Keeps = rest P L b o t
 
   abbrev In : ℕ → Phase → Type 0
-  In = Fits P L b o t
+  In = IsPhaseOf P L b o t
 
   abbrev pub St : ℕ → Fml
   St = stated P L b o t

@@ -15,7 +15,7 @@ use denote.RawPtr.{block_ptr}
 use denote.Steps.{nothing}
 use Rattle.core.specs.Sync.RawAtomic.{asks, always}
 use Rattle.arcstr_block.specs.Word.{IsMarked, IsUnmarked, IsCountWord, IsClone, IsLast}
-use Rattle.arcstr_block.specs.Ledger.{parts, some_share, Id, Phase, unmarked, marked, Fits, rest, Inv, stated}
+use Rattle.arcstr_block.specs.Ledger.{parts, some_share, Id, Phase, unmarked, marked, IsPhaseOf, rest, Inv, stated}
 use Rattle.arcstr_block.specs.Book.{Book}
 use Rattle.arcstr_block.proofs.Words.{or_unmarked, or_marked}
 use Rattle.arcstr_block.proofs.Ledger.{share_not_alive, takes, gives, gives_last, gives_marked, too_many, finds_mark}
@@ -49,7 +49,7 @@ module _ {M : Type 1} {𝓤 : Ura M} (𝓛 : Logic 𝓤) (P : Fml) (L b o : ℕ)
   Keeps = rest P L b o t
 
   abbrev In : ℕ → Phase → Type 0
-  In = Fits P L b o t
+  In = IsPhaseOf P L b o t
 
   abbrev St : ℕ → Fml
   St = stated P L b o t

@@ -49,8 +49,8 @@ module _ (L : ℕ) (γ δ : GName) where
   Book n = fex (List Step × List HandleState) (book n)
 
   -- the history has reached one that ends in this step, and this reply is the core's answer to it
-  abbrev pub ends_in : Step → Reply → List Step → Fml
-  ends_in s reply r = fsep (fex (EndsIn L r s reply) (λ _. ftrue)) (reached γ r)
+  abbrev pub reached_ending : Step → Reply → List Step → Fml
+  reached_ending s reply r = fsep (fex (EndsIn L r s reply) (λ _. ftrue)) (reached γ r)
 
   abbrev pub Ends : Step → Reply → Fml
-  Ends s reply = fex (List Step) (ends_in s reply)
+  Ends s reply = fex (List Step) (reached_ending s reply)

@@ -55,9 +55,9 @@ pub data Phase : Type 0 where
 -- P is what the block owns, L its limit, and b and o where its word lies.
 module _ (P : Fml) (L b o : ℕ) (t : Id) where
   -- the phase is one of the word n
-  abbrev pub Fits : ℕ → Phase → Type 0
-  Fits n (unmarked k) = (n ≡ counting_word k) × (0 < k) × (k ≤ L + 1) × IsLimit L
-  Fits n (marked m) = IsMarked n × (m ≤ count_in n) × (count_in n ≤ L + 1) × IsLimit L
+  abbrev pub IsPhaseOf : ℕ → Phase → Type 0
+  IsPhaseOf n (unmarked k) = (n ≡ counting_word k) × (0 < k) × (k ≤ L + 1) × IsLimit L
+  IsPhaseOf n (marked m) = IsMarked n × (m ≤ count_in n) × (count_in n ≤ L + 1) × IsLimit L
 
   -- what lies beside the word in this phase
   abbrev pub rest : Phase → Fml
@@ -65,7 +65,7 @@ module _ (P : Fml) (L b o : ℕ) (t : Id) where
   rest (marked m) = fsep (parts t.sharing (2 ^ 63 - (m + 1))) (fsep (some_share t.sharing) (fdead (t.counting ∷ [])))
 
   abbrev pub phase : ℕ → Phase → Fml
-  phase n s = fsep (fact (Fits n s)) (rest s)
+  phase n s = fsep (fact (IsPhaseOf n s)) (rest s)
 
   -- what lies beside the word n
   abbrev pub Ledger : ℕ → Fml

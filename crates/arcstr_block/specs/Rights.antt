@@ -20,13 +20,13 @@ pub data Right : Type 0 where
   owed : Right
 
 -- a right is stored as its index in this list
-abbrev pub place_of : Right → ℕ
-place_of nothing = 0
-place_of counted = 1
-place_of uncounted = 2
-place_of fixed = 3
-place_of dropping = 4
-place_of owed = 5
+abbrev pub right_index : Right → ℕ
+right_index nothing = 0
+right_index counted = 1
+right_index uncounted = 2
+right_index fixed = 3
+right_index dropping = 4
+right_index owed = 5
 
 abbrev pub right_at : ℕ → Right
 right_at zero = nothing
@@ -36,16 +36,16 @@ right_at (suc (suc (suc zero))) = fixed
 right_at (suc (suc (suc (suc zero)))) = dropping
 right_at (suc (suc (suc (suc (suc n))))) = owed
 
-pub right_at_place : (right : Right) → right_at (place_of right) ≡ right
-right_at_place nothing = refl
-right_at_place counted = refl
-right_at_place uncounted = refl
-right_at_place fixed = refl
-right_at_place dropping = refl
-right_at_place owed = refl
+pub right_at_index : (right : Right) → right_at (right_index right) ≡ right
+right_at_index nothing = refl
+right_at_index counted = refl
+right_at_index uncounted = refl
+right_at_index fixed = refl
+right_at_index dropping = refl
+right_at_index owed = refl
 
 abbrev pub right_code : Coded Right
-right_code = code_by ℕ coded_ℕ place_of right_at right_at_place
+right_code = code_by ℕ coded_ℕ right_index right_at right_at_index
 
 -- the rights of a free handle, which can step on the block
 abbrev pub IsFree : Right → Type 0

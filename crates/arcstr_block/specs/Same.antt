@@ -38,8 +38,8 @@ module _ {A : Type 0} where
   LoadedAs clones p word q = LoadEnds clones p.limit p.seat word q.history
 
   -- the mark by p, which marks the block
-  abbrev pub Leaked : Pointer A → Pointer A → Type 0
-  Leaked p q = SawStep p q (Leak p.seat) Marked × IsMarkedIn q.limit q.history
+  abbrev pub LeakedAs : Pointer A → Pointer A → Type 0
+  LeakedAs p q = SawStep p q (Leak p.seat) Marked × IsMarkedIn q.limit q.history
 
   -- the look of p's drop
   abbrev pub BegunAs : Pointer A → ℕ → Pointer A → Type 0

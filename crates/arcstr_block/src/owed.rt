@@ -81,7 +81,7 @@ impl<A: Allocator> Owed<A> {
 
 impl<A: Allocator> Down<A> {
     /// Frees what is owed.
-    pub(crate) fn settle(self) {
+    pub(crate) fn free_owed(self) {
         match self {
             Down::Ended => {}
             Down::Left => {}

@@ -48,7 +48,7 @@ impl<A: Allocator> Model for Pointer<A> {
 }
 
 impl<A: Allocator> Pointer<A> {
-    ghost use Rattle.arcstr_block.specs.Same.{IsSameBlock, LoadedAs, Leaked, BegunAs, SubtractedAs};
+    ghost use Rattle.arcstr_block.specs.Same.{IsSameBlock, LoadedAs, LeakedAs, BegunAs, SubtractedAs};
 
     /// The first pointer to a block, whose word counts only this pointer.
     pub(crate) fn make(block: Sole<A>) -> Pointer<A>
@@ -137,7 +137,7 @@ impl<A: Allocator> Pointer<A> {
         requires right { IsFree self.now.right }
         requires offset { offset ≡ word_offset (length self.now.text) }
         ensures right { result.right ≡ fixed }
-        ensures history { Leaked self.now result }
+        ensures history { LeakedAs self.now result }
         ensures same { IsSameBlock result self.now }
     {
         let at = self.at;

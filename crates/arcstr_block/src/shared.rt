@@ -12,7 +12,7 @@ use crate::fixed::Fixed;
 use crate::owed::{Down, Owed};
 use crate::pointer::Pointer;
 use crate::seen::Seen;
-use crate::word::{is_last, looked, marked, next};
+use crate::word::{is_count_of_one, looked, marked, next};
 use arcstr_count::RC_MAX;
 use std::alloc::Allocator;
 use std::marker::Model;
@@ -267,7 +267,7 @@ impl<const LIMIT: u64, A: Allocator + Copy> Shared<LIMIT, A> {
         }
         let (found, pointer) = pointer.sub(offset);
         let seen = pointer.seen();
-        if is_last(found) {
+        if is_count_of_one(found) {
             let owed = Owed {
                 pointer,
                 offset,
@@ -353,6 +353,6 @@ impl<const LIMIT: u64, A: Allocator + Copy> Drop for Shared<LIMIT, A> {
     /// Ends the handle, and frees what it owes.
     fn drop(self) {
         let (down, _) = self.down();
-        down.settle();
+        down.free_owed();
     }
 }

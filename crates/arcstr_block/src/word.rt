@@ -37,8 +37,8 @@ pub(crate) fn next(limit: u64, old: u64) -> u64
     Word::from_bits(old).cloned(limit).bits()
 }
 
-/// Whether a subtraction that found this word was the last one: it is the word of a new block, unmarked with count 1.
-pub(crate) fn is_last(word: u64) -> bool
+/// Whether the word is unmarked with count 1, as the word of a new block is. A subtraction that found it was the last one.
+pub(crate) fn is_count_of_one(word: u64) -> bool
     ensures { IsTrue result ↔ IsLast word }
 {
     Word::from_bits(word) == Word::one()

@@ -21,18 +21,18 @@ abbrev pub count : (ℕ → Bool) → ℕ → ℕ
 count f n = length (filter f (numbers_below n))
 
 -- what a number adds to the count
-abbrev pub one : Bool → ℕ
-one b = if b then 1 else 0
+abbrev pub one_if : Bool → ℕ
+one_if b = if b then 1 else 0
 
 filter-push : (f : ℕ → Bool) (n : ℕ) → filter f (numbers_below (suc n)) ≡ filter f (numbers_below n) ++ filter f (n ∷ [])
 filter-push f n = filter-append f (numbers_below n) (n ∷ [])
 
-pub count-push : (f : ℕ → Bool) (n : ℕ) → count f (suc n) ≡ count f n + one (f n)
+pub count-push : (f : ℕ → Bool) (n : ℕ) → count f (suc n) ≡ count f n + one_if (f n)
 count-push f n =
     ap length (filter-push f n) ∙ length-append (filter f (numbers_below n)) (filter f (n ∷ []))
     ∙ ap (λ k. count f n + k) (single (f n))
   where
-    single : (b : Bool) → length (if b then n ∷ [] else []) ≡ one b
+    single : (b : Bool) → length (if b then n ∷ [] else []) ≡ one_if b
     single true = refl
     single false = refl
 
@@ -43,12 +43,12 @@ count-same f g (suc n) agree =
     rw (count-push g n, count-push f n, before, agree n (omega arith)) refl
 
 -- two tests that agree at all numbers but one
-pub count-set : (f g : ℕ → Bool) (n i : ℕ) → i < n → ((k : ℕ) → k ≢ i → g k ≡ f k) → count g n + one (f i) ≡ count f n + one (g i)
+pub count-set : (f g : ℕ → Bool) (n i : ℕ) → i < n → ((k : ℕ) → k ≢ i → g k ≡ f k) → count g n + one_if (f i) ≡ count f n + one_if (g i)
 count-set f g zero i below agree = absurd (omega arith)
 count-set f g (suc n) i below agree = by_place (cases_eq i n) (λ inner. count-set f g n i inner agree)
   where
-    by_place : (i ≡ n) ⊎ (i ≢ n) → (i < n → count g n + one (f i) ≡ count f n + one (g i))
-        → count g (suc n) + one (f i) ≡ count f (suc n) + one (g i)
+    by_place : (i ≡ n) ⊎ (i ≢ n) → (i < n → count g n + one_if (f i) ≡ count f n + one_if (g i))
+        → count g (suc n) + one_if (f i) ≡ count f (suc n) + one_if (g i)
     by_place (inl last) earlier =
         let prefix = count-same f g n (λ k lower. agree k (λ same. omega arith)) in
         rw (count-push g n, count-push f n, last, prefix) (omega arith)
@@ -57,16 +57,16 @@ count-set f g (suc n) i below agree = by_place (cases_eq i n) (λ inner. count-s
         let here : g n ≡ f n = agree n (λ same. inner (sym same)) in
         rw (count-push g n, count-push f n, here) (omega arith)
 
-one-le : (a b : Bool) → (a ≡ true → b ≡ true) → one a ≤ one b
-one-le true b more = rw (more refl) (omega arith)
-one-le false b more = omega arith
+one_if-le : (a b : Bool) → (a ≡ true → b ≡ true) → one_if a ≤ one_if b
+one_if-le true b more = rw (more refl) (omega arith)
+one_if-le false b more = omega arith
 
 -- a weaker test passes no fewer
 pub count-le : (f g : ℕ → Bool) (n : ℕ) → ((k : ℕ) → f k ≡ true → g k ≡ true) → count f n ≤ count g n
 count-le f g zero weaker = omega arith
 count-le f g (suc n) weaker =
     let before = count-le f g n weaker in
-    let here = one-le (f n) (g n) (weaker n) in
+    let here = one_if-le (f n) (g n) (weaker n) in
     rw (count-push f n, count-push g n) (omega arith)
 
 -- a number that passes is in the list of the numbers that do
@@ -107,18 +107,18 @@ held_by d test block state = ap₂ (λ b s. (b == d) && test s) block state
 module _ (limit : ℕ) (p : List Step) (s : Step) (h : ℕ) (old new : HandleState) (c : ChangesOne limit p s h old new) where
   -- each count of states changes by that one handle
   changed_count : (b : ℕ) (test : HandleState → Bool)
-      → count (λ k. is_held limit (s ∷ p) b test k) (births p) + one ((block_of p h == b) && test old)
-      ≡ held limit p b test + one ((block_of p h == b) && test new)
+      → count (λ k. is_held limit (s ∷ p) b test k) (births p) + one_if ((block_of p h == b) && test old)
+      ≡ held limit p b test + one_if ((block_of p h == b) && test new)
   changed_count b test =
       let step = count-set (λ k. is_held limit p b test k) (λ k. is_held limit (s ∷ p) b test k) (births p) h c.found.born
       (λ k apart. held_by b test (c.blocks k) (c.others k apart)) in
       let before : is_held limit p b test h ≡ ((block_of p h == b) && test old) = held_by b test refl c.found.state in
       let after : is_held limit (s ∷ p) b test h ≡ ((block_of p h == b) && test new) = held_by b test (c.blocks h) c.left in
-      ap (λ x. count (λ k. is_held limit (s ∷ p) b test k) (births p) + one x) (sym before)
-      ∙ step ∙ ap (λ x. held limit p b test + one x) after
+      ap (λ x. count (λ k. is_held limit (s ∷ p) b test k) (births p) + one_if x) (sym before)
+      ∙ step ∙ ap (λ x. held limit p b test + one_if x) after
 
   pub changed_here : (test : HandleState → Bool)
-      → held limit (s ∷ p) (block_of p h) test + one (test old) ≡ held limit p (block_of p h) test + one (test new)
+      → held limit (s ∷ p) (block_of p h) test + one_if (test old) ≡ held limit p (block_of p h) test + one_if (test new)
   changed_here test = rw c.same_births (rw (same_test (block_of p h)) at (changed_count (block_of p h) test))
 
   pub changed_elsewhere : (b : ℕ) (test : HandleState → Bool) → b ≢ block_of p h
@@ -131,35 +131,35 @@ module _ (limit : ℕ) (p : List Step) (s : Step) (h : ℕ) (old new : HandleSta
 -- ---- steps that give birth
 
 newborn_count : (f g : ℕ → Bool) (n : ℕ) (new : Bool) → ((k : ℕ) → k < n → g k ≡ f k) → g n ≡ new
-    → count g (suc n) ≡ count f n + one new
-newborn_count f g n new agree here = count-push g n ∙ ap₂ (λ x y. x + one y) (count-same f g n agree) here
+    → count g (suc n) ≡ count f n + one_if new
+newborn_count f g n new agree here = count-push g n ∙ ap₂ (λ x y. x + one_if y) (count-same f g n agree) here
 
 -- on the newborn handle's block, and on another one
-born_here : (before after c : ℕ) (test : Bool) → after ≡ before + one ((c == c) && test) → after ≡ before + one test
+born_here : (before after c : ℕ) (test : Bool) → after ≡ before + one_if ((c == c) && test) → after ≡ before + one_if test
 born_here before after c test step = rw (same_test c) at step
 
-born_elsewhere : (before after c b : ℕ) (test : Bool) → b ≢ c → after ≡ before + one ((c == b) && test) → after ≡ before
+born_elsewhere : (before after c b : ℕ) (test : Bool) → b ≢ c → after ≡ before + one_if ((c == b) && test) → after ≡ before
 born_elsewhere before after c b test apart step =
     let elsewhere = other_test c b apart in
     let same : after ≡ before + 0 = rw elsewhere at step in
     omega arith
 
 held-Make : (limit : ℕ) (p : List Step) (b : ℕ) (test : HandleState → Bool) → IsPast limit p
-    → held limit (Make ∷ p) b test ≡ held limit p b test + one ((makes p == b) && test Free)
+    → held limit (Make ∷ p) b test ≡ held limit p b test + one_if ((makes p == b) && test Free)
 held-Make limit p b test past =
     newborn_count (λ k. is_held limit p b test k) (λ k. is_held limit (Make ∷ p) b test k) (births p) _
     (λ k born. held_by b test (block-Make_other p k born) refl)
     (held_by b test (block-Make p) (state-born limit p past))
 
 held-Clone : (limit : ℕ) (p : List Step) (h b : ℕ) (test : HandleState → Bool) → IsPast limit p
-    → held limit (Clone h ∷ p) b test ≡ held limit p b test + one ((block_of p h == b) && test Free)
+    → held limit (Clone h ∷ p) b test ≡ held limit p b test + one_if ((block_of p h == b) && test Free)
 held-Clone limit p h b test past =
     newborn_count (λ k. is_held limit p b test k) (λ k. is_held limit (Clone h ∷ p) b test k) (births p) _
     (λ k born. held_by b test (block-Clone_other p h k born) refl)
     (held_by b test (block-Clone p h) (state-born limit p past))
 
 pub Clone_here : (limit : ℕ) (p : List Step) (h : ℕ) (test : HandleState → Bool) → IsPast limit p
-    → held limit (Clone h ∷ p) (block_of p h) test ≡ held limit p (block_of p h) test + one (test Free)
+    → held limit (Clone h ∷ p) (block_of p h) test ≡ held limit p (block_of p h) test + one_if (test Free)
 Clone_here limit p h test past = born_here _ _ (block_of p h) (test Free) (held-Clone limit p h (block_of p h) test past)
 
 pub Clone_elsewhere : (limit : ℕ) (p : List Step) (h b : ℕ) (test : HandleState → Bool) → IsPast limit p → b ≢ block_of p h
@@ -190,7 +190,7 @@ held-unmade limit p b test past unmade =
 
 -- so the first handle of a new block is alone on it
 pub Make_here : (limit : ℕ) (p : List Step) (test : HandleState → Bool) → IsPast limit p
-    → held limit (Make ∷ p) (makes p) test ≡ one (test Free)
+    → held limit (Make ∷ p) (makes p) test ≡ one_if (test Free)
 Make_here limit p test past =
     let step = born_here _ _ (makes p) (test Free) (held-Make limit p (makes p) test past) in
     let none = held-unmade limit p (makes p) test past (omega arith) in

@@ -15,7 +15,7 @@ use Rattle.arcstr_count.specs.Summary.{BlockSummary, Summary, StandsFor, block_s
 use Rattle.arcstr_count.specs.Tables.{summary_in, word_in, view_of}
 use Rattle.arcstr_count.proofs.Pasts.{IsPast-past_of}
 use Rattle.arcstr_count.proofs.LawsOfPasts.{word_stands, given_once}
-use Rattle.arcstr_count.proofs.Tables.{length-table, table-at, table-same, table-more, table-set, same_test, other_test, length-words_left, word_at}
+use Rattle.arcstr_count.proofs.Tables.{length-table, table-at, table-same, table-more, table-set, same_test, other_test, length-words_left, get_or-words_left}
 use Rattle.arcstr_count.proofs.Tables.{block_at, unmade_block}
 
 -- a list that has the values of a function is the function's table
@@ -76,7 +76,7 @@ tables_from_view limit handles blocks history stands = record {
         let word : (get_or blocks k d).word ≡ word_left limit p k =
         sym (get_or-map word_in blocks k d (word_in d) within)
         ∙ ap (λ ws. get_or ws k (word_in d)) stands.words
-        ∙ word_at limit p k (word_in d) below in
+        ∙ get_or-words_left limit p k (word_in d) below in
         let kept : summary_in (get_or blocks k d) ≡ block_summary limit p k =
         sym (get_or-map summary_in blocks k d (summary_in d) within)
         ∙ ap (λ (s : Summary). get_or s.blocks k (summary_in d)) stands.summary
@@ -92,8 +92,8 @@ once_as_mark (suc (suc n)) small = absurd (omega arith)
 pub words_of-entries : (limit : ℕ) (p : List Step) → map word_in (entries_of limit p) ≡ words_left limit p
 words_of-entries limit p = map-map word_in (λ b. entry_of limit p b) (numbers_below (makes p))
 
-pub entry_at : (limit : ℕ) (p : List Step) (b : ℕ) (d : BlockEntry) → b < makes p → get_or (entries_of limit p) b d ≡ entry_of limit p b
-entry_at limit p b d made = table-at (λ k. entry_of limit p k) (makes p) b d made
+pub get_or-entries_of : (limit : ℕ) (p : List Step) (b : ℕ) (d : BlockEntry) → b < makes p → get_or (entries_of limit p) b d ≡ entry_of limit p b
+get_or-entries_of limit p b d made = table-at (λ k. entry_of limit p k) (makes p) b d made
 
 pub length-entries_of : (limit : ℕ) (p : List Step) → length (entries_of limit p) ≡ makes p
 length-entries_of limit p = length-table (λ b. entry_of limit p b) (makes p)

@@ -12,7 +12,7 @@ use Rattle.arcstr_count.specs.Marks.{is_marked, living, is_only}
 use Rattle.arcstr_count.specs.Answer.{is_accepted}
 use Rattle.arcstr_count.specs.Past.{IsPast, times_given}
 use Rattle.arcstr_count.specs.Left.{word_left, is_dropping, is_owing}
-use Rattle.arcstr_count.proofs.Counting.{one, held, Make_here, Make_elsewhere, Clone_here, Clone_elsewhere, changed_here, changed_elsewhere}
+use Rattle.arcstr_count.proofs.Counting.{one_if, held, Make_here, Make_elsewhere, Clone_here, Clone_elsewhere, changed_here, changed_elsewhere}
 use Rattle.arcstr_count.proofs.Counting.{dropping-le-living, some_held, is_only-living}
 use Rattle.arcstr_count.proofs.LawsOfHandles.{same_test, other_test, step_finds, ChangesOne, Begin-changes, Sub-changes, Back-changes}
 use Rattle.arcstr_count.proofs.LawsOfHandles.{IntoRaw-changes, FromRaw-changes}
@@ -49,12 +49,12 @@ Balanced limit w true n given = Marked limit w n given
 
 -- the counts change by one handle, which goes from one state to another
 record Moves (n after : Counts) (old new : HandleState) : Type 0 where
-  living : after lives + one (lives old) ≡ n lives + one (lives new)
-  dropping : after is_dropping + one (is_dropping old) ≡ n is_dropping + one (is_dropping new)
-  owing : after is_owing + one (is_owing old) ≡ n is_owing + one (is_owing new)
+  living : after lives + one_if (lives old) ≡ n lives + one_if (lives new)
+  dropping : after is_dropping + one_if (is_dropping old) ≡ n is_dropping + one_if (is_dropping new)
+  owing : after is_owing + one_if (is_owing old) ≡ n is_owing + one_if (is_owing new)
 
 moves : (n after : Counts) (old new : HandleState)
-    → ((test : HandleState → Bool) → after test + one (test old) ≡ n test + one (test new)) → Moves n after old new
+    → ((test : HandleState → Bool) → after test + one_if (test old) ≡ n test + one_if (test new)) → Moves n after old new
 moves n after old new step = record { living = step lives; dropping = step is_dropping; owing = step is_owing }
 
 -- the counts change by one handle that is born free
@@ -63,7 +63,7 @@ record Bears (n after : Counts) : Type 0 where
   dropping : after is_dropping ≡ n is_dropping
   owing : after is_owing ≡ n is_owing
 
-bears : (n after : Counts) → ((test : HandleState → Bool) → after test ≡ n test + one (test Free)) → Bears n after
+bears : (n after : Counts) → ((test : HandleState → Bool) → after test ≡ n test + one_if (test Free)) → Bears n after
 bears n after step = record {
   living = step lives;
   dropping = omega (arith, step is_dropping);

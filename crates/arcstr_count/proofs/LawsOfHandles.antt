@@ -27,15 +27,15 @@ pub record IsIn (limit : ℕ) (p : List Step) (h : ℕ) (s : HandleState) : Type
   pub born : h < births p
   pub state : state_of limit p h ≡ s
 
-pub is_in : (limit : ℕ) (p : List Step) (h : ℕ) (s : HandleState) → handle_state limit p h ≡ Some s → IsIn limit p h s
-is_in limit p h s e = by_test (nat_lt h (births p)) refl e
+pub is_in_handle_state : (limit : ℕ) (p : List Step) (h : ℕ) (s : HandleState) → handle_state limit p h ≡ Some s → IsIn limit p h s
+is_in_handle_state limit p h s e = by_test (nat_lt h (births p)) refl e
   where
     by_test : (t : Bool) → nat_lt h (births p) ≡ t → (if t then Some (state_of limit p h) else None) ≡ Some s → IsIn limit p h s
     by_test true born same = record { born = ltb-true h (births p) born; state = cc }
     by_test false unborn same = cc
 
-pub state_is : (limit : ℕ) (p : List Step) (h : ℕ) (s : HandleState) → IsIn limit p h s → handle_state limit p h ≡ Some s
-state_is limit p h s i = rw (lt-ltb h (births p) i.born, i.state) refl
+pub handle_state_is : (limit : ℕ) (p : List Step) (h : ℕ) (s : HandleState) → IsIn limit p h s → handle_state limit p h ≡ Some s
+handle_state_is limit p h s i = rw (lt-ltb h (births p) i.born, i.state) refl
 
 -- the table of refusals accepts a handle in the state that a step needs, and no other
 pub accepts_needed : (s : HandleState) → refusal_unless s (Some s) ≡ None
@@ -56,7 +56,7 @@ needed_state s o e = cc
 -- so an accepted step finds its handle in the state that it needs
 pub step_finds : (limit : ℕ) (p : List Step) (h : ℕ) (s : HandleState) → is_none (refusal_unless s (handle_state limit p h)) ≡ true
     → IsIn limit p h s
-step_finds limit p h s a = is_in limit p h s (needed_state s (handle_state limit p h) a)
+step_finds limit p h s a = is_in_handle_state limit p h s (needed_state s (handle_state limit p h) a)
 
 -- ---- what a state says was done
 

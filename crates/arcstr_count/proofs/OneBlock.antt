@@ -19,7 +19,7 @@ use Rattle.arcstr_count.specs.Left.{word_left, Stands}
 use Rattle.arcstr_count.specs.Summary.{handles_of, handle_summary}
 use Rattle.arcstr_count.specs.OneBlock.{Keeps, EndsIn, look_reply}
 use Rattle.arcstr_count.proofs.Pasts.{past_of-step, IsPast-past_of}
-use Rattle.arcstr_count.proofs.LawsOfHandles.{IsIn, state_is, accepts_needed, block_made, ChangesOne, Begin-changes, Sub-changes, Back-changes}
+use Rattle.arcstr_count.proofs.LawsOfHandles.{IsIn, handle_state_is, accepts_needed, block_made, ChangesOne, Begin-changes, Sub-changes, Back-changes}
 use Rattle.arcstr_count.proofs.LawsOfPasts.{word_stands, look_answers, Sub_counted, Sub_last}
 use Rattle.arcstr_count.proofs.Tables.{length-numbers_below, length-handles_of, handle_at, handles-Clone, handles-changed}
 
@@ -130,7 +130,7 @@ subtracts : (limit : ℕ) (r : List Step) (w : FlagAndCount) (seats : List Handl
     → IsIn limit (past_of limit r) h Dropping → Subtracts limit (past_of limit r) h w
 subtracts limit r w seats h keeps i =
     let accepted : is_accepted limit (past_of limit r) (Sub h) ≡ true =
-    ap (λ o. is_none (refusal_unless Dropping o)) (state_is limit (past_of limit r) h Dropping i) in
+    ap (λ o. is_none (refusal_unless Dropping o)) (handle_state_is limit (past_of limit r) h Dropping i) in
     let same : word_left limit (past_of limit r) (block_of (past_of limit r) h) ≡ w =
     ap (λ b. word_left limit (past_of limit r) b) (on_first_block limit r w seats h Dropping keeps i) ∙ sym keeps.left in
     record {
@@ -184,7 +184,7 @@ module _ (limit : ℕ) (r : List Step) (w : FlagAndCount) (seats : List HandleSt
       let i = seat_is limit r w seats h needed keeps seat in
       let open_to : refusal_of limit p s ≡ None =
       ap (λ n. refusal_by (λ k. handle_state limit p k) n) need
-      ∙ ap (refusal_unless needed) (state_is limit p h needed i) ∙ accepts_needed needed in
+      ∙ ap (refusal_unless needed) (handle_state_is limit p h needed i) ∙ accepts_needed needed in
       let accepted : is_accepted limit p s ≡ true = ap is_none open_to in
       let left = leaves accepted (on_first_block limit r w seats h needed keeps i) in
       prolonged (kept limit r w new seats new_seats s keeps accepted same_makes left.word left.states) accepted

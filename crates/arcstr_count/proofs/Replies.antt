@@ -14,8 +14,8 @@ abbrev pub replies_from : ℕ → List Step → List Step → List Reply
 replies_from limit p [] = []
 replies_from limit p (s ∷ later) = answer_of limit p s ∷ replies_from limit (with_step limit p s) later
 
-abbrev pub replies_of : ℕ → List Step → List Reply
-replies_of limit steps = replies_from limit [] steps
+abbrev pub replies_to : ℕ → List Step → List Reply
+replies_to limit steps = replies_from limit [] steps
 
 -- one more step at the end
 pub replies_from-step : (limit : ℕ) (p xs : List Step) (s : Step)
@@ -33,10 +33,10 @@ reply_at : (limit : ℕ) (p prefix later : List Step) (s : Step)
 reply_at limit p [] later s = refl
 reply_at limit p (x ∷ prefix) later s = reply_at limit (with_step limit p x) prefix later s
 
-pub replies_answer : (limit : ℕ) (steps : List Step) → AnswersEach limit steps (replies_of limit steps)
+pub replies_answer : (limit : ℕ) (steps : List Step) → AnswersEach limit steps (replies_to limit steps)
 replies_answer limit steps = record {
   count = length-replies_from limit [] steps;
-  each = λ prefix later s is. ap (λ xs. slice_get (replies_of limit xs) (length prefix)) is ∙ reply_at limit [] prefix later s;
+  each = λ prefix later s is. ap (λ xs. slice_get (replies_to limit xs) (length prefix)) is ∙ reply_at limit [] prefix later s;
 }
 
 -- ---- a world in the course of a list of steps
@@ -45,7 +45,7 @@ replies_answer limit steps = record {
 pub record HasTaken (limit : ℕ) (done : List Step) (w : WorldView) (replies : List Reply) : Type 0 where
   pub limited : w.summary.limit ≡ limit
   pub stands : StandsFor w done
-  pub replied : replies ≡ replies_of limit done
+  pub replied : replies ≡ replies_to limit done
 
 pub takes_more : (limit : ℕ) (done : List Step) (old new : WorldView) (replies : List Reply) (s : Step) (reply : Reply)
     → HasTaken limit done old replies → Answers old s reply → Follows old s new → new.summary.limit ≡ old.summary.limit

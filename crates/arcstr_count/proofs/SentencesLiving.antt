@@ -41,8 +41,8 @@ numbers_below-rising n k lt =
 
 -- ---- those of these numbers that pass a test
 
-filter_one : (test : ℕ → Bool) (n h : ℕ) → Contains (filter test (n ∷ [])) h → (n ≡ h) × (test n ≡ true)
-filter_one test n h c = go (test n) refl c
+Contains-filter_one : (test : ℕ → Bool) (n h : ℕ) → Contains (filter test (n ∷ [])) h → (n ≡ h) × (test n ≡ true)
+Contains-filter_one test n h c = go (test n) refl c
   where
     go : (b : Bool) → test n ≡ b → Contains (if b then n ∷ [] else []) h → (n ≡ h) × (test n ≡ true)
     go true e w = elim (Contains-push_cases [] n h w) [ inl none ↦ absurd (omega (arith, none.1)) | inr same ↦ (same, e) ]
@@ -56,7 +56,7 @@ passing_below : (test : ℕ → Bool) (n h : ℕ) → Contains (filter test (num
 passing_below test zero h c = absurd (omega (arith, c.1))
 passing_below test (suc n) h c = elim (Contains-append_cases (filter test (numbers_below n)) (filter test (n ∷ [])) h (rw (filter-append test (numbers_below n) (n ∷ [])) at c)) [
   | inl w ↦ (let before = passing_below test n h w in (omega (arith, before.0), before.1))
-  | inr w ↦ (let last = filter_one test n h w in (omega (arith, last.0), subst (λ k. test k ≡ true) last.0 last.1))
+  | inr w ↦ (let last = Contains-filter_one test n h w in (omega (arith, last.0), subst (λ k. test k ≡ true) last.0 last.1))
 ]
 
 pub passing_sentence : (test : ℕ → Bool) (n h : ℕ) → Contains (filter test (numbers_below n)) h ↔ ((h < n) × (test h ≡ true))

@@ -25,13 +25,13 @@ MarkedIn limit p b = ((h : ℕ) × InPast p (Leak h) (On h b)) ⊎ ((h : ℕ) ×
 MarkedIn-more : (limit : ℕ) (x : Step) (p : List Step) (b : ℕ) → MarkedIn limit p b → MarkedIn limit (x ∷ p) b
 MarkedIn-more limit x p b m = elim m [ inl w ↦ inl (w.0, inr w.1) | inr w ↦ inr (w.0, inr w.1) ]
 
-marked_in : (limit : ℕ) (p : List Step) (b : ℕ) → is_marked limit p b ≡ true → MarkedIn limit p b
-marked_in limit [] b m = cc
-marked_in limit (Leak h ∷ p) b m = elim (or_cases (block_of p h == b) (is_marked limit p b) m) [
+MarkedIn-is_marked : (limit : ℕ) (p : List Step) (b : ℕ) → is_marked limit p b ≡ true → MarkedIn limit p b
+MarkedIn-is_marked limit [] b m = cc
+MarkedIn-is_marked limit (Leak h ∷ p) b m = elim (or_cases (block_of p h == b) (is_marked limit p b) m) [
   | inl e ↦ inl (h, inl (refl, eqb-true (block_of p h) b e))
-  | inr e ↦ MarkedIn-more limit (Leak h) p b (marked_in limit p b e)
+  | inr e ↦ MarkedIn-more limit (Leak h) p b (MarkedIn-is_marked limit p b e)
 ]
-marked_in limit (Clone h ∷ p) b m = by_mark (is_marked limit p b) refl (marked_in limit p b)
+MarkedIn-is_marked limit (Clone h ∷ p) b m = by_mark (is_marked limit p b) refl (MarkedIn-is_marked limit p b)
   where
     by_mark : (c : Bool) → is_marked limit p b ≡ c → (is_marked limit p b ≡ true → MarkedIn limit p b) → MarkedIn limit (Clone h ∷ p) b
     by_mark true e before = MarkedIn-more limit (Clone h) p b (before e)
@@ -40,7 +40,7 @@ marked_in limit (Clone h ∷ p) b m = by_mark (is_marked limit p b) refl (marked
       | inr t ↦ (let parts = and_parts (block_of p h == b) (nat_lt limit (length (living limit p b))) t in
           inr (h, inl (refl, (eqb-true (block_of p h) b parts.0, e, ltb-true limit (length (living limit p b)) parts.1))))
     ]
-marked_in limit (s ∷ p) b m = MarkedIn-more limit s p b (marked_in limit p b m)
+MarkedIn-is_marked limit (s ∷ p) b m = MarkedIn-more limit s p b (MarkedIn-is_marked limit p b m)
 
 -- a mark stays
 is_marked-more : (limit : ℕ) (x : Step) (p : List Step) (b : ℕ) → is_marked limit p b ≡ true → is_marked limit (x ∷ p) b ≡ true
@@ -67,7 +67,7 @@ marked_by_clone limit (x ∷ p) h b (inr w) = is_marked-more limit x p b (marked
 
 pub marked_sentence : (limit : ℕ) (history : List Step) (b : ℕ) → IsTrue (marked_after limit history b) ↔ MarkedSentence limit history b
 marked_sentence limit history b = (
-  (λ m. elim (marked_in limit (past_of limit history) b m) [
+  (λ m. elim (MarkedIn-is_marked limit (past_of limit history) b m) [
     | inl w ↦ inl (w.0, in_history limit (Leak w.0) (On w.0 b) history w.1)
     | inr w ↦ inr (w.0, in_history limit (Clone w.0) (OnFull limit w.0 b) history w.1)
   ]),

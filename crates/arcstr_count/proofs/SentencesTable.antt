@@ -7,7 +7,7 @@ use Rattle.arcstr_count.specs.Marks.{state_of}
 use Rattle.arcstr_count.specs.Answer.{Need, needs, handle_state, refusal_by}
 use Rattle.arcstr_count.specs.Past.{past_of}
 use Rattle.arcstr_count.specs.Sentences.{accepted_after, AcceptedSentence}
-use Rattle.arcstr_count.proofs.LawsOfHandles.{is_in, state_is, accepts_needed, needed_state}
+use Rattle.arcstr_count.proofs.LawsOfHandles.{is_in_handle_state, handle_state_is, accepts_needed, needed_state}
 
 by_need : (state : ℕ → Option HandleState) (o : Option Need)
     → IsTrue (is_none (refusal_by state o)) ↔ IfSome o (λ need. state need.handle ≡ Some need.state)
@@ -21,6 +21,6 @@ accepted_sentence limit history s = by_need (λ h. handle_state limit (past_of l
 
 pub handle_state_sentence : (limit : ℕ) (p : List Step) (h : ℕ) (s : HandleState) → (handle_state limit p h ≡ Some s) ↔ ((h < births p) × (state_of limit p h ≡ s))
 handle_state_sentence limit p h s = (
-  (λ e. let i = is_in limit p h s e in (i.born, i.state)),
-  (λ w. state_is limit p h s (record { born = w.0; state = w.1 })),
+  (λ e. let i = is_in_handle_state limit p h s e in (i.born, i.state)),
+  (λ w. handle_state_is limit p h s (record { born = w.0; state = w.1 })),
 )

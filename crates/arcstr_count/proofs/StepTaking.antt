@@ -23,9 +23,9 @@ use Rattle.arcstr_count.specs.Tables.{view_of, IsWorld}
 use Rattle.arcstr_count.specs.Taken.{IsRefusal, IsAcceptedBy, Answers, Follows, Takes, HasHistory}
 use Rattle.arcstr_count.specs.OneHandle.{state_at, IsAt}
 use Rattle.arcstr_count.proofs.Pasts.{past_of-step, IsPast-past_of}
-use Rattle.arcstr_count.proofs.LawsOfHandles.{IsIn, state_is, block_made}
+use Rattle.arcstr_count.proofs.LawsOfHandles.{IsIn, handle_state_is, block_made}
 use Rattle.arcstr_count.proofs.Tables.{handle_at, length-handles_of, length-words_left}
-use Rattle.arcstr_count.proofs.Entries.{AreTablesOf, entry_of, entries_of, entry_at, tables_from_view, view_from_tables}
+use Rattle.arcstr_count.proofs.Entries.{AreTablesOf, entry_of, entries_of, get_or-entries_of, tables_from_view, view_from_tables}
 
 -- ---- what is found
 
@@ -56,11 +56,11 @@ found_in_past w p h b s handles words at = record {
         ∙ get_or_from_slice_get w.summary.handles h here here at.found
 
 -- a world has each of its handles on a block that it has
-pub placed : (limit : ℕ) (handles : List HandleSummary) (blocks : List BlockEntry) (w : WorldView) (h : ℕ) (known : Option HandleSummary)
+pub known_handle_is_on_its_block : (limit : ℕ) (handles : List HandleSummary) (blocks : List BlockEntry) (w : WorldView) (h : ℕ) (known : Option HandleSummary)
     → IsWorld limit handles blocks → view_of limit handles blocks ≡ w → known ≡ slice_get w.summary.handles h
     → IfSome known (λ found. IsAt w h found.block found.state)
-placed limit handles blocks w h None world view_is is = tt
-placed limit handles blocks w h (Some e) world view_is is = record {
+known_handle_is_on_its_block limit handles blocks w h None world view_is is = tt
+known_handle_is_on_its_block limit handles blocks w h (Some e) world view_is is = record {
   found = sym is;
   born = born;
   made = ∥∥₁_elim (subst HasHistory view_is world.has_history) (hlevel props) made;
@@ -111,7 +111,7 @@ state_at-past w p h handles =
 pub entry_read : (limit : ℕ) (p : List Step) (blocks : List BlockEntry) (b : ℕ) (e : BlockEntry)
     → blocks ≡ entries_of limit p → b < makes p → e ≡ get_or blocks b e → e ≡ entry_of limit p b
 entry_read limit p blocks b e are made read =
-    read ∙ ap (λ es. get_or es b e) are ∙ entry_at limit p b e made
+    read ∙ ap (λ es. get_or es b e) are ∙ get_or-entries_of limit p b e made
 
 -- ---- a step that is refused
 
@@ -205,7 +205,7 @@ world_kept limit handles blocks old s reply new_handles new_blocks world view_is
 -- a clone of a handle that a world has as free is accepted
 pub clone_accepted : (w : WorldView) (h b : ℕ) → IsAt w h b Free → IsAcceptedBy w (Clone h)
 clone_accepted w h b at history stands =
-    ap (λ o. is_none (refusal_unless Free o)) (state_is w.summary.limit p h Free found.is_in)
+    ap (λ o. is_none (refusal_unless Free o)) (handle_state_is w.summary.limit p h Free found.is_in)
   where
     p : List Step
     p = past_of w.summary.limit history

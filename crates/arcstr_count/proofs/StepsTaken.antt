@@ -23,9 +23,9 @@ use Rattle.arcstr_count.specs.Taken.{IsRefusal, Takes}
 use Rattle.arcstr_count.specs.OneHandle.{IsAt}
 use Rattle.arcstr_count.specs.OneBlock.{look_reply}
 use Rattle.arcstr_count.proofs.Pasts.{IsPast-past_of}
-use Rattle.arcstr_count.proofs.LawsOfHandles.{state_is, accepts_needed, ChangesOne, Begin-changes, Sub-changes, Back-changes, IntoRaw-changes, FromRaw-changes}
+use Rattle.arcstr_count.proofs.LawsOfHandles.{handle_state_is, accepts_needed, ChangesOne, Begin-changes, Sub-changes, Back-changes, IntoRaw-changes, FromRaw-changes}
 use Rattle.arcstr_count.proofs.Tables.{handle_is, handle_at, length-handles_of, handles-Make, handles-Clone, handles-changed}
-use Rattle.arcstr_count.proofs.Entries.{AreTablesOf, entry_of, entries_of, entry_at, entry_with, with_word, tables_from_view, length-entries_of, entries-Make}
+use Rattle.arcstr_count.proofs.Entries.{AreTablesOf, entry_of, entries_of, get_or-entries_of, entry_with, with_word, tables_from_view, length-entries_of, entries-Make}
 use Rattle.arcstr_count.proofs.Entries.{entries-Clone, entries-Sub, entries-Leak, entries-Back, words_of-entries}
 use Rattle.arcstr_count.proofs.LawsOfPasts.{word_stands, look_answers, Sub_counted, Sub_last}
 use Rattle.arcstr_count.proofs.StepTaking.{FoundIn, found_in_past, entry_read, Changes, takes_accepted}
@@ -78,7 +78,7 @@ module _ (limit : ℕ) (handles : List HandleSummary) (blocks : List BlockEntry)
 
   -- the entry of the handle's block in the table is that of the past
   block_read : (p : List Step) → AreTablesOf limit p handles blocks → b < makes p → get_or blocks b no_block ≡ entry_of limit p b
-  block_read p tables made = ap (λ (es : List BlockEntry). get_or es b no_block) tables.blocks_are ∙ entry_at limit p b no_block made
+  block_read p tables made = ap (λ (es : List BlockEntry). get_or es b no_block) tables.blocks_are ∙ get_or-entries_of limit p b no_block made
 
   -- the table of handles with the handle in another state
   state_changed : (s : HandleState) (p : List Step) → AreTablesOf limit p handles blocks → FoundIn limit p h b s → (new : HandleState)
@@ -122,7 +122,7 @@ module _ (limit : ℕ) (handles : List HandleSummary) (blocks : List BlockEntry)
     where
       accepted : (p : List Step) → AreTablesOf limit p handles blocks → refusal_of limit p s ≡ None
       accepted p tables = ap (λ n. refusal_by (λ k. handle_state limit p k) n) need
-          ∙ ap (refusal_unless needed) (state_is limit p h needed (found_after needed p at tables).is_in) ∙ accepts_needed needed
+          ∙ ap (refusal_unless needed) (handle_state_is limit p h needed (found_after needed p at tables).is_in) ∙ accepts_needed needed
 
   -- a step that changes the handle's state
   takes_change : (s : Step) (needed new : HandleState) (reply : Reply) (new_blocks : List BlockEntry)
@@ -213,7 +213,7 @@ module _ (limit : ℕ) (handles : List HandleSummary) (blocks : List BlockEntry)
             let f = found_after Dropping (past_of limit known.0) at tables in
             rw (entry_is (past_of limit known.0) tables f.made, ← f.block)
             (Sub_counted limit (past_of limit known.0) h past
-            (ap (λ o. is_none (refusal_unless Dropping o)) (state_is limit (past_of limit known.0) h Dropping f.is_in)))
+            (ap (λ o. is_none (refusal_unless Dropping o)) (handle_state_is limit (past_of limit known.0) h Dropping f.is_in)))
 
     pub takes_sub : (last : Bool) (w : FlagAndCount) → IsAt old h b Dropping → w ≡ dropped_of e.word → last ≡ is_last e.word
         → (state : HandleState) (reply : Reply)

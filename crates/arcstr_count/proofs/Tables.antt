@@ -162,6 +162,6 @@ marked-Leak_other limit p h b apart = rw (other_test (block_of p h) b apart) ref
 pub length-words_left : (limit : ℕ) (p : List Step) → length (words_left limit p) ≡ makes p
 length-words_left limit p = length-table (λ b. word_left limit p b) (makes p)
 
-pub word_at : (limit : ℕ) (p : List Step) (b : ℕ) (d : FlagAndCount) → b < makes p
+pub get_or-words_left : (limit : ℕ) (p : List Step) (b : ℕ) (d : FlagAndCount) → b < makes p
     → get_or (words_left limit p) b d ≡ word_left limit p b
-word_at limit p b d made = table-at (λ c. word_left limit p c) (makes p) b d made
+get_or-words_left limit p b d made = table-at (λ c. word_left limit p c) (makes p) b d made

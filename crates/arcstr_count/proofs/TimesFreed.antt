@@ -15,7 +15,7 @@ use Rattle.arcstr_count.specs.Tables.{view_of}
 use Rattle.arcstr_count.proofs.Pasts.{IsPast-past_of}
 use Rattle.arcstr_count.proofs.LawsOfPasts.{given_once}
 use Rattle.arcstr_count.proofs.Tables.{unmade_block}
-use Rattle.arcstr_count.proofs.Entries.{once_as_mark, entry_of, length-entries_of, entry_at, tables_from_view}
+use Rattle.arcstr_count.proofs.Entries.{once_as_mark, entry_of, length-entries_of, get_or-entries_of, tables_from_view}
 
 -- a world's view determines how often each block was freed
 abbrev pub SaysGiven : WorldView → ℕ → ℕ → Type 0
@@ -33,7 +33,7 @@ module _ (limit : ℕ) (handles : List HandleSummary) (blocks : List BlockEntry)
           let made : b < makes (past_of limit history) = let long = ap length are ∙ length-entries_of limit (past_of limit history) in omega arith in
           let is : e ≡ entry_of limit (past_of limit history) b =
           sym (get_or_from_slice_get blocks b e e found) ∙ ap (λ es. get_or es b e) are
-          ∙ entry_at limit (past_of limit history) b e made in
+          ∙ get_or-entries_of limit (past_of limit history) b e made in
           ap (λ (x : BlockEntry). if x.given then 1 else 0) is
           ∙ once_as_mark (times_given (past_of limit history) b) (given_once limit (past_of limit history) b (IsPast-past_of limit history) made)
 

@@ -5,13 +5,13 @@ use Rattle.arcstr_count.specs.declared.steps.Step.TheVariants.{Make, Look, Clone
 use Rattle.arcstr_count.specs.declared.steps.Reply.TheVariants.{Made, Count, Static, Handle, Looked, Ended, Left, Owes, Given, Marked, Raw, Unraw, Refused}
 use Rattle.arcstr_count.specs.declared.faults.StepFault.TheVariants.{NoHandle, InDrop, NotInDrop, NotOwing, IsRaw, NotRaw}
 use Rattle.arcstr_count.specs.Past.{past_of, times_given}
-use Rattle.arcstr_count.proofs.Replies.{replies_of}
+use Rattle.arcstr_count.proofs.Replies.{replies_to}
 
 -- a mark between another drop's look and its subtraction
 crossing_mark : List Step
 crossing_mark = Make ∷ Clone 0 ∷ Begin 0 ∷ Leak 1 ∷ Sub 0 ∷ Begin 1 ∷ []
 
-crossing_mark-replies : replies_of 5 crossing_mark ≡ Made 0 ∷ Handle 1 ∷ Looked ∷ Marked ∷ Left ∷ Ended ∷ []
+crossing_mark-replies : replies_to 5 crossing_mark ≡ Made 0 ∷ Handle 1 ∷ Looked ∷ Marked ∷ Left ∷ Ended ∷ []
 unfolding crossing_mark
 crossing_mark-replies = refl
 
@@ -23,7 +23,7 @@ crossing_mark-given = refl
 past_the_limit : List Step
 past_the_limit = Make ∷ Clone 0 ∷ Look 0 ∷ Clone 0 ∷ Look 0 ∷ Clone 0 ∷ Look 0 ∷ []
 
-past_the_limit-replies : replies_of 1 past_the_limit ≡ Made 0 ∷ Handle 1 ∷ Count 2 ∷ Handle 2 ∷ Static ∷ Handle 3 ∷ Static ∷ []
+past_the_limit-replies : replies_to 1 past_the_limit ≡ Made 0 ∷ Handle 1 ∷ Count 2 ∷ Handle 2 ∷ Static ∷ Handle 3 ∷ Static ∷ []
 unfolding past_the_limit
 past_the_limit-replies = refl
 
@@ -35,7 +35,7 @@ past_the_limit-given = refl
 crossing_drops : List Step
 crossing_drops = Make ∷ Clone 0 ∷ Begin 0 ∷ Begin 1 ∷ Sub 1 ∷ Sub 0 ∷ Back 1 ∷ Back 0 ∷ Look 0 ∷ []
 
-crossing_drops-replies : replies_of 5 crossing_drops ≡ Made 0 ∷ Handle 1 ∷ Looked ∷ Looked ∷ Left ∷ Owes ∷ Refused NotOwing ∷ Given ∷ Refused NoHandle ∷ []
+crossing_drops-replies : replies_to 5 crossing_drops ≡ Made 0 ∷ Handle 1 ∷ Looked ∷ Looked ∷ Left ∷ Owes ∷ Refused NotOwing ∷ Given ∷ Refused NoHandle ∷ []
 unfolding crossing_drops
 crossing_drops-replies = refl
 
@@ -47,7 +47,7 @@ crossing_drops-given = refl
 limit_zero : List Step
 limit_zero = Make ∷ Clone 0 ∷ Look 1 ∷ []
 
-limit_zero-replies : replies_of 0 limit_zero ≡ Made 0 ∷ Handle 1 ∷ Static ∷ []
+limit_zero-replies : replies_to 0 limit_zero ≡ Made 0 ∷ Handle 1 ∷ Static ∷ []
 unfolding limit_zero
 limit_zero-replies = refl
 
@@ -59,7 +59,7 @@ limit_zero-given = refl
 raw_and_back : List Step
 raw_and_back = Make ∷ IntoRaw 0 ∷ Look 0 ∷ FromRaw 0 ∷ Look 0 ∷ []
 
-raw_and_back-replies : replies_of 5 raw_and_back ≡ Made 0 ∷ Raw ∷ Refused IsRaw ∷ Unraw ∷ Count 1 ∷ []
+raw_and_back-replies : replies_to 5 raw_and_back ≡ Made 0 ∷ Raw ∷ Refused IsRaw ∷ Unraw ∷ Count 1 ∷ []
 unfolding raw_and_back
 raw_and_back-replies = refl
 
@@ -71,7 +71,7 @@ raw_and_back-given = refl
 mark_under_two_drops : List Step
 mark_under_two_drops = Make ∷ Clone 0 ∷ Clone 0 ∷ Begin 0 ∷ Begin 1 ∷ Sub 0 ∷ Leak 2 ∷ Sub 1 ∷ Begin 2 ∷ Look 2 ∷ []
 
-mark_under_two_drops-replies : replies_of 5 mark_under_two_drops ≡ Made 0 ∷ Handle 1 ∷ Handle 2 ∷ Looked ∷ Looked ∷ Left ∷ Marked ∷ Left ∷ Ended ∷ Refused NoHandle ∷ []
+mark_under_two_drops-replies : replies_to 5 mark_under_two_drops ≡ Made 0 ∷ Handle 1 ∷ Handle 2 ∷ Looked ∷ Looked ∷ Left ∷ Marked ∷ Left ∷ Ended ∷ Refused NoHandle ∷ []
 unfolding mark_under_two_drops
 mark_under_two_drops-replies = refl
 
@@ -83,7 +83,7 @@ mark_under_two_drops-given = refl
 refusals_on_the_way : List Step
 refusals_on_the_way = Make ∷ Begin 0 ∷ Leak 0 ∷ Sub 0 ∷ Sub 0 ∷ Back 0 ∷ Back 0 ∷ Back 7 ∷ []
 
-refusals_on_the_way-replies : replies_of 5 refusals_on_the_way ≡ Made 0 ∷ Looked ∷ Refused InDrop ∷ Owes ∷ Refused NoHandle ∷ Given ∷ Refused NotOwing ∷ Refused NoHandle ∷ []
+refusals_on_the_way-replies : replies_to 5 refusals_on_the_way ≡ Made 0 ∷ Looked ∷ Refused InDrop ∷ Owes ∷ Refused NoHandle ∷ Given ∷ Refused NotOwing ∷ Refused NoHandle ∷ []
 unfolding refusals_on_the_way
 refusals_on_the_way-replies = refl
 
@@ -95,7 +95,7 @@ refusals_on_the_way-given = refl
 marked_twice : List Step
 marked_twice = Make ∷ Leak 0 ∷ Leak 0 ∷ Clone 0 ∷ Look 1 ∷ Begin 1 ∷ Begin 0 ∷ []
 
-marked_twice-replies : replies_of 5 marked_twice ≡ Made 0 ∷ Marked ∷ Marked ∷ Handle 1 ∷ Static ∷ Ended ∷ Ended ∷ []
+marked_twice-replies : replies_to 5 marked_twice ≡ Made 0 ∷ Marked ∷ Marked ∷ Handle 1 ∷ Static ∷ Ended ∷ Ended ∷ []
 unfolding marked_twice
 marked_twice-replies = refl
 
@@ -107,7 +107,7 @@ marked_twice-given = refl
 raw_refusals : List Step
 raw_refusals = Make ∷ IntoRaw 0 ∷ IntoRaw 0 ∷ Sub 0 ∷ Back 0 ∷ FromRaw 0 ∷ FromRaw 0 ∷ []
 
-raw_refusals-replies : replies_of 5 raw_refusals ≡ Made 0 ∷ Raw ∷ Refused IsRaw ∷ Refused NotInDrop ∷ Refused NotOwing ∷ Unraw ∷ Refused NotRaw ∷ []
+raw_refusals-replies : replies_to 5 raw_refusals ≡ Made 0 ∷ Raw ∷ Refused IsRaw ∷ Refused NotInDrop ∷ Refused NotOwing ∷ Unraw ∷ Refused NotRaw ∷ []
 unfolding raw_refusals
 raw_refusals-replies = refl
 
@@ -119,7 +119,7 @@ raw_refusals-given = refl
 raw_handle_counts : List Step
 raw_handle_counts = Make ∷ Clone 0 ∷ IntoRaw 1 ∷ Begin 0 ∷ Sub 0 ∷ FromRaw 0 ∷ FromRaw 1 ∷ Begin 1 ∷ Sub 1 ∷ Back 1 ∷ []
 
-raw_handle_counts-replies : replies_of 5 raw_handle_counts ≡ Made 0 ∷ Handle 1 ∷ Raw ∷ Looked ∷ Left ∷ Refused NoHandle ∷ Unraw ∷ Looked ∷ Owes ∷ Given ∷ []
+raw_handle_counts-replies : replies_to 5 raw_handle_counts ≡ Made 0 ∷ Handle 1 ∷ Raw ∷ Looked ∷ Left ∷ Refused NoHandle ∷ Unraw ∷ Looked ∷ Owes ∷ Given ∷ []
 unfolding raw_handle_counts
 raw_handle_counts-replies = refl
 
@@ -131,7 +131,7 @@ raw_handle_counts-given = refl
 two_blocks : List Step
 two_blocks = Make ∷ Make ∷ Clone 0 ∷ Begin 1 ∷ Sub 1 ∷ Back 1 ∷ Look 0 ∷ []
 
-two_blocks-replies : replies_of 5 two_blocks ≡ Made 0 ∷ Made 1 ∷ Handle 2 ∷ Looked ∷ Owes ∷ Given ∷ Count 2 ∷ []
+two_blocks-replies : replies_to 5 two_blocks ≡ Made 0 ∷ Made 1 ∷ Handle 2 ∷ Looked ∷ Owes ∷ Given ∷ Count 2 ∷ []
 unfolding two_blocks
 two_blocks-replies = refl
 
@@ -151,7 +151,7 @@ two_blocks-unmade = refl
 limit_zero_drop : List Step
 limit_zero_drop = Make ∷ Begin 0 ∷ Sub 0 ∷ Back 0 ∷ Look 0 ∷ []
 
-limit_zero_drop-replies : replies_of 0 limit_zero_drop ≡ Made 0 ∷ Looked ∷ Owes ∷ Given ∷ Refused NoHandle ∷ []
+limit_zero_drop-replies : replies_to 0 limit_zero_drop ≡ Made 0 ∷ Looked ∷ Owes ∷ Given ∷ Refused NoHandle ∷ []
 unfolding limit_zero_drop
 limit_zero_drop-replies = refl
 
@@ -163,7 +163,7 @@ limit_zero_drop-given = refl
 limit_zero_marked : List Step
 limit_zero_marked = Make ∷ Clone 0 ∷ Begin 0 ∷ Begin 1 ∷ []
 
-limit_zero_marked-replies : replies_of 0 limit_zero_marked ≡ Made 0 ∷ Handle 1 ∷ Ended ∷ Ended ∷ []
+limit_zero_marked-replies : replies_to 0 limit_zero_marked ≡ Made 0 ∷ Handle 1 ∷ Ended ∷ Ended ∷ []
 unfolding limit_zero_marked
 limit_zero_marked-replies = refl
 
@@ -175,7 +175,7 @@ limit_zero_marked-given = refl
 limit_one_marked : List Step
 limit_one_marked = Make ∷ Clone 0 ∷ Begin 0 ∷ Clone 1 ∷ Sub 0 ∷ Begin 1 ∷ Begin 2 ∷ []
 
-limit_one_marked-replies : replies_of 1 limit_one_marked ≡ Made 0 ∷ Handle 1 ∷ Looked ∷ Handle 2 ∷ Left ∷ Ended ∷ Ended ∷ []
+limit_one_marked-replies : replies_to 1 limit_one_marked ≡ Made 0 ∷ Handle 1 ∷ Looked ∷ Handle 2 ∷ Left ∷ Ended ∷ Ended ∷ []
 unfolding limit_one_marked
 limit_one_marked-replies = refl
 
@@ -187,7 +187,7 @@ limit_one_marked-given = refl
 limit_one_unmarked : List Step
 limit_one_unmarked = Make ∷ Clone 0 ∷ Begin 0 ∷ Sub 0 ∷ Clone 1 ∷ Look 1 ∷ Begin 1 ∷ Begin 2 ∷ Sub 2 ∷ Sub 1 ∷ Back 1 ∷ []
 
-limit_one_unmarked-replies : replies_of 1 limit_one_unmarked ≡ Made 0 ∷ Handle 1 ∷ Looked ∷ Left ∷ Handle 2 ∷ Count 2 ∷ Looked ∷ Looked ∷ Left ∷ Owes ∷ Given ∷ []
+limit_one_unmarked-replies : replies_to 1 limit_one_unmarked ≡ Made 0 ∷ Handle 1 ∷ Looked ∷ Left ∷ Handle 2 ∷ Count 2 ∷ Looked ∷ Looked ∷ Left ∷ Owes ∷ Given ∷ []
 unfolding limit_one_unmarked
 limit_one_unmarked-replies = refl
 
@@ -199,7 +199,7 @@ limit_one_unmarked-given = refl
 first_script : List Step
 first_script = Make ∷ Clone 0 ∷ Look 1 ∷ Begin 0 ∷ Sub 0 ∷ Look 1 ∷ []
 
-first_script-replies : replies_of 5 first_script ≡ Made 0 ∷ Handle 1 ∷ Count 2 ∷ Looked ∷ Left ∷ Count 1 ∷ []
+first_script-replies : replies_to 5 first_script ≡ Made 0 ∷ Handle 1 ∷ Count 2 ∷ Looked ∷ Left ∷ Count 1 ∷ []
 unfolding first_script
 first_script-replies = refl
 

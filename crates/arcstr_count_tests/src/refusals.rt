@@ -1,4 +1,7 @@
 //! Tests that refuse the allocations of a world's steps in turn.
+//!
+//! The program `arcrefusals` takes the same steps, and `./refusals` refuses its allocations. Only this test shows how much
+//! memory a refused step keeps: none, unless the first of its two tables has grown.
 use arcstr_count::{Reply, RunFault, Step, World};
 use linked_list_allocator::LocalHeap;
 use std::process::Abort;

@@ -40,15 +40,15 @@ lines_last text none some =
     ∙ ap (λ test. cond test [] (text ∷ [])) (ne_eqb (length text) 0 (λ e. omega arith))
 
 -- the lines at the places of the parts
-abbrev pub placed : List (List ℕ) → List View → List View
-placed texts parts = map (λ line. view_at line.0 line.1.place) (zip texts parts)
+abbrev pub views_at : List (List ℕ) → List View → List View
+views_at texts parts = map (λ line. view_at line.0 line.1.place) (zip texts parts)
 
 pub first_line_none : (view : View) (answer : Option ℕ) → IsUtf8 view.text
     → MatchOption answer (FindsChar 10 view.text None) (MatchBeginsAt (FindsChar 10) view.text) → IfNone answer (0 < length view.text → lines_of view ≡ view ∷ [])
 unfolding lines_of
 first_line_none view None utf8 cases =
-    λ some. ap (λ (l : List (List ℕ)). placed l (parts_between is_newline view)) (lines_last view.text cases some)
-    ∙ ap (placed (view.text ∷ [])) (parts_last is_newline view.place view.text utf8 cases)
+    λ some. ap (λ (l : List (List ℕ)). views_at l (parts_between is_newline view)) (lines_last view.text cases some)
+    ∙ ap (views_at (view.text ∷ [])) (parts_last is_newline view.place view.text utf8 cases)
 first_line_none view (Some place) utf8 cases = tt
 
 module _ (view : View) (place : ℕ) (utf8 : IsUtf8 view.text) (at : MatchBeginsAt (FindsChar 10) view.text place) where
@@ -71,8 +71,8 @@ module _ (view : View) (place : ℕ) (utf8 : IsUtf8 view.text) (at : MatchBegins
   line_before : lines_of view ≡ view_at (strip_carriage_return (cut view.text 0 place)) view.place ∷ lines_of (part_of view (place + 1) (length view.text))
   unfolding lines_of
   line_before =
-      ap (λ (l : List (List ℕ)). placed l (parts_between is_newline view)) texts_of_lines
-      ∙ ap (placed (strip_carriage_return (cut view.text 0 place) ∷ lines (cut view.text (place + 1) (length view.text)))) parts_of_lines
+      ap (λ (l : List (List ℕ)). views_at l (parts_between is_newline view)) texts_of_lines
+      ∙ ap (views_at (strip_carriage_return (cut view.text 0 place) ∷ lines (cut view.text (place + 1) (length view.text)))) parts_of_lines
       ∙ ap (λ (n : ℕ). view_at (strip_carriage_return (cut view.text 0 place)) n ∷ lines_of (part_of view (place + 1) (length view.text))) (omega arith)
 
 pub first_line_some : (view : View) (answer : Option ℕ) → IsUtf8 view.text
@@ -84,7 +84,7 @@ first_line_some view (Some place) utf8 cases = line_before view place utf8 cases
 -- an empty view has no line
 pub no_lines : (view : View) → length view.text ≡ 0 → lines_of view ≡ []
 unfolding lines_of
-no_lines view empty = ap (λ (l : List ℕ). placed (lines l) (parts_between is_newline view)) (nil_from_length view.text empty)
+no_lines view empty = ap (λ (l : List ℕ). views_at (lines l) (parts_between is_newline view)) (nil_from_length view.text empty)
 
 pub no_lines_at_end : (view : View) (n : ℕ) → lines_of (part_of view n n) ≡ []
 no_lines_at_end view n = no_lines (part_of view n n) (grind arith)

@@ -16,8 +16,8 @@ use Rattle.arcstr_range.specs.Pieces.{AreFoundWith, lines_of, parts_between, tex
 use Rattle.arcstr_range.specs.Text.{cut}
 use Rattle.arcstr_range.specs.View.{IsFoundAt, StandsAt, View, view_at}
 use Rattle.arcstr_range.proofs.FoundParts.{found_part}
-use Rattle.arcstr_range.proofs.LinePlaces.{no_newline, placed}
-use Rattle.arcstr_range.proofs.Pieces.{IsIn, found_parts, texts_of_parts}
+use Rattle.arcstr_range.proofs.LinePlaces.{no_newline, views_at}
+use Rattle.arcstr_range.proofs.Pieces.{IsViewOf, found_parts, texts_of_parts}
 
 -- ---- the parts between newlines, by characters and by bytes
 
@@ -80,17 +80,17 @@ lines_of_parts-le [] = omega arith
 lines_of_parts-le (part ∷ []) = some_if part (length part == 0)
 lines_of_parts-le (part ∷ next ∷ parts) = omega (arith, lines_of_parts-le (next ∷ parts))
 
-texts_placed : (texts : List (List ℕ)) (parts : List View) → length texts ≤ length parts → map (λ line. line.text) (placed texts parts) ≡ texts
-texts_placed [] parts within = refl
-texts_placed (text ∷ texts) [] within = absurd (omega arith)
-texts_placed (text ∷ texts) (part ∷ parts) within = ap (λ (l : List (List ℕ)). text ∷ l) (texts_placed texts parts (omega arith))
+texts_of_views_at : (texts : List (List ℕ)) (parts : List View) → length texts ≤ length parts → map (λ line. line.text) (views_at texts parts) ≡ texts
+texts_of_views_at [] parts within = refl
+texts_of_views_at (text ∷ texts) [] within = absurd (omega arith)
+texts_of_views_at (text ∷ texts) (part ∷ parts) within = ap (λ (l : List (List ℕ)). text ∷ l) (texts_of_views_at texts parts (omega arith))
 
 pub texts_of_lines_of : (view : View) → IsUtf8 view.text → map (λ line. line.text) (lines_of view) ≡ lines view.text
 unfolding lines_of
 texts_of_lines_of view utf8 =
     let parts = parts_between is_newline view in
     let size : length parts ≡ length (parts_of_bytes view.text) = sym (length-map parts (λ (part : View). part.text)) ∙ ap length (texts_by_bytes view utf8) in
-    texts_placed (lines view.text) parts (omega (arith, size, lines_of_parts-le (parts_of_bytes view.text)))
+    texts_of_views_at (lines view.text) parts (omega (arith, size, lines_of_parts-le (parts_of_bytes view.text)))
 
 -- ---- the lines are found
 
@@ -125,17 +125,17 @@ found_stripped_by parent (x ∷ xs) place true is found =
     found_prefix_of parent text place (length text - 1) (omega arith) (omega (arith, eqb-true _ 13 is)) found
 found_stripped_by parent text place false is found = found
 
-found_placed_one : (parent : List ℕ) (part : View) (empty : Bool) → IsIn parent part → All (IsIn parent) (placed (cond empty [] (part.text ∷ [])) (part ∷ []))
-found_placed_one parent part true found = All-nil (IsIn parent)
-found_placed_one parent part false found = All-cons (IsIn parent) part [] found (All-nil (IsIn parent))
+found_view_at_one : (parent : List ℕ) (part : View) (empty : Bool) → IsViewOf parent part → All (IsViewOf parent) (views_at (cond empty [] (part.text ∷ [])) (part ∷ []))
+found_view_at_one parent part true found = All-nil (IsViewOf parent)
+found_view_at_one parent part false found = All-cons (IsViewOf parent) part [] found (All-nil (IsViewOf parent))
 
-found_placed : (parent : List ℕ) (parts : List View) → All (IsIn parent) parts → All (IsIn parent) (placed (lines_of_parts (map (λ part. part.text) parts)) parts)
-found_placed parent [] found = All-nil (IsIn parent)
-found_placed parent (part ∷ []) found = found_placed_one parent part (length part.text == 0) (All-head (IsIn parent) part [] found)
-found_placed parent (part ∷ next ∷ parts) found =
-    All-cons (IsIn parent) (view_at (strip_carriage_return part.text) part.place) _
-    (found_stripped_by parent part.text part.place (get_or part.text (length part.text - 1) 0 == 13) refl (All-head (IsIn parent) part (next ∷ parts) found))
-    (found_placed parent (next ∷ parts) (All-tail (IsIn parent) part (next ∷ parts) found))
+found_views_at : (parent : List ℕ) (parts : List View) → All (IsViewOf parent) parts → All (IsViewOf parent) (views_at (lines_of_parts (map (λ part. part.text) parts)) parts)
+found_views_at parent [] found = All-nil (IsViewOf parent)
+found_views_at parent (part ∷ []) found = found_view_at_one parent part (length part.text == 0) (All-head (IsViewOf parent) part [] found)
+found_views_at parent (part ∷ next ∷ parts) found =
+    All-cons (IsViewOf parent) (view_at (strip_carriage_return part.text) part.place) _
+    (found_stripped_by parent part.text part.place (get_or part.text (length part.text - 1) 0 == 13) refl (All-head (IsViewOf parent) part (next ∷ parts) found))
+    (found_views_at parent (next ∷ parts) (All-tail (IsViewOf parent) part (next ∷ parts) found))
 
 pub found_lines : (view : View) → IsUtf8 view.text → AreFoundWith view (lines_of view)
 unfolding lines_of
@@ -143,8 +143,8 @@ found_lines view utf8 =
     let parts = parts_between is_newline view in
     record {
       each = λ parent found.
-          subst (λ (l : List (List ℕ)). All (IsIn parent) (placed (lines_of_parts l) parts)) (texts_by_bytes view utf8)
-          (found_placed parent parts (found_parts is_newline view utf8 parent found));
+          subst (λ (l : List (List ℕ)). All (IsViewOf parent) (views_at (lines_of_parts l) parts)) (texts_by_bytes view utf8)
+          (found_views_at parent parts (found_parts is_newline view utf8 parent found));
     }
 
 -- the functions whose proofs use these rulesets name them

@@ -115,8 +115,8 @@ module _ (test : ℕ → Bool) where
   joined_parts [] = refl
   joined_parts (c ∷ cs) = joined_one c cs (test c) (joined_parts cs)
 
-abbrev pub IsIn : List ℕ → View → Type 0
-IsIn parent view = IsFoundAt parent view.text view.place
+abbrev pub IsViewOf : List ℕ → View → Type 0
+IsViewOf parent view = IsFoundAt parent view.text view.place
 
 -- the two halves of a text are found where the text is
 module _ (parent prefix rest : List ℕ) (place : ℕ) (whole_utf8 : IsUtf8 (prefix ++ rest)) (rest_utf8 : IsUtf8 rest) (found : IsFoundAt parent (prefix ++ rest) place) where
@@ -152,11 +152,11 @@ module _ (parent prefix rest : List ℕ) (place : ℕ) (scalars : all_scalars (p
       )
 
 found_laid_out : (parent : List ℕ) (parts : List (List ℕ)) (separators : List ℕ) (place : ℕ) → all_scalars (joined parts separators) ≡ true
-    → IsFoundAt parent (encode_utf8_all (joined parts separators)) place → All (IsIn parent) (laid_out place (map encode_utf8_all parts) (map encode_utf8 separators))
-found_laid_out parent [] separators place scalars found = All-nil (IsIn parent)
+    → IsFoundAt parent (encode_utf8_all (joined parts separators)) place → All (IsViewOf parent) (laid_out place (map encode_utf8_all parts) (map encode_utf8 separators))
+found_laid_out parent [] separators place scalars found = All-nil (IsViewOf parent)
 found_laid_out parent (part ∷ parts) [] place scalars found =
     let halves = found_halves parent part (joined parts []) place scalars found in
-    All-cons (IsIn parent) (view_at (encode_utf8_all part) place) _ halves.0
+    All-cons (IsViewOf parent) (view_at (encode_utf8_all part) place) _ halves.0
     (found_laid_out parent parts [] (place + length (encode_utf8_all part)) (rest_scalars parent part (joined parts []) place scalars found) halves.1)
 found_laid_out parent (part ∷ parts) (separator ∷ separators) place scalars found =
     let behind = separator ∷ joined parts separators in
@@ -164,11 +164,11 @@ found_laid_out parent (part ∷ parts) (separator ∷ separators) place scalars 
     let behind_scalars = rest_scalars parent part behind place scalars found in
     let next = place + length (encode_utf8_all part) in
     let both = found_halves parent (separator ∷ []) (joined parts separators) next behind_scalars halves.1 in
-    All-cons (IsIn parent) (view_at (encode_utf8_all part) place) _ halves.0
+    All-cons (IsViewOf parent) (view_at (encode_utf8_all part) place) _ halves.0
     (found_laid_out parent parts separators (next + length (encode_utf8 separator)) (rest_scalars parent (separator ∷ []) (joined parts separators) next behind_scalars halves.1)
     (subst (λ (l : List ℕ). IsFoundAt parent (encode_utf8_all (joined parts separators)) (next + length l)) (append-nil (encode_utf8 separator)) both.1))
 
-pub found_parts : (test : ℕ → Bool) (view : View) → IsUtf8 view.text → (parent : List ℕ) → IsFoundAt parent view.text view.place → All (IsIn parent) (parts_between test view)
+pub found_parts : (test : ℕ → Bool) (view : View) → IsUtf8 view.text → (parent : List ℕ) → IsFoundAt parent view.text view.place → All (IsViewOf parent) (parts_between test view)
 unfolding parts_between texts_between separators_of
 found_parts test view utf8 parent found =
     let same = joined_parts test (chars view.text) in

@@ -15,7 +15,7 @@ use Rattle.arcstr_range.specs.Text.{cut}
 use Rattle.arcstr_range.specs.Pieces.{AreFoundWith, IsFirstWordAt, has_text, is_not_empty, laid_out, parts_between, separators_of, texts_between, words_of}
 use Rattle.arcstr_range.specs.View.{View, part_of, view_at}
 use Rattle.arcstr_range.proofs.Boundaries.{scalars-rest}
-use Rattle.arcstr_range.proofs.Pieces.{IsIn, filter_before, filter_none, filter_one, found_parts, texts_of_parts}
+use Rattle.arcstr_range.proofs.Pieces.{IsViewOf, filter_before, filter_none, filter_one, found_parts, texts_of_parts}
 
 abbrev IsBlack : ℕ → Type 0
 IsBlack c = is_whitespace c ≡ false
@@ -233,7 +233,7 @@ texts_of_words view = texts_with_text (parts_between is_whitespace view) ∙ ap 
 pub found_words : (view : View) → IsUtf8 view.text → AreFoundWith view (words_of view)
 unfolding words_of
 found_words view utf8 =
-    record { each = λ parent found. All-filter has_text (IsIn parent) (parts_between is_whitespace view) (found_parts is_whitespace view utf8 parent found) }
+    record { each = λ parent found. All-filter has_text (IsViewOf parent) (parts_between is_whitespace view) (found_parts is_whitespace view utf8 parent found) }
 
 -- the function whose proof uses these rulesets names them
 pub ruleset facts_of_words = (texts_of_words, found_words)

@@ -26,8 +26,8 @@ chars-split text start middle end utf8 at_start at_middle low high =
     ap chars (cut-split text start middle end low high)
     ∙ chars-append (cut text start middle) (cut text middle end) (IsUtf8-between text start middle utf8 low at_start at_middle)
 
-pub length-cut : (text : List ℕ) (start end : ℕ) → start ≤ end → end ≤ length text → length (cut text start end) ≡ end - start
-length-cut text start end in_order within =
+pub length_of_cut : (text : List ℕ) (start end : ℕ) → start ≤ end → end ≤ length text → length (cut text start end) ≡ end - start
+length_of_cut text start end in_order within =
     let short : end - start ≤ length (drop start text) = omega (arith, length-drop start text) in
     length-take-le (end - start) (drop start text) short
 
@@ -53,7 +53,7 @@ pub first_between : (text : List ℕ) (start end : ℕ) → IsUtf8 text → IsCh
 first_between text start end utf8 at_start at_end in_order =
     let low : start ≤ end = omega arith in
     let spelled = encodes-chars (cut text start end) (IsUtf8-between text start end utf8 low at_start at_end) in
-    first_of_bytes _ (omega (arith, ap length spelled, length-cut text start end low at_end.0))
+    first_of_bytes _ (omega (arith, ap length spelled, length_of_cut text start end low at_end.0))
 
 last_of_cons : (c : ℕ) (cs : List ℕ) → HasLast (c ∷ cs)
 last_of_cons c [] = record { prefix = []; last = c; split = refl }

@@ -71,8 +71,8 @@ words_are_one text words others one other =
     (λ w within. one.every_word w.0 w.1 (All-contains (λ (v : ℕ × ℕ). IsWord text v.0 v.1) others w other.each_is_word within))
 
 -- the list of its tokens is unique
-pub tokens_are_one : (text : TextView) (slices others : List SubstrView) → AreTokens text slices → AreTokens text others → slices ≡ others
-tokens_are_one text slices others one other =
+pub token_lists_are_equal : (text : TextView) (slices others : List SubstrView) → AreTokens text slices → AreTokens text others → slices ≡ others
+token_lists_are_equal text slices others one other =
     one.slices_of_words
     ∙ ap (λ words. map (λ (word : ℕ × ℕ). slice_of text word.0 word.1) words) (words_are_one text.text one.words other.words one.are_words other.are_words)
     ∙ sym other.slices_of_words

@@ -26,9 +26,9 @@ IsPieceBefore-start texts workers worker low =
     }
 
 -- lists that are added at the end leave the others where they are
-kept : (texts : List TextView) (number row : ℕ) (lists : List TokenList) (list : TokenList) → HasTokensOf texts number lists row
+others_stay_after_push : (texts : List TextView) (number row : ℕ) (lists : List TokenList) (list : TokenList) → HasTokensOf texts number lists row
     → HasTokensOf texts number (lists ++ list ∷ []) row
-kept texts number row lists list has =
+others_stay_after_push texts number row lists list has =
     record {
       within = omega (arith, has.within, length_push lists list);
       tokens = λ text d.
@@ -36,9 +36,10 @@ kept texts number row lists list has =
           (sym (get_or_append_left lists (list ∷ []) d row has.within)) (has.tokens text d);
     }
 
-added : (texts : List TextView) (number : ℕ) (lists : List TokenList) (list : TokenList) → ((text : TextView) → AreTokens (get_or texts number text) list.items)
+pushed_list_has_tokens : (texts : List TextView) (number : ℕ) (lists : List TokenList) (list : TokenList)
+    → ((text : TextView) → AreTokens (get_or texts number text) list.items)
     → HasTokensOf texts number (lists ++ list ∷ []) (length lists)
-added texts number lists list are =
+pushed_list_has_tokens texts number lists list are =
     record {
       within = omega (arith, length_push lists list);
       tokens = λ text d.
@@ -60,8 +61,8 @@ IsPieceBefore-more texts workers worker number lists pushed list some piece are 
     by_case other turn (inl same) =
         subst (λ n. HasTokensOf texts n (lists ++ list ∷ []) (n / workers)) (sym same)
         (subst (λ r. HasTokensOf texts number (lists ++ list ∷ []) r) (sym piece.row)
-        (added texts number lists list are))
-    by_case other turn (inr early) = kept texts other (other / workers) lists list (piece.before other early turn)
+        (pushed_list_has_tokens texts number lists list are))
+    by_case other turn (inr early) = others_stay_after_push texts other (other / workers) lists list (piece.before other early turn)
 
 -- all texts of the worker
 pub IsPiece-before : (texts : List TextView) (workers worker number : ℕ) (lists : List TokenList) → IsPieceBefore texts workers worker number lists

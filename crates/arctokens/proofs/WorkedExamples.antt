@@ -14,8 +14,8 @@ accented = 32 ∷ 97 ∷ 195 ∷ 169 ∷ 32 ∷ 32 ∷ 98 ∷ 32 ∷ []
 abbrev wide_space : List ℕ
 wide_space = 97 ∷ 194 ∷ 160 ∷ 98 ∷ []
 
-abbrev IsBlack : ℕ → Type 0
-IsBlack character = IsFalse (is_whitespace character)
+abbrev IsWordCharacter : ℕ → Type 0
+IsWordCharacter character = IsFalse (is_whitespace character)
 
 -- a word of two characters and three bytes
 accented_word : IsWord accented 1 4
@@ -25,7 +25,7 @@ accented_word =
       in_order = omega arith;
       at_start = search rules;
       at_end = search rules;
-      not_white = All-cons IsBlack 97 (233 ∷ []) refl (All-cons IsBlack 233 [] refl (All-nil IsBlack));
+      not_white = All-cons IsWordCharacter 97 (233 ∷ []) refl (All-cons IsWordCharacter 233 [] refl (All-nil IsWordCharacter));
       white_before = inr (record { prefix = []; character = 32; split = refl; kind = refl });
       white_after = inr (record { character = 32; rest = 32 ∷ 98 ∷ 32 ∷ []; split = refl; kind = refl });
     }
@@ -43,26 +43,26 @@ short_word word = of_case word.white_after
         cc
 
 -- the first word, and the last one, which follows white space of two bytes
-first_word : IsWord wide_space 0 1
+word_before_wide_space : IsWord wide_space 0 1
 unfolding chars
-first_word =
+word_before_wide_space =
     record {
       in_order = omega arith;
       at_start = search rules;
       at_end = search rules;
-      not_white = All-cons IsBlack 97 [] refl (All-nil IsBlack);
+      not_white = All-cons IsWordCharacter 97 [] refl (All-nil IsWordCharacter);
       white_before = inl refl;
       white_after = inr (record { character = 160; rest = 98 ∷ []; split = refl; kind = refl });
     }
 
-last_word : IsWord wide_space 3 4
+word_after_wide_space : IsWord wide_space 3 4
 unfolding chars
-last_word =
+word_after_wide_space =
     record {
       in_order = omega arith;
       at_start = search rules;
       at_end = search rules;
-      not_white = All-cons IsBlack 98 [] refl (All-nil IsBlack);
+      not_white = All-cons IsWordCharacter 98 [] refl (All-nil IsWordCharacter);
       white_before = inr (record { prefix = 97 ∷ []; character = 160; split = refl; kind = refl });
       white_after = inl refl;
     }
@@ -76,8 +76,8 @@ zero_width : is_whitespace 8203 ≡ false
 zero_width = refl
 
 -- the empty text has no word
-no_words : AreWords [] []
-no_words =
+empty_text_has_no_words : AreWords [] []
+empty_text_has_no_words =
     record {
       each_is_word = All-nil _;
       rising = λ i j d low high. absurd (omega arith);

@@ -40,13 +40,13 @@ impl<'a> Promise<Piece> for PieceOf<'a> {
     ghost kept_by = { λ promise piece. IsPieceOf promise.texts.now promise.workers promise.worker piece };
 }
 
-type Worker<'a> = PromisedHandle<Piece, PieceOf<'a>>;
+type PieceThread<'a> = PromisedHandle<Piece, PieceOf<'a>>;
 
 /// Where a worker's piece comes from.
 #[derive(Drop)]
 enum Share<'a> {
     /// A thread that is not yet joined.
-    Thread(Worker<'a>),
+    Thread(PieceThread<'a>),
     /// A piece from the calling thread: its own, or that of a worker whose thread could not be started.
     Own(Piece),
 }
@@ -82,7 +82,7 @@ pub(crate) fn pieces_of_all<R: Threads + Wait + Sync, G: Gate + Sync>(
             requires { (1 ≤ workers) × (workers ≤ 64) }
             ensures { IfOk result (λ pieces. ArePieces texts.entry.now workers pieces.items) }
         {
-            let mut threads: Vec<Option<Worker>> = Vec::with_capacity(alloc, workers)?;
+            let mut threads: Vec<Option<PieceThread>> = Vec::with_capacity(alloc, workers)?;
             let shares: Vec<Share> = Vec::with_capacity(alloc, workers)?;
             let pieces: Vec<Vec<Vec<Substr>>> = Vec::with_capacity(alloc, workers)?;
             for worker in 0..workers {
@@ -111,7 +111,7 @@ fn shares_of_all<'a, R: Wait, G: Gate>(
     texts: &[ArcStr],
     workers: usize,
     gate: &G,
-    threads: Vec<Option<Worker<'a>>>,
+    threads: Vec<Option<PieceThread<'a>>>,
     mut shares: Vec<Share<'a>>,
 ) -> Vec<Share<'a>>
     requires workers { workers ≤ 64 }
@@ -137,7 +137,7 @@ fn share_of<'a, R: Wait, G: Gate>(
     workers: usize,
     worker: usize,
     gate: &G,
-    thread: Option<Worker<'a>>,
+    thread: Option<PieceThread<'a>>,
 ) -> Share<'a>
     requires worker { worker < workers }
     requires workers { workers ≤ 64 }

@@ -8,4 +8,6 @@ mod many_texts;
 #[cfg(test)]
 mod one_text;
 #[cfg(test)]
+mod readme;
+#[cfg(test)]
 mod test_steps;

@@ -24,8 +24,8 @@ same_place text c place other one two =
     let prefixes = same_prefix c one.before two.before one.after two.after (sym one.split ∙ two.split) one.others two.others in
     sym one.measured ∙ ap (λ prefix. length (encode_utf8_all prefix)) prefixes ∙ two.measured
 
-has_first : (text : List ℕ) (c place : ℕ) → IsFirstPlace text c place → Contains (chars text) c
-has_first text c place first =
+found_character_is_in_text : (text : List ℕ) (c place : ℕ) → IsFirstPlace text c place → Contains (chars text) c
+found_character_is_in_text text c place first =
     subst (λ cs. Contains cs c) (sym first.split) (Contains-append_right first.before (c ∷ first.after) c (0, omega arith, refl))
 
 -- the slice after it is unique
@@ -39,7 +39,7 @@ same_rest text between c parts others one two =
 pub not_two_where_none : (text : TextView) (answer : Option (SubstrView × SubstrView)) → AnswersSplit text.text (slice_of text) semicolon answer → answer ≡ None
     → ¬ (HasTwoSemicolons text)
 not_two_where_none text answer split none two =
-    let some : IsSome answer = split.found.1 (has_first text.text semicolon two.first.place two.first.first) in
+    let some : IsSome answer = split.found.1 (found_character_is_in_text text.text semicolon two.first.place two.first.first) in
     absurd (grind (arith, some, none))
 
 -- a text whose rest after the first semicolon cannot be split at another one does not have two semicolons
@@ -59,7 +59,7 @@ sentence_of_part body answer first rest split is =
     let around : AreAround (text_of body) (slice_within body) full_stop (first, rest) = subst (λ r. IfSome r (AreAround (text_of body) (slice_within body) full_stop)) is split.value in
     record {
       part = λ place at. around.before ∙ ap (λ k. slice_within body 0 k) (same_place (text_of body) full_stop around.place place around.first at);
-      whole = λ none. absurd (none (has_first (text_of body) full_stop around.place around.first));
+      whole = λ none. absurd (none (found_character_is_in_text (text_of body) full_stop around.place around.first));
     }
 
 -- if there is no full stop, the whole body is the first sentence
@@ -67,6 +67,6 @@ pub sentence_of_whole : (body : SubstrView) (answer : Option (SubstrView × Subs
     → AnswersSplit (text_of body) (slice_within body) full_stop answer → answer ≡ None → IsFirstSentence body body
 sentence_of_whole body answer split none =
     record {
-      part = λ place at. let some : IsSome answer = split.found.1 (has_first (text_of body) full_stop place at) in absurd (grind (arith, some, none));
+      part = λ place at. let some : IsSome answer = split.found.1 (found_character_is_in_text (text_of body) full_stop place at) in absurd (grind (arith, some, none));
       whole = λ without. refl;
     }

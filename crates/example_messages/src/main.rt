@@ -25,7 +25,7 @@ fn main(rt: HostRuntime) -> io::Result<()> {
             None => println!(rt; "no message: {text}")?,
         }
     }
-    for pile in answered(&rt, alloc, piles)? {
+    for pile in shortened_piles(&rt, alloc, piles)? {
         for message in &pile {
             println!(rt;
                 "{} on {}: {}",
@@ -37,7 +37,7 @@ fn main(rt: HostRuntime) -> io::Result<()> {
 }
 
 /// Returns each pile after a clerk in its own thread has processed it.
-fn answered<R: Threads + Wait + Sync>(
+fn shortened_piles<R: Threads + Wait + Sync>(
     rt: &R,
     alloc: Global,
     piles: [Vec<Message>; CLERKS],

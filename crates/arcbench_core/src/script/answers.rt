@@ -2,12 +2,11 @@
 ghost use Rattle.std.specs.Prelude.{◌≡◌, ◌++◌, ◌∷◌, [], ◌↔◌, List, Ok, IfOk, IfErr, OnOk, string_bytes};
 ghost use Rattle.arcstr_count.specs.declared.steps.Step.{Step};
 ghost use Rattle.arcstr_count.specs.Summary.{StandsFor};
-ghost use Rattle.arcbench_core.specs.Line.{lines_of, step_of};
+ghost use Rattle.arcbench_core.specs.Line.{newline, script_lines, step_of};
 ghost use Rattle.arcbench_core.specs.Script.{answer_by, answer_to, answer_under, answers, bad_limit, history_with};
 
-use super::line::{limit_of, step_of};
+use super::line::{first_line, limit_in, step_of};
 use super::reply::push_reply;
-use crate::lines::first_line;
 use arcstr::count::{RunFault, World};
 use std::alloc::Allocator;
 
@@ -30,7 +29,7 @@ pub fn answer<A: Allocator + Copy>(alloc: A, script: &[u8]) -> Result<Vec<u8, A>
         return bad_limit(alloc);
     }
     let (first, later) = first_line(script);
-    match limit_of(first) {
+    match limit_in(first) {
         None => bad_limit(alloc),
         Some(limit) => answer_under(alloc, limit, later),
     }
@@ -53,9 +52,9 @@ fn answer_under<A: Allocator + Copy>(
     limit: u64,
     later: &[u8],
 ) -> Result<Vec<u8, A>, RunFault>
-    ensures ok { IfOk result (λ out. answer_under (Some limit) (lines_of later.now) ≡ Ok out.items) }
+    ensures ok { IfOk result (λ out. answer_under (Some limit) (script_lines later.now) ≡ Ok out.items) }
     ensures too_large { (result ≡ Err RunFault.LimitTooLarge)
-        ↔ (answer_under (Some limit) (lines_of later.now) ≡ Err RunFault.LimitTooLarge) }
+        ↔ (answer_under (Some limit) (script_lines later.now) ≡ Err RunFault.LimitTooLarge) }
 {
     let mut world = World::new(alloc, limit)?;
     let mut out = String::new(alloc);
@@ -71,7 +70,7 @@ fn answer_lines<A: Allocator + Copy>(
 ) -> Result<(), RunFault>
     requires { StandsFor world.old [] }
     ensures text { OnOk result (string_bytes out.new
-        ≡ string_bytes out.old ++ answers world.old.summary.limit (lines_of bytes.now)) }
+        ≡ string_bytes out.old ++ answers world.old.summary.limit (script_lines bytes.now)) }
     ensures memory { IfErr result (λ fault. fault ≡ RunFault.Memory) }
 {
     let mut rest = bytes;
@@ -91,7 +90,7 @@ fn answer_line<A: Allocator + Copy>(
 ) -> Result<(), RunFault>
     ensures text { OnOk result ((history : List Step) → StandsFor world.old history
         → string_bytes out.new ≡ string_bytes out.old
-        ++ (answer_by world.old.summary.limit history (step_of line.now) ++ 10 ∷ [])) }
+        ++ (answer_by world.old.summary.limit history (step_of line.now) ++ newline ∷ [])) }
     ensures stands { OnOk result ((history : List Step) → StandsFor world.old history
         → StandsFor world.new (history_with history (step_of line.now))) }
     ensures limit { world.new.summary.limit ≡ world.old.summary.limit }

@@ -1,12 +1,48 @@
-//! The step that a line of a script stands for.
-ghost use Rattle.std.specs.Prelude.{◌≡◌, ℕ, ◌^◌, ◌<◌, Some, IfSome};
+//! The lines of a script: how bytes are cut into lines, and the limit or the step that a line stands for.
+ghost use Rattle.std.specs.Prelude.{◌≡◌, ◌==◌, ℕ, ◌^◌, ◌<◌, ◌∷◌, Some, IfSome, length, position};
+ghost use Rattle.std.specs.List.{before_first, after_first};
 ghost use Rattle.arcstr_count.specs.declared.steps.Step.{Step};
 ghost use Rattle.arcbench_core.specs.LineText.{line_text, limit_text, HasHandle};
-ghost use Rattle.arcbench_core.specs.Line.{step_named, step_of, limit_of};
+ghost use Rattle.arcbench_core.specs.Line.{script_lines, step_named, step_of, limit_in};
 
-use crate::lines::parts_at;
 use crate::numbers::number_of;
 use arcstr::count::Step;
+
+/// The first line of bytes, and what comes after it.
+pub(crate) fn first_line(bytes: &[u8]) -> (&[u8], &[u8])
+    requires { 0 < length bytes.now }
+    ensures lines { script_lines bytes.now ≡ result.0.now ∷ script_lines result.1.now }
+    ensures shorter { length result.1.now < length bytes.now }
+{
+    parts_around(bytes, b'\n')
+}
+
+/// The limit that a first line `limit NUMBER` sets. Any other line sets none.
+pub(crate) fn limit_in(line: &[u8]) -> Option<u64>
+    ensures value { result ≡ limit_in line.now }
+    ensures written { IfSome result (λ n. line.now ≡ limit_text n) }
+    ensures read { (n : ℕ) → n < 2 ^ 64 → line.now ≡ limit_text n → result ≡ Some n }
+{
+    let (command, number) = parts_around(line, b' ');
+    if command == b"limit".as_slice() {
+        number_of(number)
+    } else {
+        None
+    }
+}
+
+/// The step of a line: `make`, or a command, one space, and the number of a handle. Any other line has none.
+pub(crate) fn step_of(line: &[u8]) -> Option<Step>
+    ensures value { result ≡ step_of line.now }
+    ensures written { IfSome result (λ step. line.now ≡ line_text step) }
+    ensures read { (step : Step) → HasHandle step → line.now ≡ line_text step → result ≡ Some step }
+{
+    if line == b"make".as_slice() {
+        return Some(Step::Make);
+    }
+    let (command, number) = parts_around(line, b' ');
+    step_named(command, number_of(number)?)
+}
 
 /// The step that a command stands for, on this handle.
 fn step_named(command: &[u8], handle: u64) -> Option<Step>
@@ -25,36 +61,20 @@ fn step_named(command: &[u8], handle: u64) -> Option<Step>
     }
 }
 
-/// The step of a line: `make`, or a command, one space, and the number of a handle. Any other line has none.
-pub(crate) fn step_of(line: &[u8]) -> Option<Step>
-    ensures value { result ≡ step_of line.now }
-    ensures written { IfSome result (λ step. line.now ≡ line_text step) }
-    ensures read { (step : Step) → HasHandle step → line.now ≡ line_text step → result ≡ Some step }
+/// The bytes before the first `byte` and those after it; if there is none, all bytes and no bytes.
+fn parts_around(bytes: &[u8], byte: u8) -> (&[u8], &[u8])
+    ensures prefix { result.0.now ≡ before_first (λ b. b == byte) bytes.now }
+    ensures back { result.1.now ≡ after_first (λ b. b == byte) bytes.now }
 {
-    read_step(line)
+    match index_of(bytes, byte) {
+        Some(i) => (&bytes[..i], &bytes[i + 1..]),
+        None => (bytes, &[]),
+    }
 }
 
-/// The step of a line, by the definition of `step_of`.
-fn read_step(line: &[u8]) -> Option<Step>
-    ensures { result ≡ step_of line.now }
+/// The index of the first `byte`.
+fn index_of(bytes: &[u8], byte: u8) -> Option<usize>
+    ensures { result ≡ position (λ b. b == byte) bytes.now }
 {
-    if line == b"make".as_slice() {
-        return Some(Step::Make);
-    }
-    let (command, number) = parts_at(line, b' ');
-    step_named(command, number_of(number)?)
-}
-
-/// The limit that a first line `limit NUMBER` sets. Any other line sets none.
-pub(crate) fn limit_of(line: &[u8]) -> Option<u64>
-    ensures value { result ≡ limit_of line.now }
-    ensures written { IfSome result (λ n. line.now ≡ limit_text n) }
-    ensures read { (n : ℕ) → n < 2 ^ 64 → line.now ≡ limit_text n → result ≡ Some n }
-{
-    let (command, number) = parts_at(line, b' ');
-    if command == b"limit".as_slice() {
-        number_of(number)
-    } else {
-        None
-    }
+    bytes.iter().position(|b| *b == byte)
 }

@@ -28,9 +28,7 @@ impl ArcStr {
         Ok(ArcStr::from_shared(Shared::from_text(alloc, text)?))
     }
 
-    /// Copies a `&str` into a new `ArcStr`, as `from_str` does. Makes one allocation, or none if the text is empty.
-    ///
-    /// Errors, in this order: `Length` if the text has `2^63 - 25` bytes or more; `Memory` if the allocation fails.
+    /// As `from_str`. The Rust crate has both names.
     ///
     /// ```
     /// let text = ArcStr::try_alloc(rt.alloc(), "foo")?;
@@ -130,10 +128,7 @@ impl ArcStr {
         }
     }
 
-    /// Creates a new text by repeating a text `n` times, as `try_repeat` does. Makes one allocation. If the text is empty or `n` is 0, it allocates nothing
-    /// and cannot fail.
-    ///
-    /// Otherwise, errors in this order: `Length` if all copies have `2^63 - 25` bytes or more; `Memory` if the allocation fails.
+    /// As `try_repeat`. The Rust crate has both names.
     ///
     /// ```
     /// let text = ArcStr::repeat(rt.alloc(), "é", 3)?;

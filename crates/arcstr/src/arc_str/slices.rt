@@ -120,12 +120,7 @@ impl ArcStr {
         self.substr(rt, found)
     }
 
-    /// Returns the slice of this text between the byte offsets that the closure returns for it, as `substr_using` does. Calls the closure once, first; the
-    /// caller must ensure that it can be called on the text. Equal offsets give `Substr::new()`, wherever they lie. Clones the handle for other valid
-    /// offsets, and so can wait.
-    ///
-    /// Errors for other offsets, in this order: `OutOfOrder` if the start is after the end; `PastEnd` if the end is past the text; `OffBoundary` if the start
-    /// or the end is not a character boundary.
+    /// As `substr_using`. The Rust crate has both names.
     ///
     /// ```
     /// let text = ArcStr::from_static("name=value");

@@ -133,12 +133,7 @@ impl Substr {
         self.substr(rt, found)
     }
 
-    /// Returns the slice of the same parent between the byte offsets that the closure returns for the slice's own text, as `substr_using` does. Calls the
-    /// closure once, first; the caller must ensure that it can be called on that text. Equal offsets give `Substr::new()`, wherever they lie. Clones the
-    /// parent's handle for other valid offsets, and so can wait.
-    ///
-    /// Errors for other offsets, in this order: `OutOfOrder` if the start is after the end; `PastEnd` if the end is past the slice's own text; `OffBoundary`
-    /// if the start or the end is not a character boundary of that text.
+    /// As `substr_using`. The Rust crate has both names.
     ///
     /// ```
     /// let slice = literal!("foobarbaz").substr(&rt, 3..6)?;

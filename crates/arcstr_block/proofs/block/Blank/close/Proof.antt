@@ -16,7 +16,7 @@ use Rattle.arcstr_block.specs.contracts.block.Blank as N
 use Rattle.arcstr_block.specs.contracts.block.Sole as S
 use Rattle.arcstr_block.proofs.Fields.{pointer_val, typed, Words, told, made}
 use Rattle.arcstr_block.proofs.Memory.{byte_laws}
-use Rattle.arcstr_block.proofs.Places.{Bytes, R, to_bytes, Ends, at_ends, ends_goes, ends_gives, words_typed, words_told}
+use Rattle.arcstr_block.proofs.Places.{Bytes, R, to_bytes, EndContract, at_ends, ends_goes, ends_gives, words_typed, words_told}
 use Rattle.arcstr_block.specs.contracts.block.Blank.close.{ended, clauses}
 use Rattle.arcstr_block.specs.contracts.block.Blank.close.Key.{name as #self}
 use Rattle.arcstr_block.proofs.block.Blank.close.Statement.{statement}
@@ -55,7 +55,7 @@ close_spec 𝓤 𝓛 𝓜 𝓡 wired Y K g d dd met md =
     sets ! (is ! (of_opd ! (get_in ! (fld ! refl (stop !)) (sub ! 0 refl (whole !)))) (ap ptr_val at)) refl (tt, tt) $
     sets ! (of_opd ! (get_in ! (fld ! refl (stop !)) (sub ! 1 refl (whole !)))) refl (tt, tt) $
     first ! $ blocks ! $ sets ! (of_opd ! (get ! refl)) refl (words_typed row.ptr row.len small) $ move ! (2 ∷ []) $
-    let Asked = Ends 𝓛 𝓜.mem 𝓡.returns in let w : Asked.Ghost = at_ends 𝓛 𝓜.mem 𝓡.returns row u in
+    let Asked = EndContract 𝓛 𝓜.mem 𝓡.returns in let w : Asked.Ghost = at_ends 𝓛 𝓜.mem 𝓡.returns row u in
     use1 𝓛 (raw (Asked.pre w)) (ends_goes 𝓛 𝓜.mem 𝓡.returns row u) $
     calls_at_last ! (fm 𝓛 𝓜 𝓡) Asked (callee.met 𝓤 𝓛 𝓜 𝓡 (code.calls-core::slots::Slots::into_raw_parts 𝓡.env wired) u8 byte_laws) w (and_then ! (get ! refl)
     (no_more !)) (λ v.

@@ -37,7 +37,7 @@ use Rattle.arcstr_block.specs.Memory.{Fits, block_size, block_type, rooms, word_
 use Rattle.arcstr_block.specs.contracts.block.Blank as N
 use Rattle.arcstr_block.proofs.Fields.{pointer_val, typed, Words, made}
 use Rattle.arcstr_block.proofs.Memory.{byte_laws, block_bytes, block_align, spreads}
-use Rattle.arcstr_block.proofs.Places.{Bytes, byte, R, Makes, at_makes, IsMade, makes_goes, makes_gives, words_typed}
+use Rattle.arcstr_block.proofs.Places.{Bytes, byte, R, MakeContract, at_makes, IsMade, makes_goes, makes_gives, words_typed}
 use Rattle.arcstr_block.specs.contracts.block.Blank.make.{ended, clauses}
 use Rattle.arcstr_block.specs.contracts.block.Blank.make.Key.{name as #self}
 use Rattle.arcstr_block.proofs.block.Blank.make.Statement.{statement}
@@ -145,7 +145,7 @@ make_spec 𝓤 𝓛 𝓜 𝓡 wired Y K g d dd met md =
     assigns ! (of_opd ! (get ! refl)) (through ! refl (stop !)) (init ! 0 refl (tt, fit_n)) $ move ! (2 ∷ []) $
     rewrite ! 0 (λ (m : ℕ). ‵ (froom (ty_array (ty_int w8) m) b o)) long refl $
     use1 𝓛 (‵ (slots R (block_ptr b o) zs fs)) (of_room byte 𝓛 b zs o) $
-    let Row = Makes 𝓛 𝓜.mem 𝓡.returns in let x : Row.Ghost = at_makes 𝓛 𝓜.mem 𝓡.returns b o n zs fs in
+    let Row = MakeContract 𝓛 𝓜.mem 𝓡.returns in let x : Row.Ghost = at_makes 𝓛 𝓜.mem 𝓡.returns b o n zs fs in
     use1 𝓛 (raw (Row.pre x)) (makes_goes 𝓛 𝓜.mem 𝓡.returns b o n zs fs long (long ∙ sym (length-replicate (length zs) false)) (omega arith)) $
     calls_at ! (fm 𝓛 𝓜 𝓡) Row (callee.met 𝓤 𝓛 𝓜 𝓡 (code.calls-core::slots::Slots::from_raw_parts 𝓡.env wired) u8 byte_laws) x (and_then ! (get ! refl)
     (and_then ! (get ! refl) (no_more !))) (λ v.

@@ -2,15 +2,15 @@
 use Rattle.std.proofs.Common.{◌≡◌, ◌++◌, length}
 use denote.Text.{Utf8}
 use denote.Shadow.{shadow}
-use Rattle.arcbench_core.specs.Line.{lines_of}
-use Rattle.arcbench_core.specs.TokenLines.{texts_of}
-use Rattle.arcbench_core.proofs.tokens.texts_of.Given as goal
+use Rattle.arcbench_core.specs.Line.{script_lines}
+use Rattle.arcbench_core.specs.TokenLines.{texts_of_shared}
+use Rattle.arcbench_core.proofs.tokens.texts_of_lines.Given as goal
 
 abbrev pub invariant-loop-rest : goal.invariant-loop-rest
 invariant-loop-rest l =
     record {
       utf8 : shadow (Utf8 l.rest);
-      lines : lines_of l.input ≡ texts_of l.texts.items ++ lines_of l.rest;
+      lines : script_lines l.input ≡ texts_of_shared l.texts.items ++ script_lines l.rest;
     }
 
 abbrev pub decreases-loop-rest : goal.decreases-loop-rest

@@ -1,6 +1,6 @@
 -- Each handle keeps the promise of its thread, which is that of the worker with the handle's own number.
 use Rattle.std.proofs.Common.{◌∙◌, ap}
-use Rattle.arcbench_core.proofs.pool.joined.Goals as goal
+use Rattle.arcbench_core.proofs.pool.join_all.Goals as goal
 
 pub returns-in-Ok-clause-all_passed : goal.returns-in-Ok-clause-all_passed
 returns-in-Ok-clause-all_passed g c worker below =
