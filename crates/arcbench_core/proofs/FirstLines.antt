@@ -7,7 +7,7 @@ use Rattle.std.proofs.lemmas.List.Elements.{All-from_get_or}
 use Rattle.std.proofs.lemmas.Bool.{cases_lt, not-true}
 use Rattle.std.proofs.lemmas.List.{take_all}
 use Rattle.std.proofs.Math.ListN.{drop_of_length-le}
-use Rattle.arcbench_core.specs.Line.{without_empty_last, script_lines}
+use Rattle.arcbench_core.specs.Line.{newline, without_empty_last, script_lines}
 
 -- a part before other parts is a line, empty or not
 without_empty_last-cons : (part : List ℕ) (parts : List (List ℕ)) → 0 < length parts → without_empty_last (part ∷ parts) ≡ part ∷ without_empty_last parts
@@ -37,11 +37,11 @@ first_part_is_first_line p bytes h (inr absent) =
     rw (slice_split_none p bytes (none_passes p bytes absent), take_all (position_or_len p bytes) bytes absent, drop_of_length-le bytes past) (without_empty_last-one bytes h)
 
 pub script_lines-first : (bytes : List ℕ) → 0 < length bytes
-    → script_lines bytes ≡ before_first (λ b. b == 10) bytes ∷ script_lines (after_first (λ b. b == 10) bytes)
-script_lines-first bytes h = first_part_is_first_line (λ b. b == 10) bytes h (cases_lt (position_or_len (λ b. b == 10) bytes) (length bytes))
+    → script_lines bytes ≡ before_first (λ b. b == newline) bytes ∷ script_lines (after_first (λ b. b == newline) bytes)
+script_lines-first bytes h = first_part_is_first_line (λ b. b == newline) bytes h (cases_lt (position_or_len (λ b. b == newline) bytes) (length bytes))
 
--- bytes without byte 10 are one line
-pub script_lines-none : (bytes : List ℕ) → 0 < length bytes → position_or_len (λ b. b == 10) bytes ≡ length bytes → script_lines bytes ≡ bytes ∷ []
+-- bytes without a newline are one line
+pub script_lines-none : (bytes : List ℕ) → 0 < length bytes → position_or_len (λ b. b == newline) bytes ≡ length bytes → script_lines bytes ≡ bytes ∷ []
 script_lines-none bytes h absent =
-    let past : length bytes ≤ position_or_len (λ b. b == 10) bytes = omega (arith, absent) in
-    rw (slice_split_none (λ b. b == 10) bytes (none_passes (λ b. b == 10) bytes past)) (without_empty_last-one bytes h)
+    let past : length bytes ≤ position_or_len (λ b. b == newline) bytes = omega (arith, absent) in
+    rw (slice_split_none (λ b. b == newline) bytes (none_passes (λ b. b == newline) bytes past)) (without_empty_last-one bytes h)

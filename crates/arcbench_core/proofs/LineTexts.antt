@@ -13,7 +13,7 @@ use Rattle.std.proofs.lemmas.Slice.Eq.{bytes_eq-Decides}
 use Rattle.std.proofs.Math.ListN.{drop_of_length-le}
 use Rattle.arcstr_count.specs.declared.steps.Step.{Step}
 use Rattle.arcstr_count.specs.declared.steps.Step.TheVariants.{Make, Look, Clone, Begin, Sub, Back, Leak, IntoRaw, FromRaw}
-use Rattle.arcbench_core.specs.Line.{command_part, after_command, is_decimal, has_idle_zero, number_of, step_named, step_of, limit_in}
+use Rattle.arcbench_core.specs.Line.{space, zero_digit, command_part, after_command, is_decimal, has_idle_zero, number_of, step_named, step_of, limit_in}
 use Rattle.arcbench_core.specs.LineText.{line_text, limit_text, HasHandle}
 use Rattle.arcbench_core.proofs.ParsedNumbers.{own, is_decimal-true, from_is_decimal}
 
@@ -24,7 +24,7 @@ chosen : {X : Type 0} (b : Bool) (x y : X) (other : Option X) → (if b then Som
 chosen true x y other e = inl (refl, cc)
 chosen false x y other e = inr e
 
-zero_not_idle_is_alone : (text : List ℕ) → has_idle_zero text ≡ false → get_or text 0 0 ≡ 48 → 0 < length text → length text ≡ 1
+zero_not_idle_is_alone : (text : List ℕ) → has_idle_zero text ≡ false → get_or text 0 0 ≡ zero_digit → 0 < length text → length text ≡ 1
 zero_not_idle_is_alone text none zero_first some =
     elim (cases_lt 1 (length text)) [
       | inl long ↦ absurd (let e : has_idle_zero text ≡ true = rw (eq-eqb _ _ zero_first, lt-ltb _ _ long) refl in cc)
@@ -51,8 +51,8 @@ number_of-Some text n e =
 no_idle_zero : (n : ℕ) → n < 2 ^ 64 → has_idle_zero (decimal n) ≡ false
 no_idle_zero zero h = rw (decimal_digit 0 (omega arith)) refl
 no_idle_zero (suc n) h =
-    let first : 48 < get_or (decimal (suc n)) 0 0 = first_decimal (suc n) (omega arith) h in
-    let other : (get_or (decimal (suc n)) 0 0 == 48) ≡ false = ne_eqb _ _ (λ e. omega arith) in
+    let first : zero_digit < get_or (decimal (suc n)) 0 0 = first_decimal (suc n) (omega arith) h in
+    let other : (get_or (decimal (suc n)) 0 0 == zero_digit) ≡ false = ne_eqb _ _ (λ e. omega arith) in
     rw other refl
 
 pub number_of-decimal : (n : ℕ) → n < 2 ^ 64 → number_of (decimal n) ≡ Some n
@@ -68,27 +68,27 @@ same_bytes : (xs ys : List ℕ) → bytes_eq xs ys ≡ true → xs ≡ ys
 same_bytes xs ys e = (bytes_eq-Decides xs ys).0 e
 
 -- a line with bytes after its command is the command, a space and those bytes
-command_and_rest : (line : List ℕ) → 0 < length (after_command line) → line ≡ command_part line ++ 32 ∷ after_command line
+command_and_rest : (line : List ℕ) → 0 < length (after_command line) → line ≡ command_part line ++ space ∷ after_command line
 command_and_rest line some =
-    elim (cases_lt (position_or_len (λ b. b == 32) line) (length line)) [
+    elim (cases_lt (position_or_len (λ b. b == space) line) (length line)) [
       | inl there ↦
-          let stops : not (get_or line (position_or_len (λ b. b == 32) line) 0 == 32) ≡ false = prefix_len_stops (λ b. not (b == 32)) line 0 there in
-          let space : get_or line (position_or_len (λ b. b == 32) line) 0 ≡ 32 = eqb-true _ _ (not-false _ stops) in
-          split_at_first (λ b. b == 32) line 0 there ∙ ap (λ b. command_part line ++ b ∷ after_command line) space
+          let stops : not (get_or line (position_or_len (λ b. b == space) line) 0 == space) ≡ false = prefix_len_stops (λ b. not (b == space)) line 0 there in
+          let found : get_or line (position_or_len (λ b. b == space) line) 0 ≡ space = eqb-true _ _ (not-false _ stops) in
+          split_at_first (λ b. b == space) line 0 there ∙ ap (λ b. command_part line ++ b ∷ after_command line) found
       | inr absent ↦
-          let past : length line ≤ position_or_len (λ b. b == 32) line + 1 = omega arith in
+          let past : length line ≤ position_or_len (λ b. b == space) line + 1 = omega arith in
           let none : after_command line ≡ [] = drop_of_length-le line past in
           absurd (omega (arith, ap length none))
     ]
 
-number_after : (line : List ℕ) (n : ℕ) → number_of (after_command line) ≡ Some n → line ≡ command_part line ++ 32 ∷ decimal n
+number_after : (line : List ℕ) (n : ℕ) → number_of (after_command line) ≡ Some n → line ≡ command_part line ++ space ∷ decimal n
 number_after line n e =
     let number = number_of-Some (after_command line) n e in
     let some : 0 < length (after_command line) = rw number.0 (decimal_nonempty n number.1) in
-    command_and_rest line some ∙ ap (λ rest. command_part line ++ 32 ∷ rest) number.0
+    command_and_rest line some ∙ ap (λ rest. command_part line ++ space ∷ rest) number.0
 
 -- the commands of steps
-step_named-Some : (command : List ℕ) (h : ℕ) (step : Step) → step_named command h ≡ Some step → command ++ 32 ∷ decimal h ≡ line_text step
+step_named-Some : (command : List ℕ) (h : ℕ) (step : Step) → step_named command h ≡ Some step → command ++ space ∷ decimal h ≡ line_text step
 step_named-Some command h step e =
     elim (chosen (bytes_eq command (codes "look")) (Look h) step _ e) [
       | inl c ↦ named (codes "look") c.0 ∙ ap line_text c.1
@@ -124,8 +124,8 @@ step_named-Some command h step e =
           ]
     ]
   where
-    named : (text : List ℕ) → bytes_eq command text ≡ true → command ++ 32 ∷ decimal h ≡ text ++ 32 ∷ decimal h
-    named text same = ap (λ w. w ++ 32 ∷ decimal h) (same_bytes command text same)
+    named : (text : List ℕ) → bytes_eq command text ≡ true → command ++ space ∷ decimal h ≡ text ++ space ∷ decimal h
+    named text same = ap (λ w. w ++ space ∷ decimal h) (same_bytes command text same)
 
 -- ---- lines
 
@@ -157,7 +157,7 @@ pub limit_in-Some : (line : List ℕ) (n : ℕ) → limit_in line ≡ Some n →
 limit_in-Some line n e = limit_by (bytes_eq (command_part line) (codes "limit")) refl e
   where
     limit_by : (b : Bool) → bytes_eq (command_part line) (codes "limit") ≡ b → (if b then number_of (after_command line) else None) ≡ Some n → line ≡ limit_text n
-    limit_by true same e = number_after line n e ∙ ap (λ w. w ++ 32 ∷ decimal n) (same_bytes (command_part line) (codes "limit") same)
+    limit_by true same e = number_after line n e ∙ ap (λ w. w ++ space ∷ decimal n) (same_bytes (command_part line) (codes "limit") same)
     limit_by false same e = absurd cc
 
 pub limit_in-limit_text : (n : ℕ) → n < 2 ^ 64 → limit_in (limit_text n) ≡ Some n

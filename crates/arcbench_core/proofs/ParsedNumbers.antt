@@ -7,7 +7,7 @@ use Rattle.std.proofs.lemmas.Str.{IsUtf8-from_ascii}
 use Rattle.std.proofs.lemmas.Str.Parse.{IsNumeralModel, numerals_by_value, tells_all_ascii_digits, parse_plain}
 use Rattle.std.proofs.lemmas.Fmt.{IsAscii-from_digits}
 use Rattle.std.proofs.lemmas.Bool.{lt-ltb, ltb-true, and_parts}
-use Rattle.arcbench_core.specs.Line.{is_decimal}
+use Rattle.arcbench_core.specs.Line.{plus_sign, is_decimal}
 
 -- ASCII digits are the digits that `parse` knows
 pub own : IsNumeralModel (λ ds. all_ascii_digits ds ≡ true) (digits_value 10)
@@ -29,7 +29,7 @@ decimal_by text false is (Ok x) h = absurd (let e = is_decimal-true text h.0 in 
 decimal_by text true is (Err e) h = absurd (h (from_is_decimal text is))
 decimal_by text false is (Err e) h = refl
 
-pub decimal_from_parse : (text : List ℕ) → get_or text 0 0 ≢ 43 → {E : Type 0} → (r : Result ℕ E) → ParsesUnsigned 64 10 text r → result_ok r ≡ (if is_decimal text then Some (digits_value 10 text) else None)
+pub decimal_from_parse : (text : List ℕ) → get_or text 0 0 ≢ plus_sign → {E : Type 0} → (r : Result ℕ E) → ParsesUnsigned 64 10 text r → result_ok r ≡ (if is_decimal text then Some (digits_value 10 text) else None)
 decimal_from_parse text no_sign r h = decimal_by text (is_decimal text) refl r (parse_plain own 64 text r h no_sign)
 
 -- decimal digits are UTF-8

@@ -6,7 +6,7 @@ ghost use Rattle.arcbench_core.specs.Line.{is_decimal, number_of, plus_sign};
 
 use std::str;
 
-/// The value of a NUMBER: `0`, or digits that do not begin with `0`, below `2^64`.
+/// Returns the value of a NUMBER: `0`, or digits that do not begin with `0`, below `2^64`.
 ///
 /// ```
 /// assert_eq!(rt; number_of(b"64"), Some(64));

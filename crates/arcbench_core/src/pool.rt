@@ -44,7 +44,7 @@ pub enum PoolFault {
 }
 
 impl PoolFault {
-    /// The number of the fault, counted from 1.
+    /// Returns the number of the fault, counted from 1.
     ///
     /// ```
     /// assert_eq!(rt; PoolFault::NoThread.number(), 2);
@@ -58,7 +58,7 @@ impl PoolFault {
         }
     }
 
-    /// The text of the fault, as it is printed.
+    /// Returns the text of the fault, as it is printed.
     ///
     /// ```
     /// assert_eq!(rt; PoolFault::Memory.text(), "out of memory");

@@ -32,7 +32,7 @@ impl<T> Model for Port<T> {
 }
 
 impl<T> Port<T> {
-    /// A port that has not failed.
+    /// Makes a port that has not failed.
     ///
     /// ```
     /// let port = Port::new(b"abc".as_slice());
@@ -47,7 +47,7 @@ impl<T> Port<T> {
         }
     }
 
-    /// Whether a call has failed.
+    /// Returns whether a call has failed.
     ///
     /// ```
     /// let mut room = [0; 2];
@@ -63,7 +63,7 @@ impl<T> Port<T> {
 }
 
 impl<R: Read> Port<R> {
-    /// One read of the reader. The contract does not say which error it returns: the test
+    /// Reads once from the reader. The contract does not say which error it returns: the test
     /// `remembers_a_fault_after_calls_that_work` catches a body that returns another one.
     ///
     /// ```

@@ -128,8 +128,8 @@ where
     status_after(errors, done)
 }
 
-/// The status if the program's own arguments could not be read: out of memory, or an argument that is
-/// not a text, which counts as no command.
+/// Returns the status if the program's own arguments could not be read: out of memory, or an argument that is not a
+/// text, which counts as no command.
 ///
 /// ```
 /// let mut errors = Vec::new(rt.alloc());

@@ -37,7 +37,7 @@ pub enum CopyFault {
 }
 
 impl CopyFault {
-    /// The number of the fault, counted from 1.
+    /// Returns the number of the fault, counted from 1.
     ///
     /// ```
     /// assert_eq!(rt; CopyFault::Io.number(), 3);
@@ -52,7 +52,7 @@ impl CopyFault {
         }
     }
 
-    /// The text of the fault, as it is printed.
+    /// Returns the text of the fault, as it is printed.
     ///
     /// ```
     /// assert_eq!(rt; CopyFault::Memory.text(), "out of memory");

@@ -56,8 +56,8 @@ fn start_with<R: Threads + Wait + Sync>(
     }
 }
 
-/// The lines of callers: one for each caller, with the text as its handle reads it, and a last one with their
-/// number. If there are no callers, the fault is that of the pool; else it is `Memory`.
+/// Returns the lines of callers: one for each caller, with the text as its handle reads it, and a last one with
+/// their number. If there are no callers, the fault is that of the pool; else it is `Memory`.
 ///
 /// ```
 /// let lines = threads::answer(rt.alloc(), threads::start(&rt, rt.alloc(), 1))?;

@@ -57,7 +57,7 @@ impl<S: BuildHasher> Model for Interner<S> {
 }
 
 impl Interner<BuildHasherDefault<FoldHasher>> {
-    /// An interner without texts.
+    /// Makes an interner without texts.
     ///
     /// ```
     /// let interner = Interner::new(rt.alloc());
@@ -69,8 +69,8 @@ impl Interner<BuildHasherDefault<FoldHasher>> {
         Interner::with_hasher(alloc, BuildHasherDefault::new())
     }
 
-    /// An interner without texts, whose table has room for this many. It is allocated here, and none is for no texts. `Memory` is the
-    /// only fault.
+    /// Makes an interner without texts, whose table has room for this many. It is allocated here, and none is for no texts. `Memory`
+    /// is the only fault.
     ///
     /// ```
     /// let interner = Interner::with_capacity(rt.alloc(), 100)?;
@@ -86,7 +86,7 @@ impl Interner<BuildHasherDefault<FoldHasher>> {
 }
 
 impl<S: BuildHasher> Interner<S> {
-    /// An interner without texts, which hashes by `hash_builder`.
+    /// Makes an interner without texts, which hashes by `hash_builder`.
     ///
     /// ```
     /// let mut interner = Interner::with_hasher(rt.alloc(), RandomState::new(&rt)?);
@@ -101,7 +101,7 @@ impl<S: BuildHasher> Interner<S> {
         }
     }
 
-    /// The number of texts.
+    /// Returns the number of texts.
     ///
     /// ```
     /// let mut interner = Interner::new(rt.alloc());
@@ -117,7 +117,7 @@ impl<S: BuildHasher> Interner<S> {
         self.texts.len()
     }
 
-    /// Whether there are no texts.
+    /// Returns whether there are no texts.
     ///
     /// ```
     /// let mut interner = Interner::new(rt.alloc());
@@ -130,7 +130,7 @@ impl<S: BuildHasher> Interner<S> {
         self.texts.is_empty()
     }
 
-    /// The texts, in the order of their symbols.
+    /// Returns the texts, in the order of their symbols.
     ///
     /// ```
     /// let mut interner = Interner::new(rt.alloc());

@@ -61,8 +61,8 @@ impl<S: BuildHasher> Model for SharedInterner<S> {
 }
 
 impl SharedInterner<BuildHasherDefault<FoldHasher>> {
-    /// An interner without texts. The caller must ensure that there are 1 to 64 shards. A power of two is best, as many as threads or
-    /// more. `Memory` is the only fault.
+    /// Makes an interner without texts. The caller must ensure that there are 1 to 64 shards. A power of two is best, as many as
+    /// threads or more. `Memory` is the only fault.
     ///
     /// ```
     /// let interner = SharedInterner::new(rt.alloc(), 1)?;
@@ -77,7 +77,7 @@ impl SharedInterner<BuildHasherDefault<FoldHasher>> {
 }
 
 impl<S: BuildHasher + Drop> SharedInterner<S> {
-    /// An interner without texts, which hashes by `hash_builder`, and is as `new` makes it.
+    /// Makes an interner without texts, which hashes by `hash_builder`, and is as `new` makes it.
     ///
     /// ```
     /// let interner = SharedInterner::with_hasher(rt.alloc(), 8, RandomState::new(&rt)?)?;
@@ -104,7 +104,7 @@ impl<S: BuildHasher + Drop> SharedInterner<S> {
 }
 
 impl<S: BuildHasher> SharedInterner<S> {
-    /// The text of a symbol, which is one of this interner. It takes no lock, and never waits.
+    /// Returns the text of a symbol of this interner. Takes no lock, and never waits.
     ///
     /// ```
     /// let interner = SharedInterner::new(rt.alloc(), 8)?;
@@ -134,7 +134,8 @@ impl<S: BuildHasher> SharedInterner<S> {
         self.texts.agrees(one, other);
     }
 
-    /// The symbol of a number. `None` where no text has the number: it is another interner's. It takes no lock, and never waits.
+    /// Returns the symbol with this number, or `None` if no text has it: the number is another interner's. Takes no lock, and never
+    /// waits.
     ///
     /// ```
     /// let interner = SharedInterner::new(rt.alloc(), 8)?;
@@ -150,7 +151,7 @@ impl<S: BuildHasher> SharedInterner<S> {
         self.texts.at(number)
     }
 
-    /// A clone of the text of a number. `None` where no text has the number. That takes the steps of `ArcStr::clone`.
+    /// Returns a clone of the text with this number, or `None` if no text has it. Takes the steps of `ArcStr::clone`.
     ///
     /// ```
     /// let interner = SharedInterner::new(rt.alloc(), 8)?;
@@ -163,7 +164,7 @@ impl<S: BuildHasher> SharedInterner<S> {
         Some(self.text(&symbol).clone(rt))
     }
 
-    /// The number of texts. Where other threads add texts at once, some of these may be missing.
+    /// Returns the number of texts. It may miss texts that other threads are adding.
     ///
     /// ```
     /// let interner = SharedInterner::new(rt.alloc(), 8)?;
@@ -179,7 +180,7 @@ impl<S: BuildHasher> SharedInterner<S> {
         len
     }
 
-    /// Whether there are no texts.
+    /// Returns whether there are no texts.
     ///
     /// ```
     /// let interner = SharedInterner::new(rt.alloc(), 8)?;

@@ -27,7 +27,7 @@ impl Model for Symbol {
 }
 
 impl Symbol {
-    /// The index of the text in its interner, from 0.
+    /// Returns the index of the text in its interner, from 0.
     ///
     /// ```
     /// let mut interner = Interner::new(rt.alloc());

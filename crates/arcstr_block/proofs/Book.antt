@@ -26,7 +26,7 @@ use Rattle.arcstr_count.specs.OneBlock.{Keeps, EndsIn, look_reply}
 use Rattle.arcstr_count.proofs.OneBlock.{Prolongs, keeps-make, keeps-look, keeps-begin, keeps-clone, keeps-leak, keeps-sub, keeps-back}
 use Rattle.arcstr_block.specs.Word.{word_of}
 use Rattle.arcstr_block.specs.Book.{BlockName, steps, state_code, reached, seat, seat_share, book, Book, Ends, reached_ending}
-use Rattle.arcstr_block.proofs.Words.{word_marked, word_dropped}
+use Rattle.arcstr_block.proofs.Words.{one_less, word_marked, word_dropped}
 use Rattle.arcstr_block.proofs.Seats.{agrees, moves, adds}
 
 module _ {M : Type 1} {𝓤 : Ura M} (𝓛 : Logic 𝓤) where
@@ -97,12 +97,12 @@ module _ {M : Type 1} {𝓤 : Ura M} (𝓛 : Logic 𝓤) where
         subst (λ (w : FlagAndCount). Prolongs L r (Leak h) Marked w vs) (sym (word_marked n)) (keeps-leak L r (word_of n) vs h keeps at))
 
     -- a clone is born with a seat of its own
-    abbrev pub Born : Fml
-    Born = fex ℕ (λ j. seat δ j Free)
+    abbrev pub NewSeat : Fml
+    NewSeat = fex ℕ (λ j. seat δ j Free)
 
     pub book_clone : (n n' h : ℕ) (q : Share) → word_of n' ≡ cloned_of L (word_of n)
-        → ⟦ Bk n ⟧ ∗ ⟦ seat_share δ h q Free ⟧ ⊢ upd 𝓤 (⟦ Bk n' ⟧ ∗ ⟦ seat_share δ h q Free ⟧ ∗ ⟦ Born ⟧)
-    book_clone n n' h q is = let Z : Pr = ⟦ Bk n' ⟧ ∗ ⟦ seat_share δ h q Free ⟧ ∗ ⟦ Born ⟧ in
+        → ⟦ Bk n ⟧ ∗ ⟦ seat_share δ h q Free ⟧ ⊢ upd 𝓤 (⟦ Bk n' ⟧ ∗ ⟦ seat_share δ h q Free ⟧ ∗ ⟦ NewSeat ⟧)
+    book_clone n n' h q is = let Z : Pr = ⟦ Bk n' ⟧ ∗ ⟦ seat_share δ h q Free ⟧ ∗ ⟦ NewSeat ⟧ in
         qed 𝓛 (‵ (Bk n) ∷ ‵ (seat_share δ h q Free) ∷ []) ∵ fpick ! (λ x. fsplit3 ! $ fpick ! (λ keeps. drop ! $ move ! (1 ∷ 2 ∷ []) $
         let vs : List HandleState = x.1 ++ Free ∷ [] in
         use2 𝓛 (given (slice_get x.1 h ≡ Some Free) (‵ (Seats x.1) ⊛ ‵ (seat_share δ h q Free))) (agrees 𝓛 δ x.1 0 h h q Free (sym
@@ -143,12 +143,9 @@ module _ {M : Type 1} {𝓤 : Ura M} (𝓛 : Logic 𝓤) where
     abbrev pub sub_reply : ℕ → Reply
     sub_reply n = if is_last (word_of n) then Owes else Left
 
-    abbrev pub less : ℕ → ℕ
-    less n = (n + (2 ^ 64 - 2)) % 2 ^ 64
-
     pub book_sub : (n h : ℕ) → n < 2 ^ 64
-        → ⟦ Bk n ⟧ ∗ ⟦ seat δ h Dropping ⟧ ⊢ upd 𝓤 (⟦ Bk (less n) ⟧ ∗ ⟦ seat δ h (left_in n) ⟧ ∗ ⟦ Said (Sub h) (sub_reply n) ⟧)
-    book_sub n h fits = by_seat n (less n) h Dropping (left_in n) (Sub h) (sub_reply n) (λ r vs keeps at. let on = keeps-sub L r (word_of n) vs h keeps at in
+        → ⟦ Bk n ⟧ ∗ ⟦ seat δ h Dropping ⟧ ⊢ upd 𝓤 (⟦ Bk (one_less n) ⟧ ∗ ⟦ seat δ h (left_in n) ⟧ ∗ ⟦ Said (Sub h) (sub_reply n) ⟧)
+    book_sub n h fits = by_seat n (one_less n) h Dropping (left_in n) (Sub h) (sub_reply n) (λ r vs keeps at. let on = keeps-sub L r (word_of n) vs h keeps at in
         subst (λ (w : FlagAndCount). Prolongs L r (Sub h) (sub_reply n) w (set vs h (left_in n))) (sym (word_dropped n fits on.0)) on.1)
 
     pub book_back : (n h : ℕ) → ⟦ Bk n ⟧ ∗ ⟦ seat δ h Owing ⟧ ⊢ upd 𝓤 (⟦ Bk n ⟧ ∗ ⟦ seat δ h Gone ⟧ ∗ ⟦ Said (Back h) Given ⟧)

@@ -1,6 +1,5 @@
 -- What a clone's steps do to the history, depending on the word that they find. Assumes `Logic`.
 use Rattle.std.proofs.Common.{◌≡◌, ◌≢◌, ℕ, eqb, inl, inr, [], ◌∷◌, refl, sym, ap, subst, arith, eq-eqb, ne_eqb}
-use Rattle.std.specs.Prelude.{◌⊎◌}
 use mathlib.Core.Logic.{dite}
 use native.Mathlib.Decide.{ℕ_discrete}
 use seplogic.Ra.Ura.{Ura}
@@ -13,8 +12,8 @@ use denote.Steps.{nothing}
 use Rattle.arcstr_count.specs.declared.steps.HandleState.TheVariants.{Free}
 use Rattle.arcstr_block.specs.Word.{IsMarked, IsClone}
 use Rattle.arcstr_block.specs.Book.{Book, seat_share}
-use Rattle.arcstr_block.proofs.Words.{odd_or_even, word_kept, word_cloned}
-use Rattle.arcstr_block.proofs.Book.{Born, book_clone}
+use Rattle.arcstr_block.proofs.Words.{IsMarkedOr, odd_or_even, word_kept, word_cloned}
+use Rattle.arcstr_block.proofs.Book.{NewSeat, book_clone}
 
 module _ {M : Type 1} {𝓤 : Ura M} (𝓛 : Logic 𝓤) (L : ℕ) (γ δ : GName) (h : ℕ) (q : Share) where
   abbrev Pr : Type 2
@@ -38,7 +37,7 @@ module _ {M : Type 1} {𝓤 : Ura M} (𝓛 : Logic 𝓤) (L : ℕ) (γ δ : GNam
   Mine = seat_share δ h q Free
 
   abbrev New : Fml
-  New = Born 𝓛 L γ δ
+  New = NewSeat 𝓛 L γ δ
 
   abbrev NewIf : Type 0 → Fml
   NewIf event = fall event (λ _. New)
@@ -67,19 +66,16 @@ module _ {M : Type 1} {𝓤 : Ura M} (𝓛 : Logic 𝓤) (L : ℕ) (γ δ : GNam
     abbrev to : ℕ → ℕ
     to n = either (eqb n old) new n
 
-    abbrev Event : ℕ → Type 0
-    Event n = IsMarked n ⊎ (n ≡ old)
-
     abbrev Turn : ℕ → ℕ → Type 1
-    Turn n n' = ⟦ Bk n ⟧ ∗ ⟦ Mine ⟧ ⊢ upd 𝓤 (⟦ Bk n' ⟧ ∗ ⟦ Mine ⟧ ∗ ⟦ NewIf (Event n) ⟧)
+    Turn n n' = ⟦ Bk n ⟧ ∗ ⟦ Mine ⟧ ⊢ upd 𝓤 (⟦ Bk n' ⟧ ∗ ⟦ Mine ⟧ ∗ ⟦ NewIf (IsMarkedOr old n) ⟧)
 
     hit : Turn old (to old)
-    hit = subst (Turn old) (sym (ap (λ y. either y new old) (eq-eqb old old refl))) (clone old new (Event old) (word_cloned L old new asked))
+    hit = subst (Turn old) (sym (ap (λ y. either y new old) (eq-eqb old old refl))) (clone old new (IsMarkedOr old old) (word_cloned L old new asked))
 
     missed : (n : ℕ) → n ≢ old → Turn n n
     missed n ne = elim (odd_or_even n) [
-      | inl odd ↦ clone n n (Event n) (word_kept L n odd)
-      | inr even ↦ no_clone n (Event n) (λ y. elim y [ inl odd ↦ absurd (omega (arith, odd, even)) | inr e ↦ absurd (ne e) ])
+      | inl odd ↦ clone n n (IsMarkedOr old n) (word_kept L n odd)
+      | inr even ↦ no_clone n (IsMarkedOr old n) (λ y. elim y [ inl odd ↦ absurd (omega (arith, odd, even)) | inr e ↦ absurd (ne e) ])
     ]
 
     pub raises : (n : ℕ) → Turn n (to n)

@@ -1,7 +1,7 @@
 pub mod TokenParts
 pub mod TwoPointers
 pub mod LoneBlocks
-pub mod Atomic
+pub mod AtomicSteps
 pub mod PointerShares
 pub mod Words
 pub mod Ledger

@@ -57,14 +57,14 @@ module _ {M : Type 1} {𝓤 : Ura M} (𝓛 : Logic 𝓤) (P : Fml) (L b o : ℕ)
   abbrev pub right_after : Bool → ℕ → Right → ℕ × List Step → Fml
   right_after clones n k x = fsep (fact (LoadEnds clones L h n x.1)) (fsep (reached t.name.history x.1) (right_to P L b o t s x.0 k))
 
-  abbrev pub After : Bool → ℕ → Right → Fml
-  After clones n k = fex (ℕ × List Step) (right_after clones n k)
+  abbrev pub AfterLoad : Bool → ℕ → Right → Fml
+  AfterLoad clones n k = fex (ℕ × List Step) (right_after clones n k)
 
   abbrev FromLoad : Bool → ℕ → List Step → Gain → Pr
   FromLoad clones n r g = ⟦ gained 𝓛 P L b o t g ⟧ ∗ ⟦ s (t.sharing ∷ []) ⟧ ∗ ⟦ entered clones n ⟧ ∗ ⟦ reached t.name.history r ⟧
 
   pub loaded : (clones : Bool) (n : ℕ) (r : List Step) (g : Gain) → (IsMarked n → g ≡ share) → (IsUnmarked n → g ≡ none)
-      → Becomes 𝓛 P L b o t (Loads clones n) (FromLoad clones n r g) (λ k. ⟦ After clones n k ⟧)
+      → Becomes 𝓛 P L b o t (Loads clones n) (FromLoad clones n r g) (λ k. ⟦ AfterLoad clones n k ⟧)
   loaded true n r g m u = let got = found 𝓛 P L b o t s laws n g m u in record {
     right = got.right;
     said = got.said;

@@ -84,8 +84,8 @@ module _ {M : Type 1} {𝓤 : Ura M} (𝓛 : Logic 𝓤) (at_mem : Memory → SP
     abbrev pub at_makes : MakeContract.Ghost
     at_makes = ((([], tt), (full_share, tt), tt, (block_ptr b o, (n, tt)), (vptr b o ∷ [], (vint w64 n ∷ [], tt))), (xs, fs))
 
-    abbrev pub IsMade : Slots ℕ → Type 0
-    IsMade r = (r.ptr ≡ block_ptr b o) × (r.len ≡ n) × (r.items ≡ xs) × (r.filled ≡ fs)
+    abbrev pub IsSlotsMade : Slots ℕ → Type 0
+    IsSlotsMade r = (r.ptr ≡ block_ptr b o) × (r.len ≡ n) × (r.items ≡ xs) × (r.filled ≡ fs)
 
     pub makes_goes : n ≡ length xs → n ≡ length fs → n < 2 ^ 63 → ent 𝓤 (sem 𝓛 (slots R (block_ptr b o) xs fs)) (MakeContract.pre at_makes)
     makes_goes e e' small = let Asked : Type 0 = (n ≡ length xs) × (n ≡ length fs) in
@@ -98,14 +98,14 @@ module _ {M : Type 1} {𝓤 : Ura M} (𝓛 : Logic 𝓤) (at_mem : Memory → SP
 
     pub makes_gives : (v : Val)
         → ent 𝓤 (MakeContract.post at_makes v) (H.⇛ (ex 𝓤 (λ (r : Slots ℕ).
-        guard 𝓤 (IsMade r × (v ≡ words_val (block_ptr b o) n)) (sem 𝓛 (Bytes.own_val r (v ∷ []))))))
+        guard 𝓤 (IsSlotsMade r × (v ≡ words_val (block_ptr b o) n)) (sem 𝓛 (Bytes.own_val r (v ∷ []))))))
     makes_gives v =
         qed 𝓛 (raw (MakeContract.post at_makes v) ∷ []) ∵ updating ! $
         use1 𝓛 (later (some (λ (r : Slots ℕ). ((‵ (flft [] full_share) ⊛ ‵ ftrue) ⊛ ‵ (Bytes.own_val r (v ∷ [])))
-        ⊛ some (λ (ws : Unit {0} × (Unit {0} × Unit {0})). ‵ (fsep ftrue (fsep ftrue ftrue)) ⊛ raw (fact 𝓤 (IsMade r)))))) (id⊢ 𝓤 _) $ await ! tt $ pick ! (λ r.
-        split ! $ move ! (1 ∷ []) $ pick ! (λ ws. split ! $ drop ! $ heard ! (IsMade r) (λ is. split ! $ drop ! $ fsplit ! $
+        ⊛ some (λ (ws : Unit {0} × (Unit {0} × Unit {0})). ‵ (fsep ftrue (fsep ftrue ftrue)) ⊛ raw (fact 𝓤 (IsSlotsMade r)))))) (id⊢ 𝓤 _) $ await ! tt $ pick ! (λ r.
+        split ! $ move ! (1 ∷ []) $ pick ! (λ ws. split ! $ drop ! $ heard ! (IsSlotsMade r) (λ is. split ! $ drop ! $ fsplit ! $
         peeks ! DataFields (Is DataFields) (shows 𝓛 DataFields) (r.ptr, (r.len, tt)) (v ∷ []) (λ so. fjoin ! $ now ! $
-        show ! (λ (z : Slots ℕ). guard 𝓤 (IsMade z × (v ≡ words_val (block_ptr b o) n)) (sem 𝓛 (Bytes.own_val z (v ∷ [])))) r $
+        show ! (λ (z : Slots ℕ). guard 𝓤 (IsSlotsMade z × (v ≡ words_val (block_ptr b o) n)) (sem 𝓛 (Bytes.own_val z (v ∷ [])))) r $
         check ! (is, ap only (words_told r.ptr r.len (v ∷ []) so).0 ∙ (λ i. words_val (is.0 i) (is.1 i))) $ done !))))
 
   module _ (d : Slots ℕ) (u : Val) where

@@ -1,6 +1,5 @@
 -- A right as a `&` shows it, and the right that a step's gain becomes. Assumes `Logic`.
 use Rattle.std.proofs.Common.{◌≡◌, ◌≢◌, ℕ, if◌then◌else◌, inl, inr, [], ◌∷◌, refl, sym, ap, subst, arith}
-use Rattle.std.specs.Prelude.{◌⊎◌}
 use mathlib.Core.Logic.{dite}
 use native.Mathlib.Decide.{ℕ_discrete}
 use seplogic.Ra.Ura.{Ura}
@@ -21,8 +20,8 @@ use Rattle.arcstr_block.specs.Rights.{MaySee, IsFree, HasSeat, counted, uncounte
 use Rattle.arcstr_block.specs.Book.{seat, seat_share}
 use Rattle.arcstr_block.specs.Ledger.{Id, parts, Inv, right_to, shown, free, free_shown, knows}
 use Rattle.arcstr_block.proofs.TokenParts.{parts_in}
-use Rattle.arcstr_block.proofs.Words.{odd_or_even, unmarked_word, last_two}
-use Rattle.arcstr_block.proofs.Book.{begun, left_in, Born}
+use Rattle.arcstr_block.proofs.Words.{IsMarkedOr, odd_or_even, unmarked_word, last_two}
+use Rattle.arcstr_block.proofs.Book.{begun, left_in, NewSeat}
 use Rattle.arcstr_block.proofs.PointerShares.{free_in}
 use Rattle.arcstr_block.proofs.Steps.{Gain, none, part, share, last, gained}
 
@@ -150,7 +149,7 @@ module _ {M : Type 1} {𝓤 : Ura M} (𝓛 : Logic 𝓤) (P : Fml) (L b o : ℕ)
 
     -- ---- a clone; `event` says whether it succeeds
     abbrev pub newborn : Type 0 → Fml
-    newborn event = fall event (λ _. Born 𝓛 L t.name.history t.name.seats)
+    newborn event = fall event (λ _. NewSeat 𝓛 L t.name.history t.name.seats)
 
     abbrev FromClone : Type 0 → Gain → Pr
     FromClone event g = ⟦ gained 𝓛 P L b o t g ⟧ ∗ ⟦ s a ⟧ ∗ ⟦ newborn event ⟧
@@ -163,14 +162,14 @@ module _ {M : Type 1} {𝓤 : Ura M} (𝓛 : Logic 𝓤) (P : Fml) (L b o : ℕ)
 
     counted_clone : (event : Type 0) → event → FromClone event part ⊢ H.⇛ (ToClone counted)
     counted_clone event y = qed 𝓛 (‵ (parts t.sharing 1) ∷ ‵ (s a) ∷ ‵ (newborn event) ∷ []) ∵ updating ! $ fpick ! (λ e. fpick ! (λ c. move ! (2 ∷ []) $
-        use1 𝓛 (‵ (Born 𝓛 L t.name.history t.name.seats)) (all_e 𝓤 (λ (_ : event). ⟦ Born 𝓛 L t.name.history t.name.seats ⟧) y) $ fpick ! (λ j. no_item ! $
+        use1 𝓛 (‵ (NewSeat 𝓛 L t.name.history t.name.seats)) (all_e 𝓤 (λ (_ : event). ⟦ NewSeat 𝓛 L t.name.history t.name.seats ⟧) y) $ fpick ! (λ j. no_item ! $
         use1 𝓛 (‵ (knows t counted)) knows_nothing $
         move ! (2 ∷ 0 ∷ 3 ∷ 1 ∷ []) $ types.Kit.group ! 4 $
         use1 𝓛 (‵ (Held j counted)) (free_in P L b o s laws j 𝓛 t counted e (λ _. c)) $ fpack ! ℕ (λ i. Held i counted) j $ now ! $ done !)))
 
     uncounted_clone : (event : Type 0) → event → FromClone event share ⊢ H.⇛ (ToClone uncounted)
     uncounted_clone event y = qed 𝓛 (‵ (gained 𝓛 P L b o t share) ∷ ‵ (s a) ∷ ‵ (newborn event) ∷ []) ∵ updating ! $ fsplit ! $ fpick ! (λ e. move ! (3 ∷ []) $
-        use1 𝓛 (‵ (Born 𝓛 L t.name.history t.name.seats)) (all_e 𝓤 (λ (_ : event). ⟦ Born 𝓛 L t.name.history t.name.seats ⟧) y) $
+        use1 𝓛 (‵ (NewSeat 𝓛 L t.name.history t.name.seats)) (all_e 𝓤 (λ (_ : event). ⟦ NewSeat 𝓛 L t.name.history t.name.seats ⟧) y) $
         fpick ! (λ j. move ! (2 ∷ []) $
         use1 𝓛 (‵ (knows t uncounted)) knows_mark $ move ! (2 ∷ 0 ∷ 3 ∷ 1 ∷ []) $ types.Kit.group ! 4 $
         use1 𝓛 (‵ (Held j uncounted)) (free_in P L b o s laws j 𝓛 t uncounted e (λ w. absurd cc)) $ fpack ! ℕ (λ i. Held i uncounted) j $ now ! $ done !))
@@ -193,24 +192,21 @@ module _ {M : Type 1} {𝓤 : Ura M} (𝓛 : Logic 𝓤) (P : Fml) (L b o : ℕ)
     found n last m u = absurd (neither n (λ odd. let e = m odd in absurd cc) (λ even. let e = u even in absurd cc))
 
     module _ (old new n : ℕ) where
-      abbrev pub Event : Type 0
-      Event = IsMarked n ⊎ (n ≡ old)
+      abbrev IsGainOf : Gain → Type 0
+      IsGainOf g = (IsMarked n → g ≡ share) × (IsUnmarked n → n ≢ old → g ≡ none) × (n ≡ old → IsUnmarked new → g ≡ part) × (n ≡ old → IsMarked new → g ≡ share)
 
-      abbrev Said : Gain → Type 0
-      Said g = (IsMarked n → g ≡ share) × (IsUnmarked n → n ≢ old → g ≡ none) × (n ≡ old → IsUnmarked new → g ≡ part) × (n ≡ old → IsMarked new → g ≡ share)
-
-      event_of : (g : Gain) → (g ≡ none → ⊥) → Said g → Event
+      event_of : (g : Gain) → (g ≡ none → ⊥) → IsGainOf g → IsMarkedOr old n
       event_of g some ok = elim (odd_or_even n) [
         | inl odd ↦ inl odd
         | inr even ↦ dite (ℕ_discrete n old) (λ e. inr e) (λ ne. absurd (some (ok.1 even ne)))
       ]
 
-      no_last : Said last → ⊥
+      no_last : IsGainOf last → ⊥
       no_last ok = neither n (λ odd. let e = ok.0 odd in absurd cc) (λ even. dite (ℕ_discrete n old)
           (λ same. neither new (λ odd. let e = ok.3 same odd in absurd cc) (λ un. let e = ok.2 same un in absurd cc))
           (λ ne. let e = ok.1 even ne in absurd cc))
 
-      pub raised : (g : Gain) → Said (g) → Becomes (Gains old new n) (FromClone Event g) ToClone
+      pub raised : (g : Gain) → IsGainOf (g) → Becomes (Gains old new n) (FromClone (IsMarkedOr old n) g) ToClone
       raised none ok = record {
         right = nothing;
         said = (
@@ -220,7 +216,7 @@ module _ {M : Type 1} {𝓤 : Ura M} (𝓛 : Logic 𝓤) (P : Fml) (L b o : ℕ)
               let e = ok.2 hit un in absurd cc),
           (λ hit odd. let e = ok.3 hit odd in absurd cc),
         );
-        turns = no_clone Event ftrue;
+        turns = no_clone (IsMarkedOr old n) ftrue;
       }
       raised part ok = record {
         right = counted;
@@ -231,7 +227,7 @@ module _ {M : Type 1} {𝓤 : Ura M} (𝓛 : Logic 𝓤) (P : Fml) (L b o : ℕ)
               refl),
           (λ hit odd. let e = ok.3 hit odd in absurd cc),
         );
-        turns = counted_clone Event (event_of part (λ e. absurd cc) ok);
+        turns = counted_clone (IsMarkedOr old n) (event_of part (λ e. absurd cc) ok);
       }
       raised share ok = record {
         right = uncounted;
@@ -242,7 +238,7 @@ module _ {M : Type 1} {𝓤 : Ura M} (𝓛 : Logic 𝓤) (P : Fml) (L b o : ℕ)
               let e = ok.2 hit un in absurd cc),
           (λ _ _. refl),
         );
-        turns = uncounted_clone Event (event_of share (λ e. absurd cc) ok);
+        turns = uncounted_clone (IsMarkedOr old n) (event_of share (λ e. absurd cc) ok);
       }
       raised last ok = absurd (no_last ok)
 

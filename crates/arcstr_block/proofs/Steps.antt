@@ -19,7 +19,7 @@ use Rattle.arcstr_block.specs.Rights.{uncounted, Right}
 use Rattle.arcstr_block.specs.Book.{Book}
 use Rattle.arcstr_block.specs.Ledger.{fact, parts, some_share, Id, Phase, unmarked, marked, IsPhaseOf, rest, counting, if_alive, Inv, knows, stated}
 use Rattle.arcstr_block.proofs.Ledger.{phase_in, not_alive, marks, marked_in, finds_mark}
-use Rattle.arcstr_block.proofs.Atomic.{Closed, Out, Lies, asked, frames}
+use Rattle.arcstr_block.proofs.AtomicSteps.{Closed, Out, Lies, asked, frames}
 
 -- nothing, a part, a permanent share, or the word and what the block owns
 pub data Gain : Type 0 where
@@ -52,8 +52,8 @@ module _ {M : Type 1} {𝓤 : Ura M} (𝓛 : Logic 𝓤) (P : Fml) (L b o : ℕ)
   abbrev I : Fml
   I = Inv P L b o t
 
-  abbrev Keeps : Phase → Fml
-  Keeps = rest P L b o t
+  abbrev Rest : Phase → Fml
+  Rest = rest P L b o t
 
   abbrev In : ℕ → Phase → Type 0
   In = IsPhaseOf P L b o t
@@ -98,19 +98,19 @@ module _ {M : Type 1} {𝓤 : Ura M} (𝓛 : Logic 𝓤) (P : Fml) (L b o : ℕ)
     gains n g h = qed 𝓛 (‵ kept ∷ ‵ (gained g) ∷ []) ∵ move ! (1 ∷ []) $ nothing ! $ fpack ! (ok n g) (λ _. ftrue) h $ fjoin ! $ fpack ! Gain (told n) g $
         move ! (1 ∷ 0 ∷ []) $ fjoin ! $ done !
 
-    shuts : (n : ℕ) (s : Phase) → In (f n) s → (g : Gain) → ok n g → ⟦ St (f n) ⟧ ∗ ⟦ Keeps s ⟧ ∗ ⟦ kept ⟧ ∗ ⟦ gained g ⟧ ⊢ Shut n
-    shuts n s h g y = qed 𝓛 (‵ (St (f n)) ∷ ‵ (Keeps s) ∷ ‵ kept ∷ ‵ (gained g) ∷ []) ∵ move ! (2 ∷ 3 ∷ []) $ use2 𝓛 (‵ (after n)) (gains n g y) $
+    shuts : (n : ℕ) (s : Phase) → In (f n) s → (g : Gain) → ok n g → ⟦ St (f n) ⟧ ∗ ⟦ Rest s ⟧ ∗ ⟦ kept ⟧ ∗ ⟦ gained g ⟧ ⊢ Shut n
+    shuts n s h g y = qed 𝓛 (‵ (St (f n)) ∷ ‵ (Rest s) ∷ ‵ kept ∷ ‵ (gained g) ∷ []) ∵ move ! (2 ∷ 3 ∷ []) $ use2 𝓛 (‵ (after n)) (gains n g y) $
         move ! (2 ∷ []) $
         use1 𝓛 (‵ _) (phase_in 𝓛 P L b o t (f n) s h) $ move ! (2 ∷ 0 ∷ []) $ fjoin ! $ fpack ! ℕ (counting P L b o t) (f n) $
         fpack ! Bool (if_alive P L b o t) true $ done !
 
-    pub keeps : (n : ℕ) (s : Phase) → In (f n) s → (g : Gain) → ok n g → ⟦ St (f n) ⟧ ∗ ⟦ Keeps s ⟧ ∗ ⟦ kept ⟧ ∗ ⟦ gained g ⟧ ⊢ Stepped n
+    pub keeps : (n : ℕ) (s : Phase) → In (f n) s → (g : Gain) → ok n g → ⟦ St (f n) ⟧ ∗ ⟦ Rest s ⟧ ∗ ⟦ kept ⟧ ∗ ⟦ gained g ⟧ ⊢ Stepped n
     keeps n s h g y = via 𝓤 (Shut n) (shuts n s h g y) (same n)
 
     -- the mark is set, and c ends
-    pub marking : (n k : ℕ) → k < 2 ^ 63 - 1 → In (f n) (marked k) → ok n share → ⟦ St (f n) ⟧ ∗ ⟦ Keeps (unmarked k) ⟧ ∗ ⟦ kept ⟧ ⊢ Stepped n
+    pub marking : (n k : ℕ) → k < 2 ^ 63 - 1 → In (f n) (marked k) → ok n share → ⟦ St (f n) ⟧ ∗ ⟦ Rest (unmarked k) ⟧ ∗ ⟦ kept ⟧ ⊢ Stepped n
     marking n k small h y =
-        qed 𝓛 (‵ (St (f n)) ∷ ‵ (Keeps (unmarked k)) ∷ ‵ kept ∷ []) ∵ move ! (1 ∷ []) $
+        qed 𝓛 (‵ (St (f n)) ∷ ‵ (Rest (unmarked k)) ∷ ‵ kept ∷ []) ∵ move ! (1 ∷ []) $
         use1 𝓛 (‵ (flft (t.counting ∷ []) full_share) ⊛ ‵ (parts t.sharing (2 ^ 63 - (k + 1))) ⊛ ‵ (some_share t.sharing) ⊛
         ‵ (some_share t.sharing)) (marks 𝓛 P L b o t k small) $
         split3 ! $ move ! (2 ∷ []) $ split ! $
@@ -118,11 +118,11 @@ module _ {M : Type 1} {𝓤 : Ura M} (𝓛 : Logic 𝓤) (P : Fml) (L b o : ℕ)
         suffices ! _ (ending n t.counting) $ move ! (2 ∷ []) $ frame ! $ assume ! (‵ (fdead (t.counting ∷ []))) $ suffices ! _ (upd_i 𝓤 (Shut n)) $
         use1 𝓛 (‵ (fdead (t.counting ∷ [])) ⊛ ‵ (fdead (t.counting ∷ []))) (𝓛.lfts.dead_dup (t.counting ∷ [])) $ split ! $ move ! (3 ∷ 0 ∷ []) $ fjoin ! $
         move ! (3 ∷ 2 ∷ 1 ∷ []) $
-        use3 𝓛 (‵ (Keeps (marked k))) (marked_in 𝓛 P L b o t k) $ move ! (2 ∷ 0 ∷ 3 ∷ 1 ∷ []) $ by ! (shuts n (marked k) h share y)
+        use3 𝓛 (‵ (Rest (marked k))) (marked_in 𝓛 P L b o t k) $ move ! (2 ∷ 0 ∷ 3 ∷ 1 ∷ []) $ by ! (shuts n (marked k) h share y)
 
     -- B is what the history's law takes, and `said` is what it gives
     module _ (alive : ⟦ K ⟧ ∗ A.dead (t.sharing ∷ []) ⊢ never 𝓤) (law : (n : ℕ) → n < 2 ^ 64 → (s : Phase) → In n s
-        → ⟦ St (f n) ⟧ ∗ ⟦ Keeps s ⟧ ∗ ⟦ K ⟧ ⊢ Stepped n)
+        → ⟦ St (f n) ⟧ ∗ ⟦ Rest s ⟧ ∗ ⟦ K ⟧ ⊢ Stepped n)
         (B : Fml) (said : ℕ → Fml) (turn : (n : ℕ) → n < 2 ^ 64 → ⟦ Bk n ⟧ ∗ ⟦ B ⟧ ⊢ upd 𝓤 (⟦ Bk (f n) ⟧ ∗ ⟦ said n ⟧)) where
       abbrev After : ℕ → Fml
       After = all_after said
@@ -161,9 +161,9 @@ module _ {M : Type 1} {𝓤 : Ura M} (𝓛 : Logic 𝓤) (P : Fml) (L b o : ℕ)
     abbrev pub With : Fml
     With = fsep Tok (knows t right)
 
-    sees : (n : ℕ) → n < 2 ^ 64 → (s : Phase) → In n s → ⟦ St n ⟧ ∗ ⟦ Keeps s ⟧ ∗ ⟦ With ⟧ ⊢ Stepped (λ m. m) Told With Tok n
+    sees : (n : ℕ) → n < 2 ^ 64 → (s : Phase) → In n s → ⟦ St n ⟧ ∗ ⟦ Rest s ⟧ ∗ ⟦ With ⟧ ⊢ Stepped (λ m. m) Told With Tok n
     sees n fits (unmarked k) h = let even : IsUnmarked n = omega (arith, h.0) in let h₁ = h.1 in let h₂ = h.2 in let h₀ = h.0 in
-        qed 𝓛 (‵ (St n) ∷ ‵ (Keeps (unmarked k)) ∷ ‵ With ∷ []) ∵ move ! (2 ∷ []) $ fsplit ! $ dite (uncounted_or_not right)
+        qed 𝓛 (‵ (St n) ∷ ‵ (Rest (unmarked k)) ∷ ‵ With ∷ []) ∵ move ! (2 ∷ []) $ fsplit ! $ dite (uncounted_or_not right)
         (λ e. move ! (1 ∷ 3 ∷ []) $ use1 𝓛 (‵ (fdead (t.counting ∷ []))) (all_e 𝓤 (λ (_ : right ≡ uncounted). A.dead (t.counting ∷ [])) e) $
         move ! (1 ∷ []) $ fsplit3 ! $
         keep ! (1 ∷ 3 ∷ []) $ by ! (not_alive 𝓛 P L b o t full_share t.counting _))
@@ -176,8 +176,8 @@ module _ {M : Type 1} {𝓤 : Ura M} (𝓛 : Logic 𝓤) (P : Fml) (L b o : ℕ)
               refl),
         )))
     sees n fits (marked m) h = let odd : IsMarked n = h.0 in
-        qed 𝓛 (‵ (St n) ∷ ‵ (Keeps (marked m)) ∷ ‵ With ∷ []) ∵ move ! (2 ∷ []) $ fsplit ! $ move ! (3 ∷ []) $
-        use1 𝓛 (‵ (Keeps (marked m)) ⊛ ‵ (some_share t.sharing) ⊛ ‵ (fdead (t.counting ∷ []))) (finds_mark 𝓛 P L b o t m) $ split3 ! $
+        qed 𝓛 (‵ (St n) ∷ ‵ (Rest (marked m)) ∷ ‵ With ∷ []) ∵ move ! (2 ∷ []) $ fsplit ! $ move ! (3 ∷ []) $
+        use1 𝓛 (‵ (Rest (marked m)) ⊛ ‵ (some_share t.sharing) ⊛ ‵ (fdead (t.counting ∷ []))) (finds_mark 𝓛 P L b o t m) $ split3 ! $
         move ! (1 ∷ 2 ∷ []) $ fjoin ! $
         keep ! (4 ∷ 1 ∷ 2 ∷ 0 ∷ []) $
         by ! (keeps (λ x. x) Told With Tok n (marked m) h share ((λ even. absurd (omega arith)), (λ _. odd), (λ _. refl), (λ even. absurd (omega arith))))

@@ -59,11 +59,11 @@ module _ {M : Type 1} {𝓤 : Ura M} (𝓛 : Logic 𝓤) (B : RattleType) (g : G
     abbrev s : Lft → Fml
     s = block_shares h.at h.text
 
-    abbrev Held : Id → Right → Fml
-    Held t right = held_with P h.limit (block_of h.at) (word_at h.at (length h.text)) t s h.seat right
+    abbrev HeldWith : Id → Right → Fml
+    HeldWith t right = held_with P h.limit (block_of h.at) (word_at h.at (length h.text)) t s h.seat right
 
     abbrev named_right : Id → Fml
-    named_right t = fsep (fact (t.name ≡ h.block)) (Held t h.right)
+    named_right t = fsep (fact (t.name ≡ h.block)) (HeldWith t h.right)
 
     sl : denote.Sharing.ShrLaws s
     sl = shares_laws h.at h.text
@@ -83,7 +83,7 @@ module _ {M : Type 1} {𝓤 : Ura M} (𝓛 : Logic 𝓤) (B : RattleType) (g : G
   book_of : (h : Row.Denot) (vs : List Val) → h.right ≡ owed → ⟦ Row.own_val h vs ⟧ ⊢ ⟦ Book h.limit h.block.history h.block.seats 0 ⟧
   book_of h vs mine = qed 𝓛 (‵ (Row.own_val h vs) ∷ []) ∵ use1 𝓛 (‵ (fex Id (named_right h))) (right_of h vs) $ fpick ! (λ t. fsplit ! $ fpick ! (λ named.
       drop ! $
-      rewrite ! 0 (λ (k : Right). ‵ (Held h t k)) mine refl $ fsplit ! $ drop ! $ fsplit ! $ fsplit ! $ keep ! (1 ∷ []) $
+      rewrite ! 0 (λ (k : Right). ‵ (HeldWith h t k)) mine refl $ fsplit ! $ drop ! $ fsplit ! $ fsplit ! $ keep ! (1 ∷ []) $
       rewrite ! 0 (λ (z : BlockName). ‵ (Book h.limit z.history z.seats 0)) named refl $ done !))
 
   -- what is owed is a different block from one beside which its book cannot lie
@@ -103,8 +103,8 @@ module _ {M : Type 1} {𝓤 : Ura M} (𝓛 : Logic 𝓤) (B : RattleType) (g : G
     abbrev pub Apart : Type 0
     Apart = h.block ≡ j.block → h.seat ≢ j.seat
 
-    abbrev pub Alone : Type 0
-    Alone = h.right ≡ owed → h.block ≢ j.block
+    abbrev pub OwesAnother : Type 0
+    OwesAnother = h.right ≡ owed → h.block ≢ j.block
 
     abbrev Two : Pr
     Two = ⟦ Row.own_val h vs ⟧ ∗ ⟦ Row.own_val j ws ⟧
@@ -125,18 +125,18 @@ module _ {M : Type 1} {𝓤 : Ura M} (𝓛 : Logic 𝓤) (B : RattleType) (g : G
         rewrite ! 0 (λ (z : BlockName). ‵ (Book L z.history z.seats 0)) (sym named) refl $
         by ! (no_other 𝓛 (P j) j.limit (block_of j.at) (word_at j.at (length j.text)) t L Z (s j) j.seat j.right may)))
 
-    are_alone : HasSeat j.right → Dec (h.right ≡ owed) → Two ⊢ H.⇛ (guard 𝓤 Alone Two)
+    are_alone : HasSeat j.right → Dec (h.right ≡ owed) → Two ⊢ H.⇛ (guard 𝓤 OwesAnother Two)
     are_alone may (no other) = qed 𝓛 (‵ (Row.own_val h vs) ∷ ‵ (Row.own_val j ws) ∷ []) ∵ updating ! $ now ! $ check ! (λ mine. absurd (other mine)) $ done !
     are_alone may (yes mine) = qed 𝓛 (‵ (Row.own_val h vs) ∷ ‵ (Row.own_val j ws) ∷ []) ∵ updating ! $
         use2 𝓛 (later (given (h.block ≢ j.block) (‵ (Row.own_val h vs) ⊛ ‵ (Row.own_val j ws))))
         (away h vs (Row.own_val j ws) j.block mine (beside_seat h.limit _ may)) $ await ! tt $ learn ! (λ other. now ! $ check ! (λ _. other) $ done !)
 
     abbrev pub Distinct : Type 0
-    Distinct = Apart × Alone
+    Distinct = Apart × OwesAnother
 
     pub are_apart : HasSeat h.right → HasSeat j.right → Two ⊢ H.⇛ (guard 𝓤 Distinct Two)
     are_apart may may' = qed 𝓛 (‵ (Row.own_val h vs) ∷ ‵ (Row.own_val j ws) ∷ []) ∵ updating ! $
         use2 𝓛 (given Apart (‵ (Row.own_val h vs) ⊛ ‵ (Row.own_val j ws)))
         (one_seat may may' (same_or_not h.block j.block) (ℕ_discrete h.seat j.seat)) $ learn ! (λ two. split ! $
-        use2 𝓛 (later (given Alone (‵ (Row.own_val h vs) ⊛ ‵ (Row.own_val j ws))))
+        use2 𝓛 (later (given OwesAnother (‵ (Row.own_val h vs) ⊛ ‵ (Row.own_val j ws))))
         (are_alone may' (owed_or_not h.right)) $ await ! tt $ learn ! (λ alone. now ! $ check ! (two, alone) $ done !))

@@ -11,6 +11,14 @@ use native.Mathlib.Decide.{ℕ_discrete, dec_le}
 use Rattle.arcstr_count.specs.Word.{marked_of, cloned_of, dropped_of, is_last}
 use Rattle.arcstr_block.specs.Word.{IsMarked, IsUnmarked, IsClone, word_of}
 
+-- the word after a subtraction of one handle, as the processor computes it
+abbrev pub one_less : ℕ → ℕ
+one_less n = (n + (2 ^ 64 - 2)) % 2 ^ 64
+
+-- a compare-exchange that expects the word old makes a clone at the word n
+abbrev pub IsMarkedOr : ℕ → ℕ → Type 0
+IsMarkedOr old n = IsMarked n ⊎ (n ≡ old)
+
 or_one : (k r : ℕ) → r < 2 → bit_or r 1 ≡ 1 → bit_or (k * 2 + r) 1 ≡ k * 2 + 1
 or_one k r small one = or_block 1 k 0 r 1 small (lit< tt) ∙ ap (λ x. x * 2 + bit_or r 1) (or_zero_r k) ∙ ap (λ x. k * 2 + x) one
 

@@ -1,4 +1,4 @@
--- The history of a block, kept beside its word: the steps so far, which only grow, and a seat for each handle that was ever born.
+-- The history of a block, kept beside its count word: the steps so far, which only grow, and a seat for each handle that was ever born.
 use Rattle.std.specs.Prelude.{ℕ, List, refl}
 use Rattle.std.specs.Coded.{Coded, code_by, coded×, coded_ℕ}
 use base.Fraction.{full_share}
@@ -20,12 +20,15 @@ pub record BlockName : Type 0 where
   pub history : GName
   pub seats : GName
 
+-- how a block's name is stored
 abbrev pub name_code : Coded BlockName
 name_code = code_by (GName × GName) (coded× coded_ℕ coded_ℕ) (λ n. (n.history, n.seats)) (λ p. record { history = p.0; seats = p.1 }) (λ _. refl)
 
+-- the order of histories: a prefix comes first
 abbrev pub steps : Order (List Step)
 steps = prefixes step_row.coded
 
+-- how a handle's state is stored
 abbrev pub state_code : HandleState → Gv
 state_code = state_row.coded.code
 
@@ -33,18 +36,20 @@ state_code = state_row.coded.code
 abbrev pub reached : GName → List Step → Fml
 reached γ history = at_least steps γ history
 
--- a share of the seat of handle h, which is in this state; and what a handle has of its seat
+-- a share of the seat of handle h, which is in this state
 abbrev pub seat_share : GName → ℕ → Share → HandleState → Fml
 seat_share δ h q state = share_of_seat state_code δ h q state
 
+-- what a handle has of its seat
 abbrev pub seat : GName → ℕ → HandleState → Fml
 seat δ h state = seat_share δ h three_quarters state
 
--- The word n is the word that the history leaves on its one block, and each seat holds the state of its handle.
 module _ (L : ℕ) (γ δ : GName) where
+  -- the history leaves the count word n on its one block, and each seat holds the state of its handle
   abbrev pub book : ℕ → List Step × List HandleState → Fml
   book n x = fsep (fex (Keeps L x.0 (word_of n) x.1) (λ _. ftrue)) (fsep (latest steps full_share γ x.0) (roster state_code δ 0 x.1))
 
+  -- some history and some states are those of the count word n
   abbrev pub Book : ℕ → Fml
   Book n = fex (List Step × List HandleState) (book n)
 
@@ -52,5 +57,6 @@ module _ (L : ℕ) (γ δ : GName) where
   abbrev pub reached_ending : Step → Reply → List Step → Fml
   reached_ending s reply r = fsep (fex (EndsIn L r s reply) (λ _. ftrue)) (reached γ r)
 
+  -- some prefix that was reached ends in this step, with this reply
   abbrev pub Ends : Step → Reply → Fml
   Ends s reply = fex (List Step) (reached_ending s reply)

@@ -1,8 +1,8 @@
--- Who owns what of a block. Its word lies in an invariant, with the parts of a token that no handle has.
+-- Who owns what of a block. Its count word lies in an invariant, with the parts of a token that no handle has.
 --     a      `sharing`, the lifetime for which the content is shared. Each counted handle has one part in 2 ^ 63 of its token.
---     c      `counting`, the lifetime that ends with the mark: its token lies beside an unmarked word. That c has ended is a permanent fact.
---     γ, δ   the name of the block: of its history and of the seats of its handles, which lie beside the word.
--- An unmarked word that counts k has k parts out, one for each counted handle. A marked word has m parts out, and keeps one part permanently;
+--     c      `counting`, the lifetime that ends with the mark: its token lies beside an unmarked count word. That c has ended is a permanent fact.
+--     γ, δ   the name of the block: of its history and of the seats of its handles, which lie beside the count word.
+-- An unmarked count word that counts k has k parts out, one for each counted handle. A marked count word has m parts out, and keeps one part permanently;
 -- each handle that finds the mark has a share of that part.
 -- When the block is marked, m is k. Each later subtraction, by a drop that looked before the mark, lowers m by one. A handle whose drop finds the
 -- mark drops its part, and m stays.
@@ -52,34 +52,35 @@ pub data Phase : Type 0 where
   unmarked : ℕ → Phase
   marked : ℕ → Phase
 
--- P is what the block owns, L its limit, and b and o where its word lies.
+-- P is what the block owns, L its limit, and b and o where its count word lies.
 module _ (P : Fml) (L b o : ℕ) (t : Id) where
-  -- the phase is one of the word n
+  -- the phase is one of the count word n
   abbrev pub IsPhaseOf : ℕ → Phase → Type 0
   IsPhaseOf n (unmarked k) = (n ≡ counting_word k) × (0 < k) × (k ≤ L + 1) × IsLimit L
   IsPhaseOf n (marked m) = IsMarked n × (m ≤ count_in n) × (count_in n ≤ L + 1) × IsLimit L
 
-  -- what lies beside the word in this phase
+  -- what lies beside the count word in this phase
   abbrev pub rest : Phase → Fml
   rest (unmarked k) = fsep (parts t.sharing (2 ^ 63 - k)) (fsep (flft (t.counting ∷ []) full_share) (flent (t.sharing ∷ []) P))
   rest (marked m) = fsep (parts t.sharing (2 ^ 63 - (m + 1))) (fsep (some_share t.sharing) (fdead (t.counting ∷ [])))
 
+  -- the count word n is in this phase, with what lies beside it
   abbrev pub phase : ℕ → Phase → Fml
   phase n s = fsep (fact (IsPhaseOf n s)) (rest s)
 
-  -- what lies beside the word n
+  -- what lies beside the count word n
   abbrev pub Ledger : ℕ → Fml
   Ledger n = fex Phase (phase n)
 
-  -- the word and its history
+  -- the count word and its history
   abbrev pub stated : ℕ → Fml
   stated n = fsep (word b o n) (Book L t.name.history t.name.seats n)
 
-  -- the word with its history and its ledger
+  -- the count word with its history and its ledger
   abbrev pub counting : ℕ → Fml
   counting n = fsep (stated n) (Ledger n)
 
-  -- before a ends there is a word, and after it nothing
+  -- before a ends there is a count word, and after it nothing
   abbrev pub if_alive : Bool → Fml
   if_alive true = fex ℕ counting
   if_alive false = fdead (t.sharing ∷ [])
@@ -94,6 +95,7 @@ module _ (P : Fml) (L b o : ℕ) (t : Id) where
 
   -- s is what is shared, and h the number of the handle
   module _ (s : Lft → Fml) (h : ℕ) where
+    -- a free handle whose share of a's token is e
     abbrev pub with_share : Right → Share → Fml
     with_share right e = fsep (fact (right ≡ counted → Counts 63 e 1)) (fsep (flft (t.sharing ∷ []) e) (fsep (knows t right) (fsep (s (t.sharing ∷
         [])) (seat t.name.seats h Free))))
@@ -135,15 +137,19 @@ module _ (P : Fml) (L b o : ℕ) (t : Id) where
 -- what a pointer owns: its allocator's right to free, its limit, its address, its text, its right, its handle's number, its block's
 -- name and a prefix of its history
 module _ (holds : Ty → Ptr → Fml) (L : ℕ) (p : Ptr) (text : List ℕ) (right : Right) (h : ℕ) (block : BlockName) (history : List Step) where
+  -- what it owns of the block that t identifies
   abbrev pub of_block : Id → Fml
   of_block t = fsep (known t block history) (held_with (block_owns holds p text) L (block_of p) (word_at p (length text)) t (block_shares p text) h right)
 
+  -- all that it owns
   abbrev pub pointer_owns : Fml
   pointer_owns = fsep (placed p (IsText text)) (fex Id of_block)
 
+  -- what a `&` to it holds of the block that t identifies
   abbrev pub of_block_shown : Id → Lft → Fml
   of_block_shown t = beside (said (known t block history))
       (shown (block_owns holds p text) L (block_of p) (word_at p (length text)) t (block_shares p text) h right)
 
+  -- all that a `&` to it holds
   abbrev pub pointer_shares : Lft → Fml
   pointer_shares = beside (said (placed p (IsText text))) (some Id of_block_shown)

@@ -1,5 +1,5 @@
--- The memory of a block: one piece, with the bytes of the text at its address, the word at the first multiple of 8 past them, and the length of
--- the text 8 bytes after the word.
+-- The memory of a block: one piece, with the bytes of the text at its address, the count word at the first multiple of 8 past them, and the length of
+-- the text 8 bytes after the count word.
 use Rattle.std.specs.Prelude.{ℕ, ◌+◌, ◌-◌, ◌*◌, ◌/◌, ◌^◌, ◌<◌, List, [], length, IsUtf8}
 use base.Fraction.{full_share}
 use base.Fml.{Lft, Fml, ftrue, fsep, fex, fwand, froom}
@@ -24,7 +24,7 @@ Fits n = n < least_too_long
 abbrev pub IsText : List ℕ → Type 0
 IsText xs = Fits (length xs) × IsUtf8 xs
 
--- the word offset: how many bytes past the address of a block its word lies, after a text of n bytes
+-- the word offset: how many bytes past the address of a block its count word lies, after a text of n bytes
 abbrev pub word_offset : ℕ → ℕ
 word_offset n = (n + 7) / 8 * 8
 
@@ -36,7 +36,7 @@ block_size n = (16 + n + 7) / 8 * 8
 abbrev pub block_type : ℕ → Ty
 block_type n = ty_struct [] (tcons (ty_array (ty_int w8) n) (tcons (ty_int w64) (tcons (ty_int w64) tnil)))
 
--- where the word and the length lie after a text of n bytes
+-- where the count word and the length lie after a text of n bytes
 abbrev pub tail_at : Ptr → ℕ → Ptr
 tail_at p n = p +ₚ word_offset n
 
@@ -46,12 +46,12 @@ word_at p n = count_of p + word_offset n + 0
 abbrev pub length_at : Ptr → ℕ → Ptr
 length_at p n = tail_at p n +ₚ 8
 
--- room for the bytes, the word and the length, o bytes into the memory b
+-- room for the bytes, the count word and the length, o bytes into the memory b
 abbrev pub rooms : ℕ → ℕ → ℕ → Fml
 rooms n b o = let u : ℕ = o + word_offset n in
     fsep (froom (ty_array (ty_int w8) n) b o) (fsep (froom (ty_int w64) b (u + 0)) (fsep (froom (ty_int w64) b (u + 8)) ftrue))
 
--- the word w after a text of n bytes
+-- the count word w after a text of n bytes
 abbrev pub word_lies : Ptr → ℕ → ℕ → Fml
 word_lies p n w = word (block_of p) (word_at p n) w
 
@@ -71,7 +71,7 @@ module _ (holds : Ty → Ptr → Fml) where
   abbrev pub rim : ℕ → Ptr → Fml
   rim n p = fsep (fwand (rooms n (block_of p) (count_of p)) (froom (raw (block_type n)) (block_of p) (count_of p))) (holds (raw (block_type n)) p)
 
-  -- what a block owns beside its word: the length, the bytes and the rim
+  -- what a block owns beside its count word: the length, the bytes and the rim
   abbrev pub block_owns : Ptr → List ℕ → Fml
   block_owns p xs = fsep (length_lies p (length xs)) (fsep (text_lies p xs) (rim (length xs) p))
 

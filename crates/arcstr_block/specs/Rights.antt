@@ -1,4 +1,4 @@
--- The right that a pointer to a block has, and the right that each step on the word gains.
+-- The right that a pointer to a block has, and the right that each step on the count word gains.
 use Rattle.std.specs.Prelude.{◌≡◌, ◌≢◌, ◌⊎◌, ℕ, zero, suc, Bool, true, false, refl}
 use mathlib.Core.Path.{ap}
 use mathlib.Core.Logic.{inl, inr}
@@ -8,7 +8,7 @@ use Rattle.arcstr_block.specs.Word.{IsMarked, IsUnmarked, IsLast}
 pub data Right : Type 0 where
   -- no right except to know the block
   nothing : Right
-  -- a free handle that the word counts, or counted once
+  -- a free handle that the count word counts, or counted once
   counted : Right
   -- a free handle whose clone found the mark, or whose exchange set the static flag above the limit
   uncounted : Right
@@ -69,25 +69,25 @@ HasSeat right = IsFree right ⊎ ((right ≡ dropping) ⊎ (right ≡ owed))
 abbrev pub IsIdle : Right → Type 0
 IsIdle right = (right ≡ nothing) ⊎ (right ≡ fixed)
 
--- a look that found the word: at a marked word it gains the permanent block
+-- a look that found the count word: at a marked count word it gains the permanent block
 abbrev pub Looks : ℕ → Right → Type 0
 Looks word gained = (IsMarked word → gained ≡ fixed) × (IsUnmarked word → gained ≡ nothing)
 
--- the load of a clone that found the word: if the word is marked, the clone succeeds
+-- the load of a clone that found the count word: if the count word is marked, the clone succeeds
 abbrev pub Finds : ℕ → Right → Type 0
 Finds word gained = (IsMarked word → gained ≡ uncounted) × (IsUnmarked word → gained ≡ nothing)
 
--- a load that found the word, of a clone or as a look
+-- a load that found the count word, of a clone or as a look
 abbrev pub Loads : Bool → ℕ → Right → Type 0
 Loads true word gained = Finds word gained
 Loads false word gained = Looks word gained
 
--- a compare-exchange of old to its clone new, which found the word
+-- a compare-exchange of old to its clone new, which found the count word
 abbrev pub Gains : ℕ → ℕ → ℕ → Right → Type 0
 Gains old new word gained = (IsMarked word → gained ≡ uncounted) × (IsUnmarked word → word ≢ old → gained ≡ nothing)
     × (word ≡ old → IsUnmarked new → gained ≡ counted) × (word ≡ old → IsMarked new → gained ≡ uncounted)
 
--- the look of a drop that found the word: the drop goes on if the word is unmarked
+-- the look of a drop that found the count word: the drop goes on if the count word is unmarked
 abbrev pub Begins : ℕ → Right → Type 0
 Begins word gained = (IsMarked word → gained ≡ nothing) × (IsUnmarked word → gained ≡ dropping)
 

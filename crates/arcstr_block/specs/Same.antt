@@ -10,7 +10,7 @@ use Rattle.arcstr_block.specs.Word.{word_of, IsMarked, IsUnmarked, IsLast}
 use Rattle.arcstr_block.specs.Handle.{Handle, IsMarkedIn}
 use Rattle.arcstr_block.specs.declared.pointer.Pointer.{Pointer}
 
--- the history ends in a look of handle h that found the word, and has marked its block if the word is marked; the load of a clone,
+-- the history ends in a look of handle h that found the count word, and has marked its block if the count word is marked; the load of a clone,
 -- which gives birth to a handle, says nothing
 abbrev pub LoadEnds : Bool → ℕ → ℕ → ℕ → List Step → Type 0
 LoadEnds true limit h word history = Unit {0}
@@ -33,7 +33,7 @@ module _ {A : Type 0} where
   abbrev pub SawStep : Pointer A → Pointer A → Step → Reply → Type 0
   SawStep p q s reply = EndsIn p.limit q.history s reply
 
-  -- a load of p that found the word, of a clone or as a look
+  -- a load of p that found the count word, of a clone or as a look
   abbrev pub LoadedAs : Bool → Pointer A → ℕ → Pointer A → Type 0
   LoadedAs clones p word q = LoadEnds clones p.limit p.seat word q.history
 

@@ -45,7 +45,8 @@ impl<A: Allocator> Model for Sole<A> {
 }
 
 impl<A: Allocator> Blank<A> {
-    /// Allocates a block, `size` bytes for a text of `len`, and writes the word at the word offset `offset`, and the length.
+    /// Allocates a block, `size` bytes for a text of `len`, and writes the count word at the word offset `offset`, and the
+    /// length.
     pub(crate) fn make(
         alloc: &A,
         word: u64,

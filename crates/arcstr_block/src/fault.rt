@@ -31,7 +31,7 @@ pub enum TextFault {
 }
 
 impl TextFault {
-    /// The number of the fault, counted from 1 in the order of the variants. Only tests use it.
+    /// Returns the number of the fault, counted from 1 in the order of the variants. Only tests use it.
     ///
     /// ```
     /// assert_eq!(rt; TextFault::Length.number(), 1);

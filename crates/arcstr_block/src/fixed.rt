@@ -1,4 +1,4 @@
-//! Permanent blocks: blocks that are known to be marked static.
+//! Permanent blocks: blocks that are known to be marked static. No call here allocates, waits or takes an atomic step.
 ghost use Rattle.std.specs.Prelude.{◌≡◌, length};
 ghost use Rattle.arcstr_block.specs.Rights.{fixed};
 ghost use Rattle.arcstr_block.specs.Handle.{Kept, IsMarkedIn};
@@ -11,8 +11,8 @@ use std::marker::Model;
 /// A permanent block. It is marked static, and its text can be read as long as its allocator lasts. Contracts see the bytes
 /// of its text, its block's name, the limit on its count, and the prefix of its history in which it was marked.
 ///
-/// It has 16 bytes where its allocator has none, and can be sent and shared where its allocator can. Its drop does
-/// nothing: the block stays. None of its functions waits.
+/// It has 16 bytes where its allocator has none, and can be sent and shared where its allocator can. Its drop does nothing:
+/// the block stays.
 ///
 /// ```
 /// let text = Shared::<5, _>::from_text(rt.alloc(), "aé")?;
@@ -37,7 +37,7 @@ impl<A: Allocator + Copy> Model for Fixed<A> {
 }
 
 impl<A: Allocator + Copy> Fixed<A> {
-    /// The text. The call takes no atomic step, does not allocate, and loads nothing from the block.
+    /// Returns the text. Loads nothing from the block.
     ///
     /// ```
     /// let fixed = Shared::<5, _>::from_text(rt.alloc(), "aé")?.mark();
@@ -49,7 +49,7 @@ impl<A: Allocator + Copy> Fixed<A> {
         self.pointer.text(self.len)
     }
 
-    /// The length of the text, in bytes. The call takes no atomic step and does not allocate.
+    /// Returns the length of the text, in bytes.
     ///
     /// ```
     /// let fixed = Shared::<5, _>::from_text(rt.alloc(), "aé")?.mark();
@@ -61,7 +61,7 @@ impl<A: Allocator + Copy> Fixed<A> {
         self.len
     }
 
-    /// Another `Fixed` for the same block. The call takes no atomic step and does not allocate.
+    /// Returns another `Fixed` for the same block.
     ///
     /// ```
     /// let fixed = Shared::<5, _>::from_text(rt.alloc(), "aé")?.mark();
@@ -79,8 +79,7 @@ impl<A: Allocator + Copy> Fixed<A> {
         }
     }
 
-    /// What was seen of the block's history when the block was marked or found marked; it includes the mark. The call takes no
-    /// atomic step and does not allocate.
+    /// Returns the history that was seen when the block was marked or found marked; it includes the mark.
     ///
     /// ```
     /// let text = Shared::<5, _>::from_text(rt.alloc(), "aé")?;

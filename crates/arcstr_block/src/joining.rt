@@ -14,10 +14,10 @@ use std::alloc::Allocator;
 use std::convert::AsStr;
 
 impl<const LIMIT: u64, A: Allocator + Copy> Shared<LIMIT, A> {
-    /// The first handle on a new block with these texts, joined by the separator. The call makes one allocation, and makes a
-    /// block even if nothing is joined. Errors, in this order: `Length`, for `2^63 - 25` bytes or more; `Memory`, for an
-    /// allocation failure. The caller has to ensure that `len` is the length of the joined text (`joined_len`), and that
-    /// `LIMIT` is at most `RC_MAX`.
+    /// Returns the first handle on a new block with these texts, joined by the separator. The call makes one allocation, and
+    /// makes a block even if nothing is joined. Errors, in this order: `Length`, for `2^63 - 25` bytes or more; `Memory`,
+    /// for an allocation failure. The caller has to ensure that `len` is the length of the joined text (`joined_len`), and
+    /// that `LIMIT` is at most `RC_MAX`.
     ///
     /// ```
     /// let text = Shared::<5, _>::join(rt.alloc(), &["a", "b"], ", ", 4)?;
@@ -45,7 +45,8 @@ impl<const LIMIT: u64, A: Allocator + Copy> Shared<LIMIT, A> {
     }
 }
 
-/// The length in bytes of these texts, joined by the separator; `None` if it is past `usize`. The call does not allocate.
+/// Returns the length in bytes of these texts, joined by the separator; `None` if it is past `usize`. The call does not
+/// allocate.
 ///
 /// ```
 /// assert_eq!(rt; joined_len(&["a", "b"], ", "), Some(4));

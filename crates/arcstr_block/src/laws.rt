@@ -12,7 +12,7 @@ use std::alloc::Allocator;
 
 impl<A: Allocator> Pointer<A> {
     /// Two pointers with seats on one block have two seats, and a block that is owed has no other pointer with a seat.
-    pub(crate) fn apart(self, other: Pointer<A>) -> (Pointer<A>, Pointer<A>)
+    pub(crate) fn two_pointers_have_two_seats(self, other: Pointer<A>) -> (Pointer<A>, Pointer<A>)
         requires first { HasSeat self.right }
         requires second { HasSeat other.right }
         ensures first { result.0 ≡ self }
@@ -24,7 +24,7 @@ impl<A: Allocator> Pointer<A> {
     }
 
     /// A block that is owed has no pointer by which it can be read.
-    pub(crate) fn alone(self, other: &Pointer<A>) -> Pointer<A>
+    pub(crate) fn an_owed_block_has_no_reader(self, other: &Pointer<A>) -> Pointer<A>
         requires owed { self.right ≡ owed }
         requires reads { MaySee other.now.right }
         ensures same { result ≡ self }
@@ -58,7 +58,7 @@ impl<const LIMIT: u64, A: Allocator + Copy> Shared<LIMIT, A> {
             len: length,
             alloc: home,
         } = other.taken();
-        let (pointer, beside) = pointer.apart(beside);
+        let (pointer, beside) = pointer.two_pointers_have_two_seats(beside);
         let first = Counted {
             pointer,
             len,
@@ -137,7 +137,7 @@ impl<A: Allocator> Owed<A> {
             offset,
             alloc,
         } = self;
-        let pointer = pointer.alone(other);
+        let pointer = pointer.an_owed_block_has_no_reader(other);
         Owed {
             pointer,
             offset,
@@ -169,7 +169,7 @@ impl<A: Allocator> Owed<A> {
             offset: there,
             alloc: home,
         } = other;
-        let (pointer, beside) = pointer.apart(beside);
+        let (pointer, beside) = pointer.two_pointers_have_two_seats(beside);
         let first = Owed {
             pointer,
             offset,

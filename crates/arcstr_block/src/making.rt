@@ -16,9 +16,9 @@ use core::slots::Slots;
 use std::alloc::Allocator;
 
 impl<const LIMIT: u64, A: Allocator + Copy> Shared<LIMIT, A> {
-    /// The first handle on a new block with a copy of this text. The call makes one allocation, of 16 bytes plus the text,
-    /// rounded up to a multiple of 8. An empty text has a block too. Errors, in this order: `Length`, for a text of `2^63 - 25`
-    /// bytes or more; `Memory`, for an allocation failure. The caller has to ensure that `LIMIT` is at most `RC_MAX`.
+    /// Returns the first handle on a new block with a copy of this text. The call makes one allocation, of 16 bytes plus the text,
+    /// rounded up to a multiple of 8. An empty text has a block too. Errors, in this order: `Length`, for a text of `2^63 - 25` bytes
+    /// or more; `Memory`, for an allocation failure. The caller has to ensure that `LIMIT` is at most `RC_MAX`.
     ///
     /// ```
     /// let text = Shared::<5, _>::from_text(rt.alloc(), "aé")?;
@@ -39,8 +39,8 @@ impl<const LIMIT: u64, A: Allocator + Copy> Shared<LIMIT, A> {
         Ok(Shared::placed(blank.close(bytes), text.len(), alloc))
     }
 
-    /// The first handle on a new block with the text that `fill` leaves in `n` zero bytes. The call makes one allocation, before
-    /// the closure runs. The caller has to ensure that `LIMIT` is at most `RC_MAX`, and that the closure accepts `n` zero
+    /// Returns the first handle on a new block with the text that `fill` leaves in `n` zero bytes. The call makes one allocation,
+    /// before the closure runs. The caller has to ensure that `LIMIT` is at most `RC_MAX`, and that the closure accepts `n` zero
     /// bytes, unless `n` is too long.
     ///
     /// Errors, in this order: `Length`, for a length of `2^63 - 25` bytes or more, and `Memory`, for an allocation failure; after
@@ -82,8 +82,8 @@ impl<const LIMIT: u64, A: Allocator + Copy> Shared<LIMIT, A> {
         }
     }
 
-    /// The first handle on a new block with `n` copies of a text, joined. The call makes one allocation. Zero copies, and copies
-    /// of an empty text, have a block too. Errors, in this order: `Length`, for `2^63 - 25` bytes or more in all copies;
+    /// Returns the first handle on a new block with `n` copies of a text, joined. The call makes one allocation. Zero copies, and
+    /// copies of an empty text, have a block too. Errors, in this order: `Length`, for `2^63 - 25` bytes or more in all copies;
     /// `Memory`, for an allocation failure. The caller has to ensure that `LIMIT` is at most `RC_MAX`.
     ///
     /// ```
@@ -107,7 +107,7 @@ impl<const LIMIT: u64, A: Allocator + Copy> Shared<LIMIT, A> {
     }
 }
 
-/// The memory of a new block, whose word counts one handle, and the slots of its bytes.
+/// The memory of a new block, whose count word counts one handle, and the slots of its bytes.
 pub(crate) fn blank_block<A: Allocator + Copy>(
     alloc: A,
     len: usize,

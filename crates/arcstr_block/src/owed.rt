@@ -20,7 +20,7 @@ use std::marker::Model;
 /// }
 /// ```
 pub enum Down<A: Allocator> {
-    /// Its look found the block marked: the word is left as it is.
+    /// Its look found the block marked: the count word is left as it is.
     Ended,
     /// It was subtracted, but not as the last one.
     Left,
@@ -43,7 +43,7 @@ pub enum Down<A: Allocator> {
 /// ```
 pub struct Owed<A: Allocator> {
     pub(crate) pointer: Pointer<A>,
-    /// The word offset: how many bytes past the address of the block its word and the length of its text lie.
+    /// The word offset: how many bytes past the address of the block its count word and the length of its text lie.
     pub(crate) offset: usize,
     pub(crate) alloc: A,
     ghost right: { pointer.right ≡ owed },

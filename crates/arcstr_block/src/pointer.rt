@@ -1,9 +1,9 @@
 //! The pointer to a block. This module has every atomic step, and every pointer through which a block is read or stepped on.
-//! `word.rt` says what the number in the word means.
+//! `word.rt` says what the number in the count word means.
 //!
 //! A `Pointer` is one address when it runs. Its right, seat and history are ghost, and the proof of each function
-//! (`proofs/pointer/Pointer/NAME/Proof.antt`) moves them, so a body shows only the machine's step. Each step gets the
-//! word offset, `offset`: how many bytes past the address the word lies. `make` begins the history with `Make`, and `back`
+//! (`proofs/pointer/Pointer/NAME/Proof.antt`) moves them, so a body shows only the machine's step. Each step gets the word
+//! offset, `offset`: how many bytes past the address the count word lies. `make` begins the history with `Make`, and `back`
 //! ends it with `Back`; `IntoRaw` and `FromRaw` never occur in it.
 ghost use Rattle.std.specs.Prelude.{◌≡◌, ℕ, Bool, List, length, IsUtf8};
 ghost use Rattle.std.specs.Coded.{coded_list};
@@ -50,7 +50,7 @@ impl<A: Allocator> Model for Pointer<A> {
 impl<A: Allocator> Pointer<A> {
     ghost use Rattle.arcstr_block.specs.Same.{IsSameBlock, LoadedAs, LeakedAs, BegunAs, SubtractedAs};
 
-    /// The first pointer to a block, whose word counts only this pointer.
+    /// The first pointer to a block, whose count word counts only this pointer.
     pub(crate) fn make(block: Sole<A>) -> Pointer<A>
         ghost limit: { ℕ }
         requires word { block.word ≡ bits_of fresh_word }
@@ -75,7 +75,7 @@ impl<A: Allocator> Pointer<A> {
         unsafe { slice::from_raw_parts(self.at, len) }
     }
 
-    /// The text, of `len` bytes.
+    /// The text, of `len` bytes. It stands apart from `bytes`, which alone has a whole proof by hand.
     pub(crate) fn text(&self, len: usize) -> &str
         requires right { MaySee self.now.right }
         requires length { len ≡ length self.now.text }
@@ -109,7 +109,7 @@ impl<A: Allocator> Pointer<A> {
         )
     }
 
-    /// One compare-exchange, from `old` to its clone `new`: if it finds `old` or a marked word, the clone succeeds.
+    /// One compare-exchange, from `old` to its clone `new`: if it finds `old` or a marked count word, the clone succeeds.
     pub(crate) fn clone_exchange(&self, offset: usize, old: u64, new: u64) -> (u64, Pointer<A>)
         requires right { IsFree self.now.right }
         requires offset { offset ≡ word_offset (length self.now.text) }

@@ -1,4 +1,4 @@
-//! One handle on a block.
+//! One handle on a block. No call here allocates, and only `up` may wait.
 ghost use Rattle.std.specs.Prelude.{◌≡◌, ℕ, length, IsUtf8, ◌<◌, ◌≤◌, ◌+◌, MatchOption, IfOk, IfErr, IfSome};
 ghost use Rattle.arcstr_count.specs.Word.{bits_of, fresh_word};
 ghost use Rattle.arcstr_block.specs.Memory.{Fits};
@@ -32,12 +32,11 @@ pub(crate) struct Counted<const LIMIT: u64, A: Allocator + Copy> {
     ghost low: { IsLimit LIMIT },
 }
 
-/// One handle on a block, through which its text is read; the block stays while a handle on it is left. Contracts see the
-/// bytes of its text, its block's name, its own number in the block's history, and the limit on the block's count.
+/// One handle on a block, through which its text is read; the block stays while it has a handle. Contracts see the bytes of its text, its
+/// block's name, its own number in the block's history, and the limit on the block's count.
 ///
-/// A clone at a count above `LIMIT` marks the block, which is then permanent. A handle has 16 bytes where its allocator has
-/// none, and can be sent and shared where its allocator can. Its drop is `down`, and frees what is then owed. Of its
-/// functions only `up` may wait.
+/// A clone at a count above `LIMIT` marks the block, which is then permanent. A handle has 16 bytes where its allocator has none, and can be
+/// sent and shared where its allocator can. Its drop runs `down`, and frees the block if it was the last handle.
 ///
 /// ```
 /// let text = Shared::<5, _>::from_text(rt.alloc(), "aé")?;
@@ -80,7 +79,7 @@ impl<const LIMIT: u64, A: Allocator + Copy> Shared<LIMIT, A> {
         }
     }
 
-    /// The text. The call takes no atomic step, does not allocate, and loads nothing from the block.
+    /// Returns the text. Takes no atomic step, and loads nothing from the block.
     ///
     /// ```
     /// let text = Shared::<5, _>::from_text(rt.alloc(), "aé")?;
@@ -92,7 +91,7 @@ impl<const LIMIT: u64, A: Allocator + Copy> Shared<LIMIT, A> {
         self.handle.pointer.text(self.handle.len)
     }
 
-    /// The length of the text, in bytes. The call takes no atomic step and does not allocate.
+    /// Returns the length of the text, in bytes. Takes no atomic step.
     ///
     /// ```
     /// let text = Shared::<5, _>::from_text(rt.alloc(), "aé")?;
@@ -104,8 +103,8 @@ impl<const LIMIT: u64, A: Allocator + Copy> Shared<LIMIT, A> {
         self.handle.len
     }
 
-    /// One load: the number of living handles, from 1 to `LIMIT + 1`, or `None` at a marked block. The history that was seen
-    /// ends in this look. The call does not allocate.
+    /// Loads the count word. Returns the number of living handles, from 1 to `LIMIT + 1`, or `None` at a marked block, and the history seen,
+    /// which ends in this look.
     ///
     /// ```
     /// let text = Shared::<5, _>::from_text(rt.alloc(), "aé")?;
@@ -124,8 +123,7 @@ impl<const LIMIT: u64, A: Allocator + Copy> Shared<LIMIT, A> {
         (looked(found), seen)
     }
 
-    /// One load: the permanent block if the block is marked, else `None`. The history that was seen ends in this look. The call
-    /// does not allocate.
+    /// Loads the count word. Returns the permanent block if the block is marked, else `None`, and the history seen, which ends in this look.
     ///
     /// ```
     /// let text = Shared::<5, _>::from_text(rt.alloc(), "aé")?;
@@ -156,8 +154,7 @@ impl<const LIMIT: u64, A: Allocator + Copy> Shared<LIMIT, A> {
         }
     }
 
-    /// One fetch-or: the block is marked static, permanently. The call does not allocate, and the handle stays as it is. The
-    /// history that was seen ends in this mark.
+    /// Marks the block static, permanently, by one fetch-or. The handle stays as it is. The history seen ends in this mark.
     ///
     /// ```
     /// let text = Shared::<5, _>::from_text(rt.alloc(), "aé")?;
@@ -176,9 +173,9 @@ impl<const LIMIT: u64, A: Allocator + Copy> Shared<LIMIT, A> {
         }
     }
 
-    /// Another handle. The call does not allocate. It takes a load and, if the block is unmarked, a compare-exchange, which it
-    /// repeats when the word changed in between, so it may wait. An unmarked count above the limit sets the static flag, any
-    /// other unmarked count grows by one, and a marked word is left as it is.
+    /// Returns another handle. Takes a load and, if the block is unmarked, a compare-exchange, which it repeats when the count word changed in
+    /// between, so it may wait. At an unmarked count above the limit it sets the static flag, to any other unmarked count it adds one, and a
+    /// marked count word stays as it is.
     ///
     /// ```
     /// let text = Shared::<5, _>::from_text(rt.alloc(), "aé")?;
@@ -201,8 +198,8 @@ impl<const LIMIT: u64, A: Allocator + Copy> Shared<LIMIT, A> {
         Shared { handle }
     }
 
-    /// Another handle, as `up` makes it, with at most `tries` compare-exchanges, so the call never waits. It returns `None` if each
-    /// of them found that the word changed since the load or the exchange before it; then nothing is changed. It does not allocate.
+    /// Returns another handle, as `up` makes it, with at most `tries` compare-exchanges, so the call never waits. Returns `None`, and changes
+    /// nothing, if each of them found that the count word had changed since the load or the exchange before it.
     ///
     /// ```
     /// let text = Shared::<5, _>::from_text(rt.alloc(), "aé")?;
@@ -236,9 +233,8 @@ impl<const LIMIT: u64, A: Allocator + Copy> Shared<LIMIT, A> {
         handle
     }
 
-    /// The end of the handle, with which its drop begins: a load and, if the block is unmarked, a fetch-sub that lowers the count
-    /// by one. It returns how the handle ended, with what is owed if it was the last, which has to be freed by hand; and what was
-    /// seen of the history, which ends in that load or in that fetch-sub. The call does not allocate.
+    /// Ends the handle: a load and, if the block is unmarked, a fetch-sub that lowers the count by one. Returns how it ended, with the `Owed`
+    /// block if it was the last handle, which the caller must free, and the history seen, which ends in that step.
     ///
     /// ```
     /// let text = Shared::<5, _>::from_text(rt.alloc(), "aé")?;
@@ -283,7 +279,7 @@ impl<const LIMIT: u64, A: Allocator + Copy> Shared<LIMIT, A> {
 impl<const LIMIT: u64, A: Allocator + Copy> Counted<LIMIT, A> {
     ghost use Rattle.arcstr_block.specs.Same.{IsSameBlock, IsCloneOf};
 
-    /// The load of a clone: another handle if the block is marked, else the unmarked word that was found.
+    /// The load of a clone: another handle if the block is marked, else the unmarked count word that was found.
     fn find(&self) -> Result<Counted<LIMIT, A>, u64>
         ensures clone { IfOk result (λ clone. IsCloneOf clone.pointer self.now.pointer) }
         ensures unmarked { IfErr result IsUnmarked }
@@ -298,7 +294,7 @@ impl<const LIMIT: u64, A: Allocator + Copy> Counted<LIMIT, A> {
         }
     }
 
-    /// One try of a clone from the unmarked word `old`: another handle, or the unmarked word that was found.
+    /// One try of a clone from the unmarked count word `old`: another handle, or the unmarked count word that was found.
     fn exchange(&self, old: u64) -> Result<Counted<LIMIT, A>, u64>
         requires unmarked { IsUnmarked old }
         requires word { IsCountWord LIMIT old }
@@ -316,8 +312,8 @@ impl<const LIMIT: u64, A: Allocator + Copy> Counted<LIMIT, A> {
         }
     }
 
-    /// The exchanges of a clone after one that failed, until no other thread changes the word before one. They are out of line, so that the code
-    /// of a clone is short.
+    /// The exchanges of a clone after one that failed, until no other thread changes the count word before one. They are out of line, so that
+    /// the code of a clone is short.
     #[cold]
     #[inline(never)]
     fn exchange_until<R: Wait>(&self, rt: &R, old: u64) -> Counted<LIMIT, A>

@@ -1,5 +1,5 @@
-//! What the number in a word says, and what a clone makes of it: the operations of `arcstr_count::Word` on the number
-//! alone, which is all that a step knows of the word.
+//! What the number in a count word says, and what a clone makes of it: the operations of `arcstr_count::Word` on the
+//! number alone, which is all that a step knows of the count word.
 ghost use Rattle.std.specs.Prelude.{◌≡◌, ◌≤◌, IsTrue, ◌↔◌, MatchOption};
 ghost use Rattle.arcstr_count.specs.Word.{looked_of};
 ghost use Rattle.arcstr_block.specs.Word.{IsMarked, IsUnmarked, IsCountWord, IsClone, IsLast, word_of};
@@ -19,7 +19,7 @@ pub(crate) fn marked(word: u64) -> bool
     Word::from_bits(word).marked()
 }
 
-/// What a look finds: `None` at a marked word, else the count.
+/// What a look finds: `None` at a marked count word, else the count.
 pub(crate) fn looked(word: u64) -> Option<u64>
     ensures value { result ≡ looked_of (word_of word) }
     ensures marked { MatchOption result (IsMarked word) (λ _. IsUnmarked word) }
@@ -27,7 +27,7 @@ pub(crate) fn looked(word: u64) -> Option<u64>
     Word::from_bits(word).looked()
 }
 
-/// The word after a clone of an unmarked one.
+/// The count word after a clone of an unmarked one.
 pub(crate) fn next(limit: u64, old: u64) -> u64
     requires unmarked { IsUnmarked old }
     requires word { IsCountWord limit old }
@@ -37,7 +37,8 @@ pub(crate) fn next(limit: u64, old: u64) -> u64
     Word::from_bits(old).cloned(limit).bits()
 }
 
-/// Whether the word is unmarked with count 1, as the word of a new block is. A subtraction that found it was the last one.
+/// Whether the count word is unmarked with count 1, as the count word of a new block is. A subtraction that found it was
+/// the last one.
 pub(crate) fn is_count_of_one(word: u64) -> bool
     ensures { IsTrue result ↔ IsLast word }
 {

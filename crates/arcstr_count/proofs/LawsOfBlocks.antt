@@ -12,8 +12,8 @@ use Rattle.arcstr_count.specs.Marks.{is_marked, living, is_only}
 use Rattle.arcstr_count.specs.Answer.{is_accepted}
 use Rattle.arcstr_count.specs.Past.{IsPast, times_given}
 use Rattle.arcstr_count.specs.Left.{word_left, is_dropping, is_owing}
-use Rattle.arcstr_count.proofs.Counting.{one_if, held, Make_here, Make_elsewhere, Clone_here, Clone_elsewhere, changed_here, changed_elsewhere}
-use Rattle.arcstr_count.proofs.Counting.{dropping-le-living, some_held, is_only-living}
+use Rattle.arcstr_count.proofs.HandleCounts.{one_if, held, Make_here, Make_elsewhere, Clone_here, Clone_elsewhere, changed_here, changed_elsewhere}
+use Rattle.arcstr_count.proofs.HandleCounts.{dropping-le-living, some_held, is_only-living}
 use Rattle.arcstr_count.proofs.LawsOfHandles.{same_test, other_test, step_finds, ChangesOne, Begin-changes, Sub-changes, Back-changes}
 use Rattle.arcstr_count.proofs.LawsOfHandles.{IntoRaw-changes, FromRaw-changes}
 use Rattle.arcstr_count.proofs.Tables.{unmade_block, marked-Clone_other, given-Back, marked-Leak_other}

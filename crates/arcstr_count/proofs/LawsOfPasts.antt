@@ -16,7 +16,7 @@ use Rattle.arcstr_count.specs.Left.{word_left, is_dropping, dropping, owing, Sta
 use Rattle.arcstr_count.specs.OneBlock.{look_reply}
 use Rattle.arcstr_count.proofs.Pasts.{IsPast-past_from}
 use Rattle.arcstr_count.proofs.LawsOfHandles.{IsIn, step_finds, block_made}
-use Rattle.arcstr_count.proofs.Counting.{held, some_held, is_only-living}
+use Rattle.arcstr_count.proofs.HandleCounts.{held, some_held, is_only-living}
 use Rattle.arcstr_count.proofs.LawsOfBlocks.{Balanced, balance}
 
 -- ---- the word

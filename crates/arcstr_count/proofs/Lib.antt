@@ -3,7 +3,7 @@ pub mod Pasts
 pub mod LawsOfHandles
 pub mod Tables
 pub mod OneBlock
-pub mod Counting
+pub mod HandleCounts
 pub mod LawsOfBlocks
 pub mod Seats
 pub mod LawsOfPasts

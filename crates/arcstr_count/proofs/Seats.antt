@@ -11,7 +11,7 @@ use Rattle.arcstr_count.specs.Left.{is_dropping, is_owing}
 use Rattle.arcstr_count.specs.OneBlock.{Keeps}
 use Rattle.arcstr_count.proofs.Pasts.{IsPast-past_of}
 use Rattle.arcstr_count.proofs.LawsOfHandles.{block_made}
-use Rattle.arcstr_count.proofs.Counting.{held, is_held, count-same}
+use Rattle.arcstr_count.proofs.HandleCounts.{held, is_held, count-same}
 use Rattle.arcstr_count.proofs.LawsOfPasts.{count_bounded, one_owes, owes_alone}
 use Rattle.arcstr_count.proofs.OneBlock.{stands, made_one}
 

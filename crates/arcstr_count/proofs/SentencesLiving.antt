@@ -18,7 +18,7 @@ use Rattle.arcstr_count.specs.After.{living_after, dropping_after, owing_after}
 use Rattle.arcstr_count.specs.Sentences.{block_after, state_after, LivingSentence, UnderWaySentence}
 use Rattle.arcstr_count.proofs.SentencesTable.{handle_state_sentence}
 use Rattle.arcstr_count.proofs.Tables.{length-numbers_below}
-use Rattle.arcstr_count.proofs.Counting.{contains_passing}
+use Rattle.arcstr_count.proofs.HandleCounts.{contains_passing}
 
 -- ---- the numbers below another
 

@@ -30,7 +30,7 @@ given_after limit history b = times_given (past_of limit history) b
 abbrev pub word_after : ℕ → List Step → ℕ → FlagAndCount
 word_after limit history b = word_left limit (past_of limit history) b
 
--- the word stands for the living handles on the block
+-- the count word stands for the living handles on the block
 abbrev pub StandsAfter : ℕ → List Step → ℕ → FlagAndCount → Type 0
 StandsAfter limit history b w = Stands limit (past_of limit history) b w
 

@@ -11,10 +11,10 @@ ThenOrLater limit steps P =
 
 -- the six laws of every interleaving: each holds for any limit, any list of steps, any prefix of it and any block made in that prefix
 pub record HoldsInEveryInterleaving (limit : ℕ) (steps : List Step) : Type 0 where
-  -- each word that a prefix leaves stands for the living handles: its flag says whether the block is marked; unmarked, its
+  -- each count word that a prefix leaves stands for the living handles: its flag says whether the block is marked; unmarked, its
   -- count is how many live; marked, its count is at least how many are dropping and at most limit + 1
   pub words_stand : AtEachPrefix limit steps (λ prefix b. StandsAfter limit prefix b (word_after limit prefix b))
-  -- at most limit + 1 handles live on an unmarked block, and a look at its word finds exactly their number
+  -- at most limit + 1 handles live on an unmarked block, and a look at its count word finds exactly their number
   pub looks_exact : AtEachPrefix limit steps (λ prefix b. IsFalse (marked_after limit prefix b)
       → (length (living_after limit prefix b) ≤ limit + 1)
       × (looked_of (word_after limit prefix b) ≡ Some (length (living_after limit prefix b))))

@@ -1,4 +1,4 @@
--- The word that a history leaves on a block, and what it stands for.
+-- The count word that a history leaves on a block, and what it stands for.
 use Rattle.std.specs.Prelude.{◌≡◌, ℕ, ◌+◌, ◌≤◌, Bool, true, false, ◌&&◌, ◌==◌, if◌then◌else◌, IsTrue, IsFalse, List, [], ◌∷◌, length, filter}
 use Rattle.arcstr_count.specs.declared.steps.Step.{Step}
 use Rattle.arcstr_count.specs.declared.steps.Step.TheVariants.{Make, Clone, Sub, Leak}
@@ -8,7 +8,7 @@ use Rattle.arcstr_count.specs.Word.{FlagAndCount, fresh_word, cloned_of, dropped
 use Rattle.arcstr_count.specs.History.{makes, births, block_of, numbers_below}
 use Rattle.arcstr_count.specs.Marks.{is_marked, state_of, living}
 
--- the word that a past leaves on a block: fresh at its `Make`, then changed by each `Clone`, `Sub` and `Leak` on it
+-- the count word that a past leaves on a block: fresh at its `Make`, then changed by each `Clone`, `Sub` and `Leak` on it
 abbrev pub word_left : ℕ → List Step → ℕ → FlagAndCount
 word_left limit [] b = record { flag = false; count = 0 }
 word_left limit (Make ∷ p) b = if b == makes p then fresh_word else word_left limit p b
@@ -34,7 +34,7 @@ dropping limit p b = filter (λ h. (block_of p h == b) && is_dropping (state_of 
 abbrev pub owing : ℕ → List Step → ℕ → List ℕ
 owing limit p b = filter (λ h. (block_of p h == b) && is_owing (state_of limit p h)) (numbers_below (births p))
 
--- A word stands for a block after a past: its flag says whether the block is marked; unmarked, its count is the number
+-- A count word stands for a block after a past: its flag says whether the block is marked; unmarked, its count is the number
 -- of living handles; marked, its count is at least the number of dropping ones and at most limit + 1.
 pub record Stands (limit : ℕ) (p : List Step) (b : ℕ) (w : FlagAndCount) : Type 0 where
   pub flag : w.flag ≡ is_marked limit p b

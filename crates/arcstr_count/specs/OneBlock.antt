@@ -1,4 +1,4 @@
--- Histories of one block, beside its word and the states of its handles: what a running block keeps.
+-- Histories of one block, beside its count word and the states of its handles: what a running block keeps.
 use Rattle.std.specs.Prelude.{◌≡◌, ℕ, true, List, [], ◌∷◌, ◌++◌, map, reverse, Option, None, Some}
 use Rattle.arcstr_count.specs.declared.steps.Step.{Step}
 use Rattle.arcstr_count.specs.declared.steps.HandleState.{HandleState}
@@ -21,7 +21,7 @@ abbrev pub states_after : ℕ → List Step → List HandleState
 states_after limit history =
     map (λ h. state_of limit (past_of limit history) h) (numbers_below (births (past_of limit history)))
 
--- The word of the one block is the word that the history leaves, and the seats hold the states of its handles.
+-- The count word of the one block is the count word that the history leaves, and the seats hold the states of its handles.
 pub record Keeps (limit : ℕ) (history : List Step) (word : FlagAndCount) (seats : List HandleState) : Type 0 where
   pub one_block : IsOneBlock limit history
   pub left : word ≡ word_left limit (past_of limit history) 0

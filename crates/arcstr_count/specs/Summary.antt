@@ -34,16 +34,16 @@ blocks_of limit p = map (λ b. block_summary limit p b) (numbers_below (makes p)
 abbrev pub summary_of : ℕ → List Step → Summary
 summary_of limit p = record { limit = limit; handles = handles_of limit p; blocks = blocks_of limit p }
 
--- the word that a past leaves on each block that was made
+-- the count word that a past leaves on each block that was made
 abbrev pub words_left : ℕ → List Step → List FlagAndCount
 words_left limit p = map (λ b. word_left limit p b) (numbers_below (makes p))
 
--- what contracts see of a world: a summary, and a word for each block
+-- what contracts see of a world: a summary, and a count word for each block
 pub record WorldView : Type 0 where
   pub summary : Summary
   pub words : List FlagAndCount
 
--- the world stands for the history: its summary is the history's, and its words are those that the history leaves
+-- the world stands for the history: its summary is the history's, and its count words are those that the history leaves
 pub record StandsFor (w : WorldView) (history : List Step) : Type 0 where
   pub summary : w.summary ≡ summary_of w.summary.limit (past_of w.summary.limit history)
   pub words : w.words ≡ words_left w.summary.limit (past_of w.summary.limit history)

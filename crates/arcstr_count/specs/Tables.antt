@@ -37,11 +37,11 @@ abbrev pub handles_with_state : List HandleSummary → ℕ → HandleState → L
 handles_with_state handles h state =
     slice_set handles h (record { block = (slice_index_or handles h no_handle).block; state = state })
 
--- the block has another word
+-- the block has another count word
 abbrev pub blocks_with_word : List BlockEntry → ℕ → FlagAndCount → List BlockEntry
 blocks_with_word blocks b word = slice_set blocks b (record { word = word; given = (slice_index_or blocks b no_block).given })
 
--- the word of the block has the static flag
+-- the count word of the block has the static flag
 abbrev pub blocks_with_mark : List BlockEntry → ℕ → List BlockEntry
 blocks_with_mark blocks b = blocks_with_word blocks b (marked_of (slice_index_or blocks b no_block).word)
 

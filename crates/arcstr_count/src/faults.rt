@@ -1,4 +1,5 @@
-//! The faults: why a step is refused, and why a world or a run fails. Each has a number and a text.
+//! The faults: why a step is refused, and why a world or a run fails. Each has a number and a text, and is
+//! plain data: it may be copied, sent and shared, and its drop does nothing. No call here allocates.
 
 ghost use Rattle.std.specs.Prelude.{◌≡◌, Some};
 ghost use Rattle.arcstr_count.specs.Faults.{step_fault_number, run_fault_number, step_fault_text, run_fault_text};
@@ -9,7 +10,7 @@ use std::fmt;
 /// Why a step is refused. The state of the handle that the step names decides the fault. A handle has one
 /// state, so at most one fault applies. A fault is displayed as its name.
 ///
-/// Plain data of 1 byte: it may be copied, sent and shared, and its drop does nothing.
+/// Takes 1 byte.
 ///
 /// ```
 /// let replies = count::run(rt.alloc(), 2, &[Step::Make, Step::Sub(0)])?;
@@ -33,7 +34,7 @@ pub enum StepFault {
 }
 
 impl StepFault {
-    /// The number of the fault, counted from 1. A script's reply contains it. The call does not allocate.
+    /// Returns the number of the fault, counted from 1. A script's reply contains it.
     ///
     /// ```
     /// assert_eq!(rt; StepFault::NoHandle.number(), 1);
@@ -52,7 +53,7 @@ impl StepFault {
         }
     }
 
-    /// The name of the fault, as it is printed. The call does not allocate.
+    /// Returns the name of the fault, as it is printed.
     ///
     /// ```
     /// assert_eq!(rt; StepFault::IsRaw.name(), "IsRaw");
@@ -84,7 +85,7 @@ impl Error for StepFault {}
 /// Why a world cannot be made or a step cannot be taken. `LimitTooLarge` is tested first. Once a world exists,
 /// its only fault is `Memory`. A fault is displayed as its text.
 ///
-/// Plain data of 1 byte: it may be copied, sent and shared, and its drop does nothing.
+/// Takes 1 byte.
 ///
 /// ```
 /// let refused = World::new(rt.alloc(), RC_MAX + 1);
@@ -99,8 +100,8 @@ pub enum RunFault {
 }
 
 impl RunFault {
-    /// The number of the fault, counted from 1, for callers that pass faults on as numbers. In this repository
-    /// only tests read it. The call does not allocate.
+    /// Returns the number of the fault, counted from 1, for callers that pass faults on as numbers. In this
+    /// repository only tests read it.
     ///
     /// ```
     /// assert_eq!(rt; RunFault::LimitTooLarge.number(), 1);
@@ -115,7 +116,7 @@ impl RunFault {
         }
     }
 
-    /// The text of the fault, as it is printed. The call does not allocate.
+    /// Returns the text of the fault, as it is printed.
     ///
     /// ```
     /// assert_eq!(rt; RunFault::Memory.text(), "out of memory");

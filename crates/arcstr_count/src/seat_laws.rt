@@ -7,13 +7,13 @@ ghost use Rattle.arcstr_count.specs.OneBlock.{Keeps};
 use crate::steps::{HandleState, Step};
 use crate::words::Word;
 
-/// The law of a running block, whose word and seats are those of a history of one block: it has as many
-/// handles as the history. It does nothing when it runs: its clauses are its purpose. They say nothing
-/// where the word and the seats are not the history's.
+/// The law of a running block, whose count word and seats are those of a history of one block: it has as many
+/// handles as the history. It does nothing when it runs: its clauses are its purpose. They say nothing where
+/// the count word and the seats are not the history's.
 ///
-/// An unmarked word counts the seats of living handles. A marked word counts at least those of dropping
-/// handles. No count exceeds limit + 1. At most one seat owes; if one does, the word is unmarked with
-/// count 0 and no handle lives.
+/// An unmarked count word counts the seats of living handles. A marked count word counts at least those of
+/// dropping handles. No count exceeds limit + 1. At most one seat owes; if one does, the count word is unmarked
+/// with count 0 and no handle lives.
 ///
 /// ```
 /// let history = [Step::Make, Step::Clone(0), Step::Begin(1)];

@@ -1,4 +1,5 @@
-//! What handles do, what each act answers, and the state in which it leaves the handle.
+//! What handles do, what each act answers, and the state in which it leaves the handle. Each type is plain
+//! data: it may be copied, sent and shared, and its drop does nothing.
 
 use crate::faults::StepFault;
 
@@ -6,7 +7,7 @@ use crate::faults::StepFault;
 ///
 /// Handles are numbered from 0 in order of birth over all blocks: `Make` and `Clone` give birth.
 ///
-/// Plain data of 16 bytes: it may be copied, sent and shared, and its drop does nothing.
+/// Takes 16 bytes.
 ///
 /// ```
 /// let steps = [Step::Make, Step::Begin(0), Step::Sub(0)];
@@ -37,7 +38,7 @@ pub enum Step {
 
 /// What an accepted step answers, or why a step is refused.
 ///
-/// Plain data of 16 bytes: it may be copied, sent and shared, and its drop does nothing.
+/// Takes 16 bytes.
 ///
 /// ```
 /// let mut world = World::new(rt.alloc(), 2)?;
@@ -77,7 +78,7 @@ pub enum Reply {
 
 /// The state of a handle that was born. The handle lives while it is free, raw or dropping.
 ///
-/// Plain data of 1 byte: it may be copied, sent and shared, and its drop does nothing.
+/// Takes 1 byte.
 ///
 /// ```
 /// let history = [Step::Make, Step::Clone(0), Step::IntoRaw(1)];
@@ -100,7 +101,7 @@ pub enum HandleState {
 
 /// What the summary of a history keeps of a handle that was born. Contracts use it; no call returns one.
 ///
-/// Plain data of 16 bytes: it may be copied, sent and shared, and its drop does nothing.
+/// Takes 16 bytes.
 ///
 /// ```
 /// let state = HandleState::Free;

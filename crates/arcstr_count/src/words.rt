@@ -41,7 +41,7 @@ impl Model for Word {
 }
 
 impl Word {
-    /// The word of a new block: unmarked, with count 1.
+    /// Returns the count word of a new block: unmarked, with count 1.
     ///
     /// ```
     /// assert_eq!(rt; Word::one().count(), 1);
@@ -53,7 +53,8 @@ impl Word {
         Word { bits: 2 }
     }
 
-    /// The word that a number stands for: its lowest bit is the flag, and the other 63 bits are the count.
+    /// Returns the count word that a number stands for: its lowest bit is the flag, and the other 63 bits are
+    /// the count.
     ///
     /// ```
     /// let word = Word::from_bits(7);
@@ -66,7 +67,7 @@ impl Word {
         Word { bits }
     }
 
-    /// The number that stands for the word: twice the count, plus 1 if the flag is set.
+    /// Returns the number that stands for the count word: twice the count, plus 1 if the flag is set.
     ///
     /// ```
     /// assert_eq!(rt; Word::one().bits(), 2);
@@ -78,7 +79,7 @@ impl Word {
         self.bits
     }
 
-    /// Whether the block is marked static.
+    /// Returns whether the block is marked static.
     ///
     /// ```
     /// assert!(rt; Word::from_bits(3).marked());
@@ -90,7 +91,7 @@ impl Word {
         self.bits % 2 == 1
     }
 
-    /// The count, in handles. On an unmarked block it is the number of living handles.
+    /// Returns the count, in handles. On an unmarked block it is the number of living handles.
     ///
     /// ```
     /// assert_eq!(rt; Word::from_bits(6).count(), 3);
@@ -103,7 +104,7 @@ impl Word {
         self.bits / 2
     }
 
-    /// What a look finds: `None` at a marked word, else the count.
+    /// Returns what a look finds: `None` at a marked count word, else the count.
     ///
     /// ```
     /// assert_eq!(rt; Word::from_bits(6).looked(), Some(3));
@@ -119,8 +120,8 @@ impl Word {
         }
     }
 
-    /// The word after a clone. A marked word stays as it was; a word whose count is above the limit gets the
-    /// flag; any other word gets a count one higher. The limit has to be at most `RC_MAX`.
+    /// Returns the count word after a clone. A marked one stays as it was; one whose count is above the limit
+    /// gets the flag; any other count word gets a count one higher. The limit has to be at most `RC_MAX`.
     ///
     /// ```
     /// assert_eq!(rt; Word::from_bits(2).cloned(1), Word::from_bits(4));
@@ -139,8 +140,9 @@ impl Word {
         }
     }
 
-    /// The word after a subtraction, with a count one lower, and whether the subtraction was the last one: the
-    /// word was unmarked with count 1. The word has to count a handle: its count is above 0.
+    /// Returns the count word after a subtraction, with a count one lower, and whether the subtraction was the
+    /// last one: the count word was unmarked with count 1. The count word has to count a handle: its count is
+    /// above 0.
     ///
     /// ```
     /// let (word, last) = Word::one().dropped();
@@ -160,7 +162,7 @@ impl Word {
         )
     }
 
-    /// The word with the flag set. The count stays.
+    /// Returns the count word with the flag set. The count stays.
     ///
     /// ```
     /// assert_eq!(rt; Word::from_bits(6).with_mark(), Word::from_bits(7));

@@ -20,7 +20,7 @@ use std::marker::Model;
 
 /// Counted blocks and their handles, which answer one step at a time.
 ///
-/// A world keeps a table of states by the number of the handle, a table of words by the number of the
+/// A world keeps a table of states by the number of the handle, a table of count words by the number of the
 /// block, and the limit on the count of a block. A step takes constant time, except when a table grows. The
 /// tables take memory from the allocator, and the drop of the world frees it. A world can be sent and shared
 /// where its allocator can, and has 56 bytes where the allocator has none.
@@ -38,7 +38,7 @@ pub struct World<A: Allocator> {
     blocks: Vec<BlockEntry, A>,
 }
 
-/// The word of a block, and whether the block was freed.
+/// The count word of a block, and whether the block was freed.
 #[derive(Clone, Copy)]
 struct BlockEntry {
     word: Word,
@@ -57,8 +57,8 @@ impl<A: Allocator> Model for World<A> {
 }
 
 impl<A: Allocator + Copy> World<A> {
-    /// A world of the empty history, whose clones count up to the limit, in handles. The call does not allocate.
-    /// It fails only with `LimitTooLarge`, for a limit above `RC_MAX`.
+    /// Makes a world of the empty history, whose clones count up to the limit, in handles. The call does not
+    /// allocate. It fails only with `LimitTooLarge`, for a limit above `RC_MAX`.
     ///
     /// ```
     /// assert!(rt; World::new(rt.alloc(), RC_MAX).is_ok());
@@ -114,8 +114,8 @@ impl<A: Allocator + Copy> World<A> {
         }
     }
 
-    /// How often the block with this number was freed: 0 or 1 times, and 0 for a block that was never made.
-    /// The call does not allocate.
+    /// Returns how often the block with this number was freed: 0 or 1 times, and 0 for a block that was never
+    /// made. The call does not allocate.
     ///
     /// ```
     /// let mut world = World::new(rt.alloc(), 2)?;
@@ -323,7 +323,8 @@ fn given_by_entry(entry: Option<BlockEntry>) -> u64
     }
 }
 
-/// The next state of a free handle whose drop looks at this word, and the reply. At a marked word it ends.
+/// The next state of a free handle whose drop looks at this count word, and the reply. At a marked count word it
+/// ends.
 fn after_begin(word: Word) -> (HandleState, Reply)
     ensures state { result.0 ≡ (if word.flag then HandleState.Gone else HandleState.Dropping) }
     ensures reply { result.1 ≡ (if word.flag then Reply.Ended else Reply.Looked) }
@@ -382,7 +383,7 @@ fn push_handle<A: Allocator>(handles: &mut Vec<HandleSummary, A>, block: u64) ->
     number
 }
 
-/// The entry of a table at a number; `None` past the end of the table.
+/// The entry of a table at a number; `None` past the end of the table. The proofs of `known_handle` and `given` cite it.
 fn entry_at<T: Copy>(table: &[T], number: u64) -> Option<T>
     ensures { result ≡ slice_get table.now number }
 {
@@ -405,7 +406,7 @@ fn set_state<A: Allocator>(handles: &mut Vec<HandleSummary, A>, handle: u64, sta
     handles[handle as usize].state = state;
 }
 
-/// Sets the word of a block.
+/// Sets the count word of a block.
 fn set_word<A: Allocator>(blocks: &mut Vec<BlockEntry, A>, block: u64, word: Word)
     requires { block < vec_len blocks.old }
     ensures { blocks.new.items ≡ blocks_with_word blocks.old.items block word }

@@ -107,17 +107,17 @@ IsPart-trim_start old new utf8 trims =
 IsPart-trim_end : (old new : View) → IsUtf8 old.text → TrimsEnd old new → IsPart old new
 IsPart-trim_end old new utf8 trims =
     let rest = encode_utf8_all trims.rest in
-    let back = encode_utf8_all trims.back in
-    let whole = halves_join_to_text old.text trims.rest trims.back utf8 trims.removed.split in
+    let suffix = encode_utf8_all trims.suffix in
+    let whole = halves_join_to_text old.text trims.rest trims.suffix utf8 trims.removed.split in
     record {
       start = 0;
       end = length rest;
       sliced = record {
         in_order = omega arith;
-        within = omega (arith, ap length whole, length-append rest back);
-        at_boundaries = (IsCharBoundary-start old.text utf8, seam old.text trims.rest trims.back utf8 trims.removed.split);
+        within = omega (arith, ap length whole, length-append rest suffix);
+        at_boundaries = (IsCharBoundary-start old.text utf8, seam old.text trims.rest trims.suffix utf8 trims.removed.split);
       };
-      text = between_is old.text 0 (length rest) ∙ ap (take (length rest)) whole ∙ take_at rest back (length rest) refl ∙ sym trims.text;
+      text = between_is old.text 0 (length rest) ∙ ap (take (length rest)) whole ∙ take_at rest suffix (length rest) refl ∙ sym trims.text;
       place = omega (arith, trims.place);
     }
 

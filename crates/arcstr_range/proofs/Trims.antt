@@ -3,7 +3,7 @@ use Rattle.std.proofs.Common.{◌≡◌, ◌+◌, ◌-◌, length, ap, arith, le
 use Rattle.std.specs.Prelude.{encode_utf8_all}
 use Rattle.std.specs.Str.{IsUtf8, chars, skip_leading_whitespace, drop_trailing_whitespace, trim_start, trim_end}
 use Rattle.arcstr_range.proofs.Boundaries.{halves_join_to_text}
-use Rattle.arcstr_range.proofs.WhiteSpace.{IsLongestWhitePrefix-skip, IsLongestWhiteBack-drop}
+use Rattle.arcstr_range.proofs.WhiteSpace.{IsLongestWhitePrefix-skip, IsLongestWhiteSuffix-drop}
 use Rattle.arcstr_range.specs.Trim.{TrimsStart, TrimsEnd}
 use Rattle.arcstr_range.specs.View.{View}
 
@@ -26,10 +26,10 @@ TrimsStart-trim_start old new utf8 text place =
 pub TrimsEnd-trim_end : (old new : View) → new.text ≡ trim_end old.text → new.place ≡ old.place → TrimsEnd old new
 unfolding trim_end
 TrimsEnd-trim_end old new text place =
-    let dropped = IsLongestWhiteBack-drop (chars old.text) in
+    let dropped = IsLongestWhiteSuffix-drop (chars old.text) in
     record {
       rest = drop_trailing_whitespace (chars old.text);
-      back = dropped.0;
+      suffix = dropped.0;
       removed = dropped.1;
       text = text;
       place = place;

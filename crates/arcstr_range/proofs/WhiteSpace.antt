@@ -6,7 +6,7 @@ use Rattle.std.specs.List.{AllPass}
 use Rattle.std.specs.Str.{skip_leading_whitespace, drop_trailing_whitespace}
 use Rattle.std.proofs.lemmas.Bool.{and_parts}
 use Rattle.std.proofs.lemmas.Bool.Decides.{nat_tests}
-use Rattle.arcstr_range.specs.Trim.{IsLongestWhitePrefix, IsLongestWhiteBack}
+use Rattle.arcstr_range.specs.Trim.{IsLongestWhitePrefix, IsLongestWhiteSuffix}
 
 abbrev AreWhite : List ℕ → Type 0
 AreWhite = AllPass is_whitespace
@@ -65,50 +65,50 @@ end_is_short : (cs others_rest other : List ℕ) → cs ≡ others_rest ++ other
 end_is_short cs others_rest other e = omega (arith, ap length e, length-append others_rest other)
 
 -- the longest white suffix after one more character is added, if only white space follows that character
-all_back : (c : ℕ) (cs rest back : List ℕ) → is_whitespace c ≡ true → length rest ≡ 0 → IsLongestWhiteBack cs rest back → IsLongestWhiteBack (c ∷ cs) [] (c ∷ back)
-all_back c cs [] back white empty h =
+all_suffix : (c : ℕ) (cs rest suffix : List ℕ) → is_whitespace c ≡ true → length rest ≡ 0 → IsLongestWhiteSuffix cs rest suffix → IsLongestWhiteSuffix (c ∷ cs) [] (c ∷ suffix)
+all_suffix c cs [] suffix white empty h =
     record {
       split = ap (λ l. c ∷ l) h.split;
-      white = AreWhite-cons c back white h.white;
+      white = AreWhite-cons c suffix white h.white;
       longest = λ others_rest other e w. let short = end_is_short (c ∷ cs) others_rest other e in omega (arith, short, ap length h.split);
     }
-all_back c cs (x ∷ rest) back white empty h = absurd (omega arith)
+all_suffix c cs (x ∷ rest) suffix white empty h = absurd (omega arith)
 
 -- otherwise that suffix does not grow
-same_back : (c : ℕ) (cs rest back : List ℕ) → (is_whitespace c ≡ false) ⊎ (0 < length rest) → IsLongestWhiteBack cs rest back
-    → (others_rest other : List ℕ) → c ∷ cs ≡ others_rest ++ other → AreWhite other → length other ≤ length back
-same_back c cs rest back kept h [] [] e w = omega arith
-same_back c cs rest back (inl black) h [] (o ∷ other) e w =
+same_suffix : (c : ℕ) (cs rest suffix : List ℕ) → (is_whitespace c ≡ false) ⊎ (0 < length rest) → IsLongestWhiteSuffix cs rest suffix
+    → (others_rest other : List ℕ) → c ∷ cs ≡ others_rest ++ other → AreWhite other → length other ≤ length suffix
+same_suffix c cs rest suffix kept h [] [] e w = omega arith
+same_suffix c cs rest suffix (inl black) h [] (o ∷ other) e w =
     let same : c ≡ o = cc in
     let first = AreWhite-first o other w in
     absurd (cc)
-same_back c cs rest back (inr more) h [] (o ∷ other) e w =
+same_suffix c cs rest suffix (inr more) h [] (o ∷ other) e w =
     let same : cs ≡ other = cc in
     let short = h.longest [] other same (AreWhite-rest o other w) in
-    absurd (omega (arith, more, short, ap length same, ap length h.split, length-append rest back))
-same_back c cs rest back kept h (x ∷ others_rest) other e w = h.longest others_rest other (cc) w
+    absurd (omega (arith, more, short, ap length same, ap length h.split, length-append rest suffix))
+same_suffix c cs rest suffix kept h (x ∷ others_rest) other e w = h.longest others_rest other (cc) w
 
 kept_by : (white : Bool) (n : ℕ) → (white && nat_eq n 0) ≡ false → (white ≡ false) ⊎ (0 < n)
 kept_by false n kept = inl refl
 kept_by true n kept = inr (grind (arith, nat_tests))
 
-back_of_more : (b : Bool) (c : ℕ) (cs rest : List ℕ) → (is_whitespace c && nat_eq (length rest) 0) ≡ b
-    → (back : List ℕ) × IsLongestWhiteBack cs rest back
-    → (back : List ℕ) × IsLongestWhiteBack (c ∷ cs) (cond b [] (c ∷ rest)) back
-back_of_more true c cs rest all_white (back, h) =
+suffix_of_more : (b : Bool) (c : ℕ) (cs rest : List ℕ) → (is_whitespace c && nat_eq (length rest) 0) ≡ b
+    → (suffix : List ℕ) × IsLongestWhiteSuffix cs rest suffix
+    → (suffix : List ℕ) × IsLongestWhiteSuffix (c ∷ cs) (cond b [] (c ∷ rest)) suffix
+suffix_of_more true c cs rest all_white (suffix, h) =
     let parts = and_parts (is_whitespace c) (nat_eq (length rest) 0) all_white in
-    (c ∷ back, all_back c cs rest back parts.0 (grind (arith, nat_tests, parts.1)) h)
-back_of_more false c cs rest kept (back, h) = (
-  back,
+    (c ∷ suffix, all_suffix c cs rest suffix parts.0 (grind (arith, nat_tests, parts.1)) h)
+suffix_of_more false c cs rest kept (suffix, h) = (
+  suffix,
   record {
     split = ap (λ l. c ∷ l) h.split;
     white = h.white;
-    longest = same_back c cs rest back (kept_by (is_whitespace c) (length rest) kept) h;
+    longest = same_suffix c cs rest suffix (kept_by (is_whitespace c) (length rest) kept) h;
   },
 )
 
 -- `drop_trailing_whitespace` drops the longest white suffix
-pub IsLongestWhiteBack-drop : (cs : List ℕ) → (back : List ℕ) × IsLongestWhiteBack cs (drop_trailing_whitespace cs) back
-IsLongestWhiteBack-drop [] =
+pub IsLongestWhiteSuffix-drop : (cs : List ℕ) → (suffix : List ℕ) × IsLongestWhiteSuffix cs (drop_trailing_whitespace cs) suffix
+IsLongestWhiteSuffix-drop [] =
     ([], record { split = refl; white = AreWhite-nil; longest = λ others_rest other e w. end_is_short [] others_rest other e })
-IsLongestWhiteBack-drop (c ∷ cs) = back_of_more _ c cs (drop_trailing_whitespace cs) refl (IsLongestWhiteBack-drop cs)
+IsLongestWhiteSuffix-drop (c ∷ cs) = suffix_of_more _ c cs (drop_trailing_whitespace cs) refl (IsLongestWhiteSuffix-drop cs)

@@ -1,4 +1,4 @@
--- Texts, their boundaries and their slices. A text is the list of the bytes of a `&str`, which spell its characters, and a place in it is a byte offset.
+-- Texts, their boundaries and their slices. A text is the list of the bytes of a `&str`, which spell its characters, and offsets into it count bytes.
 -- Boundaries are those of Rust's `str::is_char_boundary`.
 use Rattle.std.specs.Prelude.{◌≡◌, ℕ, List, ◌++◌, length, slice_range, encode_utf8_all}
 use Rattle.std.specs.Str.{chars}

@@ -11,11 +11,11 @@ pub record IsLongestWhitePrefix (characters prefix rest : List ℕ) : Type 0 whe
   pub white : AllPass is_whitespace prefix
   pub longest : (other others_rest : List ℕ) → characters ≡ other ++ others_rest → AllPass is_whitespace other → length other ≤ length prefix
 
--- `back` is the longest suffix of the characters that is all white space, and the rest precedes it
-pub record IsLongestWhiteBack (characters rest back : List ℕ) : Type 0 where
-  pub split : characters ≡ rest ++ back
-  pub white : AllPass is_whitespace back
-  pub longest : (others_rest other : List ℕ) → characters ≡ others_rest ++ other → AllPass is_whitespace other → length other ≤ length back
+-- `suffix` is the longest suffix of the characters that is all white space, and the rest precedes it
+pub record IsLongestWhiteSuffix (characters rest suffix : List ℕ) : Type 0 where
+  pub split : characters ≡ rest ++ suffix
+  pub white : AllPass is_whitespace suffix
+  pub longest : (others_rest other : List ℕ) → characters ≡ others_rest ++ other → AllPass is_whitespace other → length other ≤ length suffix
 
 -- the new view is the old one without the longest prefix of white space, and its place moves by the bytes of that prefix
 pub record TrimsStart (old new : View) : Type 0 where
@@ -28,8 +28,8 @@ pub record TrimsStart (old new : View) : Type 0 where
 -- the new view is the old one without the longest suffix of white space, at the old place
 pub record TrimsEnd (old new : View) : Type 0 where
   pub rest : List ℕ
-  pub back : List ℕ
-  pub removed : IsLongestWhiteBack (chars old.text) rest back
+  pub suffix : List ℕ
+  pub removed : IsLongestWhiteSuffix (chars old.text) rest suffix
   pub text : new.text ≡ encode_utf8_all rest
   pub place : new.place ≡ old.place
 

@@ -13,7 +13,7 @@ pub record IsCharacterBetween (text : List ℕ) (start end : ℕ) (white : Bool)
   pub alone : chars (cut text start end) ≡ character ∷ []
   pub kind : is_whitespace character ≡ white
 
--- a byte is a visible ASCII character or the delete character (127)
+-- a byte above the space (32) and below 128: a visible ASCII character, or the delete character (127)
 abbrev pub is_visible : ℕ → Bool
 is_visible byte = nat_lt 32 byte && nat_lt byte 128
 

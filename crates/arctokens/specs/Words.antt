@@ -1,4 +1,4 @@
--- The words of a text: its longest runs of characters that are not white space. A text is the list of its bytes, and a place in it is a byte offset. White
+-- The words of a text: its longest runs of characters that are not white space. A text is the list of its bytes, and offsets into it count bytes. White
 -- space is that of Rust's `char::is_whitespace`.
 use Rattle.std.specs.Prelude.{◌≡◌, ◌⊎◌, ℕ, ◌<◌, List, [], ◌∷◌, ◌++◌, length, Bool, true, IsFalse, All, AllPairs, Contains}
 use Rattle.std.specs.Char.{is_whitespace}

@@ -173,7 +173,7 @@ fn piece_of<R: Wait, G: Gate>(
     Ok(lists)
 }
 
-/// Returns the tokens of the text with this number.
+/// Returns the tokens of the text with this number. The proof of `piece_of` cites it.
 fn tokens_of_one<R: Wait>(
     rt: &R,
     alloc: Global,

@@ -10,7 +10,7 @@ use super::reply::push_reply;
 use arcstr::count::{RunFault, World};
 use std::alloc::Allocator;
 
-/// The answer to a script: `bad limit` if its first line sets no limit, else a line for each of the
+/// Returns the answer to a script: `bad limit` if its first line sets no limit, else a line for each of the
 /// other lines, with the reply to its step or `bad`.
 ///
 /// The call fails with `LimitTooLarge` exactly if the limit is above `RC_MAX`, and with `Memory` only if an

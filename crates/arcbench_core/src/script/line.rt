@@ -64,7 +64,7 @@ fn step_named(command: &[u8], handle: u64) -> Option<Step>
 /// The bytes before the first `byte` and those after it; if there is none, all bytes and no bytes.
 fn parts_around(bytes: &[u8], byte: u8) -> (&[u8], &[u8])
     ensures prefix { result.0.now ≡ before_first (λ b. b == byte) bytes.now }
-    ensures back { result.1.now ≡ after_first (λ b. b == byte) bytes.now }
+    ensures rest { result.1.now ≡ after_first (λ b. b == byte) bytes.now }
 {
     match index_of(bytes, byte) {
         Some(i) => (&bytes[..i], &bytes[i + 1..]),

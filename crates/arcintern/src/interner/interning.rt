@@ -14,10 +14,10 @@ use std::hash::BuildHasher;
 use std::sync::Wait;
 
 impl<S: BuildHasher> Interner<S> {
-    /// The symbol of the text that spells this word. If there is none, a copy of the word becomes the last text: that allocates the
-    /// copy, which an empty word does not need, and more room if the table is full. A word that is there is never refused. Another one is
-    /// refused, in this order: by an interner of `MOST_TEXTS` texts (`Full`), if it has `2^63 - 25` bytes or more (`Length`), and out of
-    /// memory (`Memory`). A refused call leaves the texts as they were.
+    /// Returns the symbol of the text that spells this word. If there is none, a copy of the word becomes the last text: that allocates
+    /// the copy, which an empty word does not need, and more room if the table is full. A word that is there is never refused. Another
+    /// one is refused, in this order: by an interner of `MOST_TEXTS` texts (`Full`), if it has `2^63 - 25` bytes or more (`Length`), and
+    /// out of memory (`Memory`). A refused call leaves the texts as they were.
     ///
     /// ```
     /// let mut interner = Interner::new(rt.alloc());
@@ -45,9 +45,9 @@ impl<S: BuildHasher> Interner<S> {
         }
     }
 
-    /// The symbol of the text that spells the same as this one. If there is none, a clone of this text becomes the last: that takes the
-    /// steps of `ArcStr::clone`, which can wait, and it allocates if the table is full. A text that is there is never refused. Another
-    /// one is refused, in this order: by an interner of `MOST_TEXTS` texts (`Full`), and out of memory (`Memory`). A refused call
+    /// Returns the symbol of the text that spells the same as this one. If there is none, a clone of this text becomes the last: that
+    /// takes the steps of `ArcStr::clone`, which can wait, and it allocates if the table is full. A text that is there is never refused.
+    /// Another one is refused, in this order: by an interner of `MOST_TEXTS` texts (`Full`), and out of memory (`Memory`). A refused call
     /// leaves the texts as they were.
     ///
     /// ```
@@ -74,9 +74,9 @@ impl<S: BuildHasher> Interner<S> {
         }
     }
 
-    /// The symbol of the text that spells the same as this slice. If there is none, the last text becomes a clone of the slice's parent
-    /// where the slice is all of it, as by `intern_arc`, and else a copy of the slice, as by `intern`. So a slice keeps no longer text
-    /// alive. Refused as these two are.
+    /// Returns the symbol of the text that spells the same as this slice. If there is none, the last text becomes a clone of the slice's
+    /// parent where the slice is all of it, as by `intern_arc`, and else a copy of the slice, as by `intern`. So a slice keeps no longer
+    /// text alive. Refused as these two are.
     ///
     /// ```
     /// let mut interner = Interner::new(rt.alloc());

@@ -9,7 +9,7 @@ use std::hash::BuildHasher;
 use std::ops::Index;
 
 impl<S: BuildHasher> Interner<S> {
-    /// The symbol of the text that spells this word. `None` where there is none.
+    /// Returns the symbol of the text that spells this word, or `None` if there is none.
     ///
     /// ```
     /// let mut interner = Interner::new(rt.alloc());
@@ -26,7 +26,8 @@ impl<S: BuildHasher> Interner<S> {
         Some(Symbol::at(index))
     }
 
-    /// The text of the symbol. `None` where the interner has fewer texts: the symbol is another interner's.
+    /// Returns the text of the symbol, or `None` if the interner has fewer texts: the symbol is another
+    /// interner's.
     ///
     /// ```
     /// let mut interner = Interner::new(rt.alloc());

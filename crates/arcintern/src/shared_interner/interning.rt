@@ -16,10 +16,10 @@ use std::hash::BuildHasher;
 use std::sync::Wait;
 
 impl<S: BuildHasher> SharedInterner<S> {
-    /// The symbol of the text that spells this word. If there is none, a copy of the word becomes a text: that allocates the copy, which
-    /// an empty word does not need, and room where a table or the list is full. A word that is there is never refused. Another one is
-    /// refused, in this order: where its shard has no number left (`Full`), if it has `2^63 - 25` bytes or more (`Length`), and out of
-    /// memory (`Memory`). A refused call adds no text.
+    /// Returns the symbol of the text that spells this word. If there is none, a copy of the word becomes a text: that allocates the
+    /// copy, which an empty word does not need, and room where a table or the list is full. A word that is there is never refused.
+    /// Another one is refused, in this order: where its shard has no number left (`Full`), if it has `2^63 - 25` bytes or more
+    /// (`Length`), and out of memory (`Memory`). A refused call adds no text.
     ///
     /// ```
     /// let interner = SharedInterner::new(rt.alloc(), 8)?;
@@ -34,8 +34,9 @@ impl<S: BuildHasher> SharedInterner<S> {
         self.interned(rt, word, None)
     }
 
-    /// The symbol of the text that spells the same as this one. If there is none, a clone of this text becomes a text: that takes the
-    /// steps of `ArcStr::clone`, and allocates where a table or the list is full. Refused as `intern` is, but never for its length.
+    /// Returns the symbol of the text that spells the same as this one. If there is none, a clone of this text becomes a text: that
+    /// takes the steps of `ArcStr::clone`, and allocates where a table or the list is full. Refused as `intern` is, but never for its
+    /// length.
     ///
     /// ```
     /// let interner = SharedInterner::new(rt.alloc(), 8)?;
@@ -51,9 +52,9 @@ impl<S: BuildHasher> SharedInterner<S> {
         self.interned(rt, text.as_str(), Some(text))
     }
 
-    /// The symbol of the text that spells the same as this slice. If there is none, a clone of the slice's parent becomes a text where
-    /// the slice is all of it, as by `intern_arc`, and else a copy of the slice, as by `intern`. So a slice keeps no longer text alive.
-    /// Refused as these two are.
+    /// Returns the symbol of the text that spells the same as this slice. If there is none, a clone of the slice's parent becomes a text
+    /// where the slice is all of it, as by `intern_arc`, and else a copy of the slice, as by `intern`. So a slice keeps no longer text
+    /// alive. Refused as these two are.
     ///
     /// ```
     /// let interner = SharedInterner::new(rt.alloc(), 8)?;
@@ -74,7 +75,7 @@ impl<S: BuildHasher> SharedInterner<S> {
         }
     }
 
-    /// The symbol of the text that spells this word. `None` where there was none when the call took the lock. It does not allocate.
+    /// Returns the symbol of the text that spells this word, or `None` if there was none when the call took the lock. Does not allocate.
     ///
     /// ```
     /// let interner = SharedInterner::new(rt.alloc(), 8)?;

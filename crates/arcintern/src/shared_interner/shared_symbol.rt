@@ -62,7 +62,7 @@ impl SharedSymbol {
         }
     }
 
-    /// The number alone. `SharedInterner::symbol_at` answers the symbol of a number.
+    /// Returns the number alone. `SharedInterner::symbol_at` returns the symbol with a number.
     ///
     /// ```
     /// let interner = SharedInterner::new(rt.alloc(), 1)?;
@@ -75,7 +75,7 @@ impl SharedSymbol {
         self.number
     }
 
-    /// The same symbol once more.
+    /// Returns the same symbol once more.
     ///
     /// ```
     /// let interner = SharedInterner::new(rt.alloc(), 8)?;

@@ -37,7 +37,7 @@ use Rattle.arcstr_block.specs.Memory.{Fits, block_size, block_type, rooms, word_
 use Rattle.arcstr_block.specs.contracts.block.Blank as N
 use Rattle.arcstr_block.proofs.Fields.{pointer_val, typed, Words, made}
 use Rattle.arcstr_block.proofs.Memory.{byte_laws, block_bytes, block_align, spreads}
-use Rattle.arcstr_block.proofs.Places.{Bytes, byte, R, MakeContract, at_makes, IsMade, makes_goes, makes_gives, words_typed}
+use Rattle.arcstr_block.proofs.Places.{Bytes, byte, R, MakeContract, at_makes, IsSlotsMade, makes_goes, makes_gives, words_typed}
 use Rattle.arcstr_block.specs.contracts.block.Blank.make.{ended, clauses}
 use Rattle.arcstr_block.specs.contracts.block.Blank.make.Key.{name as #self}
 use Rattle.arcstr_block.proofs.block.Blank.make.Statement.{statement}
@@ -149,7 +149,7 @@ make_spec 𝓤 𝓛 𝓜 𝓡 wired Y K g d dd met md =
     use1 𝓛 (raw (Row.pre x)) (makes_goes 𝓛 𝓜.mem 𝓡.returns b o n zs fs long (long ∙ sym (length-replicate (length zs) false)) (omega arith)) $
     calls_at ! (fm 𝓛 𝓜 𝓡) Row (callee.met 𝓤 𝓛 𝓜 𝓡 (code.calls-core::slots::Slots::from_raw_parts 𝓡.env wired) u8 byte_laws) x (and_then ! (get ! refl)
     (and_then ! (get ! refl) (no_more !))) (λ v.
-    use1 𝓛 (later (some (λ (r : Slots ℕ). given (IsMade 𝓛 𝓜.mem 𝓡.returns b o n zs fs r ×
+    use1 𝓛 (later (some (λ (r : Slots ℕ). given (IsSlotsMade 𝓛 𝓜.mem 𝓡.returns b o n zs fs r ×
     (v ≡ words_val (block_ptr b o) n)) (‵ (Bytes.own_val r (v ∷ [])))))) (makes_gives 𝓛 𝓜.mem 𝓡.returns b o n zs fs v) $ await ! tt $ pick ! (λ r.
     learn ! (λ is.
     let wv : Val = words_val (block_ptr b o) n in let wt = words_typed (block_ptr b o) n fit_n.fits in

@@ -21,6 +21,7 @@ use Rattle.arcstr_block.proofs.StepFrames as framed
 use Rattle.arcstr_count.specs.declared.steps.HandleState.TheVariants.{Free}
 use Rattle.arcstr_block.specs.Book.{seat_share}
 use Rattle.arcstr_block.proofs.CloneSteps.{raises as turn_raises}
+use Rattle.arcstr_block.proofs.Words.{IsMarkedOr}
 use Rattle.arcstr_block.proofs.Rights as rights
 use Rattle.arcstr_block.proofs.Steps as steps
 use Rattle.arcstr_block.proofs.WordChanges as changes
@@ -125,7 +126,7 @@ clone_exchange_spec 𝓤 𝓛 𝓜 𝓡 wired Y K g d dd met md =
     fsplit ! $ move ! (1 ∷ []) $ fsplit ! $
     -- [the token; the seat; the open borrows; what is known; the invariant; what is shared; the prefix; the others]
     move ! (4 ∷ []) $ use1 𝓛 (‵ (finv I) ⊛ ‵ (finv I)) (𝓛.invs.inv_dup I) $ split ! $
-    let said : ℕ → Fml = λ n. fsep Mine (rights.newborn 𝓛 P lim pb po t s sl (rights.Event 𝓛 P lim pb po t s sl old new n)) in
+    let said : ℕ → Fml = λ n. fsep Mine (rights.newborn 𝓛 P lim pb po t s sl (IsMarkedOr old n)) in
     -- [the invariant, twice; the token; the seat; the open borrows; what is known; what is shared; the prefix; the others]
     move ! (0 ∷ 2 ∷ 3 ∷ []) $ let after : ℕ → Fml = steps.all_after 𝓛 P lim pb po t (changes.exchanged 𝓛 P lim pb po t u old new asked)
     (changes.Raised 𝓛 P lim pb po t u old new asked) (changes.Tok 𝓛 P lim pb po t u) (flft af u) said in

@@ -102,7 +102,7 @@ load_spec 𝓤 𝓛 𝓜 𝓡 wired Y K g d dd met md =
     move ! (5 ∷ []) $ fsplit ! $ fpick ! (λ named. drop ! $
     -- [the prefix; the gain; the tokens; what is said; the invariant; what is shared]
     let got = steps_of.loaded 𝓛 P lim pb po t s sl h.seat clones n h.history w ok.2 ok.3 in let k : Right = got.right in
-    move ! (1 ∷ 5 ∷ 3 ∷ 0 ∷ []) $ types.Kit.group ! 4 $ use1 𝓛 (later (‵ (steps_of.After 𝓛 P lim pb po t s sl h.seat clones n k))) got.turns $ await ! tt $
+    move ! (1 ∷ 5 ∷ 3 ∷ 0 ∷ []) $ types.Kit.group ! 4 $ use1 𝓛 (later (‵ (steps_of.AfterLoad 𝓛 P lim pb po t s sl h.seat clones n k))) got.turns $ await ! tt $
     fpick ! (λ x. let j : ℕ = x.0 in let r' : List Step = x.1 in fsplit3 ! $ fpick ! (λ ends. drop ! $
     -- [the prefix; the right; the tokens; the invariant]
     let h' : Row.Denot = record h { right = k; seat = j; history = r' } in let r : Val = found_val n p in

@@ -22,7 +22,7 @@ use Rattle.arcstr_count.specs.declared.steps.Reply.TheVariants.{Owes, Left}
 use Rattle.arcstr_count.specs.OneBlock.{EndsIn}
 use Rattle.arcstr_block.specs.Book.{seat, Ends}
 use Rattle.arcstr_block.proofs.Book.{book_sub, left_in, sub_reply}
-use Rattle.arcstr_block.proofs.Words.{last_two, not_last}
+use Rattle.arcstr_block.proofs.Words.{one_less, last_two, not_last}
 use Rattle.arcstr_block.proofs.Rights as rights
 use Rattle.arcstr_block.proofs.Steps as steps
 use Rattle.arcstr_block.proofs.WordChanges as changes
@@ -65,7 +65,7 @@ sub_spec 𝓤 𝓛 𝓜 𝓡 wired Y K g d dd met md =
     sets ! (of_opd ! (get_in ! (fld ! refl (stop !)) (sub ! 1 refl (whole !)))) refl (tt, tt) $
     let said : ℕ → Fml = λ n. fsep (seat t.name.seats h.seat (left_in 𝓛 lim t.name.history t.name.seats n)) (Ends lim t.name.history t.name.seats
     (Sub h.seat) (sub_reply 𝓛 lim t.name.history t.name.seats n)) in
-    let after : ℕ → Fml = steps.all_after 𝓛 P lim pb po t (changes.less 𝓛 P lim pb po t) (changes.Left 𝓛 P lim pb po t)
+    let after : ℕ → Fml = steps.all_after 𝓛 P lim pb po t one_less (changes.Left 𝓛 P lim pb po t)
     (changes.One 𝓛 P lim pb po t) ftrue said in
     use3 𝓛 (raw (𝓣.C _ (vptr pb po ∷ vint w64 2 ∷ seq_cst ∷ []) (λ r. mean 𝓛 (found after r))))
     (via 𝓤 _ (changes.leaves_it 𝓛 P lim pb po t (seat t.name.seats h.seat Dropping) said (λ n fits.

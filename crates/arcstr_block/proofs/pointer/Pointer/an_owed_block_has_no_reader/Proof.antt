@@ -1,4 +1,4 @@
--- `alone` returns the owed pointer: the book of its block does not lie beside the share of a token that the other shows.
+-- `an_owed_block_has_no_reader` returns the owed pointer: the book of its block does not lie beside the share of a token that the other shows.
 use Rattle.arcstr_block.proofs.WholeProofs.{◌≡◌, ℕ, List, [], ◌∷◌, refl, sym, ◌∙◌, length, dcons, dnil, a_type, named, Val, vptr, inst_fn, SProp, emp, Lft}
 use Rattle.arcstr_block.proofs.WholeProofs.{Share, Fml, ftrue, fsep, flft, fhide, finv, fshr_bor, ‵, raw, ◌⊛◌, later, given, await, ◌$◌, ◌∵◌, !, qed, by, move}
 use Rattle.arcstr_block.proofs.WholeProofs.{keep, drop, split, split3, join, fsplit, fsplit3, fjoin, fpick, use0, use1, use2, learn, of_opd, returns, enter}
@@ -16,13 +16,13 @@ use Rattle.arcstr_block.proofs.TwoPointers.{away}
 use Rattle.arcstr_block.proofs.Fields.{pointer_val, typed, Words, told}
 use Rattle.arcstr_block.proofs.Memory.{shares_laws}
 use Rattle.arcstr_block.proofs.Rights as rights
-use Rattle.arcstr_block.specs.contracts.pointer.Pointer.alone.{ended, clauses}
-use Rattle.arcstr_block.specs.contracts.pointer.Pointer.alone.Key.{name as #self}
-use Rattle.arcstr_block.proofs.pointer.Pointer.alone.Statement.{statement}
-use Rattle.arcstr_block.proofs.pointer.Pointer.alone.Code as code
+use Rattle.arcstr_block.specs.contracts.pointer.Pointer.an_owed_block_has_no_reader.{ended, clauses}
+use Rattle.arcstr_block.specs.contracts.pointer.Pointer.an_owed_block_has_no_reader.Key.{name as #self}
+use Rattle.arcstr_block.proofs.pointer.Pointer.an_owed_block_has_no_reader.Statement.{statement}
+use Rattle.arcstr_block.proofs.pointer.Pointer.an_owed_block_has_no_reader.Code as code
 
-pub alone_spec : {M : Type 1} → statement M
-alone_spec 𝓤 𝓛 𝓜 𝓡 wired Y K g d dd met md =
+pub an_owed_block_has_no_reader_spec : {M : Type 1} → statement M
+an_owed_block_has_no_reader_spec 𝓤 𝓛 𝓜 𝓡 wired Y K g d dd met md =
     let H = 𝓛.H in let 𝓣 = tables 𝓤 H 𝓜 𝓡 𝓡.env in let B : RattleType = param 0 Y in let En = ended Y g d dd in let c = clauses Y g d dd 𝓛 𝓜.mem 𝓡.returns in
     let inst = bounded (a_type ∷ []) (Y, tt) (dcons d (dcons dd dnil)) in let fn = inst_fn inst code.function in
     let closed = code.unfolded 𝓤 H 𝓜 𝓡 wired (Y, tt) d dd in

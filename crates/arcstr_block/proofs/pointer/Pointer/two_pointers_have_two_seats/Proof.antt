@@ -1,4 +1,4 @@
--- `apart` returns both pointers: it does nothing.
+-- `two_pointers_have_two_seats` returns both pointers: it does nothing.
 use Rattle.arcstr_block.proofs.WholeProofs.{◌≡◌, List, [], ◌∷◌, ◌++◌, refl, dcons, dnil, a_type, Val, vstruct, of_list, inst_fn, SProp, emp, fsep, feq, ‵, raw}
 use Rattle.arcstr_block.proofs.WholeProofs.{◌⊛◌, later, given, await, ◌$◌, ◌∵◌, !, qed, by, move, keep, split, join, learn, fsplit3, fjoin, fjoin3, fpack}
 use Rattle.arcstr_block.proofs.WholeProofs.{use0, use2, feq_i, of_opd, no_more, and_then, returns, enter, alloc_all, pass_all, free_all, look_at, get, sets}
@@ -7,14 +7,14 @@ use Rattle.arcstr_block.proofs.WholeProofs.{alive, Stays, stay_dropped, walk_of,
 use Rattle.arcstr_block.specs.Rights.{HasSeat}
 use Rattle.arcstr_block.specs.contracts.pointer.Pointer as C
 use Rattle.arcstr_block.proofs.Fields.{pointer_val, typed, two_val, two_typed, told}
-use Rattle.arcstr_block.proofs.TwoPointers.{Apart, Alone, Distinct, are_apart}
-use Rattle.arcstr_block.specs.contracts.pointer.Pointer.apart.{ended, clauses}
-use Rattle.arcstr_block.specs.contracts.pointer.Pointer.apart.Key.{name as #self}
-use Rattle.arcstr_block.proofs.pointer.Pointer.apart.Statement.{statement}
-use Rattle.arcstr_block.proofs.pointer.Pointer.apart.Code as code
+use Rattle.arcstr_block.proofs.TwoPointers.{Apart, OwesAnother, Distinct, are_apart}
+use Rattle.arcstr_block.specs.contracts.pointer.Pointer.two_pointers_have_two_seats.{ended, clauses}
+use Rattle.arcstr_block.specs.contracts.pointer.Pointer.two_pointers_have_two_seats.Key.{name as #self}
+use Rattle.arcstr_block.proofs.pointer.Pointer.two_pointers_have_two_seats.Statement.{statement}
+use Rattle.arcstr_block.proofs.pointer.Pointer.two_pointers_have_two_seats.Code as code
 
-pub apart_spec : {M : Type 1} → statement M
-apart_spec 𝓤 𝓛 𝓜 𝓡 wired Y K g d dd met md =
+pub two_pointers_have_two_seats_spec : {M : Type 1} → statement M
+two_pointers_have_two_seats_spec 𝓤 𝓛 𝓜 𝓡 wired Y K g d dd met md =
     let H = 𝓛.H in let 𝓣 = tables 𝓤 H 𝓜 𝓡 𝓡.env in let B : RattleType = param 0 Y in let En = ended Y g d dd in let c = clauses Y g d dd 𝓛 𝓜.mem 𝓡.returns in
     let inst = bounded (a_type ∷ []) (Y, tt) (dcons d (dcons dd dnil)) in let fn = inst_fn inst code.function in
     let closed = code.unfolded 𝓤 H 𝓜 𝓡 wired (Y, tt) d dd in
@@ -47,7 +47,7 @@ apart_spec 𝓤 𝓛 𝓜 𝓡 wired Y K g d dd met md =
       h,
       (j, tt),
     ) uss)) (vs, (ws, tt)) $
-    let Differ : Type 0 = Apart 𝓛 B g h j vs ws in let Away : Type 0 = Alone 𝓛 B g h j vs ws in
+    let Differ : Type 0 = Apart 𝓛 B g h j vs ws in let Away : Type 0 = OwesAnother 𝓛 B g h j vs ws in
     use0 𝓛 (raw (fact 𝓤 Away)) (fact_i 𝓤 Away (emp 𝓤) laws.1) $ use0 𝓛 (raw (fact 𝓤 Differ)) (fact_i 𝓤 Differ (emp 𝓤) laws.0) $ join ! $
     use0 𝓛 (raw (fact 𝓤 (j ≡ j))) (fact_i 𝓤 (j ≡ j) (emp 𝓤) refl) $ join ! $ use0 𝓛 (raw (fact 𝓤 (h ≡ h))) (fact_i 𝓤 (h ≡ h) (emp 𝓤) refl) $ join ! $
     nothing ! $ nothing ! $ fjoin ! $ nothing ! $ fjoin ! $
