@@ -10,7 +10,7 @@ use std::alloc::Allocator;
 use std::marker::Model;
 
 /// How a handle ended. It has 24 bytes where its allocator has none, and can be sent and shared where its allocator can.
-/// It has no drop: what is owed has to be freed by hand.
+/// It has no drop: the caller must free an `Owed`.
 ///
 /// ```
 /// let text = Shared::<5, _>::from_text(rt.alloc(), "aé")?;

@@ -63,7 +63,7 @@ impl<'a> Share<'a> {
     }
 }
 
-/// Starts a thread for each worker but the last, does that one's work itself, and joins all threads. Returns the pieces in the order of the workers.
+/// Starts a thread for each worker but the last, does the last worker's work itself, and joins all threads. Returns the pieces in the order of the workers.
 /// Allocates the list of thread handles before it starts the first thread, so that it can join each.
 pub(crate) fn pieces_of_all<R: Threads + Wait + Sync, G: Gate + Sync>(
     rt: &R,
