@@ -9,7 +9,7 @@ use Rattle.std.proofs.Math.ListN.{get_or-append}
 use Rattle.std.proofs.Math.Seq.{get_or-append_seam, take-append_seam}
 use Rattle.arcstr_count.specs.declared.steps.Step.{Step}
 use Rattle.arcstr_count.specs.History.{numbers_below}
-use Rattle.arcbench_core.specs.Line.{step_of}
+use Rattle.arcbench_core.specs.Line.{newline, step_of}
 use Rattle.arcbench_core.specs.Script.{steps_of, history_with, line_answer, answer_at, answers}
 
 -- ---- the answers to the first lines
@@ -31,11 +31,11 @@ answer_at-prefix limit before line k h =
     let le : k ≤ length before = omega arith in
     rw (take-append-le k before (line ∷ []) le, get_or-append before (line ∷ []) [] k h) refl
 
-answer_at-last : (limit : ℕ) (before : List (List ℕ)) (line : List ℕ) → answer_at limit (before ++ line ∷ []) (length before) ≡ line_answer limit before line ++ 10 ∷ []
+answer_at-last : (limit : ℕ) (before : List (List ℕ)) (line : List ℕ) → answer_at limit (before ++ line ∷ []) (length before) ≡ line_answer limit before line ++ newline ∷ []
 answer_at-last limit before line =
     rw (take-append_seam before (line ∷ []), get_or-append_seam before line [] []) refl
 
-pub answers-push : (limit : ℕ) (before : List (List ℕ)) (line : List ℕ) → answers limit (before ++ line ∷ []) ≡ answers limit before ++ (line_answer limit before line ++ 10 ∷ [])
+pub answers-push : (limit : ℕ) (before : List (List ℕ)) (line : List ℕ) → answers limit (before ++ line ∷ []) ≡ answers limit before ++ (line_answer limit before line ++ newline ∷ [])
 answers-push limit before line =
     let lines : List (List ℕ) = before ++ line ∷ [] in
     let more : length (before ++ line ∷ []) ≡ suc (length before) = omega (arith, length_push before line) in

@@ -1,6 +1,6 @@
-//! The macros of the crate.
+//! The macros of the crate. None takes an atomic step, and only `format_arcstr!` allocates.
 
-/// Creates a literal `ArcStr` from any `&'static str`. Allocates nothing and takes no atomic step.
+/// Creates a literal `ArcStr` from any `&'static str`.
 ///
 /// ```
 /// let text = literal!("foo");
@@ -15,7 +15,7 @@ macro_rules! literal {
 }
 
 /// Creates an `ArcStr` from a format string, as `format!` creates a `String`. The arguments are the allocator, a semicolon, and then those of `format!`. The
-/// text is first formatted into a buffer and then copied into its block; an empty result needs no block. Takes no atomic step.
+/// text is first formatted into a buffer and then copied into its block; an empty result needs no block.
 ///
 /// Errors, in this order: `Memory` if the buffer cannot be allocated; `Length` if the text has `2^63 - 25` bytes or more; `Memory` if the block cannot be
 /// allocated.
@@ -36,7 +36,7 @@ macro_rules! format_arcstr {
     }};
 }
 
-/// Creates a literal `Substr` from any `&'static str`: the slice of all of it. Allocates nothing and takes no atomic step.
+/// Creates a literal `Substr` from any `&'static str`: the slice of all of it.
 ///
 /// ```
 /// let slice = literal_substr!("foo");

@@ -1,5 +1,5 @@
 //! The traits of `serde` for texts and slices, which are written and read as strings, so that structs with texts can derive them. A slice is written as its
-//! own text, and read as the slice of all of a new text.
+//! own text, and read as the slice of all of a new text. Writing allocates nothing itself and takes no atomic step.
 ghost use Rattle.std.specs.Prelude.{IfOk, OnOk};
 ghost use Rattle.serde.specs.Event.{Logs, text};
 ghost use Rattle.serde.specs.Steps.{Gives};
@@ -18,7 +18,7 @@ impl Described for ArcStr {
 }
 
 impl Serialize for ArcStr {
-    /// Writes the text as a string. Fails if the format fails. Allocates nothing itself and takes no atomic step.
+    /// Writes the text as a string. Fails if the format fails.
     fn serialize<S: Serializer>(&self, out: &mut S) -> Result<(), S::Error>
         ensures written { OnOk result (Logs (S.written out.old) (S.written out.new) (text self.now.text)) }
     {
@@ -31,7 +31,7 @@ impl Described for Substr {
 }
 
 impl Serialize for Substr {
-    /// Writes the slice's own text as a string. Fails if the format fails. Allocates nothing itself and takes no atomic step.
+    /// Writes the slice's own text as a string. Fails if the format fails.
     fn serialize<S: Serializer>(&self, out: &mut S) -> Result<(), S::Error>
         ensures written { OnOk result (Logs (S.written out.old) (S.written out.new) (text (text_of self.now))) }
     {

@@ -53,7 +53,7 @@ const REPLIES: [Reply; 14] = [
 /// A step that was refused: its index in the list, and whether one of the two tables had grown for it.
 #[derive(Clone, Copy, Debug, PartialEq, Eq)]
 struct Refusal {
-    place: usize,
+    index: usize,
     grown: bool,
 }
 
@@ -63,23 +63,23 @@ struct Refusal {
 const REFUSALS: [Option<Refusal>; 6] = [
     None,
     Some(Refusal {
-        place: 11,
+        index: 11,
         grown: false,
     }),
     Some(Refusal {
-        place: 10,
+        index: 10,
         grown: false,
     }),
     Some(Refusal {
-        place: 7,
+        index: 7,
         grown: false,
     }),
     Some(Refusal {
-        place: 0,
+        index: 0,
         grown: true,
     }),
     Some(Refusal {
-        place: 0,
+        index: 0,
         grown: false,
     }),
 ];
@@ -104,7 +104,7 @@ fn first_refusal(rt: &impl Abort, heap: &LocalHeap, bytes: usize) -> Result<Opti
     let mut world = World::new(heap, LIMIT)?;
     let mut ballast = Some(Vec::<u8, &LocalHeap>::with_capacity(heap, bytes)?);
     let mut refusal = None;
-    for (place, (step, wanted)) in STEPS.iter().zip(REPLIES).enumerate() {
+    for (index, (step, wanted)) in STEPS.iter().zip(REPLIES).enumerate() {
         let given = given_of_each(&world);
         let used = heap.used();
         let reply = match world.step(*step) {
@@ -114,7 +114,7 @@ fn first_refusal(rt: &impl Abort, heap: &LocalHeap, bytes: usize) -> Result<Opti
                 assert_eq!(rt; given_of_each(&world), given);
                 assert_eq!(rt; refusal, None);
                 refusal = Some(Refusal {
-                    place,
+                    index,
                     grown: heap.used() > used,
                 });
                 drop(ballast.take());

@@ -1,6 +1,6 @@
 //! The count of a text after each call of `ArcStr`, and again after the result of the call is dropped. A call that takes one valid step too many, or forgets
 //! a handle, still meets its contract and returns the right value. Only the count detects it.
-use crate::test_steps::{check_count, made};
+use crate::test_steps::{check_count, gave, made};
 use arcstr::{ArcStr, Substr, format_arcstr};
 use arcstr_range::view::StrView;
 use std::alloc::AllocGlobal;
@@ -92,11 +92,6 @@ fn hashing_leaves_the_count(rt: HostRuntime) {
     let text = made(&rt, "foo");
     text.hash(&mut DefaultHasher::new());
     check_count(&rt, &text, Some(1));
-}
-
-/// Returns whether the call succeeded, and drops its result.
-fn gave<T: Drop, E: Drop>(answer: Result<T, E>) -> bool {
-    answer.is_ok()
 }
 
 #[test]

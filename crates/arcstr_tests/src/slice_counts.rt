@@ -1,5 +1,5 @@
 //! The count of a parent after each call of `Substr`, and again after the result of the call is dropped.
-use crate::test_steps::{check_count, made, part};
+use crate::test_steps::{check_count, gave, made, part};
 use arcstr::{ArcStr, Substr};
 use arcstr_range::view::StrView;
 use std::alloc::AllocGlobal;
@@ -95,11 +95,6 @@ fn hashing_a_slice_leaves_the_count(rt: HostRuntime) {
     let slice = bar(&rt);
     slice.hash(&mut DefaultHasher::new());
     check_count(&rt, slice.parent(), Some(1));
-}
-
-/// Returns whether the call succeeded, and drops its result.
-fn gave<T: Drop, E: Drop>(answer: Result<T, E>) -> bool {
-    answer.is_ok()
 }
 
 #[test]

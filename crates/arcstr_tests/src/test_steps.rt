@@ -154,3 +154,8 @@ pub(crate) fn check_borrowed(rt: &impl Abort, cow: CowStr<'_>, wanted: &str) {
         CowStr::Owned(_) => panic!(rt; "the text was copied"),
     }
 }
+
+/// Returns whether the call succeeded, and drops its result.
+pub(crate) fn gave<T: Drop, E: Drop>(answer: Result<T, E>) -> bool {
+    answer.is_ok()
+}

@@ -2,7 +2,7 @@
 //!
 //! `arctimes FIGURE N ROUNDS THREADS SIZE AT COUNT` times one figure, and prints a line for each round: `FIGURE THREADS SIZE NANOSECONDS N SUM`. Arguments
 //! that are left out have the values of `Request::of`. Figures of words and of an interner read their texts from standard input, separated by a
-//! byte 1. `docs/SPEED.md` describes each figure.
+//! byte 1. The crate's README.md describes each figure.
 //!
 //! Without arguments, it does a short round of each figure. Standard output then has the name and SUM of each, which are the same in every run, and standard
 //! error has the table of times.
@@ -38,7 +38,7 @@ fn main(rt: HostRuntime) -> Result<()> {
     let given: Vec<String> = env::args(&rt)?.skip(1).collect(rt.alloc())?;
     match given.first() {
         None => table::run(&rt),
-        Some(_) => run(&rt, &Request::from_words(&given)?),
+        Some(_) => run(&rt, &Request::from_arguments(&given)?),
     }
 }
 

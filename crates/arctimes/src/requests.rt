@@ -44,29 +44,29 @@ impl<'a> Request<'a> {
     }
 
     /// Parses a request from the arguments, in the order FIGURE N ROUNDS THREADS SIZE AT COUNT.
-    pub(crate) fn from_words(words: &'a [String]) -> Result<Request<'a>> {
-        let figure = words.first().map_or("", |word| word.as_str());
+    pub(crate) fn from_arguments(arguments: &'a [String]) -> Result<Request<'a>> {
+        let figure = arguments.first().map_or("", |argument| argument.as_str());
         let usual = Request::of(figure);
-        let size = number(words, 4, usual.size)?;
+        let size = number(arguments, 4, usual.size)?;
         Ok(Request {
             figure,
-            operations: number(words, 1, usual.operations)?,
-            rounds: number(words, 2, usual.rounds)?,
-            threads: number(words, 3, usual.threads)?.max(1),
+            operations: number(arguments, 1, usual.operations)?,
+            rounds: number(arguments, 2, usual.rounds)?,
+            threads: number(arguments, 3, usual.threads)?.max(1),
             size,
-            place: number(words, 5, size)?,
-            count: number(words, 6, usual.count)?.max(1),
+            place: number(arguments, 5, size)?,
+            count: number(arguments, 6, usual.count)?.max(1),
             form: usual.form,
         })
     }
 }
 
 /// Returns the number at this position of the arguments, or the default if there is no such argument.
-fn number(words: &[String], place: usize, usual: usize) -> Result<usize> {
-    match words.get(place) {
+fn number(arguments: &[String], index: usize, usual: usize) -> Result<usize> {
+    match arguments.get(index) {
         None => Ok(usual),
-        Some(word) => word
+        Some(argument) => argument
             .parse::<usize>()
-            .context(format_args!("reading the number {word:?}")),
+            .context(format_args!("reading the number {argument:?}")),
     }
 }

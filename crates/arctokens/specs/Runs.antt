@@ -13,9 +13,12 @@ pub record IsCharacterBetween (text : List ℕ) (start end : ℕ) (white : Bool)
   pub alone : chars (cut text start end) ≡ character ∷ []
   pub kind : is_whitespace character ≡ white
 
--- a byte above the space (32) and below 128: a visible ASCII character, or the delete character (127)
+abbrev pub space : ℕ
+space = 32
+
+-- a byte above the space and below 128: a visible ASCII character, or the delete character (127)
 abbrev pub is_visible : ℕ → Bool
-is_visible byte = nat_lt 32 byte && nat_lt byte 128
+is_visible byte = nat_lt space byte && nat_lt byte 128
 
 abbrev pub IsVisible : ℕ → Type 0
 IsVisible byte = IsTrue (is_visible byte)

@@ -1,4 +1,4 @@
-//! The tokens of many texts, found by any number of workers.
+//! The tokens of many texts, found by 1 to 64 workers.
 ghost use Rattle.std.specs.Prelude.{◌≤◌, IfOk};
 ghost use Rattle.arctokens.specs.Tokens.{AreTokensOfEach};
 

@@ -40,7 +40,7 @@ impl Model for SharedSymbol {
 }
 
 impl SharedSymbol {
-    /// The symbol of the text at this place.
+    /// The symbol of the text in this slot.
     pub(crate) fn new(
         number: Symbol,
         row: usize,

@@ -1,4 +1,4 @@
-//! The texts of a shared interner by their numbers. Each place is written once and never moves, so a thread reads it without a lock.
+//! The texts of a shared interner by their numbers. Each slot is written once and never moves, so a thread reads it without a lock.
 ghost use Rattle.std.specs.Prelude.{◌≡◌, ◌+◌, ◌^◌, ◌<◌, ◌≤◌, IfOk, IfSome, length, vec_len, vec_capacity};
 ghost use Rattle.boxcar.specs.Slot.{Named, named_coded};
 ghost use Rattle.boxcar.specs.Table.{IsAt, id_at, span};
@@ -14,7 +14,7 @@ use std::hint;
 use std::marker::Model;
 use std::sync::Wait;
 
-/// The number of rows. Row `k` has `32 << k` places, so they have a place for each 32-bit number.
+/// The number of rows. Row `k` has `32 << k` slots, so they have a slot for each 32-bit number.
 const ROWS: usize = 28;
 
 /// Any text.
@@ -27,7 +27,7 @@ impl SlotRule<ArcStr> for AnyText {
     ghost holds = { λ _ _. ⊤ };
 }
 
-/// A row of places.
+/// A row of slots.
 pub(crate) type Row = Vec<OnceSlot<ArcStr, AnyText>>;
 
 /// Any row.
@@ -80,7 +80,7 @@ impl TextList {
     {
         let (row, slot) = located(number);
         let written = self.row(row).witness()?;
-        let item = place(self.row(row).value(&written), slot)?.witness()?;
+        let item = slot_at(self.row(row).value(&written), slot)?.witness()?;
         Some(SharedSymbol::new(number, row, slot, written, item))
     }
 
@@ -119,16 +119,16 @@ impl TextList {
     {
         let (row, slot) = located(number);
         let written = self.made_row(rt, row)?;
-        let Some(place) = place(self.row(row).value(&written), slot) else {
+        let Some(found) = slot_at(self.row(row).value(&written), slot) else {
             return Err(AllocError);
         };
-        match place.set_written(text) {
+        match found.set_written(text) {
             Ok(item) => Ok(SharedSymbol::new(number, row, slot, written, item)),
             Err(_) => Err(AllocError),
         }
     }
 
-    /// The place of a row.
+    /// The slot of a row.
     fn row(&self, row: usize) -> &OnceSlot<Row, AnyRow>
         requires { row < 28 }
         ensures { result.now.id ≡ id_at self.now row }
@@ -158,7 +158,7 @@ impl TextList {
     }
 }
 
-/// The row of a number, and its place in the row.
+/// The row of a number, and its slot in the row.
 fn located(number: Symbol) -> (usize, usize)
     ensures at { IsAt number result.0 result.1 }
     ensures row { result.0 < 28 }
@@ -168,7 +168,7 @@ fn located(number: Symbol) -> (usize, usize)
     (row, above - row_len(row))
 }
 
-/// How many places the row has.
+/// How many slots the row has.
 fn row_len(row: usize) -> usize
     requires { row < 28 }
     ensures { result ≡ span row }
@@ -176,10 +176,10 @@ fn row_len(row: usize) -> usize
     32 << row
 }
 
-/// A place of a row.
-fn place(row: &Row, slot: usize) -> Option<&OnceSlot<ArcStr, AnyText>>
+/// A slot of a row.
+fn slot_at(row: &Row, slot: usize) -> Option<&OnceSlot<ArcStr, AnyText>>
     ensures within { IfSome result (λ _. slot < length row.now.items) }
-    ensures id { IfSome result (λ place. place.now.id ≡ id_at row.now.items slot) }
+    ensures id { IfSome result (λ found. found.now.id ≡ id_at row.now.items slot) }
 {
     if slot >= row.len() {
         return None;

@@ -1,4 +1,4 @@
-//! Constructors of `ArcStr`. An empty result is always the empty literal, which needs no allocation.
+//! Constructors of `ArcStr`. Each makes one allocation, or none if its result is empty: that is the empty literal. None takes an atomic step.
 ghost use Rattle.std.specs.Prelude.{◌≡◌, ◌↔◌, [], length, replicate, Ok, IsUtf8, OnOk, IfOk, IfErr, IsErrOf};
 ghost use Rattle.std.specs.Fn.{FnOnceReturnsAtMut, FnOnceTakesAtMut};
 ghost use Rattle.std.specs.Str.Lossy.{utf8_valid_len};
@@ -10,7 +10,7 @@ use arcstr_block::{Shared, TextFault};
 use std::alloc::Global;
 
 impl ArcStr {
-    /// Copies a `&str` into a new `ArcStr`. Makes one allocation, or none if the text is empty.
+    /// Copies a `&str` into a new `ArcStr`.
     ///
     /// Errors, in this order: `Length` if the text has `2^63 - 25` bytes or more; `Memory` if the allocation fails.
     ///
@@ -40,7 +40,7 @@ impl ArcStr {
         ArcStr::from_str(alloc, text)
     }
 
-    /// Converts a slice of bytes to an `ArcStr`, by a copy. Makes one allocation, or none if there are no bytes.
+    /// Converts a slice of bytes to an `ArcStr`, by a copy.
     ///
     /// Errors, in this order: `Utf8` if the bytes are not UTF-8, with the length in bytes of their longest prefix that is; `Length` if there are `2^63 - 25`
     /// bytes or more; `Memory` if the allocation fails.
@@ -65,9 +65,8 @@ impl ArcStr {
         }
     }
 
-    /// Creates a text of `n` bytes, which are zero at first and which `fill` writes. Makes one allocation before it calls the closure. If `n` is 0, it
-    /// allocates nothing and calls the closure on an empty slice. The caller must ensure that the closure can be called on `n` zero bytes, unless `n` is too
-    /// long.
+    /// Creates a text of `n` bytes, which are zero at first and which `fill` writes. It allocates before it calls the closure. If `n` is 0, it calls
+    /// the closure on an empty slice. The caller must ensure that the closure can be called on `n` zero bytes, unless `n` is too long.
     ///
     /// Errors, in this order: `Length` if `n` is `2^63 - 25` or more; `Memory` if the allocation fails; `Utf8` if the bytes are not UTF-8 after the call,
     /// with the length in bytes of their longest prefix that is. The closure is not called after `Length` or `Memory`.
@@ -105,7 +104,7 @@ impl ArcStr {
         }
     }
 
-    /// Creates a new text by repeating a text `n` times. Makes one allocation. If the text is empty or `n` is 0, it allocates nothing and cannot fail.
+    /// Creates a new text by repeating a text `n` times. If the text is empty or `n` is 0, it cannot fail.
     ///
     /// Otherwise, errors in this order: `Length` if all copies have `2^63 - 25` bytes or more; `Memory` if the allocation fails.
     ///

@@ -1,5 +1,8 @@
 //! Splits of an `ArcStr` at a byte offset or around a match of a pattern, and slices without a prefix or suffix. A pattern is a `char`, a `&str` or another
 //! of std's patterns. The caller must ensure that the pattern can search, as it must ensure that a closure can be called.
+//!
+//! Each call clones the handle once for each slice that it returns, and so can wait. A call that returns none takes no atomic step. Each slice keeps the text
+//! alive, even if it is empty.
 ghost use Rattle.std.specs.Prelude.{◌≡◌, ◌-◌, ◌≤◌, length, take, drop, IfSome, MatchOption, None};
 ghost use Rattle.std.specs.Str.{IsCharBoundary};
 ghost use Rattle.std.specs.Str.Pattern.{SplitsAroundMatch, StripsPrefix, StripsSuffix};
@@ -14,8 +17,7 @@ use std::str::pattern::Pattern;
 use std::sync::Wait;
 
 impl ArcStr {
-    /// Splits this text at a byte offset into two slices, as `str::split_at_checked` does. Each keeps the text alive, even if it is empty. Clones the handle
-    /// once for each slice, and so can wait.
+    /// Splits this text at a byte offset into two slices, as `str::split_at_checked` does.
     ///
     /// Fails as `substr` does for the range up to the offset: first `PastEnd` if the offset is past the text, then `OffBoundary` if it is inside a character.
     ///
@@ -41,8 +43,7 @@ impl ArcStr {
     }
 
     /// Splits this text around the first match of the separator, as `str::split_once` does. The separator is a `char` or a `&str`, and is part of neither
-    /// slice. Returns `None` exactly if there is no match, and then takes no atomic step. Clones the handle once for each slice, and so can wait. Each slice
-    /// keeps the text alive, even if it is empty.
+    /// slice. Returns `None` exactly if there is no match.
     ///
     /// ```
     /// let text = ArcStr::from_str(rt.alloc(), "name=a=b")?;
@@ -71,8 +72,7 @@ impl ArcStr {
     }
 
     /// Splits this text around the last match of the separator, as `str::rsplit_once` does. The separator is a `char` or a `&str`, and is part of neither
-    /// slice. Returns `None` exactly if there is no match, and then takes no atomic step. Clones the handle once for each slice, and so can wait. Each slice
-    /// keeps the text alive, even if it is empty.
+    /// slice. Returns `None` exactly if there is no match.
     ///
     /// ```
     /// let text = ArcStr::from_static("a::b::c");
@@ -98,7 +98,7 @@ impl ArcStr {
     }
 
     /// Returns the slice of this text with the prefix removed, as `str::strip_prefix` does. The prefix is a `char` or a `&str`. Returns `None` exactly if the
-    /// text does not start with it, and then takes no atomic step. The slice keeps the text alive, even if it is empty. Clones the handle, and so can wait.
+    /// text does not start with it.
     ///
     /// ```
     /// let text = ArcStr::from_static("--all");
@@ -119,7 +119,7 @@ impl ArcStr {
     }
 
     /// Returns the slice of this text with the suffix removed, as `str::strip_suffix` does. The suffix is a `char` or a `&str`. Returns `None` exactly if the
-    /// text does not end with it, and then takes no atomic step. The slice keeps the text alive, even if it is empty. Clones the handle, and so can wait.
+    /// text does not end with it.
     ///
     /// ```
     /// let text = ArcStr::from_static("main.rs");

@@ -1,5 +1,8 @@
 //! Splits of a `Substr` by its own text, at a byte offset or around a match of a pattern, and slices without a prefix or suffix. A pattern is a `char`, a
 //! `&str` or another of std's patterns. The caller must ensure that the pattern can search, as it must ensure that a closure can be called.
+//!
+//! Each call clones the parent's handle once for each slice that it returns, and so can wait. A call that returns none takes no atomic step. Each slice keeps
+//! the parent alive, even if it is empty.
 ghost use Rattle.std.specs.Prelude.{◌≡◌, ◌-◌, ◌≤◌, length, take, drop, IfSome, MatchOption, None};
 ghost use Rattle.std.specs.Str.{IsCharBoundary};
 ghost use Rattle.std.specs.Str.Pattern.{SplitsAroundMatch, StripsPrefix, StripsSuffix};
@@ -16,8 +19,7 @@ use std::str::pattern::Pattern;
 use std::sync::Wait;
 
 impl Substr {
-    /// Splits the slice at a byte offset of its own text into two slices of the same parent, as `str::split_at_checked` does. Each keeps the parent alive,
-    /// even if it is empty. Clones the parent's handle once for each slice, and so can wait.
+    /// Splits the slice at a byte offset of its own text into two slices of the same parent, as `str::split_at_checked` does.
     ///
     /// Fails as `substr` does for the range up to the offset: first `PastEnd` if the offset is past the slice's own text, then `OffBoundary` if it is inside
     /// a character.
@@ -44,8 +46,7 @@ impl Substr {
     }
 
     /// Splits the slice around the first match of the separator in its own text, as `str::split_once` does. Both slices have the same parent. The separator
-    /// is a `char` or a `&str`, and is part of neither. Returns `None` exactly if there is no match, and then takes no atomic step. Clones the parent's
-    /// handle once for each slice, and so can wait. Each slice keeps the parent alive, even if it is empty.
+    /// is a `char` or a `&str`, and is part of neither. Returns `None` exactly if there is no match.
     ///
     /// ```
     /// let pair = literal!("a=b;c=d").substr(&rt, 4..)?;
@@ -74,8 +75,7 @@ impl Substr {
     }
 
     /// Splits the slice around the last match of the separator in its own text, as `str::rsplit_once` does. Both slices have the same parent. The separator
-    /// is a `char` or a `&str`, and is part of neither. Returns `None` exactly if there is no match, and then takes no atomic step. Clones the parent's
-    /// handle once for each slice, and so can wait. Each slice keeps the parent alive, even if it is empty.
+    /// is a `char` or a `&str`, and is part of neither. Returns `None` exactly if there is no match.
     ///
     /// ```
     /// let pair = literal!("x; a=b=c").substr(&rt, 3..)?;
@@ -101,8 +101,7 @@ impl Substr {
     }
 
     /// Returns the slice of the same parent with the prefix of the slice's own text removed, as `str::strip_prefix` does. The prefix is a `char` or a `&str`.
-    /// Returns `None` exactly if the slice's own text does not start with it, and then takes no atomic step. The result keeps the parent alive, even if it is
-    /// empty. Clones the parent's handle, and so can wait.
+    /// Returns `None` exactly if the slice's own text does not start with it.
     ///
     /// ```
     /// let word = literal!("run --all").substr(&rt, 4..)?;
@@ -123,8 +122,7 @@ impl Substr {
     }
 
     /// Returns the slice of the same parent with the suffix of the slice's own text removed, as `str::strip_suffix` does. The suffix is a `char` or a `&str`.
-    /// Returns `None` exactly if the slice's own text does not end with it, and then takes no atomic step. The result keeps the parent alive, even if it is
-    /// empty. Clones the parent's handle, and so can wait.
+    /// Returns `None` exactly if the slice's own text does not end with it.
     ///
     /// ```
     /// let line = literal!("ab\ncd\n").substr(&rt, 3..)?;
