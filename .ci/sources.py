@@ -108,6 +108,7 @@ class Function:
     file: Path
     start: int = 0
     end: int = 0
+    of_trait: bool = False
     ensures: dict = field(default_factory=dict)
     body: str = ""
     raw_body: str = ""
@@ -151,6 +152,6 @@ def functions(file, source=None):
         is_public = bool(found["public"] or owner and (owner["trait"] or owner["own"] or owner["new"]))
         attributes = re.findall(r"#\[(.*)\]", found["attributes"])
         owned_by = owner and (owner["type"] or owner["own"] or owner["new"])
-        function = Function(found["name"], owned_by, is_public, attributes, file, found.start())
+        function = Function(found["name"], owned_by, is_public, attributes, file, found.start(), of_trait=bool(owner and owner["trait"]))
         read_contract(function, text, shown, source, end_of_group(text, text.index("(", found.end())))
         yield function
