@@ -52,6 +52,21 @@ def without_comments(text, literals=True):
     return "".join(parts) + text[place:]
 
 
+def without_layout(code):
+    """The code without white space, but for that of literals, and without the comma of a last argument that has a line of its own."""
+    code = re.sub(r"\"(?:\\.|[^\"\\])*\"|' '", lambda found: found[0].replace(" ", "\0"), code)
+    return re.sub(r",?\s+(?=\))|\s+", "", code)
+
+
+def as_test(code):
+    """The code as a test has it, for a short proof: `check!` and `check_eq!` of its crate's `checks.rt` in place of `assert!` and `assert_eq!`, and
+    `expect` and `panic!`, which abort, in place of `?` and `return`."""
+    code = re.sub(r"\bassert(_eq)?!\(", r"check\1!(", code)
+    code = re.sub(r"\.ok_or\((\"[^\"]*\")\)\?", r".expect(&rt, \1)", code)
+    code = re.sub(r"return Err\(Fail::from\((\"[^\"]*\")\)\)", r"panic!(rt; \1)", code)
+    return "".join('.expect(&rt, "refused")' if bare == "?" else letter for bare, letter in zip(without_comments(code, literals=False), code))
+
+
 def listed_crates():
     """The crates that crates.txt lists, in its order."""
     lines = (ROOT / "crates.txt").read_text().splitlines()

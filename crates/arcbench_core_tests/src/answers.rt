@@ -2,7 +2,6 @@
 //! other scripts, and that of `arcstr_count` the replies to lists of steps.
 use arcbench_core::script::answer;
 use std::process::Abort;
-use std::test::Fail;
 
 /// Asserts that this is the answer to the script.
 fn expect<R: Abort + AllocGlobal>(rt: &R, script: &[u8], want: &str) {
@@ -47,33 +46,28 @@ const LINES_PAST_THE_LIMIT: [(&str, &str); 6] = [
 ];
 
 /// Asserts that each line after a first line has its answer.
-fn expect_lines<R: Abort + AllocGlobal>(
-    rt: &R,
-    first_line: &str,
-    lines: &[(&str, &str)],
-) -> Result<(), Fail> {
-    let mut script = String::from_str(rt.alloc(), first_line)?;
+fn expect_lines<R: Abort + AllocGlobal>(rt: &R, first_line: &str, lines: &[(&str, &str)]) {
+    let mut script = String::from_str(rt.alloc(), first_line).expect(rt, "no memory");
     let mut answers = String::new(rt.alloc());
     for (line, answer) in lines {
-        write!(script, "{line}\n")?;
-        write!(answers, "{answer}\n")?;
+        write!(script, "{line}\n").expect(rt, "no memory");
+        write!(answers, "{answer}\n").expect(rt, "no memory");
     }
     expect(rt, script.as_bytes(), answers.as_str());
-    Ok(())
 }
 
 #[test]
-fn answers_each_command_with_each_reply(rt: HostRuntime) -> Result<(), Fail> {
-    expect_lines(&rt, "limit 5\n", &LINES)
+fn answers_each_command_with_each_reply(rt: HostRuntime) {
+    expect_lines(&rt, "limit 5\n", &LINES);
 }
 
 #[test]
-fn a_clone_past_the_limit_marks_the_block(rt: HostRuntime) -> Result<(), Fail> {
-    expect_lines(&rt, "limit 1\n", &LINES_PAST_THE_LIMIT)
+fn a_clone_past_the_limit_marks_the_block(rt: HostRuntime) {
+    expect_lines(&rt, "limit 1\n", &LINES_PAST_THE_LIMIT);
 }
 
 #[test]
-fn takes_no_other_byte(rt: HostRuntime) -> Result<(), Fail> {
+fn takes_no_other_byte(rt: HostRuntime) {
     let lines: [&[u8]; 12] = [
         b"make\r",
         b"make ",
@@ -89,11 +83,10 @@ fn takes_no_other_byte(rt: HostRuntime) -> Result<(), Fail> {
         b"\xe9",
     ];
     for line in lines {
-        let mut script = b"limit 5\nmake\n".to_vec(rt.alloc())?;
-        script.extend_from_slice(line)?;
+        let mut script = b"limit 5\nmake\n".to_vec(rt.alloc()).expect(&rt, "refused");
+        script.extend_from_slice(line).expect(&rt, "refused");
         expect(&rt, &script, "made 0\nbad\n");
     }
-    Ok(())
 }
 
 #[test]

@@ -1,7 +1,7 @@
+use crate::checks::{check, check_eq};
 use arcbench_core::pool::{Gate, PoolFault, callers};
 use arcstr::ArcStr;
 use std::sync::atomic::{AtomicU64, Ordering};
-use std::test::Fail;
 
 /// How often a worker looks for the others: for many seconds, since other programs may keep them from starting.
 const LOOKS: u64 = 10_000_000_000;
@@ -39,22 +39,21 @@ impl Gate for Meeting {
 }
 
 #[test]
-fn each_worker_hands_its_clone_back(rt: HostRuntime) -> Result<(), Fail> {
-    let text = ArcStr::from_str(rt.alloc(), "foobar")?;
-    let handles = callers(&rt, rt.alloc(), &text, 3, &OpenGate)?;
-    assert_eq!(rt; handles.len(), 3);
-    assert_eq!(rt; handles[2].as_str(), "foobar");
-    assert_eq!(rt; ArcStr::strong_count(&text), Some(4));
+fn each_worker_hands_its_clone_back(rt: HostRuntime) {
+    let text = ArcStr::from_str(rt.alloc(), "foobar").expect(&rt, "refused");
+    let handles = callers(&rt, rt.alloc(), &text, 3, &OpenGate).expect(&rt, "refused");
+    check_eq!(rt; handles.len(), 3);
+    check_eq!(rt; handles[2].as_str(), "foobar");
+    check_eq!(rt; ArcStr::strong_count(&text), Some(4));
     drop(handles);
-    assert_eq!(rt; ArcStr::strong_count(&text), Some(1));
-    Ok(())
+    check_eq!(rt; ArcStr::strong_count(&text), Some(1));
 }
 
 /// If a body starts fewer threads than there are workers, the first worker waits in vain. A worker that
 /// passes before it clones misses its own clone.
 #[test]
-fn all_workers_meet_with_their_clones(rt: HostRuntime) -> Result<(), Fail> {
-    let text = ArcStr::from_str(rt.alloc(), "foobar")?;
+fn all_workers_meet_with_their_clones(rt: HostRuntime) {
+    let text = ArcStr::from_str(rt.alloc(), "foobar").expect(&rt, "refused");
     for (count, handles, workers) in [(1, 3, 1), (2, 4, 2), (3, 5, 3), (16, 18, 16)] {
         let gate = Meeting {
             text: text.clone(&rt),
@@ -63,10 +62,9 @@ fn all_workers_meet_with_their_clones(rt: HostRuntime) -> Result<(), Fail> {
             arrived: AtomicU64::new(0),
             met: AtomicU64::new(0),
         };
-        assert_eq!(rt; callers(&rt, rt.alloc(), &text, count, &gate)?.len(), count);
-        assert_eq!(rt; gate.met.load(Ordering::SeqCst), workers);
+        check_eq!(rt; callers(&rt, rt.alloc(), &text, count, &gate).expect(&rt, "refused").len(), count);
+        check_eq!(rt; gate.met.load(Ordering::SeqCst), workers);
     }
-    Ok(())
 }
 
 /// For `rt try --test --fail-alloc N`, which refuses allocation N: the call gives all handles, or a fault after
@@ -77,10 +75,10 @@ fn a_refused_call_leaves_one_handle(rt: HostRuntime) {
         return;
     };
     match callers(&rt, rt.alloc(), &text, 2, &OpenGate) {
-        Ok(handles) => assert_eq!(rt; handles.len(), 2),
-        Err(fault) => assert!(rt; fault == PoolFault::Memory || fault == PoolFault::NoThread),
+        Ok(handles) => check_eq!(rt; handles.len(), 2),
+        Err(fault) => check!(rt; fault == PoolFault::Memory || fault == PoolFault::NoThread),
     }
-    assert_eq!(rt; ArcStr::strong_count(&text), Some(1));
+    check_eq!(rt; ArcStr::strong_count(&text), Some(1));
 }
 
 /// Counts how often a worker of each number passes.
@@ -98,20 +96,19 @@ impl Gate for Counted {
 }
 
 #[test]
-fn each_worker_passes_once_with_its_number(rt: HostRuntime) -> Result<(), Fail> {
-    let text = ArcStr::from_str(rt.alloc(), "foobar")?;
+fn each_worker_passes_once_with_its_number(rt: HostRuntime) {
+    let text = ArcStr::from_str(rt.alloc(), "foobar").expect(&rt, "refused");
     for workers in [1, 2, 64] {
         let mut passes = Vec::new(rt.alloc());
         for _ in 0..workers {
-            passes.push(AtomicU64::new(0))?;
+            passes.push(AtomicU64::new(0)).expect(&rt, "refused");
         }
         let gate = Counted { passes };
-        let handles = callers(&rt, rt.alloc(), &text, workers, &gate)?;
-        assert_eq!(rt; handles.len(), workers);
+        let handles = callers(&rt, rt.alloc(), &text, workers, &gate).expect(&rt, "refused");
+        check_eq!(rt; handles.len(), workers);
         for (passes, handle) in gate.passes.iter().zip(&handles) {
-            assert_eq!(rt; passes.load(Ordering::SeqCst), 1);
-            assert_eq!(rt; handle.as_str(), "foobar");
+            check_eq!(rt; passes.load(Ordering::SeqCst), 1);
+            check_eq!(rt; handle.as_str(), "foobar");
         }
     }
-    Ok(())
 }

@@ -1,11 +1,11 @@
 //! Runs of a script, with each read and each write failing in turn, and of a long script.
 use super::fakes::{FakeReader, FakeWriter, NEVER};
 use super::texts::{FIRST_ANSWER, FIRST_SCRIPT};
+use crate::checks::{check, check_eq};
 use arcbench_core::port::Port;
 use arcbench_core::script::{CopyFault, answer, copy};
 use linked_list_allocator::LocalHeap;
 use std::alloc::{AllocError, Allocator, Global};
-use std::test::Fail;
 
 /// What a run of the first script returned, and what it wrote.
 #[derive(Drop)]
@@ -34,8 +34,8 @@ pub fn run_first_script<A: Allocator + Copy>(
 #[test]
 fn writes_the_answer_to_a_script(rt: HostRuntime) {
     let found = run_first_script(rt.alloc(), rt.alloc(), NEVER, NEVER);
-    assert_eq!(rt; found.result, Ok(()));
-    assert_eq!(rt; found.written.as_slice(), FIRST_ANSWER.as_bytes());
+    check_eq!(rt; found.result, Ok(()));
+    check_eq!(rt; found.written.as_slice(), FIRST_ANSWER.as_bytes());
 }
 
 /// The 49 bytes of the script take 17 reads of three bytes, and one read that finds the end.
@@ -50,14 +50,13 @@ fn writes_nothing_after_a_fault_of_reading(rt: HostRuntime) {
 
 /// The 44 bytes of the answer take 22 writes of two bytes. Each write before the fault writes two of them.
 #[test]
-fn writes_a_prefix_before_a_fault_of_writing(rt: HostRuntime) -> Result<(), Fail> {
+fn writes_a_prefix_before_a_fault_of_writing(rt: HostRuntime) {
     for write in 0..22 {
         let found = run_first_script(rt.alloc(), rt.alloc(), NEVER, write);
-        let prefix = FIRST_ANSWER.get(..2 * write as usize).ok_or("short")?;
+        let prefix = FIRST_ANSWER.get(..2 * write as usize).expect(&rt, "short");
         assert_eq!(rt; found.result, Err(CopyFault::Io), "{write}");
         assert_eq!(rt; found.written.as_slice(), prefix.as_bytes(), "{write}");
     }
-    Ok(())
 }
 
 /// The smallest block that a heap hands out, in bytes.
@@ -66,10 +65,10 @@ const GRAIN: usize = 16;
 /// With room for one grain, an allocation fails while the script is read. A fault of a read before that is
 /// `Io`; a fault of a read after it is not reached.
 #[test]
-fn the_first_of_reading_and_memory_is_answered(rt: HostRuntime) -> Result<(), Fail> {
+fn the_first_of_reading_and_memory_is_answered(rt: HostRuntime) {
     let mut refused = false;
     for read in 0..18 {
-        let heap = LocalHeap::new(rt.alloc(), GRAIN)?;
+        let heap = LocalHeap::new(rt.alloc(), GRAIN).expect(&rt, "refused");
         let found = run_first_script(&heap, rt.alloc(), read, NEVER);
         refused = refused || found.result == Err(CopyFault::Memory);
         let fault = if refused {
@@ -78,11 +77,10 @@ fn the_first_of_reading_and_memory_is_answered(rt: HostRuntime) -> Result<(), Fa
             CopyFault::Io
         };
         assert_eq!(rt; found.result, Err(fault), "{read}");
-        assert_eq!(rt; found.written.len(), 0);
-        assert!(rt; read > 0 || !refused);
+        check_eq!(rt; found.written.len(), 0);
+        check!(rt; read > 0 || !refused);
     }
-    assert!(rt; refused);
-    Ok(())
+    check!(rt; refused);
 }
 
 /// How many clones a script of 100,000 bytes makes.
@@ -108,28 +106,26 @@ fn long_answer(alloc: Global) -> Result<String, AllocError> {
 }
 
 #[test]
-fn answers_and_runs_a_long_script(rt: HostRuntime) -> Result<(), Fail> {
-    let script = long_script(rt.alloc())?;
-    let wanted = long_answer(rt.alloc())?;
-    assert_eq!(rt; script.len(), 100_000);
-    let out = answer(rt.alloc(), script.as_bytes())?;
-    assert_eq!(rt; out.as_slice(), wanted.as_bytes());
+fn answers_and_runs_a_long_script(rt: HostRuntime) {
+    let script = long_script(rt.alloc()).expect(&rt, "refused");
+    let wanted = long_answer(rt.alloc()).expect(&rt, "refused");
+    check_eq!(rt; script.len(), 100_000);
+    let out = answer(rt.alloc(), script.as_bytes()).expect(&rt, "refused");
+    check_eq!(rt; out.as_slice(), wanted.as_bytes());
     let mut written = Vec::new(rt.alloc());
     let mut input = Port::new(script.as_bytes());
     let mut output = Port::new(&mut written);
-    copy(rt.alloc(), &mut input, &mut output)?;
-    assert_eq!(rt; written.as_slice(), wanted.as_bytes());
-    Ok(())
+    copy(rt.alloc(), &mut input, &mut output).expect(&rt, "refused");
+    check_eq!(rt; written.as_slice(), wanted.as_bytes());
 }
 
 #[test]
-fn prints_each_fault(rt: HostRuntime) -> Result<(), Fail> {
+fn prints_each_fault(rt: HostRuntime) {
     let faults = [CopyFault::LimitTooLarge, CopyFault::Memory, CopyFault::Io];
     let texts = ["1 limit too large", "2 out of memory", "3 io"];
     for (fault, text) in faults.into_iter().zip(texts) {
         let number = fault.number();
-        let printed = format!(in rt.alloc(); "{number} {fault}")?;
-        assert_eq!(rt; printed.as_str(), text);
+        let printed = format!(in rt.alloc(); "{number} {fault}").expect(&rt, "refused");
+        check_eq!(rt; printed.as_str(), text);
     }
-    Ok(())
 }

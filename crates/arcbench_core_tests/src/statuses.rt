@@ -1,6 +1,7 @@
 //! The program's statuses, what it prints, and a fault at each read and each write.
 use super::fakes::{FakeReader, FakeWriter, NEVER};
 use super::texts::{FIRST_ANSWER, FIRST_SCRIPT, IO, NO_MEMORY, TOO_LARGE, USAGE};
+use crate::checks::check_eq;
 use arcbench_core::pool::PoolFault;
 use arcbench_core::port::Port;
 use arcbench_core::program::{serve, serve_without_words};
@@ -12,7 +13,6 @@ use std::io::ErrorKind;
 use std::mem::size_of;
 use std::process::Abort;
 use std::sync::Wait;
-use std::test::Fail;
 use std::thread::Threads;
 
 /// What the program did.
@@ -70,20 +70,19 @@ pub fn run_on_bytes<R: Threads + Wait + Sync + AllocGlobal>(
 }
 
 pub fn expect<R: Abort>(rt: &R, found: &Outcome, status: u8, output: &str, errors: &str) {
-    assert_eq!(rt; found.status, status);
-    assert_eq!(rt; found.output.as_slice(), output.as_bytes());
-    assert_eq!(rt; found.errors.as_slice(), errors.as_bytes());
+    check_eq!(rt; found.status, status);
+    check_eq!(rt; found.output.as_slice(), output.as_bytes());
+    check_eq!(rt; found.errors.as_slice(), errors.as_bytes());
 }
 
 #[test]
-fn answers_a_script(rt: HostRuntime) -> Result<(), Fail> {
-    let found = run_program(&rt, &["script"], FIRST_SCRIPT, NO_FAULT)?;
+fn answers_a_script(rt: HostRuntime) {
+    let found = run_program(&rt, &["script"], FIRST_SCRIPT, NO_FAULT).expect(&rt, "refused");
     expect(&rt, &found, 0, FIRST_ANSWER, "");
-    Ok(())
 }
 
 #[test]
-fn prints_its_usage(rt: HostRuntime) -> Result<(), Fail> {
+fn prints_its_usage(rt: HostRuntime) {
     let lists: [&[&str]; 7] = [
         &[],
         &["scripts"],
@@ -94,24 +93,22 @@ fn prints_its_usage(rt: HostRuntime) -> Result<(), Fail> {
         &["script", "script"],
     ];
     for arguments in lists {
-        let found = run_program(&rt, arguments, FIRST_SCRIPT, NO_FAULT)?;
+        let found = run_program(&rt, arguments, FIRST_SCRIPT, NO_FAULT).expect(&rt, "refused");
         expect(&rt, &found, 1, "", USAGE);
     }
-    Ok(())
 }
 
 #[test]
-fn refuses_a_limit(rt: HostRuntime) -> Result<(), Fail> {
+fn refuses_a_limit(rt: HostRuntime) {
     let script = "limit 4611686018427387904\nmake\n";
-    let found = run_program(&rt, &["script"], script, NO_FAULT)?;
+    let found = run_program(&rt, &["script"], script, NO_FAULT).expect(&rt, "refused");
     expect(&rt, &found, 2, "", TOO_LARGE);
-    Ok(())
 }
 
 /// The 49 bytes of the script take 17 reads of three bytes, and one read that finds the end. The 44 bytes of
 /// the answer take 22 writes of two bytes. Each write before the fault writes two of them.
 #[test]
-fn fails_at_each_read_and_write(rt: HostRuntime) -> Result<(), Fail> {
+fn fails_at_each_read_and_write(rt: HostRuntime) {
     for read in 0..20 {
         for write in 0..24 {
             let at = FailsAt {
@@ -119,9 +116,9 @@ fn fails_at_each_read_and_write(rt: HostRuntime) -> Result<(), Fail> {
                 write,
                 error: NEVER,
             };
-            let found = run_program(&rt, &["script"], FIRST_SCRIPT, at)?;
+            let found = run_program(&rt, &["script"], FIRST_SCRIPT, at).expect(&rt, "refused");
             let taken = if read < 18 { 0 } else { write.min(22) as usize };
-            let prefix = FIRST_ANSWER.get(..2 * taken).ok_or("short")?;
+            let prefix = FIRST_ANSWER.get(..2 * taken).expect(&rt, "short");
             let (status, line) = if read < 18 || write < 22 {
                 (4, IO)
             } else {
@@ -131,18 +128,16 @@ fn fails_at_each_read_and_write(rt: HostRuntime) -> Result<(), Fail> {
             expect(&rt, &found, status, prefix, line);
         }
     }
-    Ok(())
 }
 
 #[test]
-fn keeps_its_status_where_no_error_can_be_printed(rt: HostRuntime) -> Result<(), Fail> {
+fn keeps_its_status_where_no_error_can_be_printed(rt: HostRuntime) {
     for error in 0..4 {
         let at = FailsAt { error, ..NO_FAULT };
-        let found = run_program(&rt, &[], FIRST_SCRIPT, at)?;
-        assert_eq!(rt; found.status, 1);
-        assert_eq!(rt; found.output.len(), 0);
+        let found = run_program(&rt, &[], FIRST_SCRIPT, at).expect(&rt, "refused");
+        check_eq!(rt; found.status, 1);
+        check_eq!(rt; found.output.len(), 0);
     }
-    Ok(())
 }
 
 #[test]
@@ -152,16 +147,16 @@ fn ends_if_its_arguments_cannot_be_read(rt: HostRuntime) {
         (ErrorKind::OutOfMemory, 3, NO_MEMORY),
     ] {
         let mut errors = Vec::new(rt.alloc());
-        assert_eq!(rt;
+        check_eq!(rt;
             serve_without_words(&mut errors, &io::Error::from(kind)),
             status
         );
-        assert_eq!(rt; errors.as_slice(), line.as_bytes());
+        check_eq!(rt; errors.as_slice(), line.as_bytes());
     }
 }
 
 #[test]
 fn faults_have_one_byte(rt: HostRuntime) {
-    assert_eq!(rt; (size_of::<PoolFault>(), size_of::<CopyFault>()), (1, 1));
-    assert_eq!(rt; size_of::<TokensFault>(), 1);
+    check_eq!(rt; (size_of::<PoolFault>(), size_of::<CopyFault>()), (1, 1));
+    check_eq!(rt; size_of::<TokensFault>(), 1);
 }

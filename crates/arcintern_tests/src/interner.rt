@@ -1,9 +1,9 @@
 //! Interners of a few words and of many, and the counts of the texts that they keep.
+use crate::checks::{check, check_eq};
 use arcintern::{InternFault, Interner, Symbol};
 use arcstr::{ArcStr, literal};
 use std::alloc::AllocGlobal;
 use std::process::Abort;
-use std::test::Fail;
 
 /// How many words the large interner has.
 const WORDS: usize = 100_000;
@@ -17,8 +17,8 @@ fn interned(rt: &impl Abort, interner: &mut Interner, word: &str) -> Symbol {
 fn check_alone(rt: &impl Abort, interner: &Interner, symbol: Symbol, wanted: &str) {
     match interner.resolve(symbol) {
         Some(text) => {
-            assert_eq!(rt; text.as_str(), wanted);
-            assert_eq!(rt; ArcStr::strong_count(text), Some(1));
+            check_eq!(rt; text.as_str(), wanted);
+            check_eq!(rt; ArcStr::strong_count(text), Some(1));
         }
         None => panic!(rt; "no text"),
     }
@@ -29,10 +29,10 @@ fn check_apart(rt: &(impl Abort + AllocGlobal), one: &str, other: &str) {
     let mut interner = Interner::new(rt.alloc());
     let first = interned(rt, &mut interner, one);
     let second = interned(rt, &mut interner, other);
-    assert!(rt; first != second);
-    assert!(rt; interned(rt, &mut interner, one) == first);
-    assert!(rt; interner.get(other) == Some(second));
-    assert_eq!(rt; interner.len(), 2);
+    check!(rt; first != second);
+    check!(rt; interned(rt, &mut interner, one) == first);
+    check!(rt; interner.get(other) == Some(second));
+    check_eq!(rt; interner.len(), 2);
     check_alone(rt, &interner, first, one);
     check_alone(rt, &interner, second, other);
 }
@@ -51,14 +51,13 @@ fn words_are_told_apart(rt: HostRuntime) {
 }
 
 #[test]
-fn an_empty_word_is_a_text_too(rt: HostRuntime) -> Result<(), Fail> {
+fn an_empty_word_is_a_text_too(rt: HostRuntime) {
     let mut interner = Interner::new(rt.alloc());
-    assert!(rt; interner.get("").is_none());
-    let symbol = interner.intern("")?;
-    assert!(rt; interner.intern("")? == symbol);
-    assert_eq!(rt; interner.len(), 1);
-    assert!(rt; ArcStr::is_static(&interner[symbol]));
-    Ok(())
+    check!(rt; interner.get("").is_none());
+    let symbol = interner.intern("").expect(&rt, "refused");
+    check!(rt; interner.intern("").expect(&rt, "refused") == symbol);
+    check_eq!(rt; interner.len(), 1);
+    check!(rt; ArcStr::is_static(&interner[symbol]));
 }
 
 /// The word of a number.
@@ -71,82 +70,83 @@ fn many_words_are_numbered_as_they_come(rt: HostRuntime) {
     let mut interner = Interner::new(rt.alloc());
     for number in 0..WORDS {
         let word = word_of(&rt, number);
-        assert_eq!(rt; interned(&rt, &mut interner, &word).index(), number);
+        check_eq!(rt; interned(&rt, &mut interner, &word).index(), number);
     }
     for number in 0..WORDS / 2 {
         let word = word_of(&rt, number * 2);
-        assert_eq!(rt; interned(&rt, &mut interner, &word).index(), number * 2);
+        check_eq!(rt; interned(&rt, &mut interner, &word).index(), number * 2);
     }
-    assert_eq!(rt; interner.len(), WORDS);
+    check_eq!(rt; interner.len(), WORDS);
     for (number, text) in interner.iter().enumerate() {
-        assert_eq!(rt; text.as_str(), word_of(&rt, number).as_str());
-        assert_eq!(rt; ArcStr::strong_count(text), Some(1));
+        check_eq!(rt; text.as_str(), word_of(&rt, number).as_str());
+        check_eq!(rt; ArcStr::strong_count(text), Some(1));
     }
 }
 
 #[test]
-fn a_text_is_kept_as_a_clone(rt: HostRuntime) -> Result<(), Fail> {
-    let text = ArcStr::from_str(rt.alloc(), "foobar")?;
+fn a_text_is_kept_as_a_clone(rt: HostRuntime) {
+    let text = ArcStr::from_str(rt.alloc(), "foobar").expect(&rt, "refused");
     let mut interner = Interner::new(rt.alloc());
-    let symbol = interner.intern_arc(&rt, &text)?;
-    assert!(rt; interner.intern_arc(&rt, &text)? == symbol);
-    assert_eq!(rt; ArcStr::strong_count(&text), Some(2));
+    let symbol = interner.intern_arc(&rt, &text).expect(&rt, "refused");
+    check!(rt; interner.intern_arc(&rt, &text).expect(&rt, "refused") == symbol);
+    check_eq!(rt; ArcStr::strong_count(&text), Some(2));
     drop(interner);
-    assert_eq!(rt; ArcStr::strong_count(&text), Some(1));
-    Ok(())
+    check_eq!(rt; ArcStr::strong_count(&text), Some(1));
 }
 
 #[test]
-fn a_text_is_not_kept_twice(rt: HostRuntime) -> Result<(), Fail> {
-    let text = ArcStr::from_str(rt.alloc(), "foobar")?;
+fn a_text_is_not_kept_twice(rt: HostRuntime) {
+    let text = ArcStr::from_str(rt.alloc(), "foobar").expect(&rt, "refused");
     let mut interner = Interner::new(rt.alloc());
-    let symbol = interner.intern("foobar")?;
-    assert!(rt; interner.intern_arc(&rt, &text)? == symbol);
-    assert_eq!(rt; ArcStr::strong_count(&text), Some(1));
-    Ok(())
+    let symbol = interner.intern("foobar").expect(&rt, "refused");
+    check!(rt; interner.intern_arc(&rt, &text).expect(&rt, "refused") == symbol);
+    check_eq!(rt; ArcStr::strong_count(&text), Some(1));
 }
 
 #[test]
-fn a_slice_of_all_of_a_text_is_kept_as_a_clone(rt: HostRuntime) -> Result<(), Fail> {
-    let text = ArcStr::from_str(rt.alloc(), "foobar")?;
-    let slice = text.substr(&rt, ..)?;
+fn a_slice_of_all_of_a_text_is_kept_as_a_clone(rt: HostRuntime) {
+    let text = ArcStr::from_str(rt.alloc(), "foobar").expect(&rt, "refused");
+    let slice = text.substr(&rt, ..).expect(&rt, "refused");
     let mut interner = Interner::new(rt.alloc());
-    interner.intern_substr(&rt, &slice)?;
-    assert_eq!(rt; ArcStr::strong_count(&text), Some(3));
-    Ok(())
+    interner.intern_substr(&rt, &slice).expect(&rt, "refused");
+    check_eq!(rt; ArcStr::strong_count(&text), Some(3));
 }
 
 #[test]
-fn another_slice_is_copied(rt: HostRuntime) -> Result<(), Fail> {
-    let text = ArcStr::from_str(rt.alloc(), "foobar")?;
+fn another_slice_is_copied(rt: HostRuntime) {
+    let text = ArcStr::from_str(rt.alloc(), "foobar").expect(&rt, "refused");
     let mut interner = Interner::new(rt.alloc());
-    let symbol = interner.intern_substr(&rt, &text.substr(&rt, ..3)?)?;
-    interner.intern_substr(&rt, &text.substr(&rt, 1..)?)?;
-    assert_eq!(rt; ArcStr::strong_count(&text), Some(1));
-    assert_eq!(rt; interner.len(), 2);
+    let symbol = interner
+        .intern_substr(&rt, &text.substr(&rt, ..3).expect(&rt, "refused"))
+        .expect(&rt, "refused");
+    interner
+        .intern_substr(&rt, &text.substr(&rt, 1..).expect(&rt, "refused"))
+        .expect(&rt, "refused");
+    check_eq!(rt; ArcStr::strong_count(&text), Some(1));
+    check_eq!(rt; interner.len(), 2);
     check_alone(&rt, &interner, symbol, "foo");
-    Ok(())
 }
 
 #[test]
-fn a_literal_stays_a_literal(rt: HostRuntime) -> Result<(), Fail> {
-    let mut interner = Interner::with_capacity(rt.alloc(), 1)?;
-    let symbol = interner.intern_arc(&rt, &literal!("foo"))?;
-    assert!(rt; ArcStr::is_static(&interner[symbol]));
-    Ok(())
+fn a_literal_stays_a_literal(rt: HostRuntime) {
+    let mut interner = Interner::with_capacity(rt.alloc(), 1).expect(&rt, "refused");
+    let symbol = interner
+        .intern_arc(&rt, &literal!("foo"))
+        .expect(&rt, "refused");
+    check!(rt; ArcStr::is_static(&interner[symbol]));
 }
 
 #[test]
-fn symbols_and_faults_are_printed(rt: HostRuntime) -> Result<(), Fail> {
+fn symbols_and_faults_are_printed(rt: HostRuntime) {
     let symbol = interned(&rt, &mut Interner::new(rt.alloc()), "foo");
     let printed = format!(in rt.alloc();
         "{symbol:?} {}, {}",
         InternFault::Length,
         InternFault::Memory
-    )?;
-    assert_eq!(rt;
+    )
+    .expect(&rt, "refused");
+    check_eq!(rt;
         printed.as_str(),
         "Symbol(0) text is too long, out of memory"
     );
-    Ok(())
 }

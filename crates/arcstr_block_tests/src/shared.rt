@@ -3,6 +3,7 @@ ghost use Rattle.arcstr_count.specs.declared.words.TheConstants.{RC_MAX};
 ghost use mathlib.Core.List.{IsPrefix};
 ghost use Rattle.arcstr_block.specs.Handle.{IsMarkedIn};
 
+use crate::checks::{check, check_eq};
 use arcstr_block::{Down, Fixed, Owed, Seen, Shared, TextFault};
 use linked_list_allocator::LocalHeap;
 use std::alloc::Global;
@@ -10,19 +11,18 @@ use std::mem::size_of;
 use std::process::Abort;
 use std::sync::Wait;
 use std::sync::atomic::{AtomicBool, AtomicU64, Ordering};
-use std::test::Fail;
 use std::thread::Threads;
 use std::{io, thread};
 
 #[test]
 fn the_types_have_their_sizes(rt: HostRuntime) {
-    assert_eq!(rt; size_of::<Shared<5, Global>>(), 16);
-    assert_eq!(rt; size_of::<Fixed<Global>>(), 16);
-    assert_eq!(rt;
+    check_eq!(rt; size_of::<Shared<5, Global>>(), 16);
+    check_eq!(rt; size_of::<Fixed<Global>>(), 16);
+    check_eq!(rt;
         (size_of::<Owed<Global>>(), size_of::<Down<Global>>()),
         (16, 24)
     );
-    assert_eq!(rt; (size_of::<Seen>(), size_of::<TextFault>()), (0, 16));
+    check_eq!(rt; (size_of::<Seen>(), size_of::<TextFault>()), (0, 16));
 }
 
 /// A handle and its clone, which have two seats in the history of one block.
@@ -37,14 +37,13 @@ fn cloned<R: Wait>(rt: &R, first: Shared<5, Global>) -> (Shared<5, Global>, Shar
 }
 
 #[test]
-fn apart_hands_both_back_in_order(rt: HostRuntime) -> Result<(), Fail> {
-    let first = Shared::<5, Global>::from_text(rt.alloc(), "foobar")?;
-    let other = Shared::<5, Global>::from_text(rt.alloc(), "foo")?;
+fn apart_hands_both_back_in_order(rt: HostRuntime) {
+    let first = Shared::<5, Global>::from_text(rt.alloc(), "foobar").expect(&rt, "refused");
+    let other = Shared::<5, Global>::from_text(rt.alloc(), "foo").expect(&rt, "refused");
     let (first, second) = cloned(&rt, first);
     let (second, other) = second.apart(other);
-    assert_eq!(rt; (second.as_str(), other.as_str()), ("foobar", "foo"));
-    assert_eq!(rt; (first.look().0, other.look().0), (Some(2), Some(1)));
-    Ok(())
+    check_eq!(rt; (second.as_str(), other.as_str()), ("foobar", "foo"));
+    check_eq!(rt; (first.look().0, other.look().0), (Some(2), Some(1)));
 }
 
 /// What two looks at one block saw of its one history.
@@ -60,15 +59,14 @@ fn looked_twice(handle: &Shared<5, Global>) -> (Seen, Seen)
 }
 
 #[test]
-fn two_looks_agree(rt: HostRuntime) -> Result<(), Fail> {
-    let first = Shared::<5, Global>::from_text(rt.alloc(), "foobar")?;
+fn two_looks_agree(rt: HostRuntime) {
+    let first = Shared::<5, Global>::from_text(rt.alloc(), "foobar").expect(&rt, "refused");
     let second = first.up(&rt);
     let (seen, again) = looked_twice(&first);
     let (_, other) = second.look();
     again.agree(&seen);
     other.agree(&seen);
-    assert_eq!(rt; second.look().0, Some(2));
-    Ok(())
+    check_eq!(rt; second.look().0, Some(2));
 }
 
 /// 1 if the block was found marked, 2 if the subtraction was not the last, 3 if the memory was owed.
@@ -84,12 +82,11 @@ fn ended(down: Down<Global>) -> u8 {
 }
 
 #[test]
-fn the_last_handle_owes(rt: HostRuntime) -> Result<(), Fail> {
-    let first = Shared::<5, Global>::from_text(rt.alloc(), "foobar")?;
+fn the_last_handle_owes(rt: HostRuntime) {
+    let first = Shared::<5, Global>::from_text(rt.alloc(), "foobar").expect(&rt, "refused");
     let second = first.up(&rt);
-    assert_eq!(rt; ended(first.down().0), 2);
-    assert_eq!(rt; ended(second.down().0), 3);
-    Ok(())
+    check_eq!(rt; ended(first.down().0), 2);
+    check_eq!(rt; ended(second.down().0), 3);
 }
 
 /// Ends a handle, and frees what it owes: if it owes anything, its block is not that of the other handle.
@@ -108,15 +105,14 @@ fn owes_beside(handle: Shared<5, Global>, other: Shared<5, Global>) -> (bool, Sh
 }
 
 #[test]
-fn no_handle_is_left_on_what_is_owed(rt: HostRuntime) -> Result<(), Fail> {
-    let first = Shared::<5, Global>::from_text(rt.alloc(), "foobar")?;
+fn no_handle_is_left_on_what_is_owed(rt: HostRuntime) {
+    let first = Shared::<5, Global>::from_text(rt.alloc(), "foobar").expect(&rt, "refused");
     let second = first.up(&rt);
-    let other = Shared::<5, Global>::from_text(rt.alloc(), "foo")?;
+    let other = Shared::<5, Global>::from_text(rt.alloc(), "foo").expect(&rt, "refused");
     let (left, other) = owes_beside(first, other);
     let (owes, other) = owes_beside(second, other);
-    assert_eq!(rt; (left, owes), (false, true));
-    assert_eq!(rt; (other.as_str(), other.look().0), ("foo", Some(1)));
-    Ok(())
+    check_eq!(rt; (left, owes), (false, true));
+    check_eq!(rt; (other.as_str(), other.look().0), ("foo", Some(1)));
 }
 
 /// Ends a handle, and frees what it owes: if it owes anything, its block is not that of the borrowed handle.
@@ -133,14 +129,13 @@ fn owes_beside_lent(handle: Shared<5, Global>, lent: &Shared<5, Global>) -> bool
 }
 
 #[test]
-fn no_lent_handle_is_on_what_is_owed(rt: HostRuntime) -> Result<(), Fail> {
-    let first = Shared::<5, Global>::from_text(rt.alloc(), "foobar")?;
+fn no_lent_handle_is_on_what_is_owed(rt: HostRuntime) {
+    let first = Shared::<5, Global>::from_text(rt.alloc(), "foobar").expect(&rt, "refused");
     let second = first.up(&rt);
-    let other = Shared::<5, Global>::from_text(rt.alloc(), "foo")?;
-    assert_eq!(rt; owes_beside_lent(first, &second), false);
-    assert_eq!(rt; owes_beside_lent(second, &other), true);
-    assert_eq!(rt; other.look().0, Some(1));
-    Ok(())
+    let other = Shared::<5, Global>::from_text(rt.alloc(), "foo").expect(&rt, "refused");
+    check_eq!(rt; owes_beside_lent(first, &second), false);
+    check_eq!(rt; owes_beside_lent(second, &other), true);
+    check_eq!(rt; other.look().0, Some(1));
 }
 
 /// Ends a handle, and frees what it owes: if it owes anything, its block is not the permanent one.
@@ -157,14 +152,13 @@ fn owes_beside_fixed(handle: Shared<5, Global>, fixed: &Fixed<Global>) -> bool
 }
 
 #[test]
-fn what_is_owed_is_not_marked(rt: HostRuntime) -> Result<(), Fail> {
-    let first = Shared::<5, Global>::from_text(rt.alloc(), "foobar")?;
-    let other = Shared::<5, Global>::from_text(rt.alloc(), "foo")?;
+fn what_is_owed_is_not_marked(rt: HostRuntime) {
+    let first = Shared::<5, Global>::from_text(rt.alloc(), "foobar").expect(&rt, "refused");
+    let other = Shared::<5, Global>::from_text(rt.alloc(), "foo").expect(&rt, "refused");
     let fixed = first.mark();
-    assert_eq!(rt; owes_beside_fixed(first, &fixed), false);
-    assert_eq!(rt; owes_beside_fixed(other, &fixed), true);
-    assert_eq!(rt; fixed.as_str(), "foobar");
-    Ok(())
+    check_eq!(rt; owes_beside_fixed(first, &fixed), false);
+    check_eq!(rt; owes_beside_fixed(other, &fixed), true);
+    check_eq!(rt; fixed.as_str(), "foobar");
 }
 
 /// Ends two handles, and frees what they owe: if both owe, they were on two blocks.
@@ -196,14 +190,13 @@ fn both_owe(first: Shared<5, Global>, second: Shared<5, Global>) -> bool
 }
 
 #[test]
-fn a_block_is_owed_once(rt: HostRuntime) -> Result<(), Fail> {
-    let first = Shared::<5, Global>::from_text(rt.alloc(), "foobar")?;
-    let other = Shared::<5, Global>::from_text(rt.alloc(), "foo")?;
+fn a_block_is_owed_once(rt: HostRuntime) {
+    let first = Shared::<5, Global>::from_text(rt.alloc(), "foobar").expect(&rt, "refused");
+    let other = Shared::<5, Global>::from_text(rt.alloc(), "foo").expect(&rt, "refused");
     let second = first.up(&rt);
     let third = first.up(&rt);
-    assert_eq!(rt; both_owe(first, second), false);
-    assert_eq!(rt; both_owe(third, other), true);
-    Ok(())
+    check_eq!(rt; both_owe(first, second), false);
+    check_eq!(rt; both_owe(third, other), true);
 }
 
 /// A value that threads may hand to one another, and share.
@@ -212,30 +205,29 @@ fn crossing<T: Send + Sync>(value: T) -> T {
 }
 
 #[test]
-fn handles_may_cross_threads(rt: HostRuntime) -> Result<(), Fail> {
-    let text = crossing(Shared::<5, Global>::from_text(rt.alloc(), "foobar")?);
+fn handles_may_cross_threads(rt: HostRuntime) {
+    let text = crossing(Shared::<5, Global>::from_text(rt.alloc(), "foobar").expect(
+        &rt, "refused",
+    ));
     let (fixed, _) = crossing((text.mark(), text.look().1));
-    assert_eq!(rt; fixed.as_str(), text.as_str());
-    Ok(())
+    check_eq!(rt; fixed.as_str(), text.as_str());
 }
 
 #[test]
-fn what_is_owed_may_cross_threads(rt: HostRuntime) -> Result<(), Fail> {
-    let first = Shared::<5, Global>::from_text(rt.alloc(), "foobar")?;
-    assert_eq!(rt; ended(crossing(first.down().0)), 3);
-    Ok(())
+fn what_is_owed_may_cross_threads(rt: HostRuntime) {
+    let first = Shared::<5, Global>::from_text(rt.alloc(), "foobar").expect(&rt, "refused");
+    check_eq!(rt; ended(crossing(first.down().0)), 3);
 }
 
 #[test]
-fn a_marked_block_ends_no_handle(rt: HostRuntime) -> Result<(), Fail> {
-    let first = Shared::<5, Global>::from_text(rt.alloc(), "foobar")?;
+fn a_marked_block_ends_no_handle(rt: HostRuntime) {
+    let first = Shared::<5, Global>::from_text(rt.alloc(), "foobar").expect(&rt, "refused");
     let second = first.up(&rt);
-    assert_eq!(rt; first.fixed().0.is_none(), true);
+    check_eq!(rt; first.fixed().0.is_none(), true);
     let fixed = first.mark();
-    assert_eq!(rt; (first.look().0, second.fixed().0.is_some()), (None, true));
-    assert_eq!(rt; (ended(first.down().0), ended(second.down().0)), (1, 1));
-    assert_eq!(rt; fixed.again().as_str(), "foobar");
-    Ok(())
+    check_eq!(rt; (first.look().0, second.fixed().0.is_some()), (None, true));
+    check_eq!(rt; (ended(first.down().0), ended(second.down().0)), (1, 1));
+    check_eq!(rt; fixed.again().as_str(), "foobar");
 }
 
 /// Marks the block through one handle and finds it marked through another: both saw a prefix of one history that has the mark.
@@ -252,15 +244,14 @@ fn marks_and_finds(first: &Shared<5, Global>, second: &Shared<5, Global>) -> (Se
 }
 
 #[test]
-fn what_marked_a_block_has_the_mark(rt: HostRuntime) -> Result<(), Fail> {
-    let first = Shared::<5, Global>::from_text(rt.alloc(), "foobar")?;
+fn what_marked_a_block_has_the_mark(rt: HostRuntime) {
+    let first = Shared::<5, Global>::from_text(rt.alloc(), "foobar").expect(&rt, "refused");
     let (first, second) = cloned(&rt, first);
     let (made, found) = marks_and_finds(&first, &second);
     let Some(found) = found else {
-        return Err(Fail::from("the mark was not found"));
+        panic!(rt; "the mark was not found");
     };
     made.agree(&found);
-    Ok(())
 }
 
 /// How many bytes of a heap are in use after two clones and three drops of one text.
@@ -284,37 +275,33 @@ fn used_after<const LIMIT: u64, R: Wait>(
 }
 
 #[test]
-fn all_memory_is_given_back(rt: HostRuntime) -> Result<(), Fail> {
-    let heap = LocalHeap::new(rt.alloc(), 4096)?;
-    assert_eq!(rt; used_after::<5, _>(&rt, &heap, false)?, 0);
-    Ok(())
+fn all_memory_is_given_back(rt: HostRuntime) {
+    let heap = LocalHeap::new(rt.alloc(), 4096).expect(&rt, "refused");
+    check_eq!(rt; used_after::<5, _>(&rt, &heap, false).expect(&rt, "refused"), 0);
 }
 
 #[test]
-fn a_limit_marks_the_block(rt: HostRuntime) -> Result<(), Fail> {
-    let heap = LocalHeap::new(rt.alloc(), 4096)?;
-    assert_eq!(rt; used_after::<1, _>(&rt, &heap, false)? > 0, true);
-    Ok(())
+fn a_limit_marks_the_block(rt: HostRuntime) {
+    let heap = LocalHeap::new(rt.alloc(), 4096).expect(&rt, "refused");
+    check_eq!(rt; used_after::<1, _>(&rt, &heap, false).expect(&rt, "refused") > 0, true);
 }
 
 #[test]
-fn a_clone_of_few_tries_counts_marks_and_gives_up(rt: HostRuntime) -> Result<(), Fail> {
-    let text = Shared::<1, _>::from_text(rt.alloc(), "aé")?;
-    assert!(rt; text.try_up(0).is_none());
-    assert_eq!(rt; text.look().0, Some(1));
+fn a_clone_of_few_tries_counts_marks_and_gives_up(rt: HostRuntime) {
+    let text = Shared::<1, _>::from_text(rt.alloc(), "aé").expect(&rt, "refused");
+    check!(rt; text.try_up(0).is_none());
+    check_eq!(rt; text.look().0, Some(1));
     let second = text.try_up(1);
-    assert_eq!(rt; (second.is_some(), text.look().0), (true, Some(2)));
-    assert!(rt; text.try_up(1).is_some());
-    assert_eq!(rt; text.look().0, None);
-    assert!(rt; text.try_up(0).is_some());
-    Ok(())
+    check_eq!(rt; (second.is_some(), text.look().0), (true, Some(2)));
+    check!(rt; text.try_up(1).is_some());
+    check_eq!(rt; text.look().0, None);
+    check!(rt; text.try_up(0).is_some());
 }
 
 #[test]
-fn a_mark_keeps_the_block(rt: HostRuntime) -> Result<(), Fail> {
-    let heap = LocalHeap::new(rt.alloc(), 4096)?;
-    assert_eq!(rt; used_after::<5, _>(&rt, &heap, true)? > 0, true);
-    Ok(())
+fn a_mark_keeps_the_block(rt: HostRuntime) {
+    let heap = LocalHeap::new(rt.alloc(), 4096).expect(&rt, "refused");
+    check_eq!(rt; used_after::<5, _>(&rt, &heap, true).expect(&rt, "refused") > 0, true);
 }
 
 /// How often a thread looks for the others: for many seconds, since other programs may keep them from starting.
@@ -383,62 +370,58 @@ fn look_after_two<const LIMIT: u64, R: Threads + Wait + Sync>(
 }
 
 #[test]
-fn limits_are_crossed_by_threads(rt: HostRuntime) -> Result<(), Fail> {
-    assert_eq!(rt;
-        look_after_two::<0, _>(&rt, rt.alloc())?,
+fn limits_are_crossed_by_threads(rt: HostRuntime) {
+    check_eq!(rt;
+        look_after_two::<0, _>(&rt, rt.alloc()).expect(&rt, "refused"),
         (None, true, true)
     );
-    assert_eq!(rt;
-        look_after_two::<1, _>(&rt, rt.alloc())?,
+    check_eq!(rt;
+        look_after_two::<1, _>(&rt, rt.alloc()).expect(&rt, "refused"),
         (None, true, true)
     );
-    assert_eq!(rt;
-        look_after_two::<2, _>(&rt, rt.alloc())?,
+    check_eq!(rt;
+        look_after_two::<2, _>(&rt, rt.alloc()).expect(&rt, "refused"),
         (Some(3), true, true)
     );
-    Ok(())
 }
 
 #[test]
-fn faults_print_their_texts(rt: HostRuntime) -> Result<(), Fail> {
-    assert_eq!(rt;
-        format!(in rt.alloc(); "{}", TextFault::Length)?.as_str(),
+fn faults_print_their_texts(rt: HostRuntime) {
+    check_eq!(rt;
+        format!(in rt.alloc(); "{}", TextFault::Length).expect(&rt, "refused").as_str(),
         "text is too long"
     );
-    assert_eq!(rt;
-        format!(in rt.alloc(); "{}", TextFault::Memory)?.as_str(),
+    check_eq!(rt;
+        format!(in rt.alloc(); "{}", TextFault::Memory).expect(&rt, "refused").as_str(),
         "out of memory"
     );
-    Ok(())
 }
 
 #[test]
-fn faults_of_reading_print_their_texts(rt: HostRuntime) -> Result<(), Fail> {
+fn faults_of_reading_print_their_texts(rt: HostRuntime) {
     let length = io::Error::from(TextFault::Length);
     let bytes = io::Error::from(TextFault::Utf8(2));
-    assert_eq!(rt;
-        format!(in rt.alloc(); "{length}")?.as_str(),
+    check_eq!(rt;
+        format!(in rt.alloc(); "{length}").expect(&rt, "refused").as_str(),
         "text is too long"
     );
-    assert_eq!(rt;
-        format!(in rt.alloc(); "{bytes}")?.as_str(),
+    check_eq!(rt;
+        format!(in rt.alloc(); "{bytes}").expect(&rt, "refused").as_str(),
         "bytes are not UTF-8"
     );
-    Ok(())
 }
 
 /// Two handles that a heap of 16 bytes has no room for are dropped when the error is converted to a fault.
 #[test]
-fn what_could_not_be_stored_is_dropped(rt: HostRuntime) -> Result<(), Fail> {
-    let heap = LocalHeap::new(rt.alloc(), 16)?;
-    let text = Shared::<5, Global>::from_text(rt.alloc(), "foobar")?;
+fn what_could_not_be_stored_is_dropped(rt: HostRuntime) {
+    let heap = LocalHeap::new(rt.alloc(), 16).expect(&rt, "refused");
+    let text = Shared::<5, Global>::from_text(rt.alloc(), "foobar").expect(&rt, "refused");
     let Err(refused) = Box::new(&heap, (text.up(&rt), text.up(&rt))) else {
-        return Err(Fail::from("the heap has room for two handles"));
+        panic!(rt; "the heap has room for two handles");
     };
-    assert_eq!(rt; text.look().0, Some(3));
-    assert_eq!(rt; TextFault::from(refused), TextFault::Memory);
-    assert_eq!(rt; text.look().0, Some(1));
-    Ok(())
+    check_eq!(rt; text.look().0, Some(3));
+    check_eq!(rt; TextFault::from(refused), TextFault::Memory);
+    check_eq!(rt; text.look().0, Some(1));
 }
 
 /// Marks the block, and ends the handle.
@@ -455,11 +438,10 @@ fn reads_after_threads<R: Threads + Wait + Sync>(rt: &R, alloc: Global) -> Resul
 }
 
 #[test]
-fn a_fixed_block_outlives_two_threads(rt: HostRuntime) -> Result<(), Fail> {
+fn a_fixed_block_outlives_two_threads(rt: HostRuntime) {
     for _ in 0..1000 {
-        assert_eq!(rt; reads_after_threads(&rt, rt.alloc())?, true);
+        check_eq!(rt; reads_after_threads(&rt, rt.alloc()).expect(&rt, "refused"), true);
     }
-    Ok(())
 }
 
 /// Clones and drops 100,000 times once four threads have started; whether they started and the look after it has a count.
@@ -496,7 +478,6 @@ fn look_after_four<R: Threads + Wait + Sync>(
 
 /// A compare-exchange that fails because of another thread's step is repeated, and does not mark the block.
 #[test]
-fn four_threads_leave_one(rt: HostRuntime) -> Result<(), Fail> {
-    assert_eq!(rt; look_after_four(&rt, rt.alloc())?, (Some(1), true));
-    Ok(())
+fn four_threads_leave_one(rt: HostRuntime) {
+    check_eq!(rt; look_after_four(&rt, rt.alloc()).expect(&rt, "refused"), (Some(1), true));
 }

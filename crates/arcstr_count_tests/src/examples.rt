@@ -1,44 +1,43 @@
 //! The examples of the doc comments: each is the body of the test that is named for its item.
+use crate::checks::{check, check_eq};
 use arcstr_count as count;
 use arcstr_count::{
     HandleState, HandleSummary, RC_MAX, Reply, RunFault, Step, StepFault, Word, World, sentences,
 };
-use std::test::Fail;
 
 #[test]
-fn step_fault(rt: HostRuntime) -> Result<(), Fail> {
-    let replies = count::run(rt.alloc(), 2, &[Step::Make, Step::Sub(0)])?;
+fn step_fault(rt: HostRuntime) {
+    let replies = count::run(rt.alloc(), 2, &[Step::Make, Step::Sub(0)]).expect(&rt, "refused");
     let refused = Reply::Refused(StepFault::NotInDrop);
-    assert_eq!(rt; replies.last(), Some(&refused));
-    Ok(())
+    check_eq!(rt; replies.last(), Some(&refused));
 }
 
 #[test]
 fn step_fault_number(rt: HostRuntime) {
-    assert_eq!(rt; StepFault::NoHandle.number(), 1);
-    assert_eq!(rt; StepFault::NotRaw.number(), 6);
+    check_eq!(rt; StepFault::NoHandle.number(), 1);
+    check_eq!(rt; StepFault::NotRaw.number(), 6);
 }
 
 #[test]
 fn step_fault_name(rt: HostRuntime) {
-    assert_eq!(rt; StepFault::IsRaw.name(), "IsRaw");
+    check_eq!(rt; StepFault::IsRaw.name(), "IsRaw");
 }
 
 #[test]
 fn run_fault(rt: HostRuntime) {
     let refused = World::new(rt.alloc(), RC_MAX + 1);
-    assert!(rt; matches!(refused, Err(RunFault::LimitTooLarge)));
+    check!(rt; matches!(refused, Err(RunFault::LimitTooLarge)));
 }
 
 #[test]
 fn run_fault_number(rt: HostRuntime) {
-    assert_eq!(rt; RunFault::LimitTooLarge.number(), 1);
-    assert_eq!(rt; RunFault::Memory.number(), 2);
+    check_eq!(rt; RunFault::LimitTooLarge.number(), 1);
+    check_eq!(rt; RunFault::Memory.number(), 2);
 }
 
 #[test]
 fn run_fault_text(rt: HostRuntime) {
-    assert_eq!(rt; RunFault::Memory.text(), "out of memory");
+    check_eq!(rt; RunFault::Memory.text(), "out of memory");
 }
 
 #[test]
@@ -48,11 +47,10 @@ fn every_interleaving(rt: HostRuntime) {
 }
 
 #[test]
-fn run(rt: HostRuntime) -> Result<(), Fail> {
+fn run(rt: HostRuntime) {
     let steps = [Step::Make, Step::Clone(0), Step::Look(1)];
-    let replies = count::run(rt.alloc(), 2, &steps)?;
-    assert_eq!(rt; replies.last(), Some(&Reply::Count(2)));
-    Ok(())
+    let replies = count::run(rt.alloc(), 2, &steps).expect(&rt, "refused");
+    check_eq!(rt; replies.last(), Some(&Reply::Count(2)));
 }
 
 #[test]
@@ -124,20 +122,18 @@ fn answer_is(rt: HostRuntime) {
 }
 
 #[test]
-fn step(rt: HostRuntime) -> Result<(), Fail> {
+fn step(rt: HostRuntime) {
     let steps = [Step::Make, Step::Begin(0), Step::Sub(0)];
-    let replies = count::run(rt.alloc(), 2, &steps)?;
-    assert_eq!(rt; replies.last(), Some(&Reply::Owes));
-    Ok(())
+    let replies = count::run(rt.alloc(), 2, &steps).expect(&rt, "refused");
+    check_eq!(rt; replies.last(), Some(&Reply::Owes));
 }
 
 #[test]
-fn reply(rt: HostRuntime) -> Result<(), Fail> {
-    let mut world = World::new(rt.alloc(), 2)?;
-    assert_eq!(rt; world.step(Step::Make)?, Reply::Made(0));
-    assert_eq!(rt; world.step(Step::Leak(0))?, Reply::Marked);
-    assert_eq!(rt; world.step(Step::Look(0))?, Reply::Static);
-    Ok(())
+fn reply(rt: HostRuntime) {
+    let mut world = World::new(rt.alloc(), 2).expect(&rt, "refused");
+    check_eq!(rt; world.step(Step::Make).expect(&rt, "refused"), Reply::Made(0));
+    check_eq!(rt; world.step(Step::Leak(0)).expect(&rt, "refused"), Reply::Marked);
+    check_eq!(rt; world.step(Step::Look(0)).expect(&rt, "refused"), Reply::Static);
 }
 
 #[test]
@@ -151,117 +147,113 @@ fn handle_state(rt: HostRuntime) {
 fn handle_summary(rt: HostRuntime) {
     let state = HandleState::Free;
     let first = HandleSummary { block: 0, state };
-    assert_eq!(rt; first.block, 0);
+    check_eq!(rt; first.block, 0);
 }
 
 #[test]
 fn rc_max(rt: HostRuntime) {
-    assert_eq!(rt; RC_MAX, (1 << 62) - 1);
-    assert!(rt; World::new(rt.alloc(), RC_MAX).is_ok());
+    check_eq!(rt; RC_MAX, (1 << 62) - 1);
+    check!(rt; World::new(rt.alloc(), RC_MAX).is_ok());
 }
 
 #[test]
 fn word(rt: HostRuntime) {
     let word = Word::one().cloned(RC_MAX);
-    assert_eq!(rt; word.count(), 2);
-    assert!(rt; !word.marked());
+    check_eq!(rt; word.count(), 2);
+    check!(rt; !word.marked());
 }
 
 #[test]
 fn word_one(rt: HostRuntime) {
-    assert_eq!(rt; Word::one().count(), 1);
-    assert_eq!(rt; Word::one().bits(), 2);
+    check_eq!(rt; Word::one().count(), 1);
+    check_eq!(rt; Word::one().bits(), 2);
 }
 
 #[test]
 fn word_from_bits(rt: HostRuntime) {
     let word = Word::from_bits(7);
-    assert!(rt; word.marked());
-    assert_eq!(rt; word.count(), 3);
+    check!(rt; word.marked());
+    check_eq!(rt; word.count(), 3);
 }
 
 #[test]
 fn word_bits(rt: HostRuntime) {
-    assert_eq!(rt; Word::one().bits(), 2);
-    assert_eq!(rt; Word::one().with_mark().bits(), 3);
+    check_eq!(rt; Word::one().bits(), 2);
+    check_eq!(rt; Word::one().with_mark().bits(), 3);
 }
 
 #[test]
 fn word_marked(rt: HostRuntime) {
-    assert!(rt; Word::from_bits(3).marked());
-    assert!(rt; !Word::from_bits(2).marked());
+    check!(rt; Word::from_bits(3).marked());
+    check!(rt; !Word::from_bits(2).marked());
 }
 
 #[test]
 fn word_count(rt: HostRuntime) {
-    assert_eq!(rt; Word::from_bits(6).count(), 3);
-    assert_eq!(rt; Word::from_bits(7).count(), 3);
+    check_eq!(rt; Word::from_bits(6).count(), 3);
+    check_eq!(rt; Word::from_bits(7).count(), 3);
 }
 
 #[test]
 fn word_looked(rt: HostRuntime) {
-    assert_eq!(rt; Word::from_bits(6).looked(), Some(3));
-    assert_eq!(rt; Word::from_bits(7).looked(), None);
+    check_eq!(rt; Word::from_bits(6).looked(), Some(3));
+    check_eq!(rt; Word::from_bits(7).looked(), None);
 }
 
 #[test]
 fn word_cloned(rt: HostRuntime) {
-    assert_eq!(rt; Word::from_bits(2).cloned(1), Word::from_bits(4));
-    assert_eq!(rt; Word::from_bits(4).cloned(1), Word::from_bits(5));
+    check_eq!(rt; Word::from_bits(2).cloned(1), Word::from_bits(4));
+    check_eq!(rt; Word::from_bits(4).cloned(1), Word::from_bits(5));
 }
 
 #[test]
 fn word_dropped(rt: HostRuntime) {
     let (word, last) = Word::one().dropped();
-    assert_eq!(rt; word.count(), 0);
-    assert!(rt; last);
+    check_eq!(rt; word.count(), 0);
+    check!(rt; last);
 }
 
 #[test]
 fn word_with_mark(rt: HostRuntime) {
-    assert_eq!(rt; Word::from_bits(6).with_mark(), Word::from_bits(7));
-    assert_eq!(rt; Word::from_bits(7).with_mark(), Word::from_bits(7));
+    check_eq!(rt; Word::from_bits(6).with_mark(), Word::from_bits(7));
+    check_eq!(rt; Word::from_bits(7).with_mark(), Word::from_bits(7));
 }
 
 #[test]
-fn world(rt: HostRuntime) -> Result<(), Fail> {
-    let mut world = World::new(rt.alloc(), 2)?;
-    assert_eq!(rt; world.step(Step::Make)?, Reply::Made(0));
-    assert_eq!(rt; world.step(Step::Clone(0))?, Reply::Handle(1));
-    assert_eq!(rt; world.step(Step::Look(0))?, Reply::Count(2));
-    Ok(())
+fn world(rt: HostRuntime) {
+    let mut world = World::new(rt.alloc(), 2).expect(&rt, "refused");
+    check_eq!(rt; world.step(Step::Make).expect(&rt, "refused"), Reply::Made(0));
+    check_eq!(rt; world.step(Step::Clone(0)).expect(&rt, "refused"), Reply::Handle(1));
+    check_eq!(rt; world.step(Step::Look(0)).expect(&rt, "refused"), Reply::Count(2));
 }
 
 #[test]
 fn world_new(rt: HostRuntime) {
-    assert!(rt; World::new(rt.alloc(), RC_MAX).is_ok());
+    check!(rt; World::new(rt.alloc(), RC_MAX).is_ok());
     let refused = World::new(rt.alloc(), RC_MAX + 1);
-    assert!(rt; matches!(refused, Err(RunFault::LimitTooLarge)));
+    check!(rt; matches!(refused, Err(RunFault::LimitTooLarge)));
 }
 
 #[test]
-fn world_step(rt: HostRuntime) -> Result<(), Fail> {
-    let mut world = World::new(rt.alloc(), 2)?;
-    assert_eq!(rt; world.step(Step::Make)?, Reply::Made(0));
+fn world_step(rt: HostRuntime) {
+    let mut world = World::new(rt.alloc(), 2).expect(&rt, "refused");
+    check_eq!(rt; world.step(Step::Make).expect(&rt, "refused"), Reply::Made(0));
     let refused = Reply::Refused(StepFault::NotInDrop);
-    assert_eq!(rt; world.step(Step::Sub(0))?, refused);
-    Ok(())
+    check_eq!(rt; world.step(Step::Sub(0)).expect(&rt, "refused"), refused);
 }
 
 #[test]
-fn world_given(rt: HostRuntime) -> Result<(), Fail> {
-    let mut world = World::new(rt.alloc(), 2)?;
+fn world_given(rt: HostRuntime) {
+    let mut world = World::new(rt.alloc(), 2).expect(&rt, "refused");
     for step in [Step::Make, Step::Begin(0), Step::Sub(0), Step::Back(0)] {
-        let _ = world.step(step)?;
+        let _ = world.step(step).expect(&rt, "refused");
     }
-    assert_eq!(rt; world.given(0), 1);
-    Ok(())
+    check_eq!(rt; world.given(0), 1);
 }
 
 #[test]
-fn world_stands_for_a_history(rt: HostRuntime) -> Result<(), Fail> {
-    let mut world = World::new(rt.alloc(), 2)?;
-    assert_eq!(rt; world.step(Step::Make)?, Reply::Made(0));
+fn world_stands_for_a_history(rt: HostRuntime) {
+    let mut world = World::new(rt.alloc(), 2).expect(&rt, "refused");
+    check_eq!(rt; world.step(Step::Make).expect(&rt, "refused"), Reply::Made(0));
     world.stands_for_a_history();
-    Ok(())
 }

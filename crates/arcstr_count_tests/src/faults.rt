@@ -1,8 +1,8 @@
+use crate::checks::check_eq;
 use arcstr_count::{RunFault, StepFault};
-use std::test::Fail;
 
 #[test]
-fn step_faults_have_numbers_and_names(rt: HostRuntime) -> Result<(), Fail> {
+fn step_faults_have_numbers_and_names(rt: HostRuntime) {
     let faults = [
         (StepFault::NoHandle, 1, "NoHandle"),
         (StepFault::InDrop, 2, "InDrop"),
@@ -12,23 +12,21 @@ fn step_faults_have_numbers_and_names(rt: HostRuntime) -> Result<(), Fail> {
         (StepFault::NotRaw, 6, "NotRaw"),
     ];
     for (fault, number, name) in faults {
-        assert_eq!(rt; fault.number(), number);
-        let printed = format!(in rt.alloc(); "{fault}")?;
-        assert_eq!(rt; printed.as_str(), name);
+        check_eq!(rt; fault.number(), number);
+        let printed = format!(in rt.alloc(); "{fault}").expect(&rt, "refused");
+        check_eq!(rt; printed.as_str(), name);
     }
-    Ok(())
 }
 
 #[test]
-fn run_faults_have_numbers_and_texts(rt: HostRuntime) -> Result<(), Fail> {
+fn run_faults_have_numbers_and_texts(rt: HostRuntime) {
     let faults = [
         (RunFault::LimitTooLarge, 1, "limit too large"),
         (RunFault::Memory, 2, "out of memory"),
     ];
     for (fault, number, text) in faults {
-        assert_eq!(rt; fault.number(), number);
-        let printed = format!(in rt.alloc(); "{fault}")?;
-        assert_eq!(rt; printed.as_str(), text);
+        check_eq!(rt; fault.number(), number);
+        let printed = format!(in rt.alloc(); "{fault}").expect(&rt, "refused");
+        check_eq!(rt; printed.as_str(), text);
     }
-    Ok(())
 }

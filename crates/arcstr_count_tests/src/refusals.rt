@@ -2,10 +2,10 @@
 //!
 //! The program `arcrefusals` takes the same steps, and `./refusals` refuses its allocations. Only this test shows how much
 //! memory a refused step keeps: none, unless the first of its two tables has grown.
+use crate::checks::check_eq;
 use arcstr_count::{Reply, RunFault, Step, World};
 use linked_list_allocator::LocalHeap;
 use std::process::Abort;
-use std::test::Fail;
 
 /// The smallest block that a heap hands out, in bytes.
 const GRAIN: usize = 16;
@@ -85,24 +85,23 @@ const REFUSALS: [Option<Refusal>; 6] = [
 ];
 
 #[test]
-fn a_refused_step_answers_as_if_nothing_had_happened(rt: HostRuntime) -> Result<(), Fail> {
+fn a_refused_step_answers_as_if_nothing_had_happened(rt: HostRuntime) {
     let mut refusals = Vec::new(rt.alloc());
     for grains in 0..GRAINS {
-        let heap = LocalHeap::new(rt.alloc(), GRAINS * GRAIN)?;
-        let refusal = first_refusal(&rt, &heap, grains * GRAIN)?;
+        let heap = LocalHeap::new(rt.alloc(), GRAINS * GRAIN).expect(&rt, "refused");
+        let refusal = first_refusal(&rt, &heap, grains * GRAIN);
         if refusals.last() != Some(&refusal) {
-            refusals.push(refusal)?;
+            refusals.push(refusal).expect(&rt, "refused");
         }
     }
-    assert_eq!(rt; refusals.as_slice(), REFUSALS.as_slice());
-    Ok(())
+    check_eq!(rt; refusals.as_slice(), REFUSALS.as_slice());
 }
 
 /// Takes the steps while a ballast of `bytes` bytes is allocated. The first refusal drops the ballast, and
 /// the same step then succeeds. Returns the refusal, if there was one.
-fn first_refusal(rt: &impl Abort, heap: &LocalHeap, bytes: usize) -> Result<Option<Refusal>, Fail> {
-    let mut world = World::new(heap, LIMIT)?;
-    let mut ballast = Some(Vec::<u8, &LocalHeap>::with_capacity(heap, bytes)?);
+fn first_refusal(rt: &impl Abort, heap: &LocalHeap, bytes: usize) -> Option<Refusal> {
+    let mut world = World::new(heap, LIMIT).expect(rt, "refused");
+    let mut ballast = Some(Vec::<u8, &LocalHeap>::with_capacity(heap, bytes).expect(rt, "refused"));
     let mut refusal = None;
     for (index, (step, wanted)) in STEPS.iter().zip(REPLIES).enumerate() {
         let given = given_of_each(&world);
@@ -110,20 +109,20 @@ fn first_refusal(rt: &impl Abort, heap: &LocalHeap, bytes: usize) -> Result<Opti
         let reply = match world.step(*step) {
             Ok(reply) => reply,
             Err(fault) => {
-                assert_eq!(rt; fault, RunFault::Memory);
-                assert_eq!(rt; given_of_each(&world), given);
-                assert_eq!(rt; refusal, None);
+                check_eq!(rt; fault, RunFault::Memory);
+                check_eq!(rt; given_of_each(&world), given);
+                check_eq!(rt; refusal, None);
                 refusal = Some(Refusal {
                     index,
                     grown: heap.used() > used,
                 });
                 drop(ballast.take());
-                world.step(*step)?
+                world.step(*step).expect(rt, "refused twice")
             }
         };
-        assert_eq!(rt; reply, wanted);
+        check_eq!(rt; reply, wanted);
     }
-    Ok(refusal)
+    refusal
 }
 
 /// How often each of the six blocks was freed.

@@ -1,9 +1,9 @@
+use crate::checks::{check, check_eq};
 use arcstr_count::{RC_MAX, Reply, RunFault, Step, StepFault, run};
-use std::test::Fail;
 
 // Two drops cross: the one that subtracts last owes the block, and frees it once.
 #[test]
-fn crossing_drops(rt: HostRuntime) -> Result<(), Fail> {
+fn crossing_drops(rt: HostRuntime) {
     let steps = [
         Step::Make,
         Step::Clone(0),
@@ -26,15 +26,13 @@ fn crossing_drops(rt: HostRuntime) -> Result<(), Fail> {
         Reply::Given,
         Reply::Refused(StepFault::NoHandle),
     ];
-    let replies = run(rt.alloc(), 5, &steps)?;
-    assert_eq!(rt; replies.as_slice(), expected.as_slice());
-    Ok(())
+    let replies = run(rt.alloc(), 5, &steps).expect(&rt, "refused");
+    check_eq!(rt; replies.as_slice(), expected.as_slice());
 }
 
 #[test]
-fn the_limit_is_at_most_the_greatest(rt: HostRuntime) -> Result<(), Fail> {
-    assert!(rt; run(rt.alloc(), RC_MAX, &[])?.is_empty());
+fn the_limit_is_at_most_the_greatest(rt: HostRuntime) {
+    check!(rt; run(rt.alloc(), RC_MAX, &[]).expect(&rt, "refused").is_empty());
     let refused = run(rt.alloc(), RC_MAX + 1, &[]);
-    assert!(rt; matches!(refused, Err(RunFault::LimitTooLarge)));
-    Ok(())
+    check!(rt; matches!(refused, Err(RunFault::LimitTooLarge)));
 }

@@ -1,5 +1,5 @@
-use arcstr_range::view::StrView;
-use std::test::Fail;
+use crate::checks::check_eq;
+use crate::test_steps::view_at;
 
 /// Texts, and patterns to find in them.
 const PATTERNS: [(&str, &str); 8] = [
@@ -14,13 +14,12 @@ const PATTERNS: [(&str, &str); 8] = [
 ];
 
 #[test]
-fn finds_as_a_str(rt: HostRuntime) -> Result<(), Fail> {
+fn finds_as_a_str(rt: HostRuntime) {
     for (text, pattern) in PATTERNS {
-        let view = StrView::at(text, 7).ok_or("no view")?;
-        assert_eq!(rt; view.find(pattern), text.find(pattern));
+        let view = view_at(&rt, text, 7);
+        check_eq!(rt; view.find(pattern), text.find(pattern));
         if let Some(character) = pattern.chars().next() {
-            assert_eq!(rt; view.find(character), text.find(character));
+            check_eq!(rt; view.find(character), text.find(character));
         }
     }
-    Ok(())
 }

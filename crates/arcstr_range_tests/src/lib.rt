@@ -2,6 +2,8 @@
 #![tactic(auto)]
 
 #[cfg(test)]
+mod checks;
+#[cfg(test)]
 mod examples;
 #[cfg(test)]
 mod find;
@@ -13,6 +15,8 @@ mod parts;
 mod ranges;
 #[cfg(test)]
 mod split;
+#[cfg(test)]
+mod test_steps;
 #[cfg(test)]
 mod views;
 #[cfg(test)]

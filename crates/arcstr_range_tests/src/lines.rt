@@ -1,6 +1,6 @@
-use arcstr_range::view::StrView;
+use crate::checks::check;
+use crate::test_steps::{check_part, view_at};
 use std::process::Abort;
-use std::test::Fail;
 
 /// Texts, and the byte offsets of their lines.
 const TEXTS: [(&str, [usize; 3]); 13] = [
@@ -20,31 +20,20 @@ const TEXTS: [(&str, [usize; 3]); 13] = [
 ];
 
 /// Asserts that the lines of the text at this place are those of `str::lines`, each at its own place.
-fn check(rt: &impl Abort, text: &str, places: [usize; 3], start: usize) -> Result<(), Fail> {
-    let mut lines = StrView::at(text, start).ok_or("no view")?.lines();
-    let mut offsets = places.iter();
-    for wanted in text.lines() {
-        let line = lines.next().ok_or("too few lines")?;
-        let offset = *offsets.next().ok_or("too many lines")?;
-        let end = offset.saturating_add(wanted.len());
-        assert_eq!(rt; line.text(), wanted);
-        assert_eq!(rt; Some(line.text()), text.get(offset..end));
-        assert_eq!(rt;
-            line.range(),
-            start.saturating_add(offset)..start.saturating_add(end)
-        );
+fn check(rt: &impl Abort, text: &str, places: [usize; 3], start: usize) {
+    let mut lines = view_at(rt, text, start).lines();
+    for part in places.into_iter().zip(text.lines()) {
+        check_part(rt, lines.next(), text, part, start);
     }
-    assert!(rt; lines.next().is_none());
-    assert!(rt; lines.next().is_none());
-    Ok(())
+    check!(rt; lines.next().is_none());
+    check!(rt; lines.next().is_none());
 }
 
 #[test]
-fn has_the_lines_of_a_str(rt: HostRuntime) -> Result<(), Fail> {
+fn has_the_lines_of_a_str(rt: HostRuntime) {
     for (text, places) in TEXTS {
-        check(&rt, text, places, 0)?;
-        check(&rt, text, places, 7)?;
-        check(&rt, text, places, usize::MAX - 20)?;
+        check(&rt, text, places, 0);
+        check(&rt, text, places, 7);
+        check(&rt, text, places, usize::MAX - 20);
     }
-    Ok(())
 }

@@ -1,16 +1,18 @@
+use crate::checks::{check, check_eq};
+use crate::test_steps::view_at;
 use arcstr_range::view::StrView;
 use std::process::Abort;
 
 /// Returns a view that starts at byte 4 of its parent.
 fn view<'a>(rt: &impl Abort, text: &'a str) -> StrView<'a> {
-    StrView::at(text, 4).expect(rt, "no view")
+    view_at(rt, text, 4)
 }
 
 /// Asserts the text of a part and its place in the parent.
 fn check(rt: &impl Abort, part: Option<StrView<'_>>, text: &str, place: usize) {
     let part = part.expect(rt, "no part");
-    assert_eq!(rt; part.text(), text);
-    assert_eq!(rt; part.place(), place);
+    check_eq!(rt; part.text(), text);
+    check_eq!(rt; part.place(), place);
 }
 
 /// Asserts the texts of both parts, that the first starts at byte 4, and the start of the second.
@@ -58,14 +60,14 @@ fn a_separator_of_several_bytes_stands_in_neither_part(rt: HostRuntime) {
 fn without_a_match_there_is_no_part(rt: HostRuntime) {
     for text in ["", "ab", "a-b"] {
         let whole = view(&rt, text);
-        assert!(rt; whole.split_once('=').is_none());
-        assert!(rt; whole.split_once("--").is_none());
-        assert!(rt; whole.rsplit_once("=").is_none());
-        assert!(rt; whole.strip_prefix('-').is_none());
-        assert!(rt; whole.strip_suffix("-").is_none());
-        assert!(rt; whole.split_at(4).is_none());
+        check!(rt; whole.split_once('=').is_none());
+        check!(rt; whole.split_once("--").is_none());
+        check!(rt; whole.rsplit_once("=").is_none());
+        check!(rt; whole.strip_prefix('-').is_none());
+        check!(rt; whole.strip_suffix("-").is_none());
+        check!(rt; whole.split_at(4).is_none());
     }
-    assert!(rt; view(&rt, "aé").split_at(2).is_none());
+    check!(rt; view(&rt, "aé").split_at(2).is_none());
 }
 
 #[test]

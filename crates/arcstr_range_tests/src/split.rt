@@ -1,6 +1,6 @@
-use arcstr_range::view::StrView;
+use crate::checks::check;
+use crate::test_steps::{check_part, view_at};
 use std::process::Abort;
-use std::test::Fail;
 
 /// Texts with separators of one to four bytes.
 const TEXTS: [(&str, char); 12] = [
@@ -19,31 +19,22 @@ const TEXTS: [(&str, char); 12] = [
 ];
 
 /// Asserts that the parts of the text at this place are those of `str::split`, one after another with a separator between them.
-fn check(rt: &impl Abort, text: &str, separator: char, start: usize) -> Result<(), Fail> {
-    let mut parts = StrView::at(text, start).ok_or("no view")?.split(separator);
+fn check(rt: &impl Abort, text: &str, separator: char, start: usize) {
+    let mut parts = view_at(rt, text, start).split(separator);
     let mut offset = 0usize;
     for wanted in text.split(separator) {
-        let part = parts.next().ok_or("too few parts")?;
-        let end = offset.saturating_add(wanted.len());
-        assert_eq!(rt; part.text(), wanted);
-        assert_eq!(rt; Some(part.text()), text.get(offset..end));
-        assert_eq!(rt;
-            part.range(),
-            start.saturating_add(offset)..start.saturating_add(end)
-        );
+        let end = check_part(rt, parts.next(), text, (offset, wanted), start);
         offset = end.saturating_add(separator.len_utf8());
     }
-    assert!(rt; parts.next().is_none());
-    assert!(rt; parts.next().is_none());
-    Ok(())
+    check!(rt; parts.next().is_none());
+    check!(rt; parts.next().is_none());
 }
 
 #[test]
-fn splits_as_a_str(rt: HostRuntime) -> Result<(), Fail> {
+fn splits_as_a_str(rt: HostRuntime) {
     for (text, separator) in TEXTS {
-        check(&rt, text, separator, 0)?;
-        check(&rt, text, separator, 7)?;
-        check(&rt, text, separator, usize::MAX - 20)?;
+        check(&rt, text, separator, 0);
+        check(&rt, text, separator, 7);
+        check(&rt, text, separator, usize::MAX - 20);
     }
-    Ok(())
 }

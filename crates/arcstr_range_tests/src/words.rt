@@ -1,6 +1,6 @@
-use arcstr_range::view::StrView;
+use crate::checks::check;
+use crate::test_steps::{check_part, view_at};
 use std::process::Abort;
-use std::test::Fail;
 
 /// Texts, and the byte offsets of their words.
 const TEXTS: [(&str, [usize; 3]); 9] = [
@@ -16,33 +16,20 @@ const TEXTS: [(&str, [usize; 3]); 9] = [
 ];
 
 /// Asserts that the words of the text at this place are those of `str::split_whitespace`, each at its own place.
-fn check(rt: &impl Abort, text: &str, places: [usize; 3], start: usize) -> Result<(), Fail> {
-    let mut words = StrView::at(text, start)
-        .ok_or("no view")?
-        .split_whitespace();
-    let mut offsets = places.iter();
-    for wanted in text.split_whitespace() {
-        let word = words.next().ok_or("too few words")?;
-        let offset = *offsets.next().ok_or("too many words")?;
-        let end = offset.saturating_add(wanted.len());
-        assert_eq!(rt; word.text(), wanted);
-        assert_eq!(rt; Some(word.text()), text.get(offset..end));
-        assert_eq!(rt;
-            word.range(),
-            start.saturating_add(offset)..start.saturating_add(end)
-        );
+fn check(rt: &impl Abort, text: &str, places: [usize; 3], start: usize) {
+    let mut words = view_at(rt, text, start).split_whitespace();
+    for part in places.into_iter().zip(text.split_whitespace()) {
+        check_part(rt, words.next(), text, part, start);
     }
-    assert!(rt; words.next().is_none());
-    assert!(rt; words.next().is_none());
-    Ok(())
+    check!(rt; words.next().is_none());
+    check!(rt; words.next().is_none());
 }
 
 #[test]
-fn has_the_words_of_a_str(rt: HostRuntime) -> Result<(), Fail> {
+fn has_the_words_of_a_str(rt: HostRuntime) {
     for (text, places) in TEXTS {
-        check(&rt, text, places, 0)?;
-        check(&rt, text, places, 7)?;
-        check(&rt, text, places, usize::MAX - 20)?;
+        check(&rt, text, places, 0);
+        check(&rt, text, places, 7);
+        check(&rt, text, places, usize::MAX - 20);
     }
-    Ok(())
 }

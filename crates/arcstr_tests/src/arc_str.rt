@@ -9,6 +9,7 @@ mod slices;
 mod splitting;
 mod threads;
 
+use crate::checks::{check, check_eq};
 use crate::test_steps::{check_bytes, check_count, check_empty, check_part, check_text, made};
 use arcstr::{ArcStr, RawArcStr, StaticStr, Substr};
 use std::mem::size_of;
@@ -16,16 +17,16 @@ use std::process::Abort;
 
 #[test]
 fn a_text_is_three_words_and_a_slice_five(rt: HostRuntime) {
-    assert_eq!(rt; size_of::<ArcStr>(), 24);
-    assert_eq!(rt; size_of::<RawArcStr>(), 24);
-    assert_eq!(rt; size_of::<StaticStr>(), 24);
-    assert_eq!(rt; size_of::<Substr>(), 40);
+    check_eq!(rt; size_of::<ArcStr>(), 24);
+    check_eq!(rt; size_of::<RawArcStr>(), 24);
+    check_eq!(rt; size_of::<StaticStr>(), 24);
+    check_eq!(rt; size_of::<Substr>(), 40);
 }
 
 #[test]
 fn a_made_text_has_its_length_and_is_counted_once(rt: HostRuntime) {
     let text = made(&rt, "foo");
-    assert!(rt; text.len() == 3);
+    check!(rt; text.len() == 3);
     check_bytes(&rt, text.as_bytes(), b"foo");
     check_count(&rt, &text, Some(1));
 }
@@ -58,7 +59,7 @@ fn many_handles_are_counted_and_mark_nothing(rt: HostRuntime) {
         handles.push(text.clone(&rt)).expect(&rt, "no memory");
     }
     check_count(&rt, &text, Some(HANDLES));
-    assert!(rt; !ArcStr::is_static(&text));
+    check!(rt; !ArcStr::is_static(&text));
     drop(handles);
     check_count(&rt, &text, Some(1));
 }
@@ -82,7 +83,7 @@ fn a_raw_handle_comes_back(rt: HostRuntime) {
 
 /// Asserts that the text is static, that it reads as `wanted`, and that its handles are not counted.
 fn check_leaked(rt: &impl Abort, text: &ArcStr, wanted: &str) {
-    assert!(rt; ArcStr::is_static(text));
+    check!(rt; ArcStr::is_static(text));
     check_count(rt, text, None);
     let kept = ArcStr::as_static(text).expect(rt, "a leaked text is static");
     check_text(rt, kept.as_str(), wanted);
@@ -91,8 +92,8 @@ fn check_leaked(rt: &impl Abort, text: &ArcStr, wanted: &str) {
 #[test]
 fn a_static_text_gives_handles_again(rt: HostRuntime) {
     let kept = made(&rt, "foobar").leak();
-    assert!(rt; kept.is_static());
-    assert!(rt; kept.len() == 6);
+    check!(rt; kept.is_static());
+    check!(rt; kept.len() == 6);
     let text = kept.to_arc_str();
     check_leaked(&rt, &text, "foobar");
 }

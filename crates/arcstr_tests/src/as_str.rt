@@ -1,4 +1,5 @@
 //! Parts of texts, slices and views: the examples in Rust's documentation of `str`, and the cases that it leaves out.
+use crate::checks::{check, check_eq};
 use crate::test_steps::{check_part, check_text, made};
 use arcstr::{ArcStr, RangeFault, StrView, Substr};
 use std::process::Abort;
@@ -149,9 +150,9 @@ fn texts_are_split_at_a_place_as_str_is(rt: HostRuntime) {
     let parts = text.substr_split_at(&rt, 3).ok();
     check_slices(&rt, parts, Some(("Per", " Martin-Löf")));
     let inside = text.substr_split_at(&rt, 13).err();
-    assert_eq!(rt; inside, Some(RangeFault::OffBoundary));
+    check_eq!(rt; inside, Some(RangeFault::OffBoundary));
     let past = Substr::full(text).substr_split_at(&rt, 16).err();
-    assert_eq!(rt; past, Some(RangeFault::PastEnd));
+    check_eq!(rt; past, Some(RangeFault::PastEnd));
 }
 
 #[test]
@@ -178,7 +179,7 @@ fn texts_are_trimmed_as_str_is(rt: HostRuntime) {
 
 /// Asserts that the view lies in the text and has the text `wanted`.
 fn check_next(rt: &impl Abort, text: &str, view: &StrView<'_>, wanted: Option<&&'static str>) {
-    assert!(rt; view.is_found_in(text));
+    check!(rt; view.is_found_in(text));
     check_part(rt, Some(view.text()), wanted.copied());
 }
 
@@ -189,23 +190,23 @@ fn views_have_the_lines_parts_and_words_of_str(rt: HostRuntime) {
         for line in StrView::whole(text).lines() {
             check_next(&rt, text, &line, wanted.next());
         }
-        assert!(rt; wanted.next().is_none());
+        check!(rt; wanted.next().is_none());
     }
     for (text, separator, parts) in SPLIT {
         let mut wanted = parts.iter();
         for part in StrView::whole(text).split(separator) {
             check_next(&rt, text, &part, wanted.next());
         }
-        assert!(rt; wanted.next().is_none());
+        check!(rt; wanted.next().is_none());
     }
     for (text, words) in WORDS {
         let mut wanted = words.iter();
         for word in StrView::whole(text).split_whitespace() {
             check_next(&rt, text, &word, wanted.next());
         }
-        assert!(rt; wanted.next().is_none());
+        check!(rt; wanted.next().is_none());
     }
     for (text, pattern, place) in FIND {
-        assert_eq!(rt; StrView::whole(text).find(pattern), place);
+        check_eq!(rt; StrView::whole(text).find(pattern), place);
     }
 }

@@ -1,4 +1,5 @@
 //! Generic calls that take a text, bytes or a fault by a trait, with the types of this crate.
+use crate::checks::{check, check_eq};
 use crate::test_steps::{check_bytes, check_count, check_part, check_text, made, part};
 use arcstr::{ArcStr, JsonFault, StrRange, TextFault, literal};
 use serde_json::Value;
@@ -59,7 +60,7 @@ fn read(alloc: Global, value: &Value) -> Result<Vec<ArcStr>, JsonFault> {
 fn a_list_and_its_json_text_have_one_fault(rt: HostRuntime) {
     let texts = read(rt.alloc(), &json_text(&rt)).expect(&rt, "no memory");
     check_text(&rt, texts.last().expect(&rt, "no text").as_str(), "foo");
-    assert!(rt; read(rt.alloc(), &Value::Null).is_err_and(|fault| fault == JsonFault::NotText));
+    check!(rt; read(rt.alloc(), &Value::Null).is_err_and(|fault| fault == JsonFault::NotText));
 }
 
 /// The JSON string `foo`.
@@ -77,7 +78,7 @@ fn not_stored(rt: &impl Wait, text: &ArcStr) -> AllocFailed<ArcStr> {
 #[test]
 fn what_was_not_stored_is_dropped(rt: HostRuntime) {
     let text = made(&rt, "foo");
-    assert_eq!(rt; JsonFault::from(not_stored(&rt, &text)), JsonFault::Memory);
+    check_eq!(rt; JsonFault::from(not_stored(&rt, &text)), JsonFault::Memory);
     check_count(&rt, &text, Some(1));
 }
 
@@ -88,9 +89,9 @@ fn kind_of(fault: TextFault) -> io::ErrorKind {
 
 #[test]
 fn faults_of_a_text_have_kinds(rt: HostRuntime) {
-    assert_eq!(rt; kind_of(TextFault::Length), io::ErrorKind::InvalidInput);
-    assert_eq!(rt; kind_of(TextFault::Memory), io::ErrorKind::OutOfMemory);
-    assert_eq!(rt; kind_of(TextFault::Utf8(3)), io::ErrorKind::InvalidData);
+    check_eq!(rt; kind_of(TextFault::Length), io::ErrorKind::InvalidInput);
+    check_eq!(rt; kind_of(TextFault::Memory), io::ErrorKind::OutOfMemory);
+    check_eq!(rt; kind_of(TextFault::Utf8(3)), io::ErrorKind::InvalidData);
 }
 
 #[test]

@@ -1,5 +1,6 @@
 //! The count of a text after each call of `ArcStr`, and again after the result of the call is dropped. A call that takes one valid step too many, or forgets
 //! a handle, still meets its contract and returns the right value. Only the count detects it.
+use crate::checks::check;
 use crate::test_steps::{check_count, gave, made};
 use arcstr::{ArcStr, Substr, format_arcstr};
 use arcstr_range::view::StrView;
@@ -32,13 +33,13 @@ fn a_found_slice_holds_its_text_once(rt: HostRuntime) {
     let whole = StrView::whole(text.as_str());
     check_held_once(&rt, &text, text.try_substr_from(&rt, whole));
     let whole = StrView::whole(text.as_str());
-    assert!(rt; whole.is_found_in(text.as_str()));
+    check!(rt; whole.is_found_in(text.as_str()));
     check_held_once(&rt, &text, Some(text.substr_from(&rt, whole)));
 }
 
 /// Asserts that the call gave the expected result, and that the text has only its own handle afterwards.
 fn check_dropped(rt: &impl Abort, text: &ArcStr, answers: bool) {
-    assert!(rt; answers);
+    check!(rt; answers);
     check_count(rt, text, Some(1));
 }
 

@@ -1,4 +1,5 @@
 //! Methods of `str` called on a counted text, a literal and a slice. None of them clones a handle or sets the static flag.
+use crate::checks::{check, check_eq};
 use crate::test_steps::{check_count, check_part, check_text, made, part};
 use arcstr::literal;
 
@@ -33,27 +34,27 @@ fn a_text_is_split_as_a_str(rt: HostRuntime) {
 #[test]
 fn a_text_finds_as_a_str(rt: HostRuntime) {
     let text = made(&rt, "éab");
-    assert_eq!(rt; text.find('b'), Some(3));
-    assert_eq!(rt; literal!("foo").find("ba"), None);
-    assert_eq!(rt; part(&rt, &text, 2..).find("b"), Some(1));
+    check_eq!(rt; text.find('b'), Some(3));
+    check_eq!(rt; literal!("foo").find("ba"), None);
+    check_eq!(rt; part(&rt, &text, 2..).find("b"), Some(1));
     check_count(&rt, &text, Some(1));
 }
 
 #[test]
 fn a_text_starts_as_a_str(rt: HostRuntime) {
     let text = made(&rt, "éab");
-    assert!(rt; text.starts_with("éa"));
-    assert!(rt; !literal!("").starts_with('a'));
-    assert!(rt; part(&rt, &text, 2..).starts_with('a'));
+    check!(rt; text.starts_with("éa"));
+    check!(rt; !literal!("").starts_with('a'));
+    check!(rt; part(&rt, &text, 2..).starts_with('a'));
     check_count(&rt, &text, Some(1));
 }
 
 #[test]
 fn a_text_is_parsed_as_a_str(rt: HostRuntime) {
     let text = made(&rt, "120");
-    assert!(rt; text.parse::<u8>().is_ok_and(|number| number == 120));
-    assert!(rt; literal!("256").parse::<u8>().is_err());
-    assert!(rt;
+    check!(rt; text.parse::<u8>().is_ok_and(|number| number == 120));
+    check!(rt; literal!("256").parse::<u8>().is_err());
+    check!(rt;
         part(&rt, &text, 1..)
             .parse::<u8>()
             .is_ok_and(|number| number == 20)
@@ -64,8 +65,8 @@ fn a_text_is_parsed_as_a_str(rt: HostRuntime) {
 #[test]
 fn a_text_has_the_characters_of_a_str(rt: HostRuntime) {
     let text = made(&rt, "éab");
-    assert_eq!(rt; text.chars().next(), Some('é'));
-    assert_eq!(rt; literal!("").chars().next(), None);
-    assert_eq!(rt; part(&rt, &text, 2..).chars().count(), 2);
+    check_eq!(rt; text.chars().next(), Some('é'));
+    check_eq!(rt; literal!("").chars().next(), None);
+    check_eq!(rt; part(&rt, &text, 2..).chars().count(), 2);
     check_count(&rt, &text, Some(1));
 }

@@ -1,4 +1,5 @@
 //! Maps and sets of `indexmap` with texts or slices as keys, looked up by a `&str`, and the counts of their keys.
+use crate::checks::{check, check_eq};
 use crate::test_steps::{check_count, made, part};
 use arcstr::{ArcStr, Substr, literal};
 use indexmap::{IndexMap, IndexSet};
@@ -18,13 +19,13 @@ fn map_of(rt: &(impl Abort + AllocGlobal), text: ArcStr) -> IndexMap<ArcStr, u8>
 fn an_index_map_of_texts_is_read_by_a_str(rt: HostRuntime) {
     let text = made(&rt, "é");
     let mut map = map_of(&rt, text.clone(&rt));
-    assert_eq!(rt; map.get("é"), Some(&1));
-    assert_eq!(rt; map.get("bar"), None);
-    assert_eq!(rt; map.get_index_of(""), Some(2));
-    assert!(rt; map.contains_key("foo"));
-    assert_eq!(rt; map.swap_remove("é"), Some(1));
+    check_eq!(rt; map.get("é"), Some(&1));
+    check_eq!(rt; map.get("bar"), None);
+    check_eq!(rt; map.get_index_of(""), Some(2));
+    check!(rt; map.contains_key("foo"));
+    check_eq!(rt; map.swap_remove("é"), Some(1));
     check_count(&rt, &text, Some(1));
-    assert_eq!(rt; map.get_index_of(""), Some(0));
+    check_eq!(rt; map.get_index_of(""), Some(0));
 }
 
 #[test]
@@ -32,9 +33,9 @@ fn an_index_set_of_slices_is_read_by_a_str(rt: HostRuntime) {
     let text = made(&rt, "é foo");
     let mut set: IndexSet<Substr> = IndexSet::new(rt.alloc());
     set.insert(part(&rt, &text, 3..)).expect(&rt, "no memory");
-    assert!(rt; set.contains("foo"));
-    assert!(rt; !set.contains("é foo"));
-    assert_eq!(rt; set.get_index_of("foo"), Some(0));
-    assert!(rt; set.swap_remove("foo"));
+    check!(rt; set.contains("foo"));
+    check!(rt; !set.contains("é foo"));
+    check_eq!(rt; set.get_index_of("foo"), Some(0));
+    check!(rt; set.swap_remove("foo"));
     check_count(&rt, &text, Some(1));
 }

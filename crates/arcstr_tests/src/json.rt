@@ -1,3 +1,4 @@
+use crate::checks::{check, check_eq};
 use crate::test_steps::{check_copied, check_text, made, many_digits, part};
 use arcstr::{ArcStr, JsonFault, Substr, literal};
 use serde_json::Value;
@@ -25,7 +26,7 @@ fn a_slice_is_written_and_read_back(rt: HostRuntime) {
     let value = slice.to_json(rt.alloc()).expect(&rt, "no memory");
     check_read(&rt, &value, "é");
     let read = Substr::from_json(rt.alloc(), &value).expect(&rt, "no slice");
-    assert!(rt; read == slice);
+    check!(rt; read == slice);
 }
 
 #[test]
@@ -51,7 +52,7 @@ fn a_written_text_is_parsed_back(rt: HostRuntime) {
 
 #[test]
 fn a_fault_is_one_byte(rt: HostRuntime) {
-    assert_eq!(rt; size_of::<JsonFault>(), 1);
+    check_eq!(rt; size_of::<JsonFault>(), 1);
 }
 
 #[test]
@@ -62,7 +63,7 @@ fn faults_have_numbers_and_texts(rt: HostRuntime) {
         (JsonFault::Memory, 3, "out of memory"),
     ];
     for (fault, number, text) in texts {
-        assert!(rt; fault.number() == number);
+        check!(rt; fault.number() == number);
         check_copied(&rt, format!(in rt.alloc(); "{fault}"), text);
     }
 }

@@ -6,6 +6,8 @@ mod arc_str;
 #[cfg(test)]
 mod as_str;
 #[cfg(test)]
+mod checks;
+#[cfg(test)]
 mod conversions;
 #[cfg(test)]
 mod counts;

@@ -1,4 +1,5 @@
 //! Maps and sets of std with texts or slices as keys, looked up by a `&str`, and the counts of their keys.
+use crate::checks::{check, check_eq};
 use crate::test_steps::{check_count, made, part};
 use arcstr::{ArcStr, Substr, literal};
 use std::alloc::AllocGlobal;
@@ -23,11 +24,11 @@ fn map_of(rt: &(impl Abort + AllocGlobal), text: ArcStr) -> HashMap<ArcStr, u8> 
 #[test]
 fn a_hash_map_of_texts_is_read_by_a_str(rt: HostRuntime) {
     let map = map_of(&rt, made(&rt, "é"));
-    assert_eq!(rt; map.get("é"), Some(&1));
-    assert_eq!(rt; map.get(""), Some(&3));
-    assert_eq!(rt; map.get("bar"), None);
-    assert!(rt; map.contains_key("foo"));
-    assert_eq!(rt; map["foo"], 2);
+    check_eq!(rt; map.get("é"), Some(&1));
+    check_eq!(rt; map.get(""), Some(&3));
+    check_eq!(rt; map.get("bar"), None);
+    check!(rt; map.contains_key("foo"));
+    check_eq!(rt; map["foo"], 2);
 }
 
 #[test]
@@ -35,9 +36,9 @@ fn a_key_that_a_str_removes_is_dropped(rt: HostRuntime) {
     let text = made(&rt, "é");
     let mut map = map_of(&rt, text.clone(&rt));
     check_count(&rt, &text, Some(2));
-    assert_eq!(rt; map.remove("é"), Some(1));
+    check_eq!(rt; map.remove("é"), Some(1));
     check_count(&rt, &text, Some(1));
-    assert!(rt; !map.contains_key("é"));
+    check!(rt; !map.contains_key("é"));
 }
 
 #[test]
@@ -45,9 +46,9 @@ fn a_hash_set_of_slices_is_read_by_a_str(rt: HostRuntime) {
     let text = made(&rt, "é foo");
     let mut set = HashSet::new(rt.alloc());
     set.insert(part(&rt, &text, 3..)).expect(&rt, "no memory");
-    assert!(rt; set.contains("foo"));
-    assert!(rt; !set.contains("é foo"));
-    assert!(rt; set.remove("foo"));
+    check!(rt; set.contains("foo"));
+    check!(rt; !set.contains("é foo"));
+    check!(rt; set.remove("foo"));
     check_count(&rt, &text, Some(1));
 }
 
@@ -63,10 +64,10 @@ fn a_sorted_map_of_slices_is_read_by_a_str(rt: HostRuntime) {
     let mut map = BTreeMap::new(rt.alloc());
     insert_sorted(&rt, &mut map, part(&rt, &text, 3..), 1);
     insert_sorted(&rt, &mut map, Substr::new(), 2);
-    assert_eq!(rt; map.get("é foo"), None);
-    assert!(rt; map.contains_key(""));
-    assert_eq!(rt; map[""], 2);
-    assert_eq!(rt; map.remove("foo"), Some(1));
+    check_eq!(rt; map.get("é foo"), None);
+    check!(rt; map.contains_key(""));
+    check_eq!(rt; map[""], 2);
+    check_eq!(rt; map.remove("foo"), Some(1));
     check_count(&rt, &text, Some(1));
 }
 
@@ -75,8 +76,8 @@ fn a_sorted_set_of_texts_is_read_by_a_str(rt: HostRuntime) {
     let text = made(&rt, "é");
     let mut set = BTreeSet::new(rt.alloc());
     set.insert(text.clone(&rt)).expect(&rt, "no memory");
-    assert!(rt; set.contains("é"));
-    assert!(rt; !set.contains("e"));
-    assert!(rt; set.remove("é"));
+    check!(rt; set.contains("é"));
+    check!(rt; !set.contains("e"));
+    check!(rt; set.remove("é"));
     check_count(&rt, &text, Some(1));
 }

@@ -1,4 +1,5 @@
 //! Structs of texts and slices that derive the traits of `serde`, written to JSON and read from it.
+use crate::checks::check;
 use crate::test_steps::{check_count, check_slice, check_text, made, part};
 use arcstr::{ArcStr, Substr, literal};
 use serde::{Deserialize, Serialize};
@@ -33,14 +34,14 @@ fn a_struct_of_texts_is_read_from_json(rt: HostRuntime) {
     check_text(&rt, entry.name.as_str(), "plain");
     check_count(&rt, &entry.name, Some(1));
     check_slice(&rt, &entry.value, "é b", 0..4);
-    assert!(rt; entry.tags.len() == 2);
-    assert!(rt; ArcStr::is_static(&entry.tags[1]));
+    check!(rt; entry.tags.len() == 2);
+    check!(rt; ArcStr::is_static(&entry.tags[1]));
 }
 
 #[test]
 fn a_number_is_not_read_as_a_text(rt: HostRuntime) {
     let read: Result<ArcStr, _> = serde_json::from_str(rt.alloc(), "12");
-    assert!(rt; read.is_err());
+    check!(rt; read.is_err());
     let read: Result<Substr, _> = serde_json::from_str(rt.alloc(), "null");
-    assert!(rt; read.is_err());
+    check!(rt; read.is_err());
 }

@@ -1,4 +1,5 @@
 //! The count of a parent after each call of `Substr`, and again after the result of the call is dropped.
+use crate::checks::check;
 use crate::test_steps::{check_count, gave, made, part};
 use arcstr::{ArcStr, Substr};
 use arcstr_range::view::StrView;
@@ -36,7 +37,7 @@ fn a_found_slice_of_a_slice_holds_the_parent_once(rt: HostRuntime) {
     let whole = StrView::whole(slice.as_str());
     check_held_once(&rt, &slice, slice.try_substr_from(&rt, whole));
     let whole = StrView::whole(slice.as_str());
-    assert!(rt; whole.is_found_in(slice.as_str()));
+    check!(rt; whole.is_found_in(slice.as_str()));
     check_held_once(&rt, &slice, Some(slice.substr_from(&rt, whole)));
 }
 
@@ -48,7 +49,7 @@ fn a_clone_of_a_slice_holds_the_parent_once(rt: HostRuntime) {
 
 /// Asserts that the call gave the expected result, and that the parent has only its own handle afterwards.
 fn check_dropped(rt: &impl Abort, slice: &Substr, answers: bool) {
-    assert!(rt; answers);
+    check!(rt; answers);
     check_count(rt, slice.parent(), Some(1));
 }
 

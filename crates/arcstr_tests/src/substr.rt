@@ -8,6 +8,7 @@ mod slices;
 mod splitting;
 mod threads;
 
+use crate::checks::check;
 use crate::test_steps::{
     check_bytes, check_count, check_nothing, check_slice, made, many_digits, part,
 };
@@ -19,7 +20,7 @@ fn the_slice_of_nothing_has_an_empty_literal(rt: HostRuntime) {
     check_nothing(&rt, &Substr::default());
     let made = Substr::from_str(rt.alloc(), "").expect(&rt, "refused");
     check_nothing(&rt, &made);
-    assert!(rt; made.is_empty());
+    check!(rt; made.is_empty());
 }
 
 #[test]
@@ -28,8 +29,8 @@ fn a_made_slice_is_all_of_its_text(rt: HostRuntime) {
     check_slice(&rt, &slice, "foo", 0..3);
     check_bytes(&rt, slice.as_bytes(), b"foo");
     check_count(&rt, slice.parent(), Some(1));
-    assert!(rt; slice.len() == 3);
-    assert!(rt; !slice.is_empty());
+    check!(rt; slice.len() == 3);
+    check!(rt; !slice.is_empty());
 }
 
 #[test]

@@ -1,4 +1,5 @@
 //! Steps that tests repeat: make a text, take a slice, compare a result. A test that only calls these steps has no branches, so its proof is fast.
+use crate::checks::{check, check_eq};
 use arcstr::{ArcStr, Substr, TextFault};
 use arcstr_range::range::{RangeFault, StrRange};
 use std::alloc::{AllocError, AllocGlobal};
@@ -20,24 +21,24 @@ pub(crate) fn part<R: Into<StrRange>>(rt: &(impl Abort + Wait), text: &ArcStr, r
 }
 
 pub(crate) fn check_text(rt: &impl Abort, text: &str, wanted: &str) {
-    assert_eq!(rt; text, wanted);
+    check_eq!(rt; text, wanted);
 }
 
 pub(crate) fn check_count(rt: &impl Abort, text: &ArcStr, wanted: Option<usize>) {
-    assert_eq!(rt; ArcStr::strong_count(text), wanted);
+    check_eq!(rt; ArcStr::strong_count(text), wanted);
 }
 
 /// Asserts that the text is the empty literal.
 pub(crate) fn check_empty(rt: &impl Abort, text: &ArcStr) {
-    assert!(rt; text.is_empty());
-    assert!(rt; ArcStr::is_static(text));
+    check!(rt; text.is_empty());
+    check!(rt; ArcStr::is_static(text));
     check_count(rt, text, None);
 }
 
 /// Asserts the slice's own text and its byte range in the parent.
 pub(crate) fn check_slice(rt: &impl Abort, slice: &Substr, text: &str, places: Range<usize>) {
     check_text(rt, slice.as_str(), text);
-    assert_eq!(rt; slice.range(), places);
+    check_eq!(rt; slice.range(), places);
 }
 
 /// Asserts that the slice is `Substr::new()`.
@@ -63,17 +64,17 @@ pub(crate) fn check_no_slice(
 ) {
     match answer {
         Ok(_) => panic!(rt; "a slice"),
-        Err(fault) => assert_eq!(rt; fault, wanted),
+        Err(fault) => check_eq!(rt; fault, wanted),
     }
 }
 
 /// Asserts a part of a text, or that it is `None`.
 pub(crate) fn check_part(rt: &impl Abort, part: Option<&str>, wanted: Option<&str>) {
-    assert_eq!(rt; part, wanted);
+    check_eq!(rt; part, wanted);
 }
 
 pub(crate) fn check_bytes(rt: &impl Abort, bytes: &[u8], wanted: &[u8]) {
-    assert_eq!(rt; bytes, wanted);
+    check_eq!(rt; bytes, wanted);
 }
 
 /// Asserts that a text was made, and checks its bytes.
@@ -87,7 +88,7 @@ pub(crate) fn check_made(rt: &impl Abort, made: Result<ArcStr, TextFault>, wante
 pub(crate) fn check_refused(rt: &impl Abort, made: Result<ArcStr, TextFault>, wanted: TextFault) {
     match made {
         Ok(_) => panic!(rt; "not refused"),
-        Err(fault) => assert_eq!(rt; fault, wanted),
+        Err(fault) => check_eq!(rt; fault, wanted),
     }
 }
 
@@ -130,8 +131,8 @@ pub(crate) fn many_digits(rt: &(impl Abort + AllocGlobal)) -> String {
 
 /// Asserts the order of the two, and that it is reversed if they are swapped.
 pub(crate) fn check_order<T: Ord>(rt: &impl Abort, one: &T, other: &T, wanted: Ordering) {
-    assert!(rt; one.cmp(other) == wanted);
-    assert!(rt; other.cmp(one) == wanted.reverse());
+    check!(rt; one.cmp(other) == wanted);
+    check!(rt; other.cmp(one) == wanted.reverse());
 }
 
 /// Asserts that a copy was made, and checks its text.

@@ -2,13 +2,13 @@
 ghost use Rattle.std.specs.Prelude.{◌≤◌};
 
 use super::test_steps::{check_count, check_tokens, made};
+use crate::checks::{check, check_eq};
 use arcstr::{ArcStr, Substr};
 use arctokens::{Gate, tokens, tokens_all, tokens_all_with};
 use std::alloc::{AllocError, AllocGlobal};
 use std::process::Abort;
 use std::sync::Wait;
 use std::sync::atomic::{AtomicU64, Ordering};
-use std::test::Fail;
 use std::thread::Threads;
 
 /// A gate at which no worker waits.
@@ -37,22 +37,23 @@ fn check_two_texts(rt: &impl Abort, lists: &[Vec<Substr>]) {
 }
 
 #[test]
-fn no_texts_have_no_lists(rt: HostRuntime) -> Result<(), Fail> {
+fn no_texts_have_no_lists(rt: HostRuntime) {
     let texts: [ArcStr; 0] = [];
-    assert_eq!(rt; tokens_all(&rt, rt.alloc(), &texts, 3)?.len(), 0);
-    Ok(())
+    check_eq!(rt; tokens_all(&rt, rt.alloc(), &texts, 3).expect(&rt, "refused").len(), 0);
 }
 
 #[test]
-fn more_workers_than_texts(rt: HostRuntime) -> Result<(), Fail> {
+fn more_workers_than_texts(rt: HostRuntime) {
     let texts = two_texts(&rt);
-    check_two_texts(&rt, &tokens_all(&rt, rt.alloc(), &texts, 64)?);
     check_two_texts(
         &rt,
-        &tokens_all_with(&rt, rt.alloc(), &texts, 64, &OpenGate)?,
+        &tokens_all(&rt, rt.alloc(), &texts, 64).expect(&rt, "refused"),
+    );
+    check_two_texts(
+        &rt,
+        &tokens_all_with(&rt, rt.alloc(), &texts, 64, &OpenGate).expect(&rt, "refused"),
     );
     check_count(&rt, &texts[0], Some(1));
-    Ok(())
 }
 
 /// Texts with different words, so that a test detects a list in another's position.
@@ -68,10 +69,10 @@ fn seven_texts<R: Abort + AllocGlobal>(rt: &R) -> Result<Vec<ArcStr>, AllocError
 
 /// Asserts that the two lists are equal, by the ranges and the texts of their slices.
 fn check_same(rt: &impl Abort, list: &[Substr], other: &[Substr]) {
-    assert_eq!(rt; list.len(), other.len());
+    check_eq!(rt; list.len(), other.len());
     for (one, another) in list.iter().zip(other) {
-        assert_eq!(rt; one.range(), another.range());
-        assert_eq!(rt; one.as_str(), another.as_str());
+        check_eq!(rt; one.range(), another.range());
+        check_eq!(rt; one.as_str(), another.as_str());
     }
 }
 
@@ -84,40 +85,38 @@ fn check_workers<R: Abort + AllocGlobal + Threads + Wait + Sync>(
     requires { (1 ≤ workers) × (workers ≤ 64) }
 {
     let lists = tokens_all(rt, rt.alloc(), texts, workers)?;
-    assert_eq!(rt; lists.len(), texts.len());
+    check_eq!(rt; lists.len(), texts.len());
     for (text, list) in texts.iter().zip(&lists) {
         let alone = tokens(rt, rt.alloc(), text)?;
         check_same(rt, list, &alone);
     }
     drop(lists);
     for text in texts {
-        assert!(rt; text.is_empty() || ArcStr::strong_count(text) == Some(1));
+        check!(rt; text.is_empty() || ArcStr::strong_count(text) == Some(1));
     }
     Ok(())
 }
 
 #[test]
-fn each_number_of_workers_finds_the_tokens_of_one_thread(rt: HostRuntime) -> Result<(), Fail> {
-    let texts = seven_texts(&rt)?;
-    check_workers(&rt, &texts, 1)?;
-    check_workers(&rt, &texts, 2)?;
-    check_workers(&rt, &texts, 3)?;
-    check_workers(&rt, &texts, 7)?;
-    check_workers(&rt, &texts, 64)?;
-    Ok(())
+fn each_number_of_workers_finds_the_tokens_of_one_thread(rt: HostRuntime) {
+    let texts = seven_texts(&rt).expect(&rt, "refused");
+    check_workers(&rt, &texts, 1).expect(&rt, "refused");
+    check_workers(&rt, &texts, 2).expect(&rt, "refused");
+    check_workers(&rt, &texts, 3).expect(&rt, "refused");
+    check_workers(&rt, &texts, 7).expect(&rt, "refused");
+    check_workers(&rt, &texts, 64).expect(&rt, "refused");
 }
 
 #[test]
-fn counts_of_texts_while_their_tokens_live(rt: HostRuntime) -> Result<(), Fail> {
+fn counts_of_texts_while_their_tokens_live(rt: HostRuntime) {
     let texts = [made(&rt, "a b"), made(&rt, "c d e"), made(&rt, " ")];
-    let lists = tokens_all(&rt, rt.alloc(), &texts, 2)?;
+    let lists = tokens_all(&rt, rt.alloc(), &texts, 2).expect(&rt, "refused");
     check_count(&rt, &texts[0], Some(3));
     check_count(&rt, &texts[1], Some(4));
     check_count(&rt, &texts[2], Some(1));
     drop(lists);
     check_count(&rt, &texts[0], Some(1));
     check_count(&rt, &texts[1], Some(1));
-    Ok(())
 }
 
 /// A gate at which each worker waits until all of them have arrived. It counts the workers that saw all arrive.
@@ -142,7 +141,7 @@ impl Gate for Meeting {
 
 /// If the body starts fewer threads than there are workers, the first worker waits in vain.
 #[test]
-fn all_workers_run_at_once(rt: HostRuntime) -> Result<(), Fail> {
+fn all_workers_run_at_once(rt: HostRuntime) {
     let texts = two_texts(&rt);
     for (count, workers) in [(2, 2), (3, 3), (16, 16)] {
         let gate = Meeting {
@@ -152,11 +151,10 @@ fn all_workers_run_at_once(rt: HostRuntime) -> Result<(), Fail> {
         };
         check_two_texts(
             &rt,
-            &tokens_all_with(&rt, rt.alloc(), &texts, count, &gate)?,
+            &tokens_all_with(&rt, rt.alloc(), &texts, count, &gate).expect(&rt, "refused"),
         );
-        assert_eq!(rt; gate.met.load(Ordering::SeqCst), workers);
+        check_eq!(rt; gate.met.load(Ordering::SeqCst), workers);
     }
-    Ok(())
 }
 
 /// Counts the passes and records which workers pass. For the first worker, it also records the number of handles to its text at that moment, one of which is
@@ -181,7 +179,7 @@ impl Gate for Noted {
 }
 
 #[test]
-fn each_worker_passes_once_before_its_first_text(rt: HostRuntime) -> Result<(), Fail> {
+fn each_worker_passes_once_before_its_first_text(rt: HostRuntime) {
     let texts = two_texts(&rt);
     let gate = Noted {
         text: texts[0].clone(&rt),
@@ -189,11 +187,13 @@ fn each_worker_passes_once_before_its_first_text(rt: HostRuntime) -> Result<(), 
         workers: AtomicU64::new(0),
         handles: AtomicU64::new(0),
     };
-    check_two_texts(&rt, &tokens_all_with(&rt, rt.alloc(), &texts, 64, &gate)?);
-    assert_eq!(rt; gate.passes.load(Ordering::SeqCst), 64);
-    assert_eq!(rt; gate.workers.load(Ordering::SeqCst), u64::MAX);
-    assert_eq!(rt; gate.handles.load(Ordering::SeqCst), 2);
-    Ok(())
+    check_two_texts(
+        &rt,
+        &tokens_all_with(&rt, rt.alloc(), &texts, 64, &gate).expect(&rt, "refused"),
+    );
+    check_eq!(rt; gate.passes.load(Ordering::SeqCst), 64);
+    check_eq!(rt; gate.workers.load(Ordering::SeqCst), u64::MAX);
+    check_eq!(rt; gate.handles.load(Ordering::SeqCst), 2);
 }
 
 fn check_one_list(rt: &impl Abort, lists: &[Vec<Substr>]) {

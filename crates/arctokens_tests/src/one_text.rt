@@ -1,11 +1,11 @@
 use super::test_steps::{Wanted, check_count, check_tokens, made};
+use crate::checks::{check, check_eq};
 use arcstr::ArcStr;
 use arctokens::tokens;
 use std::alloc::AllocGlobal;
 use std::ops::Range;
 use std::process::Abort;
 use std::sync::Wait;
-use std::test::Fail;
 
 /// Asserts the words of a text in a block of its own. Also asserts the text's count while the words live and after they are dropped.
 fn check_words<R: Abort + AllocGlobal + Wait>(rt: &R, text: &str, wanted: &[Wanted]) {
@@ -48,16 +48,15 @@ fn words_are_not_cut_at_signs(rt: HostRuntime) {
 }
 
 #[test]
-fn a_text_of_20_000_words(rt: HostRuntime) -> Result<(), Fail> {
+fn a_text_of_20_000_words(rt: HostRuntime) {
     let mut text = String::new(rt.alloc());
     for _ in 0..20_000 {
-        text.push_str("ab ")?;
+        text.push_str("ab ").expect(&rt, "refused");
     }
-    let words = tokens(&rt, rt.alloc(), &made(&rt, text.as_str()))?;
-    assert_eq!(rt; words.len(), 20_000);
-    let last = words.last().ok_or("no token")?;
-    assert_eq!(rt; last.range(), 59_997..59_999);
-    Ok(())
+    let words = tokens(&rt, rt.alloc(), &made(&rt, text.as_str())).expect(&rt, "refused");
+    check_eq!(rt; words.len(), 20_000);
+    let last = words.last().expect(&rt, "no token");
+    check_eq!(rt; last.range(), 59_997..59_999);
 }
 
 /// The characters that are white space in Unicode.
@@ -74,25 +73,25 @@ const OTHERS: [char; 14] = [
 ];
 
 /// Returns the number of tokens of two letters with the character between them.
-fn count_across<R: Abort + AllocGlobal + Wait>(rt: &R, between: char) -> Result<usize, Fail> {
-    let text = made(rt, format!(in rt.alloc(); "a{between}b")?.as_str());
-    Ok(tokens(rt, rt.alloc(), &text)?.len())
+fn count_across<R: Abort + AllocGlobal + Wait>(rt: &R, between: char) -> usize {
+    let text = format!(in rt.alloc(); "a{between}b").expect(rt, "no memory");
+    tokens(rt, rt.alloc(), &made(rt, text.as_str()))
+        .expect(rt, "no memory")
+        .len()
 }
 
 #[test]
-fn each_white_space_is_a_separator(rt: HostRuntime) -> Result<(), Fail> {
+fn each_white_space_is_a_separator(rt: HostRuntime) {
     for between in WHITE_SPACE {
-        assert_eq!(rt; count_across(&rt, between)?, 2);
+        check_eq!(rt; count_across(&rt, between), 2);
     }
-    Ok(())
 }
 
 #[test]
-fn other_characters_are_no_separators(rt: HostRuntime) -> Result<(), Fail> {
+fn other_characters_are_no_separators(rt: HostRuntime) {
     for between in OTHERS {
-        assert_eq!(rt; count_across(&rt, between)?, 1);
+        check_eq!(rt; count_across(&rt, between), 1);
     }
-    Ok(())
 }
 
 /// Returns the ranges of the tokens of a text of 40 letters, of which one is replaced by another character.
@@ -100,64 +99,56 @@ fn places_with<R: Abort + AllocGlobal + Wait>(
     rt: &R,
     place: usize,
     other: char,
-) -> Result<Vec<Range<usize>>, Fail> {
+) -> Vec<Range<usize>> {
     let mut text = String::new(rt.alloc());
     for at in 0..40 {
-        text.push(if at == place { other } else { 'x' })?;
+        text.push(if at == place { other } else { 'x' })
+            .expect(rt, "no memory");
     }
     let mut places = Vec::new(rt.alloc());
-    for token in tokens(rt, rt.alloc(), &made(rt, text.as_str()))? {
-        places.push(token.range())?;
+    let found = tokens(rt, rt.alloc(), &made(rt, text.as_str()));
+    for token in found.expect(rt, "no memory") {
+        places.push(token.range()).expect(rt, "no memory");
     }
-    Ok(places)
+    places
 }
 
 #[test]
-fn white_space_at_each_place_of_a_long_word(rt: HostRuntime) -> Result<(), Fail> {
+fn white_space_at_each_place_of_a_long_word(rt: HostRuntime) {
     for place in 1..39 {
-        let ascii = places_with(&rt, place, '\u{b}')?;
-        assert!(rt;
-            ascii.as_slice() == [0..place, place + 1..40].as_slice(),
-            "{place}"
-        );
-        let wide = places_with(&rt, place, '\u{3000}')?;
-        assert!(rt;
-            wide.as_slice() == [0..place, place + 3..42].as_slice(),
-            "{place}"
-        );
+        let ascii = places_with(&rt, place, '\u{b}');
+        check_eq!(rt; ascii.as_slice(), [0..place, place + 1..40].as_slice());
+        let wide = places_with(&rt, place, '\u{3000}');
+        check_eq!(rt; wide.as_slice(), [0..place, place + 3..42].as_slice());
     }
-    Ok(())
 }
 
 #[test]
-fn other_characters_at_each_place_of_a_long_word(rt: HostRuntime) -> Result<(), Fail> {
+fn other_characters_at_each_place_of_a_long_word(rt: HostRuntime) {
     for place in 0..40 {
-        let control = places_with(&rt, place, '\u{1f}')?;
-        assert!(rt; control.as_slice() == [0..40].as_slice(), "{place}");
-        let deleted = places_with(&rt, place, '\u{7f}')?;
-        assert!(rt; deleted.as_slice() == [0..40].as_slice(), "{place}");
-        let wide = places_with(&rt, place, 'é')?;
-        assert!(rt; wide.as_slice() == [0..41].as_slice(), "{place}");
+        let control = places_with(&rt, place, '\u{1f}');
+        check_eq!(rt; control.as_slice(), [0..40].as_slice());
+        let deleted = places_with(&rt, place, '\u{7f}');
+        check_eq!(rt; deleted.as_slice(), [0..40].as_slice());
+        let wide = places_with(&rt, place, 'é');
+        check_eq!(rt; wide.as_slice(), [0..41].as_slice());
     }
-    Ok(())
 }
 
 #[test]
-fn tokens_of_a_literal_are_slices_of_the_literal(rt: HostRuntime) -> Result<(), Fail> {
-    let words = tokens(&rt, rt.alloc(), &ArcStr::from_static("a b"))?;
+fn tokens_of_a_literal_are_slices_of_the_literal(rt: HostRuntime) {
+    let words = tokens(&rt, rt.alloc(), &ArcStr::from_static("a b")).expect(&rt, "refused");
     check_tokens(&rt, &words, &[(0, 1, "a"), (2, 3, "b")]);
-    let last = words.last().ok_or("no token")?;
-    assert!(rt; ArcStr::is_static(last.parent()));
-    Ok(())
+    let last = words.last().expect(&rt, "no token");
+    check!(rt; ArcStr::is_static(last.parent()));
 }
 
 #[test]
-fn tokens_keep_their_text(rt: HostRuntime) -> Result<(), Fail> {
+fn tokens_keep_their_text(rt: HostRuntime) {
     let text = made(&rt, "foo   bar");
-    let words = tokens(&rt, rt.alloc(), &text)?;
+    let words = tokens(&rt, rt.alloc(), &text).expect(&rt, "refused");
     drop(text);
     check_tokens(&rt, &words, &[(0, 3, "foo"), (6, 9, "bar")]);
-    let first = words.first().ok_or("no token")?;
+    let first = words.first().expect(&rt, "no token");
     check_count(&rt, first.parent(), Some(2));
-    Ok(())
 }

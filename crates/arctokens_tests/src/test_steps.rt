@@ -1,4 +1,5 @@
 //! Steps that tests repeat.
+use crate::checks::check_eq;
 use arcstr::{ArcStr, Substr};
 use std::alloc::AllocGlobal;
 use std::process::Abort;
@@ -12,18 +13,18 @@ pub(crate) fn made(rt: &(impl Abort + AllocGlobal), text: &str) -> ArcStr {
 }
 
 pub(crate) fn check_count(rt: &impl Abort, text: &ArcStr, wanted: Option<usize>) {
-    assert_eq!(rt; ArcStr::strong_count(text), wanted);
+    check_eq!(rt; ArcStr::strong_count(text), wanted);
 }
 
 fn check_token(rt: &impl Abort, token: &Substr, wanted: Wanted) {
     let (start, end, text) = wanted;
-    assert_eq!(rt; token.as_str(), text);
-    assert_eq!(rt; token.range(), start..end);
+    check_eq!(rt; token.as_str(), text);
+    check_eq!(rt; token.range(), start..end);
 }
 
 /// Asserts the ranges and the texts of all tokens.
 pub(crate) fn check_tokens(rt: &impl Abort, tokens: &[Substr], wanted: &[Wanted]) {
-    assert_eq!(rt; tokens.len(), wanted.len());
+    check_eq!(rt; tokens.len(), wanted.len());
     for (token, word) in tokens.iter().zip(wanted) {
         check_token(rt, token, *word);
     }

@@ -1,4 +1,5 @@
 //! The trait `Clone` of texts: derived, in a `Vec` and in generic code.
+use crate::checks::{check, check_eq};
 use crate::test_steps::{check_count, check_text, made};
 use arcstr::{ArcStr, literal};
 use std::alloc::AllocError;
@@ -22,7 +23,7 @@ fn a_derived_clone_is_another_handle(rt: HostRuntime) {
     };
     let copy = line.clone().expect(&rt, "changed");
     check_text(&rt, copy.text.as_str(), "foo");
-    assert_eq!(rt; copy.number, 7);
+    check_eq!(rt; copy.number, 7);
     check_count(&rt, &line.text, Some(2));
     drop(copy);
     check_count(&rt, &line.text, Some(1));
@@ -35,7 +36,7 @@ fn a_vec_of_texts_is_cloned(rt: HostRuntime) {
     texts.push(text.clone(&rt)).expect(&rt, "no memory");
     texts.push(literal!("bar")).expect(&rt, "no memory");
     let copies = texts.clone().expect(&rt, "no memory");
-    assert!(rt; copies == texts);
+    check!(rt; copies == texts);
     check_count(&rt, &text, Some(3));
 }
 
@@ -46,5 +47,5 @@ fn a_leaked_text_is_cloned_by_generic_code(rt: HostRuntime) {
     text.leak();
     let copy = cloned(&text).expect(&rt, "changed");
     check_text(&rt, copy.as_str(), "foo");
-    assert!(rt; ArcStr::is_static(&copy));
+    check!(rt; ArcStr::is_static(&copy));
 }

@@ -1,4 +1,5 @@
 //! Joins of texts of each kind.
+use crate::checks::check_eq;
 use crate::test_steps::{check_count, check_empty, check_made, made, part};
 use arcstr::{ArcStr, Substr};
 use std::alloc::AllocGlobal;
@@ -31,7 +32,7 @@ fn slices_are_joined_and_stay_counted(rt: HostRuntime) {
     let text = made(&rt, "foo bar");
     let slices: [Substr; 2] = [part(&rt, &text, 4..), part(&rt, &text, ..3)];
     let joined = ArcStr::join(rt.alloc(), &slices, " ").expect(&rt, "refused");
-    assert_eq!(rt; joined.as_str(), "bar foo");
+    check_eq!(rt; joined.as_str(), "bar foo");
     check_count(&rt, &joined, Some(1));
     check_count(&rt, &text, Some(3));
 }

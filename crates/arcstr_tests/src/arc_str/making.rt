@@ -1,5 +1,6 @@
 mod utf8;
 
+use crate::checks::check;
 use crate::test_steps::{check_empty, check_made, check_refused, many_digits};
 use arcstr::{ArcStr, TextFault, format_arcstr};
 
@@ -40,7 +41,7 @@ fn no_bytes_are_filled_too(rt: HostRuntime) {
     let mut length = None;
     let made = ArcStr::init_with(rt.alloc(), 0, |bytes| length = Some(bytes.len()));
     check_empty(&rt, &made.expect(&rt, "refused"));
-    assert!(rt; length == Some(0));
+    check!(rt; length == Some(0));
 }
 
 #[test]
@@ -48,7 +49,7 @@ fn a_closure_is_not_run_for_a_length_that_is_too_long(rt: HostRuntime) {
     let mut ran = false;
     let made = ArcStr::init_with(rt.alloc(), TOO_LONG, |_| ran = true);
     check_refused(&rt, made, TextFault::Length);
-    assert!(rt; !ran);
+    check!(rt; !ran);
 }
 
 #[test]
@@ -56,7 +57,7 @@ fn a_closure_is_not_run_without_memory(rt: HostRuntime) {
     let mut ran = false;
     let made = ArcStr::init_with(rt.alloc(), TOO_LONG - 1, |_| ran = true);
     check_refused(&rt, made, TextFault::Memory);
-    assert!(rt; !ran);
+    check!(rt; !ran);
 }
 
 #[test]
@@ -64,7 +65,7 @@ fn a_closure_is_run_on_zero_bytes(rt: HostRuntime) {
     let mut ran = false;
     let made = ArcStr::init_with(rt.alloc(), 3, |_| ran = true);
     check_made(&rt, made, "\0\0\0");
-    assert!(rt; ran);
+    check!(rt; ran);
 }
 
 #[test]

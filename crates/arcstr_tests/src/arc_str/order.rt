@@ -1,3 +1,4 @@
+use crate::checks::check;
 use crate::test_steps::{are_one_key, check_order, letters, made};
 use arcstr::{ArcStr, Substr, literal};
 use std::alloc::AllocGlobal;
@@ -7,8 +8,8 @@ use std::process::Abort;
 #[test]
 fn a_literal_and_a_block_of_one_text_are_one_key(rt: HostRuntime) {
     let text = made(&rt, "bar");
-    assert!(rt; are_one_key(&text, &literal!("bar"), "bar"));
-    assert!(rt; text.eq_str("bar") && !text.eq_str("ba"));
+    check!(rt; are_one_key(&text, &literal!("bar"), "bar"));
+    check!(rt; text.eq_str("bar") && !text.eq_str("ba"));
 }
 
 /// Asserts the order of texts of this many letters that differ only in the letter at `place`, and of texts whose lengths differ by one letter.

@@ -1,3 +1,4 @@
+use crate::checks::check;
 use crate::test_steps::{
     check_count, check_no_slice, check_nothing, check_slice, check_sliced, check_text, made, part,
 };
@@ -96,5 +97,5 @@ fn a_closure_is_called_once_before_any_test(rt: HostRuntime) {
         9..8
     });
     check_no_slice(&rt, answer, RangeFault::OutOfOrder);
-    assert!(rt; calls == 1);
+    check!(rt; calls == 1);
 }

@@ -1,3 +1,4 @@
+use crate::checks::{check, check_eq};
 use crate::test_steps::{check_count, check_slice, check_text, made};
 use arcstr::{ArcStr, RangeFault, Substr, literal};
 use std::process::Abort;
@@ -5,7 +6,7 @@ use std::process::Abort;
 /// Asserts the slice's own text and its start.
 fn check_part(rt: &impl Abort, slice: &Substr, text: &str, start: usize) {
     check_text(rt, slice.as_str(), text);
-    assert_eq!(rt; slice.range().start, start);
+    check_eq!(rt; slice.range().start, start);
 }
 
 /// Asserts the texts of both slices of a text with one handle, that the first starts at 0, and the start of the second. Each slice keeps the text alive until
@@ -101,17 +102,17 @@ fn a_rest_keeps_the_text(rt: HostRuntime) {
 fn a_text_without_a_match_takes_no_clone(rt: HostRuntime) {
     for text in ["ab", "é"] {
         let text = made(&rt, text);
-        assert!(rt; text.substr_split_once(&rt, '=').is_none());
-        assert!(rt; text.substr_rsplit_once(&rt, "ba").is_none());
-        assert!(rt; text.substr_strip_prefix(&rt, "b").is_none());
-        assert!(rt; text.substr_strip_suffix(&rt, 'a').is_none());
+        check!(rt; text.substr_split_once(&rt, '=').is_none());
+        check!(rt; text.substr_rsplit_once(&rt, "ba").is_none());
+        check!(rt; text.substr_strip_prefix(&rt, "b").is_none());
+        check!(rt; text.substr_strip_suffix(&rt, 'a').is_none());
         let fault = text.substr_split_at(&rt, 3).err();
-        assert_eq!(rt; fault, Some(RangeFault::PastEnd));
+        check_eq!(rt; fault, Some(RangeFault::PastEnd));
         check_count(&rt, &text, Some(1));
     }
     let fault = literal!("é").substr_split_at(&rt, 1).err();
-    assert_eq!(rt; fault, Some(RangeFault::OffBoundary));
-    assert!(rt; literal!("").substr_split_once(&rt, '=').is_none());
+    check_eq!(rt; fault, Some(RangeFault::OffBoundary));
+    check!(rt; literal!("").substr_split_once(&rt, '=').is_none());
 }
 
 /// Asserts that both slices of the text `a=b` have a static text as parent.
@@ -119,7 +120,7 @@ fn check_static(rt: &impl Abort, pair: Option<(Substr, Substr)>) {
     let (first, second) = pair.expect(rt, "not split");
     check_slice(rt, &first, "a", 0..1);
     check_slice(rt, &second, "b", 2..3);
-    assert!(rt; ArcStr::is_static(first.parent()) && ArcStr::is_static(second.parent()));
+    check!(rt; ArcStr::is_static(first.parent()) && ArcStr::is_static(second.parent()));
 }
 
 #[test]

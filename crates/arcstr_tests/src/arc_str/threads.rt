@@ -1,4 +1,5 @@
 //! Texts that are sent to threads and shared between them.
+use crate::checks::{check, check_eq};
 use crate::test_steps::{check_count, check_text, made};
 use arcstr::{ArcStr, JsonFault};
 use std::sync::Wait;
@@ -20,7 +21,7 @@ fn a_text_and_a_static_text_move_to_a_thread(rt: HostRuntime) {
     let text = made(&rt, "foobar");
     let kept = text.leak();
     let reader = thread::spawn(&rt, move || (text.len(), kept.len())).expect(&rt, "no thread");
-    assert!(rt; reader.join(&rt) == (6, 6));
+    check!(rt; reader.join(&rt) == (6, 6));
 }
 
 #[test]
@@ -31,7 +32,7 @@ fn two_threads_clone_and_drop_one_text(rt: HostRuntime) {
         || cloned_often(&rt, &text),
         || cloned_often(&rt, &text),
     );
-    assert!(rt; lengths == (6, 6));
+    check!(rt; lengths == (6, 6));
     check_text(&rt, text.as_str(), "foobar");
     check_count(&rt, &text, Some(1));
 }
@@ -46,5 +47,5 @@ fn raw_handles_static_texts_and_faults_may_cross_threads(rt: HostRuntime) {
     check_text(&rt, crossing(made(&rt, "foobar").leak()).as_str(), "foobar");
     let raw = crossing(ArcStr::into_raw(made(&rt, "foobar")));
     check_text(&rt, ArcStr::from_raw(raw).as_str(), "foobar");
-    assert_eq!(rt; crossing(JsonFault::Memory), JsonFault::Memory);
+    check_eq!(rt; crossing(JsonFault::Memory), JsonFault::Memory);
 }

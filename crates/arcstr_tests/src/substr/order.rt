@@ -1,3 +1,4 @@
+use crate::checks::check;
 use crate::test_steps::{are_one_key, check_order, letters, made, part};
 use arcstr::{ArcStr, Substr};
 use std::alloc::AllocGlobal;
@@ -8,8 +9,8 @@ use std::sync::Wait;
 #[test]
 fn slices_of_one_text_are_equal_whatever_their_parents(rt: HostRuntime) {
     let slice = part(&rt, &made(&rt, "foobar"), 3..6);
-    assert!(rt; are_one_key(&slice, &Substr::from_static("bar"), "bar"));
-    assert!(rt; slice.eq_str("bar") && !slice.eq_str("ba") && !slice.eq_str("foobar"));
+    check!(rt; are_one_key(&slice, &Substr::from_static("bar"), "bar"));
+    check!(rt; slice.eq_str("bar") && !slice.eq_str("ba") && !slice.eq_str("foobar"));
 }
 
 /// Returns the slice of these letters after the first one, with another letter at `place`.

@@ -1,3 +1,4 @@
+use crate::checks::check;
 use crate::test_steps::{check_nothing, check_slice, check_sliced, check_text, made, part};
 use arcstr::{ArcStr, StrRange, StrView, Substr, literal};
 use std::process::Abort;
@@ -32,8 +33,8 @@ fn a_trimmed_view_of_a_slice_gives_its_slice(rt: HostRuntime) {
 
 #[test]
 fn a_view_is_not_found_past_the_own_text(rt: HostRuntime) {
-    assert!(rt; found(&rt, "bar", 3).is_none());
-    assert!(rt; found(&rt, "foo", 0).is_none());
+    check!(rt; found(&rt, "bar", 3).is_none());
+    check!(rt; found(&rt, "foo", 0).is_none());
 }
 
 #[test]

@@ -1,3 +1,4 @@
+use crate::checks::{check, check_eq};
 use crate::test_steps::{check_count, check_slice, made, part};
 use arcstr::{ArcStr, RangeFault, Substr, literal};
 use std::alloc::AllocGlobal;
@@ -73,12 +74,12 @@ fn a_rest_of_a_slice_keeps_the_parent(rt: HostRuntime) {
 #[test]
 fn a_slice_does_not_find_what_its_parent_has(rt: HostRuntime) {
     let list = list(&rt);
-    assert!(rt; list.substr_split_once(&rt, 'd').is_none());
-    assert!(rt; list.substr_rsplit_once(&rt, "=d").is_none());
-    assert!(rt; list.substr_strip_prefix(&rt, "x").is_none());
-    assert!(rt; list.substr_strip_suffix(&rt, 'd').is_none());
+    check!(rt; list.substr_split_once(&rt, 'd').is_none());
+    check!(rt; list.substr_rsplit_once(&rt, "=d").is_none());
+    check!(rt; list.substr_strip_prefix(&rt, "x").is_none());
+    check!(rt; list.substr_strip_suffix(&rt, 'd').is_none());
     let fault = list.substr_split_at(&rt, 6).err();
-    assert_eq!(rt; fault, Some(RangeFault::PastEnd));
+    check_eq!(rt; fault, Some(RangeFault::PastEnd));
     check_count(&rt, list.parent(), Some(1));
 }
 

@@ -1,4 +1,5 @@
 //! Slices that are sent to threads and shared between them.
+use crate::checks::check;
 use crate::test_steps::{check_count, made, part};
 use arcstr::Substr;
 use std::thread;
@@ -11,7 +12,7 @@ fn a_slice_is_read_where_its_parents_handle_is_not(rt: HostRuntime) {
     let reader = thread::spawn(&rt, move || (slice.len(), slice.as_str() == "bar"));
     let reader = reader.expect(&rt, "no thread");
     owner.join(&rt);
-    assert!(rt; reader.join(&rt) == (3, true));
+    check!(rt; reader.join(&rt) == (3, true));
 }
 
 #[test]
@@ -22,6 +23,6 @@ fn two_threads_read_one_slice(rt: HostRuntime) {
         || slice.as_str() == "foobar",
         || slice.clone(&rt).as_str() == "foobar",
     );
-    assert!(rt; read == (true, true));
+    check!(rt; read == (true, true));
     check_count(&rt, slice.parent(), Some(1));
 }
