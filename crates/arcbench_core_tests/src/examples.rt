@@ -140,7 +140,7 @@ fn numbers_number_of(rt: HostRuntime) {
 #[test]
 fn threads_start(rt: HostRuntime) {
     let handles = threads::start(&rt, rt.alloc(), 2).expect(&rt, "refused");
-    check_eq!(rt; handles.len(), 2);
+    assert_eq!(rt; handles.len(), 2);
     check_eq!(rt; handles[1].as_str(), "foobar");
 }
 

@@ -103,8 +103,8 @@ fn intern_arc(rt: &impl Wait, meter: Meter, alloc: Global) -> Result<(), Stop> {
 
 fn intern_substr(rt: &impl Wait, meter: Meter, alloc: Global) -> Result<(), Stop> {
     let text = ArcStr::from_str(alloc, "foobar")?;
-    let slice = text.view().cut(0..3).map(|part| text.substr_from(rt, part));
-    let slice = slice.ok_or(Stop::Differs(Part::Range))?;
+    let part = text.view().cut(0..3).ok_or(Stop::Differs(Part::Range))?;
+    let slice = text.substr_from(rt, part);
     let mut interner = Interner::new(alloc);
     for _ in 0..TRIES {
         meter.begin();

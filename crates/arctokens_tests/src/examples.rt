@@ -6,7 +6,7 @@ use arctokens::{Gate, tokens, tokens_all, tokens_all_with, tokens_are_one};
 #[test]
 fn one_text_tokens(rt: HostRuntime) {
     let words = tokens(&rt, rt.alloc(), &literal!("foo   bar")).expect(&rt, "refused");
-    check_eq!(rt; words.len(), 2);
+    assert_eq!(rt; words.len(), 2);
     check_eq!(rt; words[1].as_str(), "bar");
     check_eq!(rt; words[1].range(), 6..9);
 }
@@ -24,7 +24,7 @@ fn one_text_tokens_are_one(rt: HostRuntime) {
 fn many_texts_tokens_all(rt: HostRuntime) {
     let texts = [literal!("foo   bar"), literal!("")];
     let lists = tokens_all(&rt, rt.alloc(), &texts, 4).expect(&rt, "refused");
-    check_eq!(rt; lists.len(), 2);
+    assert_eq!(rt; lists.len(), 2);
     check_eq!(rt; lists[0].len(), 2);
     check_eq!(rt; lists[1].len(), 0);
 }
