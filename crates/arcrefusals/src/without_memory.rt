@@ -130,14 +130,16 @@ fn slice_of_slice(rt: &impl Wait, meter: Meter, alloc: Global) -> Result<(), Sto
 fn parts(rt: &impl Wait, meter: Meter, alloc: Global) -> Result<(), Stop> {
     let text = ArcStr::from_str(alloc, "foobar")?;
     meter.begin();
-    let halves = text.substr_split_at(rt, 3);
-    let first = text.substr_split_once(rt, 'o');
-    let last = text.substr_rsplit_once(rt, "ob");
-    let bar = text.substr_strip_prefix(rt, "foo");
-    let foo = text.substr_strip_suffix(rt, "bar");
+    let parts = (
+        text.substr_split_at(rt, 3),
+        text.substr_split_once(rt, 'o'),
+        text.substr_rsplit_once(rt, "ob"),
+        text.substr_strip_prefix(rt, "foo"),
+        text.substr_strip_suffix(rt, "bar"),
+    );
     meter.end();
     check_text(&text, "foobar", 9)?;
-    meter.drop_counted((halves, first, last, bar, foo));
+    meter.drop_counted(parts);
     check_text(&text, "foobar", 1)
 }
 
@@ -145,14 +147,16 @@ fn parts_of_slice(rt: &impl Wait, meter: Meter, alloc: Global) -> Result<(), Sto
     let text = ArcStr::from_str(alloc, "a foobar b")?;
     let foobar = Substr::from_parts_unchecked(text, 2..8);
     meter.begin();
-    let halves = foobar.substr_split_at(rt, 3);
-    let first = foobar.substr_split_once(rt, 'o');
-    let last = foobar.substr_rsplit_once(rt, "ob");
-    let bar = foobar.substr_strip_prefix(rt, "foo");
-    let foo = foobar.substr_strip_suffix(rt, "bar");
+    let parts = (
+        foobar.substr_split_at(rt, 3),
+        foobar.substr_split_once(rt, 'o'),
+        foobar.substr_rsplit_once(rt, "ob"),
+        foobar.substr_strip_prefix(rt, "foo"),
+        foobar.substr_strip_suffix(rt, "bar"),
+    );
     meter.end();
     check_count(foobar.parent(), 9)?;
-    meter.drop_counted((halves, first, last, bar, foo));
+    meter.drop_counted(parts);
     check_count(foobar.parent(), 1)
 }
 
