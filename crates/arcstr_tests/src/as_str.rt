@@ -129,18 +129,41 @@ fn check_rest(rt: &impl Abort, found: Option<Substr>, wanted: Option<&str>) {
     check_part(rt, found.as_ref().map(|rest| rest.as_str()), wanted);
 }
 
+fn check_split_view(rt: &impl Abort, text: &str, separator: &str, first: Pair, last: Pair) {
+    let view = StrView::whole(text);
+    check_views(rt, view.split_once(separator), first);
+    check_views(rt, view.rsplit_once(separator), last);
+}
+
+fn check_split_text(
+    rt: &(impl Abort + Wait),
+    text: &ArcStr,
+    separator: &str,
+    first: Pair,
+    last: Pair,
+) {
+    check_slices(rt, text.substr_split_once(rt, separator), first);
+    check_slices(rt, text.substr_rsplit_once(rt, separator), last);
+}
+
+fn check_split_slice(
+    rt: &(impl Abort + Wait),
+    slice: &Substr,
+    separator: &str,
+    first: Pair,
+    last: Pair,
+) {
+    check_slices(rt, slice.substr_split_once(rt, separator), first);
+    check_slices(rt, slice.substr_rsplit_once(rt, separator), last);
+}
+
 #[test]
 fn texts_are_split_as_str_is(rt: HostRuntime) {
     for (text, separator, first, last) in SPLIT_ONCE {
-        let view = StrView::whole(text);
-        check_views(&rt, view.split_once(separator), first);
-        check_views(&rt, view.rsplit_once(separator), last);
+        check_split_view(&rt, text, separator, first, last);
         let whole = made(&rt, text);
-        check_slices(&rt, whole.substr_split_once(&rt, separator), first);
-        check_slices(&rt, whole.substr_rsplit_once(&rt, separator), last);
-        let slice = Substr::full(whole);
-        check_slices(&rt, slice.substr_split_once(&rt, separator), first);
-        check_slices(&rt, slice.substr_rsplit_once(&rt, separator), last);
+        check_split_text(&rt, &whole, separator, first, last);
+        check_split_slice(&rt, &Substr::full(whole), separator, first, last);
     }
 }
 
@@ -155,25 +178,39 @@ fn texts_are_split_at_a_place_as_str_is(rt: HostRuntime) {
     check_eq!(rt; past, Some(RangeFault::PastEnd));
 }
 
+/// Asserts what is left of a text, and of a slice of all of it, without the affix as a prefix and as a suffix.
+fn check_stripped(
+    rt: &(impl Abort + Wait),
+    (text, slice): (&ArcStr, &Substr),
+    affix: &str,
+    after: Option<&str>,
+    before: Option<&str>,
+) {
+    check_rest(rt, text.substr_strip_prefix(rt, affix), after);
+    check_rest(rt, text.substr_strip_suffix(rt, affix), before);
+    check_rest(rt, slice.substr_strip_prefix(rt, affix), after);
+    check_rest(rt, slice.substr_strip_suffix(rt, affix), before);
+}
+
 #[test]
 fn texts_are_stripped_as_str_is(rt: HostRuntime) {
     for (text, affix, after, before) in STRIP {
         let whole = made(&rt, text);
-        check_rest(&rt, whole.substr_strip_prefix(&rt, affix), after);
-        check_rest(&rt, whole.substr_strip_suffix(&rt, affix), before);
-        let slice = Substr::full(whole);
-        check_rest(&rt, slice.substr_strip_prefix(&rt, affix), after);
-        check_rest(&rt, slice.substr_strip_suffix(&rt, affix), before);
+        let slice = Substr::full(whole.clone(&rt));
+        check_stripped(&rt, (&whole, &slice), affix, after, before);
     }
+}
+
+fn check_trims(rt: &(impl Abort + Wait), text: &ArcStr, both: &str, start: &str, end: &str) {
+    check_text(rt, text.substr_trim(rt).as_str(), both);
+    check_text(rt, text.substr_trim_start(rt).as_str(), start);
+    check_text(rt, text.substr_trim_end(rt).as_str(), end);
 }
 
 #[test]
 fn texts_are_trimmed_as_str_is(rt: HostRuntime) {
     for (text, both, start, end) in TRIM {
-        let whole = made(&rt, text);
-        check_text(&rt, whole.substr_trim(&rt).as_str(), both);
-        check_text(&rt, whole.substr_trim_start(&rt).as_str(), start);
-        check_text(&rt, whole.substr_trim_end(&rt).as_str(), end);
+        check_trims(&rt, &made(&rt, text), both, start, end);
     }
 }
 
@@ -184,7 +221,7 @@ fn check_next(rt: &impl Abort, text: &str, view: &StrView<'_>, wanted: Option<&&
 }
 
 #[test]
-fn views_have_the_lines_parts_and_words_of_str(rt: HostRuntime) {
+fn views_have_the_lines_of_str(rt: HostRuntime) {
     for (text, lines) in LINES {
         let mut wanted = lines.iter();
         for line in StrView::whole(text).lines() {
@@ -192,6 +229,10 @@ fn views_have_the_lines_parts_and_words_of_str(rt: HostRuntime) {
         }
         check!(rt; wanted.next().is_none());
     }
+}
+
+#[test]
+fn views_have_the_parts_of_str(rt: HostRuntime) {
     for (text, separator, parts) in SPLIT {
         let mut wanted = parts.iter();
         for part in StrView::whole(text).split(separator) {
@@ -199,6 +240,10 @@ fn views_have_the_lines_parts_and_words_of_str(rt: HostRuntime) {
         }
         check!(rt; wanted.next().is_none());
     }
+}
+
+#[test]
+fn views_have_the_words_of_str(rt: HostRuntime) {
     for (text, words) in WORDS {
         let mut wanted = words.iter();
         for word in StrView::whole(text).split_whitespace() {
@@ -206,6 +251,10 @@ fn views_have_the_lines_parts_and_words_of_str(rt: HostRuntime) {
         }
         check!(rt; wanted.next().is_none());
     }
+}
+
+#[test]
+fn views_find_as_str_does(rt: HostRuntime) {
     for (text, pattern, place) in FIND {
         check_eq!(rt; StrView::whole(text).find(pattern), place);
     }

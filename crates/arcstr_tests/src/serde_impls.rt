@@ -34,7 +34,7 @@ fn a_struct_of_texts_is_read_from_json(rt: HostRuntime) {
     check_text(&rt, entry.name.as_str(), "plain");
     check_count(&rt, &entry.name, Some(1));
     check_slice(&rt, &entry.value, "é b", 0..4);
-    check!(rt; entry.tags.len() == 2);
+    assert!(rt; entry.tags.len() == 2);
     check!(rt; ArcStr::is_static(&entry.tags[1]));
 }
 

@@ -2,6 +2,7 @@ use crate::checks::{check, check_eq};
 use crate::test_steps::{check_count, check_slice, check_text, made};
 use arcstr::{ArcStr, RangeFault, Substr, literal};
 use std::process::Abort;
+use std::sync::Wait;
 
 /// Asserts the slice's own text and its start.
 fn check_part(rt: &impl Abort, slice: &Substr, text: &str, start: usize) {
@@ -98,18 +99,21 @@ fn a_rest_keeps_the_text(rt: HostRuntime) {
     check_rest(&rt, &text, text.substr_strip_suffix(&rt, 'é'), "éa", 0);
 }
 
+/// Asserts that nothing of the text matches, and that it has one handle then.
+fn check_unmatched(rt: &(impl Abort + Wait), text: &ArcStr) {
+    check!(rt; text.substr_split_once(rt, '=').is_none());
+    check!(rt; text.substr_rsplit_once(rt, "ba").is_none());
+    check!(rt; text.substr_strip_prefix(rt, "b").is_none());
+    check!(rt; text.substr_strip_suffix(rt, 'a').is_none());
+    let fault = text.substr_split_at(rt, 3).err();
+    check_eq!(rt; fault, Some(RangeFault::PastEnd));
+    check_count(rt, text, Some(1));
+}
+
 #[test]
 fn a_text_without_a_match_takes_no_clone(rt: HostRuntime) {
-    for text in ["ab", "é"] {
-        let text = made(&rt, text);
-        check!(rt; text.substr_split_once(&rt, '=').is_none());
-        check!(rt; text.substr_rsplit_once(&rt, "ba").is_none());
-        check!(rt; text.substr_strip_prefix(&rt, "b").is_none());
-        check!(rt; text.substr_strip_suffix(&rt, 'a').is_none());
-        let fault = text.substr_split_at(&rt, 3).err();
-        check_eq!(rt; fault, Some(RangeFault::PastEnd));
-        check_count(&rt, &text, Some(1));
-    }
+    check_unmatched(&rt, &made(&rt, "ab"));
+    check_unmatched(&rt, &made(&rt, "é"));
     let fault = literal!("é").substr_split_at(&rt, 1).err();
     check_eq!(rt; fault, Some(RangeFault::OffBoundary));
     check!(rt; literal!("").substr_split_once(&rt, '=').is_none());
