@@ -1,4 +1,4 @@
-//! The examples of the doc comments, word for word: `.ci/checks/examples` compares them.
+//! The examples of the doc comments, as tests have them: `.ci/checks/examples` compares them.
 use crate::checks::{check, check_eq};
 use arcintern::{InternFault, Interner, MOST_TEXTS, SharedInterner};
 use arcstr::ArcStr;

@@ -1,4 +1,4 @@
-//! The examples of the doc comments. `.ci/checks/examples` compares them word for word.
+//! The examples of the doc comments, as tests have them: `.ci/checks/examples` compares them.
 use crate::checks::{check, check_eq};
 use arcstr::literal;
 use arctokens::{Gate, tokens, tokens_all, tokens_all_with, tokens_are_one};
