@@ -13,7 +13,7 @@ MODULE = re.compile(ATTRIBUTES + r"(?:pub(?:\([a-z]+\))? )?mod (?P<name>\w+);", 
 FUNCTION = re.compile(
     ATTRIBUTES + r"(?P<public>pub )?(?:pub\([a-z]+\) )?(?:(?:const|unsafe|extern|async) )*fn (?P<name>\w+)", re.M)
 OWNER = re.compile(
-    r"^(?:unsafe )?(?:impl\b(?:<[^{]*?>)? (?:(?P<own>[^{;\n]*?) for &|(?P<trait>[^{;\n]*? for )?(?P<type>\w+))"
+    r"^(?:unsafe )?(?:impl\b(?:<[^{]*?>)? (?:(?P<own>[^{;\n]*?) for &|(?:(?P<trait>[^{;\n]*?) for )?(?P<type>\w+))"
     r"|(?:pub )?trait (?P<new>\w+))[^;{]*\{", re.M)
 CLAUSE = re.compile(r"\b(?P<kind>ensures|requires|invariant|decreases)(?: (?P<name>\w+))?\s*$")
 HIDING = re.compile(r"#!?\[(?:cfg|path|ignore).*?\]$", re.M)
@@ -114,8 +114,8 @@ def files_of(crate):
 
 @dataclass(eq=False)
 class Function:
-    """A function: its type or trait where it has one, where it stands in its file, its `ensures` clauses by name (`None` for a clause without one),
-    and its body. A function of a trait for a reference, as `impl Equivalent<ArcStr> for &str`, has the trait as its type."""
+    """A function: its type or trait where it has one, the trait that it implements, where it stands in its file, its `ensures` clauses by name (`None` for
+    a clause without one), and its body. A function of a trait for a reference, as `impl Equivalent<ArcStr> for &str`, has the trait as its type."""
 
     name: str
     owner: str | None
@@ -124,7 +124,7 @@ class Function:
     file: Path
     start: int = 0
     end: int = 0
-    of_trait: bool = False
+    trait: str | None = None
     ensures: dict = field(default_factory=dict)
     body: str = ""
     raw_body: str = ""
@@ -168,6 +168,6 @@ def functions(file, source=None):
         is_public = bool(found["public"] or owner and (owner["trait"] or owner["own"] or owner["new"]))
         attributes = re.findall(r"#\[(.*)\]", found["attributes"])
         owned_by = owner and (owner["type"] or owner["own"] or owner["new"])
-        function = Function(found["name"], owned_by, is_public, attributes, file, found.start(), of_trait=bool(owner and owner["trait"]))
+        function = Function(found["name"], owned_by, is_public, attributes, file, found.start(), trait=owner and owner["trait"])
         read_contract(function, text, shown, source, end_of_group(text, text.index("(", found.end())))
         yield function

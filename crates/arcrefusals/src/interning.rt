@@ -4,7 +4,7 @@ use crate::making::{check_count, check_text};
 use crate::meter::Meter;
 use crate::stop::{Part, Stop, check};
 use arcintern::{InternFault, Interner, SharedInterner, SharedSymbol, Symbol};
-use arcstr::ArcStr;
+use arcstr::{ArcStr, Substr};
 use std::alloc::Global;
 use std::sync::Wait;
 
@@ -105,20 +105,25 @@ fn intern_substr(rt: &impl Wait, meter: Meter, alloc: Global) -> Result<(), Stop
     let text = ArcStr::from_str(alloc, "foobar")?;
     let part = text.view().cut(0..3).ok_or(Stop::Differs(Part::Range))?;
     let slice = text.substr_from(rt, part);
+    intern_slice(rt, meter, alloc, &slice)
+}
+
+/// Interns the slice `foo` of a text with two handles.
+fn intern_slice(rt: &impl Wait, meter: Meter, alloc: Global, slice: &Substr) -> Result<(), Stop> {
     let mut interner = Interner::new(alloc);
     for _ in 0..TRIES {
         meter.begin();
-        let interned = interner.intern_substr(rt, &slice);
+        let interned = interner.intern_substr(rt, slice);
         meter.end();
         match interned {
             Ok(symbol) => {
                 check_interned(&interner, symbol, "foo", 1)?;
                 meter.drop_counted(interner);
-                return check_count(&text, 2);
+                return check_count(slice.parent(), 2);
             }
             Err(fault) => check_unchanged(&interner, fault)?,
         }
-        check_count(&text, 2)?;
+        check_count(slice.parent(), 2)?;
     }
     Err(Stop::Refused)
 }

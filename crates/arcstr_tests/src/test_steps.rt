@@ -68,6 +68,14 @@ pub(crate) fn check_no_slice(
     }
 }
 
+pub(crate) fn check_not_split(rt: &impl Abort, pair: Option<(Substr, Substr)>) {
+    check!(rt; pair.is_none());
+}
+
+pub(crate) fn check_no_rest(rt: &impl Abort, rest: Option<Substr>) {
+    check!(rt; rest.is_none());
+}
+
 /// Asserts a part of a text, or that it is `None`.
 pub(crate) fn check_part(rt: &impl Abort, part: Option<&str>, wanted: Option<&str>) {
     check_eq!(rt; part, wanted);

@@ -1,5 +1,7 @@
 use crate::checks::{check, check_eq};
-use crate::test_steps::{check_count, check_slice, check_text, made};
+use crate::test_steps::{
+    check_count, check_no_rest, check_not_split, check_slice, check_text, made,
+};
 use arcstr::{ArcStr, RangeFault, Substr, literal};
 use std::process::Abort;
 use std::sync::Wait;
@@ -101,10 +103,10 @@ fn a_rest_keeps_the_text(rt: HostRuntime) {
 
 /// Asserts that nothing of the text matches, and that it has one handle then.
 fn check_unmatched(rt: &(impl Abort + Wait), text: &ArcStr) {
-    check!(rt; text.substr_split_once(rt, '=').is_none());
-    check!(rt; text.substr_rsplit_once(rt, "ba").is_none());
-    check!(rt; text.substr_strip_prefix(rt, "b").is_none());
-    check!(rt; text.substr_strip_suffix(rt, 'a').is_none());
+    check_not_split(rt, text.substr_split_once(rt, '='));
+    check_not_split(rt, text.substr_rsplit_once(rt, "ba"));
+    check_no_rest(rt, text.substr_strip_prefix(rt, "b"));
+    check_no_rest(rt, text.substr_strip_suffix(rt, 'a'));
     let fault = text.substr_split_at(rt, 3).err();
     check_eq!(rt; fault, Some(RangeFault::PastEnd));
     check_count(rt, text, Some(1));
@@ -116,7 +118,7 @@ fn a_text_without_a_match_takes_no_clone(rt: HostRuntime) {
     check_unmatched(&rt, &made(&rt, "é"));
     let fault = literal!("é").substr_split_at(&rt, 1).err();
     check_eq!(rt; fault, Some(RangeFault::OffBoundary));
-    check!(rt; literal!("").substr_split_once(&rt, '=').is_none());
+    check_not_split(&rt, literal!("").substr_split_once(&rt, '='));
 }
 
 /// Asserts that both slices of the text `a=b` have a static text as parent.

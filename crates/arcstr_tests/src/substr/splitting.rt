@@ -1,5 +1,5 @@
-use crate::checks::{check, check_eq};
-use crate::test_steps::{check_count, check_slice, made, part};
+use crate::checks::check_eq;
+use crate::test_steps::{check_count, check_no_rest, check_not_split, check_slice, made, part};
 use arcstr::{ArcStr, RangeFault, Substr, literal};
 use std::alloc::AllocGlobal;
 use std::ops::Range;
@@ -11,6 +11,11 @@ fn list(rt: &(impl Abort + AllocGlobal + Wait)) -> Substr {
     part(rt, &made(rt, "x: a=b=c=d"), 3..8)
 }
 
+/// Asserts the slice's own text and its byte range in the parent.
+fn check_placed(rt: &impl Abort, slice: &Substr, (text, places): (&str, Range<usize>)) {
+    check_slice(rt, slice, text, places);
+}
+
 /// Asserts the texts and byte ranges of both slices of `list`. Each keeps the parent alive until it is dropped.
 fn check_pair(
     rt: &impl Abort,
@@ -20,8 +25,8 @@ fn check_pair(
     after: (&str, Range<usize>),
 ) {
     let (first, second) = pair.expect(rt, "not split");
-    check_slice(rt, &first, before.0, before.1);
-    check_slice(rt, &second, after.0, after.1);
+    check_placed(rt, &first, before);
+    check_placed(rt, &second, after);
     check_count(rt, list.parent(), Some(3));
     drop(first);
     drop(second);
@@ -74,23 +79,34 @@ fn a_rest_of_a_slice_keeps_the_parent(rt: HostRuntime) {
 #[test]
 fn a_slice_does_not_find_what_its_parent_has(rt: HostRuntime) {
     let list = list(&rt);
-    check!(rt; list.substr_split_once(&rt, 'd').is_none());
-    check!(rt; list.substr_rsplit_once(&rt, "=d").is_none());
-    check!(rt; list.substr_strip_prefix(&rt, "x").is_none());
-    check!(rt; list.substr_strip_suffix(&rt, 'd').is_none());
+    check_not_split(&rt, list.substr_split_once(&rt, 'd'));
+    check_not_split(&rt, list.substr_rsplit_once(&rt, "=d"));
+    check_no_rest(&rt, list.substr_strip_prefix(&rt, "x"));
+    check_no_rest(&rt, list.substr_strip_suffix(&rt, 'd'));
     let fault = list.substr_split_at(&rt, 6).err();
     check_eq!(rt; fault, Some(RangeFault::PastEnd));
     check_count(&rt, list.parent(), Some(1));
+}
+
+/// Asserts the texts and byte ranges of both slices, and returns the second.
+fn check_parts(
+    rt: &impl Abort,
+    pair: Option<(Substr, Substr)>,
+    before: (&str, Range<usize>),
+    after: (&str, Range<usize>),
+) -> Substr {
+    let (first, second) = pair.expect(rt, "not split");
+    check_placed(rt, &first, before);
+    check_placed(rt, &second, after);
+    second
 }
 
 #[test]
 fn a_slice_inside_a_slice_is_split_in_the_parent(rt: HostRuntime) {
     let outer = part(&rt, &literal!("<a, b, c>"), 1..8);
     let inner = outer.substr(&rt, 3..).expect(&rt, "no slice");
-    let (first, second) = inner.substr_split_once(&rt, ", ").expect(&rt, "not split");
-    check_slice(&rt, &first, "b", 4..5);
-    check_slice(&rt, &second, "c", 7..8);
-    let (first, rest) = second.substr_split_at(&rt, 1).expect(&rt, "not split");
-    check_slice(&rt, &first, "c", 7..8);
-    check_slice(&rt, &rest, "", 8..8);
+    let parts = inner.substr_split_once(&rt, ", ");
+    let second = check_parts(&rt, parts, ("b", 4..5), ("c", 7..8));
+    let parts = second.substr_split_at(&rt, 1).ok();
+    check_parts(&rt, parts, ("c", 7..8), ("", 8..8));
 }
