@@ -16,7 +16,20 @@ fn check_placed(rt: &impl Abort, slice: &Substr, (text, places): (&str, Range<us
     check_slice(rt, slice, text, places);
 }
 
-/// Asserts the texts and byte ranges of both slices of `list`. Each keeps the parent alive until it is dropped.
+/// Asserts the texts and byte ranges of both slices, and returns the slices.
+fn check_parts(
+    rt: &impl Abort,
+    pair: Option<(Substr, Substr)>,
+    before: (&str, Range<usize>),
+    after: (&str, Range<usize>),
+) -> (Substr, Substr) {
+    let (first, second) = pair.expect(rt, "not split");
+    check_placed(rt, &first, before);
+    check_placed(rt, &second, after);
+    (first, second)
+}
+
+/// Checks both slices of `list`. Each keeps the parent alive until it is dropped.
 fn check_pair(
     rt: &impl Abort,
     list: &Substr,
@@ -24,9 +37,7 @@ fn check_pair(
     before: (&str, Range<usize>),
     after: (&str, Range<usize>),
 ) {
-    let (first, second) = pair.expect(rt, "not split");
-    check_placed(rt, &first, before);
-    check_placed(rt, &second, after);
+    let (first, second) = check_parts(rt, pair, before, after);
     check_count(rt, list.parent(), Some(3));
     drop(first);
     drop(second);
@@ -88,25 +99,12 @@ fn a_slice_does_not_find_what_its_parent_has(rt: HostRuntime) {
     check_count(&rt, list.parent(), Some(1));
 }
 
-/// Asserts the texts and byte ranges of both slices, and returns the second.
-fn check_parts(
-    rt: &impl Abort,
-    pair: Option<(Substr, Substr)>,
-    before: (&str, Range<usize>),
-    after: (&str, Range<usize>),
-) -> Substr {
-    let (first, second) = pair.expect(rt, "not split");
-    check_placed(rt, &first, before);
-    check_placed(rt, &second, after);
-    second
-}
-
 #[test]
 fn a_slice_inside_a_slice_is_split_in_the_parent(rt: HostRuntime) {
     let outer = part(&rt, &literal!("<a, b, c>"), 1..8);
     let inner = outer.substr(&rt, 3..).expect(&rt, "no slice");
     let parts = inner.substr_split_once(&rt, ", ");
-    let second = check_parts(&rt, parts, ("b", 4..5), ("c", 7..8));
+    let (_first, second) = check_parts(&rt, parts, ("b", 4..5), ("c", 7..8));
     let parts = second.substr_split_at(&rt, 1).ok();
     check_parts(&rt, parts, ("c", 7..8), ("", 8..8));
 }
