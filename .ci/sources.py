@@ -171,3 +171,36 @@ def functions(file, source=None):
         function = Function(found["name"], owned_by, is_public, attributes, file, found.start(), trait=owner and owner["trait"])
         read_contract(function, text, shown, source, end_of_group(text, text.index("(", found.end())))
         yield function
+
+
+@dataclass
+class WrongBody:
+    """A block of a file `wrong-bodies/SUBJECT.edits`: its name, its replacements as file, old and new text, and the clauses that it breaks."""
+
+    path: Path
+    name: str
+    hunks: list = field(default_factory=list)
+    refused: list = field(default_factory=list)
+
+
+def wrong_bodies_in(path):
+    """The wrong bodies of a file `SUBJECT.edits`, blocks of lines. They edit `src/SUBJECT.rt`, or the file that a line `file:` names: for its block alone
+    if it stands in one, else for all blocks below it."""
+    found, file = [], f"src/{path.stem}.rt"
+    for block in path.read_text().split("\n\n"):
+        body, own = None, file
+        for line in block.splitlines():
+            word, _, rest = line.partition(" ")
+            if word == "##":
+                body = WrongBody(path, rest)
+                found.append(body)
+            elif word == "file:":
+                own = rest
+                file = file if body else own
+            elif word == "old:":
+                body.hunks.append([own, rest, ""])
+            elif word == "new:":
+                body.hunks[-1][2] = rest
+            elif word == "refused:":
+                body.refused = rest.split(", ")
+    return found
