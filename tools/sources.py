@@ -74,6 +74,17 @@ def listed_crates():
     return [re.match(r"\w+", line)[0] for line in lines if re.match(r"\w", line)]
 
 
+def uses_of(crate):
+    """What crates.txt lists after the name of a crate."""
+    return re.search(rf"^{crate}\b[^:#\n]*:(.*)", (ROOT / "crates.txt").read_text(), re.M)[1].split()
+
+
+@cache
+def libraries():
+    """The libraries of crates.txt, lowest first, with what each uses. A crate of tests is none."""
+    return {crate: uses_of(crate) for crate in listed_crates() if is_library(crate) and not crate.endswith(TEST_ENDINGS)}
+
+
 def tested_crate(crate):
     """The crate of which this one has tests or examples, and nothing else; of another crate `None`."""
     return next((crate.removesuffix(ending) for ending in TEST_ENDINGS if crate.endswith(ending) and crate.removesuffix(ending) in listed_crates()), None)
@@ -184,10 +195,10 @@ class WrongBody:
 
 
 def wrong_bodies_in(path):
-    """The wrong bodies of a file `SUBJECT.edits`, blocks of lines. They edit `src/SUBJECT.rt`, or the file that a line `file:` names: for its block alone
-    if it stands in one, else for all blocks below it."""
-    found, file = [], f"src/{path.stem}.rt"
-    for block in path.read_text().split("\n\n"):
+    """The wrong bodies of a file `wrong-bodies/SUBJECT.edits`, blocks of lines, or the one of a file `must-fail/NAME.edit`. They edit `src/SUBJECT.rt`, or the
+    file that a line `file:` names: for its block alone if it stands in one, else for all blocks below it."""
+    found, file, text = [], f"src/{path.stem}.rt", path.read_text()
+    for block in (text if path.suffix == ".edits" else f"## {path.stem}\n{text}").split("\n\n"):
         body, own = None, file
         for line in block.splitlines():
             word, _, rest = line.partition(" ")
