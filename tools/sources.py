@@ -18,7 +18,7 @@ OWNER = re.compile(
 CLAUSE = re.compile(r"\b(?P<kind>ensures|requires|invariant|decreases)(?: (?P<name>\w+))?\s*$")
 HIDING = re.compile(r"#!?\[(?:cfg|path|ignore).*?\]$", re.M)
 CLOSING = {"(": ")", "{": "}"}
-TEST_ENDINGS = ("_tests", "_examples")
+TESTS = "_tests"
 
 
 def end_of_block_comment(text, start):
@@ -82,17 +82,12 @@ def uses_of(crate):
 @cache
 def libraries():
     """The libraries of crates.txt, lowest first, with what each uses. A crate of tests is none."""
-    return {crate: uses_of(crate) for crate in listed_crates() if is_library(crate) and not crate.endswith(TEST_ENDINGS)}
-
-
-def tested_crate(crate):
-    """The crate of which this one has tests or examples, and nothing else; of another crate `None`."""
-    return next((crate.removesuffix(ending) for ending in TEST_ENDINGS if crate.endswith(ending) and crate.removesuffix(ending) in listed_crates()), None)
+    return {crate: uses_of(crate) for crate in listed_crates() if is_library(crate) and not crate.endswith(TESTS)}
 
 
 def with_test_crates(crate):
-    """The crate, and the crates that hold its tests and its examples."""
-    return [crate, *(other for other in listed_crates() if tested_crate(other) == crate)]
+    """The crate, and the crates of tests that use it."""
+    return [crate, *(other for other in listed_crates() if other.endswith(TESTS) and crate in uses_of(other))]
 
 
 def is_library(crate):
