@@ -189,12 +189,25 @@ class WrongBody:
     refused: list = field(default_factory=list)
 
 
+def lines_before(text, part, old):
+    """So many lines before an old text that it stands once in a file, if it stands once in the part of the file that begins with the line `part {`."""
+    start = text.find(f"\n{part} {{\n")
+    end = text.find("\n}\n", start)
+    if start < 0 or text.count(old, start, end) != 1:
+        return f"{part}: "
+    first = place = text.index(old, start)
+    while text.count(text[first:place + len(old)]) > 1:
+        first = text.rindex("\n", 0, first - 1) + 1
+    return text[first:place]
+
+
 def wrong_bodies_in(path):
     """The wrong bodies of a file `wrong-bodies/SUBJECT.edits`, blocks of lines, or the one of a file `must-fail/NAME.edit`. They edit `src/SUBJECT.rt`, or the
-    file that a line `file:` names: for its block alone if it stands in one, else for all blocks below it."""
-    found, file, text = [], f"src/{path.stem}.rt", path.read_text()
+    file that a line `file:` names, and there the part that a line `in:` names, if one does. Such a line holds for its block alone if it stands in one, else
+    for all blocks below it."""
+    found, file, part, text = [], f"src/{path.stem}.rt", "", path.read_text()
     for block in (text if path.suffix == ".edits" else f"## {path.stem}\n{text}").split("\n\n"):
-        body, own = None, file
+        body, own, own_part, before = None, file, part, ""
         for line in block.splitlines():
             word, _, rest = line.partition(" ")
             if word == "##":
@@ -203,10 +216,14 @@ def wrong_bodies_in(path):
             elif word == "file:":
                 own = rest
                 file = file if body else own
+            elif word == "in:":
+                own_part = rest
+                part = part if body else own_part
             elif word == "old:":
-                body.hunks.append([own, rest, ""])
+                before = lines_before((path.parents[1] / own).read_text(), own_part, rest) if own_part else ""
+                body.hunks.append([own, before + rest, ""])
             elif word == "new:":
-                body.hunks[-1][2] = rest
+                body.hunks[-1][2] = before + rest
             elif word == "refused:":
                 body.refused = rest.split(", ")
     return found
