@@ -18,7 +18,7 @@ OWNER = re.compile(
 CLAUSE = re.compile(r"\b(?P<kind>ensures|requires|invariant|decreases)(?: (?P<name>\w+))?\s*$")
 HIDING = re.compile(r"#!?\[(?:cfg|path|ignore).*?\]$", re.M)
 CLOSING = {"(": ")", "{": "}"}
-TEST_ENDINGS = ("_tests", "_examples")
+TESTS = "_tests"
 
 
 def end_of_block_comment(text, start):
@@ -74,14 +74,20 @@ def listed_crates():
     return [re.match(r"\w+", line)[0] for line in lines if re.match(r"\w", line)]
 
 
-def tested_crate(crate):
-    """The crate of which this one has tests or examples, and nothing else; of another crate `None`."""
-    return next((crate.removesuffix(ending) for ending in TEST_ENDINGS if crate.endswith(ending) and crate.removesuffix(ending) in listed_crates()), None)
+def uses_of(crate):
+    """What crates.txt lists after the name of a crate."""
+    return re.search(rf"^{crate}\b[^:#\n]*:(.*)", (ROOT / "crates.txt").read_text(), re.M)[1].split()
+
+
+@cache
+def libraries():
+    """The libraries of crates.txt, lowest first, with what each uses. A crate of tests is none."""
+    return {crate: uses_of(crate) for crate in listed_crates() if is_library(crate) and not crate.endswith(TESTS)}
 
 
 def with_test_crates(crate):
-    """The crate, and the crates that hold its tests and its examples."""
-    return [crate, *(other for other in listed_crates() if tested_crate(other) == crate)]
+    """The crate, and the crates of tests that use it."""
+    return [crate, *(other for other in listed_crates() if other.endswith(TESTS) and crate in uses_of(other))]
 
 
 def is_library(crate):
@@ -183,12 +189,25 @@ class WrongBody:
     refused: list = field(default_factory=list)
 
 
+def lines_before(text, part, old):
+    """So many lines before an old text that it stands once in a file, if it stands once in the part of the file that begins with the line `part {`."""
+    start = text.find(f"\n{part} {{\n")
+    end = text.find("\n}\n", start)
+    if start < 0 or text.count(old, start, end) != 1:
+        return f"{part}: "
+    first = place = text.index(old, start)
+    while text.count(text[first:place + len(old)]) > 1:
+        first = text.rindex("\n", 0, first - 1) + 1
+    return text[first:place]
+
+
 def wrong_bodies_in(path):
-    """The wrong bodies of a file `SUBJECT.edits`, blocks of lines. They edit `src/SUBJECT.rt`, or the file that a line `file:` names: for its block alone
-    if it stands in one, else for all blocks below it."""
-    found, file = [], f"src/{path.stem}.rt"
-    for block in path.read_text().split("\n\n"):
-        body, own = None, file
+    """The wrong bodies of a file `wrong-bodies/SUBJECT.edits`, blocks of lines, or the one of a file `must-fail/NAME.edit`. They edit `src/SUBJECT.rt`, or the
+    file that a line `file:` names, and there the part that a line `in:` names, if one does. Such a line holds for its block alone if it stands in one, else
+    for all blocks below it."""
+    found, file, part, text = [], f"src/{path.stem}.rt", "", path.read_text()
+    for block in (text if path.suffix == ".edits" else f"## {path.stem}\n{text}").split("\n\n"):
+        body, own, own_part, before = None, file, part, ""
         for line in block.splitlines():
             word, _, rest = line.partition(" ")
             if word == "##":
@@ -197,10 +216,14 @@ def wrong_bodies_in(path):
             elif word == "file:":
                 own = rest
                 file = file if body else own
+            elif word == "in:":
+                own_part = rest
+                part = part if body else own_part
             elif word == "old:":
-                body.hunks.append([own, rest, ""])
+                before = lines_before((path.parents[1] / own).read_text(), own_part, rest) if own_part else ""
+                body.hunks.append([own, before + rest, ""])
             elif word == "new:":
-                body.hunks[-1][2] = rest
+                body.hunks[-1][2] = before + rest
             elif word == "refused:":
                 body.refused = rest.split(", ")
     return found
