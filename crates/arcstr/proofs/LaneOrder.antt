@@ -16,11 +16,11 @@ abbrev pub differing : List ℕ → List ℕ → List Bool
 differing = zip2 (λ (u v : ℕ). not (u == v))
 
 -- the meaning of one lane
-alike-lane : (u v : ℕ) → not (u == v) ≡ false → u ≡ v
-alike-lane u v is = grind (arith, nat_tests)
+equal-lane : (u v : ℕ) → not (u == v) ≡ false → u ≡ v
+equal-lane u v is = grind (arith, nat_tests)
 
-unlike-lane : (u v : ℕ) → not (u == v) ≡ true → u ≡ v → ⊥
-unlike-lane u v is same = grind (arith, nat_tests)
+unequal-lane : (u v : ℕ) → not (u == v) ≡ true → u ≡ v → ⊥
+unequal-lane u v is same = grind (arith, nat_tests)
 
 -- lists that differ in no lane are equal
 pub none_differs : (us vs : List ℕ) → length us ≡ length vs → mask_l (differing us vs) ≡ 0 → us ≡ vs
@@ -32,18 +32,18 @@ none_differs (u ∷ us) (v ∷ vs) same none = by_lane (not (u == v)) refl none 
     by_lane : (lane : Bool) → not (u == v) ≡ lane → mask_l (lane ∷ differing us vs) ≡ 0 →
         (mask_l (differing us vs) ≡ 0 → us ≡ vs) → u ∷ us ≡ v ∷ vs
     by_lane true is empty later = absurd (omega arith)
-    by_lane false is empty later = λ i. alike-lane u v is i ∷ later (omega arith) i
+    by_lane false is empty later = λ i. equal-lane u v is i ∷ later (omega arith) i
 
-same-lane : (u : ℕ) → not (u == u) ≡ false
-same-lane u = grind (arith, nat_tests)
+lane-itself : (u : ℕ) → not (u == u) ≡ false
+lane-itself u = grind (arith, nat_tests)
 
 -- equal lists differ in no lane
-pub alike-none : (us vs : List ℕ) → us ≡ vs → mask_l (differing us vs) ≡ 0
-alike-none us vs same = ap (λ (l : List ℕ). mask_l (differing us l)) (sym same) ∙ itself us
+pub none_differs-of_equal : (us vs : List ℕ) → us ≡ vs → mask_l (differing us vs) ≡ 0
+none_differs-of_equal us vs same = ap (λ (l : List ℕ). mask_l (differing us l)) (sym same) ∙ itself us
   where
     itself : (us : List ℕ) → mask_l (differing us us) ≡ 0
     itself [] = refl
-    itself (u ∷ us) = rw (same-lane u) (omega (arith, itself us))
+    itself (u ∷ us) = rw (lane-itself u) (omega (arith, itself us))
 
 -- the meaning of a test of a mask
 pub zero-of_test : (mask : ℕ) → nat_eq mask 0 ≡ true → mask ≡ 0
@@ -60,15 +60,15 @@ pub record Decides (us vs : List ℕ) (at : ℕ) : Type 0 where
   pub order : slice_cmp nat_cmp us vs ≡ nat_cmp (get_or us at 0) (get_or vs at 0)
 
 -- first bytes that differ decide
-unlike-order : (u v : ℕ) (rest : Ordering) → not (u == v) ≡ true → ordering_then (nat_cmp u v) rest ≡ nat_cmp u v
-unlike-order u v rest is = grind (arith, nat_tests)
+unequal-order : (u v : ℕ) (rest : Ordering) → not (u == v) ≡ true → ordering_then (nat_cmp u v) rest ≡ nat_cmp u v
+unequal-order u v rest is = grind (arith, nat_tests)
 
 Decides-first : (u v : ℕ) (us vs : List ℕ) → not (u == v) ≡ true → Decides (u ∷ us) (v ∷ vs) 0
 Decides-first u v us vs is = record {
   within_one = omega arith;
   within_other = omega arith;
-  differ = unlike-lane u v is;
-  order = unlike-order u v (slice_cmp nat_cmp us vs) is;
+  differ = unequal-lane u v is;
+  order = unequal-order u v (slice_cmp nat_cmp us vs) is;
 }
 
 Decides-later : (u v : ℕ) (us vs : List ℕ) (at : ℕ) → u ≡ v → Decides us vs at → Decides (u ∷ us) (v ∷ vs) (suc at)
@@ -102,7 +102,7 @@ first_differs (suc width) (u ∷ us) (v ∷ vs) same few some =
     by_lane false is set later =
         let parts = halves 0 (mask_l (differing us vs)) (omega arith) in
         subst (Decides (u ∷ us) (v ∷ vs)) (sym (λ i. under (parts.0 i) (count_trailing_zeros width (parts.1 i))))
-        (Decides-later u v us vs _ (alike-lane u v is) (later (omega arith)))
+        (Decides-later u v us vs _ (equal-lane u v is) (later (omega arith)))
 
 -- the same for two longer lists up to `to`
 pub record Apart (one other : List ℕ) (to place : ℕ) : Type 0 where
@@ -115,7 +115,7 @@ pub record Apart (one other : List ℕ) (to place : ℕ) : Type 0 where
 pub first_apart : (from n : ℕ) (one other : List ℕ) (mask : ℕ) → from + n ≤ length one → from + n ≤ length other → n ≤ 64 →
     take from one ≡ take from other → mask ≡ mask_l (differing (take n (drop from one)) (take n (drop from other))) → 0 < mask →
     Apart one other (from + n) (from + count_trailing_zeros 64 mask)
-first_apart from n one other mask in_one in_other few alike is some =
+first_apart from n one other mask in_one in_other few equal is some =
     let long_one = length-chunk from n one in_one in
     let long_other = length-chunk from n other in_other in
     let first : Decides (take n (drop from one)) (take n (drop from other)) (count_trailing_zeros 64 mask) =
@@ -129,7 +129,7 @@ first_apart from n one other mask in_one in_other few alike is some =
       within_one = omega (arith, below);
       within_other = omega (arith, below);
       differ = λ same. first.differ (at_one ∙ same ∙ sym at_other);
-      order = sym (by_next from n one other alike) ∙ first.order ∙ (λ i. nat_cmp (at_one i) (at_other i));
+      order = sym (by_next from n one other equal) ∙ first.order ∙ (λ i. nat_cmp (at_one i) (at_other i));
     }
 
 -- the bytes at the position decide

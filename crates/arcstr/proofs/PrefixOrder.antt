@@ -42,16 +42,16 @@ tied Equal is = refl
 tied Greater is = cc
 
 -- lists that do not compare as different are equal
-pub alike : (xs ys : List ℕ) (answer : Ordering) → answer ≡ slice_cmp nat_cmp xs ys → is_ne answer ≡ false → xs ≡ ys
-alike xs ys answer is same = equal-of_Equal xs ys (sym is ∙ tied answer same)
+pub equal-of_not_ne : (xs ys : List ℕ) (answer : Ordering) → answer ≡ slice_cmp nat_cmp xs ys → is_ne answer ≡ false → xs ≡ ys
+equal-of_not_ne xs ys answer is same = equal-of_Equal xs ys (sym is ∙ tied answer same)
 
 -- equal lists compare as `Equal`
-pub alike-Equal : (xs ys : List ℕ) → xs ≡ ys → Equal ≡ slice_cmp nat_cmp xs ys
-alike-Equal xs ys same = sym (ap (slice_cmp nat_cmp xs) (sym same) ∙ tied_itself nat_list_cmp_total xs)
+pub Equal-of_equal : (xs ys : List ℕ) → xs ≡ ys → Equal ≡ slice_cmp nat_cmp xs ys
+Equal-of_equal xs ys same = sym (ap (slice_cmp nat_cmp xs) (sym same) ∙ tied_itself nat_list_cmp_total xs)
 
 -- prefixes of equal prefixes are equal
-pub alike-prefix : (m n : ℕ) (xs ys : List ℕ) → m ≤ n → take n xs ≡ take n ys → take m xs ≡ take m ys
-alike-prefix m n xs ys shorter same = sym (take-take m n xs shorter) ∙ ap (take m) same ∙ take-take m n ys shorter
+pub equal-prefix : (m n : ℕ) (xs ys : List ℕ) → m ≤ n → take n xs ≡ take n ys → take m xs ≡ take m ys
+equal-prefix m n xs ys shorter same = sym (take-take m n xs shorter) ∙ ap (take m) same ∙ take-take m n ys shorter
 
 -- after equal prefixes, the next elements decide
 pub by_next : (i n : ℕ) (xs ys : List ℕ) → take i xs ≡ take i ys →
@@ -60,8 +60,8 @@ by_next i n xs ys same =
     rw (take-add i n xs) (rw (take-add i n ys) (rw (← same) (sym (slice_cmp-prefix (take i xs) (take n (drop i xs)) (take n (drop i ys))))))
 
 -- equal prefixes and equal next elements make longer equal prefixes
-pub alike-next : (i n : ℕ) (xs ys : List ℕ) → take i xs ≡ take i ys → take n (drop i xs) ≡ take n (drop i ys) → take (i + n) xs ≡ take (i + n) ys
-alike-next i n xs ys same next = rw (take-add i n xs) (rw (take-add i n ys) (cc))
+pub equal-next : (i n : ℕ) (xs ys : List ℕ) → take i xs ≡ take i ys → take n (drop i xs) ≡ take n (drop i ys) → take (i + n) xs ≡ take (i + n) ys
+equal-next i n xs ys same next = rw (take-add i n xs) (rw (take-add i n ys) (cc))
 
 by_length-step : (n : ℕ) (x y : ℕ) (xs ys : List ℕ) → x ∷ take n xs ≡ y ∷ take n ys →
     (take n xs ≡ take n ys → nat_cmp (length xs) (length ys) ≡ slice_cmp nat_cmp xs ys) →
@@ -90,8 +90,8 @@ by_prefixes-within n m xs ys answer shorter in_xs in_ys is differ =
     (rw (take-take n m xs shorter) (rw (take-take n m ys shorter) is)) differ
 
 -- if equal prefixes cover both lists, the lists are equal
-pub alike-whole : (n : ℕ) (xs ys : List ℕ) → length xs ≤ n → length ys ≤ n → take n xs ≡ take n ys → xs ≡ ys
-alike-whole n xs ys in_xs in_ys same = sym (take_all n xs in_xs) ∙ same ∙ take_all n ys in_ys
+pub equal-whole : (n : ℕ) (xs ys : List ℕ) → length xs ≤ n → length ys ≤ n → take n xs ≡ take n ys → xs ≡ ys
+equal-whole n xs ys in_xs in_ys same = sym (take_all n xs in_xs) ∙ same ∙ take_all n ys in_ys
 
 -- the conjuncts of a test of both
 pub both-true : (a b : Bool) → a && b ≡ true → (a ≡ true) × (b ≡ true)

@@ -1,6 +1,5 @@
 pub mod TextView
 pub mod Forms
-pub mod StaticForms
 pub mod Making
 pub mod Parts
 pub mod Printing
