@@ -31,7 +31,7 @@ pub enum JsonFault {
 }
 
 impl JsonFault {
-    ghost use Rattle.arcstr.specs.JsonFault.{json_fault_number};
+    ghost use Rattle.arcstr.specs.Json.{json_fault_number};
 
     /// Returns the number of the fault, from 1 to 3 in the order of the tests.
     ///
@@ -51,7 +51,7 @@ impl JsonFault {
 }
 
 impl fmt::Display for JsonFault {
-    ghost use Rattle.arcstr.specs.JsonFault.{json_fault_text};
+    ghost use Rattle.arcstr.specs.Json.{json_fault_text};
 
     ghost output = { λ fault. Some (json_fault_text fault) };
 

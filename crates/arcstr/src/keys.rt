@@ -89,7 +89,7 @@ impl indexmap::Equivalent<ArcStr> for &str {
         ensures value { result ≡ bytes_eq self.now.now key.now.text }
         ensures same { IsTrue result ↔ (self.now.now ≡ key.now.text) }
     {
-        is_equal(*self, ArcStr::as_str(key))
+        Equivalent::equivalent(self, key)
     }
 }
 
@@ -105,6 +105,6 @@ impl indexmap::Equivalent<Substr> for &str {
         ensures value { result ≡ bytes_eq self.now.now (text_of key.now) }
         ensures same { IsTrue result ↔ (self.now.now ≡ text_of key.now) }
     {
-        is_equal(*self, Substr::as_str(key))
+        Equivalent::equivalent(self, key)
     }
 }

@@ -118,7 +118,7 @@ impl ArcStr {
     /// let fault = ArcStr::try_repeat(rt.alloc(), "ab", usize::MAX).err();
     /// assert_eq!(rt; fault, Some(TextFault::Length));
     /// ```
-    #[tactic(auto, using(crate::proofs::Copies::copies_of_nothing))]
+    #[tactic(auto, using(crate::proofs::Texts::copies_of_nothing))]
     pub fn try_repeat(alloc: Global, text: &str, n: usize) -> Result<ArcStr, TextFault>
         ensures { AnswersCopies n text.now result }
     {

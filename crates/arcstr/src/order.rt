@@ -73,6 +73,7 @@ impl Ord for ArcStr {
 
     /// Compares the two texts byte by byte, whatever their kinds: a proper prefix of a text comes before it, and otherwise the first bytes that differ
     /// decide.
+    #[tactic(auto, using(crate::proofs::Orders::text_orders))]
     fn cmp(&self, other: &ArcStr) -> Ordering
         ensures value { result ≡ slice_cmp nat_cmp self.now.text other.now.text }
         ensures order { IsTextOrder self.now.text other.now.text result }
@@ -88,7 +89,7 @@ impl Hash for ArcStr {
 
     /// Feeds the text to the hasher as a `str` does, whatever its kind.
     fn hash<H: Hasher>(&self, state: &mut H) {
-        self.as_str().hash(state);
+        ArcStr::as_str(self).hash(state);
     }
 }
 
@@ -140,6 +141,7 @@ impl Ord for Substr {
     ghost matches_eq = { λ one other. texts_ties (text_of one) (text_of other) };
 
     /// Compares the own texts of the two slices, as `Ord` of `ArcStr` does.
+    #[tactic(auto, using(crate::proofs::Orders::text_orders))]
     fn cmp(&self, other: &Substr) -> Ordering
         ensures value { result ≡ slice_cmp nat_cmp (text_of self.now) (text_of other.now) }
         ensures order { IsTextOrder (text_of self.now) (text_of other.now) result }
@@ -155,7 +157,7 @@ impl Hash for Substr {
 
     /// Feeds the slice's own text to the hasher as a `str` does, so equal slices have equal hashes.
     fn hash<H: Hasher>(&self, state: &mut H) {
-        self.as_str().hash(state);
+        Substr::as_str(self).hash(state);
     }
 }
 

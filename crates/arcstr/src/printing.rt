@@ -29,7 +29,7 @@ impl fmt::Display for ArcStr {
 
     /// Writes the text with padding and precision, as for a `str`. Fails if the writer fails. Allocates nothing itself.
     fn fmt<W: fmt::Write>(&self, f: &mut fmt::Formatter<W>) -> fmt::Result {
-        f.pad(self.as_str())
+        f.pad(ArcStr::as_str(self))
     }
 }
 
@@ -38,7 +38,7 @@ impl fmt::Debug for ArcStr {
 
     /// Writes the text in quotes and escaped, as for a `str`. Fails if the writer fails. Allocates nothing itself.
     fn fmt<W: fmt::Write>(&self, f: &mut fmt::Formatter<W>) -> fmt::Result {
-        let text = self.as_str();
+        let text = ArcStr::as_str(self);
         fmt::Debug::fmt(&text, f)
     }
 }
@@ -59,7 +59,7 @@ impl fmt::Display for Substr {
 
     /// Writes the slice's own text as `Display` of `ArcStr` does.
     fn fmt<W: fmt::Write>(&self, f: &mut fmt::Formatter<W>) -> fmt::Result {
-        f.pad(self.as_str())
+        f.pad(Substr::as_str(self))
     }
 }
 
@@ -68,7 +68,7 @@ impl fmt::Debug for Substr {
 
     /// Writes the slice's own text as `Debug` of `ArcStr` does.
     fn fmt<W: fmt::Write>(&self, f: &mut fmt::Formatter<W>) -> fmt::Result {
-        let text = self.as_str();
+        let text = Substr::as_str(self);
         fmt::Debug::fmt(&text, f)
     }
 }

@@ -193,6 +193,7 @@ impl Substr {
         self.slice_in(rt, range.into())
     }
 
+    /// Returns the slice of the same parent in the range.
     fn slice_in(&self, rt: &impl Wait, range: StrRange) -> Result<Substr, RangeFault>
         ensures { AnswersRange (text_of self.now) (slice_within self.now) range result }
     {
@@ -212,6 +213,7 @@ impl Substr {
     }
 
     /// As `ArcStr::substr_from`, for the slice's own text: the view's place is a byte offset of that text.
+    #[tactic(auto, using(crate::proofs::Texts::slices_of_views))]
     pub fn substr_from(&self, rt: &impl Wait, view: StrView<'_>) -> Substr
         requires { IsFoundAt (text_of self.now) view.text view.place }
         ensures { IsSliceOfView (slice_within self.now) view.entry result }

@@ -54,6 +54,7 @@ impl ArcStr {
     /// assert_eq!(rt; value.as_str(), "a=b");
     /// assert!(rt; text.substr_split_once(&rt, "==").is_none());
     /// ```
+    #[tactic(auto, using(crate::proofs::FirstMatches::texts_without_matches))]
     pub fn substr_split_once<P: Pattern>(
         &self,
         rt: &impl Wait,
@@ -179,6 +180,7 @@ impl Substr {
     }
 
     /// As `ArcStr::substr_split_once`, for the slice's own text.
+    #[tactic(auto, using(crate::proofs::FirstMatches::texts_without_matches))]
     pub fn substr_split_once<P: Pattern>(
         &self,
         rt: &impl Wait,

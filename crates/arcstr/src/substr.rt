@@ -65,6 +65,7 @@ impl Substr {
     /// assert_eq!(rt; slice.as_str(), "aé");
     /// assert_eq!(rt; slice.range(), 0..3);
     /// ```
+    #[tactic(auto, using(crate::proofs::Texts::whole_ranges))]
     pub fn full(parent: ArcStr) -> Substr
         ensures { result ≡ whole_of parent }
     {
@@ -131,6 +132,7 @@ impl Substr {
     }
 
     /// Returns the slice's own text: the parent's text between the two byte offsets.
+    #[tactic(auto, using(arcstr_range::proofs::Boundaries::slices_by_characters))]
     pub fn as_str(&self) -> &str
         ensures text { result.now ≡ text_of self.now }
         ensures characters { SpellsBetween self.now.parent.text self.now.start self.now.end result.now }

@@ -56,7 +56,7 @@ impl AsSlice<u8> for ArcStr {
 
     /// Returns the bytes of the text.
     fn as_slice(&self) -> &[u8] {
-        self.as_bytes()
+        ArcStr::as_bytes(self)
     }
 }
 
@@ -74,7 +74,7 @@ impl AsSlice<u8> for Substr {
 
     /// Returns the bytes of the slice's own text.
     fn as_slice(&self) -> &[u8] {
-        self.as_bytes()
+        Substr::as_bytes(self)
     }
 }
 

@@ -1,6 +1,5 @@
 -- The first vector that differs decides, and otherwise the lengths do.
-use Rattle.std.proofs.Common.{◌≡◌, ℕ, ◌+◌, ◌-◌, take, sym, ◌∙◌, subst, arith}
-use Rattle.arcstr.proofs.PrefixOrder.{equal-of_not_ne, equal-prefix, by_prefixes, by_length}
+use Rattle.arcstr.proofs.Orders.{◌≡◌, ℕ, ◌+◌, ◌-◌, take, sym, ◌∙◌, subst, arith, equal-of_not_ne, equal-prefix, by_prefixes, by_length}
 use Rattle.arcstr.proofs.order.compare_from.Goals as goal
 
 pub returns-then-is_ne : goal.returns-then-is_ne

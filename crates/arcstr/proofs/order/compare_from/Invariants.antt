@@ -1,4 +1,4 @@
-use Rattle.std.proofs.Common.{◌≡◌, ◌≤◌, ◌+◌, ◌-◌, take}
+use Rattle.arcstr.proofs.Orders.{◌≡◌, ◌≤◌, ◌+◌, ◌-◌, take}
 use Rattle.arcstr.proofs.order.compare_from.Given as goal
 
 -- the bytes passed so far are equal

@@ -1,6 +1,5 @@
 -- The first 64 bytes decide, or they are equal.
-use Rattle.std.proofs.Common.{sym, ◌∙◌, arith}
-use Rattle.arcstr.proofs.PrefixOrder.{equal-of_not_ne, by_prefixes, by_length}
+use Rattle.arcstr.proofs.Orders.{sym, ◌∙◌, arith, equal-of_not_ne, by_prefixes, by_length}
 use Rattle.arcstr.proofs.order.compare_long.Goals as goal
 
 pub returns-then-is_ne : goal.returns-then-is_ne

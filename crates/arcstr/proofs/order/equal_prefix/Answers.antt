@@ -1,6 +1,5 @@
 -- Equal prefixes grow by two equal vectors of 64 bytes.
-use Rattle.std.proofs.Common.{◌≡◌, ℕ, ◌+◌, take, subst, arith}
-use Rattle.arcstr.proofs.PrefixOrder.{equal-next, both-true}
+use Rattle.arcstr.proofs.Orders.{◌≡◌, ℕ, ◌+◌, take, subst, arith, equal-next, both-true}
 use Rattle.arcstr.proofs.order.equal_prefix.Goals as goal
 
 pub loop-from-preserved : goal.loop-from-preserved

@@ -1,7 +1,5 @@
 -- The mask is 0 exactly if no lane differs.
-use Rattle.std.proofs.Common.{sym, ◌∙◌, arith}
-use Rattle.std.proofs.lemmas.Simd.{length-chunk}
-use Rattle.arcstr.proofs.LaneOrder.{none_differs-of_equal, none_differs, test-of_zero, zero-of_test}
+use Rattle.arcstr.proofs.Orders.{sym, ◌∙◌, arith, length-chunk, none_differs-of_equal, none_differs, test-of_zero, zero-of_test}
 use Rattle.arcstr.proofs.order.is_equal_at.Goals as goal
 
 pub returns : goal.returns

@@ -1,4 +1,4 @@
-use Rattle.std.proofs.Common.{◌≡◌, ◌≤◌, ◌-◌, length, take}
+use Rattle.arcstr.proofs.Orders.{◌≡◌, ◌≤◌, ◌-◌, length, take}
 use Rattle.arcstr.proofs.order.is_equal_from.Given as goal
 
 -- the bytes passed so far are equal

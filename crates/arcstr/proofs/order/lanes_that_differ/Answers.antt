@@ -1,8 +1,5 @@
 -- A bit of the mask is set if the two bytes differ.
-use Rattle.std.proofs.Common.{◌≡◌, ℕ, ◌==◌, not, ◌%◌, ◌^◌, ap, ◌∙◌, take, drop, length, arith, w8}
-use Rattle.std.specs.Simd.Lanes.{mask_l, zip2}
-use Rattle.std.proofs.lemmas.Simd.{length-chunk, mask_l-mod, tops_compared}
-use lib.LanesLaws.{length-zip2}
+use Rattle.arcstr.proofs.Orders.{◌≡◌, ℕ, ◌==◌, not, ◌%◌, ◌^◌, ap, ◌∙◌, take, drop, length, arith, w8, mask_l, zip2, length-chunk, mask_l-mod, tops_compared, length-zip2}
 use Rattle.arcstr.proofs.order.lanes_that_differ.Goals as goal
 
 pub returns : goal.returns

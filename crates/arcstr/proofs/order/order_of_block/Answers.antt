@@ -1,6 +1,5 @@
 -- The first vector that differs decides.
-use Rattle.std.proofs.Common.{sym, ◌∙◌, arith}
-use Rattle.arcstr.proofs.PrefixOrder.{equal-of_not_ne, by_prefixes-within}
+use Rattle.arcstr.proofs.Orders.{sym, ◌∙◌, arith, equal-of_not_ne, by_prefixes-within}
 use Rattle.arcstr.proofs.order.order_of_block.Goals as goal
 
 pub returns-then-is_ne : goal.returns-then-is_ne

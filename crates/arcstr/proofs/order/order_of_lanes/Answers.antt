@@ -1,8 +1,5 @@
 -- The first lane that differs decides, and equal lanes decide nothing.
-use Rattle.std.proofs.Common.{sym, ◌∙◌, arith}
-use Rattle.std.proofs.lemmas.Simd.{length-chunk}
-use Rattle.arcstr.proofs.PrefixOrder.{Equal-of_equal, equal-next}
-use Rattle.arcstr.proofs.LaneOrder.{none_differs, apart-Greater, apart-Less, first_apart}
+use Rattle.arcstr.proofs.Orders.{sym, ◌∙◌, arith, length-chunk, Equal-of_equal, equal-next, none_differs, DecidesWithin-Greater, DecidesWithin-Less, first_decides_within}
 use Rattle.arcstr.proofs.order.order_of_lanes.Goals as goal
 
 pub returns-then-differ-eq0 : goal.returns-then-differ-eq0
@@ -16,28 +13,28 @@ returns-then-differ-eq0 g c =
 
 pub bounds-one-place : goal.bounds-one-place
 bounds-one-place g c =
-    let apart =
-    first_apart c.args.from g.row.N c.args.one.now c.args.other.now _ (omega arith) (omega arith) (omega arith)
+    let first =
+    first_decides_within c.args.from g.row.N c.args.one.now c.args.other.now _ (omega arith) (omega arith) (omega arith)
     c.requires.equal c.lanes_that_differ-differ.ensures (omega (arith, c.if-differ-eq0.false)) in
-    apart.within_one
+    first.within_one
 
 pub bounds-other-place : goal.bounds-other-place
 bounds-other-place g c =
-    let apart =
-    first_apart c.args.from g.row.N c.args.one.now c.args.other.now _ (omega arith) (omega arith) (omega arith)
+    let first =
+    first_decides_within c.args.from g.row.N c.args.one.now c.args.other.now _ (omega arith) (omega arith) (omega arith)
     c.requires.equal c.lanes_that_differ-differ.ensures (omega (arith, c.if-differ-eq0.false)) in
-    apart.within_other
+    first.within_other
 
 pub returns-then-one-place : goal.returns-then-one-place
 returns-then-one-place g c =
-    let apart =
-    first_apart c.args.from g.row.N c.args.one.now c.args.other.now _ (omega arith) (omega arith) (omega arith)
+    let first =
+    first_decides_within c.args.from g.row.N c.args.one.now c.args.other.now _ (omega arith) (omega arith) (omega arith)
     c.requires.equal c.lanes_that_differ-differ.ensures (omega (arith, c.if-differ-eq0.false)) in
-    apart-Less _ _ _ _ apart (omega (arith, c.if-one-place.true))
+    DecidesWithin-Less _ _ _ _ first (omega (arith, c.if-one-place.true))
 
 pub returns-else-one-place : goal.returns-else-one-place
 returns-else-one-place g c =
-    let apart =
-    first_apart c.args.from g.row.N c.args.one.now c.args.other.now _ (omega arith) (omega arith) (omega arith)
+    let first =
+    first_decides_within c.args.from g.row.N c.args.one.now c.args.other.now _ (omega arith) (omega arith) (omega arith)
     c.requires.equal c.lanes_that_differ-differ.ensures (omega (arith, c.if-differ-eq0.false)) in
-    apart-Greater _ _ _ _ apart (omega (arith, c.if-one-place.false))
+    DecidesWithin-Greater _ _ _ _ first (omega (arith, c.if-one-place.false))

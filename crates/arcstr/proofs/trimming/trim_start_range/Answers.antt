@@ -1,15 +1,6 @@
-use Rattle.std.proofs.Common.{sym, subst}
-use Rattle.arcstr_range.specs.Ends.{IsLawful}
-use Rattle.arcstr_range.specs.Trim.{TrimsStart}
-use Rattle.arcstr_range.specs.View.{end_of}
-use Rattle.arcstr_range.proofs.FoundParts.{lawful_start}
+use Rattle.arcstr.proofs.Texts.{IsLawful-trim_start}
 use Rattle.arcstr.proofs.trimming.trim_start_range.Goals as goal
 
--- the range that remains is valid in the whole text, even if it is empty
 pub returns-clause-lawful : goal.returns-clause-lawful
 returns-clause-lawful c =
-    let text = c.args.text.now in
-    let left = c.trim_start.result in
-    let trims = subst (λ old. TrimsStart old left) c.whole.ensures.value c.trim_start.ensures.longest in
-    subst (λ end. IsLawful text c.range.result.start end) (sym c.range.ensures.end)
-    (subst (λ start. IsLawful text start (end_of left)) (sym c.range.ensures.start) (lawful_start text left c.utf8.text trims))
+    IsLawful-trim_start _ _ _ _ _ c.utf8.text c.whole.ensures.value c.trim_start.ensures.longest c.range.ensures.start c.range.ensures.end

@@ -1,4 +1,4 @@
--- Results of the calls that remove a part of a text at its ends. As in `Slicing`, `between` maps two byte offsets of the receiver's own text to its slice.
+-- Results of the calls that remove the white space around a text. As in `Slicing`, `between` maps two byte offsets of the receiver's own text to its slice.
 use Rattle.std.specs.Prelude.{◌≡◌, ℕ, ◌+◌, List, length}
 use Rattle.arcstr_range.specs.View.{View, view_at}
 use Rattle.arcstr.specs.Substr.{SubstrView, text_of}
