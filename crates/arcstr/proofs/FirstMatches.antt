@@ -103,3 +103,6 @@ pub split_around_single : (finds : List ℕ → Option (ℕ × ℕ) → Type 0) 
 split_around_single finds text read before after between one other None split same utf8 begins ends is_before is_after there there_after = tt
 split_around_single finds text read before after between one other (Some character) split same utf8 begins ends is_before is_after there there_after =
     λ at_character. split_around finds text read before after between one other character at_character split same utf8 begins ends is_before is_after there there_after
+
+-- the functions whose proofs use this ruleset name it
+pub ruleset texts_without_matches = (not_split_at_single)

@@ -1,8 +1,4 @@
-pub mod Copies
+pub mod Examples
 pub mod FirstMatches
-pub mod Places
-pub mod SubstrExamples
-pub mod TextOrders
-pub mod OrderExamples
-pub mod PrefixOrder
-pub mod LaneOrder
+pub mod Orders
+pub mod Texts

@@ -1,11 +1,11 @@
--- Results of reading a text from a JSON value.
-use Rattle.std.specs.Prelude.{◌≡◌, ◌↔◌, ℕ, List, [], length, Option, Some, None, Result, Ok, IsErrOf, IsSomeAnd, IfOk}
+-- Results of reading a text from a JSON value, and the faults.
+use Rattle.std.specs.Prelude.{◌≡◌, ◌↔◌, ℕ, List, [], length, Option, Some, None, Result, Ok, IsErrOf, IsSomeAnd, IfOk, codes}
 use Rattle.serde_json.specs.Find.{as_str}
 use Rattle.serde_json.specs.View.{view}
 use Rattle.serde_json.specs.declared.value.Value.{Value}
 use Rattle.arcstr.specs.Making.{IsTooLong}
 use Rattle.arcstr.specs.declared.json.JsonFault.{JsonFault}
-use Rattle.arcstr.specs.declared.json.JsonFault.TheVariants.{NotText, Length}
+use Rattle.arcstr.specs.declared.json.JsonFault.TheVariants.{NotText, Length, Memory}
 use Rattle.arcstr.specs.Substr.{SubstrView, empty_slice, whole_of}
 use Rattle.arcstr.specs.TextView.{TextView, literal_of, made_of}
 
@@ -28,3 +28,17 @@ ReadsArcStr value answer = ReadsText value made_of (literal_of []) answer
 -- the result for a shared slice, which is all of the value's text
 abbrev pub ReadsSubstr : Value → Result SubstrView JsonFault → Type 0
 ReadsSubstr value answer = ReadsText value (λ text. whole_of (made_of text)) empty_slice answer
+
+-- ---- the faults
+
+-- the number of a fault
+abbrev pub json_fault_number : JsonFault → ℕ
+json_fault_number NotText = 1
+json_fault_number Length = 2
+json_fault_number Memory = 3
+
+-- the message of a fault
+abbrev pub json_fault_text : JsonFault → List ℕ
+json_fault_text NotText = codes "value is not a text"
+json_fault_text Length = codes "text is too long"
+json_fault_text Memory = codes "out of memory"

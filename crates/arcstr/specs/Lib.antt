@@ -1,14 +1,12 @@
 pub mod TextView
 pub mod Forms
-pub mod StaticForms
 pub mod Making
-pub mod Parts
 pub mod Printing
 pub mod Substr
 pub mod Slicing
 pub mod Splitting
+pub mod Trimming
 pub mod TextOrder
-pub mod JsonFault
 pub mod Json
 pub use Rattle.arcstr_range.specs.Ends
 pub use Rattle.arcstr_range.specs.RangeFault

@@ -1,26 +1,17 @@
 //! `ArcStr`: a reference-counted immutable text that threads share.
-ghost use Rattle.std.specs.Prelude.{◌≡◌, ◌+◌, ◌≤◌, ◌↔◌, [], length, IsTrue, IsSome, IsNone, IfSome};
+ghost use Rattle.std.specs.Prelude.{◌≡◌, ◌+◌, ◌≤◌, ◌↔◌, [], length, IsTrue, IsSome, IsNone, IfSome, MatchResult};
 ghost use Rattle.arcstr.specs.Forms.{IsLimited};
-ghost use Rattle.arcstr.specs.TextView.{IsStatic, literal_of, fixed_of, counted_of, leaked};
+ghost use Rattle.arcstr.specs.TextView.{IsStatic, literal, literal_of, fixed_of, counted_of, leaked};
 
 use crate::static_str::StaticStr;
 use arcstr_block::{Fixed, Shared};
 use arcstr_count::RC_MAX;
-use std::alloc::Global;
+use std::alloc::{AllocError, Global};
 use std::marker::Model;
 use std::sync::Wait;
 
-mod cloning;
-mod conversions;
-mod cow;
-mod joining;
-mod json;
-mod making;
-mod order;
-mod parts;
-mod printing;
-mod slices;
-mod splitting;
+/// The number of compare-exchanges that a clone tries if it must not wait.
+const TRIES: u32 = 1_000;
 
 /// A reference-counted immutable text that threads share. It is `Send` and `Sync`, and its size is 24 bytes. In a contract it has a text and a kind: a
 /// literal, a handle to a counted block, or a permanent block.
@@ -238,11 +229,12 @@ impl ArcStr {
     pub fn leak(&self) -> StaticStr
         ensures { result ≡ leaked self.now }
     {
-        match &self.form {
-            Form::Literal(text) => StaticStr::from_literal(text),
-            Form::Counted(shared) => StaticStr::from_fixed(shared.mark()),
-            Form::Fixed(fixed) => StaticStr::from_fixed(fixed.again()),
-        }
+        let text = match &self.form {
+            Form::Literal(text) => ArcStr::from_static(text),
+            Form::Counted(shared) => ArcStr::from_fixed(shared.mark()),
+            Form::Fixed(fixed) => ArcStr::from_fixed(fixed.again()),
+        };
+        StaticStr::new(text)
     }
 
     /// Returns the text as a `StaticStr` if it is static already. That is always so for a literal or a permanent block, and takes no atomic step. For another
@@ -259,11 +251,12 @@ impl ArcStr {
         ensures same { IfSome result (λ kept. kept ≡ leaked this.now) }
         ensures always_static { IsStatic this.now.kind → IsSome result }
     {
-        match &this.form {
-            Form::Literal(text) => Some(StaticStr::from_literal(text)),
-            Form::Counted(shared) => shared.fixed().0.map(StaticStr::from_fixed),
-            Form::Fixed(fixed) => Some(StaticStr::from_fixed(fixed.again())),
-        }
+        let text = match &this.form {
+            Form::Literal(text) => ArcStr::from_static(text),
+            Form::Counted(shared) => ArcStr::from_fixed(shared.fixed().0?),
+            Form::Fixed(fixed) => ArcStr::from_fixed(fixed.again()),
+        };
+        Some(StaticStr::new(text))
     }
 
     /// Consumes the handle and returns it as a raw value. The raw value keeps the text alive and stays counted until `from_raw`.
@@ -295,7 +288,30 @@ impl ArcStr {
         text
     }
 
-    fn from_shared(shared: Shared<RC_MAX, Global>) -> ArcStr
+    /// Makes another handle to a static text, without an atomic step.
+    pub(crate) fn clone_static(&self) -> ArcStr
+        requires { IsStatic self.now.kind }
+        ensures { result ≡ self.now }
+    {
+        match &self.form {
+            Form::Literal(text) => ArcStr::from_static(text),
+            Form::Fixed(fixed) => ArcStr::from_fixed(fixed.again()),
+            Form::Counted(_) => unreachable!(),
+        }
+    }
+
+    /// Returns the text of the literal as the program holds it, or `None` if the text is not a literal.
+    pub(crate) fn literal_text(&self) -> Option<&'static str>
+        ensures exactly { IsSome result ↔ (self.now.kind ≡ literal) }
+        ensures same { IfSome result (λ text. text.now ≡ self.now.text) }
+    {
+        match &self.form {
+            Form::Literal(text) => Some(text),
+            Form::Counted(_) | Form::Fixed(_) => None,
+        }
+    }
+
+    pub(crate) fn from_shared(shared: Shared<RC_MAX, Global>) -> ArcStr
         requires { shared.limit ≡ RC_MAX }
         ensures { result ≡ counted_of shared.text }
     {
@@ -304,7 +320,7 @@ impl ArcStr {
         }
     }
 
-    pub(crate) fn from_fixed(fixed: Fixed<Global>) -> ArcStr
+    fn from_fixed(fixed: Fixed<Global>) -> ArcStr
         ensures { result ≡ fixed_of fixed.text }
     {
         ArcStr {
@@ -322,5 +338,42 @@ impl Default for ArcStr {
     /// Creates a new empty text, as `ArcStr::new()` does.
     fn default() -> ArcStr {
         ArcStr::new()
+    }
+}
+
+/// The trait `Clone` serves `#[derive(Clone)]`, `Vec<ArcStr>::clone` and generic code. Code that has an `rt` calls the inherent `clone`, which always
+/// succeeds.
+impl Clone for ArcStr {
+    ghost is_clone = { λ text copy. copy ≡ text };
+
+    ghost is_infallible = { λ text. IsStatic text.kind };
+
+    /// Makes another handle to the same text, as the inherent `clone` does, but never waits.
+    ///
+    /// For a block, it tries the compare-exchange at most 1,000 times. Here `AllocError` means that other threads changed the count word each time; nothing
+    /// has changed then. For a literal or a permanent block, the clone takes no atomic step and never fails.
+    fn clone(&self) -> Result<ArcStr, AllocError>
+        ensures cases { MatchResult result (λ copy. copy ≡ self.now) (λ _. ¬ (IsStatic self.now.kind)) }
+    {
+        let form = match &self.form {
+            Form::Counted(shared) => match shared.try_up(TRIES) {
+                Some(shared) => Form::Counted(shared),
+                None => return Err(AllocError),
+            },
+            Form::Literal(text) => Form::Literal(text),
+            Form::Fixed(fixed) => Form::Fixed(fixed.again()),
+        };
+        Ok(ArcStr { form })
+    }
+}
+
+impl From<&'static str> for ArcStr {
+    ghost from_gives = { λ text shared. shared ≡ literal_of text.now };
+
+    /// Converts a `&'static str` into a literal, as `ArcStr::from_static` does.
+    fn from(text: &'static str) -> ArcStr
+        ensures literal { result ≡ literal_of text.now }
+    {
+        ArcStr::from_static(text)
     }
 }

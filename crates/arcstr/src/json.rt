@@ -1,10 +1,15 @@
 //! Texts as JSON values, and the errors of reading a text from a JSON value.
-ghost use Rattle.std.specs.Prelude.{◌≡◌, Some};
+ghost use Rattle.std.specs.Prelude.{◌≡◌, Some, IfOk};
+ghost use Rattle.arcstr.specs.Json.{ReadsArcStr, ReadsSubstr, text_in};
+ghost use Rattle.arcstr.specs.Substr.{text_of};
 
+use crate::arc_str::ArcStr;
+use crate::substr::Substr;
+use arcstr_block::TextFault;
+use serde_json::Value;
+use std::alloc::{AllocError, AllocFailed, Global};
 use std::error::Error;
 use std::fmt;
-
-mod from_memory;
 
 /// Why a JSON value cannot be read as a text. The variants are in the order of the tests. It can be copied, sent to a thread and shared between threads. Its
 /// size is one byte, and its drop does nothing.
@@ -26,7 +31,7 @@ pub enum JsonFault {
 }
 
 impl JsonFault {
-    ghost use Rattle.arcstr.specs.JsonFault.{json_fault_number};
+    ghost use Rattle.arcstr.specs.Json.{json_fault_number};
 
     /// Returns the number of the fault, from 1 to 3 in the order of the tests.
     ///
@@ -46,7 +51,7 @@ impl JsonFault {
 }
 
 impl fmt::Display for JsonFault {
-    ghost use Rattle.arcstr.specs.JsonFault.{json_fault_text};
+    ghost use Rattle.arcstr.specs.Json.{json_fault_text};
 
     ghost output = { λ fault. Some (json_fault_text fault) };
 
@@ -61,3 +66,83 @@ impl fmt::Display for JsonFault {
 }
 
 impl Error for JsonFault {}
+
+impl From<AllocError> for JsonFault {
+    ghost use Rattle.std.specs.Prelude.{◌≡◌};
+    ghost use Rattle.arcstr.specs.declared.json.JsonFault.TheVariants.{Memory};
+
+    ghost from_gives = { λ _ fault. fault ≡ Memory };
+
+    /// Returns `Memory`, whatever allocation failed. Allocates nothing.
+    fn from(_refused: AllocError) -> JsonFault {
+        JsonFault::Memory
+    }
+}
+
+impl<T: Drop> From<AllocFailed<T>> for JsonFault {
+    ghost use Rattle.std.specs.Prelude.{◌≡◌};
+    ghost use Rattle.arcstr.specs.declared.json.JsonFault.TheVariants.{Memory};
+
+    ghost from_gives = { λ _ fault. fault ≡ Memory };
+
+    /// Returns `Memory`, whatever allocation failed. Allocates nothing. Drops the value that was not stored.
+    fn from(refused: AllocFailed<T>) -> JsonFault {
+        JsonFault::from(AllocError::from(refused))
+    }
+}
+
+impl ArcStr {
+    /// Copies the text into a JSON string. Makes one allocation, or none if the text is empty. Fails only if the allocation fails.
+    ///
+    /// ```
+    /// let value = ArcStr::from_static("a\"é").to_json(rt.alloc())?;
+    /// assert_eq!(rt; value.as_str(), Some("a\"é"));
+    /// assert_eq!(rt; value.to_string(rt.alloc())?.as_str(), "\"a\\\"é\"");
+    /// ```
+    pub fn to_json(&self, alloc: Global) -> Result<Value, AllocError>
+        ensures { IfOk result (λ value. text_in value ≡ Some self.now.text) }
+    {
+        Value::try_from_str(alloc, self.as_str())
+    }
+
+    /// Copies the text of a JSON string into an `ArcStr`. Makes one allocation, or none if the text is empty.
+    ///
+    /// Errors, in this order: `NotText` if the value is not a string; `Length` if the text has `2^63 - 25` bytes or more; `Memory` if the allocation fails.
+    ///
+    /// ```
+    /// let value = Value::try_from_str(rt.alloc(), "foo")?;
+    /// let text = ArcStr::from_json(rt.alloc(), &value)?;
+    /// assert_eq!(rt; text.as_str(), "foo");
+    /// let fault = ArcStr::from_json(rt.alloc(), &Value::Null).err();
+    /// assert_eq!(rt; fault, Some(JsonFault::NotText));
+    /// ```
+    pub fn from_json(alloc: Global, value: &Value) -> Result<ArcStr, JsonFault>
+        ensures { ReadsArcStr value.now result }
+    {
+        let Some(text) = value.as_str() else {
+            return Err(JsonFault::NotText);
+        };
+        match ArcStr::from_str(alloc, text) {
+            Ok(made) => Ok(made),
+            Err(TextFault::Length) => Err(JsonFault::Length),
+            Err(TextFault::Memory) => Err(JsonFault::Memory),
+            Err(TextFault::Utf8(_)) => unreachable!(),
+        }
+    }
+}
+
+impl Substr {
+    /// As `ArcStr::to_json`, for the slice's own text.
+    pub fn to_json(&self, alloc: Global) -> Result<Value, AllocError>
+        ensures { IfOk result (λ value. text_in value ≡ Some (text_of self.now)) }
+    {
+        Value::try_from_str(alloc, self.as_str())
+    }
+
+    /// As `ArcStr::from_json`. Returns the slice of all of the text.
+    pub fn from_json(alloc: Global, value: &Value) -> Result<Substr, JsonFault>
+        ensures { ReadsSubstr value.now result }
+    {
+        Ok(Substr::full(ArcStr::from_json(alloc, value)?))
+    }
+}

@@ -53,7 +53,8 @@ impl DeserializeOwned for ArcStr {
         match ArcStr::from_str(alloc, read.as_str()) {
             Ok(made) => Ok(made),
             Err(TextFault::Memory) => Err(from.no_memory()),
-            Err(_) => Err(from.custom("text is too long")),
+            Err(TextFault::Length) => Err(from.custom("text is too long")),
+            Err(TextFault::Utf8(_)) => unreachable!(),
         }
     }
 }

@@ -1,13 +1,9 @@
 //! `StaticStr`: a text that is never freed.
 ghost use Rattle.std.specs.Prelude.{◌≡◌, ◌↔◌, length, IsTrue, IsSome, IfSome};
-ghost use Rattle.arcstr.specs.TextView.{IsStatic, literal, literal_of, fixed_of};
+ghost use Rattle.arcstr.specs.TextView.{IsStatic, literal};
 
 use crate::arc_str::ArcStr;
-use arcstr_block::Fixed;
-use std::alloc::Global;
 use std::marker::Model;
-
-mod conversions;
 
 /// A text that is never freed: a literal or a permanent block. In a contract it has a text and a kind, which is never that of a counted block. It is `Send`
 /// and `Sync`, and its size is 24 bytes. Dropping it takes no atomic step and frees nothing.
@@ -22,14 +18,8 @@ mod conversions;
 /// ```
 #[derive(Drop)]
 pub struct StaticStr {
-    form: StaticForm,
-}
-
-/// Where the bytes of a static text lie.
-#[derive(Drop)]
-enum StaticForm {
-    Literal(&'static str),
-    Fixed(Fixed<Global>),
+    text: ArcStr,
+    ghost permanent: { IsStatic text.kind },
 }
 
 impl Model for StaticStr {
@@ -37,26 +27,15 @@ impl Model for StaticStr {
 
     ghost Value = { TextView };
 
-    ghost use Rattle.arcstr.specs.StaticForms.{static_text_view};
-
-    ghost view = { λ kept. static_text_view kept.form };
+    ghost view = { λ kept. kept.text };
 }
 
 impl StaticStr {
-    pub(crate) fn from_literal(text: &'static str) -> StaticStr
-        ensures { result ≡ literal_of text.now }
+    pub(crate) fn new(text: ArcStr) -> StaticStr
+        requires { IsStatic text.kind }
+        ensures { result ≡ text }
     {
-        StaticStr {
-            form: StaticForm::Literal(text),
-        }
-    }
-
-    pub(crate) fn from_fixed(fixed: Fixed<Global>) -> StaticStr
-        ensures { result ≡ fixed_of fixed.text }
-    {
-        StaticStr {
-            form: StaticForm::Fixed(fixed),
-        }
+        StaticStr { text }
     }
 
     /// Returns the text.
@@ -68,10 +47,7 @@ impl StaticStr {
     pub fn as_str(&self) -> &str
         ensures { result.now ≡ self.now.text }
     {
-        match &self.form {
-            StaticForm::Literal(text) => text,
-            StaticForm::Fixed(fixed) => fixed.as_str(),
-        }
+        self.text.as_str()
     }
 
     /// Returns the length of the text in bytes. Does not read the bytes.
@@ -96,9 +72,7 @@ impl StaticStr {
         ensures answer { IsTrue result }
         ensures kind { IsStatic self.now.kind }
     {
-        match &self.form {
-            StaticForm::Literal(_) | StaticForm::Fixed(_) => true,
-        }
+        ArcStr::is_static(&self.text)
     }
 
     /// Returns the text as a `&'static str` exactly if it is a literal.
@@ -113,10 +87,7 @@ impl StaticStr {
         ensures exactly { IsSome result ↔ (self.now.kind ≡ literal) }
         ensures same { IfSome result (λ text. text.now ≡ self.now.text) }
     {
-        match &self.form {
-            StaticForm::Literal(text) => Some(text),
-            StaticForm::Fixed(_) => None,
-        }
+        self.text.literal_text()
     }
 
     /// Returns the same text as an `ArcStr`: a literal for a literal, and otherwise a permanent block.
@@ -131,9 +102,6 @@ impl StaticStr {
         ensures same { result ≡ self.now }
         ensures kind { IsStatic result.kind }
     {
-        match &self.form {
-            StaticForm::Literal(text) => ArcStr::from_static(text),
-            StaticForm::Fixed(fixed) => ArcStr::from_fixed(fixed.again()),
-        }
+        self.text.clone_static()
     }
 }

@@ -1,28 +1,15 @@
 //! `Substr`: a slice of a shared text, which keeps its parent alive.
-ghost use Rattle.std.specs.Prelude.{◌≡◌, ◌↔◌, [], length, IsTrue};
-ghost use Rattle.arcstr.specs.Making.{AnswersMaking};
+ghost use Rattle.std.specs.Prelude.{◌≡◌, ◌↔◌, [], length, IsTrue, MatchResult};
 ghost use Rattle.arcstr_range.specs.Ends.{IsLawful};
 ghost use Rattle.arcstr_range.specs.Text.{SpellsBetween};
-ghost use Rattle.arcstr.specs.TextView.{literal_of, made_of};
+ghost use Rattle.arcstr.specs.TextView.{IsStatic, literal_of};
 ghost use Rattle.arcstr.specs.Substr.{IsSoundSlice, empty_slice, slice_of, text_of, whole_of};
 
 use crate::arc_str::ArcStr;
-use arcstr_block::TextFault;
-use std::alloc::Global;
+use std::alloc::{AllocError, Global};
 use std::marker::Model;
 use std::ops::Range;
 use std::sync::Wait;
-
-mod cloning;
-mod conversions;
-mod copying;
-mod cow;
-mod json;
-mod order;
-mod parts;
-mod printing;
-mod slices;
-mod splitting;
 
 /// A slice of a shared text. It keeps its parent, and so the parent's text, alive. In a contract it has the parent and two byte offsets in the parent's text,
 /// which are in order, at most the parent's length, and at character boundaries.
@@ -58,41 +45,13 @@ impl Model for Substr {
 
 impl Substr {
     /// Creates a new empty slice: that of the empty literal, from 0 to 0.
-    ///
-    /// ```
-    /// let slice = Substr::new();
-    /// assert!(rt; slice.is_empty());
-    /// assert!(rt; ArcStr::is_static(slice.parent()));
-    /// ```
     pub fn new() -> Substr
         ensures { result ≡ empty_slice }
     {
         Substr::from_static("")
     }
 
-    /// Copies a `&str` into a new text, and returns the slice of all of it. Makes one allocation, or none if the text is empty: the slice is then one of the
-    /// empty literal.
-    ///
-    /// Errors, in this order: `Length` if the text has `2^63 - 25` bytes or more; `Memory` if the allocation fails.
-    ///
-    /// ```
-    /// let slice = Substr::from_str(rt.alloc(), "aé")?;
-    /// assert_eq!(rt; slice.as_str(), "aé");
-    /// assert_eq!(rt; slice.range(), 0..3);
-    /// ```
-    pub fn from_str(alloc: Global, text: &str) -> Result<Substr, TextFault>
-        ensures { AnswersMaking text.now (whole_of (made_of text.now)) empty_slice result }
-    {
-        Ok(Substr::full(ArcStr::from_str(alloc, text)?))
-    }
-
-    /// Creates the slice of all of a literal.
-    ///
-    /// ```
-    /// let slice = Substr::from_static("aé");
-    /// assert_eq!(rt; slice.range(), 0..3);
-    /// assert!(rt; ArcStr::is_static(slice.parent()));
-    /// ```
+    /// As `ArcStr::from_static`. Returns the slice of all of the literal.
     pub fn from_static(text: &'static str) -> Substr
         ensures { result ≡ whole_of (literal_of text.now) }
     {
@@ -106,6 +65,7 @@ impl Substr {
     /// assert_eq!(rt; slice.as_str(), "aé");
     /// assert_eq!(rt; slice.range(), 0..3);
     /// ```
+    #[tactic(auto, using(crate::proofs::Texts::whole_ranges))]
     pub fn full(parent: ArcStr) -> Substr
         ensures { result ≡ whole_of parent }
     {
@@ -160,15 +120,7 @@ impl Substr {
         self.start..self.end
     }
 
-    /// Makes another slice with the same byte range of the same parent. Clones the parent's handle, and so can wait: for a block, it loads the count word
-    /// and, if the block is not marked static, takes a compare-exchange. For a literal or a permanent block, it takes no atomic step.
-    ///
-    /// ```
-    /// let slice = Substr::from_str(rt.alloc(), "foobar")?;
-    /// let again = slice.clone(&rt);
-    /// assert!(rt; again == slice);
-    /// assert_eq!(rt; ArcStr::strong_count(slice.parent()), Some(2));
-    /// ```
+    /// Makes another slice with the same byte range of the same parent. Clones the parent's handle as `ArcStr::clone` does, and so can wait.
     pub fn clone(&self, rt: &impl Wait) -> Substr
         ensures { result ≡ self.now }
     {
@@ -180,11 +132,7 @@ impl Substr {
     }
 
     /// Returns the slice's own text: the parent's text between the two byte offsets.
-    ///
-    /// ```
-    /// let slice = literal!("foobar").substr(&rt, 3..)?;
-    /// assert_eq!(rt; slice.as_str(), "bar");
-    /// ```
+    #[tactic(auto, using(arcstr_range::proofs::Boundaries::slices_by_characters))]
     pub fn as_str(&self) -> &str
         ensures text { result.now ≡ text_of self.now }
         ensures characters { SpellsBetween self.now.parent.text self.now.start self.now.end result.now }
@@ -193,38 +141,21 @@ impl Substr {
         &self.parent.as_str()[range.start..range.end]
     }
 
-    /// Returns the length of the slice's own text in bytes. Does not read the bytes.
-    ///
-    /// ```
-    /// let slice = literal!("aéb").substr(&rt, 1..3)?;
-    /// assert_eq!(rt; slice.as_str(), "é");
-    /// assert_eq!(rt; slice.len(), 2);
-    /// ```
+    /// As `ArcStr::len`, for the slice's own text.
     pub fn len(&self) -> usize
         ensures { result ≡ length (text_of self.now) }
     {
         self.end - self.start
     }
 
-    /// Returns `true` if the slice's own text has a length of zero bytes.
-    ///
-    /// ```
-    /// let text = literal!("foobar");
-    /// assert!(rt; text.substr(&rt, 3..3)?.is_empty());
-    /// assert!(rt; !text.substr(&rt, 3..4)?.is_empty());
-    /// ```
+    /// As `ArcStr::is_empty`, for the slice's own text.
     pub fn is_empty(&self) -> bool
         ensures { IsTrue result ↔ (text_of self.now ≡ []) }
     {
         self.start == self.end
     }
 
-    /// Returns the bytes of the slice's own text.
-    ///
-    /// ```
-    /// let slice = literal!("aéb").substr(&rt, 1..3)?;
-    /// assert_eq!(rt; slice.as_bytes(), b"\xc3\xa9".as_slice());
-    /// ```
+    /// As `ArcStr::as_bytes`, for the slice's own text.
     pub fn as_bytes(&self) -> &[u8]
         ensures { result.now ≡ text_of self.now }
     {
@@ -240,5 +171,33 @@ impl Default for Substr {
     /// Creates a new empty slice, as `Substr::new()` does.
     fn default() -> Substr {
         Substr::new()
+    }
+}
+
+impl Clone for Substr {
+    ghost is_clone = { λ slice copy. copy ≡ slice };
+
+    ghost is_infallible = { λ slice. IsStatic slice.parent.kind };
+
+    /// Makes another slice with the same byte range of the same parent. Clones the parent as `Clone` of `ArcStr` does, and so never waits.
+    fn clone(&self) -> Result<Substr, AllocError>
+        ensures cases { MatchResult result (λ copy. copy ≡ self.now) (λ _. ¬ (IsStatic self.now.parent.kind)) }
+    {
+        Ok(Substr {
+            parent: Clone::clone(&self.parent)?,
+            start: self.start,
+            end: self.end,
+        })
+    }
+}
+
+impl From<ArcStr> for Substr {
+    ghost from_gives = { λ parent slice. slice ≡ whole_of parent };
+
+    /// Converts a text into the slice of all of it, as `Substr::full` does. Consumes the handle.
+    fn from(parent: ArcStr) -> Substr
+        ensures whole { result ≡ whole_of parent }
+    {
+        Substr::full(parent)
     }
 }

@@ -1,12 +1,6 @@
-use Rattle.arcstr.proofs.FirstMatches.{not_split_at_single, split_around_single}
+use Rattle.arcstr.proofs.FirstMatches.{split_around_single}
 use Rattle.arcstr.specs.Substr.{slice_within, text_of}
 use Rattle.arcstr.proofs.substr.Substr.substr_split_once.Goals as goal
-
--- there is no match
-pub returns-in_err-before-clause-at_a_character : goal.returns-in_err-before-clause-at_a_character
-returns-in_err-before-clause-at_a_character g c =
-    not_split_at_single (g.P.Pattern.find_in_gives c.args.separator) (text_of c.args.self.now) c.as_str.result.now (slice_within c.args.self.now) c.from_residual.result
-    (g.P.Pattern.single_char c.args.separator) c.in_err-before.ensures.cases c.as_str.ensures.text c.as_str.utf8 c.from_residual.ensures
 
 -- there is a match
 pub returns-clause-at_a_character : goal.returns-clause-at_a_character

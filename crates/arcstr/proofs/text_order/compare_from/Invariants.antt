@@ -1,9 +1,0 @@
-use Rattle.std.proofs.Common.{◌≡◌, ◌≤◌, ◌+◌, ◌-◌, take}
-use Rattle.arcstr.proofs.text_order.compare_from.Given as goal
-
--- the bytes passed so far are equal
-abbrev pub invariant-loop-from : goal.invariant-loop-from
-invariant-loop-from g l = record { within : l.from ≤ l.last + g.row.N; alike : take l.from l.one ≡ take l.from l.other }
-
-abbrev pub decreases-loop-from : goal.decreases-loop-from
-decreases-loop-from g l = l.last + g.row.N - l.from
