@@ -9,24 +9,11 @@ use types.Logic.{Logic, sem}
 use types.Kit.{‵, raw, ◌⊛◌, some, ◌$◌, ◌∵◌, !, qed, by, move, split, pick, show, check, frame, each, assume, suffices, settle, use1, use2, done}
 use denote.RawPtr.{block_ptr}
 use Rattle.core.specs.Sync.RawAtomic.{Shift, rests, ends, picks, enters, leaves, word, if_none, along, back, found, asks, always}
+use Rattle.arcstr_block.proofs.Operators.{operators}
 
 module _ {M : Type 1} {𝓤 : Ura M} (𝓛 : Logic 𝓤) (I : Fml) (b o : ℕ) (f : ℕ → ℕ) (after : ℕ → Fml) where
   open 𝓛 use {H, A}
-
-  abbrev Pr : Type 2
-  Pr = SProp 𝓤
-
-  abbrev ◌⊢◌ : Pr → Pr → Type 1
-  P ⊢ Q = ent 𝓤 P Q
-
-  abbrev ◌∗◌ : Pr → Pr → Pr
-  P ∗ Q = sep 𝓤 P Q
-
-  abbrev ◌-∗◌ : Pr → Pr → Pr
-  P -∗ Q = wand 𝓤 P Q
-
-  abbrev ⟦◌⟧ : Fml → Pr
-  ⟦ P ⟧ = sem 𝓛 P
+  open operators 𝓛 use {Pr, entails as ◌⊢◌, both as ◌∗◌, wand as ◌-∗◌, meaning as ⟦◌⟧}
 
   infix 26 ◌⊢◌
   infixr 35 ◌∗◌

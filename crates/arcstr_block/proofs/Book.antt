@@ -28,21 +28,11 @@ use Rattle.arcstr_block.specs.Word.{word_of}
 use Rattle.arcstr_block.specs.Book.{BlockName, steps, state_code, reached, seat, seat_share, book, Book, Ends, reached_ending}
 use Rattle.arcstr_block.proofs.Words.{one_less, word_marked, word_dropped}
 use Rattle.arcstr_block.proofs.Seats.{agrees, moves, adds}
+use Rattle.arcstr_block.proofs.Operators.{operators}
 
 module _ {M : Type 1} {𝓤 : Ura M} (𝓛 : Logic 𝓤) where
   open 𝓛 use {H, A}
-
-  abbrev Pr : Type 2
-  Pr = SProp 𝓤
-
-  abbrev ◌⊢◌ : Pr → Pr → Type 1
-  X ⊢ Y = ent 𝓤 X Y
-
-  abbrev ◌∗◌ : Pr → Pr → Pr
-  X ∗ Y = sep 𝓤 X Y
-
-  abbrev ⟦◌⟧ : Fml → Pr
-  ⟦ X ⟧ = sem 𝓛 X
+  open operators 𝓛 use {Pr, entails as ◌⊢◌, both as ◌∗◌, meaning as ⟦◌⟧}
 
   infix 26 ◌⊢◌
   infixr 35 ◌∗◌

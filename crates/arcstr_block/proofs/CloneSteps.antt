@@ -14,19 +14,10 @@ use Rattle.arcstr_block.specs.Word.{IsMarked, IsClone}
 use Rattle.arcstr_block.specs.Book.{Book, seat_share}
 use Rattle.arcstr_block.proofs.Words.{IsMarkedOr, odd_or_even, word_kept, word_cloned}
 use Rattle.arcstr_block.proofs.Book.{NewSeat, book_clone}
+use Rattle.arcstr_block.proofs.Operators.{operators}
 
 module _ {M : Type 1} {𝓤 : Ura M} (𝓛 : Logic 𝓤) (L : ℕ) (γ δ : GName) (h : ℕ) (q : Share) where
-  abbrev Pr : Type 2
-  Pr = SProp 𝓤
-
-  abbrev ◌⊢◌ : Pr → Pr → Type 1
-  X ⊢ Y = ent 𝓤 X Y
-
-  abbrev ◌∗◌ : Pr → Pr → Pr
-  X ∗ Y = sep 𝓤 X Y
-
-  abbrev ⟦◌⟧ : Fml → Pr
-  ⟦ X ⟧ = sem 𝓛 X
+  open operators 𝓛 use {Pr, entails as ◌⊢◌, both as ◌∗◌, meaning as ⟦◌⟧}
 
   infix 26 ◌⊢◌
   infixr 35 ◌∗◌

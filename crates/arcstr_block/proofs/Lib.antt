@@ -1,3 +1,4 @@
+pub mod Operators
 pub mod TokenParts
 pub mod TwoPointers
 pub mod LoneBlocks

@@ -22,21 +22,11 @@ use Rattle.arcstr_block.proofs.MarkedHistories.{marked_by_word}
 use Rattle.arcstr_block.proofs.CloneSteps.{finds}
 use Rattle.arcstr_block.proofs.Steps.{Gain, none, share, gained}
 use Rattle.arcstr_block.proofs.Rights.{Becomes, newborn, looked, found}
+use Rattle.arcstr_block.proofs.Operators.{operators}
 
 module _ {M : Type 1} {𝓤 : Ura M} (𝓛 : Logic 𝓤) (P : Fml) (L b o : ℕ) (t : Id) (s : Lft → Fml) (laws : ShrLaws s) (h : ℕ) where
   open 𝓛 use {H, A}
-
-  abbrev Pr : Type 2
-  Pr = SProp 𝓤
-
-  abbrev ◌⊢◌ : Pr → Pr → Type 1
-  X ⊢ Y = ent 𝓤 X Y
-
-  abbrev ◌∗◌ : Pr → Pr → Pr
-  X ∗ Y = sep 𝓤 X Y
-
-  abbrev ⟦◌⟧ : Fml → Pr
-  ⟦ X ⟧ = sem 𝓛 X
+  open operators 𝓛 use {Pr, entails as ◌⊢◌, both as ◌∗◌, meaning as ⟦◌⟧}
 
   infix 26 ◌⊢◌
   infixr 35 ◌∗◌

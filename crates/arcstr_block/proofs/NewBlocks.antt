@@ -25,28 +25,14 @@ use denote.Sharing.{ShrLaws}
 use types.Owned.{basic}
 use Rattle.arcstr_block.proofs.TokenParts.{parts_in, parts_cut}
 use Rattle.arcstr_block.proofs.Ledger.{phase_in}
+use Rattle.arcstr_block.proofs.Operators.{operators}
 
 module _ {M : Type 1} {𝓤 : Ura M} (𝓛 : Logic 𝓤) (P : Fml) (L b o : ℕ) where
   open 𝓛 use {H, A}
-
-  abbrev Pr : Type 2
-  Pr = SProp 𝓤
-
-  abbrev ◌⊢◌ : Pr → Pr → Type 1
-  X ⊢ Y = ent 𝓤 X Y
-
-  abbrev ◌∗◌ : Pr → Pr → Pr
-  X ∗ Y = sep 𝓤 X Y
-
-  abbrev ◌-∗◌ : Pr → Pr → Pr
-  X -∗ Y = wand 𝓤 X Y
-
-  abbrev ⟦◌⟧ : Fml → Pr
-  ⟦ X ⟧ = sem 𝓛 X
+  open operators 𝓛 use {entails as ◌⊢◌, both as ◌∗◌, meaning as ⟦◌⟧}
 
   infix 26 ◌⊢◌
   infixr 35 ◌∗◌
-  infixr 30 ◌-∗◌
   module _ (s : Lft → Fml) (laws : ShrLaws s) (small : IsLimit L) where
     abbrev Owner : Fml
     Owner = fex Id (λ t. fsep (reached t.name.history (Make ∷ [])) (held_with P L b o t s 0 counted))

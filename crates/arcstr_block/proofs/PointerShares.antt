@@ -26,6 +26,7 @@ use Rattle.arcstr_block.specs.Rights.{counted, uncounted, Right, nothing, fixed,
 use Rattle.arcstr_block.specs.Book.{BlockName, reached, seat, seat_share}
 use Rattle.arcstr_block.specs.Ledger.{Id, Inv, knows, known, permanent, with_share, free, held_with, seen, free_shown, shown}
 use Rattle.arcstr_block.proofs.Book.{reached_twice}
+use Rattle.arcstr_block.proofs.Operators.{operators}
 
 permanent_twice : {M : Type 1} {𝓤 : Ura M} (𝓛 : Logic 𝓤) (P : Fml) (L b o : ℕ) (t : Id)
     → ent 𝓤 (sem 𝓛 (permanent P L b o t)) (sep 𝓤 (sem 𝓛 (permanent P L b o t)) (sem 𝓛 (permanent P L b o t)))
@@ -79,25 +80,10 @@ module _ (P : Fml) (L b o : ℕ) (s : Lft → Fml) (laws : ShrLaws s) (h : ℕ) 
 
   module _ {M : Type 1} {𝓤 : Ura M} (𝓛 : Logic 𝓤) (t : Id) where
     open 𝓛 use {H, A}
-
-    abbrev Pr : Type 2
-    Pr = SProp 𝓤
-
-    abbrev ◌⊢◌ : Pr → Pr → Type 1
-    X ⊢ Y = ent 𝓤 X Y
-
-    abbrev ◌∗◌ : Pr → Pr → Pr
-    X ∗ Y = sep 𝓤 X Y
-
-    abbrev ◌-∗◌ : Pr → Pr → Pr
-    X -∗ Y = wand 𝓤 X Y
-
-    abbrev ⟦◌⟧ : Fml → Pr
-    ⟦ X ⟧ = sem 𝓛 X
+    open operators 𝓛 use {entails as ◌⊢◌, both as ◌∗◌, meaning as ⟦◌⟧}
 
     infix 26 ◌⊢◌
     infixr 35 ◌∗◌
-    infixr 30 ◌-∗◌
     abbrev I : Fml
     I = Inv P L b o t
 

@@ -24,6 +24,7 @@ use Rattle.arcstr_block.proofs.Words.{IsMarkedOr, odd_or_even, unmarked_word, la
 use Rattle.arcstr_block.proofs.Book.{begun, left_in, NewSeat}
 use Rattle.arcstr_block.proofs.PointerShares.{free_in}
 use Rattle.arcstr_block.proofs.Steps.{Gain, none, part, share, last, gained}
+use Rattle.arcstr_block.proofs.Operators.{operators}
 
 -- a free handle is counted or uncounted
 pub by_free : (X : Right → Type 1) → X counted → X uncounted → (right : Right) → IsFree right → X right
@@ -37,25 +38,10 @@ seat_state right = Free
 
 module _ {M : Type 1} {𝓤 : Ura M} (𝓛 : Logic 𝓤) (P : Fml) (L b o : ℕ) (t : Id) where
   open 𝓛 use {H, A}
-
-  abbrev Pr : Type 2
-  Pr = SProp 𝓤
-
-  abbrev ◌⊢◌ : Pr → Pr → Type 1
-  X ⊢ Y = ent 𝓤 X Y
-
-  abbrev ◌∗◌ : Pr → Pr → Pr
-  X ∗ Y = sep 𝓤 X Y
-
-  abbrev ◌-∗◌ : Pr → Pr → Pr
-  X -∗ Y = wand 𝓤 X Y
-
-  abbrev ⟦◌⟧ : Fml → Pr
-  ⟦ X ⟧ = sem 𝓛 X
+  open operators 𝓛 use {Pr, entails as ◌⊢◌, both as ◌∗◌, meaning as ⟦◌⟧}
 
   infix 26 ◌⊢◌
   infixr 35 ◌∗◌
-  infixr 30 ◌-∗◌
   abbrev I : Fml
   I = Inv P L b o t
 

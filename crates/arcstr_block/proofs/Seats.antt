@@ -24,21 +24,11 @@ use Rattle.atomic_table.specs.Seated.{itself, halved, unused, roster}
 use Rattle.arcstr_count.specs.declared.steps.HandleState.{HandleState}
 use Rattle.arcstr_count.specs.contracts.steps.HandleState.{the_row as state_row}
 use Rattle.arcstr_block.specs.Book.{state_code, seat, seat_share}
+use Rattle.arcstr_block.proofs.Operators.{operators}
 
 module _ {M : Type 1} {𝓤 : Ura M} (𝓛 : Logic 𝓤) (δ : ℕ) where
   open 𝓛 use {H, A}
-
-  abbrev Pr : Type 2
-  Pr = SProp 𝓤
-
-  abbrev ◌⊢◌ : Pr → Pr → Type 1
-  P ⊢ Q = ent 𝓤 P Q
-
-  abbrev ◌∗◌ : Pr → Pr → Pr
-  P ∗ Q = sep 𝓤 P Q
-
-  abbrev ⟦◌⟧ : Fml → Pr
-  ⟦ P ⟧ = sem 𝓛 P
+  open operators 𝓛 use {Pr, entails as ◌⊢◌, both as ◌∗◌, meaning as ⟦◌⟧}
 
   infix 26 ◌⊢◌
   infixr 35 ◌∗◌

@@ -24,21 +24,11 @@ use Rattle.arcstr_block.specs.Ledger.{Id, Inv, right_to, of_block}
 use Rattle.arcstr_block.specs.contracts.pointer.Pointer as C
 use Rattle.arcstr_block.proofs.Fields.{pointer_val, found_val, Words, made}
 use Rattle.arcstr_block.proofs.Seats.{seat_halves}
+use Rattle.arcstr_block.proofs.Operators.{operators}
 
 module _ {M : Type 1} {𝓤 : Ura M} (𝓛 : Logic 𝓤) where
   open 𝓛 use {H, A}
-
-  abbrev Pr : Type 2
-  Pr = SProp 𝓤
-
-  abbrev ◌⊢◌ : Pr → Pr → Type 1
-  X ⊢ Y = ent 𝓤 X Y
-
-  abbrev ◌∗◌ : Pr → Pr → Pr
-  X ∗ Y = sep 𝓤 X Y
-
-  abbrev ⟦◌⟧ : Fml → Pr
-  ⟦ X ⟧ = sem 𝓛 X
+  open operators 𝓛 use {entails as ◌⊢◌, both as ◌∗◌, meaning as ⟦◌⟧}
 
   infix 26 ◌⊢◌
   infixr 35 ◌∗◌

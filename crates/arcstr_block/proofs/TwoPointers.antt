@@ -22,6 +22,7 @@ use Rattle.arcstr_block.specs.contracts.pointer.Pointer as C
 use Rattle.arcstr_block.proofs.Rights.{has_seat, seat_state}
 use Rattle.arcstr_block.proofs.Seats.{one_owner}
 use Rattle.arcstr_block.proofs.LoneBlocks.{no_other}
+use Rattle.arcstr_block.proofs.Operators.{operators}
 
 same_or_not : (m n : BlockName) → Dec (m ≡ n)
 same_or_not m n = by_parts (ℕ_discrete m.history n.history) (ℕ_discrete m.seats n.seats)
@@ -33,18 +34,7 @@ same_or_not m n = by_parts (ℕ_discrete m.history n.history) (ℕ_discrete m.se
 
 module _ {M : Type 1} {𝓤 : Ura M} (𝓛 : Logic 𝓤) (B : RattleType) (g : Ghosts B.Denot) where
   open 𝓛 use {H}
-
-  abbrev Pr : Type 2
-  Pr = SProp 𝓤
-
-  abbrev ◌⊢◌ : Pr → Pr → Type 1
-  X ⊢ Y = ent 𝓤 X Y
-
-  abbrev ◌∗◌ : Pr → Pr → Pr
-  X ∗ Y = sep 𝓤 X Y
-
-  abbrev ⟦◌⟧ : Fml → Pr
-  ⟦ X ⟧ = sem 𝓛 X
+  open operators 𝓛 use {Pr, entails as ◌⊢◌, both as ◌∗◌, meaning as ⟦◌⟧}
 
   infix 26 ◌⊢◌
   infixr 35 ◌∗◌

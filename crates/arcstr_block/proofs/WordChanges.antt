@@ -20,28 +20,14 @@ use Rattle.arcstr_block.specs.Book.{Book}
 use Rattle.arcstr_block.proofs.Words.{one_less, or_unmarked, or_marked}
 use Rattle.arcstr_block.proofs.Ledger.{share_not_alive, takes, gives, gives_last, gives_marked, too_many, finds_mark}
 use Rattle.arcstr_block.proofs.Steps.{Gain, none, part, share, last, after, all_after, Stepped, Shut, keeps, ending, gains, marking, stepped, token_alive}
+use Rattle.arcstr_block.proofs.Operators.{operators}
 
 module _ {M : Type 1} {𝓤 : Ura M} (𝓛 : Logic 𝓤) (P : Fml) (L b o : ℕ) (t : Id) where
   open 𝓛 use {H, A}
-
-  abbrev Pr : Type 2
-  Pr = SProp 𝓤
-
-  abbrev ◌⊢◌ : Pr → Pr → Type 1
-  X ⊢ Y = ent 𝓤 X Y
-
-  abbrev ◌∗◌ : Pr → Pr → Pr
-  X ∗ Y = sep 𝓤 X Y
-
-  abbrev ◌-∗◌ : Pr → Pr → Pr
-  X -∗ Y = wand 𝓤 X Y
-
-  abbrev ⟦◌⟧ : Fml → Pr
-  ⟦ X ⟧ = sem 𝓛 X
+  open operators 𝓛 use {Pr, entails as ◌⊢◌, both as ◌∗◌, meaning as ⟦◌⟧}
 
   infix 26 ◌⊢◌
   infixr 35 ◌∗◌
-  infixr 30 ◌-∗◌
   abbrev I : Fml
   I = Inv P L b o t
 
