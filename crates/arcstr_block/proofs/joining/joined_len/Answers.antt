@@ -3,7 +3,7 @@ use Rattle.std.proofs.Common.{◌≡◌, ◌<◌, ◌^◌, ◌∙◌, length, ap
 use Rattle.std.specs.Prelude.{SomeIff}
 use Rattle.std.specs.List.{join_by}
 use Rattle.std.proofs.lemmas.List.{take_all}
-use Rattle.arcstr_block.proofs.JoinedTexts.{joined_room}
+use Rattle.arcstr_block.proofs.Texts.{joined_room}
 use Rattle.arcstr_block.proofs.joining.joined_len.Goals as goal
 
 pub returns-in_err-len : goal.returns-in_err-len

@@ -3,7 +3,7 @@ use Rattle.std.proofs.Common.{◌≡◌, ◌+◌, ◌∙◌, ◌++◌, length, g
 use Rattle.std.specs.Prelude.{take, IsUtf8}
 use Rattle.std.specs.List.{join_by}
 use Rattle.std.proofs.lemmas.Str.{IsUtf8-append}
-use Rattle.arcstr_block.proofs.JoinedTexts.{joined_more, joined_room}
+use Rattle.arcstr_block.proofs.Texts.{joined_more, joined_room}
 use Rattle.arcstr_block.proofs.joining.write_joined.Goals as goal
 
 pub write-at-requires-clause-room : goal.write-at-requires-clause-room

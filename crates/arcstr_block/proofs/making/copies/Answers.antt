@@ -5,7 +5,7 @@ use Rattle.std.specs.List.{repeat}
 use Rattle.std.proofs.Math.Seq.{take-length}
 use native.Mathlib.Nat.{suc-mul, mul-zero, mul-le-mul_right}
 use Rattle.core.proofs.slots.Fills.{Filled-around, Filled-none}
-use Rattle.arcstr_block.proofs.Copies.{empty_copies, next_copy, copies_are_text}
+use Rattle.arcstr_block.proofs.Texts.{empty_copies, next_copy, copies_are_text}
 use Rattle.arcstr_block.proofs.making.copies.Goals as goal
 
 pub returns-then-is_empty-clause-items : goal.returns-then-is_empty-clause-items

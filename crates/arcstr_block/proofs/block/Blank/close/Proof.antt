@@ -1,25 +1,45 @@
 -- `close` takes the bytes from their `Slots` once each is written.
-use Rattle.arcstr_block.proofs.WholeProofs.{◌≡◌, ℕ, ◌^◌, ◌<◌, Bool, List, [], ◌∷◌, length, sym, refl, ap, ◌∙◌, subst, arith, w64, dcons, dnil, a_type, ty_int}
-use Rattle.arcstr_block.proofs.WholeProofs.{Val, has_ty, WT, inst_fn, T, full_share, SProp, emp, fsep, tables, fact, fact_i, ‵, raw, ◌⊛◌, given}
-use Rattle.arcstr_block.proofs.WholeProofs.{later, at_ret, ◌$◌, ◌∵◌, !, qed, by, move, keep, drop, use0, use1, split, join, fsplit, fsplit3, fjoin, fjoin3}
-use Rattle.arcstr_block.proofs.WholeProofs.{fpick, fpack, learn, await, rewrite, feq_i, stop, fld, of_opd, no_more, and_then, first, blocks, exec, returns}
-use Rattle.arcstr_block.proofs.WholeProofs.{enter, alloc_all, pass_all, free_all, look_at, get, get_in, sets, lands_last, is, env, agg, sub, whole, Array, u8}
-use Rattle.arcstr_block.proofs.WholeProofs.{yes, no, part_at, RattleType, owns, Ptr, InBlock, block_ptr, ptr_val, block_of, count_of, at_block, bytes}
-use Rattle.arcstr_block.proofs.WholeProofs.{bytes_whole, types_at, plain, nothing, heard, param, bounded, calls_at_last, alive, Stays, stay_dropped, walk_of}
-use Rattle.arcstr_block.proofs.WholeProofs.{Goes-dropped, slots, tail, words_val, fm, proved, leaves}
-use mir.Syntax.{ty_ptr, ty_struct, tcons, tnil}
-use denote.RawPtr.{in_block}
-use Rattle.core.specs.Mem.Slots.Ownership.{Filled, owned}
-use Rattle.core.proofs.slots.Slots.into_raw_parts.Met as callee
+use Rattle.std.proofs.Common.{◌≡◌, ℕ, ◌^◌, ◌<◌, Bool, List, [], ◌∷◌, length, sym, refl, ap, ◌∙◌, subst, arith, w64, T}
+use mir.Syntax.{dcons, dnil, a_type, ty_int, ty_ptr, ty_struct, tcons, tnil}
+use mir.Val.{Val, has_ty, WT}
+use mir.MapTy.{inst_fn}
+use base.Fraction.{full_share}
+use base.Logic.{SProp, emp}
+use base.Fml.{fsep}
+use contract.Running.{tables}
+use contract.Monad.{fact, fact_i}
+use types.Kit.{‵, raw, ◌⊛◌, given, later, at_ret, ◌$◌, ◌∵◌, !, qed, by, move, keep, drop, use0, use1, split, join, fsplit, fsplit3, fjoin, fjoin3, fpick, fpack}
+use types.Kit.{learn, await, rewrite, feq_i}
+use types.Run.{stop, fld, of_opd, no_more, and_then, first, blocks, exec, returns, enter}
+use types.ByLocal.{alloc_all, pass_all, free_all, look_at, get, get_in, sets, lands_last, is, env}
+use types.Part.{agg, sub, whole}
+use denote.Array.{Array}
+use denote.Builtin.{u8}
+use denote.Exit.{yes, no}
+use denote.Memory.{part_at}
+use denote.RattleType.{RattleType, owns}
+use denote.RawPtr.{Ptr, InBlock, block_ptr, ptr_val, block_of, count_of, at_block, in_block}
+use denote.RawPtr.Bytes.{bytes, bytes_whole}
+use denote.Signature.{types_at, plain}
+use denote.Steps.{nothing, heard}
+use denote.Param.{param, bounded}
+use denote.Triple.Call.{calls_at_last}
+use denote.Triple.Entry.{alive}
+use denote.Triple.Walked.{Stays, stay_dropped, walk_of, Goes-dropped}
+use Rattle.core.specs.Mem.Slots.Ownership.{slots, Filled, owned}
+use Rattle.core.proofs.atomic.Steps.{tail}
+use Rattle.core.proofs.slots.Opens.{words_val}
+use Rattle.atomic_table.proofs.Calls.{fm}
+use Rattle.atomic_table.proofs.Walks.{proved, leaves}
 use Rattle.arcstr_block.specs.Memory.{Fits, word_lies, length_lies, text_lies, rim}
-use Rattle.arcstr_block.specs.contracts.block.Blank as N
-use Rattle.arcstr_block.specs.contracts.block.Sole as S
-use Rattle.arcstr_block.proofs.Fields.{pointer_val, typed, Words, told, made}
-use Rattle.arcstr_block.proofs.Memory.{byte_laws}
-use Rattle.arcstr_block.proofs.Places.{Bytes, R, to_bytes, EndContract, at_ends, ends_goes, ends_gives, words_typed, words_told}
+use Rattle.arcstr_block.proofs.Pointers.{pointer_val, typed, Words, told, made}
+use Rattle.arcstr_block.proofs.Memory.{byte_laws, Bytes, R, to_bytes, EndContract, at_ends, ends_goes, ends_gives, words_typed, words_told}
 use Rattle.arcstr_block.specs.contracts.block.Blank.close.{ended, clauses}
 use Rattle.arcstr_block.specs.contracts.block.Blank.close.Key.{name as #self}
 use Rattle.arcstr_block.proofs.block.Blank.close.Statement.{statement}
+use Rattle.core.proofs.slots.Slots.into_raw_parts.Met as callee
+use Rattle.arcstr_block.specs.contracts.block.Blank as N
+use Rattle.arcstr_block.specs.contracts.block.Sole as S
 use Rattle.arcstr_block.proofs.block.Blank.close.Code as code
 
 pub close_spec : {M : Type 1} → statement M

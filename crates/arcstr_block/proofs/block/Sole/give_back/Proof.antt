@@ -1,21 +1,42 @@
 -- `give_back` makes the block room again, and returns it to the allocator.
-use Rattle.arcstr_block.proofs.WholeProofs.{◌≡◌, ℕ, ◌^◌, ◌<◌, List, [], ◌∷◌, length, sym, refl, ◌∙◌, subst, lit<, w64, Ty, dcons, dnil, a_type, named, bare}
-use Rattle.arcstr_block.proofs.WholeProofs.{Val, vunit, vint, vptr, has_ty, WT, inst_fn, T, SProp, ent, id⊢, Lft, Share, Fml, ftrue, fsep, froom, flft}
-use Rattle.arcstr_block.proofs.WholeProofs.{Incl-trans, WpFn, ◌⊑◌, tables, fact, ‵, raw, ◌⊛◌, given, later, at_ret, ◌$◌, ◌∵◌, !, qed, by, move, keep, drop}
-use Rattle.arcstr_block.proofs.WholeProofs.{use1, use2, use3, split, join, fsplit, fsplit3, fjoin, fpick, learn, suffices, await, rewrite, feq_i, stop, fld}
-use Rattle.arcstr_block.proofs.WholeProofs.{lit, unit_lit, of_opd, no_more, and_then, first, blocks, exec, returns, enter, alloc_all, pass_all, free_all}
-use Rattle.arcstr_block.proofs.WholeProofs.{look_at, get, get_in, sets, lands_last, env, sub, whole, yes, no, RattleType, owns, RefOf, usize, uint_vals}
-use Rattle.arcstr_block.proofs.WholeProofs.{uint_Tells, Ptr, block_ptr, block_of, count_of, at_block, shr_vals, shr_Tells, types_at, plain, nothing, heard}
-use Rattle.arcstr_block.proofs.WholeProofs.{param, bounded, calls_at_last, Stays, stay_dropped, walk_of, Goes-dropped, Al, tail, fm, proved, leaves}
-use mir.Syntax.{ty_unit}
-use Rattle.core.proofs.alloc.Calls.{Gives, at_gives, Gives-goes, Gives-Gives}
+use Rattle.std.proofs.Common.{◌≡◌, ℕ, ◌^◌, ◌<◌, List, [], ◌∷◌, length, sym, refl, ◌∙◌, subst, lit<, w64, T}
+use mir.Syntax.{Ty, dcons, dnil, a_type, named, ty_unit}
+use mir.Raw.{raw as bare}
+use mir.Val.{Val, vunit, vint, vptr, has_ty, WT}
+use mir.MapTy.{inst_fn}
+use base.Logic.{SProp, ent, id⊢}
+use base.Fml.{Lft, Share, Fml, ftrue, fsep, froom, flft, Incl-trans}
+use prog.Wp.{WpFn}
+use contract.BorrowLft.{◌⊑◌}
+use contract.Running.{tables}
+use contract.Monad.{fact}
+use types.Kit.{‵, raw, ◌⊛◌, given, later, at_ret, ◌$◌, ◌∵◌, !, qed, by, move, keep, drop, use1, use2, use3, split, join, fsplit, fsplit3, fjoin, fpick, learn}
+use types.Kit.{suffices, await, rewrite, feq_i}
+use types.Run.{stop, fld, lit, unit_lit, of_opd, no_more, and_then, first, blocks, exec, returns, enter}
+use types.ByLocal.{alloc_all, pass_all, free_all, look_at, get, get_in, sets, lands_last, env}
+use types.Part.{sub, whole}
+use denote.Exit.{yes, no}
+use denote.RattleType.{RattleType, owns}
+use denote.Builtin.{RefOf, usize}
+use denote.Plain.{uint_vals, uint_Tells}
+use denote.RawPtr.{Ptr, block_ptr, block_of, count_of, at_block}
+use denote.Ref.{shr_vals, shr_Tells}
+use denote.Signature.{types_at, plain}
+use denote.Steps.{nothing, heard}
+use denote.Param.{param, bounded}
+use denote.Triple.Call.{calls_at_last}
+use denote.Triple.Walked.{Stays, stay_dropped, walk_of, Goes-dropped}
+use Rattle.core.proofs.alloc.Calls.{Al, Gives, at_gives, Gives-goes, Gives-Gives}
+use Rattle.core.proofs.atomic.Steps.{tail}
+use Rattle.atomic_table.proofs.Calls.{fm}
+use Rattle.atomic_table.proofs.Walks.{proved, leaves}
 use Rattle.arcstr_block.specs.Memory.{block_size, block_type, block_owns, sole_owns}
-use Rattle.arcstr_block.specs.contracts.block.Sole as S
-use Rattle.arcstr_block.proofs.Fields.{pointer_val, typed, told}
+use Rattle.arcstr_block.proofs.Pointers.{pointer_val, typed, told}
 use Rattle.arcstr_block.proofs.Memory.{block_bytes, block_align, gathers}
 use Rattle.arcstr_block.specs.contracts.block.Sole.give_back.{ended, clauses}
 use Rattle.arcstr_block.specs.contracts.block.Sole.give_back.Key.{name as #self}
 use Rattle.arcstr_block.proofs.block.Sole.give_back.Statement.{statement}
+use Rattle.arcstr_block.specs.contracts.block.Sole as S
 use Rattle.arcstr_block.proofs.block.Sole.give_back.Code as code
 
 pub give_back_spec : {M : Type 1} → statement M

@@ -1,47 +1,52 @@
 -- `lend` lends the bytes of the text for writing, and the block has what is written. Assumes `Logic`.
-use Rattle.arcstr_block.proofs.WholeProofs.{full_share, a_type, dcons, dnil, named, Ty, inst_fn, Val, vptr, vint, SProp, ent, id⊢, Lft, GName, Share, Fml}
-use Rattle.arcstr_block.proofs.WholeProofs.{ftrue, fsep, feq, flft, WpFn, fact, tables, Item, ‵, raw, ◌⊛◌, some, later, await, pick, at_ret, ◌$◌, ◌∵◌, !, qed}
-use Rattle.arcstr_block.proofs.WholeProofs.{by, move, keep, drop, use1, split, join, rewrite, fsplit, fsplit3, fjoin, fjoin3, fpick, fpack, feq_i, suffices}
-use Rattle.arcstr_block.proofs.WholeProofs.{whole, sub, agg, look_in, stop, fld, of_opd, and_then, no_more, first, blocks, exec, returns, enter, load}
-use Rattle.arcstr_block.proofs.WholeProofs.{alloc_all, pass_all, free_all, look_at, get, through, sets, sets_last, env, Array, u8, usize, yes, no, Is, shows}
-use Rattle.arcstr_block.proofs.WholeProofs.{cell_at, part_at, param, bounded, RattleType, owns, Ptr, InBlock, block_ptr, block_of, count_of, at_block, bytes}
-use Rattle.arcstr_block.proofs.WholeProofs.{bytes_whole, plain, slice_val, nothing, peeks, Stays, stay_dropped, walk_of, Goes-dropped, word, tail}
-use mathlib.Core.Path.{◌≡◌, refl, sym, ap, subst, ◌∙◌}
-use Prim.Native.Nat.{ℕ, ◌+◌, ◌*◌, ◌<◌, ◌^◌}
-use native.Mathlib.Omega.{arith}
-use mathlib.Core.List.{List, [], ◌∷◌, ◌++◌}
-use lib.ListN.{length}
+use base.Fraction.{full_share}
+use mir.Syntax.{a_type, dcons, dnil, named, Ty, Fn, Args, Dict}
+use mir.MapTy.{inst_fn}
+use mir.Val.{Val, vptr, vint}
+use base.Logic.{SProp, ent, id⊢, sep, mono_r}
+use base.Fml.{Lft, GName, Share, Fml, ftrue, fsep, feq, flft, fobs, fbor}
+use prog.Wp.{WpFn, Env, Calls, Loops, Tables}
+use contract.Monad.{fact}
+use contract.Running.{tables, tables_of}
+use types.Kit.{Item, ‵, raw, ◌⊛◌, some, later, await, pick, at_ret, ◌$◌, ◌∵◌, !, qed, by, move, keep, drop, use1, split, join, rewrite, fsplit, fsplit3, fjoin}
+use types.Kit.{fjoin3, fpick, fpack, feq_i, suffices, ⋆, group, feq_l, flt_l, frame, done}
+use types.Part.{whole, sub, agg, look_in}
+use types.Run.{stop, fld, of_opd, and_then, no_more, first, blocks, exec, returns, enter, load}
+use types.ByLocal.{alloc_all, pass_all, free_all, look_at, get, through, sets, sets_last, env}
+use denote.Array.{Array}
+use denote.Builtin.{u8, usize, RefMutOf, SliceRefMutOf}
+use denote.Exit.{yes, no}
+use denote.Laws.{Is, shows}
+use denote.Memory.{cell_at, part_at, mem, part_of}
+use denote.Param.{param, bounded}
+use denote.RattleType.{RattleType, owns}
+use denote.RawPtr.{Ptr, InBlock, block_ptr, block_of, count_of, at_block}
+use denote.RawPtr.Bytes.{bytes, bytes_whole, bytes_apart}
+use denote.Signature.{plain, mut_ref_to}
+use denote.Slice.{slice_val, MutSlice}
+use denote.Steps.{nothing, peeks, opens}
+use denote.Triple.Walked.{Stays, stay_dropped, walk_of, Goes-dropped, says, needs, ends_at, Goes-spent_ref, walk_Meets}
+use Rattle.core.specs.Sync.RawAtomic.{word}
+use Rattle.core.proofs.atomic.Steps.{tail}
+use Rattle.std.proofs.Common.{◌≡◌, refl, sym, ap, subst, ◌∙◌, ℕ, ◌+◌, ◌*◌, ◌<◌, ◌^◌, arith, List, [], ◌∷◌, ◌++◌, length, w64}
 use seplogic.Ra.Ura.{Ura}
-use mir.Syntax.{Fn, Args, Dict, w64}
-use base.Logic.{sep, mono_r}
-use base.Fml.{fobs, fbor}
-use prog.Wp.{Env, Calls, Loops, Tables}
 use types.Logic.{Logic, sem}
-use contract.Running.{tables_of}
 use sound.WpLaws.{WpFn-mono}
-use types.Kit.{⋆, group, feq_l, flt_l, frame, done}
 use types.SemTy.{Body as Borrowed, cells}
-use denote.Builtin.{RefMutOf, SliceRefMutOf}
 use denote.Follow.{follows}
 use denote.FollowSlice.{Elements, lends_Elements}
-use denote.Memory.{mem, part_of}
-use denote.RawPtr.Bytes.{bytes_apart}
 use denote.Ref.{MutBor, MutRef}
-use denote.Signature.{mut_ref_to}
-use denote.Slice.{MutSlice}
-use denote.Steps.{opens}
 use denote.Triple.Carry.{spared}
 use denote.Triple.Clauses.{Clauses, Ended, closing}
 use denote.Triple.Entry.{on_entry}
 use denote.Triple.Spec.{Meets, triple_of}
 use denote.Triple.Table.{entered, run_framed}
-use denote.Triple.Walked.{says, needs, ends_at, Goes-spent_ref, walk_Meets}
 use Rattle.core.specs.declared.alloc.Allocator.{Ghosts}
 use Rattle.arcstr_block.specs.Lends.{with_text}
 use Rattle.arcstr_block.specs.Memory.{Fits, length_lies, text_lies, rim, word_offset, word_lies}
-use Rattle.arcstr_block.specs.contracts.block.Sole as S
-use Rattle.arcstr_block.proofs.Fields.{pointer_val, Words, told}
+use Rattle.arcstr_block.proofs.Pointers.{pointer_val, Words, told}
 use Rattle.arcstr_block.specs.contracts.block.Sole.lend.Key.{name as #self}
+use Rattle.arcstr_block.specs.contracts.block.Sole as S
 use Rattle.arcstr_block.proofs.block.Sole.lend.Statement as stated
 use Rattle.arcstr_block.proofs.block.Sole.lend.Code as code
 

@@ -12,14 +12,14 @@ use denote.Struct.Field.{RawPtr-field}
 use denote.Struct.Laws.{RawPtr-copy, field_copy}
 use denote.Struct.Lending.{of_Lends, Lends-both, Lends-said}
 use Rattle.core.specs.declared.alloc.Allocator.{Ghosts}
-use Rattle.core.specs.contracts.marker.PhantomData as Marker
 use Rattle.arcstr_block.specs.Memory.{block_owns, block_shares, placed, IsText, word_at}
 use Rattle.arcstr_block.specs.Ledger.{Id, known, held_with, shown, of_block, of_block_shown}
-use Rattle.arcstr_block.specs.contracts.pointer.Pointer as C
 use Rattle.arcstr_block.proofs.Memory.{shares_laws}
-use Rattle.arcstr_block.proofs.PointerShares.{known_twice, known_laws, shown_laws, Lends-held}
+use Rattle.arcstr_block.proofs.Sharing.{known_twice, known_laws, shown_laws, Lends-held}
 use Rattle.logbook.proofs.Fields.{lends_twice}
 use Rattle.arcstr_block.proofs.pointer.Pointer.TheLaw.Statement.{statement}
+use Rattle.core.specs.contracts.marker.PhantomData as Marker
+use Rattle.arcstr_block.specs.contracts.pointer.Pointer as C
 
 pub shares : (B : RattleType) (g : Ghosts B.Denot) (K : Laws B) → statement B g K
 shares B g K = of_Lends (C.struct B g) (C.the_codes B.Denot B.coded (Marker.the_row B).coded) (C.the_heap B g) (C.the_lent B g)

@@ -1,22 +1,41 @@
 -- `again` takes no step: a permanent share can be duplicated.
-use Rattle.arcstr_block.proofs.WholeProofs.{◌≡◌, ℕ, List, [], ◌∷◌, sym, refl, ap, ◌∙◌, length, dcons, dnil, a_type, named, Val, vptr, inst_fn, SProp, emp, Lft}
-use Rattle.arcstr_block.proofs.WholeProofs.{Share, Fml, ftrue, fsep, flft, fhide, ‵, raw, ◌⊛◌, ◌$◌, ◌∵◌, !, qed, by, move, keep, drop, split, join, fsplit}
-use Rattle.arcstr_block.proofs.WholeProofs.{fsplit3, fjoin, fpick, use0, use1, use3, rewrite, stop, fld, load, of_opd, no_more, and_then, returns, enter}
-use Rattle.arcstr_block.proofs.WholeProofs.{alloc_all, pass_all, free_all, look_at, get, through, sets, is, env, agg, sub, whole, look_in, tables, fact}
-use Rattle.arcstr_block.proofs.WholeProofs.{fact_i, yes, RattleType, owns, types_at, plain, Ptr, block_ptr, block_of, count_of, at_block, nothing, peeks}
-use Rattle.arcstr_block.proofs.WholeProofs.{heard, looks, shuts, unhide, Is, shows, cell_at, hidden_shr, param, bounded, RefOf, shr_vals, shr_Tells, lent_out}
-use Rattle.arcstr_block.proofs.WholeProofs.{Stays, stay_dropped, walk_of, Goes-dropped, proved, leaves}
-use Rattle.core.specs.contracts.marker.PhantomData as Marker
+use Rattle.std.proofs.Common.{◌≡◌, ℕ, List, [], ◌∷◌, sym, refl, ap, ◌∙◌, length}
+use mir.Syntax.{dcons, dnil, a_type, named}
+use mir.Val.{Val, vptr}
+use mir.MapTy.{inst_fn}
+use base.Logic.{SProp, emp}
+use base.Fml.{Lft, Share, Fml, ftrue, fsep, flft, fhide}
+use types.Kit.{‵, raw, ◌⊛◌, ◌$◌, ◌∵◌, !, qed, by, move, keep, drop, split, join, fsplit, fsplit3, fjoin, fpick, use0, use1, use3, rewrite}
+use types.Run.{stop, fld, load, of_opd, no_more, and_then, returns, enter}
+use types.ByLocal.{alloc_all, pass_all, free_all, look_at, get, through, sets, is, env}
+use types.Part.{agg, sub, whole, look_in}
+use contract.Running.{tables}
+use contract.Monad.{fact, fact_i}
+use denote.Exit.{yes}
+use denote.RattleType.{RattleType, owns}
+use denote.Signature.{types_at, plain}
+use denote.RawPtr.{Ptr, block_ptr, block_of, count_of, at_block}
+use denote.Steps.{nothing, peeks, heard, looks, shuts}
+use denote.Opens.{unhide}
+use denote.Laws.{Is, shows}
+use denote.Memory.{cell_at, hidden_shr}
+use denote.Param.{param, bounded}
+use denote.Builtin.{RefOf}
+use denote.Ref.{shr_vals, shr_Tells}
+use denote.Struct.Lending.{lent_out}
+use denote.Triple.Walked.{Stays, stay_dropped, walk_of, Goes-dropped}
+use Rattle.atomic_table.proofs.Walks.{proved, leaves}
 use Rattle.arcstr_block.specs.Rights.{fixed, Right}
 use Rattle.arcstr_block.specs.Memory.{block_owns, block_shares, word_at}
 use Rattle.arcstr_block.specs.Ledger.{Inv, shown, pointer_shares}
 use Rattle.arcstr_block.proofs.Memory.{shares_laws}
-use Rattle.arcstr_block.specs.contracts.pointer.Pointer as C
-use Rattle.arcstr_block.proofs.StepFrames as framed
-use Rattle.arcstr_block.proofs.Fields.{pointer_val, typed, Words, told, opened}
+use Rattle.arcstr_block.proofs.Pointers.{pointer_val, typed, Words, told, opened}
 use Rattle.arcstr_block.specs.contracts.pointer.Pointer.again.{ended, clauses}
 use Rattle.arcstr_block.specs.contracts.pointer.Pointer.again.Key.{name as #self}
 use Rattle.arcstr_block.proofs.pointer.Pointer.again.Statement.{statement}
+use Rattle.core.specs.contracts.marker.PhantomData as Marker
+use Rattle.arcstr_block.specs.contracts.pointer.Pointer as C
+use Rattle.arcstr_block.proofs.Pointers as framed
 use Rattle.arcstr_block.proofs.pointer.Pointer.again.Code as code
 
 pub again_spec : {M : Type 1} → statement M

@@ -1,24 +1,41 @@
 -- `an_owed_block_has_no_reader` returns the owed pointer: the book of its block does not lie beside the share of a token that the other shows.
-use Rattle.arcstr_block.proofs.WholeProofs.{◌≡◌, ℕ, List, [], ◌∷◌, refl, sym, ◌∙◌, length, dcons, dnil, a_type, named, Val, vptr, inst_fn, SProp, emp, Lft}
-use Rattle.arcstr_block.proofs.WholeProofs.{Share, Fml, ftrue, fsep, flft, fhide, finv, fshr_bor, ‵, raw, ◌⊛◌, later, given, await, ◌$◌, ◌∵◌, !, qed, by, move}
-use Rattle.arcstr_block.proofs.WholeProofs.{keep, drop, split, split3, join, fsplit, fsplit3, fjoin, fpick, use0, use1, use2, learn, of_opd, returns, enter}
-use Rattle.arcstr_block.proofs.WholeProofs.{alloc_all, pass_all, free_all, look_at, get, sets, tables, fact, fact_i, RefOf, yes, no, hidden_shr, unhide, param}
-use Rattle.arcstr_block.proofs.WholeProofs.{bounded, RattleType, owns, Ptr, block_of, shr_vals, shr_Tells, types_at, plain, nothing, heard, lent_out, Stays}
-use Rattle.arcstr_block.proofs.WholeProofs.{stay_dropped, walk_of, Goes-dropped, proved, leaves}
-use Rattle.std.proofs.Common.{◌≢◌}
-use Rattle.core.specs.contracts.marker.PhantomData as Marker
+use Rattle.std.proofs.Common.{◌≡◌, ℕ, List, [], ◌∷◌, refl, sym, ◌∙◌, length, ◌≢◌}
+use mir.Syntax.{dcons, dnil, a_type, named}
+use mir.Val.{Val, vptr}
+use mir.MapTy.{inst_fn}
+use base.Logic.{SProp, emp}
+use base.Fml.{Lft, Share, Fml, ftrue, fsep, flft, fhide, finv, fshr_bor}
+use types.Kit.{‵, raw, ◌⊛◌, later, given, await, ◌$◌, ◌∵◌, !, qed, by, move, keep, drop, split, split3, join, fsplit, fsplit3, fjoin, fpick, use0, use1, use2}
+use types.Kit.{learn}
+use types.Run.{of_opd, returns, enter}
+use types.ByLocal.{alloc_all, pass_all, free_all, look_at, get, sets}
+use contract.Running.{tables}
+use contract.Monad.{fact, fact_i}
+use denote.Builtin.{RefOf}
+use denote.Exit.{yes, no}
+use denote.Memory.{hidden_shr}
+use denote.Opens.{unhide}
+use denote.Param.{param, bounded}
+use denote.RattleType.{RattleType, owns}
+use denote.RawPtr.{Ptr, block_of}
+use denote.Ref.{shr_vals, shr_Tells}
+use denote.Signature.{types_at, plain}
+use denote.Steps.{nothing, heard}
+use denote.Struct.Lending.{lent_out}
+use denote.Triple.Walked.{Stays, stay_dropped, walk_of, Goes-dropped}
+use Rattle.atomic_table.proofs.Walks.{proved, leaves}
 use Rattle.arcstr_block.specs.Rights.{Right, MaySee, owed}
 use Rattle.arcstr_block.specs.Memory.{block_owns, block_shares, word_at}
 use Rattle.arcstr_block.specs.Ledger.{Inv, pointer_shares}
-use Rattle.arcstr_block.specs.contracts.pointer.Pointer as C
-use Rattle.arcstr_block.proofs.LoneBlocks.{Lent, not_lent}
-use Rattle.arcstr_block.proofs.TwoPointers.{away}
-use Rattle.arcstr_block.proofs.Fields.{pointer_val, typed, Words, told}
+use Rattle.arcstr_block.proofs.Blocks.{Lent, not_lent, away}
+use Rattle.arcstr_block.proofs.Pointers.{pointer_val, typed, Words, told}
 use Rattle.arcstr_block.proofs.Memory.{shares_laws}
-use Rattle.arcstr_block.proofs.Rights as rights
 use Rattle.arcstr_block.specs.contracts.pointer.Pointer.an_owed_block_has_no_reader.{ended, clauses}
 use Rattle.arcstr_block.specs.contracts.pointer.Pointer.an_owed_block_has_no_reader.Key.{name as #self}
 use Rattle.arcstr_block.proofs.pointer.Pointer.an_owed_block_has_no_reader.Statement.{statement}
+use Rattle.core.specs.contracts.marker.PhantomData as Marker
+use Rattle.arcstr_block.specs.contracts.pointer.Pointer as C
+use Rattle.arcstr_block.proofs.Rights as rights
 use Rattle.arcstr_block.proofs.pointer.Pointer.an_owed_block_has_no_reader.Code as code
 
 pub an_owed_block_has_no_reader_spec : {M : Type 1} → statement M

@@ -1,15 +1,34 @@
 -- `back` takes the whole block with its length, and ends the history of the block.
-use Rattle.arcstr_block.proofs.WholeProofs.{◌≡◌, ℕ, ◌+◌, ◌^◌, ◌<◌, List, [], ◌∷◌, ◌++◌, length, sym, refl, ap, arith, dcons, dnil, a_type, Val, vint, vstruct}
-use Rattle.arcstr_block.proofs.WholeProofs.{of_list, vptr, inst_fn, full_share, SProp, emp, via, Fml, ftrue, fsep, feq, ‵, raw, ◌⊛◌, later, ◌$◌, ◌∵◌, !, qed}
-use Rattle.arcstr_block.proofs.WholeProofs.{by, move, keep, drop, split, split3, join, fsplit, fsplit3, fjoin, fjoin3, fpick, fpack, use0, use1, use2, await}
-use Rattle.arcstr_block.proofs.WholeProofs.{rewrite, feq_i, flt_i, at_ret, stop, fld, load, of_opd, no_more, and_then, first, blocks, exec, returns, enter}
-use Rattle.arcstr_block.proofs.WholeProofs.{bin, alloc_all, pass_all, free_all, look_at, get, get_in, through, sets, sets_last, is, env, agg, sub, whole}
-use Rattle.arcstr_block.proofs.WholeProofs.{look_in, tables, fact, fact_i, no, yes, uint_vals, uint_Tells, RattleType, Valss, owns, usize, part_at, types_at}
-use Rattle.arcstr_block.proofs.WholeProofs.{plain, Ptr, InBlock, block_ptr, ptr_val, block_of, count_of, at_block, nothing, heard, param, bounded, alive}
-use Rattle.arcstr_block.proofs.WholeProofs.{Stays, stay_dropped, walk_of, Goes-dropped, word, tail, word_in, proved, leaves}
-use mir.Syntax.{w64}
+use Rattle.std.proofs.Common.{◌≡◌, ℕ, ◌+◌, ◌^◌, ◌<◌, List, [], ◌∷◌, ◌++◌, length, sym, refl, ap, arith, w64}
+use mir.Syntax.{dcons, dnil, a_type}
+use mir.Val.{Val, vint, vstruct, of_list, vptr}
+use mir.MapTy.{inst_fn}
+use base.Fraction.{full_share}
+use base.Logic.{SProp, emp, via}
+use base.Fml.{Fml, ftrue, fsep, feq}
+use types.Kit.{‵, raw, ◌⊛◌, later, ◌$◌, ◌∵◌, !, qed, by, move, keep, drop, split, split3, join, fsplit, fsplit3, fjoin, fjoin3, fpick, fpack, use0, use1, use2}
+use types.Kit.{await, rewrite, feq_i, flt_i, at_ret}
+use types.Run.{stop, fld, load, of_opd, no_more, and_then, first, blocks, exec, returns, enter, bin}
+use types.ByLocal.{alloc_all, pass_all, free_all, look_at, get, get_in, through, sets, sets_last, is, env}
+use types.Part.{agg, sub, whole, look_in}
+use contract.Running.{tables}
+use contract.Monad.{fact, fact_i}
+use denote.Exit.{no, yes}
+use denote.Plain.{uint_vals, uint_Tells}
+use denote.RattleType.{RattleType, Valss, owns}
+use denote.Builtin.{usize}
+use denote.Memory.{part_at}
+use denote.Signature.{types_at, plain}
+use denote.RawPtr.{Ptr, InBlock, block_ptr, ptr_val, block_of, count_of, at_block}
+use denote.Steps.{nothing, heard}
+use denote.Param.{param, bounded}
+use denote.Triple.Entry.{alive}
+use denote.Triple.Walked.{Stays, stay_dropped, walk_of, Goes-dropped}
+use Rattle.core.specs.Sync.RawAtomic.{word}
+use Rattle.core.proofs.atomic.Steps.{tail}
+use Rattle.core.proofs.tally.Steps.{word_in, word_out}
+use Rattle.atomic_table.proofs.Walks.{proved, leaves}
 use types.Owned.{basic}
-use Rattle.core.proofs.tally.Steps.{word_out}
 use Rattle.arcstr_count.specs.declared.steps.Step.TheVariants.{Back}
 use Rattle.arcstr_count.specs.declared.steps.HandleState.TheVariants.{Gone}
 use Rattle.arcstr_count.specs.declared.steps.Reply.TheVariants.{Given}
@@ -17,13 +36,13 @@ use Rattle.arcstr_block.specs.Rights.{owed, Right}
 use Rattle.arcstr_block.specs.Book.{Book, seat, Ends}
 use Rattle.arcstr_block.specs.Memory.{Fits, length_lies, block_owns, block_shares, word_offset}
 use Rattle.arcstr_block.specs.Ledger.{held_with}
-use Rattle.arcstr_block.specs.contracts.block.Sole as S
-use Rattle.arcstr_block.specs.contracts.pointer.Pointer as C
 use Rattle.arcstr_block.proofs.Book.{book_back}
-use Rattle.arcstr_block.proofs.Fields.{pointer_val, typed, measured_val, measured_typed, Words, told, made}
+use Rattle.arcstr_block.proofs.Pointers.{pointer_val, typed, measured_val, measured_typed, Words, told, made}
 use Rattle.arcstr_block.specs.contracts.pointer.Pointer.back.{ended, clauses}
 use Rattle.arcstr_block.specs.contracts.pointer.Pointer.back.Key.{name as #self}
 use Rattle.arcstr_block.proofs.pointer.Pointer.back.Statement.{statement}
+use Rattle.arcstr_block.specs.contracts.block.Sole as S
+use Rattle.arcstr_block.specs.contracts.pointer.Pointer as C
 use Rattle.arcstr_block.proofs.pointer.Pointer.back.Code as code
 
 pub back_spec : {M : Type 1} → statement M

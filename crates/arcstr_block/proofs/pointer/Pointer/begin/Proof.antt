@@ -1,20 +1,36 @@
 -- `begin` is one load. A drop goes on if it finds the word unmarked.
-use Rattle.arcstr_block.proofs.WholeProofs.{◌≡◌, ℕ, ◌+◌, [], ◌∷◌, sym, refl, ap, subst, if◌then◌else◌, lit<, length, arith, w64, ◌^◌, ◌<◌, dcons, dnil, a_type}
-use Rattle.arcstr_block.proofs.WholeProofs.{Val, vptr, vint, inst_fn, SProp, via, Lft, Fml, fsep, flft, finv, fex, ‵, raw, ◌⊛◌, later, mean, at_ret, ◌$◌, ◌∵◌}
-use Rattle.arcstr_block.proofs.WholeProofs.{ !, qed, by, move, keep, drop, split, fsplit, fsplit3, fjoin, fpick, use0, use1, use3, await, stop, fld, addr, lit}
-use Rattle.arcstr_block.proofs.WholeProofs.{of_opd, no_more, and_then, first, blocks, exec, Calls-last, returns, enter, bin, alloc_all, pass_all, free_all}
-use Rattle.arcstr_block.proofs.WholeProofs.{look_at, get, get_in, through, sets, lands_last, is, env, agg, sub, whole, tables, fact, yes, no, uint_vals}
-use Rattle.arcstr_block.proofs.WholeProofs.{uint_Tells, RattleType, Valss, owns, types_at, plain, Ptr, block_ptr, ptr_val, block_of, count_of, at_block}
-use Rattle.arcstr_block.proofs.WholeProofs.{nothing, heard, param, bounded, u64, usize, alive, Stays, stay_dropped, walk_of, Goes-dropped, tail, proved}
-use Rattle.arcstr_block.proofs.WholeProofs.{leaves, fm, seq_cst, found, finds, loads}
+use Rattle.std.proofs.Common.{◌≡◌, ℕ, ◌+◌, [], ◌∷◌, sym, refl, ap, subst, if◌then◌else◌, lit<, length, arith, w64, ◌^◌, ◌<◌}
+use mir.Syntax.{dcons, dnil, a_type}
+use mir.Val.{Val, vptr, vint}
+use mir.MapTy.{inst_fn}
+use base.Logic.{SProp, via}
+use base.Fml.{Lft, Fml, fsep, flft, finv, fex}
+use types.Kit.{‵, raw, ◌⊛◌, later, mean, at_ret, ◌$◌, ◌∵◌, qed, by, move, keep, drop, split, fsplit, fsplit3, fjoin, fpick, use0, use1, use3, await}
+use Rattle.arcstr_block.proofs.WholeProofs.{ !}
+use types.Run.{stop, fld, addr, lit, of_opd, no_more, and_then, first, blocks, exec, Calls-last, returns, enter, bin}
+use types.ByLocal.{alloc_all, pass_all, free_all, look_at, get, get_in, through, sets, lands_last, is, env}
+use types.Part.{agg, sub, whole}
+use contract.Running.{tables}
+use contract.Monad.{fact}
+use denote.Exit.{yes, no}
+use denote.Plain.{uint_vals, uint_Tells}
+use denote.RattleType.{RattleType, Valss, owns}
+use denote.Signature.{types_at, plain}
+use denote.RawPtr.{Ptr, block_ptr, ptr_val, block_of, count_of, at_block}
+use denote.Steps.{nothing, heard}
+use denote.Param.{param, bounded}
+use denote.Builtin.{u64, usize}
+use denote.Triple.Entry.{alive}
+use denote.Triple.Walked.{Stays, stay_dropped, walk_of, Goes-dropped}
+use Rattle.core.proofs.atomic.Steps.{tail}
+use Rattle.atomic_table.proofs.Walks.{proved, leaves}
+use Rattle.atomic_table.proofs.Calls.{fm, seq_cst, found, finds, loads}
 use Rattle.arcstr_block.specs.Word.{IsMarked, IsUnmarked}
 use Rattle.arcstr_block.specs.Rights.{IsFree, Begins, Right}
 use Rattle.arcstr_block.specs.Memory.{block_owns, block_shares, word_at, word_offset}
 use Rattle.arcstr_block.specs.Ledger.{Inv, right_to, free}
 use Rattle.arcstr_block.proofs.Memory.{shares_laws}
-use Rattle.arcstr_block.specs.contracts.pointer.Pointer as C
-use Rattle.arcstr_block.proofs.Fields.{pointer_val, typed, found_val, found_typed, Words, told}
-use Rattle.arcstr_block.proofs.StepFrames as framed
+use Rattle.arcstr_block.proofs.Pointers.{pointer_val, typed, found_val, found_typed, Words, told}
 use Rattle.arcstr_count.specs.declared.steps.HandleState.TheVariants.{Free}
 use Rattle.arcstr_count.specs.declared.steps.Step.TheVariants.{Begin}
 use Rattle.arcstr_count.specs.declared.steps.Reply.TheVariants.{Ended, Looked}
@@ -23,11 +39,13 @@ use Rattle.arcstr_count.specs.OneBlock.{EndsIn}
 use Rattle.arcstr_block.specs.Book.{seat, Ends}
 use Rattle.arcstr_block.proofs.Book.{book_begin, begun, begin_reply}
 use Rattle.arcstr_block.proofs.Words.{marked_word, unmarked_word}
-use Rattle.arcstr_block.proofs.Rights as rights
-use Rattle.arcstr_block.proofs.Steps as steps
 use Rattle.arcstr_block.specs.contracts.pointer.Pointer.begin.{ended, clauses}
 use Rattle.arcstr_block.specs.contracts.pointer.Pointer.begin.Key.{name as #self}
 use Rattle.arcstr_block.proofs.pointer.Pointer.begin.Statement.{statement}
+use Rattle.arcstr_block.specs.contracts.pointer.Pointer as C
+use Rattle.arcstr_block.proofs.Pointers as framed
+use Rattle.arcstr_block.proofs.Rights as rights
+use Rattle.arcstr_block.proofs.Steps as steps
 use Rattle.arcstr_block.proofs.pointer.Pointer.begin.Code as code
 
 pub begin_spec : {M : Type 1} → statement M

@@ -1,28 +1,48 @@
 -- `bytes` shows the bytes of the text, for as long as the pointer is borrowed.
-use Rattle.arcstr_block.proofs.WholeProofs.{◌≡◌, ℕ, ◌^◌, ◌<◌, List, [], ◌∷◌, length, w64, arith, sym, refl, ap, ◌∙◌, dcons, dnil, a_type, named, Val, vint}
-use Rattle.arcstr_block.proofs.WholeProofs.{vptr, WT, inst_fn, SProp, emp, Lft, Share, Fml, ftrue, fsep, flft, fhide, finv, fshr_bor, ‵, raw, ◌⊛◌, at_ret, ◌$◌}
-use Rattle.arcstr_block.proofs.WholeProofs.{◌∵◌, !, qed, by, move, keep, drop, split, split3, join, fsplit, fjoin, fpick, use0, use1, use2, rewrite, feq_i}
-use Rattle.arcstr_block.proofs.WholeProofs.{flt_i, stop, fld, of_opd, no_more, and_then, first, blocks, exec, returns, enter, load, alloc_all, pass_all}
-use Rattle.arcstr_block.proofs.WholeProofs.{free_all, look_at, get, through, sets, sets_last, env, agg, sub, whole, look_in, tables, fact, fact_i, yes}
-use Rattle.arcstr_block.proofs.WholeProofs.{RattleType, owns, types_at, plain, Ptr, block_ptr, block_of, count_of, at_block, nothing, peeks, heard, looks}
-use Rattle.arcstr_block.proofs.WholeProofs.{shuts, unhide, Is, shows, cell_at, hidden_shr, param, bounded, Array, RefOf, u8, usize, uint_vals, uint_Tells}
-use Rattle.arcstr_block.proofs.WholeProofs.{slice_val, shr_vals, shr_Tells, lent_out, Stays, stay_dropped, walk_of, Goes-dropped, tail, proved, leaves, IsUtf8}
-use Rattle.std.proofs.Common.{◌*◌}
-use denote.Opens.{hide}
+use Rattle.std.proofs.Common.{◌≡◌, ℕ, ◌^◌, ◌<◌, List, [], ◌∷◌, length, w64, arith, sym, refl, ap, ◌∙◌, ◌*◌}
+use mir.Syntax.{dcons, dnil, a_type, named}
+use mir.Val.{Val, vint, vptr, WT}
+use mir.MapTy.{inst_fn}
+use base.Logic.{SProp, emp}
+use base.Fml.{Lft, Share, Fml, ftrue, fsep, flft, fhide, finv, fshr_bor}
+use types.Kit.{‵, raw, ◌⊛◌, at_ret, ◌$◌, ◌∵◌, !, qed, by, move, keep, drop, split, split3, join, fsplit, fjoin, fpick, use0, use1, use2, rewrite, feq_i, flt_i}
+use types.Run.{stop, fld, of_opd, no_more, and_then, first, blocks, exec, returns, enter, load}
+use types.ByLocal.{alloc_all, pass_all, free_all, look_at, get, through, sets, sets_last, env}
+use types.Part.{agg, sub, whole, look_in}
+use contract.Running.{tables}
+use contract.Monad.{fact, fact_i}
+use denote.Exit.{yes}
+use denote.RattleType.{RattleType, owns}
+use denote.Signature.{types_at, plain}
+use denote.RawPtr.{Ptr, block_ptr, block_of, count_of, at_block}
+use denote.Steps.{nothing, peeks, heard, looks, shuts}
+use denote.Opens.{unhide, hide}
+use denote.Laws.{Is, shows}
+use denote.Memory.{cell_at, hidden_shr}
+use denote.Param.{param, bounded}
+use denote.Array.{Array}
+use denote.Builtin.{RefOf, u8, usize}
+use denote.Plain.{uint_vals, uint_Tells}
+use denote.Slice.{slice_val}
+use denote.Ref.{shr_vals, shr_Tells}
+use denote.Struct.Lending.{lent_out, lent_at}
+use denote.Triple.Walked.{Stays, stay_dropped, walk_of, Goes-dropped}
+use Rattle.core.proofs.atomic.Steps.{tail}
+use Rattle.atomic_table.proofs.Walks.{proved, leaves}
+use Rattle.std.specs.Prelude.{IsUtf8}
 use denote.Moves.{moves_from}
 use contract.BorrowLft.{meet_⊑_left}
-use denote.Struct.Lending.{lent_at}
-use Rattle.core.specs.contracts.marker.PhantomData as Marker
 use Rattle.arcstr_block.specs.Rights.{MaySee, Right}
 use Rattle.arcstr_block.specs.Memory.{block_owns, block_shares, word_at}
 use Rattle.arcstr_block.specs.Ledger.{Inv, pointer_shares}
 use Rattle.arcstr_block.proofs.Memory.{shares_laws}
-use Rattle.arcstr_block.proofs.Rights as rights
-use Rattle.arcstr_block.specs.contracts.pointer.Pointer as C
-use Rattle.arcstr_block.proofs.Fields.{pointer_val, Words, told, opened}
+use Rattle.arcstr_block.proofs.Pointers.{pointer_val, Words, told, opened}
 use Rattle.arcstr_block.specs.contracts.pointer.Pointer.bytes.{ended, clauses}
 use Rattle.arcstr_block.specs.contracts.pointer.Pointer.bytes.Key.{name as #self}
 use Rattle.arcstr_block.proofs.pointer.Pointer.bytes.Statement.{statement}
+use Rattle.core.specs.contracts.marker.PhantomData as Marker
+use Rattle.arcstr_block.proofs.Rights as rights
+use Rattle.arcstr_block.specs.contracts.pointer.Pointer as C
 use Rattle.arcstr_block.proofs.pointer.Pointer.bytes.Code as code
 
 pub bytes_spec : {M : Type 1} → statement M

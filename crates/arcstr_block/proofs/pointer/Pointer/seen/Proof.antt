@@ -1,22 +1,42 @@
 -- `seen` returns what the pointer knows of the history, which is permanent.
-use Rattle.arcstr_block.proofs.WholeProofs.{◌≡◌, ℕ, [], ◌∷◌, refl, length, dcons, dnil, a_type, named, Val, vptr, inst_fn, SProp, emp, Lft, Share, Fml, ftrue}
-use Rattle.arcstr_block.proofs.WholeProofs.{fsep, flft, fhide, ‵, raw, ◌⊛◌, ◌$◌, ◌∵◌, !, qed, by, move, keep, drop, split, join, fsplit, fjoin, fpick, use0}
-use Rattle.arcstr_block.proofs.WholeProofs.{use1, rewrite, no_more, and_then, returns, enter, alloc_all, pass_all, free_all, look_at, get, sets, agg, tables}
-use Rattle.arcstr_block.proofs.WholeProofs.{fact, fact_i, yes, RattleType, owns, types_at, plain, Ptr, block_of, nothing, unhide, hidden_shr, param, bounded}
-use Rattle.arcstr_block.proofs.WholeProofs.{RefOf, unit, shr_vals, shr_Tells, lent_out, Stays, stay_dropped, walk_of, Goes-dropped, proved, leaves, Token}
-use Rattle.core.specs.contracts.marker.PhantomData as Marker
+use Rattle.std.proofs.Common.{◌≡◌, ℕ, [], ◌∷◌, refl, length}
+use mir.Syntax.{dcons, dnil, a_type, named}
+use mir.Val.{Val, vptr}
+use mir.MapTy.{inst_fn}
+use base.Logic.{SProp, emp}
+use base.Fml.{Lft, Share, Fml, ftrue, fsep, flft, fhide}
+use types.Kit.{‵, raw, ◌⊛◌, ◌$◌, ◌∵◌, !, qed, by, move, keep, drop, split, join, fsplit, fjoin, fpick, use0, use1, rewrite}
+use types.Run.{no_more, and_then, returns, enter}
+use types.ByLocal.{alloc_all, pass_all, free_all, look_at, get, sets}
+use types.Part.{agg}
+use contract.Running.{tables}
+use contract.Monad.{fact, fact_i}
+use denote.Exit.{yes}
+use denote.RattleType.{RattleType, owns}
+use denote.Signature.{types_at, plain}
+use denote.RawPtr.{Ptr, block_of}
+use denote.Steps.{nothing}
+use denote.Opens.{unhide}
+use denote.Memory.{hidden_shr}
+use denote.Param.{param, bounded}
+use denote.Builtin.{RefOf, unit}
+use denote.Ref.{shr_vals, shr_Tells}
+use denote.Struct.Lending.{lent_out}
+use denote.Triple.Walked.{Stays, stay_dropped, walk_of, Goes-dropped}
+use Rattle.atomic_table.proofs.Walks.{proved, leaves}
+use Rattle.logbook.proofs.Fields.{Token, token, token_made}
 use Rattle.arcstr_block.specs.Rights.{Right}
 use Rattle.arcstr_block.specs.Memory.{block_owns, block_shares, word_at}
 use Rattle.arcstr_block.specs.Ledger.{pointer_shares}
 use Rattle.arcstr_block.proofs.Memory.{shares_laws}
-use Rattle.arcstr_block.specs.contracts.pointer.Pointer as C
-use Rattle.arcstr_block.specs.contracts.seen.Seen as Seen
 use Rattle.arcstr_block.specs.Book.{BlockName, reached}
-use Rattle.logbook.proofs.Fields.{token, token_made}
-use Rattle.arcstr_block.proofs.Fields.{Words}
+use Rattle.arcstr_block.proofs.Pointers.{Words}
 use Rattle.arcstr_block.specs.contracts.pointer.Pointer.seen.{ended, clauses}
 use Rattle.arcstr_block.specs.contracts.pointer.Pointer.seen.Key.{name as #self}
 use Rattle.arcstr_block.proofs.pointer.Pointer.seen.Statement.{statement}
+use Rattle.core.specs.contracts.marker.PhantomData as Marker
+use Rattle.arcstr_block.specs.contracts.pointer.Pointer as C
+use Rattle.arcstr_block.specs.contracts.seen.Seen as Seen
 use Rattle.arcstr_block.proofs.pointer.Pointer.seen.Code as code
 
 pub seen_spec : {M : Type 1} → statement M

@@ -1,21 +1,35 @@
 -- `sub` is one fetch-sub. The last one has the word and what the block owns.
-use Rattle.arcstr_block.proofs.WholeProofs.{◌≡◌, ℕ, ◌+◌, [], ◌∷◌, sym, refl, ap, subst, if◌then◌else◌, lit<, w64, length, arith, ◌^◌, ◌<◌, dcons, dnil, a_type}
-use Rattle.arcstr_block.proofs.WholeProofs.{Val, vint, vptr, inst_fn, SProp, via, Lft, Fml, ftrue, fsep, finv, fex, ‵, raw, ◌⊛◌, later, mean, at_ret, ◌$◌, ◌∵◌}
-use Rattle.arcstr_block.proofs.WholeProofs.{ !, qed, by, move, keep, drop, split, fsplit, fsplit3, fjoin, fpick, use0, use1, use3, await, rewrite, stop, fld}
-use Rattle.arcstr_block.proofs.WholeProofs.{addr, lit, of_opd, no_more, and_then, first, blocks, exec, Calls-last, returns, enter, bin, alloc_all, pass_all}
-use Rattle.arcstr_block.proofs.WholeProofs.{free_all, look_at, get, get_in, through, sets, lands_last, is, env, agg, sub, whole, tables, fact, yes, no}
-use Rattle.arcstr_block.proofs.WholeProofs.{uint_vals, uint_Tells, RattleType, Valss, owns, types_at, plain, Ptr, block_ptr, ptr_val, block_of, count_of}
-use Rattle.arcstr_block.proofs.WholeProofs.{at_block, nothing, heard, param, bounded, u64, usize, alive, Stays, stay_dropped, walk_of, Goes-dropped, tail}
-use Rattle.arcstr_block.proofs.WholeProofs.{proved, leaves, fm, seq_cst, found, finds}
-use Rattle.atomic_table.proofs.Calls.{subs}
+use Rattle.std.proofs.Common.{◌≡◌, ℕ, ◌+◌, [], ◌∷◌, sym, refl, ap, subst, if◌then◌else◌, lit<, w64, length, arith, ◌^◌, ◌<◌, ◌≢◌}
+use mir.Syntax.{dcons, dnil, a_type}
+use mir.Val.{Val, vint, vptr}
+use mir.MapTy.{inst_fn}
+use base.Logic.{SProp, via}
+use base.Fml.{Lft, Fml, ftrue, fsep, finv, fex}
+use types.Kit.{‵, raw, ◌⊛◌, later, mean, at_ret, ◌$◌, ◌∵◌, qed, by, move, keep, drop, split, fsplit, fsplit3, fjoin, fpick, use0, use1, use3, await, rewrite}
+use Rattle.arcstr_block.proofs.WholeProofs.{ !}
+use types.Run.{stop, fld, addr, lit, of_opd, no_more, and_then, first, blocks, exec, Calls-last, returns, enter, bin}
+use types.ByLocal.{alloc_all, pass_all, free_all, look_at, get, get_in, through, sets, lands_last, is, env}
+use types.Part.{agg, sub, whole}
+use contract.Running.{tables}
+use contract.Monad.{fact}
+use denote.Exit.{yes, no}
+use denote.Plain.{uint_vals, uint_Tells}
+use denote.RattleType.{RattleType, Valss, owns}
+use denote.Signature.{types_at, plain}
+use denote.RawPtr.{Ptr, block_ptr, ptr_val, block_of, count_of, at_block}
+use denote.Steps.{nothing, heard}
+use denote.Param.{param, bounded}
+use denote.Builtin.{u64, usize}
+use denote.Triple.Entry.{alive}
+use denote.Triple.Walked.{Stays, stay_dropped, walk_of, Goes-dropped}
+use Rattle.core.proofs.atomic.Steps.{tail}
+use Rattle.atomic_table.proofs.Walks.{proved, leaves}
+use Rattle.atomic_table.proofs.Calls.{fm, seq_cst, found, finds, subs}
 use Rattle.arcstr_block.specs.Rights.{dropping, Leaves, Right}
-use Rattle.std.specs.Prelude.{◌≢◌}
 use Rattle.arcstr_block.specs.Memory.{block_owns, block_shares, word_at, word_offset}
 use Rattle.arcstr_block.specs.Ledger.{Inv, held_with, right_to}
 use Rattle.arcstr_block.proofs.Memory.{shares_laws}
-use Rattle.arcstr_block.specs.contracts.pointer.Pointer as C
-use Rattle.arcstr_block.proofs.Fields.{pointer_val, typed, found_val, found_typed, Words, told}
-use Rattle.arcstr_block.proofs.StepFrames as framed
+use Rattle.arcstr_block.proofs.Pointers.{pointer_val, typed, found_val, found_typed, Words, told}
 use Rattle.arcstr_count.specs.declared.steps.HandleState.TheVariants.{Dropping}
 use Rattle.arcstr_count.specs.declared.steps.Step.TheVariants.{Sub}
 use Rattle.arcstr_count.specs.declared.steps.Reply.TheVariants.{Owes, Left}
@@ -23,12 +37,13 @@ use Rattle.arcstr_count.specs.OneBlock.{EndsIn}
 use Rattle.arcstr_block.specs.Book.{seat, Ends}
 use Rattle.arcstr_block.proofs.Book.{book_sub, left_in, sub_reply}
 use Rattle.arcstr_block.proofs.Words.{one_less, last_two, not_last}
-use Rattle.arcstr_block.proofs.Rights as rights
-use Rattle.arcstr_block.proofs.Steps as steps
-use Rattle.arcstr_block.proofs.WordChanges as changes
 use Rattle.arcstr_block.specs.contracts.pointer.Pointer.sub.{ended, clauses}
 use Rattle.arcstr_block.specs.contracts.pointer.Pointer.sub.Key.{name as #self}
 use Rattle.arcstr_block.proofs.pointer.Pointer.sub.Statement.{statement}
+use Rattle.arcstr_block.specs.contracts.pointer.Pointer as C
+use Rattle.arcstr_block.proofs.Pointers as framed
+use Rattle.arcstr_block.proofs.Rights as rights
+use Rattle.arcstr_block.proofs.Steps as steps
 use Rattle.arcstr_block.proofs.pointer.Pointer.sub.Code as code
 
 pub sub_spec : {M : Type 1} → statement M
@@ -65,10 +80,10 @@ sub_spec 𝓤 𝓛 𝓜 𝓡 wired Y K g d dd met md =
     sets ! (of_opd ! (get_in ! (fld ! refl (stop !)) (sub ! 1 refl (whole !)))) refl (tt, tt) $
     let said : ℕ → Fml = λ n. fsep (seat t.name.seats h.seat (left_in 𝓛 lim t.name.history t.name.seats n)) (Ends lim t.name.history t.name.seats
     (Sub h.seat) (sub_reply 𝓛 lim t.name.history t.name.seats n)) in
-    let after : ℕ → Fml = steps.all_after 𝓛 P lim pb po t one_less (changes.Left 𝓛 P lim pb po t)
-    (changes.One 𝓛 P lim pb po t) ftrue said in
+    let after : ℕ → Fml = steps.all_after 𝓛 P lim pb po t one_less (steps.Left 𝓛 P lim pb po t)
+    (steps.One 𝓛 P lim pb po t) ftrue said in
     use3 𝓛 (raw (𝓣.C _ (vptr pb po ∷ vint w64 2 ∷ seq_cst ∷ []) (λ r. mean 𝓛 (found after r))))
-    (via 𝓤 _ (changes.leaves_it 𝓛 P lim pb po t (seat t.name.seats h.seat Dropping) said (λ n fits.
+    (via 𝓤 _ (steps.leaves_it 𝓛 P lim pb po t (seat t.name.seats h.seat Dropping) said (λ n fits.
     book_sub 𝓛 lim t.name.history t.name.seats n h.seat fits)) (subs 𝓛 𝓜 𝓡 (code.calls-core::raw_atomic::fetch_sub 𝓡.env wired) (block_ptr pb po) 2
     (lit< tt) after)) $
     first ! $ blocks ! $ sets ! (is ! (bin ! (get ! refl) (get ! refl) tt) (ap (vptr pb) there)) refl (tt, tt) $

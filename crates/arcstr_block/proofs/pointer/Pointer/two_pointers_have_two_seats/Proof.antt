@@ -1,16 +1,32 @@
 -- `two_pointers_have_two_seats` returns both pointers: it does nothing.
-use Rattle.arcstr_block.proofs.WholeProofs.{◌≡◌, List, [], ◌∷◌, ◌++◌, refl, dcons, dnil, a_type, Val, vstruct, of_list, inst_fn, SProp, emp, fsep, feq, ‵, raw}
-use Rattle.arcstr_block.proofs.WholeProofs.{◌⊛◌, later, given, await, ◌$◌, ◌∵◌, !, qed, by, move, keep, split, join, learn, fsplit3, fjoin, fjoin3, fpack}
-use Rattle.arcstr_block.proofs.WholeProofs.{use0, use2, feq_i, of_opd, no_more, and_then, returns, enter, alloc_all, pass_all, free_all, look_at, get, sets}
-use Rattle.arcstr_block.proofs.WholeProofs.{agg, tables, fact, fact_i, no, RattleType, Valss, owns, types_at, plain, Ptr, nothing, heard, param, bounded}
-use Rattle.arcstr_block.proofs.WholeProofs.{alive, Stays, stay_dropped, walk_of, Goes-dropped, proved, leaves}
+use Rattle.std.proofs.Common.{◌≡◌, List, [], ◌∷◌, ◌++◌, refl}
+use mir.Syntax.{dcons, dnil, a_type}
+use mir.Val.{Val, vstruct, of_list}
+use mir.MapTy.{inst_fn}
+use base.Logic.{SProp, emp}
+use base.Fml.{fsep, feq}
+use types.Kit.{‵, raw, ◌⊛◌, later, given, await, ◌$◌, ◌∵◌, !, qed, by, move, keep, split, join, learn, fsplit3, fjoin, fjoin3, fpack, use0, use2, feq_i}
+use types.Run.{of_opd, no_more, and_then, returns, enter}
+use types.ByLocal.{alloc_all, pass_all, free_all, look_at, get, sets}
+use types.Part.{agg}
+use contract.Running.{tables}
+use contract.Monad.{fact, fact_i}
+use denote.Exit.{no}
+use denote.RattleType.{RattleType, Valss, owns}
+use denote.Signature.{types_at, plain}
+use denote.RawPtr.{Ptr}
+use denote.Steps.{nothing, heard}
+use denote.Param.{param, bounded}
+use denote.Triple.Entry.{alive}
+use denote.Triple.Walked.{Stays, stay_dropped, walk_of, Goes-dropped}
+use Rattle.atomic_table.proofs.Walks.{proved, leaves}
 use Rattle.arcstr_block.specs.Rights.{HasSeat}
-use Rattle.arcstr_block.specs.contracts.pointer.Pointer as C
-use Rattle.arcstr_block.proofs.Fields.{pointer_val, typed, two_val, two_typed, told}
-use Rattle.arcstr_block.proofs.TwoPointers.{Apart, OwesAnother, Distinct, are_apart}
+use Rattle.arcstr_block.proofs.Pointers.{pointer_val, typed, two_val, two_typed, told}
+use Rattle.arcstr_block.proofs.Blocks.{Apart, OwesAnother, Distinct, are_apart}
 use Rattle.arcstr_block.specs.contracts.pointer.Pointer.two_pointers_have_two_seats.{ended, clauses}
 use Rattle.arcstr_block.specs.contracts.pointer.Pointer.two_pointers_have_two_seats.Key.{name as #self}
 use Rattle.arcstr_block.proofs.pointer.Pointer.two_pointers_have_two_seats.Statement.{statement}
+use Rattle.arcstr_block.specs.contracts.pointer.Pointer as C
 use Rattle.arcstr_block.proofs.pointer.Pointer.two_pointers_have_two_seats.Code as code
 
 pub two_pointers_have_two_seats_spec : {M : Type 1} → statement M

@@ -1,18 +1,36 @@
 -- `agree` does nothing: what two `&` to a `Seen` hold proves its law.
-use Rattle.arcstr_block.proofs.WholeProofs.{◌≡◌, ℕ, List, [], ◌∷◌, length, refl, ap, named, Val, vunit, vptr, SProp, emp, GName, fhide, ‵, raw, ◌⊛◌, ◌$◌, ◌∵◌}
-use Rattle.arcstr_block.proofs.WholeProofs.{ !, qed, by, move, keep, drop, split, join, fsplit, fsplit3, fjoin, use0, use1, use2, feq_i, unit_lit, of_opd}
-use Rattle.arcstr_block.proofs.WholeProofs.{returns, enter, alloc_all, pass_all, free_all, look_at, sets, tables, fact, fact_i, yes, RattleType, owns}
-use Rattle.arcstr_block.proofs.WholeProofs.{types_at, plain, nothing, heard, unhide, hidden_shr, RefOf, unit, shr_vals, shr_Tells, lent_out, alive, Stays}
-use Rattle.arcstr_block.proofs.WholeProofs.{stay_dropped, walk_of, Goes-dropped, proved, leaves, Token}
-use Rattle.std.proofs.Common.{◌≤◌}
-use Rattle.core.specs.contracts.marker.PhantomData as Marker
+use Rattle.std.proofs.Common.{◌≡◌, ℕ, List, [], ◌∷◌, length, refl, ap, ◌≤◌}
+use mir.Syntax.{named}
+use mir.Val.{Val, vunit, vptr}
+use base.Logic.{SProp, emp}
+use base.Fml.{GName, fhide}
+use types.Kit.{‵, raw, ◌⊛◌, ◌$◌, ◌∵◌, qed, by, move, keep, drop, split, join, fsplit, fsplit3, fjoin, use0, use1, use2, feq_i}
+use Rattle.arcstr_block.proofs.WholeProofs.{ !}
+use types.Run.{unit_lit, of_opd, returns, enter}
+use types.ByLocal.{alloc_all, pass_all, free_all, look_at, sets}
+use contract.Running.{tables}
+use contract.Monad.{fact, fact_i}
+use denote.Exit.{yes}
+use denote.RattleType.{RattleType, owns}
+use denote.Signature.{types_at, plain}
+use denote.Steps.{nothing, heard}
+use denote.Opens.{unhide}
+use denote.Memory.{hidden_shr}
+use denote.Builtin.{RefOf, unit}
+use denote.Ref.{shr_vals, shr_Tells}
+use denote.Struct.Lending.{lent_out}
+use denote.Triple.Entry.{alive}
+use denote.Triple.Walked.{Stays, stay_dropped, walk_of, Goes-dropped}
+use Rattle.atomic_table.proofs.Walks.{proved, leaves}
+use Rattle.logbook.proofs.Fields.{Token}
 use Rattle.arcstr_block.specs.Book.{BlockName, reached}
 use mathlib.Core.List.{IsPrefix}
-use Rattle.arcstr_block.specs.contracts.seen.Seen as C
-use Rattle.arcstr_block.proofs.HistoryOrder.{Agrees, agree}
+use Rattle.arcstr_block.proofs.Histories.{Agrees, agree}
 use Rattle.arcstr_block.specs.contracts.seen.Seen.agree.{ended, clauses}
 use Rattle.arcstr_block.specs.contracts.seen.Seen.agree.Key.{name as #self}
 use Rattle.arcstr_block.proofs.seen.Seen.agree.Statement.{statement}
+use Rattle.core.specs.contracts.marker.PhantomData as Marker
+use Rattle.arcstr_block.specs.contracts.seen.Seen as C
 use Rattle.arcstr_block.proofs.seen.Seen.agree.Code as code
 
 pub agree_spec : {M : Type 1} → statement M
