@@ -1,45 +1,23 @@
 -- The beginning of a block; that its book has one owner; and what follows for two pointers: two seats of one block have two owners, and a block that
 -- is owed has no other pointer that has a seat or may read. Assumes `Logic`.
-use Rattle.std.proofs.Common.{◌≡◌, ℕ, ◌-◌, ◌^◌, Bool, true, [], ◌∷◌, refl, arith, lit<, false, List, sym, subst, inl, inr, ◌≢◌, ap, length}
-use seplogic.Ra.Ura.{Ura}
-use base.Fraction.{full_share}
-use base.FractionLaws.{Counts-all, not-OpDef-full_share}
-use base.Logic.{SProp, ent, sep, wand, emp, via, all_i, upd, never, never_e, guard, guard_i}
-use base.Fml.{Lft, Share, Incl, Incl-trans, Fml, fsep, fex, flft, finv, GName, fdead, fshr_bor}
-use contract.BorrowLft.{meet_⊑_left, meet_⊑_right}
-use types.Logic.{Logic, sem}
-use types.Kit.{‵, ◌⊛◌, some, later, ◌$◌, ◌∵◌, !, qed, move, group, pick, use0, use1, use2, split, split3, join, fsplit, fjoin, fjoin3, fpick, fpack, await}
-use types.Kit.{updating, now, done, raw, by, keep, fsplit3, assume, given, drop, learn, check, rewrite}
-use types.Tokens.{lft_new, bor_new, shr_bor-open}
-use denote.Struct.Lending.{Lends}
-use Rattle.core.specs.Sync.RawAtomic.{word}
-use Rattle.arcstr_block.specs.Word.{IsLimit}
-use Rattle.arcstr_block.specs.Rights.{uncounted, counted, HasSeat, Right, dropping, owed}
-use Rattle.arcstr_block.specs.Book.{BlockName, Book, reached, seat, steps}
-use Rattle.arcstr_block.specs.Ledger.{Id, parts, unmarked, Ledger, counting, if_alive, Inv, knows, free, held_with, fact}
-use Rattle.arcstr_count.specs.declared.steps.Step.TheVariants.{Make}
-use Rattle.arcstr_count.specs.declared.steps.HandleState.TheVariants.{Free}
+use Rattle.arcstr_block.proofs.Names.{◌≡◌, ℕ, ◌-◌, ◌^◌, Bool, true, [], ◌∷◌, refl, arith, lit<, false, List, sym, subst, inl, inr, ◌≢◌, ap, length, ℕ_discrete}
+use Rattle.arcstr_block.proofs.Names.{Ura, Val, Lft, Share, Incl, Incl-trans, Fml, fsep, fex, flft, finv, GName, fdead, fshr_bor, full_share, Counts-all}
+use Rattle.arcstr_block.proofs.Names.{not-OpDef-full_share, growing, latest, emp, via, all_i, upd, never, never_e, guard, guard_i, meet_⊑_left, meet_⊑_right}
+use Rattle.arcstr_block.proofs.Names.{RattleType, block_of, ShrLaws, nothing, Lends, ‵, ◌⊛◌, some, later, ◌$◌, ◌∵◌, !, qed, move, group, pick, use0, use1, use2}
+use Rattle.arcstr_block.proofs.Names.{split, split3, join, fsplit, fjoin, fjoin3, fpick, fpack, await, updating, now, done, raw, by, keep, fsplit3, assume}
+use Rattle.arcstr_block.proofs.Names.{given, drop, learn, check, rewrite, Logic, basic, own_sum, lft_new, bor_new, shr_bor-open, tokens_halve, word, Ghosts}
+use Rattle.arcstr_block.proofs.Names.{Free, Step, Make, BlockName, Book, reached, seat, steps, Id, parts, unmarked, Ledger, counting, if_alive, Inv, knows}
+use Rattle.arcstr_block.proofs.Names.{free, held_with, block_owns, block_shares, word_at, uncounted, counted, HasSeat, Right, dropping, owed, IsLimit}
+use Rattle.arcstr_block.proofs.Names.{operators}
+use Rattle.arcstr_block.specs.Ledger.{fact}
 use Rattle.arcstr_block.proofs.Book.{book_new, one_owner}
 use Rattle.arcstr_block.proofs.Sharing.{free_in}
-use denote.Steps.{nothing}
-use denote.Sharing.{ShrLaws}
-use types.Owned.{basic, own_sum}
 use Rattle.arcstr_block.proofs.Ledger.{parts_in, parts_cut, phase_in}
-use Rattle.arcstr_block.proofs.Operators.{operators}
-use base.Growing.{growing, latest}
-use types.Within.{tokens_halve}
-use Rattle.arcstr_count.specs.declared.steps.Step.{Step}
 use Rattle.arcstr_block.proofs.Rights.{by_free, has_seat, seat_state}
-use native.Mathlib.Decide.{ℕ_discrete}
-use mir.Val.{Val}
-use denote.RattleType.{RattleType}
-use denote.RawPtr.{block_of}
-use Rattle.core.specs.declared.alloc.Allocator.{Ghosts}
 use Rattle.arcstr_block.proofs.Words.{is_right}
-use Rattle.arcstr_block.specs.Memory.{block_owns, block_shares, word_at}
 use Rattle.arcstr_block.proofs.Memory.{shares_laws}
-use Rattle.arcstr_block.specs.contracts.pointer.Pointer as C
 use mathlib.Core.Option.{some as present}
+use Rattle.arcstr_block.specs.contracts.pointer.Pointer as C
 
 same_or_not : (m n : BlockName) → Dec (m ≡ n)
 same_or_not m n = by_parts (ℕ_discrete m.history n.history) (ℕ_discrete m.seats n.seats)
@@ -51,7 +29,7 @@ same_or_not m n = by_parts (ℕ_discrete m.history n.history) (ℕ_discrete m.se
 
 module _ {M : Type 1} {𝓤 : Ura M} (𝓛 : Logic 𝓤) where
   open 𝓛 use {H, A}
-  open operators 𝓛 use {Pr, entails as ◌⊢◌, both as ◌∗◌, wand as ◌-∗◌, meaning as ⟦◌⟧}
+  open operators 𝓛 use {Pr, entails as ◌⊢◌, both as ◌∗◌, gives as ◌-∗◌, meaning as ⟦◌⟧}
 
   infix 26 ◌⊢◌
   infixr 35 ◌∗◌

@@ -1,45 +1,26 @@
 -- The book of a block: the seats of its handles, and the history, which each step extends by exactly that step. Assumes `Logic`.
-use Rattle.std.proofs.Common.{◌≡◌, ℕ, zero, suc, ◌+◌, ◌<◌, List, [], ◌∷◌, ◌++◌, length, set, sym, refl, ap, subst, arith, Some, ◌-◌, ◌/◌, ◌%◌, ◌^◌, Bool, true}
-use Rattle.std.proofs.Common.{false, if◌then◌else◌, ◌∙◌, lit<, ◌≢◌, eqb, inl, inr, eq-eqb, ne_eqb}
-use Rattle.std.specs.Prelude.{slice_get, bit_or}
+use Rattle.arcstr_block.proofs.Names.{◌≡◌, ℕ, ◌-◌, ◌^◌, Bool, true, [], ◌∷◌, refl, arith, lit<, false, List, sym, subst, inl, inr, ◌≢◌, ap, length, zero, suc}
+use Rattle.arcstr_block.proofs.Names.{◌+◌, ◌<◌, ◌++◌, set, Some, ◌/◌, ◌%◌, if◌then◌else◌, ◌∙◌, eqb, eq-eqb, ne_eqb, slice_get, bit_or, dite, ℕ_discrete, Ura}
+use Rattle.arcstr_block.proofs.Names.{either, Share, Fml, fex, GName, ftrue, fall, full_share, not-OpDef-full_share, latest, emp, via, all_i, upd, guard}
+use Rattle.arcstr_block.proofs.Names.{guard_i, SProp, ent, sep, ex, all, all_e, guard_e, upd_i, upd_mono, ex_e, id⊢, quarter, three_quarters}
+use Rattle.arcstr_block.proofs.Names.{three_quarters_once, nothing, latest_new, latest_grows, latest_shows, at_least_dup, entry, entries_take, entries_beside}
+use Rattle.arcstr_block.proofs.Names.{entry_cut, entry_glue, entry_set, entries_new, ‵, ◌⊛◌, some, ◌$◌, ◌∵◌, !, qed, move, pick, use0, use1, use2, split}
+use Rattle.arcstr_block.proofs.Names.{split3, join, fjoin, fjoin3, fpick, fpack, done, raw, by, keep, fsplit3, given, drop, learn, check, rewrite, suffices}
+use Rattle.arcstr_block.proofs.Names.{settle, show, Logic, itself, halved, unused, roster, Keeps, EndsIn, look_reply, FlagAndCount, looked_of, cloned_of}
+use Rattle.arcstr_block.proofs.Names.{is_last, HandleState, Free, Dropping, Owing, Gone, Ended, Looked, Owes, Left, Handle, Marked, Given, Step, Make, Look}
+use Rattle.arcstr_block.proofs.Names.{Clone, Begin, Sub, Back, Leak, BlockName, Book, reached, seat, steps, state_code, seat_share, book, Ends, reached_ending}
+use Rattle.arcstr_block.proofs.Names.{word_of, IsMarked, IsClone, operators}
 use mathlib.Core.Path.{Path}
 use mathlib.Mathlib.Data.Part.{◌∈◌}
 use seplogic.Ra.Pcs.{OpDef, OpDef-comm}
-use seplogic.Ra.Ura.{Ura}
-use base.Fraction.{full_share}
-use base.Share.{quarter, three_quarters, three_quarters_once}
-use base.FractionLaws.{not-OpDef-full_share}
 use base.Stored.{Gv}
 use base.SetCodes.{coded, SetCoded-set}
 use base.Algebras.{pcs, shares}
-use base.Logic.{SProp, ent, sep, ex, all, all_e, guard, guard_i, guard_e, upd, upd_i, upd_mono, emp, via, ex_e, all_i, id⊢}
-use base.Fml.{Share, Fml, GName, ftrue, fex, fall}
 use ghost.Rules.{Halves}
-use types.Logic.{Logic, sem}
-use types.Keyed.{entry, entries_take, entries_beside, entry_cut, entry_glue, entry_set, entries_new}
-use types.Kit.{‵, raw, ◌⊛◌, given, ◌$◌, ◌∵◌, !, qed, by, move, split, join, fpick, fpack, learn, check, suffices, settle, done, use1, use2, rewrite, some, keep}
-use types.Kit.{drop, fsplit3, fjoin, fjoin3, pick, show, use0, split3}
-use Rattle.atomic_table.specs.Seated.{itself, halved, unused, roster}
-use Rattle.arcstr_count.specs.declared.steps.HandleState.{HandleState}
 use Rattle.arcstr_count.specs.contracts.steps.HandleState.{the_row as state_row}
-use Rattle.arcstr_block.specs.Book.{state_code, seat, seat_share, BlockName, steps, reached, book, Book, Ends, reached_ending}
-use Rattle.arcstr_block.proofs.Operators.{operators}
-use base.Growing.{latest}
-use types.Growing.{latest_new, latest_grows, latest_shows, at_least_dup}
-use denote.Steps.{nothing}
-use Rattle.arcstr_count.specs.declared.steps.Step.{Step}
-use Rattle.arcstr_count.specs.declared.steps.Step.TheVariants.{Make, Look, Clone, Begin, Sub, Back, Leak}
-use Rattle.arcstr_count.specs.declared.steps.HandleState.TheVariants.{Free, Dropping, Owing, Gone}
 use Rattle.arcstr_count.specs.declared.steps.Reply.{Reply}
-use Rattle.arcstr_count.specs.declared.steps.Reply.TheVariants.{Ended, Looked, Owes, Left, Handle, Marked, Given}
-use Rattle.arcstr_count.specs.Word.{FlagAndCount, looked_of, cloned_of, is_last}
-use Rattle.arcstr_count.specs.OneBlock.{Keeps, EndsIn, look_reply}
 use Rattle.arcstr_count.proofs.OneBlock.{Prolongs, keeps-make, keeps-look, keeps-begin, keeps-clone, keeps-leak, keeps-sub, keeps-back}
-use Rattle.arcstr_block.specs.Word.{word_of, IsMarked, IsClone}
 use Rattle.arcstr_block.proofs.Words.{one_less, word_marked, word_dropped, IsMarkedOr, odd_or_even, word_kept, word_cloned}
-use mathlib.Core.Logic.{dite}
-use native.Mathlib.Decide.{ℕ_discrete}
-use prog.Atomic.{either}
 use seplogic.Ra.Constructions.Prod
 use seplogic.Ra.Instances.Ag
 use base.Share

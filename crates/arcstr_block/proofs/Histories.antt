@@ -1,34 +1,17 @@
 -- The histories of one block: those that have marked it, and the order of two prefixes, of which the longer extends the other. Assumes `Logic`.
-use Rattle.std.proofs.Common.{◌≡◌, ℕ, ◌<◌, Bool, true, false, ◌||◌, ◌==◌, if◌then◌else◌, Option, None, Some, List, [], ◌∷◌, ◌++◌, refl, sym, ap, ◌∙◌, subst}
-use Rattle.std.proofs.Common.{arith, ◌≤◌, length}
-use Rattle.arcstr_count.specs.declared.steps.Step.{Step}
-use Rattle.arcstr_count.specs.declared.steps.Step.TheVariants.{Look, Leak}
-use Rattle.arcstr_count.specs.declared.steps.HandleState.TheVariants.{Free}
-use Rattle.arcstr_count.specs.declared.steps.Reply.TheVariants.{Count, Static, Marked}
+use Rattle.arcstr_block.proofs.Names.{◌≡◌, ℕ, Bool, true, [], ◌∷◌, refl, arith, false, List, sym, subst, ap, length, ◌<◌, ◌++◌, Some, if◌then◌else◌, ◌∙◌, ◌||◌}
+use Rattle.arcstr_block.proofs.Names.{◌==◌, Option, None, ◌≤◌, IsPrefix, cons≢nil, head-eq_of_cons-eq, tail-eq_of_cons-eq, ℕ_discrete, Ura, Fml, GName, Least}
+use Rattle.arcstr_block.proofs.Names.{SProp, ent, sep, fact, fact_i, heard, at_least_join, ‵, some, ◌$◌, ◌∵◌, !, qed, pick, use2, raw, by, given, learn}
+use Rattle.arcstr_block.proofs.Names.{rewrite, Logic, sem, EndsIn, look_reply, IsOneBlock, FlagAndCount, looked_of, Free, Marked, Count, Static, Step, Look}
+use Rattle.arcstr_block.proofs.Names.{Leak, reached, steps, IsMarkedIn, word_of, IsMarked}
 use Rattle.arcstr_count.specs.declared.faults.StepFault.{StepFault}
-use Rattle.arcstr_count.specs.Word.{FlagAndCount, looked_of}
 use Rattle.arcstr_count.specs.History.{makes, births, block_of}
 use Rattle.arcstr_count.specs.Marks.{is_marked}
 use Rattle.arcstr_count.specs.Answer.{is_accepted, reply_by}
 use Rattle.arcstr_count.specs.Past.{past_of}
-use Rattle.arcstr_count.specs.OneBlock.{IsOneBlock, EndsIn, look_reply}
 use Rattle.arcstr_count.proofs.Pasts.{past_of-step, IsPast-past_of}
 use Rattle.arcstr_count.proofs.LawsOfHandles.{block_made, step_finds}
-use Rattle.arcstr_block.specs.Word.{IsMarked, word_of}
-use Rattle.arcstr_block.specs.Handle.{IsMarkedIn}
 use Rattle.arcstr_block.proofs.Words.{marked_word}
-use mathlib.Core.List.{IsPrefix, cons≢nil, head-eq_of_cons-eq, tail-eq_of_cons-eq}
-use native.Mathlib.Decide.{ℕ_discrete}
-use seplogic.Ra.Ura.{Ura}
-use base.Growing.{Least}
-use base.Logic.{SProp, ent, sep}
-use base.Fml.{GName, Fml}
-use contract.Monad.{fact, fact_i}
-use types.Logic.{Logic, sem}
-use types.Growing.{at_least_join}
-use types.Kit.{‵, raw, some, given, ◌$◌, ◌∵◌, !, qed, by, pick, learn, rewrite, use2}
-use denote.Steps.{heard}
-use Rattle.arcstr_block.specs.Book.{steps, reached}
 
 -- ---- the last step of a history of one block
 

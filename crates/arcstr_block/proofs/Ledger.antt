@@ -1,15 +1,8 @@
 -- The parts of a token, and how they move while the count word changes: taken, returned, and kept permanently at the mark. Assumes `Logic`.
-use Rattle.std.proofs.Common.{◌≡◌, ℕ, ◌+◌, ◌-◌, ◌^◌, ◌<◌, ◌≤◌, [], ◌∷◌, refl, subst, arith}
-use seplogic.Ra.Ura.{Ura}
-use base.Fraction.{full_share}
-use base.FractionLaws.{Counts, counts_some, Counts-op, Counts-all}
-use base.Logic.{SProp, ent, sep, never, never_e, via}
-use base.Fml.{Share, Fml, fex, flft, ftrue, fdead}
-use types.Logic.{Logic, sem}
-use types.Kit.{‵, ◌⊛◌, ◌$◌, ◌∵◌, !, qed, by, move, split, fpick, fpack, use1, use2, done, keep, fsplit3, fjoin, fjoin3}
-use Rattle.arcstr_block.proofs.Operators.{operators}
-use Rattle.arcstr_block.specs.Ledger.{parts, some_share, Id, Phase, unmarked, marked, IsPhaseOf, rest, phase, Ledger}
-use denote.Steps.{nothing}
+use Rattle.arcstr_block.proofs.Names.{◌≡◌, ℕ, ◌-◌, ◌^◌, [], ◌∷◌, refl, arith, subst, ◌+◌, ◌<◌, ◌≤◌, Ura, Share, Fml, fex, flft, fdead, ftrue, full_share}
+use Rattle.arcstr_block.proofs.Names.{Counts-all, Counts, counts_some, Counts-op, via, never, never_e, nothing, ‵, ◌⊛◌, ◌$◌, ◌∵◌, !, qed, move, use1, use2}
+use Rattle.arcstr_block.proofs.Names.{split, fjoin, fjoin3, fpick, fpack, done, by, keep, fsplit3, Logic, Id, parts, unmarked, Ledger, some_share, Phase}
+use Rattle.arcstr_block.proofs.Names.{marked, IsPhaseOf, rest, phase, operators}
 use base.Share
 
 module _ {M : Type 1} {𝓤 : Ura M} (𝓛 : Logic 𝓤) where

@@ -1,5 +1,4 @@
-pub mod Operators
-pub mod WholeProofs
+pub mod Names
 pub mod Texts
 pub mod Words
 pub mod Histories

@@ -1,51 +1,22 @@
 -- The memory of a block: its size, its three rooms, what is lent of it, the way back to room, and the slots of its bytes. Assumes `Logic`.
-use Rattle.std.proofs.Common.{◌≡◌, ℕ, ◌+◌, ◌*◌, List, [], ◌∷◌, length, refl, ap, ◌∙◌, subst, arith, w64, suc, ◌^◌, ◌<◌, Bool, true, false, ◌++◌, T, lit<}
-use seplogic.Ra.Ura.{Ura}
-use base.Fraction.{full_share}
-use base.Logic.{ent, sep, apply∗, SProp, ex, guard, emp, id⊢}
-use base.Fml.{Lft, Fml, ftrue, fsep, feq, fwand, froom, flft}
-use contract.BorrowLft.{⊑_static, ◌⊑◌, ⊑_refl}
-use mir.Syntax.{Ty, w8, ty_int, ty_array, tcons, tnil, ty_ptr, ty_struct}
-use mir.Raw.{raw as bare}
-use mir.Val.{vint, Val, vptr, vstruct, of_list, has_ty, WT}
+use Rattle.arcstr_block.proofs.Names.{◌≡◌, ℕ, ◌^◌, Bool, true, [], ◌∷◌, refl, arith, lit<, false, List, subst, ap, length, suc, ◌+◌, ◌<◌, ◌++◌, ◌∙◌, ◌*◌, w64}
+use Rattle.arcstr_block.proofs.Names.{T, Ura, bare, Ty, w8, ty_int, ty_array, tcons, tnil, ty_ptr, ty_struct, Val, vint, vptr, vstruct, of_list, has_ty, WT}
+use Rattle.arcstr_block.proofs.Names.{Lft, Fml, fsep, flft, ftrue, feq, fwand, froom, full_share, emp, guard, SProp, ent, sep, ex, id⊢, apply∗, ⊑_static, ◌⊑◌}
+use Rattle.arcstr_block.proofs.Names.{⊑_refl, fact, fact_i, Fun, Array, Array-row_laws, u8, usize, no, left, Is, shows, param, Laws, of_field, copy_shared}
+use Rattle.arcstr_block.proofs.Names.{RattleType, Ptr, block_ptr, RawPtr, null_ptr, ptr_val, bytes, bytes_apart, bytes-room, ShrLaws, beside_shr_laws, nothing}
+use Rattle.arcstr_block.proofs.Names.{heard, only, peeks, u8-field, u64-field, u8-laws, u8-copy, u64-laws, u64-copy, Lends, lent_at, lent_at_shr_laws}
+use Rattle.arcstr_block.proofs.Names.{Lends-both, Lends-first, Lends-lies, shape, Struct, Tuple, triple_of, ‵, ◌⊛◌, some, later, ◌$◌, ◌∵◌, !, qed, move, pick}
+use Rattle.arcstr_block.proofs.Names.{use0, use1, use2, split, split3, join, fsplit, fjoin, fpick, await, updating, now, done, raw, by, fsplit3, drop, check}
+use Rattle.arcstr_block.proofs.Names.{rewrite, show, feq_l, feq_i, flt_l, flt_i, frame, Logic, sem, words_val, word_out, slot, slots, owned, word, Slots}
+use Rattle.arcstr_block.proofs.Names.{block_owns, block_shares, Fits, word_offset, block_size, block_type, length_at, rooms, word_lies, length_lies, text_lies}
+use Rattle.arcstr_block.proofs.Names.{rim}
 use prog.Memory.{size, align, up, capped, Memory}
 use prog.Capped.{capped_is}
 use prog.RawLaws.{size-raw, align-raw}
-use types.Logic.{Logic, sem}
-use types.Kit.{‵, ◌$◌, ◌∵◌, !, qed, move, drop, use1, use2, fsplit, fsplit3, fjoin, done, raw, ◌⊛◌, some, later, by, use0, split, split3, join, pick, fpick}
-use types.Kit.{feq_l, feq_i, flt_l, flt_i, frame, rewrite, check, show, await, updating, now}
-use denote.Array.{Array, Array-row_laws}
-use denote.Builtin.{u8, usize}
-use denote.Param.Laws.{Laws, of_field}
-use denote.Param.Shared.{copy_shared}
-use denote.RawPtr.{Ptr, block_ptr, RawPtr, null_ptr, ptr_val}
-use denote.RawPtr.Bytes.{bytes, bytes_apart, bytes-room}
-use denote.Steps.{nothing, only, heard, peeks}
 use denote.Shares.{Shares-less, Shares-Array}
-use denote.Sharing.{ShrLaws}
-use denote.SharingLaws.{beside_shr_laws}
-use denote.Struct.Field.{u8-field, u64-field}
-use denote.Struct.Laws.{u8-laws, u8-copy, u64-laws, u64-copy}
-use denote.Struct.Lending.{lent_at, lent_at_shr_laws, Lends, Lends-both, Lends-first, Lends-lies}
-use Rattle.core.specs.Sync.RawAtomic.{word}
-use Rattle.core.proofs.tally.Steps.{word_out}
-use Rattle.arcstr_block.specs.Memory.{Fits, word_offset, block_size, block_type, length_at, rooms, word_lies, length_lies, text_lies, rim, block_owns}
-use Rattle.arcstr_block.specs.Memory.{block_shares}
-use denote.Laws.{Is, shows}
-use denote.Struct.Struct.{Struct}
-use denote.Struct.Owning.{shape}
 use prog.Routine.{Routine}
-use contract.Monad.{Fun, fact, fact_i}
-use denote.Exit.{no, left}
-use denote.RattleType.{RattleType}
-use denote.Param.{param}
-use denote.Struct.Tuple.{Tuple}
-use denote.Triple.Spec.{triple_of}
 use denote.Triple.Statement.{Contract}
-use Rattle.core.specs.declared.slots.Slots.{Slots}
-use Rattle.core.specs.Mem.Slots.Ownership.{slot, slots, owned}
 use Rattle.core.proofs.mem.Param.{El}
-use Rattle.core.proofs.slots.Opens.{words_val}
 use Rattle.core.specs.contracts.slots.Slots as SL
 use Rattle.core.specs.contracts.slots.Slots.from_raw_parts as FR
 use Rattle.core.specs.contracts.slots.Slots.into_raw_parts as IR

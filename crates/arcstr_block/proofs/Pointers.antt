@@ -1,33 +1,14 @@
 -- A `Pointer` as a value: its two data fields, and what its steps have in common. Assumes `Logic`.
-use Rattle.std.proofs.Common.{◌≡◌, ℕ, T, List, [], ◌∷◌, ◌++◌, refl, ap, ◌∙◌, lit<, ◌^◌, ◌<◌, w64, length}
-use seplogic.Ra.Ura.{Ura}
-use mir.Syntax.{Ty, ty_ptr, ty_int, ty_struct, tcons, tnil}
-use mir.Val.{Val, vint, vstruct, vcons, vnil, of_list, has_ty, WT}
-use base.Logic.{ent, emp, SProp, sep}
-use types.Logic.{Logic, sem}
-use denote.RattleType.{RattleType, Valss, owns}
-use denote.Laws.{Is}
-use denote.Opens.{Opens}
+use Rattle.arcstr_block.proofs.Names.{◌≡◌, ℕ, ◌^◌, [], ◌∷◌, refl, lit<, List, ap, length, ◌<◌, ◌++◌, ◌∙◌, w64, T, Ura, Ty, ty_int, tcons, tnil, ty_ptr}
+use Rattle.arcstr_block.proofs.Names.{ty_struct, Val, vint, vstruct, of_list, has_ty, WT, vcons, vnil, Lft, Share, Fml, fsep, fex, flft, finv, fshr_bor, ftrue}
+use Rattle.arcstr_block.proofs.Names.{feq, fobor, emp, ent, fact_i, u64, Is, Opens, RattleType, Valss, owns, block_of, Ptr, block_ptr, null_ptr, ptr_val}
+use Rattle.arcstr_block.proofs.Names.{InBlock, makes_shadow, nothing, RawPtr-copy, field_copy, shape, Struct, ‵, ◌⊛◌, ◌$◌, ◌∵◌, !, qed, move, use0, use1, use2}
+use Rattle.arcstr_block.proofs.Names.{split, join, fsplit, fjoin, fjoin3, fpack, updating, now, done, raw, drop, feq_i, flt_i, Logic, sem, shr_bor-open}
+use Rattle.arcstr_block.proofs.Names.{obor_close, tokens_halve, Ghosts, Free, reached, seat_share, Id, Inv, right_to, of_block, block_owns, block_shares}
+use Rattle.arcstr_block.proofs.Names.{word_at, IsText, operators}
 use denote.Copied.{Struct-Copied}
-use denote.RawPtr.{Ptr, block_ptr, null_ptr, ptr_val, InBlock, block_of}
-use denote.Shadow.{makes_shadow}
-use denote.Struct.Laws.{RawPtr-copy, field_copy}
-use denote.Struct.Struct.{Struct}
-use denote.Struct.Owning.{shape}
-use Rattle.core.specs.declared.alloc.Allocator.{Ghosts}
-use base.Fml.{Lft, Share, Fml, ftrue, fsep, fex, feq, flft, finv, fobor, fshr_bor}
-use types.Kit.{‵, raw, join, ◌⊛◌, ◌$◌, ◌∵◌, !, qed, move, drop, split, fsplit, fjoin, fjoin3, fpack, use0, use1, use2, now, updating, feq_i, flt_i, done}
-use types.Tokens.{shr_bor-open, obor_close}
-use types.Within.{tokens_halve}
-use contract.Monad.{fact as said, fact_i}
-use denote.Builtin.{u64}
-use denote.Steps.{nothing}
-use Rattle.arcstr_count.specs.declared.steps.HandleState.TheVariants.{Free}
-use Rattle.arcstr_block.specs.Book.{reached, seat_share}
-use Rattle.arcstr_block.specs.Memory.{IsText, block_owns, block_shares, word_at}
-use Rattle.arcstr_block.specs.Ledger.{Id, Inv, right_to, of_block}
+use contract.Monad.{fact as said}
 use Rattle.arcstr_block.proofs.Book.{seat_halves}
-use Rattle.arcstr_block.proofs.Operators.{operators}
 use Rattle.core.specs.contracts.marker.PhantomData as Marker
 use Rattle.arcstr_block.specs.contracts.pointer.Pointer as C
 use base.Share

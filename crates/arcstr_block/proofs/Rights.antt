@@ -1,36 +1,19 @@
 -- A right as a `&` shows it, and the right that a step's gain becomes. Assumes `Logic`.
-use Rattle.std.proofs.Common.{◌≡◌, ◌≢◌, ℕ, if◌then◌else◌, inl, inr, [], ◌∷◌, refl, sym, ap, subst, arith, Bool, true, false, List}
-use mathlib.Core.Logic.{dite}
-use native.Mathlib.Decide.{ℕ_discrete}
-use seplogic.Ra.Ura.{Ura}
-use base.FractionLaws.{Counts}
-use base.Logic.{SProp, ent, sep, wand, emp, all_i, all_e, id⊢, upd}
-use base.Fml.{Lft, Share, Fml, ftrue, fex, fall, flft, finv, fshr_bor, fsep}
-use contract.BorrowLft.{⊑_static}
-use types.Logic.{Logic, sem}
-use types.Kit.{‵, raw, ◌⊛◌, later, ◌$◌, ◌∵◌, !, qed, by, move, keep, drop, use0, use1, use2, split, fsplit, fsplit3, fjoin, fjoin3, fpick, fpack, await}
-use types.Kit.{rewrite, updating, now, done, use3}
-use types.Tokens.{bor_new, bor_fracture, lent_back}
-use denote.Steps.{nothing as no_item}
-use Rattle.arcstr_count.specs.declared.steps.HandleState.{HandleState}
-use Rattle.arcstr_count.specs.declared.steps.HandleState.TheVariants.{Free, Dropping, Owing, Gone}
-use Rattle.arcstr_count.specs.Word.{FlagAndCount, looked_of}
-use Rattle.arcstr_block.specs.Word.{IsMarked, IsUnmarked, IsLast, one, word_of}
-use Rattle.arcstr_block.specs.Rights.{MaySee, IsFree, HasSeat, counted, uncounted, Looks, Finds, Gains, Begins, Leaves, Right, nothing, fixed, dropping, owed}
-use Rattle.arcstr_block.specs.Rights.{Loads}
-use Rattle.arcstr_block.specs.Book.{seat, seat_share, Book, reached, Ends}
-use Rattle.arcstr_block.specs.Ledger.{Id, parts, Inv, right_to, shown, free, free_shown, knows, fact}
+use Rattle.arcstr_block.proofs.Names.{◌≡◌, ℕ, Bool, true, [], ◌∷◌, refl, arith, false, List, sym, subst, inl, inr, ◌≢◌, ap, if◌then◌else◌, dite, ℕ_discrete}
+use Rattle.arcstr_block.proofs.Names.{Ura, Lft, Share, Fml, fsep, fex, flft, finv, fshr_bor, ftrue, fall, Counts, emp, all_i, upd, all_e, id⊢, ⊑_static}
+use Rattle.arcstr_block.proofs.Names.{ShrLaws, no_item, ‵, ◌⊛◌, later, ◌$◌, ◌∵◌, !, qed, move, use0, use1, use2, split, fsplit, fjoin, fjoin3, fpick, fpack}
+use Rattle.arcstr_block.proofs.Names.{await, updating, now, done, raw, by, keep, fsplit3, drop, rewrite, use3, Logic, bor_new, bor_fracture, lent_back}
+use Rattle.arcstr_block.proofs.Names.{look_reply, FlagAndCount, looked_of, HandleState, Free, Dropping, Owing, Gone, Step, Look, Book, reached, seat}
+use Rattle.arcstr_block.proofs.Names.{seat_share, Ends, Id, parts, Inv, knows, free, right_to, shown, free_shown, uncounted, counted, HasSeat, Right, dropping}
+use Rattle.arcstr_block.proofs.Names.{owed, MaySee, IsFree, Looks, Finds, Gains, Begins, Leaves, fixed, Loads, LoadEnds, word_of, IsMarked, IsUnmarked, IsLast}
+use Rattle.arcstr_block.proofs.Names.{one, operators}
+use Rattle.arcstr_block.specs.Rights.{nothing}
+use Rattle.arcstr_block.specs.Ledger.{fact}
 use Rattle.arcstr_block.proofs.Ledger.{parts_in}
 use Rattle.arcstr_block.proofs.Words.{IsMarkedOr, odd_or_even, unmarked_word, last_two}
 use Rattle.arcstr_block.proofs.Book.{begun, left_in, NewSeat, book_look, finds}
 use Rattle.arcstr_block.proofs.Sharing.{free_in}
 use Rattle.arcstr_block.proofs.Steps.{Gain, none, part, share, last, gained}
-use Rattle.arcstr_block.proofs.Operators.{operators}
-use denote.Sharing.{ShrLaws}
-use Rattle.arcstr_count.specs.declared.steps.Step.{Step}
-use Rattle.arcstr_count.specs.declared.steps.Step.TheVariants.{Look}
-use Rattle.arcstr_count.specs.OneBlock.{look_reply}
-use Rattle.arcstr_block.specs.Same.{LoadEnds}
 use Rattle.arcstr_block.proofs.Histories.{marked_by_word}
 
 -- a free handle is counted or uncounted

@@ -1,51 +1,27 @@
 -- What a `&` to a pointer holds: a share of its token, the invariant and what is shared. A pointer can cross threads if its content and its
 -- allocator can. Assumes `Logic`.
-use Rattle.std.proofs.Common.{ℕ, List, [], ◌∷◌, ◌≡◌, suc, Bool, true, false, length}
-use seplogic.Ra.Ura.{Ura}
-use base.FractionLaws.{Counts}
-use base.Logic.{SProp, ent, sep, wand, upd_i, id⊢, snd∗, emp, all_i, all_e}
-use base.Fml.{Lft, Share, Fml, ftrue, fsep, fseps, fwand, fupd, fdead, fbor, flft, finv, fshr_bor, GName}
-use base.Before.{before}
-use types.Logic.{Logic, sem}
-use types.Kit.{‵, raw, ◌⊛◌, later, ◌$◌, ◌∵◌, !, qed, by, move, keep, drop, use1, use2, use3, split, split3, fsplit, fsplit3, fjoin, fjoin3, fpick, assume}
-use types.Kit.{suffices, await, updating, now, done, fpack}
-use types.Tokens.{bor_open, obor_close, obor_alter, bor_fracture}
-use denote.Sharing.{ShrLaws, one, beside, always, held, said}
-use denote.SharingLaws.{beside_shr_laws, one_shr_laws, always_shr_laws, held_shr_laws, nothing_shr_laws, contraction}
-use denote.Struct.Lending.{Lends, Lends-nothing}
-use denote.Steps.{nothing as no_item}
+use Rattle.arcstr_block.proofs.Names.{◌≡◌, ℕ, Bool, true, [], ◌∷◌, false, List, length, suc, dite, Ura, bare, before, Lft, Share, Fml, fsep, flft, finv, GName}
+use Rattle.arcstr_block.proofs.Names.{fdead, fshr_bor, ftrue, fwand, fseps, fupd, fbor, full_share, Counts, latest, at_least, emp, all_i, ent, sep, all_e}
+use Rattle.arcstr_block.proofs.Names.{upd_i, id⊢, snd∗, three_quarters, Array, u8, usize, IsSend, IsSync, Common, AllSend, Frees, owning_send, struct_send}
+use Rattle.arcstr_block.proofs.Names.{struct_sync, sendable, RattleType, block_of, Ptr, ShrLaws, said, beside, always, held, beside_shr_laws, one_shr_laws}
+use Rattle.arcstr_block.proofs.Names.{always_shr_laws, held_shr_laws, nothing_shr_laws, contraction, no_item, Lends, Lends-nothing, shape, fields, to, exits_of}
+use Rattle.arcstr_block.proofs.Names.{entry_keyless, entries_keyless, ‵, ◌⊛◌, later, ◌$◌, ◌∵◌, !, qed, move, use1, use2, split, split3, fsplit, fjoin, fjoin3}
+use Rattle.arcstr_block.proofs.Names.{fpick, fpack, await, updating, now, done, raw, by, keep, fsplit3, assume, drop, suffices, use3, Logic, sem, obor_close}
+use Rattle.arcstr_block.proofs.Names.{bor_fracture, bor_open, obor_alter, Ghosts, halved, HandleState, Free, Dropping, Owing, Step, BlockName, Book, reached}
+use Rattle.arcstr_block.proofs.Names.{seat, steps, state_code, seat_share, Id, unmarked, if_alive, Inv, knows, free, held_with, Phase, marked, rest, right_to}
+use Rattle.arcstr_block.proofs.Names.{shown, free_shown, known, permanent, with_share, seen, stated, block_owns, block_shares, word_at, block_type, length_at}
+use Rattle.arcstr_block.proofs.Names.{uncounted, counted, Right, dropping, owed, fixed, operators}
+use denote.Sharing.{one}
 use Rattle.core.proofs.cell.Borrows.{by_one}
-use base.Share.{three_quarters}
-use mathlib.Core.Logic.{dite}
-use Rattle.arcstr_count.specs.declared.steps.Step.{Step}
-use Rattle.arcstr_count.specs.declared.steps.HandleState.TheVariants.{Free, Dropping, Owing}
 use Rattle.arcstr_block.proofs.Words.{is_right}
-use Rattle.arcstr_block.specs.Rights.{counted, uncounted, Right, nothing, fixed, dropping, owed}
-use Rattle.arcstr_block.specs.Book.{BlockName, reached, seat, seat_share, steps, state_code, Book}
-use Rattle.arcstr_block.specs.Ledger.{Id, Inv, knows, known, permanent, with_share, free, held_with, seen, free_shown, shown, Phase, unmarked, marked, rest}
-use Rattle.arcstr_block.specs.Ledger.{stated, if_alive, right_to}
+use Rattle.arcstr_block.specs.Rights.{nothing}
 use Rattle.arcstr_block.proofs.Book.{reached_twice}
-use Rattle.arcstr_block.proofs.Operators.{operators}
-use base.Growing.{latest, at_least}
-use base.Fraction.{full_share}
 use base.Shift.{Keyless}
-use types.Keyed.{entry_keyless, entries_keyless}
-use denote.RattleType.{RattleType}
-use denote.Array.{Array}
-use denote.RawPtr.{Ptr, block_of}
-use denote.Builtin.{RawPtr, u8, usize}
-use denote.Struct.Struct.{exits_of}
-use denote.Struct.Owning.{shape, fields, to}
-use denote.Param.Send.{IsSend, IsSync, Common, AllSend, Frees, owning_send, struct_send, struct_sync, sendable}
-use Rattle.core.specs.declared.alloc.Allocator.{Ghosts}
+use denote.Builtin.{RawPtr}
 use Rattle.std_alloc.proofs.SendSync.{quiet, lies, seen as lent}
-use Rattle.atomic_table.specs.Seated.{halved}
-use Rattle.arcstr_count.specs.declared.steps.HandleState.{HandleState}
-use Rattle.arcstr_block.specs.Memory.{block_type, length_at, block_owns, block_shares, word_at}
 use Rattle.core.specs.contracts.marker.PhantomData as Marker
 use Rattle.arcstr_block.specs.contracts.block.Sole as S
 use Rattle.arcstr_block.specs.contracts.pointer.Pointer as C
-use mir.Raw.{raw as bare}
 
 permanent_twice : {M : Type 1} {𝓤 : Ura M} (𝓛 : Logic 𝓤) (P : Fml) (L b o : ℕ) (t : Id)
     → ent 𝓤 (sem 𝓛 (permanent P L b o t)) (sep 𝓤 (sem 𝓛 (permanent P L b o t)) (sem 𝓛 (permanent P L b o t)))

@@ -1,30 +1,16 @@
 -- The steps on the count word of a block: what each finds, what it changes and what it gains. Assumes `Logic`.
-use Rattle.std.proofs.Common.{ℕ, [], ◌∷◌, Option, Some, None, List, ◌≡◌, ◌+◌, ◌-◌, ◌^◌, ◌<◌, Bool, true, false, refl, arith, w64, ◌≢◌, ◌/◌, eqb, sym, ap, subst}
-use Rattle.std.proofs.Common.{eq-eqb, ne_eqb}
-use mathlib.Core.List.{Mem, not-mem-nil}
-use seplogic.Ra.Ura.{Ura}
-use base.Fraction.{full_share}
-use base.Logic.{SProp, ent, sep, wand, ex, guard, upd, upd_i, ex_i, apply∗, all_e, never, never_e, via}
-use base.Fml.{Fml, fsep, fnamed, finv, flft, fdead, Share, ftrue, fex, flent}
-use types.Logic.{Logic, sem}
-use types.Kit.{‵, raw, ◌⊛◌, some, ◌$◌, ◌∵◌, !, qed, by, move, split, pick, show, check, frame, each, assume, suffices, settle, use1, use2, done, given, keep}
-use types.Kit.{drop, split3, fsplit, fsplit3, fjoin, fpick, fpack, learn, use3, fjoin3, rewrite}
-use denote.RawPtr.{block_ptr}
-use Rattle.core.specs.Sync.RawAtomic.{Shift, rests, ends, picks, enters, leaves, word, if_none, along, back, found, asks, always}
-use Rattle.arcstr_block.proofs.Operators.{operators}
-use mathlib.Core.Logic.{dite}
-use mir.Syntax.{ty_int}
-use mir.Val.{vint, has_ty, WT}
-use denote.Steps.{nothing}
+use Rattle.arcstr_block.proofs.Names.{◌≡◌, ℕ, ◌-◌, ◌^◌, Bool, true, [], ◌∷◌, refl, arith, false, List, sym, subst, ◌≢◌, ap, ◌+◌, ◌<◌, Some, ◌/◌, eqb, eq-eqb}
+use Rattle.arcstr_block.proofs.Names.{ne_eqb, Option, None, w64, bit_or, Mem, not-mem-nil, dite, ℕ_discrete, dec_le, Ura, ty_int, vint, has_ty, WT, either}
+use Rattle.arcstr_block.proofs.Names.{Share, Fml, fsep, fex, flft, finv, fdead, ftrue, fnamed, flent, full_share, via, upd, never, never_e, guard, SProp, ent}
+use Rattle.arcstr_block.proofs.Names.{sep, ex, all_e, upd_i, apply∗, wand, ex_i, block_ptr, nothing, ‵, ◌⊛◌, some, ◌$◌, ◌∵◌, !, qed, move, pick, use1, use2}
+use Rattle.arcstr_block.proofs.Names.{split, split3, fsplit, fjoin, fjoin3, fpick, fpack, done, raw, by, keep, fsplit3, assume, given, drop, learn, check}
+use Rattle.arcstr_block.proofs.Names.{rewrite, suffices, settle, show, frame, use3, each, Logic, sem, word, Shift, rests, ends, picks, enters, if_none, along}
+use Rattle.arcstr_block.proofs.Names.{back, asks, Book, Id, parts, unmarked, counting, if_alive, Inv, knows, some_share, Phase, marked, IsPhaseOf, rest, stated}
+use Rattle.arcstr_block.proofs.Names.{uncounted, Right, IsMarked, IsClone, IsUnmarked, IsLast, IsCountWord, operators}
+use Rattle.core.specs.Sync.RawAtomic.{leaves, found, always}
 use Rattle.arcstr_block.proofs.Words.{is_right, one_less, or_unmarked, or_marked}
-use Rattle.arcstr_block.specs.Word.{IsMarked, IsUnmarked, IsCountWord, IsClone, IsLast}
-use Rattle.arcstr_block.specs.Rights.{uncounted, Right}
-use Rattle.arcstr_block.specs.Book.{Book}
-use Rattle.arcstr_block.specs.Ledger.{fact, parts, some_share, Id, Phase, unmarked, marked, IsPhaseOf, rest, counting, if_alive, Inv, knows, stated}
+use Rattle.arcstr_block.specs.Ledger.{fact}
 use Rattle.arcstr_block.proofs.Ledger.{phase_in, not_alive, marks, marked_in, finds_mark, share_not_alive, takes, gives, gives_last, gives_marked, too_many}
-use Rattle.std.specs.Prelude.{bit_or}
-use native.Mathlib.Decide.{ℕ_discrete, dec_le}
-use prog.Atomic.{either}
 
 -- nothing, a part, a permanent share, or the word and what the block owns
 pub data Gain : Type 0 where
@@ -35,7 +21,7 @@ pub data Gain : Type 0 where
 
 module _ {M : Type 1} {𝓤 : Ura M} (𝓛 : Logic 𝓤) where
   open 𝓛 use {H, A}
-  open operators 𝓛 use {Pr, entails as ◌⊢◌, both as ◌∗◌, wand as ◌-∗◌, meaning as ⟦◌⟧}
+  open operators 𝓛 use {Pr, entails as ◌⊢◌, both as ◌∗◌, gives as ◌-∗◌, meaning as ⟦◌⟧}
 
   infix 26 ◌⊢◌
   infixr 35 ◌∗◌

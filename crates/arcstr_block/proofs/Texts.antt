@@ -1,12 +1,7 @@
 -- Texts that are copied one after another, and texts joined by a separator.
-use Rattle.std.proofs.Common.{◌≡◌, ℕ, zero, suc, ◌*◌, ◌≤◌, List, [], ◌++◌, length, append_assoc, refl, sym, ap, ◌∙◌, arith, length-append, ◌+◌, ◌<◌, ◌∷◌}
-use Rattle.std.proofs.Common.{get_or}
-use Rattle.std.specs.Prelude.{take, IsUtf8}
-use Rattle.std.specs.List.{repeat, join_by, flat_map}
-use Rattle.std.proofs.lemmas.List.{append-nil, length-take-le, nil_from_length}
-use Rattle.std.proofs.Math.Seq.{take-append_seam}
-use Rattle.std.proofs.lemmas.Str.{IsUtf8-append, IsUtf8-nil}
-use native.Mathlib.Nat.{suc-mul}
+use Rattle.arcstr_block.proofs.Names.{◌≡◌, ℕ, [], ◌∷◌, refl, arith, List, sym, ap, length, zero, suc, ◌+◌, ◌<◌, ◌++◌, ◌∙◌, ◌≤◌, ◌*◌, append_assoc}
+use Rattle.arcstr_block.proofs.Names.{length-append, get_or, take-append_seam, append-nil, length-take-le, nil_from_length, IsUtf8-append, IsUtf8-nil, repeat}
+use Rattle.arcstr_block.proofs.Names.{join_by, flat_map, take, IsUtf8, suc-mul}
 use Rattle.std_alloc.proofs.Concat.{separated_first, separated_more}
 
 -- copies of the empty text are empty

@@ -1,15 +1,10 @@
 -- The count words that a step finds and leaves, as numbers, and whether a right is a given one.
-use Rattle.std.proofs.Common.{◌≢◌, ◌==◌, eq-eqb, ne_eqb, true, false, if◌then◌else◌, inl, inr, ◌≡◌, ℕ, ◌+◌, ◌-◌, ◌*◌, ◌/◌, ◌%◌, ◌^◌, ◌<◌, ◌≤◌, refl, sym, ap}
-use Rattle.std.proofs.Common.{◌∙◌, arith, lit<}
-use Rattle.std.specs.Prelude.{bit_or, ◌⊎◌}
+use Rattle.arcstr_block.proofs.Names.{◌≡◌, ℕ, ◌-◌, ◌^◌, true, refl, arith, lit<, false, sym, inl, inr, ◌≢◌, ap, ◌+◌, ◌<◌, ◌/◌, ◌%◌, if◌then◌else◌, ◌∙◌, eq-eqb}
+use Rattle.arcstr_block.proofs.Names.{ne_eqb, ◌==◌, ◌≤◌, ◌*◌, bit_or, ◌⊎◌, dite, ℕ_discrete, dec_le, cloned_of, is_last, marked_of, dropped_of, Right}
+use Rattle.arcstr_block.proofs.Names.{right_index, right_at, right_at_index, word_of, IsMarked, IsClone, IsUnmarked}
 use Rattle.std.specs.Int.Bits.{or_zero_r}
 use Rattle.std.proofs.lemmas.Nat.{or_block}
 use Rattle.std.proofs.lemmas.Bool.{lt-ltb, le-ltb}
-use mathlib.Core.Logic.{dite}
-use native.Mathlib.Decide.{ℕ_discrete, dec_le}
-use Rattle.arcstr_count.specs.Word.{marked_of, cloned_of, dropped_of, is_last}
-use Rattle.arcstr_block.specs.Word.{IsMarked, IsUnmarked, IsClone, word_of}
-use Rattle.arcstr_block.specs.Rights.{Right, right_index, right_at, right_at_index}
 
 -- ---- rights
 

@@ -1,8 +1,5 @@
 -- If a sum does not fit, the joined text does not fit either; at the end the sum has all texts.
-use Rattle.std.proofs.Common.{◌≡◌, ◌<◌, ◌^◌, ◌∙◌, length, ap, sym, subst, arith}
-use Rattle.std.specs.Prelude.{SomeIff}
-use Rattle.std.specs.List.{join_by}
-use Rattle.std.proofs.lemmas.List.{take_all}
+use Rattle.arcstr_block.proofs.Names.{◌≡◌, ◌^◌, arith, sym, subst, ap, length, ◌<◌, ◌∙◌, take_all, join_by, SomeIff}
 use Rattle.arcstr_block.proofs.Texts.{joined_room}
 use Rattle.arcstr_block.proofs.joining.joined_len.Goals as goal
 

@@ -1,8 +1,5 @@
 -- There is room for each text, which comes after those before it.
-use Rattle.std.proofs.Common.{◌≡◌, ◌+◌, ◌∙◌, ◌++◌, length, get_or, ap, sym, subst, arith, length-append}
-use Rattle.std.specs.Prelude.{take, IsUtf8}
-use Rattle.std.specs.List.{join_by}
-use Rattle.std.proofs.lemmas.Str.{IsUtf8-append}
+use Rattle.arcstr_block.proofs.Names.{◌≡◌, arith, sym, subst, ap, length, ◌+◌, ◌++◌, ◌∙◌, length-append, get_or, IsUtf8-append, join_by, take, IsUtf8}
 use Rattle.arcstr_block.proofs.Texts.{joined_more, joined_room}
 use Rattle.arcstr_block.proofs.joining.write_joined.Goals as goal
 

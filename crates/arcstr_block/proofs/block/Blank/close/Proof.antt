@@ -1,37 +1,12 @@
 -- `close` takes the bytes from their `Slots` once each is written.
-use Rattle.std.proofs.Common.{◌≡◌, ℕ, ◌^◌, ◌<◌, Bool, List, [], ◌∷◌, length, sym, refl, ap, ◌∙◌, subst, arith, w64, T}
-use mir.Syntax.{dcons, dnil, a_type, ty_int, ty_ptr, ty_struct, tcons, tnil}
-use mir.Val.{Val, has_ty, WT}
-use mir.MapTy.{inst_fn}
-use base.Fraction.{full_share}
-use base.Logic.{SProp, emp}
-use base.Fml.{fsep}
-use contract.Running.{tables}
-use contract.Monad.{fact, fact_i}
-use types.Kit.{‵, raw, ◌⊛◌, given, later, at_ret, ◌$◌, ◌∵◌, !, qed, by, move, keep, drop, use0, use1, split, join, fsplit, fsplit3, fjoin, fjoin3, fpick, fpack}
-use types.Kit.{learn, await, rewrite, feq_i}
-use types.Run.{stop, fld, of_opd, no_more, and_then, first, blocks, exec, returns, enter}
-use types.ByLocal.{alloc_all, pass_all, free_all, look_at, get, get_in, sets, lands_last, is, env}
-use types.Part.{agg, sub, whole}
-use denote.Array.{Array}
-use denote.Builtin.{u8}
-use denote.Exit.{yes, no}
-use denote.Memory.{part_at}
-use denote.RattleType.{RattleType, owns}
-use denote.RawPtr.{Ptr, InBlock, block_ptr, ptr_val, block_of, count_of, at_block, in_block}
-use denote.RawPtr.Bytes.{bytes, bytes_whole}
-use denote.Signature.{types_at, plain}
-use denote.Steps.{nothing, heard}
-use denote.Param.{param, bounded}
-use denote.Triple.Call.{calls_at_last}
-use denote.Triple.Entry.{alive}
-use denote.Triple.Walked.{Stays, stay_dropped, walk_of, Goes-dropped}
-use Rattle.core.specs.Mem.Slots.Ownership.{slots, Filled, owned}
-use Rattle.core.proofs.atomic.Steps.{tail}
-use Rattle.core.proofs.slots.Opens.{words_val}
-use Rattle.atomic_table.proofs.Calls.{fm}
-use Rattle.atomic_table.proofs.Walks.{proved, leaves}
-use Rattle.arcstr_block.specs.Memory.{Fits, word_lies, length_lies, text_lies, rim}
+use Rattle.arcstr_block.proofs.Names.{◌≡◌, ℕ, ◌^◌, Bool, [], ◌∷◌, refl, arith, List, sym, subst, ap, length, ◌<◌, ◌∙◌, w64, T, inst_fn, ty_int, tcons, tnil}
+use Rattle.arcstr_block.proofs.Names.{ty_ptr, ty_struct, dcons, dnil, a_type, Val, has_ty, WT, fsep, full_share, emp, SProp, fact, fact_i, tables, Array, u8}
+use Rattle.arcstr_block.proofs.Names.{no, yes, part_at, param, bounded, RattleType, owns, block_of, Ptr, block_ptr, ptr_val, InBlock, count_of, at_block}
+use Rattle.arcstr_block.proofs.Names.{in_block, bytes, bytes_whole, types_at, plain, nothing, heard, calls_at_last, alive, Stays, stay_dropped, walk_of}
+use Rattle.arcstr_block.proofs.Names.{Goes-dropped, alloc_all, pass_all, free_all, look_at, get, get_in, sets, lands_last, env, is, ‵, ◌⊛◌, later, ◌$◌, ◌∵◌, !}
+use Rattle.arcstr_block.proofs.Names.{qed, move, use0, use1, split, join, fsplit, fjoin, fjoin3, fpick, fpack, await, raw, by, keep, fsplit3, given, drop}
+use Rattle.arcstr_block.proofs.Names.{learn, rewrite, feq_i, at_ret, sub, whole, agg, stop, fld, of_opd, no_more, and_then, first, blocks, exec, returns, enter}
+use Rattle.arcstr_block.proofs.Names.{tail, words_val, slots, owned, Filled, fm, leaves, proved, Fits, word_lies, length_lies, text_lies, rim}
 use Rattle.arcstr_block.proofs.Pointers.{pointer_val, typed, Words, told, made}
 use Rattle.arcstr_block.proofs.Memory.{byte_laws, Bytes, R, to_bytes, EndContract, at_ends, ends_goes, ends_gives, words_typed, words_told}
 use Rattle.arcstr_block.specs.contracts.block.Blank.close.{ended, clauses}

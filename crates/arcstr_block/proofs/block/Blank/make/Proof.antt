@@ -1,50 +1,22 @@
 -- `make` allocates a block's room, cuts it in three, writes the word and the length, and makes slots of the bytes.
-use Rattle.std.proofs.Common.{◌≡◌, ℕ, ◌+◌, ◌^◌, ◌<◌, Bool, List, [], ◌∷◌, length, sym, refl, ap, ◌∙◌, arith, lit<, w64, true, false, replicate}
-use mir.Syntax.{Ty, dcons, dnil, a_type, named, ty_int, Body, w8, ty_array}
-use mir.Raw.{raw as bare}
-use mir.Val.{Val, vint, vptr, vstruct, WT, vcons, vnil}
-use mir.MapTy.{inst_fn}
-use base.Fraction.{full_share}
-use base.Logic.{SProp, emp}
-use base.Fml.{Lft, Share, Fml, ftrue, fsep, froom, flft, Incl-trans, fwand}
-use contract.BorrowLft.{◌⊑◌}
-use contract.Running.{tables}
-use contract.Monad.{fact, fact_i}
-use types.Kit.{‵, raw, ◌⊛◌, some, given, later, at_ret, ◌$◌, ◌∵◌, !, qed, by, move, keep, use0, use1, use2, split, join, fsplit, fsplit3, fjoin, fjoin3, fpack}
-use types.Kit.{pick, learn, await, rewrite, feq_i, any_q}
-use types.Run.{stop, fld, addr, lit, bin, of_opd, no_more, and_then, first, exec, returns, enter, switches_on, init, assigns}
-use types.ByLocal.{alloc_all, pass_all, free_all, look_at, get, get_in, through, is, sets, sets_last, env, get_tag, lands_as}
-use types.Part.{agg, whole as all_of_it}
-use denote.Builtin.{RefOf, u8, u64, usize}
-use denote.Exit.{yes}
-use denote.Memory.{part_at}
-use denote.Plain.{uint_vals, uint_Tells}
-use denote.RattleType.{RattleType, Valss, owns}
-use denote.RawPtr.{Ptr, InBlock, block_ptr}
-use denote.Ref.{shr_vals, shr_Tells}
-use denote.Signature.{types_at, plain}
-use denote.Steps.{nothing, heard}
-use denote.Param.{param, bounded}
-use denote.Triple.Walked.{Stays, stay_dropped, walk_of, Goes-dropped}
-use Rattle.core.specs.Mem.Slots.Ownership.{slots}
-use Rattle.core.proofs.alloc.Calls.{Al, Answer-typed, Takes, at_takes, Answered, Takes-goes, Takes-gives, answers}
-use Rattle.core.proofs.slots.Opens.{words_val}
-use Rattle.core.proofs.tally.Steps.{word_in}
-use Rattle.atomic_table.proofs.Calls.{fm}
-use Rattle.atomic_table.proofs.Walks.{proved, leaves}
+use Rattle.arcstr_block.proofs.Names.{◌≡◌, ℕ, ◌^◌, Bool, true, [], ◌∷◌, refl, arith, lit<, false, List, sym, ap, length, ◌+◌, ◌<◌, ◌∙◌, w64, replicate, inst_fn}
+use Rattle.arcstr_block.proofs.Names.{bare, Ty, w8, ty_int, ty_array, dcons, dnil, a_type, named, Body, Val, vint, vptr, vstruct, WT, vcons, vnil, Wp}
+use Rattle.arcstr_block.proofs.Names.{after_seq, at_return, Lft, Share, Incl-trans, Fml, fsep, flft, ftrue, fwand, froom, full_share, emp, SProp, ◌⊑◌, fact}
+use Rattle.arcstr_block.proofs.Names.{fact_i, tables, u8, usize, u64, RefOf, yes, part_at, param, bounded, uint_vals, uint_Tells, RattleType, Valss, owns, Ptr}
+use Rattle.arcstr_block.proofs.Names.{block_ptr, InBlock, shr_vals, shr_Tells, makes_shadow, types_at, plain, nothing, heard, within, Tuple, tuple_type}
+use Rattle.arcstr_block.proofs.Names.{calls_at, Stays, stay_dropped, walk_of, Goes-dropped, alloc_all, pass_all, free_all, look_at, get, get_in, sets, env}
+use Rattle.arcstr_block.proofs.Names.{through, sets_last, is, get_tag, lands_as, ‵, ◌⊛◌, some, later, ◌$◌, ◌∵◌, !, qed, move, pick, use0, use1, use2, split}
+use Rattle.arcstr_block.proofs.Names.{join, fsplit, fjoin, fjoin3, fpack, await, raw, by, keep, fsplit3, given, learn, rewrite, feq_i, at_ret, any_q, agg, stop}
+use Rattle.arcstr_block.proofs.Names.{fld, lit, of_opd, no_more, and_then, first, exec, returns, enter, addr, bin, switches_on, init, assigns, Al, Answer-typed}
+use Rattle.arcstr_block.proofs.Names.{Takes, at_takes, Answered, Takes-goes, Takes-gives, answers, words_val, word_in, slots, Slots, fm, leaves, proved, Fits}
+use Rattle.arcstr_block.proofs.Names.{word_offset, block_size, block_type, rooms}
+use types.Part.{whole as all_of_it}
 use lib.ListN.{length-replicate}
-use prog.Wp.{Wp, after_seq, at_return}
 use types.Match.{live, vrt, in_variant}
-use denote.Shadow.{makes_shadow}
-use denote.Struct.Struct.{within}
-use denote.Struct.Tuple.{Tuple, tuple_type}
-use denote.Triple.Call.{calls_at}
 use Rattle.core.specs.declared.result.Result.TheVariants.{Ok, Err}
-use Rattle.core.specs.declared.slots.Slots.{Slots}
 use Rattle.core.proofs.once.Made.{ok_of, err_of}
 use Rattle.core.proofs.slots.Bodies.{after, head, arm_body}
 use Rattle.core.proofs.slots.Places.{of_room}
-use Rattle.arcstr_block.specs.Memory.{Fits, block_size, block_type, rooms, word_offset}
 use Rattle.arcstr_block.proofs.Pointers.{pointer_val, typed, Words, made}
 use Rattle.arcstr_block.proofs.Memory.{byte_laws, block_bytes, block_align, spreads, Bytes, byte, R, MakeContract, at_makes, IsSlotsMade, makes_goes}
 use Rattle.arcstr_block.proofs.Memory.{makes_gives, words_typed}

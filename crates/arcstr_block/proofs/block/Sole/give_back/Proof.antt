@@ -1,36 +1,13 @@
 -- `give_back` makes the block room again, and returns it to the allocator.
-use Rattle.std.proofs.Common.{◌≡◌, ℕ, ◌^◌, ◌<◌, List, [], ◌∷◌, length, sym, refl, ◌∙◌, subst, lit<, w64, T}
-use mir.Syntax.{Ty, dcons, dnil, a_type, named, ty_unit}
-use mir.Raw.{raw as bare}
-use mir.Val.{Val, vunit, vint, vptr, has_ty, WT}
-use mir.MapTy.{inst_fn}
-use base.Logic.{SProp, ent, id⊢}
-use base.Fml.{Lft, Share, Fml, ftrue, fsep, froom, flft, Incl-trans}
-use prog.Wp.{WpFn}
-use contract.BorrowLft.{◌⊑◌}
-use contract.Running.{tables}
-use contract.Monad.{fact}
-use types.Kit.{‵, raw, ◌⊛◌, given, later, at_ret, ◌$◌, ◌∵◌, !, qed, by, move, keep, drop, use1, use2, use3, split, join, fsplit, fsplit3, fjoin, fpick, learn}
-use types.Kit.{suffices, await, rewrite, feq_i}
-use types.Run.{stop, fld, lit, unit_lit, of_opd, no_more, and_then, first, blocks, exec, returns, enter}
-use types.ByLocal.{alloc_all, pass_all, free_all, look_at, get, get_in, sets, lands_last, env}
-use types.Part.{sub, whole}
-use denote.Exit.{yes, no}
-use denote.RattleType.{RattleType, owns}
-use denote.Builtin.{RefOf, usize}
-use denote.Plain.{uint_vals, uint_Tells}
-use denote.RawPtr.{Ptr, block_ptr, block_of, count_of, at_block}
-use denote.Ref.{shr_vals, shr_Tells}
-use denote.Signature.{types_at, plain}
-use denote.Steps.{nothing, heard}
-use denote.Param.{param, bounded}
-use denote.Triple.Call.{calls_at_last}
-use denote.Triple.Walked.{Stays, stay_dropped, walk_of, Goes-dropped}
-use Rattle.core.proofs.alloc.Calls.{Al, Gives, at_gives, Gives-goes, Gives-Gives}
-use Rattle.core.proofs.atomic.Steps.{tail}
-use Rattle.atomic_table.proofs.Calls.{fm}
-use Rattle.atomic_table.proofs.Walks.{proved, leaves}
-use Rattle.arcstr_block.specs.Memory.{block_size, block_type, block_owns, sole_owns}
+use Rattle.arcstr_block.proofs.Names.{◌≡◌, ℕ, ◌^◌, [], ◌∷◌, refl, lit<, List, sym, subst, length, ◌<◌, ◌∙◌, w64, T, inst_fn, bare, Ty, dcons, dnil, a_type}
+use Rattle.arcstr_block.proofs.Names.{named, ty_unit, Val, vint, vptr, has_ty, WT, vunit, WpFn, Lft, Share, Incl-trans, Fml, fsep, flft, ftrue, froom, SProp}
+use Rattle.arcstr_block.proofs.Names.{ent, id⊢, ◌⊑◌, fact, tables, usize, RefOf, no, yes, param, bounded, uint_vals, uint_Tells, RattleType, owns, block_of}
+use Rattle.arcstr_block.proofs.Names.{Ptr, block_ptr, count_of, at_block, shr_vals, shr_Tells, types_at, plain, nothing, heard, calls_at_last, Stays}
+use Rattle.arcstr_block.proofs.Names.{stay_dropped, walk_of, Goes-dropped, alloc_all, pass_all, free_all, look_at, get, get_in, sets, lands_last, env, ‵, ◌⊛◌}
+use Rattle.arcstr_block.proofs.Names.{later, ◌$◌, ◌∵◌, !, qed, move, use1, use2, split, join, fsplit, fjoin, fpick, await, raw, by, keep, fsplit3, given, drop}
+use Rattle.arcstr_block.proofs.Names.{learn, rewrite, suffices, feq_i, use3, at_ret, sub, whole, stop, fld, lit, unit_lit, of_opd, no_more, and_then, first}
+use Rattle.arcstr_block.proofs.Names.{blocks, exec, returns, enter, Al, Gives, at_gives, Gives-goes, Gives-Gives, tail, fm, leaves, proved, block_owns}
+use Rattle.arcstr_block.proofs.Names.{block_size, block_type, sole_owns}
 use Rattle.arcstr_block.proofs.Pointers.{pointer_val, typed, told}
 use Rattle.arcstr_block.proofs.Memory.{block_bytes, block_align, gathers}
 use Rattle.arcstr_block.specs.contracts.block.Sole.give_back.{ended, clauses}

@@ -1,49 +1,23 @@
 -- `lend` lends the bytes of the text for writing, and the block has what is written. Assumes `Logic`.
-use base.Fraction.{full_share}
-use mir.Syntax.{a_type, dcons, dnil, named, Ty, Fn, Args, Dict}
-use mir.MapTy.{inst_fn}
-use mir.Val.{Val, vptr, vint}
-use base.Logic.{SProp, ent, id⊢, sep, mono_r}
-use base.Fml.{Lft, GName, Share, Fml, ftrue, fsep, feq, flft, fobs, fbor}
-use prog.Wp.{WpFn, Env, Calls, Loops, Tables}
-use contract.Monad.{fact}
-use contract.Running.{tables, tables_of}
-use types.Kit.{Item, ‵, raw, ◌⊛◌, some, later, await, pick, at_ret, ◌$◌, ◌∵◌, !, qed, by, move, keep, drop, use1, split, join, rewrite, fsplit, fsplit3, fjoin}
-use types.Kit.{fjoin3, fpick, fpack, feq_i, suffices, ⋆, group, feq_l, flt_l, frame, done}
-use types.Part.{whole, sub, agg, look_in}
-use types.Run.{stop, fld, of_opd, and_then, no_more, first, blocks, exec, returns, enter, load}
-use types.ByLocal.{alloc_all, pass_all, free_all, look_at, get, through, sets, sets_last, env}
-use denote.Array.{Array}
-use denote.Builtin.{u8, usize, RefMutOf, SliceRefMutOf}
-use denote.Exit.{yes, no}
-use denote.Laws.{Is, shows}
-use denote.Memory.{cell_at, part_at, mem, part_of}
-use denote.Param.{param, bounded}
-use denote.RattleType.{RattleType, owns}
-use denote.RawPtr.{Ptr, InBlock, block_ptr, block_of, count_of, at_block}
-use denote.RawPtr.Bytes.{bytes, bytes_whole, bytes_apart}
-use denote.Signature.{plain, mut_ref_to}
-use denote.Slice.{slice_val, MutSlice}
-use denote.Steps.{nothing, peeks, opens}
-use denote.Triple.Walked.{Stays, stay_dropped, walk_of, Goes-dropped, says, needs, ends_at, Goes-spent_ref, walk_Meets}
-use Rattle.core.specs.Sync.RawAtomic.{word}
-use Rattle.core.proofs.atomic.Steps.{tail}
-use Rattle.std.proofs.Common.{◌≡◌, refl, sym, ap, subst, ◌∙◌, ℕ, ◌+◌, ◌*◌, ◌<◌, ◌^◌, arith, List, [], ◌∷◌, ◌++◌, length, w64}
-use seplogic.Ra.Ura.{Ura}
-use types.Logic.{Logic, sem}
+use Rattle.arcstr_block.proofs.Names.{◌≡◌, ℕ, ◌^◌, [], ◌∷◌, refl, arith, List, sym, subst, ap, length, ◌+◌, ◌<◌, ◌++◌, ◌∙◌, ◌*◌, w64, Ura, inst_fn, Ty, dcons}
+use Rattle.arcstr_block.proofs.Names.{dnil, a_type, named, Fn, Args, Dict, Val, vint, vptr, WpFn, Env, Calls, Loops, Tables, Lft, Share, Fml, fsep, flft, GName}
+use Rattle.arcstr_block.proofs.Names.{ftrue, feq, fbor, fobs, full_share, SProp, ent, sep, id⊢, mono_r, fact, tables, tables_of, Array, u8, usize, RefMutOf}
+use Rattle.arcstr_block.proofs.Names.{SliceRefMutOf, no, yes, Is, shows, cell_at, part_at, mem, part_of, param, bounded, RattleType, owns, block_of, Ptr}
+use Rattle.arcstr_block.proofs.Names.{block_ptr, InBlock, count_of, at_block, bytes, bytes_apart, bytes_whole, MutBor, MutRef, plain, mut_ref_to, slice_val}
+use Rattle.arcstr_block.proofs.Names.{MutSlice, nothing, peeks, opens, on_entry, triple_of, Meets, Stays, stay_dropped, walk_of, Goes-dropped, says, needs}
+use Rattle.arcstr_block.proofs.Names.{ends_at, Goes-spent_ref, walk_Meets, alloc_all, pass_all, free_all, look_at, get, sets, env, through, sets_last, ‵, ◌⊛◌}
+use Rattle.arcstr_block.proofs.Names.{some, later, ◌$◌, ◌∵◌, !, qed, move, group, pick, use1, split, join, fsplit, fjoin, fjoin3, fpick, fpack, await, done}
+use Rattle.arcstr_block.proofs.Names.{raw, by, keep, fsplit3, drop, rewrite, suffices, feq_l, feq_i, flt_l, frame, at_ret, Item, ⋆, Logic, sem, sub, whole, agg}
+use Rattle.arcstr_block.proofs.Names.{look_in, stop, fld, of_opd, no_more, and_then, first, blocks, exec, returns, enter, load, tail, word, Ghosts, Fits}
+use Rattle.arcstr_block.proofs.Names.{word_offset, word_lies, length_lies, text_lies, rim}
 use sound.WpLaws.{WpFn-mono}
 use types.SemTy.{Body as Borrowed, cells}
 use denote.Follow.{follows}
 use denote.FollowSlice.{Elements, lends_Elements}
-use denote.Ref.{MutBor, MutRef}
 use denote.Triple.Carry.{spared}
 use denote.Triple.Clauses.{Clauses, Ended, closing}
-use denote.Triple.Entry.{on_entry}
-use denote.Triple.Spec.{Meets, triple_of}
 use denote.Triple.Table.{entered, run_framed}
-use Rattle.core.specs.declared.alloc.Allocator.{Ghosts}
 use Rattle.arcstr_block.specs.Lends.{with_text}
-use Rattle.arcstr_block.specs.Memory.{Fits, length_lies, text_lies, rim, word_offset, word_lies}
 use Rattle.arcstr_block.proofs.Pointers.{pointer_val, Words, told}
 use Rattle.arcstr_block.specs.contracts.block.Sole.lend.Key.{name as #self}
 use Rattle.arcstr_block.specs.contracts.block.Sole as S

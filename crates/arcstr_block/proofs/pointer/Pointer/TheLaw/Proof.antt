@@ -1,22 +1,11 @@
 -- A `&` to a pointer holds a share of its token. Assumes `Logic`.
-use Rattle.std.proofs.Common.{length}
-use base.Fml.{fex}
-use denote.RattleType.{RattleType}
-use denote.Param.Laws.{Laws}
-use denote.Param.Shared.{copy_shared}
-use denote.RawPtr.{block_of}
-use denote.Sharing.{said, some}
-use denote.SharingLaws.{beside_shr_laws, said_shr_laws, some_shr_laws}
+use Rattle.arcstr_block.proofs.Names.{length, fex, Laws, copy_shared, RattleType, block_of, said, beside_shr_laws, said_shr_laws, some_shr_laws, RawPtr-field}
+use Rattle.arcstr_block.proofs.Names.{RawPtr-copy, field_copy, Lends-both, of_Lends, Lends-said, Ghosts, lends_twice, Id, held_with, of_block, shown, known}
+use Rattle.arcstr_block.proofs.Names.{of_block_shown, block_owns, block_shares, word_at, IsText, placed}
+use denote.Sharing.{some}
 use denote.Model.Laws.{Lends-some}
-use denote.Struct.Field.{RawPtr-field}
-use denote.Struct.Laws.{RawPtr-copy, field_copy}
-use denote.Struct.Lending.{of_Lends, Lends-both, Lends-said}
-use Rattle.core.specs.declared.alloc.Allocator.{Ghosts}
-use Rattle.arcstr_block.specs.Memory.{block_owns, block_shares, placed, IsText, word_at}
-use Rattle.arcstr_block.specs.Ledger.{Id, known, held_with, shown, of_block, of_block_shown}
 use Rattle.arcstr_block.proofs.Memory.{shares_laws}
 use Rattle.arcstr_block.proofs.Sharing.{known_twice, known_laws, shown_laws, Lends-held}
-use Rattle.logbook.proofs.Fields.{lends_twice}
 use Rattle.arcstr_block.proofs.pointer.Pointer.TheLaw.Statement.{statement}
 use Rattle.core.specs.contracts.marker.PhantomData as Marker
 use Rattle.arcstr_block.specs.contracts.pointer.Pointer as C

@@ -1,6 +1,4 @@
-use denote.RattleType.{RattleType}
-use denote.Param.Send.{IsSend, IsSync, Frees}
-use Rattle.core.specs.declared.alloc.Allocator.{Ghosts}
+use Rattle.arcstr_block.proofs.Names.{IsSend, IsSync, Frees, RattleType, Ghosts}
 use Rattle.arcstr_block.specs.contracts.pointer.Pointer.{the_row}
 use Rattle.arcstr_block.proofs.Sharing.{pointer_send}
 

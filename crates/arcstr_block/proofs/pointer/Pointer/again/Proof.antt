@@ -1,33 +1,11 @@
 -- `again` takes no step: a permanent share can be duplicated.
-use Rattle.std.proofs.Common.{◌≡◌, ℕ, List, [], ◌∷◌, sym, refl, ap, ◌∙◌, length}
-use mir.Syntax.{dcons, dnil, a_type, named}
-use mir.Val.{Val, vptr}
-use mir.MapTy.{inst_fn}
-use base.Logic.{SProp, emp}
-use base.Fml.{Lft, Share, Fml, ftrue, fsep, flft, fhide}
-use types.Kit.{‵, raw, ◌⊛◌, ◌$◌, ◌∵◌, !, qed, by, move, keep, drop, split, join, fsplit, fsplit3, fjoin, fpick, use0, use1, use3, rewrite}
-use types.Run.{stop, fld, load, of_opd, no_more, and_then, returns, enter}
-use types.ByLocal.{alloc_all, pass_all, free_all, look_at, get, through, sets, is, env}
-use types.Part.{agg, sub, whole, look_in}
-use contract.Running.{tables}
-use contract.Monad.{fact, fact_i}
-use denote.Exit.{yes}
-use denote.RattleType.{RattleType, owns}
-use denote.Signature.{types_at, plain}
-use denote.RawPtr.{Ptr, block_ptr, block_of, count_of, at_block}
-use denote.Steps.{nothing, peeks, heard, looks, shuts}
-use denote.Opens.{unhide}
-use denote.Laws.{Is, shows}
-use denote.Memory.{cell_at, hidden_shr}
-use denote.Param.{param, bounded}
-use denote.Builtin.{RefOf}
-use denote.Ref.{shr_vals, shr_Tells}
-use denote.Struct.Lending.{lent_out}
-use denote.Triple.Walked.{Stays, stay_dropped, walk_of, Goes-dropped}
-use Rattle.atomic_table.proofs.Walks.{proved, leaves}
-use Rattle.arcstr_block.specs.Rights.{fixed, Right}
-use Rattle.arcstr_block.specs.Memory.{block_owns, block_shares, word_at}
-use Rattle.arcstr_block.specs.Ledger.{Inv, shown, pointer_shares}
+use Rattle.arcstr_block.proofs.Names.{◌≡◌, ℕ, [], ◌∷◌, refl, List, sym, ap, length, ◌∙◌, inst_fn, dcons, dnil, a_type, named, Val, vptr, Lft, Share, Fml, fsep}
+use Rattle.arcstr_block.proofs.Names.{flft, ftrue, fhide, emp, SProp, fact, fact_i, tables, RefOf, yes, Is, shows, cell_at, hidden_shr, unhide, param, bounded}
+use Rattle.arcstr_block.proofs.Names.{RattleType, owns, block_of, Ptr, block_ptr, count_of, at_block, shr_vals, shr_Tells, types_at, plain, nothing, heard}
+use Rattle.arcstr_block.proofs.Names.{peeks, looks, shuts, lent_out, Stays, stay_dropped, walk_of, Goes-dropped, alloc_all, pass_all, free_all, look_at, get}
+use Rattle.arcstr_block.proofs.Names.{sets, env, through, is, ‵, ◌⊛◌, ◌$◌, ◌∵◌, !, qed, move, use0, use1, split, join, fsplit, fjoin, fpick, raw, by, keep}
+use Rattle.arcstr_block.proofs.Names.{fsplit3, drop, rewrite, use3, sub, whole, agg, look_in, stop, fld, of_opd, no_more, and_then, returns, enter, load}
+use Rattle.arcstr_block.proofs.Names.{leaves, proved, Inv, shown, pointer_shares, block_owns, block_shares, word_at, Right, fixed}
 use Rattle.arcstr_block.proofs.Memory.{shares_laws}
 use Rattle.arcstr_block.proofs.Pointers.{pointer_val, typed, Words, told, opened}
 use Rattle.arcstr_block.specs.contracts.pointer.Pointer.again.{ended, clauses}

@@ -1,32 +1,10 @@
 -- `an_owed_block_has_no_reader` returns the owed pointer: the book of its block does not lie beside the share of a token that the other shows.
-use Rattle.std.proofs.Common.{◌≡◌, ℕ, List, [], ◌∷◌, refl, sym, ◌∙◌, length, ◌≢◌}
-use mir.Syntax.{dcons, dnil, a_type, named}
-use mir.Val.{Val, vptr}
-use mir.MapTy.{inst_fn}
-use base.Logic.{SProp, emp}
-use base.Fml.{Lft, Share, Fml, ftrue, fsep, flft, fhide, finv, fshr_bor}
-use types.Kit.{‵, raw, ◌⊛◌, later, given, await, ◌$◌, ◌∵◌, !, qed, by, move, keep, drop, split, split3, join, fsplit, fsplit3, fjoin, fpick, use0, use1, use2}
-use types.Kit.{learn}
-use types.Run.{of_opd, returns, enter}
-use types.ByLocal.{alloc_all, pass_all, free_all, look_at, get, sets}
-use contract.Running.{tables}
-use contract.Monad.{fact, fact_i}
-use denote.Builtin.{RefOf}
-use denote.Exit.{yes, no}
-use denote.Memory.{hidden_shr}
-use denote.Opens.{unhide}
-use denote.Param.{param, bounded}
-use denote.RattleType.{RattleType, owns}
-use denote.RawPtr.{Ptr, block_of}
-use denote.Ref.{shr_vals, shr_Tells}
-use denote.Signature.{types_at, plain}
-use denote.Steps.{nothing, heard}
-use denote.Struct.Lending.{lent_out}
-use denote.Triple.Walked.{Stays, stay_dropped, walk_of, Goes-dropped}
-use Rattle.atomic_table.proofs.Walks.{proved, leaves}
-use Rattle.arcstr_block.specs.Rights.{Right, MaySee, owed}
-use Rattle.arcstr_block.specs.Memory.{block_owns, block_shares, word_at}
-use Rattle.arcstr_block.specs.Ledger.{Inv, pointer_shares}
+use Rattle.arcstr_block.proofs.Names.{◌≡◌, ℕ, [], ◌∷◌, refl, List, sym, ◌≢◌, length, ◌∙◌, inst_fn, dcons, dnil, a_type, named, Val, vptr, Lft, Share, Fml, fsep}
+use Rattle.arcstr_block.proofs.Names.{flft, finv, fshr_bor, ftrue, fhide, emp, SProp, fact, fact_i, tables, RefOf, no, yes, hidden_shr, unhide, param, bounded}
+use Rattle.arcstr_block.proofs.Names.{RattleType, owns, block_of, Ptr, shr_vals, shr_Tells, types_at, plain, nothing, heard, lent_out, Stays, stay_dropped}
+use Rattle.arcstr_block.proofs.Names.{walk_of, Goes-dropped, alloc_all, pass_all, free_all, look_at, get, sets, ‵, ◌⊛◌, later, ◌$◌, ◌∵◌, !, qed, move, use0}
+use Rattle.arcstr_block.proofs.Names.{use1, use2, split, split3, join, fsplit, fjoin, fpick, await, raw, by, keep, fsplit3, given, drop, learn, of_opd, returns}
+use Rattle.arcstr_block.proofs.Names.{enter, leaves, proved, Inv, pointer_shares, block_owns, block_shares, word_at, Right, owed, MaySee}
 use Rattle.arcstr_block.proofs.Blocks.{Lent, not_lent, away}
 use Rattle.arcstr_block.proofs.Pointers.{pointer_val, typed, Words, told}
 use Rattle.arcstr_block.proofs.Memory.{shares_laws}

@@ -1,41 +1,13 @@
 -- `back` takes the whole block with its length, and ends the history of the block.
-use Rattle.std.proofs.Common.{◌≡◌, ℕ, ◌+◌, ◌^◌, ◌<◌, List, [], ◌∷◌, ◌++◌, length, sym, refl, ap, arith, w64}
-use mir.Syntax.{dcons, dnil, a_type}
-use mir.Val.{Val, vint, vstruct, of_list, vptr}
-use mir.MapTy.{inst_fn}
-use base.Fraction.{full_share}
-use base.Logic.{SProp, emp, via}
-use base.Fml.{Fml, ftrue, fsep, feq}
-use types.Kit.{‵, raw, ◌⊛◌, later, ◌$◌, ◌∵◌, !, qed, by, move, keep, drop, split, split3, join, fsplit, fsplit3, fjoin, fjoin3, fpick, fpack, use0, use1, use2}
-use types.Kit.{await, rewrite, feq_i, flt_i, at_ret}
-use types.Run.{stop, fld, load, of_opd, no_more, and_then, first, blocks, exec, returns, enter, bin}
-use types.ByLocal.{alloc_all, pass_all, free_all, look_at, get, get_in, through, sets, sets_last, is, env}
-use types.Part.{agg, sub, whole, look_in}
-use contract.Running.{tables}
-use contract.Monad.{fact, fact_i}
-use denote.Exit.{no, yes}
-use denote.Plain.{uint_vals, uint_Tells}
-use denote.RattleType.{RattleType, Valss, owns}
-use denote.Builtin.{usize}
-use denote.Memory.{part_at}
-use denote.Signature.{types_at, plain}
-use denote.RawPtr.{Ptr, InBlock, block_ptr, ptr_val, block_of, count_of, at_block}
-use denote.Steps.{nothing, heard}
-use denote.Param.{param, bounded}
-use denote.Triple.Entry.{alive}
-use denote.Triple.Walked.{Stays, stay_dropped, walk_of, Goes-dropped}
-use Rattle.core.specs.Sync.RawAtomic.{word}
-use Rattle.core.proofs.atomic.Steps.{tail}
-use Rattle.core.proofs.tally.Steps.{word_in, word_out}
-use Rattle.atomic_table.proofs.Walks.{proved, leaves}
-use types.Owned.{basic}
-use Rattle.arcstr_count.specs.declared.steps.Step.TheVariants.{Back}
-use Rattle.arcstr_count.specs.declared.steps.HandleState.TheVariants.{Gone}
-use Rattle.arcstr_count.specs.declared.steps.Reply.TheVariants.{Given}
-use Rattle.arcstr_block.specs.Rights.{owed, Right}
-use Rattle.arcstr_block.specs.Book.{Book, seat, Ends}
-use Rattle.arcstr_block.specs.Memory.{Fits, length_lies, block_owns, block_shares, word_offset}
-use Rattle.arcstr_block.specs.Ledger.{held_with}
+use Rattle.arcstr_block.proofs.Names.{◌≡◌, ℕ, ◌^◌, [], ◌∷◌, refl, arith, List, sym, ap, length, ◌+◌, ◌<◌, ◌++◌, w64, inst_fn, dcons, dnil, a_type, Val, vint}
+use Rattle.arcstr_block.proofs.Names.{vptr, vstruct, of_list, Fml, fsep, ftrue, feq, full_share, emp, via, SProp, fact, fact_i, tables, usize, no, yes, part_at}
+use Rattle.arcstr_block.proofs.Names.{param, bounded, uint_vals, uint_Tells, RattleType, Valss, owns, block_of, Ptr, block_ptr, ptr_val, InBlock, count_of}
+use Rattle.arcstr_block.proofs.Names.{at_block, types_at, plain, nothing, heard, alive, Stays, stay_dropped, walk_of, Goes-dropped, alloc_all, pass_all}
+use Rattle.arcstr_block.proofs.Names.{free_all, look_at, get, get_in, sets, env, through, sets_last, is, ‵, ◌⊛◌, later, ◌$◌, ◌∵◌, !, qed, move, use0, use1}
+use Rattle.arcstr_block.proofs.Names.{use2, split, split3, join, fsplit, fjoin, fjoin3, fpick, fpack, await, raw, by, keep, fsplit3, drop, rewrite, feq_i}
+use Rattle.arcstr_block.proofs.Names.{flt_i, at_ret, basic, sub, whole, agg, look_in, stop, fld, of_opd, no_more, and_then, first, blocks, exec, returns, enter}
+use Rattle.arcstr_block.proofs.Names.{load, bin, tail, word_out, word_in, word, leaves, proved, Gone, Given, Back, Book, seat, Ends, held_with, block_owns}
+use Rattle.arcstr_block.proofs.Names.{block_shares, Fits, word_offset, length_lies, Right, owed}
 use Rattle.arcstr_block.proofs.Book.{book_back}
 use Rattle.arcstr_block.proofs.Pointers.{pointer_val, typed, measured_val, measured_typed, Words, told, made}
 use Rattle.arcstr_block.specs.contracts.pointer.Pointer.back.{ended, clauses}

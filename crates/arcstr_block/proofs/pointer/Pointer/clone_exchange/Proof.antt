@@ -1,42 +1,16 @@
 -- `clone_exchange` is one compare-exchange. If it finds the old word or a marked one, the clone succeeds.
-use Rattle.std.proofs.Common.{◌≡◌, ℕ, ◌+◌, List, [], ◌∷◌, sym, refl, ap, ◌∙◌, w64, length, arith}
-use mir.Syntax.{dcons, dnil, a_type, named}
-use mir.Val.{Val, vint, vptr}
-use mir.MapTy.{inst_fn}
-use base.Logic.{SProp, emp, via}
-use base.Fml.{Lft, Share, Fml, ftrue, fsep, fex, flft, fhide, finv, fshr_bor}
-use types.Kit.{‵, raw, ◌⊛◌, later, mean, at_ret, ◌$◌, ◌∵◌, !, qed, by, move, keep, drop, split, split3, join, fsplit, fsplit3, fjoin, fpick, use0, use1, use3}
-use types.Kit.{await, rewrite}
-use types.Run.{stop, fld, load, addr, of_opd, no_more, and_then, first, blocks, exec, Calls-last, returns, enter, bin}
-use types.ByLocal.{alloc_all, pass_all, free_all, look_at, get, through, sets, lands_last, is, env}
-use types.Part.{agg, sub, whole, look_in}
-use contract.Running.{tables}
-use contract.Monad.{fact, fact_i}
-use denote.Exit.{yes}
-use denote.RattleType.{RattleType, Valss, owns}
-use denote.Signature.{types_at, plain}
-use denote.RawPtr.{Ptr, block_ptr, block_of, count_of, at_block}
-use denote.Steps.{nothing, peeks, heard, looks, shuts}
-use denote.Opens.{unhide}
-use denote.Laws.{Is, shows}
-use denote.Memory.{cell_at, hidden_shr}
-use denote.Param.{param, bounded}
-use denote.Builtin.{RefOf, u64}
-use denote.Ref.{shr_vals, shr_Tells}
-use denote.Plain.{uint_vals, uint_Tells}
-use denote.Struct.Lending.{lent_out}
-use denote.Triple.Walked.{Stays, stay_dropped, walk_of, Goes-dropped}
-use Rattle.core.proofs.atomic.Steps.{tail}
-use Rattle.atomic_table.proofs.Walks.{proved, leaves}
-use Rattle.atomic_table.proofs.Calls.{fm, found, finds, exchanges}
-use Rattle.arcstr_block.specs.Word.{IsCountWord, IsClone}
-use Rattle.arcstr_block.specs.Rights.{IsFree, Gains, Right}
-use Rattle.arcstr_block.specs.Memory.{block_owns, block_shares, word_at, word_offset}
-use Rattle.arcstr_block.specs.Ledger.{Inv, knows, right_to, pointer_shares}
+use Rattle.arcstr_block.proofs.Names.{◌≡◌, ℕ, [], ◌∷◌, refl, arith, List, sym, ap, length, ◌+◌, ◌∙◌, w64, inst_fn, dcons, dnil, a_type, named, Val, vint, vptr}
+use Rattle.arcstr_block.proofs.Names.{Lft, Share, Fml, fsep, fex, flft, finv, fshr_bor, ftrue, fhide, emp, via, SProp, fact, fact_i, tables, u64, RefOf, yes}
+use Rattle.arcstr_block.proofs.Names.{Is, shows, cell_at, hidden_shr, unhide, param, bounded, uint_vals, uint_Tells, RattleType, Valss, owns, block_of, Ptr}
+use Rattle.arcstr_block.proofs.Names.{block_ptr, count_of, at_block, shr_vals, shr_Tells, types_at, plain, nothing, heard, peeks, looks, shuts, lent_out, Stays}
+use Rattle.arcstr_block.proofs.Names.{stay_dropped, walk_of, Goes-dropped, alloc_all, pass_all, free_all, look_at, get, sets, lands_last, env, through, is, ‵}
+use Rattle.arcstr_block.proofs.Names.{◌⊛◌, later, ◌$◌, ◌∵◌, !, qed, move, use0, use1, split, split3, join, fsplit, fjoin, fpick, await, raw, by, keep, fsplit3}
+use Rattle.arcstr_block.proofs.Names.{drop, rewrite, use3, at_ret, mean, sub, whole, agg, look_in, stop, fld, of_opd, no_more, and_then, first, blocks, exec}
+use Rattle.arcstr_block.proofs.Names.{returns, enter, load, addr, bin, Calls-last, tail, found, fm, finds, exchanges, leaves, proved, Free, seat_share, Inv}
+use Rattle.arcstr_block.proofs.Names.{knows, right_to, pointer_shares, block_owns, block_shares, word_at, word_offset, Right, IsFree, Gains, IsClone}
+use Rattle.arcstr_block.proofs.Names.{IsCountWord}
 use Rattle.arcstr_block.proofs.Memory.{shares_laws}
 use Rattle.arcstr_block.proofs.Pointers.{pointer_val, typed, found_val, found_typed, Words, told, opened}
-use Rattle.arcstr_count.specs.declared.steps.HandleState.TheVariants.{Free}
-use Rattle.arcstr_block.specs.Book.{seat_share}
 use Rattle.arcstr_block.proofs.Book.{raises as turn_raises}
 use Rattle.arcstr_block.proofs.Words.{IsMarkedOr}
 use Rattle.arcstr_block.specs.contracts.pointer.Pointer.clone_exchange.{ended, clauses}

@@ -1,46 +1,17 @@
 -- `leak` is one fetch-or. Whoever sets or finds the static flag has a permanent share.
-use Rattle.std.proofs.Common.{◌≡◌, ℕ, ◌+◌, List, [], ◌∷◌, sym, refl, ap, ◌∙◌, lit<, w64, length, arith, ◌^◌, ◌<◌}
-use mir.Syntax.{dcons, dnil, a_type, named}
-use mir.Val.{Val, vint, vptr}
-use mir.MapTy.{inst_fn}
-use base.Logic.{SProp, via}
-use base.Fml.{Lft, Share, Fml, ftrue, fsep, flft, fhide, finv, fshr_bor, fex}
-use types.Kit.{‵, raw, ◌⊛◌, later, mean, at_ret, ◌$◌, ◌∵◌, !, qed, by, move, keep, drop, split, split3, join, fsplit, fsplit3, fjoin, fpick, use0, use1, use2}
-use types.Kit.{use3, await, rewrite}
-use types.Run.{stop, fld, load, addr, lit, of_opd, no_more, and_then, first, blocks, exec, Calls-last, returns, enter, bin}
-use types.ByLocal.{alloc_all, pass_all, free_all, look_at, get, through, sets, lands_last, is, env}
-use types.Part.{agg, sub, whole, look_in}
-use contract.Running.{tables}
-use contract.Monad.{fact}
-use denote.Exit.{yes}
-use denote.Plain.{uint_vals, uint_Tells}
-use denote.RattleType.{RattleType, owns}
-use denote.Signature.{types_at, plain}
-use denote.RawPtr.{Ptr, block_ptr, block_of, count_of, at_block}
-use denote.Steps.{nothing, peeks, heard, looks, shuts}
-use denote.Opens.{unhide}
-use denote.Laws.{Is, shows}
-use denote.Memory.{cell_at, hidden_shr}
-use denote.Param.{param, bounded}
-use denote.Builtin.{RefOf, usize}
-use denote.Ref.{shr_vals, shr_Tells}
-use denote.Struct.Lending.{lent_out}
-use denote.Triple.Walked.{Stays, stay_dropped, walk_of, Goes-dropped}
-use Rattle.core.proofs.atomic.Steps.{tail}
-use Rattle.atomic_table.proofs.Walks.{proved, leaves}
-use Rattle.atomic_table.proofs.Calls.{fm, seq_cst, found, finds, ors}
-use Rattle.arcstr_block.specs.Rights.{IsFree, fixed, Right}
-use Rattle.arcstr_block.specs.Memory.{block_owns, block_shares, word_at, word_offset}
-use Rattle.arcstr_block.specs.Ledger.{Inv, knows, right_to, pointer_shares}
+use Rattle.arcstr_block.proofs.Names.{◌≡◌, ℕ, ◌^◌, [], ◌∷◌, refl, arith, lit<, List, sym, ap, length, ◌+◌, ◌<◌, ◌∙◌, w64, inst_fn, dcons, dnil, a_type, named}
+use Rattle.arcstr_block.proofs.Names.{Val, vint, vptr, Lft, Share, Fml, fsep, fex, flft, finv, fshr_bor, ftrue, fhide, via, SProp, fact, tables, usize, RefOf}
+use Rattle.arcstr_block.proofs.Names.{yes, Is, shows, cell_at, hidden_shr, unhide, param, bounded, uint_vals, uint_Tells, RattleType, owns, block_of, Ptr}
+use Rattle.arcstr_block.proofs.Names.{block_ptr, count_of, at_block, shr_vals, shr_Tells, types_at, plain, nothing, heard, peeks, looks, shuts, lent_out, Stays}
+use Rattle.arcstr_block.proofs.Names.{stay_dropped, walk_of, Goes-dropped, alloc_all, pass_all, free_all, look_at, get, sets, lands_last, env, through, is, ‵}
+use Rattle.arcstr_block.proofs.Names.{◌⊛◌, later, ◌$◌, ◌∵◌, !, qed, move, use0, use1, use2, split, split3, join, fsplit, fjoin, fpick, await, raw, by, keep}
+use Rattle.arcstr_block.proofs.Names.{fsplit3, drop, rewrite, use3, at_ret, mean, sub, whole, agg, look_in, stop, fld, lit, of_opd, no_more, and_then, first}
+use Rattle.arcstr_block.proofs.Names.{blocks, exec, returns, enter, load, addr, bin, Calls-last, tail, found, fm, seq_cst, finds, ors, leaves, proved, EndsIn}
+use Rattle.arcstr_block.proofs.Names.{Free, Marked, Leak, seat_share, Ends, IsMarkedIn, Inv, knows, right_to, pointer_shares, block_owns, block_shares, word_at}
+use Rattle.arcstr_block.proofs.Names.{word_offset, Right, IsFree, fixed}
 use Rattle.arcstr_block.proofs.Memory.{shares_laws}
 use Rattle.arcstr_block.proofs.Pointers.{pointer_val, typed, Words, told, opened}
-use Rattle.arcstr_count.specs.declared.steps.HandleState.TheVariants.{Free}
-use Rattle.arcstr_count.specs.OneBlock.{EndsIn}
-use Rattle.arcstr_block.specs.Book.{seat_share, Ends}
-use Rattle.arcstr_count.specs.declared.steps.Step.TheVariants.{Leak}
-use Rattle.arcstr_count.specs.declared.steps.Reply.TheVariants.{Marked}
 use Rattle.arcstr_block.proofs.Book.{book_mark}
-use Rattle.arcstr_block.specs.Handle.{IsMarkedIn}
 use Rattle.arcstr_block.proofs.Histories.{marked_by_leak}
 use Rattle.arcstr_block.specs.contracts.pointer.Pointer.leak.{ended, clauses}
 use Rattle.arcstr_block.specs.contracts.pointer.Pointer.leak.Key.{name as #self}

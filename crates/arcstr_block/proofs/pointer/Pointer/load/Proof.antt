@@ -1,44 +1,16 @@
 -- `load` is one load. A look that finds the word marked has a permanent share, and a clone that finds it marked succeeds.
-use Rattle.std.proofs.Common.{◌≡◌, ℕ, Bool, ◌+◌, List, [], ◌∷◌, sym, refl, ap, ◌∙◌, lit<, length, arith, w64, ◌^◌, ◌<◌}
-use mir.Syntax.{dcons, dnil, a_type, named}
-use mir.Val.{Val, vptr, vint}
-use mir.MapTy.{inst_fn}
-use base.Logic.{SProp, emp, via}
-use base.Fml.{Lft, Share, Fml, ftrue, fsep, flft, fhide, finv, fshr_bor, fex}
-use types.Kit.{‵, raw, ◌⊛◌, later, mean, at_ret, ◌$◌, ◌∵◌, !, qed, by, move, keep, drop, split, split3, join, fsplit, fsplit3, fjoin, fpick, use0, use1, use3}
-use types.Kit.{await, rewrite}
-use types.Run.{stop, fld, load, addr, lit, of_opd, no_more, and_then, first, blocks, exec, Calls-last, returns, enter, bin}
-use types.ByLocal.{alloc_all, pass_all, free_all, look_at, get, through, sets, lands_last, is, env}
-use types.Part.{agg, sub, whole, look_in}
-use contract.Running.{tables}
-use contract.Monad.{fact, fact_i}
-use denote.Exit.{yes}
-use denote.Plain.{uint_vals, uint_Tells}
-use denote.RattleType.{RattleType, Valss, owns}
-use denote.Signature.{types_at, plain}
-use denote.RawPtr.{Ptr, block_ptr, block_of, count_of, at_block}
-use denote.Steps.{nothing, peeks, heard, looks, shuts}
-use denote.Opens.{unhide}
-use denote.Laws.{Is, shows}
-use denote.Memory.{cell_at, hidden_shr}
-use denote.Param.{param, bounded}
-use denote.Builtin.{RefOf, u64, usize}
-use denote.Ref.{shr_vals, shr_Tells}
-use denote.Struct.Lending.{lent_out}
-use denote.Triple.Walked.{Stays, stay_dropped, walk_of, Goes-dropped}
-use Rattle.core.proofs.atomic.Steps.{tail}
-use Rattle.atomic_table.proofs.Walks.{proved, leaves}
-use Rattle.atomic_table.proofs.Calls.{fm, seq_cst, found, finds, loads}
-use Rattle.arcstr_block.specs.Word.{IsCountWord}
-use Rattle.arcstr_block.specs.Rights.{IsFree, Loads, Right}
-use Rattle.arcstr_block.specs.Memory.{block_owns, block_shares, word_at, word_offset}
-use Rattle.arcstr_block.specs.Ledger.{Inv, knows, pointer_shares}
+use Rattle.arcstr_block.proofs.Names.{◌≡◌, ℕ, ◌^◌, Bool, [], ◌∷◌, refl, arith, lit<, List, sym, ap, length, ◌+◌, ◌<◌, ◌∙◌, w64, inst_fn, dcons, dnil, a_type}
+use Rattle.arcstr_block.proofs.Names.{named, Val, vint, vptr, Lft, Share, Fml, fsep, fex, flft, finv, fshr_bor, ftrue, fhide, emp, via, SProp, fact, fact_i}
+use Rattle.arcstr_block.proofs.Names.{tables, usize, u64, RefOf, yes, Is, shows, cell_at, hidden_shr, unhide, param, bounded, uint_vals, uint_Tells, RattleType}
+use Rattle.arcstr_block.proofs.Names.{Valss, owns, block_of, Ptr, block_ptr, count_of, at_block, shr_vals, shr_Tells, types_at, plain, nothing, heard, peeks}
+use Rattle.arcstr_block.proofs.Names.{looks, shuts, lent_out, Stays, stay_dropped, walk_of, Goes-dropped, alloc_all, pass_all, free_all, look_at, get, sets}
+use Rattle.arcstr_block.proofs.Names.{lands_last, env, through, is, ‵, ◌⊛◌, later, ◌$◌, ◌∵◌, !, qed, move, use0, use1, split, split3, join, fsplit, fjoin}
+use Rattle.arcstr_block.proofs.Names.{fpick, await, raw, by, keep, fsplit3, drop, rewrite, use3, at_ret, mean, sub, whole, agg, look_in, stop, fld, lit, of_opd}
+use Rattle.arcstr_block.proofs.Names.{no_more, and_then, first, blocks, exec, returns, enter, load, addr, bin, Calls-last, tail, found, fm, seq_cst, finds}
+use Rattle.arcstr_block.proofs.Names.{loads, leaves, proved, Free, Step, seat_share, Inv, knows, pointer_shares, block_owns, block_shares, word_at, word_offset}
+use Rattle.arcstr_block.proofs.Names.{Right, IsFree, Loads, LoadedAs, IsCountWord}
 use Rattle.arcstr_block.proofs.Memory.{shares_laws}
 use Rattle.arcstr_block.proofs.Pointers.{pointer_val, typed, found_val, found_typed, Words, told, opened}
-use Rattle.arcstr_count.specs.declared.steps.HandleState.TheVariants.{Free}
-use Rattle.arcstr_block.specs.Book.{seat_share}
-use Rattle.arcstr_block.specs.Same.{LoadedAs}
-use Rattle.arcstr_count.specs.declared.steps.Step.{Step}
 use Rattle.arcstr_block.specs.contracts.pointer.Pointer.load.{ended, clauses}
 use Rattle.arcstr_block.specs.contracts.pointer.Pointer.load.Key.{name as #self}
 use Rattle.arcstr_block.proofs.pointer.Pointer.load.Statement.{statement}

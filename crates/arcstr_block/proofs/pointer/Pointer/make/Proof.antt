@@ -1,33 +1,11 @@
 -- `make` puts the word under the ledger's invariant, and lends what the block owns.
-use Rattle.std.proofs.Common.{◌≡◌, ℕ, ◌+◌, List, [], ◌∷◌, sym, refl, ap, length}
-use mir.Syntax.{dcons, dnil, a_type}
-use mir.Val.{Val}
-use mir.MapTy.{inst_fn}
-use base.Logic.{SProp, emp}
-use base.Fml.{Fml, ftrue, fsep, fex, flft, Incl-refl}
-use types.Kit.{Item, ‵, raw, ◌⊛◌, later, ◌$◌, ◌∵◌, !, qed, by, move, keep, drop, split, join, fsplit, fsplit3, fjoin, fpick, use0, use2, use3, await, rewrite}
-use types.Run.{stop, fld, of_opd, no_more, and_then, returns, enter}
-use types.ByLocal.{alloc_all, pass_all, free_all, look_at, get, get_in, sets, is}
-use types.Part.{agg, sub, whole}
-use contract.Running.{tables}
-use contract.Monad.{fact, fact_i}
-use denote.Exit.{no}
-use denote.RattleType.{RattleType, owns}
-use denote.Signature.{types_at, plain}
-use denote.RawPtr.{Ptr, block_ptr, ptr_val, block_of, count_of, at_block}
-use denote.Steps.{nothing, heard}
-use denote.Param.{param, bounded}
-use denote.Triple.Walked.{Stays, stay_dropped, walk_of, Goes-dropped}
-use Rattle.std.specs.Prelude.{IsUtf8}
-use Rattle.core.specs.Sync.RawAtomic.{word}
-use Rattle.atomic_table.proofs.Walks.{proved, leaves}
-use Rattle.arcstr_count.specs.Word.{bits_of, fresh_word}
-use Rattle.arcstr_count.specs.declared.steps.Step.TheVariants.{Make}
-use Rattle.arcstr_block.specs.Word.{IsLimit}
-use Rattle.arcstr_block.specs.Rights.{counted}
-use Rattle.arcstr_block.specs.Book.{reached}
-use Rattle.arcstr_block.specs.Memory.{block_owns, block_shares, word_offset}
-use Rattle.arcstr_block.specs.Ledger.{Id, held_with}
+use Rattle.arcstr_block.proofs.Names.{◌≡◌, ℕ, [], ◌∷◌, refl, List, sym, ap, length, ◌+◌, IsUtf8, inst_fn, dcons, dnil, a_type, Val, Fml, fsep, fex, flft, ftrue}
+use Rattle.arcstr_block.proofs.Names.{Incl-refl, emp, SProp, fact, fact_i, tables, no, param, bounded, RattleType, owns, block_of, Ptr, block_ptr, ptr_val}
+use Rattle.arcstr_block.proofs.Names.{count_of, at_block, types_at, plain, nothing, heard, Stays, stay_dropped, walk_of, Goes-dropped, alloc_all, pass_all}
+use Rattle.arcstr_block.proofs.Names.{free_all, look_at, get, get_in, sets, is, ‵, ◌⊛◌, later, ◌$◌, ◌∵◌, !, qed, move, use0, use2, split, join, fsplit, fjoin}
+use Rattle.arcstr_block.proofs.Names.{fpick, await, raw, by, keep, fsplit3, drop, rewrite, use3, Item, sub, whole, agg, stop, fld, of_opd, no_more, and_then}
+use Rattle.arcstr_block.proofs.Names.{returns, enter, word, leaves, proved, bits_of, fresh_word, Make, reached, Id, held_with, block_owns, block_shares}
+use Rattle.arcstr_block.proofs.Names.{word_offset, counted, IsLimit}
 use Rattle.arcstr_block.proofs.Blocks.{begins}
 use Rattle.arcstr_block.proofs.Pointers.{pointer_val, typed, told}
 use Rattle.arcstr_block.proofs.Memory.{shares_laws, lends_block}

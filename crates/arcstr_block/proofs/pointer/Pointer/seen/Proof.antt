@@ -1,35 +1,11 @@
 -- `seen` returns what the pointer knows of the history, which is permanent.
-use Rattle.std.proofs.Common.{◌≡◌, ℕ, [], ◌∷◌, refl, length}
-use mir.Syntax.{dcons, dnil, a_type, named}
-use mir.Val.{Val, vptr}
-use mir.MapTy.{inst_fn}
-use base.Logic.{SProp, emp}
-use base.Fml.{Lft, Share, Fml, ftrue, fsep, flft, fhide}
-use types.Kit.{‵, raw, ◌⊛◌, ◌$◌, ◌∵◌, !, qed, by, move, keep, drop, split, join, fsplit, fjoin, fpick, use0, use1, rewrite}
-use types.Run.{no_more, and_then, returns, enter}
-use types.ByLocal.{alloc_all, pass_all, free_all, look_at, get, sets}
-use types.Part.{agg}
-use contract.Running.{tables}
-use contract.Monad.{fact, fact_i}
-use denote.Exit.{yes}
-use denote.RattleType.{RattleType, owns}
-use denote.Signature.{types_at, plain}
-use denote.RawPtr.{Ptr, block_of}
-use denote.Steps.{nothing}
-use denote.Opens.{unhide}
-use denote.Memory.{hidden_shr}
-use denote.Param.{param, bounded}
-use denote.Builtin.{RefOf, unit}
-use denote.Ref.{shr_vals, shr_Tells}
-use denote.Struct.Lending.{lent_out}
-use denote.Triple.Walked.{Stays, stay_dropped, walk_of, Goes-dropped}
-use Rattle.atomic_table.proofs.Walks.{proved, leaves}
-use Rattle.logbook.proofs.Fields.{Token, token, token_made}
-use Rattle.arcstr_block.specs.Rights.{Right}
-use Rattle.arcstr_block.specs.Memory.{block_owns, block_shares, word_at}
-use Rattle.arcstr_block.specs.Ledger.{pointer_shares}
+use Rattle.arcstr_block.proofs.Names.{◌≡◌, ℕ, [], ◌∷◌, refl, length, inst_fn, dcons, dnil, a_type, named, Val, vptr, Lft, Share, Fml, fsep, flft, ftrue, fhide}
+use Rattle.arcstr_block.proofs.Names.{emp, SProp, fact, fact_i, tables, RefOf, unit, yes, hidden_shr, unhide, param, bounded, RattleType, owns, block_of, Ptr}
+use Rattle.arcstr_block.proofs.Names.{shr_vals, shr_Tells, types_at, plain, nothing, lent_out, Stays, stay_dropped, walk_of, Goes-dropped, alloc_all, pass_all}
+use Rattle.arcstr_block.proofs.Names.{free_all, look_at, get, sets, ‵, ◌⊛◌, ◌$◌, ◌∵◌, !, qed, move, use0, use1, split, join, fsplit, fjoin, fpick, raw, by}
+use Rattle.arcstr_block.proofs.Names.{keep, drop, rewrite, agg, no_more, and_then, returns, enter, leaves, proved, Token, token, token_made, BlockName, reached}
+use Rattle.arcstr_block.proofs.Names.{pointer_shares, block_owns, block_shares, word_at, Right}
 use Rattle.arcstr_block.proofs.Memory.{shares_laws}
-use Rattle.arcstr_block.specs.Book.{BlockName, reached}
 use Rattle.arcstr_block.proofs.Pointers.{Words}
 use Rattle.arcstr_block.specs.contracts.pointer.Pointer.seen.{ended, clauses}
 use Rattle.arcstr_block.specs.contracts.pointer.Pointer.seen.Key.{name as #self}

@@ -1,40 +1,15 @@
 -- `sub` is one fetch-sub. The last one has the word and what the block owns.
-use Rattle.std.proofs.Common.{◌≡◌, ℕ, ◌+◌, [], ◌∷◌, sym, refl, ap, subst, if◌then◌else◌, lit<, w64, length, arith, ◌^◌, ◌<◌, ◌≢◌}
-use mir.Syntax.{dcons, dnil, a_type}
-use mir.Val.{Val, vint, vptr}
-use mir.MapTy.{inst_fn}
-use base.Logic.{SProp, via}
-use base.Fml.{Lft, Fml, ftrue, fsep, finv, fex}
-use types.Kit.{‵, raw, ◌⊛◌, later, mean, at_ret, ◌$◌, ◌∵◌, qed, by, move, keep, drop, split, fsplit, fsplit3, fjoin, fpick, use0, use1, use3, await, rewrite}
-use Rattle.arcstr_block.proofs.WholeProofs.{ !}
-use types.Run.{stop, fld, addr, lit, of_opd, no_more, and_then, first, blocks, exec, Calls-last, returns, enter, bin}
-use types.ByLocal.{alloc_all, pass_all, free_all, look_at, get, get_in, through, sets, lands_last, is, env}
-use types.Part.{agg, sub, whole}
-use contract.Running.{tables}
-use contract.Monad.{fact}
-use denote.Exit.{yes, no}
-use denote.Plain.{uint_vals, uint_Tells}
-use denote.RattleType.{RattleType, Valss, owns}
-use denote.Signature.{types_at, plain}
-use denote.RawPtr.{Ptr, block_ptr, ptr_val, block_of, count_of, at_block}
-use denote.Steps.{nothing, heard}
-use denote.Param.{param, bounded}
-use denote.Builtin.{u64, usize}
-use denote.Triple.Entry.{alive}
-use denote.Triple.Walked.{Stays, stay_dropped, walk_of, Goes-dropped}
-use Rattle.core.proofs.atomic.Steps.{tail}
-use Rattle.atomic_table.proofs.Walks.{proved, leaves}
-use Rattle.atomic_table.proofs.Calls.{fm, seq_cst, found, finds, subs}
-use Rattle.arcstr_block.specs.Rights.{dropping, Leaves, Right}
-use Rattle.arcstr_block.specs.Memory.{block_owns, block_shares, word_at, word_offset}
-use Rattle.arcstr_block.specs.Ledger.{Inv, held_with, right_to}
+use Rattle.arcstr_block.proofs.Names.{◌≡◌, ℕ, ◌^◌, [], ◌∷◌, refl, arith, lit<, sym, subst, ◌≢◌, ap, length, ◌+◌, ◌<◌, if◌then◌else◌, w64, inst_fn, dcons, dnil}
+use Rattle.arcstr_block.proofs.Names.{a_type, Val, vint, vptr, Lft, Fml, fsep, fex, finv, ftrue, via, SProp, fact, tables, usize, u64, no, yes, param, bounded}
+use Rattle.arcstr_block.proofs.Names.{uint_vals, uint_Tells, RattleType, Valss, owns, block_of, Ptr, block_ptr, ptr_val, count_of, at_block, types_at, plain}
+use Rattle.arcstr_block.proofs.Names.{nothing, heard, alive, Stays, stay_dropped, walk_of, Goes-dropped, alloc_all, pass_all, free_all, look_at, get, get_in}
+use Rattle.arcstr_block.proofs.Names.{sets, lands_last, env, through, is, ‵, ◌⊛◌, later, ◌$◌, ◌∵◌, !, qed, move, use0, use1, split, fsplit, fjoin, fpick, await}
+use Rattle.arcstr_block.proofs.Names.{raw, by, keep, fsplit3, drop, rewrite, use3, at_ret, mean, sub, whole, agg, stop, fld, lit, of_opd, no_more, and_then}
+use Rattle.arcstr_block.proofs.Names.{first, blocks, exec, returns, enter, addr, bin, Calls-last, tail, found, fm, seq_cst, finds, subs, leaves, proved, EndsIn}
+use Rattle.arcstr_block.proofs.Names.{Dropping, Owes, Left, Sub, seat, Ends, Inv, held_with, right_to, block_owns, block_shares, word_at, word_offset, Right}
+use Rattle.arcstr_block.proofs.Names.{dropping, Leaves}
 use Rattle.arcstr_block.proofs.Memory.{shares_laws}
 use Rattle.arcstr_block.proofs.Pointers.{pointer_val, typed, found_val, found_typed, Words, told}
-use Rattle.arcstr_count.specs.declared.steps.HandleState.TheVariants.{Dropping}
-use Rattle.arcstr_count.specs.declared.steps.Step.TheVariants.{Sub}
-use Rattle.arcstr_count.specs.declared.steps.Reply.TheVariants.{Owes, Left}
-use Rattle.arcstr_count.specs.OneBlock.{EndsIn}
-use Rattle.arcstr_block.specs.Book.{seat, Ends}
 use Rattle.arcstr_block.proofs.Book.{book_sub, left_in, sub_reply}
 use Rattle.arcstr_block.proofs.Words.{one_less, last_two, not_last}
 use Rattle.arcstr_block.specs.contracts.pointer.Pointer.sub.{ended, clauses}

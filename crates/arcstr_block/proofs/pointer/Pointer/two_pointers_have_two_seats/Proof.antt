@@ -1,26 +1,9 @@
 -- `two_pointers_have_two_seats` returns both pointers: it does nothing.
-use Rattle.std.proofs.Common.{◌≡◌, List, [], ◌∷◌, ◌++◌, refl}
-use mir.Syntax.{dcons, dnil, a_type}
-use mir.Val.{Val, vstruct, of_list}
-use mir.MapTy.{inst_fn}
-use base.Logic.{SProp, emp}
-use base.Fml.{fsep, feq}
-use types.Kit.{‵, raw, ◌⊛◌, later, given, await, ◌$◌, ◌∵◌, !, qed, by, move, keep, split, join, learn, fsplit3, fjoin, fjoin3, fpack, use0, use2, feq_i}
-use types.Run.{of_opd, no_more, and_then, returns, enter}
-use types.ByLocal.{alloc_all, pass_all, free_all, look_at, get, sets}
-use types.Part.{agg}
-use contract.Running.{tables}
-use contract.Monad.{fact, fact_i}
-use denote.Exit.{no}
-use denote.RattleType.{RattleType, Valss, owns}
-use denote.Signature.{types_at, plain}
-use denote.RawPtr.{Ptr}
-use denote.Steps.{nothing, heard}
-use denote.Param.{param, bounded}
-use denote.Triple.Entry.{alive}
-use denote.Triple.Walked.{Stays, stay_dropped, walk_of, Goes-dropped}
-use Rattle.atomic_table.proofs.Walks.{proved, leaves}
-use Rattle.arcstr_block.specs.Rights.{HasSeat}
+use Rattle.arcstr_block.proofs.Names.{◌≡◌, [], ◌∷◌, refl, List, ◌++◌, inst_fn, dcons, dnil, a_type, Val, vstruct, of_list, fsep, feq, emp, SProp, fact, fact_i}
+use Rattle.arcstr_block.proofs.Names.{tables, no, param, bounded, RattleType, Valss, owns, Ptr, types_at, plain, nothing, heard, alive, Stays, stay_dropped}
+use Rattle.arcstr_block.proofs.Names.{walk_of, Goes-dropped, alloc_all, pass_all, free_all, look_at, get, sets, ‵, ◌⊛◌, later, ◌$◌, ◌∵◌, !, qed, move, use0}
+use Rattle.arcstr_block.proofs.Names.{use2, split, join, fjoin, fjoin3, fpack, await, raw, by, keep, fsplit3, given, learn, feq_i, agg, of_opd, no_more}
+use Rattle.arcstr_block.proofs.Names.{and_then, returns, enter, leaves, proved, HasSeat}
 use Rattle.arcstr_block.proofs.Pointers.{pointer_val, typed, two_val, two_typed, told}
 use Rattle.arcstr_block.proofs.Blocks.{Apart, OwesAnother, Distinct, are_apart}
 use Rattle.arcstr_block.specs.contracts.pointer.Pointer.two_pointers_have_two_seats.{ended, clauses}

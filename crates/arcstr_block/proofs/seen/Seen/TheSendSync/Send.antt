@@ -1,4 +1,4 @@
-use denote.Param.Send.{IsSend}
+use Rattle.arcstr_block.proofs.Names.{IsSend}
 use Rattle.arcstr_block.specs.contracts.seen.Seen.{the_row}
 use Rattle.arcstr_block.proofs.Sharing.{reached_keyless}
 

@@ -1,6 +1,4 @@
-use denote.Param.Send.{IsSync, sendable}
-use denote.Struct.Struct.{Struct}
-use denote.Struct.Owning.{shape}
+use Rattle.arcstr_block.proofs.Names.{IsSync, sendable, shape, Struct}
 use Rattle.arcstr_block.specs.contracts.seen.Seen.{the_row, the_type}
 use Rattle.arcstr_block.proofs.Sharing.{reached_keyless}
 

@@ -1,30 +1,9 @@
 -- `agree` does nothing: what two `&` to a `Seen` hold proves its law.
-use Rattle.std.proofs.Common.{◌≡◌, ℕ, List, [], ◌∷◌, length, refl, ap, ◌≤◌}
-use mir.Syntax.{named}
-use mir.Val.{Val, vunit, vptr}
-use base.Logic.{SProp, emp}
-use base.Fml.{GName, fhide}
-use types.Kit.{‵, raw, ◌⊛◌, ◌$◌, ◌∵◌, qed, by, move, keep, drop, split, join, fsplit, fsplit3, fjoin, use0, use1, use2, feq_i}
-use Rattle.arcstr_block.proofs.WholeProofs.{ !}
-use types.Run.{unit_lit, of_opd, returns, enter}
-use types.ByLocal.{alloc_all, pass_all, free_all, look_at, sets}
-use contract.Running.{tables}
-use contract.Monad.{fact, fact_i}
-use denote.Exit.{yes}
-use denote.RattleType.{RattleType, owns}
-use denote.Signature.{types_at, plain}
-use denote.Steps.{nothing, heard}
-use denote.Opens.{unhide}
-use denote.Memory.{hidden_shr}
-use denote.Builtin.{RefOf, unit}
-use denote.Ref.{shr_vals, shr_Tells}
-use denote.Struct.Lending.{lent_out}
-use denote.Triple.Entry.{alive}
-use denote.Triple.Walked.{Stays, stay_dropped, walk_of, Goes-dropped}
-use Rattle.atomic_table.proofs.Walks.{proved, leaves}
-use Rattle.logbook.proofs.Fields.{Token}
-use Rattle.arcstr_block.specs.Book.{BlockName, reached}
-use mathlib.Core.List.{IsPrefix}
+use Rattle.arcstr_block.proofs.Names.{◌≡◌, ℕ, [], ◌∷◌, refl, List, ap, length, ◌≤◌, IsPrefix, named, Val, vptr, vunit, GName, fhide, emp, SProp, fact, fact_i}
+use Rattle.arcstr_block.proofs.Names.{tables, RefOf, unit, yes, hidden_shr, unhide, RattleType, owns, shr_vals, shr_Tells, types_at, plain, nothing, heard}
+use Rattle.arcstr_block.proofs.Names.{lent_out, alive, Stays, stay_dropped, walk_of, Goes-dropped, alloc_all, pass_all, free_all, look_at, sets, ‵, ◌⊛◌, ◌$◌}
+use Rattle.arcstr_block.proofs.Names.{◌∵◌, !, qed, move, use0, use1, use2, split, join, fsplit, fjoin, raw, by, keep, fsplit3, drop, feq_i, unit_lit, of_opd}
+use Rattle.arcstr_block.proofs.Names.{returns, enter, leaves, proved, Token, BlockName, reached}
 use Rattle.arcstr_block.proofs.Histories.{Agrees, agree}
 use Rattle.arcstr_block.specs.contracts.seen.Seen.agree.{ended, clauses}
 use Rattle.arcstr_block.specs.contracts.seen.Seen.agree.Key.{name as #self}

@@ -1,4 +1,4 @@
-use Rattle.std.proofs.Common.{true}
+use Rattle.arcstr_block.proofs.Names.{true}
 use Rattle.arcstr_block.proofs.shared.Counted.find.Given as goal
 
 -- the load is a clone's
