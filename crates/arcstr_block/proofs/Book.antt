@@ -1,15 +1,14 @@
 -- The book of a block: the seats of its handles, and the history, which each step extends by exactly that step. Assumes `Logic`.
-use Rattle.arcstr_block.proofs.Names.{◌≡◌, ℕ, ◌-◌, ◌^◌, Bool, true, [], ◌∷◌, refl, arith, lit<, false, List, sym, subst, inl, inr, ◌≢◌, ap, length, zero, suc}
-use Rattle.arcstr_block.proofs.Names.{◌+◌, ◌<◌, ◌++◌, set, Some, ◌/◌, ◌%◌, if◌then◌else◌, ◌∙◌, eqb, eq-eqb, ne_eqb, slice_get, bit_or, dite, ℕ_discrete, Ura}
-use Rattle.arcstr_block.proofs.Names.{either, Share, Fml, fex, GName, ftrue, fall, full_share, not-OpDef-full_share, latest, emp, via, all_i, upd, guard}
-use Rattle.arcstr_block.proofs.Names.{guard_i, SProp, ent, sep, ex, all, all_e, guard_e, upd_i, upd_mono, ex_e, id⊢, quarter, three_quarters}
-use Rattle.arcstr_block.proofs.Names.{three_quarters_once, nothing, latest_new, latest_grows, latest_shows, at_least_dup, entry, entries_take, entries_beside}
-use Rattle.arcstr_block.proofs.Names.{entry_cut, entry_glue, entry_set, entries_new, ‵, ◌⊛◌, some, ◌$◌, ◌∵◌, !, qed, move, pick, use0, use1, use2, split}
-use Rattle.arcstr_block.proofs.Names.{split3, join, fjoin, fjoin3, fpick, fpack, done, raw, by, keep, fsplit3, given, drop, learn, check, rewrite, suffices}
-use Rattle.arcstr_block.proofs.Names.{settle, show, Logic, itself, halved, unused, roster, Keeps, EndsIn, look_reply, FlagAndCount, looked_of, cloned_of}
-use Rattle.arcstr_block.proofs.Names.{is_last, HandleState, Free, Dropping, Owing, Gone, Ended, Looked, Owes, Left, Handle, Marked, Given, Step, Make, Look}
-use Rattle.arcstr_block.proofs.Names.{Clone, Begin, Sub, Back, Leak, BlockName, Book, reached, seat, steps, state_code, seat_share, book, Ends, reached_ending}
-use Rattle.arcstr_block.proofs.Names.{word_of, IsMarked, IsClone, operators}
+use Rattle.arcstr_block.proofs.Names.{◌≡◌, ℕ, ◌^◌, [], ◌∷◌, refl, arith, List, sym, subst, inl, inr, ◌≢◌, ap, length, zero, suc, ◌+◌, ◌<◌, ◌++◌, set, Some}
+use Rattle.arcstr_block.proofs.Names.{if◌then◌else◌, eqb, eq-eqb, ne_eqb, slice_get, bit_or, dite, ℕ_discrete, Ura, either, Share, Fml, fex, GName, ftrue, fall}
+use Rattle.arcstr_block.proofs.Names.{full_share, not-OpDef-full_share, latest, emp, via, all_i, upd, guard, guard_i, ex, guard_e, upd_i, upd_mono, ex_e, id⊢}
+use Rattle.arcstr_block.proofs.Names.{quarter, three_quarters, three_quarters_once, nothing, latest_new, latest_grows, latest_shows, at_least_dup, entry}
+use Rattle.arcstr_block.proofs.Names.{entries_take, entries_beside, entry_cut, entry_glue, entry_set, entries_new, ‵, ◌⊛◌, some, ◌$◌, ◌∵◌, !, qed, move, pick}
+use Rattle.arcstr_block.proofs.Names.{use0, use1, use2, split, split3, join, fjoin, fjoin3, fpick, fpack, done, raw, by, keep, fsplit3, given, drop, learn}
+use Rattle.arcstr_block.proofs.Names.{check, rewrite, suffices, settle, show, Logic, itself, halved, unused, roster, Keeps, EndsIn, look_reply, FlagAndCount}
+use Rattle.arcstr_block.proofs.Names.{looked_of, cloned_of, is_last, HandleState, Free, Dropping, Owing, Gone, Ended, Looked, Owes, Left, Handle, Marked, Given}
+use Rattle.arcstr_block.proofs.Names.{Step, Make, Look, Clone, Begin, Sub, Back, Leak, BlockName, Book, reached, seat, steps, state_code, seat_share, book}
+use Rattle.arcstr_block.proofs.Names.{Ends, reached_ending, word_of, IsMarked, IsClone, operators}
 use mathlib.Core.Path.{Path}
 use mathlib.Mathlib.Data.Part.{◌∈◌}
 use seplogic.Ra.Pcs.{OpDef, OpDef-comm}

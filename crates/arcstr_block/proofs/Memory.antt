@@ -1,7 +1,7 @@
 -- The memory of a block: its size, its three rooms, what is lent of it, the way back to room, and the slots of its bytes. Assumes `Logic`.
 use Rattle.arcstr_block.proofs.Names.{◌≡◌, ℕ, ◌^◌, Bool, true, [], ◌∷◌, refl, arith, lit<, false, List, subst, ap, length, suc, ◌+◌, ◌<◌, ◌++◌, ◌∙◌, ◌*◌, w64}
 use Rattle.arcstr_block.proofs.Names.{T, Ura, bare, Ty, w8, ty_int, ty_array, tcons, tnil, ty_ptr, ty_struct, Val, vint, vptr, vstruct, of_list, has_ty, WT}
-use Rattle.arcstr_block.proofs.Names.{Lft, Fml, fsep, flft, ftrue, feq, fwand, froom, full_share, emp, guard, SProp, ent, sep, ex, id⊢, apply∗, ⊑_static, ◌⊑◌}
+use Rattle.arcstr_block.proofs.Names.{Lft, Fml, fsep, flft, ftrue, feq, fwand, froom, full_share, emp, guard, ex, id⊢, SProp, ent, sep, apply∗, ⊑_static, ◌⊑◌}
 use Rattle.arcstr_block.proofs.Names.{⊑_refl, fact, fact_i, Fun, Array, Array-row_laws, u8, usize, no, left, Is, shows, param, Laws, of_field, copy_shared}
 use Rattle.arcstr_block.proofs.Names.{RattleType, Ptr, block_ptr, RawPtr, null_ptr, ptr_val, bytes, bytes_apart, bytes-room, ShrLaws, beside_shr_laws, nothing}
 use Rattle.arcstr_block.proofs.Names.{heard, only, peeks, u8-field, u64-field, u8-laws, u8-copy, u64-laws, u64-copy, Lends, lent_at, lent_at_shr_laws}

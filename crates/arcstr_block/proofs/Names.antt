@@ -1,7 +1,7 @@
 -- The names of the kit, of `arcstr_count` and of this crate's definitions that the proofs use, in one place, and the operators that a proof opens. Assumes `Logic`.
 pub use Rattle.std.proofs.Common.{◌≡◌, ℕ, ◌-◌, ◌^◌, Bool, true, [], ◌∷◌, refl, arith, lit<, false, List, sym, subst, inl, inr, ◌≢◌, ap, length, zero, suc, ◌+◌}
-pub use Rattle.std.proofs.Common.{◌<◌, ◌++◌, set, Some, ◌/◌, ◌%◌, if◌then◌else◌, ◌∙◌, eqb, eq-eqb, ne_eqb, ◌||◌, ◌==◌, Option, None, ◌≤◌, ◌*◌, w64, T}
-pub use Rattle.std.proofs.Common.{append_assoc, length-append, get_or, replicate, eqb-true}
+pub use Rattle.std.proofs.Common.{◌<◌, ◌++◌, set, Some, if◌then◌else◌, eqb, eq-eqb, ne_eqb, ◌∙◌, ◌||◌, ◌==◌, Option, None, ◌≤◌, ◌*◌, w64, T, ◌/◌, append_assoc}
+pub use Rattle.std.proofs.Common.{length-append, get_or, ◌%◌, replicate, eqb-true}
 pub use Rattle.std.proofs.Math.Seq.{take-append_seam, take-length}
 pub use Rattle.std.proofs.lemmas.List.{append-nil, length-take-le, nil_from_length, take_all}
 pub use Rattle.std.proofs.lemmas.Str.{IsUtf8-append, IsUtf8-nil}
@@ -26,8 +26,8 @@ pub use base.Fraction.{full_share}
 pub use base.FractionLaws.{Counts-all, not-OpDef-full_share, Counts, counts_some, Counts-op}
 pub use base.Growing.{growing, Least}
 unfoldable pub use base.Growing.{latest, at_least}
-pub use base.Logic.{emp, via, all_i, upd, never, never_e, guard, guard_i, SProp, ent, sep, ex, all, all_e, guard_e, upd_i, upd_mono, ex_e, id⊢, apply∗, snd∗}
-pub use base.Logic.{wand, ex_i, mono_r}
+pub use base.Logic.{emp, via, all_i, upd, never, never_e, guard, guard_i, ex, guard_e, upd_i, upd_mono, ex_e, id⊢, SProp, ent, sep, apply∗, all_e, snd∗, wand}
+pub use base.Logic.{ex_i, mono_r}
 pub use base.Share.{quarter, three_quarters, three_quarters_once}
 pub use contract.BorrowLft.{meet_⊑_left, meet_⊑_right, ⊑_static, ◌⊑◌, ⊑_refl}
 pub use contract.Monad.{fact, fact_i, Fun}

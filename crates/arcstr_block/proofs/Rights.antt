@@ -1,12 +1,11 @@
 -- A right as a `&` shows it, and the right that a step's gain becomes. Assumes `Logic`.
 use Rattle.arcstr_block.proofs.Names.{◌≡◌, ℕ, Bool, true, [], ◌∷◌, refl, arith, false, List, sym, subst, inl, inr, ◌≢◌, ap, if◌then◌else◌, dite, ℕ_discrete}
-use Rattle.arcstr_block.proofs.Names.{Ura, Lft, Share, Fml, fsep, fex, flft, finv, fshr_bor, ftrue, fall, Counts, emp, all_i, upd, all_e, id⊢, ⊑_static}
-use Rattle.arcstr_block.proofs.Names.{ShrLaws, no_item, ‵, ◌⊛◌, later, ◌$◌, ◌∵◌, !, qed, move, use0, use1, use2, split, fsplit, fjoin, fjoin3, fpick, fpack}
-use Rattle.arcstr_block.proofs.Names.{await, updating, now, done, raw, by, keep, fsplit3, drop, rewrite, use3, Logic, bor_new, bor_fracture, lent_back}
-use Rattle.arcstr_block.proofs.Names.{look_reply, FlagAndCount, looked_of, HandleState, Free, Dropping, Owing, Gone, Step, Look, Book, reached, seat}
-use Rattle.arcstr_block.proofs.Names.{seat_share, Ends, Id, parts, Inv, knows, free, right_to, shown, free_shown, uncounted, counted, HasSeat, Right, dropping}
-use Rattle.arcstr_block.proofs.Names.{owed, MaySee, IsFree, Looks, Finds, Gains, Begins, Leaves, fixed, Loads, LoadEnds, word_of, IsMarked, IsUnmarked, IsLast}
-use Rattle.arcstr_block.proofs.Names.{one, operators}
+use Rattle.arcstr_block.proofs.Names.{Ura, Lft, Share, Fml, fsep, fex, flft, finv, fshr_bor, ftrue, fall, Counts, emp, all_i, upd, id⊢, all_e, ⊑_static}
+use Rattle.arcstr_block.proofs.Names.{ShrLaws, no_item, ‵, later, ◌$◌, ◌∵◌, !, qed, move, use1, use2, fsplit, fjoin, fjoin3, fpick, fpack, await, updating, now}
+use Rattle.arcstr_block.proofs.Names.{done, keep, fsplit3, drop, rewrite, use3, Logic, bor_new, bor_fracture, lent_back, look_reply, FlagAndCount, looked_of}
+use Rattle.arcstr_block.proofs.Names.{HandleState, Free, Dropping, Owing, Gone, Step, Look, Book, reached, seat, seat_share, Ends, Id, parts, Inv, knows, free}
+use Rattle.arcstr_block.proofs.Names.{right_to, shown, free_shown, uncounted, counted, HasSeat, Right, dropping, owed, MaySee, IsFree, Looks, Finds, Gains}
+use Rattle.arcstr_block.proofs.Names.{Begins, Leaves, fixed, Loads, LoadEnds, word_of, IsMarked, IsUnmarked, IsLast, one, operators}
 use Rattle.arcstr_block.specs.Rights.{nothing}
 use Rattle.arcstr_block.specs.Ledger.{fact}
 use Rattle.arcstr_block.proofs.Ledger.{parts_in}

@@ -1,16 +1,16 @@
 -- What a `&` to a pointer holds: a share of its token, the invariant and what is shared. A pointer can cross threads if its content and its
 -- allocator can. Assumes `Logic`.
 use Rattle.arcstr_block.proofs.Names.{◌≡◌, ℕ, Bool, true, [], ◌∷◌, false, List, length, suc, dite, Ura, bare, before, Lft, Share, Fml, fsep, flft, finv, GName}
-use Rattle.arcstr_block.proofs.Names.{fdead, fshr_bor, ftrue, fwand, fseps, fupd, fbor, full_share, Counts, latest, at_least, emp, all_i, ent, sep, all_e}
-use Rattle.arcstr_block.proofs.Names.{upd_i, id⊢, snd∗, three_quarters, Array, u8, usize, IsSend, IsSync, Common, AllSend, Frees, owning_send, struct_send}
+use Rattle.arcstr_block.proofs.Names.{fdead, fshr_bor, ftrue, fwand, fseps, fupd, fbor, full_share, Counts, latest, at_least, emp, all_i, upd_i, id⊢, ent, sep}
+use Rattle.arcstr_block.proofs.Names.{all_e, snd∗, three_quarters, Array, u8, usize, IsSend, IsSync, Common, AllSend, Frees, owning_send, struct_send}
 use Rattle.arcstr_block.proofs.Names.{struct_sync, sendable, RattleType, block_of, Ptr, ShrLaws, said, beside, always, held, beside_shr_laws, one_shr_laws}
 use Rattle.arcstr_block.proofs.Names.{always_shr_laws, held_shr_laws, nothing_shr_laws, contraction, no_item, Lends, Lends-nothing, shape, fields, to, exits_of}
-use Rattle.arcstr_block.proofs.Names.{entry_keyless, entries_keyless, ‵, ◌⊛◌, later, ◌$◌, ◌∵◌, !, qed, move, use1, use2, split, split3, fsplit, fjoin, fjoin3}
-use Rattle.arcstr_block.proofs.Names.{fpick, fpack, await, updating, now, done, raw, by, keep, fsplit3, assume, drop, suffices, use3, Logic, sem, obor_close}
-use Rattle.arcstr_block.proofs.Names.{bor_fracture, bor_open, obor_alter, Ghosts, halved, HandleState, Free, Dropping, Owing, Step, BlockName, Book, reached}
-use Rattle.arcstr_block.proofs.Names.{seat, steps, state_code, seat_share, Id, unmarked, if_alive, Inv, knows, free, held_with, Phase, marked, rest, right_to}
-use Rattle.arcstr_block.proofs.Names.{shown, free_shown, known, permanent, with_share, seen, stated, block_owns, block_shares, word_at, block_type, length_at}
-use Rattle.arcstr_block.proofs.Names.{uncounted, counted, Right, dropping, owed, fixed, operators}
+use Rattle.arcstr_block.proofs.Names.{entry_keyless, entries_keyless, ‵, ◌⊛◌, ◌$◌, ◌∵◌, !, qed, move, use1, split, split3, fsplit, fjoin, fpick, fpack}
+use Rattle.arcstr_block.proofs.Names.{updating, now, done, keep, fsplit3, assume, drop, suffices, use3, Logic, sem, obor_close, bor_fracture, bor_open}
+use Rattle.arcstr_block.proofs.Names.{obor_alter, Ghosts, halved, HandleState, Free, Dropping, Owing, Step, BlockName, Book, reached, seat, steps, state_code}
+use Rattle.arcstr_block.proofs.Names.{seat_share, Id, unmarked, if_alive, Inv, knows, free, held_with, Phase, marked, rest, right_to, shown, free_shown, known}
+use Rattle.arcstr_block.proofs.Names.{permanent, with_share, seen, stated, block_owns, block_shares, word_at, block_type, length_at, uncounted, counted, Right}
+use Rattle.arcstr_block.proofs.Names.{dropping, owed, fixed, operators}
 use denote.Sharing.{one}
 use Rattle.core.proofs.cell.Borrows.{by_one}
 use Rattle.arcstr_block.proofs.Words.{is_right}

@@ -1,12 +1,12 @@
 -- The steps on the count word of a block: what each finds, what it changes and what it gains. Assumes `Logic`.
-use Rattle.arcstr_block.proofs.Names.{◌≡◌, ℕ, ◌-◌, ◌^◌, Bool, true, [], ◌∷◌, refl, arith, false, List, sym, subst, ◌≢◌, ap, ◌+◌, ◌<◌, Some, ◌/◌, eqb, eq-eqb}
-use Rattle.arcstr_block.proofs.Names.{ne_eqb, Option, None, w64, bit_or, Mem, not-mem-nil, dite, ℕ_discrete, dec_le, Ura, ty_int, vint, has_ty, WT, either}
-use Rattle.arcstr_block.proofs.Names.{Share, Fml, fsep, fex, flft, finv, fdead, ftrue, fnamed, flent, full_share, via, upd, never, never_e, guard, SProp, ent}
-use Rattle.arcstr_block.proofs.Names.{sep, ex, all_e, upd_i, apply∗, wand, ex_i, block_ptr, nothing, ‵, ◌⊛◌, some, ◌$◌, ◌∵◌, !, qed, move, pick, use1, use2}
-use Rattle.arcstr_block.proofs.Names.{split, split3, fsplit, fjoin, fjoin3, fpick, fpack, done, raw, by, keep, fsplit3, assume, given, drop, learn, check}
-use Rattle.arcstr_block.proofs.Names.{rewrite, suffices, settle, show, frame, use3, each, Logic, sem, word, Shift, rests, ends, picks, enters, if_none, along}
-use Rattle.arcstr_block.proofs.Names.{back, asks, Book, Id, parts, unmarked, counting, if_alive, Inv, knows, some_share, Phase, marked, IsPhaseOf, rest, stated}
-use Rattle.arcstr_block.proofs.Names.{uncounted, Right, IsMarked, IsClone, IsUnmarked, IsLast, IsCountWord, operators}
+use Rattle.arcstr_block.proofs.Names.{◌≡◌, ℕ, ◌-◌, ◌^◌, Bool, true, [], ◌∷◌, refl, arith, false, List, sym, subst, ◌≢◌, ap, ◌+◌, ◌<◌, Some, eqb, eq-eqb, ne_eqb}
+use Rattle.arcstr_block.proofs.Names.{Option, None, w64, ◌/◌, bit_or, Mem, not-mem-nil, dite, ℕ_discrete, dec_le, Ura, ty_int, vint, has_ty, WT, either, Share}
+use Rattle.arcstr_block.proofs.Names.{Fml, fsep, fex, flft, finv, fdead, ftrue, fnamed, flent, full_share, via, upd, never, never_e, guard, ex, upd_i, SProp}
+use Rattle.arcstr_block.proofs.Names.{ent, sep, apply∗, all_e, wand, ex_i, block_ptr, nothing, ‵, ◌⊛◌, some, ◌$◌, ◌∵◌, !, qed, move, pick, use1, use2, split}
+use Rattle.arcstr_block.proofs.Names.{split3, fsplit, fjoin, fjoin3, fpick, fpack, done, raw, by, keep, fsplit3, assume, given, drop, learn, check, suffices}
+use Rattle.arcstr_block.proofs.Names.{settle, show, frame, use3, each, Logic, sem, word, Shift, rests, ends, picks, enters, if_none, along, back, asks, Book}
+use Rattle.arcstr_block.proofs.Names.{Id, parts, unmarked, counting, if_alive, Inv, knows, some_share, Phase, marked, IsPhaseOf, rest, stated, uncounted, Right}
+use Rattle.arcstr_block.proofs.Names.{IsMarked, IsClone, IsUnmarked, IsLast, IsCountWord, operators}
 use Rattle.core.specs.Sync.RawAtomic.{leaves, found, always}
 use Rattle.arcstr_block.proofs.Words.{is_right, one_less, or_unmarked, or_marked}
 use Rattle.arcstr_block.specs.Ledger.{fact}

@@ -1,6 +1,6 @@
 -- The count words that a step finds and leaves, as numbers, and whether a right is a given one.
-use Rattle.arcstr_block.proofs.Names.{◌≡◌, ℕ, ◌-◌, ◌^◌, true, refl, arith, lit<, false, sym, inl, inr, ◌≢◌, ap, ◌+◌, ◌<◌, ◌/◌, ◌%◌, if◌then◌else◌, ◌∙◌, eq-eqb}
-use Rattle.arcstr_block.proofs.Names.{ne_eqb, ◌==◌, ◌≤◌, ◌*◌, bit_or, ◌⊎◌, dite, ℕ_discrete, dec_le, cloned_of, is_last, marked_of, dropped_of, Right}
+use Rattle.arcstr_block.proofs.Names.{◌≡◌, ℕ, ◌-◌, ◌^◌, true, refl, arith, lit<, false, sym, inl, inr, ◌≢◌, ap, ◌+◌, ◌<◌, if◌then◌else◌, eq-eqb, ne_eqb, ◌∙◌}
+use Rattle.arcstr_block.proofs.Names.{◌==◌, ◌≤◌, ◌*◌, ◌/◌, ◌%◌, bit_or, ◌⊎◌, dite, ℕ_discrete, dec_le, cloned_of, is_last, marked_of, dropped_of, Right}
 use Rattle.arcstr_block.proofs.Names.{right_index, right_at, right_at_index, word_of, IsMarked, IsClone, IsUnmarked}
 use Rattle.std.specs.Int.Bits.{or_zero_r}
 use Rattle.std.proofs.lemmas.Nat.{or_block}

@@ -1,7 +1,7 @@
 -- `give_back` makes the block room again, and returns it to the allocator.
 use Rattle.arcstr_block.proofs.Names.{◌≡◌, ℕ, ◌^◌, [], ◌∷◌, refl, lit<, List, sym, subst, length, ◌<◌, ◌∙◌, w64, T, inst_fn, bare, Ty, dcons, dnil, a_type}
-use Rattle.arcstr_block.proofs.Names.{named, ty_unit, Val, vint, vptr, has_ty, WT, vunit, WpFn, Lft, Share, Incl-trans, Fml, fsep, flft, ftrue, froom, SProp}
-use Rattle.arcstr_block.proofs.Names.{ent, id⊢, ◌⊑◌, fact, tables, usize, RefOf, no, yes, param, bounded, uint_vals, uint_Tells, RattleType, owns, block_of}
+use Rattle.arcstr_block.proofs.Names.{named, ty_unit, Val, vint, vptr, has_ty, WT, vunit, WpFn, Lft, Share, Incl-trans, Fml, fsep, flft, ftrue, froom, id⊢}
+use Rattle.arcstr_block.proofs.Names.{SProp, ent, ◌⊑◌, fact, tables, usize, RefOf, no, yes, param, bounded, uint_vals, uint_Tells, RattleType, owns, block_of}
 use Rattle.arcstr_block.proofs.Names.{Ptr, block_ptr, count_of, at_block, shr_vals, shr_Tells, types_at, plain, nothing, heard, calls_at_last, Stays}
 use Rattle.arcstr_block.proofs.Names.{stay_dropped, walk_of, Goes-dropped, alloc_all, pass_all, free_all, look_at, get, get_in, sets, lands_last, env, ‵, ◌⊛◌}
 use Rattle.arcstr_block.proofs.Names.{later, ◌$◌, ◌∵◌, !, qed, move, use1, use2, split, join, fsplit, fjoin, fpick, await, raw, by, keep, fsplit3, given, drop}

@@ -1,7 +1,7 @@
 -- `lend` lends the bytes of the text for writing, and the block has what is written. Assumes `Logic`.
 use Rattle.arcstr_block.proofs.Names.{◌≡◌, ℕ, ◌^◌, [], ◌∷◌, refl, arith, List, sym, subst, ap, length, ◌+◌, ◌<◌, ◌++◌, ◌∙◌, ◌*◌, w64, Ura, inst_fn, Ty, dcons}
 use Rattle.arcstr_block.proofs.Names.{dnil, a_type, named, Fn, Args, Dict, Val, vint, vptr, WpFn, Env, Calls, Loops, Tables, Lft, Share, Fml, fsep, flft, GName}
-use Rattle.arcstr_block.proofs.Names.{ftrue, feq, fbor, fobs, full_share, SProp, ent, sep, id⊢, mono_r, fact, tables, tables_of, Array, u8, usize, RefMutOf}
+use Rattle.arcstr_block.proofs.Names.{ftrue, feq, fbor, fobs, full_share, id⊢, SProp, ent, sep, mono_r, fact, tables, tables_of, Array, u8, usize, RefMutOf}
 use Rattle.arcstr_block.proofs.Names.{SliceRefMutOf, no, yes, Is, shows, cell_at, part_at, mem, part_of, param, bounded, RattleType, owns, block_of, Ptr}
 use Rattle.arcstr_block.proofs.Names.{block_ptr, InBlock, count_of, at_block, bytes, bytes_apart, bytes_whole, MutBor, MutRef, plain, mut_ref_to, slice_val}
 use Rattle.arcstr_block.proofs.Names.{MutSlice, nothing, peeks, opens, on_entry, triple_of, Meets, Stays, stay_dropped, walk_of, Goes-dropped, says, needs}
