@@ -1,5 +1,5 @@
 use Rattle.arcstr_block.proofs.Names.{◌≡◌, length, ◌*◌, repeat, take, SamePlaces, Filled}
-use Rattle.arcstr_block.proofs.making.copies.Given as goal
+use Rattle.arcstr_block.proofs.making.write_copies.Given as goal
 
 -- the copies so far fill the first slots
 abbrev pub invariant-loop-copy : goal.invariant-loop-copy

@@ -4,7 +4,7 @@ use Rattle.arcstr_block.proofs.Names.{suc-mul, mul-zero, mul-le-mul_right}
 use Rattle.std.specs.Prelude.{drop}
 use Rattle.core.proofs.slots.Fills.{Filled-around, Filled-none}
 use Rattle.arcstr_block.proofs.Texts.{empty_copies, next_copy, copies_are_text}
-use Rattle.arcstr_block.proofs.making.copies.Goals as goal
+use Rattle.arcstr_block.proofs.making.write_copies.Goals as goal
 
 pub returns-then-is_empty-clause-items : goal.returns-then-is_empty-clause-items
 returns-then-is_empty-clause-items c =
