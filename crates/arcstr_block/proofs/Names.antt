@@ -1,4 +1,4 @@
--- The names of the kit, of `arcstr_count` and of this crate's definitions that the proofs use, in one place, and the operators that a proof opens. Assumes `Logic`.
+-- The names of the kit, of `arcstr_count` and of this crate's definitions that the proofs use, and the operators that a proof opens. Assumes `Logic`.
 pub use Rattle.std.proofs.Common.{◌≡◌, ℕ, ◌-◌, ◌^◌, Bool, true, [], ◌∷◌, refl, arith, lit<, false, List, sym, subst, inl, inr, ◌≢◌, ap, length, zero, suc, ◌+◌}
 pub use Rattle.std.proofs.Common.{◌<◌, ◌++◌, set, Some, if◌then◌else◌, eqb, eq-eqb, ne_eqb, ◌∙◌, ◌||◌, ◌==◌, Option, None, ◌≤◌, ◌*◌, w64, T, ◌/◌, append_assoc}
 pub use Rattle.std.proofs.Common.{length-append, get_or, ◌%◌, replicate, eqb-true}
