@@ -1,51 +1,148 @@
--- Each step on a block extends its history by exactly that step. Assumes `Logic`.
-use Rattle.std.proofs.Common.{◌≡◌, ℕ, ◌+◌, ◌-◌, ◌/◌, ◌%◌, ◌^◌, ◌<◌, Bool, true, false, if◌then◌else◌, List, [], ◌∷◌, ◌++◌, length, set, sym, refl, ap, ◌∙◌}
-use Rattle.std.proofs.Common.{subst, lit<}
-use Rattle.std.specs.Prelude.{bit_or, slice_get, Some}
-use seplogic.Ra.Ura.{Ura}
-use base.Fraction.{full_share}
-use base.Share.{three_quarters}
-use base.Growing.{latest}
-use base.Logic.{SProp, ent, sep, ex, upd, upd_i, emp}
-use base.Fml.{GName, Share, Fml, ftrue, fex}
-use types.Logic.{Logic, sem}
-use types.Growing.{latest_new, latest_grows, latest_shows, at_least_dup}
-use types.Keyed.{entries_new}
-use types.Kit.{‵, raw, ◌⊛◌, some, given, ◌$◌, ◌∵◌, !, qed, move, keep, drop, split, fsplit3, fjoin, fjoin3, fpick, fpack, pick, learn, show, suffices, settle}
-use types.Kit.{use0, use1, use2, done}
-use denote.Steps.{nothing}
-use Rattle.atomic_table.specs.Seated.{halved, unused, roster}
-use Rattle.arcstr_count.specs.declared.steps.Step.{Step}
-use Rattle.arcstr_count.specs.declared.steps.Step.TheVariants.{Make, Look, Clone, Begin, Sub, Back, Leak}
-use Rattle.arcstr_count.specs.declared.steps.HandleState.{HandleState}
-use Rattle.arcstr_count.specs.declared.steps.HandleState.TheVariants.{Free, Dropping, Owing, Gone}
+-- The book of a block: the seats of its handles, and the history, which each step extends by exactly that step. Assumes `Logic`.
+use Rattle.arcstr_block.proofs.Names.{◌≡◌, ℕ, ◌^◌, [], ◌∷◌, refl, arith, List, sym, subst, inl, inr, ◌≢◌, ap, length, zero, suc, ◌+◌, ◌<◌, ◌++◌, set, Some}
+use Rattle.arcstr_block.proofs.Names.{if◌then◌else◌, eqb, eq-eqb, ne_eqb, slice_get, bit_or, dite, ℕ_discrete, Ura, either, Share, Fml, fex, GName, ftrue, fall}
+use Rattle.arcstr_block.proofs.Names.{full_share, not-OpDef-full_share, latest, emp, via, all_i, upd, guard, guard_i, ex, guard_e, upd_i, upd_mono, ex_e, id⊢}
+use Rattle.arcstr_block.proofs.Names.{quarter, three_quarters, three_quarters_once, nothing, latest_new, latest_grows, latest_shows, at_least_dup, entry}
+use Rattle.arcstr_block.proofs.Names.{entries_take, entries_beside, entry_cut, entry_glue, entry_set, entries_new, ‵, ◌⊛◌, some, ◌$◌, ◌∵◌, !, qed, move, pick}
+use Rattle.arcstr_block.proofs.Names.{use0, use1, use2, split, split3, join, fjoin, fjoin3, fpick, fpack, done, raw, by, keep, fsplit3, given, drop, learn}
+use Rattle.arcstr_block.proofs.Names.{check, rewrite, suffices, settle, show, Logic, itself, halved, unused, roster, Keeps, EndsIn, look_reply, FlagAndCount}
+use Rattle.arcstr_block.proofs.Names.{looked_of, cloned_of, is_last, HandleState, Free, Dropping, Owing, Gone, Ended, Looked, Owes, Left, Handle, Marked, Given}
+use Rattle.arcstr_block.proofs.Names.{Step, Make, Look, Clone, Begin, Sub, Back, Leak, BlockName, Book, reached, seat, steps, state_code, seat_share, book}
+use Rattle.arcstr_block.proofs.Names.{Ends, reached_ending, word_of, IsMarked, IsClone, operators}
+use mathlib.Core.Path.{Path}
+use mathlib.Mathlib.Data.Part.{◌∈◌}
+use seplogic.Ra.Pcs.{OpDef, OpDef-comm}
+use base.Stored.{Gv}
+use base.SetCodes.{coded, SetCoded-set}
+use base.Algebras.{pcs, shares}
+use ghost.Rules.{Halves}
+use Rattle.arcstr_count.specs.contracts.steps.HandleState.{the_row as state_row}
 use Rattle.arcstr_count.specs.declared.steps.Reply.{Reply}
-use Rattle.arcstr_count.specs.declared.steps.Reply.TheVariants.{Ended, Looked, Owes, Left, Handle, Marked, Given}
-use Rattle.arcstr_count.specs.Word.{FlagAndCount, looked_of, cloned_of, is_last}
-use Rattle.arcstr_count.specs.OneBlock.{Keeps, EndsIn, look_reply}
 use Rattle.arcstr_count.proofs.OneBlock.{Prolongs, keeps-make, keeps-look, keeps-begin, keeps-clone, keeps-leak, keeps-sub, keeps-back}
-use Rattle.arcstr_block.specs.Word.{word_of}
-use Rattle.arcstr_block.specs.Book.{BlockName, steps, state_code, reached, seat, seat_share, book, Book, Ends, reached_ending}
-use Rattle.arcstr_block.proofs.Words.{one_less, word_marked, word_dropped}
-use Rattle.arcstr_block.proofs.Seats.{agrees, moves, adds}
+use Rattle.arcstr_block.proofs.Words.{one_less, word_marked, word_dropped, IsMarkedOr, odd_or_even, word_kept, word_cloned}
+use seplogic.Ra.Constructions.Prod
+use seplogic.Ra.Instances.Ag
+use base.Share
 
 module _ {M : Type 1} {𝓤 : Ura M} (𝓛 : Logic 𝓤) where
   open 𝓛 use {H, A}
-
-  abbrev Pr : Type 2
-  Pr = SProp 𝓤
-
-  abbrev ◌⊢◌ : Pr → Pr → Type 1
-  X ⊢ Y = ent 𝓤 X Y
-
-  abbrev ◌∗◌ : Pr → Pr → Pr
-  X ∗ Y = sep 𝓤 X Y
-
-  abbrev ⟦◌⟧ : Fml → Pr
-  ⟦ X ⟧ = sem 𝓛 X
+  open operators 𝓛 use {Pr, entails as ◌⊢◌, both as ◌∗◌, meaning as ⟦◌⟧}
 
   infix 26 ◌⊢◌
   infixr 35 ◌∗◌
+  -- ---- the seats: any share reads a seat, what a handle has changes it, and a new seat comes at the end
+  module _ (δ : ℕ) where
+    abbrev V : Type 0
+    V = HandleState
+
+    abbrev c : V → Gv
+    c = state_code
+
+    abbrev Quarter : ℕ → V → Fml
+    Quarter h v = seat_share δ h quarter v
+
+    abbrev Roster : ℕ → List V → Fml
+    Roster k vs = roster c δ k vs
+
+    together : (q r s : Share) (v : Gv) → s ∈ Share.op q r → ◌∈◌ {α = Share × Gv} (s, v) (halved.op (q, v) (r, v))
+    together q r s v m = Prod.mk-mem-op Share.op (Ag.op (SetCoded-set (coded itself))) {a = q} {a' = r} {x = s} {b = v} {b' = v} {y = v} m (Ag.idem (SetCoded-set
+        (coded itself)) v)
+
+    -- a share of a seat can be cut and joined
+    pub seat_halves : (h : ℕ) (v : V) → Halves 𝓤 H A (λ q. seat_share δ h q v)
+    seat_halves h v = record {
+      cut = λ q. entry_cut halved 𝓛 δ h (Share.left q, c v) (Share.right q, c v) (q, c v) (together (Share.left q) (Share.right q) q (c v) (Share.halves q));
+      join = λ q. let a : Share × Gv = (Share.left q, c v) in let b : Share × Gv = (Share.right q, c v) in
+          let F : Share × Gv → Pr = λ x. guard 𝓤 (x ∈ halved.op a b) ⟦ entry halved δ h x ⟧ in
+          via 𝓤 (ex 𝓤 F) (entry_glue halved 𝓛 δ h a b) (ex_e 𝓤 F (λ x. guard_e 𝓤 (x ∈ halved.op a b) ⟦ entry halved δ h x ⟧ (λ m.
+          subst (λ (y : Share × Gv). ⟦ entry halved δ h y ⟧ ⊢ ⟦ seat_share δ h q v ⟧) (mathlib.Mathlib.Data.Part.mem_unique (halved.op a b) (together
+          (Share.left q) (Share.right q) q (c v) (Share.halves q)) m) (base.Logic.id⊢ 𝓤 _))));
+    }
+
+    -- two shares of a seat have the same state
+    both_say : (h : ℕ) (q r : Share) (w v : V)
+        → ⟦ seat_share δ h q w ⟧ ∗ ⟦ seat_share δ h r v ⟧ ⊢ guard 𝓤 (w ≡ v) (⟦ seat_share δ h q w ⟧ ∗ ⟦ seat_share δ h r v ⟧)
+    both_say h q r w v = let a : Share × Gv = (q, c w) in let b : Share × Gv = (r, c v) in
+        let F : Share × Gv → Pr = λ x. guard 𝓤 (x ∈ halved.op a b) ⟦ entry halved δ h x ⟧ in let Z : Pr = ⟦ seat_share δ h q w ⟧ ∗ ⟦ seat_share δ h r v ⟧ in
+        via 𝓤 (ex 𝓤 F) (entry_glue halved 𝓛 δ h a b) (ex_e 𝓤 F (λ x. guard_e 𝓤 (x ∈ halved.op a b) ⟦ entry halved δ h x ⟧ (λ m.
+        via 𝓤 Z (entry_cut halved 𝓛 δ h a b x m) (guard_i 𝓤 (w ≡ v) Z (state_row.coded.inj w v m.0.1)))))
+
+    -- a seat has one owner
+    pub one_owner : (h : ℕ) (v w : V) (Z : Pr) → ⟦ seat δ h v ⟧ ∗ ⟦ seat δ h w ⟧ ⊢ Z
+    one_owner h v w Z = let a : Share × Gv = (three_quarters, c v) in let b : Share × Gv = (three_quarters, c w) in
+        let F : Share × Gv → Pr = λ x. guard 𝓤 (x ∈ halved.op a b) ⟦ entry halved δ h x ⟧ in
+        via 𝓤 (ex 𝓤 F) (entry_glue halved 𝓛 δ h a b) (ex_e 𝓤 F (λ x. guard_e 𝓤 (x ∈ halved.op a b) ⟦ entry halved δ h x ⟧ (λ m.
+        absurd (three_quarters_once m.0.0))))
+
+    -- there is no seat beyond the last one
+    no_seat : (h k : ℕ) (q : Share) (v d : V) (Z : Pr) → ◌<◌ h (suc k) → ⟦ seat_share δ k q v ⟧ ∗ ⟦ unused c δ h d ⟧ ⊢ Z
+    no_seat h k q v d Z low = qed 𝓛 (‵ (seat_share δ k q v) ∷ ‵ (unused c δ h d) ∷ []) ∵
+        use2 𝓛 (given (OpDef halved.op (q, c v) (full_share, c d)) (‵ (seat_share δ k q v) ⊛ ‵ (unused c δ h d))) (entries_beside halved 𝓛 δ h k (λ _.
+        (full_share, c d)) (q, c v) (omega arith)) $
+        learn ! (λ x. absurd (not-OpDef-full_share q ((OpDef-comm (pcs shares) {a = q} {b = full_share}).0 x.0)))
+
+    -- any share of a seat agrees with the roster
+    pub agrees : (vs : List V) (k i j : ℕ) (q : Share) (v : V) → j ≡ k + i
+        → ⟦ Roster k vs ⟧ ∗ ⟦ seat_share δ j q v ⟧ ⊢ guard 𝓤 (slice_get vs i ≡ Some v) (⟦ Roster k vs ⟧ ∗ ⟦ seat_share δ j q v ⟧)
+    agrees [] k i j q v e = qed 𝓛 (‵ (Roster k []) ∷ ‵ (seat_share δ j q v) ∷ []) ∵ fpick ! (λ d. move ! (1 ∷ 0 ∷ []) $ by ! (no_seat k j q v d _ (omega arith)))
+    agrees (w ∷ ws) k zero j q v e = let is : k ≡ j = omega arith in let Z : Pr = ⟦ Roster k (w ∷ ws) ⟧ ∗ ⟦ seat_share δ j q v ⟧ in
+        qed 𝓛 ((‵ (Quarter k w) ⊛ ‵ (Roster (suc k) ws)) ∷ ‵ (seat_share δ j q v) ∷ []) ∵ split ! $
+        rewrite ! 2 (λ (m : ℕ). ‵ (seat_share δ m q v)) (sym is) refl $ move ! (0 ∷ 2 ∷ []) $
+        use2 𝓛 (given (w ≡ v) (‵ (Quarter k w) ⊛ ‵ (seat_share δ k q v))) (both_say k quarter q w v) $ learn ! (λ same. check ! (ap Some same) $ split ! $
+        rewrite ! 1 (λ (m : ℕ). ‵ (seat_share δ m q v)) is refl $ move ! (0 ∷ 2 ∷ []) $ join ! $ done !)
+    agrees (w ∷ ws) k (suc i) j q v e = qed 𝓛 ((‵ (Quarter k w) ⊛ ‵ (Roster (suc k) ws)) ∷ ‵ (seat_share δ j q v) ∷ []) ∵ split ! $ move ! (1 ∷ 2 ∷ []) $
+        use2 𝓛 (given (slice_get ws i ≡ Some v) (‵ (Roster (suc k) ws) ⊛ ‵ (seat_share δ j q v))) (agrees ws (suc k) i j q v (omega arith)) $ learn ! (λ at.
+        check ! at $ split ! $ move ! (2 ∷ 0 ∷ []) $ join ! $ done !)
+
+    -- whoever has the whole of a seat sets it, and then has its two parts
+    resets : (k : ℕ) (v u : V) → ⟦ seat_share δ k full_share v ⟧ ⊢ upd 𝓤 (⟦ Quarter k u ⟧ ∗ ⟦ seat δ k u ⟧)
+    resets k v u = let B : Share × Gv → Type 0 = λ x. Path (Share × Gv) x (full_share, c u) in
+        let F : Share × Gv → Pr = λ x. guard 𝓤 (B x) ⟦ entry halved δ k x ⟧ in let Z : Pr = ⟦ Quarter k u ⟧ ∗ ⟦ seat δ k u ⟧ in
+        via 𝓤 (upd 𝓤 (ex 𝓤 F)) (entry_set halved 𝓛 δ k (full_share, c v) B ∣ ((full_share, c u), refl) ∣₁ (λ f d. absurd (not-OpDef-full_share f.0 d.0)))
+        (upd_mono 𝓤 {P = ex 𝓤 F} {Q = Z} (ex_e 𝓤 F (λ x. guard_e 𝓤 (B x) ⟦ entry halved δ k x ⟧ (λ e.
+        subst (λ (y : Share × Gv). ⟦ entry halved δ k y ⟧ ⊢ Z) (sym e)
+        (entry_cut halved 𝓛 δ k (quarter, c u) (three_quarters, c u) (full_share, c u) (together quarter three_quarters full_share (c u) Share.quarters))))))
+
+    joined : (k : ℕ) (w v : V) → ⟦ Quarter k w ⟧ ∗ ⟦ seat δ k v ⟧ ⊢ ⟦ seat_share δ k full_share w ⟧
+    joined k w v = let F : Share × Gv → Pr = λ x. guard 𝓤 (x ∈ halved.op (quarter, c w) (three_quarters, c v)) ⟦ entry halved δ k x ⟧ in
+        via 𝓤 (ex 𝓤 F) (entry_glue halved 𝓛 δ k (quarter, c w) (three_quarters, c v)) (ex_e 𝓤 F (λ x.
+        guard_e 𝓤 (x ∈ halved.op (quarter, c w) (three_quarters, c v)) ⟦ entry halved δ k x ⟧ (λ m.
+        subst (λ (y : Share × Gv). ⟦ entry halved δ k y ⟧ ⊢ ⟦ seat_share δ k full_share w ⟧) m.1 (base.Logic.id⊢ 𝓤 _))))
+
+    abbrev Moved : ℕ → List V → ℕ → ℕ → V → Pr
+    Moved k vs i j u = ⟦ Roster k (set vs i u) ⟧ ∗ ⟦ seat δ j u ⟧
+
+    -- a seat and the roster change together
+    pub moves : (vs : List V) (k i j : ℕ) (v u : V) → j ≡ k + i → ⟦ Roster k vs ⟧ ∗ ⟦ seat δ j v ⟧ ⊢ upd 𝓤 (Moved k vs i j u)
+    moves [] k i j v u e = qed 𝓛 (‵ (Roster k []) ∷ ‵ (seat δ j v) ∷ []) ∵ fpick ! (λ d. move ! (1 ∷ 0 ∷ []) $
+        by ! (no_seat k j three_quarters v d _ (omega arith)))
+    moves (w ∷ ws) k zero j v u e = let is : k ≡ j = omega arith in qed 𝓛 ((‵ (Quarter k w) ⊛ ‵ (Roster (suc k) ws)) ∷ ‵ (seat δ j v) ∷ []) ∵ split ! $
+        rewrite ! 2 (λ (m : ℕ). ‵ (seat δ m v)) (sym is) refl $ move ! (0 ∷ 2 ∷ []) $
+        use2 𝓛 (‵ (seat_share δ k full_share w)) (joined k w v) $ use1 𝓛 (raw (upd 𝓤 (⟦ Quarter k u ⟧ ∗ ⟦ seat δ k u ⟧))) (resets k w u) $
+        settle 𝓛 (Moved k (w ∷ ws) zero j u) (‵ (Quarter k u) ⊛ ‵ (seat δ k u)) $ split ! $
+        suffices ! _ (upd_i 𝓤 (Moved k (w ∷ ws) zero j u)) $ rewrite ! 1 (λ (m : ℕ). ‵ (seat δ m u)) is refl $ move ! (0 ∷ 2 ∷ []) $ join ! $ done !
+    moves (w ∷ ws) k (suc i) j v u e = let Z : Pr = Moved k (w ∷ ws) (suc i) j u in
+        qed 𝓛 ((‵ (Quarter k w) ⊛ ‵ (Roster (suc k) ws)) ∷ ‵ (seat δ j v) ∷ []) ∵ split ! $ move ! (1 ∷ 2 ∷ []) $
+        use2 𝓛 (raw (upd 𝓤 (Moved (suc k) ws i j u))) (moves ws (suc k) i j v u (omega arith)) $ settle 𝓛 Z (‵ (Roster (suc k) (set ws i u)) ⊛ ‵ (seat δ j u)) $
+        split ! $ suffices ! _ (upd_i 𝓤 Z) $ move ! (2 ∷ 0 ∷ []) $ join ! $ done !
+
+    abbrev Added : ℕ → List V → V → Pr
+    Added k vs u = ⟦ Roster k (vs ++ u ∷ []) ⟧ ∗ ⟦ seat δ (k + length vs) u ⟧
+
+    -- a new seat at the end
+    pub adds : (vs : List V) (k : ℕ) (u : V) → ⟦ Roster k vs ⟧ ⊢ upd 𝓤 (Added k vs u)
+    adds [] k u = let Z : Pr = Added k [] u in let is : k ≡ k + 0 = omega arith in qed 𝓛 (‵ (Roster k []) ∷ []) ∵ fpick ! (λ d.
+        use1 𝓛 (‵ (seat_share δ k full_share d) ⊛ ‵ (unused c δ (suc k) d)) (entries_take halved 𝓛 δ k (λ _. (full_share, c d))) $ split ! $
+        use1 𝓛 (raw (upd 𝓤 (⟦ Quarter k u ⟧ ∗ ⟦ seat δ k u ⟧))) (resets k d u) $ settle 𝓛 Z (‵ (Quarter k u) ⊛ ‵ (seat δ k u)) $ split ! $
+        suffices ! _ (upd_i 𝓤 Z) $ rewrite ! 1 (λ (m : ℕ). ‵ (seat δ m u)) is refl $
+        move ! (2 ∷ []) $ fpack ! V (unused c δ (suc k)) d $ move ! (1 ∷ 0 ∷ []) $ join ! $ done !)
+    adds (w ∷ ws) k u = let Z : Pr = Added k (w ∷ ws) u in let is : suc k + length ws ≡ k + length (w ∷ ws) = omega arith in
+        qed 𝓛 (‵ (Quarter k w) ∷ ‵ (Roster (suc k) ws) ∷ []) ∵ move ! (1 ∷ []) $
+        use1 𝓛 (raw (upd 𝓤 (Added (suc k) ws u))) (adds ws (suc k) u) $ settle 𝓛 Z (‵ (Roster (suc k) (ws ++ u ∷ [])) ⊛ ‵ (seat δ (suc k + length ws) u)) $
+        split ! $ suffices ! _ (upd_i 𝓤 Z) $
+        rewrite ! 1 (λ (m : ℕ). ‵ (seat δ m u)) is refl $ move ! (2 ∷ 0 ∷ []) $ join ! $ done !
+
+  -- ---- the history
   module _ (L : ℕ) (γ δ : GName) where
     abbrev Bk : ℕ → Fml
     Bk = Book L γ δ
@@ -82,7 +179,7 @@ module _ {M : Type 1} {𝓤 : Ura M} (𝓛 : Logic 𝓤) where
         → ⟦ Bk n ⟧ ∗ ⟦ seat_share δ h q Free ⟧ ⊢ upd 𝓤 (⟦ Bk n' ⟧ ∗ ⟦ seat_share δ h q Free ⟧ ∗ ⟦ Said s reply ⟧)
     by_share n n' h q s reply law = let Z : Pr = ⟦ Bk n' ⟧ ∗ ⟦ seat_share δ h q Free ⟧ ∗ ⟦ Said s reply ⟧ in
         qed 𝓛 (‵ (Bk n) ∷ ‵ (seat_share δ h q Free) ∷ []) ∵ fpick ! (λ x. fsplit3 ! $ fpick ! (λ keeps. drop ! $ move ! (1 ∷ 2 ∷ []) $
-        use2 𝓛 (given (slice_get x.1 h ≡ Some Free) (‵ (Seats x.1) ⊛ ‵ (seat_share δ h q Free))) (agrees 𝓛 δ x.1 0 h h q Free (sym
+        use2 𝓛 (given (slice_get x.1 h ≡ Some Free) (‵ (Seats x.1) ⊛ ‵ (seat_share δ h q Free))) (agrees δ x.1 0 h h q Free (sym
         (Rattle.std.proofs.Common.zero-add h))) $ learn ! (λ at. split ! $ move ! (2 ∷ 0 ∷ []) $
         use2 𝓛 (raw (upd 𝓤 (⟦ Bk n' ⟧ ∗ ⟦ Said s reply ⟧))) (turns n' x.0 s reply x.1 (law x.0 x.1 keeps at)) $ settle 𝓛 Z (‵ (Bk n') ⊛ ‵ (Said s reply)) $
         split ! $ suffices ! _ (upd_i 𝓤 Z) $ move ! (0 ∷ 2 ∷ 1 ∷ []) $ done !)))
@@ -105,9 +202,9 @@ module _ {M : Type 1} {𝓤 : Ura M} (𝓛 : Logic 𝓤) where
     book_clone n n' h q is = let Z : Pr = ⟦ Bk n' ⟧ ∗ ⟦ seat_share δ h q Free ⟧ ∗ ⟦ NewSeat ⟧ in
         qed 𝓛 (‵ (Bk n) ∷ ‵ (seat_share δ h q Free) ∷ []) ∵ fpick ! (λ x. fsplit3 ! $ fpick ! (λ keeps. drop ! $ move ! (1 ∷ 2 ∷ []) $
         let vs : List HandleState = x.1 ++ Free ∷ [] in
-        use2 𝓛 (given (slice_get x.1 h ≡ Some Free) (‵ (Seats x.1) ⊛ ‵ (seat_share δ h q Free))) (agrees 𝓛 δ x.1 0 h h q Free (sym
+        use2 𝓛 (given (slice_get x.1 h ≡ Some Free) (‵ (Seats x.1) ⊛ ‵ (seat_share δ h q Free))) (agrees δ x.1 0 h h q Free (sym
         (Rattle.std.proofs.Common.zero-add h))) $ learn ! (λ at. split ! $
-        use1 𝓛 (raw (upd 𝓤 (⟦ Seats vs ⟧ ∗ ⟦ seat δ (0 + length x.1) Free ⟧))) (adds 𝓛 δ x.1 0 Free) $
+        use1 𝓛 (raw (upd 𝓤 (⟦ Seats vs ⟧ ∗ ⟦ seat δ (0 + length x.1) Free ⟧))) (adds δ x.1 0 Free) $
         settle 𝓛 Z (‵ (Seats vs) ⊛ ‵ (seat δ (0 + length x.1) Free)) $ split ! $ move ! (1 ∷ []) $ fpack ! ℕ (λ j. seat δ j Free) (0 + length x.1) $
         let on : Prolongs L x.0 (Clone h) (Handle (length x.1)) (word_of n') vs = subst (λ (w : FlagAndCount). Prolongs L x.0 (Clone h) (Handle
         (length x.1)) w vs) (sym is) (keeps-clone L x.0 (word_of n) x.1 h keeps at) in
@@ -122,8 +219,8 @@ module _ {M : Type 1} {𝓤 : Ura M} (𝓛 : Logic 𝓤) where
         let zero_h : h ≡ 0 + h = sym (Rattle.std.proofs.Common.zero-add h) in
         qed 𝓛 (‵ (Bk n) ∷ ‵ (seat δ h v) ∷ []) ∵ fpick ! (λ x. fsplit3 ! $ fpick ! (λ keeps. drop ! $ move ! (1 ∷ 2 ∷ []) $
         let vs : List HandleState = set x.1 h u in
-        use2 𝓛 (given (slice_get x.1 h ≡ Some v) (‵ (Seats x.1) ⊛ ‵ (seat δ h v))) (agrees 𝓛 δ x.1 0 h h three_quarters v zero_h) $ learn ! (λ at. split ! $
-        use2 𝓛 (raw (upd 𝓤 (⟦ Seats vs ⟧ ∗ ⟦ seat δ h u ⟧))) (moves 𝓛 δ x.1 0 h h v u zero_h) $ settle 𝓛 Z (‵ (Seats vs) ⊛ ‵ (seat δ h u)) $ split ! $
+        use2 𝓛 (given (slice_get x.1 h ≡ Some v) (‵ (Seats x.1) ⊛ ‵ (seat δ h v))) (agrees δ x.1 0 h h three_quarters v zero_h) $ learn ! (λ at. split ! $
+        use2 𝓛 (raw (upd 𝓤 (⟦ Seats vs ⟧ ∗ ⟦ seat δ h u ⟧))) (moves δ x.1 0 h h v u zero_h) $ settle 𝓛 Z (‵ (Seats vs) ⊛ ‵ (seat δ h u)) $ split ! $
         move ! (2 ∷ 0 ∷ []) $
         use2 𝓛 (raw (upd 𝓤 (⟦ Bk n' ⟧ ∗ ⟦ Said s reply ⟧))) (turns n' x.0 s reply vs (law x.0 x.1 keeps at)) $ settle 𝓛 Z (‵ (Bk n') ⊛ ‵ (Said s reply)) $
         split ! $ suffices ! _ (upd_i 𝓤 Z) $ move ! (0 ∷ 2 ∷ 1 ∷ []) $ done !)))
@@ -151,6 +248,58 @@ module _ {M : Type 1} {𝓤 : Ura M} (𝓛 : Logic 𝓤) where
     pub book_back : (n h : ℕ) → ⟦ Bk n ⟧ ∗ ⟦ seat δ h Owing ⟧ ⊢ upd 𝓤 (⟦ Bk n ⟧ ∗ ⟦ seat δ h Gone ⟧ ∗ ⟦ Said (Back h) Given ⟧)
     book_back n h = by_seat n n h Owing Gone (Back h) Given (λ r vs keeps at. keeps-back L r (word_of n) vs h keeps at)
 
+    -- ---- the steps of a clone by the handle h, depending on the word that they find
+    module _ (h : ℕ) (q : Share) where
+      abbrev Mine : Fml
+      Mine = seat_share δ h q Free
+
+      abbrev New : Fml
+      New = NewSeat
+
+      abbrev NewIf : Type 0 → Fml
+      NewIf event = fall event (λ _. New)
+
+      clone : (n n' : ℕ) (event : Type 0)
+          → Rattle.arcstr_block.specs.Word.word_of n' ≡ Rattle.arcstr_count.specs.Word.cloned_of L (Rattle.arcstr_block.specs.Word.word_of n)
+          → ⟦ Bk n ⟧ ∗ ⟦ Mine ⟧ ⊢ upd 𝓤 (⟦ Bk n' ⟧ ∗ ⟦ Mine ⟧ ∗ ⟦ NewIf event ⟧)
+      clone n n' event is = let Z : Pr = ⟦ Bk n' ⟧ ∗ ⟦ Mine ⟧ ∗ ⟦ NewIf event ⟧ in qed 𝓛 (‵ (Bk n) ∷ ‵ Mine ∷ []) ∵
+          use2 𝓛 (raw (upd 𝓤 (⟦ Bk n' ⟧ ∗ ⟦ Mine ⟧ ∗ ⟦ New ⟧))) (book_clone n n' h q is) $ settle 𝓛 Z (‵ (Bk n') ⊛ ‵ Mine ⊛ ‵ New) $
+          suffices ! _ (upd_i 𝓤 Z) $ split3 ! $ move ! (2 ∷ []) $
+          use1 𝓛 (‵ (NewIf event)) (all_i 𝓤 {P = ⟦ New ⟧} (λ (_ : event). ⟦ New ⟧) (λ _. id⊢ 𝓤 ⟦ New ⟧)) $ move ! (1 ∷ 2 ∷ 0 ∷ []) $ done !
+
+      no_clone : (n : ℕ) (event : Type 0) → (event → ⊥) → ⟦ Bk n ⟧ ∗ ⟦ Mine ⟧ ⊢ upd 𝓤 (⟦ Bk n ⟧ ∗ ⟦ Mine ⟧ ∗ ⟦ NewIf event ⟧)
+      no_clone n event none = let Z : Pr = ⟦ Bk n ⟧ ∗ ⟦ Mine ⟧ ∗ ⟦ NewIf event ⟧ in qed 𝓛 (‵ (Bk n) ∷ ‵ Mine ∷ []) ∵ suffices ! _ (upd_i 𝓤 Z) $ nothing ! $
+          use1 𝓛 (‵ (NewIf event)) (all_i 𝓤 {P = emp 𝓤} (λ (_ : event). ⟦ New ⟧) (λ y. absurd (none y))) $ move ! (1 ∷ 2 ∷ 0 ∷ []) $ done !
+
+      -- a load: if it finds the word marked, the clone is born
+      pub finds : (n : ℕ) → ⟦ Bk n ⟧ ∗ ⟦ Mine ⟧ ⊢ upd 𝓤 (⟦ Bk n ⟧ ∗ ⟦ Mine ⟧ ∗ ⟦ NewIf (IsMarked n) ⟧)
+      finds n = elim (odd_or_even n) [
+        | inl odd ↦ clone n n (IsMarked n) (word_kept L n odd)
+        | inr even ↦ no_clone n (IsMarked n) (λ odd. absurd (omega (arith, odd, even)))
+      ]
+
+      -- a compare-exchange of old to its clone new
+      module _ (old new : ℕ) (asked : IsClone L old new) where
+        abbrev to : ℕ → ℕ
+        to n = either (eqb n old) new n
+
+        abbrev Turn : ℕ → ℕ → Type 1
+        Turn n n' = ⟦ Bk n ⟧ ∗ ⟦ Mine ⟧ ⊢ upd 𝓤 (⟦ Bk n' ⟧ ∗ ⟦ Mine ⟧ ∗ ⟦ NewIf (IsMarkedOr old n) ⟧)
+
+        hit : Turn old (to old)
+        hit = subst (Turn old) (sym (ap (λ y. either y new old) (eq-eqb old old refl))) (clone old new (IsMarkedOr old old) (word_cloned L old new asked))
+
+        missed : (n : ℕ) → n ≢ old → Turn n n
+        missed n ne = elim (odd_or_even n) [
+          | inl odd ↦ clone n n (IsMarkedOr old n) (word_kept L n odd)
+          | inr even ↦ no_clone n (IsMarkedOr old n) (λ y. elim y [ inl odd ↦ absurd (omega (arith, odd, even)) | inr e ↦ absurd (ne e) ])
+        ]
+
+        pub raises : (n : ℕ) → Turn n (to n)
+        raises n = dite (ℕ_discrete n old)
+            (λ e. subst (λ (m : ℕ). Turn m (to m)) (sym e) hit)
+            (λ ne. subst (Turn n) (sym (ap (λ y. either y new n) (ne_eqb n old ne))) (missed n ne))
+
   -- the book of a new block
   module _ (L : ℕ) where
     abbrev Fresh : BlockName → Pr
@@ -163,7 +312,7 @@ module _ {M : Type 1} {𝓤 : Ura M} (𝓛 : Logic 𝓤) where
         use0 𝓛 (raw (upd 𝓤 (ex 𝓤 (λ (δ : GName). ⟦ unused state_code δ 0 Gone ⟧)))) (entries_new halved 𝓛 0 (λ _. (full_share, state_code Gone))) $
         settle 𝓛 Z (some (λ (δ : GName). ‵ (unused state_code δ 0 Gone))) $ pick ! (λ δ.
         fpack ! HandleState (unused state_code δ 0) Gone $
-        use1 𝓛 (raw (upd 𝓤 (⟦ roster state_code δ 0 (Free ∷ []) ⟧ ∗ ⟦ seat δ (0 + 0) Free ⟧))) (adds 𝓛 δ [] 0 Free) $
+        use1 𝓛 (raw (upd 𝓤 (⟦ roster state_code δ 0 (Free ∷ []) ⟧ ∗ ⟦ seat δ (0 + 0) Free ⟧))) (adds δ [] 0 Free) $
         settle 𝓛 Z (‵ (roster state_code δ 0 (Free ∷ [])) ⊛ ‵ (seat δ (0 + 0) Free)) $ split ! $ suffices ! _ (upd_i 𝓤 Z) $
         show ! Fresh (record { history = γ; seats = δ }) $
         move ! (2 ∷ []) $

@@ -1,29 +1,19 @@
 -- A right as a `&` shows it, and the right that a step's gain becomes. Assumes `Logic`.
-use Rattle.std.proofs.Common.{◌≡◌, ◌≢◌, ℕ, if◌then◌else◌, inl, inr, [], ◌∷◌, refl, sym, ap, subst, arith}
-use mathlib.Core.Logic.{dite}
-use native.Mathlib.Decide.{ℕ_discrete}
-use seplogic.Ra.Ura.{Ura}
-use base.FractionLaws.{Counts}
-use base.Logic.{SProp, ent, sep, wand, emp, all_i, all_e, id⊢}
-use base.Fml.{Lft, Share, Fml, ftrue, fex, fall, flft, finv, fshr_bor}
-use contract.BorrowLft.{⊑_static}
-use types.Logic.{Logic, sem}
-use types.Kit.{‵, raw, ◌⊛◌, later, ◌$◌, ◌∵◌, !, qed, by, move, keep, drop, use0, use1, use2, split, fsplit, fsplit3, fjoin, fjoin3, fpick, fpack, await}
-use types.Kit.{rewrite, updating, now, done}
-use types.Tokens.{bor_new, bor_fracture, lent_back}
-use denote.Steps.{nothing as no_item}
-use Rattle.arcstr_count.specs.declared.steps.HandleState.{HandleState}
-use Rattle.arcstr_count.specs.declared.steps.HandleState.TheVariants.{Free, Dropping, Owing, Gone}
-use Rattle.arcstr_count.specs.Word.{FlagAndCount}
-use Rattle.arcstr_block.specs.Word.{IsMarked, IsUnmarked, IsLast, one}
-use Rattle.arcstr_block.specs.Rights.{MaySee, IsFree, HasSeat, counted, uncounted, Looks, Finds, Gains, Begins, Leaves, Right, nothing, fixed, dropping, owed}
-use Rattle.arcstr_block.specs.Book.{seat, seat_share}
-use Rattle.arcstr_block.specs.Ledger.{Id, parts, Inv, right_to, shown, free, free_shown, knows}
-use Rattle.arcstr_block.proofs.TokenParts.{parts_in}
+use Rattle.arcstr_block.proofs.Names.{◌≡◌, ℕ, Bool, true, [], ◌∷◌, refl, arith, false, List, sym, subst, inl, inr, ◌≢◌, ap, if◌then◌else◌, dite, ℕ_discrete}
+use Rattle.arcstr_block.proofs.Names.{Ura, Lft, Share, Fml, fsep, fex, flft, finv, fshr_bor, ftrue, fall, Counts, emp, all_i, upd, id⊢, all_e, ⊑_static}
+use Rattle.arcstr_block.proofs.Names.{ShrLaws, no_item, ‵, later, ◌$◌, ◌∵◌, !, qed, move, use1, use2, fsplit, fjoin, fjoin3, fpick, fpack, await, updating, now}
+use Rattle.arcstr_block.proofs.Names.{done, keep, fsplit3, drop, rewrite, use3, Logic, bor_new, bor_fracture, lent_back, look_reply, FlagAndCount, looked_of}
+use Rattle.arcstr_block.proofs.Names.{HandleState, Free, Dropping, Owing, Gone, Step, Look, Book, reached, seat, seat_share, Ends, Id, parts, Inv, knows, free}
+use Rattle.arcstr_block.proofs.Names.{right_to, shown, free_shown, uncounted, counted, HasSeat, Right, dropping, owed, MaySee, IsFree, Looks, Finds, Gains}
+use Rattle.arcstr_block.proofs.Names.{Begins, Leaves, fixed, Loads, LoadEnds, word_of, IsMarked, IsUnmarked, IsLast, one, operators}
+use Rattle.arcstr_block.specs.Rights.{nothing}
+use Rattle.arcstr_block.specs.Ledger.{fact}
+use Rattle.arcstr_block.proofs.Ledger.{parts_in}
 use Rattle.arcstr_block.proofs.Words.{IsMarkedOr, odd_or_even, unmarked_word, last_two}
-use Rattle.arcstr_block.proofs.Book.{begun, left_in, NewSeat}
-use Rattle.arcstr_block.proofs.PointerShares.{free_in}
+use Rattle.arcstr_block.proofs.Book.{begun, left_in, NewSeat, book_look, finds}
+use Rattle.arcstr_block.proofs.Sharing.{free_in}
 use Rattle.arcstr_block.proofs.Steps.{Gain, none, part, share, last, gained}
+use Rattle.arcstr_block.proofs.Histories.{marked_by_word}
 
 -- a free handle is counted or uncounted
 pub by_free : (X : Right → Type 1) → X counted → X uncounted → (right : Right) → IsFree right → X right
@@ -37,25 +27,10 @@ seat_state right = Free
 
 module _ {M : Type 1} {𝓤 : Ura M} (𝓛 : Logic 𝓤) (P : Fml) (L b o : ℕ) (t : Id) where
   open 𝓛 use {H, A}
-
-  abbrev Pr : Type 2
-  Pr = SProp 𝓤
-
-  abbrev ◌⊢◌ : Pr → Pr → Type 1
-  X ⊢ Y = ent 𝓤 X Y
-
-  abbrev ◌∗◌ : Pr → Pr → Pr
-  X ∗ Y = sep 𝓤 X Y
-
-  abbrev ◌-∗◌ : Pr → Pr → Pr
-  X -∗ Y = wand 𝓤 X Y
-
-  abbrev ⟦◌⟧ : Fml → Pr
-  ⟦ X ⟧ = sem 𝓛 X
+  open operators 𝓛 use {Pr, entails as ◌⊢◌, both as ◌∗◌, meaning as ⟦◌⟧}
 
   infix 26 ◌⊢◌
   infixr 35 ◌∗◌
-  infixr 30 ◌-∗◌
   abbrev I : Fml
   I = Inv P L b o t
 
@@ -292,3 +267,47 @@ module _ {M : Type 1} {𝓤 : Ura M} (𝓛 : Logic 𝓤) (P : Fml) (L b o : ℕ)
       subtracted share m u = record { right = nothing; said = not_last share (λ e. absurd cc) m; turns = leaves (gained 𝓛 P L b o t share) }
       subtracted last m u = dite (ℕ_discrete n one) (λ two. record { right = owed; said = ((λ _. refl), (λ ne. absurd (ne two))); turns = owes two }) (λ ne.
           let e = u ne in absurd cc)
+
+    -- ---- a load by the free handle h, of a clone or as a look
+    module _ (h : ℕ) where
+      abbrev Bk : ℕ → Fml
+      Bk = Book L t.name.history t.name.seats
+
+      -- the history after the load found the word n
+      abbrev pub entered : Bool → ℕ → Fml
+      entered true n = newborn (IsMarked n)
+      entered false n = Ends L t.name.history t.name.seats (Look h) (look_reply (looked_of (word_of n)))
+
+      pub enters : (clones : Bool) (q : Share) (n : ℕ)
+          → ⟦ Bk n ⟧ ∗ ⟦ seat_share t.name.seats h q Free ⟧ ⊢ upd 𝓤 (⟦ Bk n ⟧ ∗ ⟦ seat_share t.name.seats h q Free ⟧ ∗ ⟦ entered clones n ⟧)
+      enters true q n = finds 𝓛 L t.name.history t.name.seats h q n
+      enters false q n = book_look 𝓛 L t.name.history t.name.seats n h q
+
+      -- a right of the handle x.0, with the prefix x.1 of the history
+      abbrev pub right_after : Bool → ℕ → Right → ℕ × List Step → Fml
+      right_after clones n k x = fsep (fact (LoadEnds clones L h n x.1)) (fsep (reached t.name.history x.1) (right_to P L b o t s x.0 k))
+
+      abbrev pub AfterLoad : Bool → ℕ → Right → Fml
+      AfterLoad clones n k = fex (ℕ × List Step) (right_after clones n k)
+
+      abbrev FromLoad : Bool → ℕ → List Step → Gain → Pr
+      FromLoad clones n r g = ⟦ gained 𝓛 P L b o t g ⟧ ∗ ⟦ s (t.sharing ∷ []) ⟧ ∗ ⟦ entered clones n ⟧ ∗ ⟦ reached t.name.history r ⟧
+
+      pub loaded : (clones : Bool) (n : ℕ) (r : List Step) (g : Gain) → (IsMarked n → g ≡ share) → (IsUnmarked n → g ≡ none)
+          → Becomes (Loads clones n) (FromLoad clones n r g) (λ k. ⟦ AfterLoad clones n k ⟧)
+      loaded true n r g m u = let got = found n g m u in record {
+        right = got.right;
+        said = got.said;
+        turns = qed 𝓛 (‵ (gained 𝓛 P L b o t g) ∷ ‵ (s (t.sharing ∷ [])) ∷ ‵ (entered true n) ∷ ‵ (reached t.name.history r) ∷ []) ∵ updating ! $
+            use3 𝓛 (later (‵ (fex ℕ (λ j. right_to P L b o t s j got.right)))) got.turns $ await ! tt $ fpick ! (λ j. move ! (1 ∷ 0 ∷ []) $ fjoin ! $
+            no_item ! $ fpack ! (LoadEnds true L h n r) (λ _. ftrue) tt $ fjoin ! $ fpack ! (ℕ × List Step) (right_after true n got.right) (j, r) $ now ! $ done !);
+      }
+      loaded false n r g m u = let got = looked n g m u in record {
+        right = got.right;
+        said = got.said;
+        turns = qed 𝓛 (‵ (gained 𝓛 P L b o t g) ∷ ‵ (s (t.sharing ∷ [])) ∷ ‵ (entered false n) ∷ ‵ (reached t.name.history r) ∷ []) ∵ updating ! $
+            use2 𝓛 (later (‵ (right_to P L b o t s 0 got.right))) got.turns $ await ! tt $ move ! (1 ∷ []) $ fpick ! (λ r'. fsplit ! $ fpick ! (λ ends. drop ! $
+            fjoin ! $
+            no_item ! $ fpack ! (LoadEnds false L h n r') (λ _. ftrue) (ends, marked_by_word L n r' h ends) $ fjoin ! $ fpack ! (ℕ × List Step) (right_after false n got.right) (0, r') $ now ! $
+            keep ! (0 ∷ []) $ done !));
+      }

@@ -1,15 +1,21 @@
--- The words that a step leaves, as numbers.
-use Rattle.std.proofs.Common.{◌≢◌, ◌==◌, eq-eqb, ne_eqb, true, false, if◌then◌else◌, inl, inr, ◌≡◌, ℕ, ◌+◌, ◌-◌, ◌*◌, ◌/◌, ◌%◌, ◌^◌, ◌<◌, ◌≤◌, refl, sym, ap}
-use Rattle.std.proofs.Common.{◌∙◌, arith, lit<}
-use Rattle.std.specs.Prelude.{bit_or}
+-- The count words that a step finds and leaves, as numbers, and whether a right is a given one.
+use Rattle.arcstr_block.proofs.Names.{◌≡◌, ℕ, ◌-◌, ◌^◌, true, refl, arith, lit<, false, sym, inl, inr, ◌≢◌, ap, ◌+◌, ◌<◌, if◌then◌else◌, eq-eqb, ne_eqb, ◌∙◌}
+use Rattle.arcstr_block.proofs.Names.{◌==◌, ◌≤◌, ◌*◌, ◌/◌, ◌%◌, bit_or, ◌⊎◌, dite, ℕ_discrete, dec_le, cloned_of, is_last, marked_of, dropped_of, Right}
+use Rattle.arcstr_block.proofs.Names.{right_index, right_at, right_at_index, word_of, IsMarked, IsClone, IsUnmarked}
 use Rattle.std.specs.Int.Bits.{or_zero_r}
 use Rattle.std.proofs.lemmas.Nat.{or_block}
 use Rattle.std.proofs.lemmas.Bool.{lt-ltb, le-ltb}
-use Rattle.std.specs.Prelude.{◌⊎◌}
-use mathlib.Core.Logic.{dite}
-use native.Mathlib.Decide.{ℕ_discrete, dec_le}
-use Rattle.arcstr_count.specs.Word.{marked_of, cloned_of, dropped_of, is_last}
-use Rattle.arcstr_block.specs.Word.{IsMarked, IsUnmarked, IsClone, word_of}
+
+-- ---- rights
+
+pub is_right : (right other : Right) → Dec (right ≡ other)
+is_right right other = by_index (ℕ_discrete (right_index right) (right_index other))
+  where
+    by_index : Dec (right_index right ≡ right_index other) → Dec (right ≡ other)
+    by_index (yes e) = yes (sym (right_at_index right) ∙ ap right_at e ∙ right_at_index other)
+    by_index (no ne) = no (λ e. ne (ap right_index e))
+
+-- ---- count words
 
 -- the word after a subtraction of one handle, as the processor computes it
 abbrev pub one_less : ℕ → ℕ

@@ -19,7 +19,7 @@ use Rattle.arcstr_count.specs.declared.steps.HandleState.TheVariants.{Free, Drop
 use Rattle.arcstr_block.specs.Word.{IsLimit, IsMarked, counting_word, count_in}
 use Rattle.arcstr_block.specs.Rights.{Right, nothing, counted, uncounted, fixed, dropping, owed}
 use Rattle.arcstr_block.specs.Book.{BlockName, Book, reached, seat, seat_share}
-use Rattle.arcstr_block.specs.Memory.{block_owns, block_shares, placed, word_at, IsText}
+use Rattle.arcstr_block.specs.Memory.{block_owns, block_shares, in_memory, word_at, IsText}
 
 -- the statement as something that can be owned
 abbrev pub fact : Type 0 → Fml
@@ -143,7 +143,7 @@ module _ (holds : Ty → Ptr → Fml) (L : ℕ) (p : Ptr) (text : List ℕ) (rig
 
   -- all that it owns
   abbrev pub pointer_owns : Fml
-  pointer_owns = fsep (placed p (IsText text)) (fex Id of_block)
+  pointer_owns = fsep (in_memory p (IsText text)) (fex Id of_block)
 
   -- what a `&` to it holds of the block that t identifies
   abbrev pub of_block_shown : Id → Lft → Fml
@@ -152,4 +152,4 @@ module _ (holds : Ty → Ptr → Fml) (L : ℕ) (p : Ptr) (text : List ℕ) (rig
 
   -- all that a `&` to it holds
   abbrev pub pointer_shares : Lft → Fml
-  pointer_shares = beside (said (placed p (IsText text))) (some Id of_block_shown)
+  pointer_shares = beside (said (in_memory p (IsText text))) (some Id of_block_shown)

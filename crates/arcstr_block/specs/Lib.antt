@@ -3,9 +3,7 @@ pub mod Rights
 pub mod Memory
 pub mod Lends
 pub mod Ledger
-pub mod Same
+pub mod Steps
 pub mod Book
-pub mod Fault
 pub mod Making
 pub mod Handle
-pub mod Ending

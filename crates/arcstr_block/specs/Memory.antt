@@ -63,8 +63,8 @@ abbrev pub text_lies : Ptr → List ℕ → Fml
 text_lies p xs = lies_at (Array u8 (length xs)) full_share p xs
 
 -- the address is in memory, and the statement about the text holds there
-abbrev pub placed : Ptr → Type 0 → Fml
-placed p said = fex (InBlock p × said) (λ _. ftrue)
+abbrev pub in_memory : Ptr → Type 0 → Fml
+in_memory p said = fex (InBlock p × said) (λ _. ftrue)
 
 module _ (holds : Ty → Ptr → Fml) where
   -- what remains of a block for n bytes: the way back from its three rooms to the whole, and the right to free it
@@ -77,11 +77,11 @@ module _ (holds : Ty → Ptr → Fml) where
 
   -- a block whose bytes are elsewhere
   abbrev pub blank_owns : Ptr → ℕ → ℕ → Fml
-  blank_owns p w n = fsep (placed p (Fits n)) (fsep (word_lies p n w) (fsep (length_lies p n) (rim n p)))
+  blank_owns p w n = fsep (in_memory p (Fits n)) (fsep (word_lies p n w) (fsep (length_lies p n) (rim n p)))
 
   -- a block that has one owner
   abbrev pub sole_owns : Ptr → ℕ → List ℕ → Fml
-  sole_owns p w xs = fsep (placed p (Fits (length xs))) (fsep (word_lies p (length xs) w) (block_owns p xs))
+  sole_owns p w xs = fsep (in_memory p (Fits (length xs))) (fsep (word_lies p (length xs) w) (block_owns p xs))
 
 -- what is shared of a block: the length and the bytes
 abbrev pub block_shares : Ptr → List ℕ → Lft → Fml

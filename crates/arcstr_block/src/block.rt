@@ -18,7 +18,7 @@ pub(crate) struct Tail {
     pub(crate) length: usize,
 }
 
-/// The memory of a new block without its bytes, which its maker has in a separate `Slots`.
+/// A new block whose bytes are not written yet. Its maker writes them through a separate `Slots`.
 pub(crate) struct Blank<A: Allocator> {
     at: *mut u8,
     marker: PhantomData<A>,

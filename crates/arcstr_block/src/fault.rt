@@ -1,12 +1,14 @@
 //! Why a text cannot be made, and the length from which it is too long.
 ghost use Rattle.std.specs.Prelude.{◌≡◌, Some};
-ghost use Rattle.arcstr_block.specs.Fault.{text_fault_number, text_fault_text};
+ghost use Rattle.std.specs.IoError.{error_kind};
+ghost use Rattle.arcstr_block.specs.Making.{text_fault_number, text_fault_text, text_fault_kind};
+ghost use Rattle.arcstr_block.specs.declared.fault.TextFault.TheVariants.{Memory};
 
+use std::alloc::{AllocError, AllocFailed};
 use std::error::Error;
 use std::fmt;
-
-mod from_memory;
-mod to_io;
+use std::io;
+use std::io::ErrorKind;
 
 /// The least number of bytes that is too long for a block.
 pub(crate) const TOO_LONG: usize = (1 << 63) - 25;
@@ -61,3 +63,35 @@ impl fmt::Display for TextFault {
 }
 
 impl Error for TextFault {}
+
+// So one function can use `?` for texts and for vectors.
+impl From<AllocError> for TextFault {
+    ghost from_gives = { λ _ fault. fault ≡ Memory };
+
+    fn from(_refused: AllocError) -> TextFault {
+        TextFault::Memory
+    }
+}
+
+/// The value that could not be stored is dropped.
+impl<T: Drop> From<AllocFailed<T>> for TextFault {
+    ghost from_gives = { λ _ fault. fault ≡ Memory };
+
+    fn from(refused: AllocFailed<T>) -> TextFault {
+        TextFault::from(AllocError::from(refused))
+    }
+}
+
+// So one function can make texts and do I/O, with `?` for both.
+impl From<TextFault> for io::Error {
+    ghost from_gives = { λ fault error. error_kind error ≡ text_fault_kind fault };
+
+    /// `InvalidInput` for a text that is too long, `OutOfMemory`, and `InvalidData` for bytes that are not UTF-8.
+    fn from(fault: TextFault) -> io::Error {
+        match fault {
+            TextFault::Length => io::Error::new(ErrorKind::InvalidInput, "text is too long"),
+            TextFault::Memory => io::Error::from(ErrorKind::OutOfMemory),
+            TextFault::Utf8(_) => io::Error::new(ErrorKind::InvalidData, "bytes are not UTF-8"),
+        }
+    }
+}

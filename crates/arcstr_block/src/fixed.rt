@@ -85,7 +85,7 @@ impl<A: Allocator + Copy> Fixed<A> {
     /// let text = Shared::<5, _>::from_text(rt.alloc(), "aé")?;
     /// let fixed = text.mark();
     /// let (_, later) = text.look();
-    /// fixed.seen().agree(&later);
+    /// fixed.seen().a_block_has_one_history(&later);
     /// ```
     pub fn seen(&self) -> Seen
         ensures block { result.block ≡ self.now.block }

@@ -41,7 +41,7 @@ impl<const LIMIT: u64, A: Allocator + Copy> Shared<LIMIT, A> {
         }
         let (blank, mut bytes) = blank_block(alloc, len)?;
         write_joined(&mut bytes, texts, separator);
-        Ok(Shared::placed(blank.close(bytes), len, alloc))
+        Ok(Shared::first_handle(blank.close(bytes), len, alloc))
     }
 }
 
@@ -58,7 +58,7 @@ pub fn joined_len<S: AsStr>(texts: &[S], separator: &str) -> Option<usize>
     let mut len: usize = 0;
     for i in 0..texts.len() {
         let text = texts[i].as_str();
-        len = len.checked_add(before(i, separator).len())?;
+        len = len.checked_add(gap_before(i, separator).len())?;
         len = len.checked_add(text.len())?;
     }
     Some(len)
@@ -75,13 +75,13 @@ fn write_joined<S: AsStr>(bytes: &mut Slots<u8>, texts: &[S], separator: &str)
     let mut at = 0;
     for i in 0..texts.len() {
         let text = texts[i].as_str();
-        at = write(bytes, at, before(i, separator));
+        at = write(bytes, at, gap_before(i, separator));
         at = write(bytes, at, text);
     }
 }
 
 /// What is written before the text with this index: nothing before the first, else the separator.
-fn before(i: usize, separator: &str) -> &str
+fn gap_before(i: usize, separator: &str) -> &str
     ensures first { i ≡ 0 → result.now ≡ [] }
     ensures later { 0 < i → result.now ≡ separator.now }
 {

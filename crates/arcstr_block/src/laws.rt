@@ -1,12 +1,10 @@
 //! The laws of blocks. A law does nothing when it runs: it takes no atomic step, and does not allocate.
-ghost use Rattle.std.specs.Prelude.{◌≡◌, ◌≢◌, ◌≤◌, length};
+ghost use Rattle.std.specs.Prelude.{◌≡◌, ◌≢◌};
 ghost use Rattle.arcstr_block.specs.Rights.{owed, HasSeat, MaySee};
-ghost use mathlib.Core.List.{IsPrefix};
 
 use crate::fixed::Fixed;
 use crate::owed::Owed;
 use crate::pointer::Pointer;
-use crate::seen::Seen;
 use crate::shared::{Counted, Shared};
 use std::alloc::Allocator;
 
@@ -40,10 +38,10 @@ impl<const LIMIT: u64, A: Allocator + Copy> Shared<LIMIT, A> {
     /// ```
     /// let text = Shared::<5, _>::from_text(rt.alloc(), "aé")?;
     /// let clone = text.up(&rt);
-    /// let (text, clone) = text.apart(clone);
+    /// let (text, clone) = text.two_handles_have_two_seats(clone);
     /// assert_eq!(rt; (text.as_str(), clone.as_str()), ("aé", "aé"));
     /// ```
-    pub fn apart(self, other: Shared<LIMIT, A>) -> (Shared<LIMIT, A>, Shared<LIMIT, A>)
+    pub fn two_handles_have_two_seats(self, other: Shared<LIMIT, A>) -> (Shared<LIMIT, A>, Shared<LIMIT, A>)
         ensures first { result.0 ≡ self }
         ensures second { result.1 ≡ other }
         ensures apart { self.block ≡ other.block → self.seat ≢ other.seat }
@@ -52,12 +50,12 @@ impl<const LIMIT: u64, A: Allocator + Copy> Shared<LIMIT, A> {
             pointer,
             len,
             alloc,
-        } = self.taken();
+        } = self.into_counted();
         let Counted {
             pointer: beside,
             len: length,
             alloc: home,
-        } = other.taken();
+        } = other.into_counted();
         let (pointer, beside) = pointer.two_pointers_have_two_seats(beside);
         let first = Counted {
             pointer,
@@ -79,16 +77,16 @@ impl<A: Allocator + Copy> Owed<A> {
     /// ```
     /// let other = Shared::<5, _>::from_text(rt.alloc(), "b")?;
     /// match Shared::<5, _>::from_text(rt.alloc(), "a")?.down().0 {
-    ///     Down::Owes(owed) => owed.alone(other).0.give_back(),
+    ///     Down::Owes(owed) => owed.an_owed_block_has_no_handle(other).0.give_back(),
     ///     Down::Left | Down::Ended => {}
     /// }
     /// ```
-    pub fn alone<const LIMIT: u64>(self, other: Shared<LIMIT, A>) -> (Owed<A>, Shared<LIMIT, A>)
+    pub fn an_owed_block_has_no_handle<const LIMIT: u64>(self, other: Shared<LIMIT, A>) -> (Owed<A>, Shared<LIMIT, A>)
         ensures first { result.0 ≡ self }
         ensures second { result.1 ≡ other }
         ensures alone { self.block ≢ other.block }
     {
-        let owed = self.alone_beside(&other);
+        let owed = self.an_owed_block_has_no_borrowed_handle(&other);
         (owed, other)
     }
 
@@ -97,15 +95,15 @@ impl<A: Allocator + Copy> Owed<A> {
     /// ```
     /// let other = Shared::<5, _>::from_text(rt.alloc(), "b")?;
     /// match Shared::<5, _>::from_text(rt.alloc(), "a")?.down().0 {
-    ///     Down::Owes(owed) => owed.alone_beside(&other).give_back(),
+    ///     Down::Owes(owed) => owed.an_owed_block_has_no_borrowed_handle(&other).give_back(),
     ///     Down::Left | Down::Ended => {}
     /// }
     /// ```
-    pub fn alone_beside<const LIMIT: u64>(self, handle: &Shared<LIMIT, A>) -> Owed<A>
+    pub fn an_owed_block_has_no_borrowed_handle<const LIMIT: u64>(self, handle: &Shared<LIMIT, A>) -> Owed<A>
         ensures same { result ≡ self }
         ensures alone { self.block ≢ handle.now.block }
     {
-        self.alone_from(&handle.handle.pointer)
+        self.has_no_reader(&handle.handle.pointer)
     }
 
     /// The law that a block that is owed is not marked. It returns what is owed.
@@ -113,21 +111,21 @@ impl<A: Allocator + Copy> Owed<A> {
     /// ```
     /// let fixed = Shared::<5, _>::from_text(rt.alloc(), "b")?.mark();
     /// match Shared::<5, _>::from_text(rt.alloc(), "a")?.down().0 {
-    ///     Down::Owes(owed) => owed.unmarked(&fixed).give_back(),
+    ///     Down::Owes(owed) => owed.an_owed_block_is_not_permanent(&fixed).give_back(),
     ///     Down::Left | Down::Ended => {}
     /// }
     /// ```
-    pub fn unmarked(self, fixed: &Fixed<A>) -> Owed<A>
+    pub fn an_owed_block_is_not_permanent(self, fixed: &Fixed<A>) -> Owed<A>
         ensures same { result ≡ self }
         ensures unmarked { self.block ≢ fixed.now.block }
     {
-        self.alone_from(&fixed.pointer)
+        self.has_no_reader(&fixed.pointer)
     }
 }
 
 impl<A: Allocator> Owed<A> {
     /// A pointer by which a block can be read is on a different block from the one that is owed.
-    fn alone_from(self, other: &Pointer<A>) -> Owed<A>
+    fn has_no_reader(self, other: &Pointer<A>) -> Owed<A>
         requires { MaySee other.now.right }
         ensures same { result ≡ self }
         ensures alone { self.block ≢ other.now.block }
@@ -149,12 +147,12 @@ impl<A: Allocator> Owed<A> {
     ///
     /// ```
     /// let give_both_back = |owed: Owed<Global>, other: Owed<Global>| {
-    ///     let (owed, other) = owed.apart(other);
+    ///     let (owed, other) = owed.a_block_is_owed_once(other);
     ///     owed.give_back();
     ///     other.give_back();
     /// };
     /// ```
-    pub fn apart(self, other: Owed<A>) -> (Owed<A>, Owed<A>)
+    pub fn a_block_is_owed_once(self, other: Owed<A>) -> (Owed<A>, Owed<A>)
         ensures first { result.0 ≡ self }
         ensures second { result.1 ≡ other }
         ensures apart { self.block ≢ other.block }
@@ -182,19 +180,4 @@ impl<A: Allocator> Owed<A> {
         };
         (first, second)
     }
-}
-
-impl Seen {
-    /// The law that a block has one history: of two prefixes of it, the longer extends the other.
-    ///
-    /// ```
-    /// let text = Shared::<5, _>::from_text(rt.alloc(), "aé")?;
-    /// let (_, first) = text.look();
-    /// let (_, second) = text.look();
-    /// first.agree(&second);
-    /// ```
-    pub fn agree(&self, other: &Seen)
-        ensures prefix { self.now.block ≡ other.now.block → length self.now.history ≤ length other.now.history → IsPrefix self.now.history other.now.history }
-        ensures longer { self.now.block ≡ other.now.block → length other.now.history ≤ length self.now.history → IsPrefix other.now.history self.now.history }
-    {}
 }

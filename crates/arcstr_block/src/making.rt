@@ -36,7 +36,7 @@ impl<const LIMIT: u64, A: Allocator + Copy> Shared<LIMIT, A> {
         }
         let (blank, mut bytes) = blank_block(alloc, text.len())?;
         bytes.copy_in(0, text.as_bytes());
-        Ok(Shared::placed(blank.close(bytes), text.len(), alloc))
+        Ok(Shared::first_handle(blank.close(bytes), text.len(), alloc))
     }
 
     /// Returns the first handle on a new block with the text that `fill` leaves in `n` zero bytes. The call makes one allocation,
@@ -71,10 +71,10 @@ impl<const LIMIT: u64, A: Allocator + Copy> Shared<LIMIT, A> {
             return Err(TextFault::Length);
         }
         let (blank, mut bytes) = blank_block(alloc, n)?;
-        zero(&mut bytes);
+        write_zeros(&mut bytes);
         let mut block = blank.close(bytes);
-        match filled(block.lend(n), fill) {
-            Ok(()) => Ok(Shared::placed(block, n, alloc)),
+        match fill_and_check(block.lend(n), fill) {
+            Ok(()) => Ok(Shared::first_handle(block, n, alloc)),
             Err(fault) => {
                 block.give_back(&alloc, size_of_block(n));
                 Err(fault)
@@ -102,8 +102,8 @@ impl<const LIMIT: u64, A: Allocator + Copy> Shared<LIMIT, A> {
             _ => return Err(TextFault::Length),
         };
         let (blank, mut bytes) = blank_block(alloc, len)?;
-        copies(&mut bytes, text.as_bytes(), n);
-        Ok(Shared::placed(blank.close(bytes), len, alloc))
+        write_copies(&mut bytes, text.as_bytes(), n);
+        Ok(Shared::first_handle(blank.close(bytes), len, alloc))
     }
 }
 
@@ -128,7 +128,7 @@ pub(crate) fn blank_block<A: Allocator + Copy>(
 }
 
 /// Writes 0 in each slot.
-fn zero(bytes: &mut Slots<u8>)
+fn write_zeros(bytes: &mut Slots<u8>)
     requires { slots_items bytes.old ≡ replicate (slots_len bytes.old) 0 }
     ensures items { slots_items bytes.new ≡ replicate (slots_len bytes.old) 0 }
     ensures written { Filled (slots_filled bytes.new) 0 (slots_len bytes.old) }
@@ -140,7 +140,7 @@ fn zero(bytes: &mut Slots<u8>)
 }
 
 /// Writes `n` copies of a text, one after another.
-fn copies(bytes: &mut Slots<u8>, text: &[u8], n: usize)
+fn write_copies(bytes: &mut Slots<u8>, text: &[u8], n: usize)
     requires places { slots_len bytes.old ≡ n * length text.now }
     requires utf8 { IsUtf8 text.now }
     ensures items { slots_items bytes.new ≡ repeat n text.now }
@@ -158,7 +158,7 @@ fn copies(bytes: &mut Slots<u8>, text: &[u8], n: usize)
 }
 
 /// Lets a closure fill the bytes, and checks that it left a text.
-fn filled<F: FnOnce(&mut [u8])>(bytes: &mut [u8], fill: F) -> Result<(), TextFault>
+fn fill_and_check<F: FnOnce(&mut [u8])>(bytes: &mut [u8], fill: F) -> Result<(), TextFault>
     requires { FnOnceTakesAtMut F.FnOnce fill bytes.old }
     ensures left { FnOnceReturnsAtMut F.FnOnce fill bytes.old tt bytes.new }
     ensures text { IfOk result (λ _. IsUtf8 bytes.new) }

@@ -47,7 +47,7 @@ pub struct Owed<A: Allocator> {
     pub(crate) offset: usize,
     pub(crate) alloc: A,
     ghost right: { pointer.right ≡ owed },
-    ghost placed: { offset ≡ word_offset (length pointer.text) },
+    ghost at_word: { offset ≡ word_offset (length pointer.text) },
     ghost home: { alloc ≡ pointer.home },
 }
 

@@ -48,7 +48,7 @@ impl<A: Allocator> Model for Pointer<A> {
 }
 
 impl<A: Allocator> Pointer<A> {
-    ghost use Rattle.arcstr_block.specs.Same.{IsSameBlock, LoadedAs, LeakedAs, BegunAs, SubtractedAs};
+    ghost use Rattle.arcstr_block.specs.Steps.{IsSameBlock, LoadedAs, LeakedAs, BegunAs, SubtractedAs};
 
     /// The first pointer to a block, whose count word counts only this pointer.
     pub(crate) fn make(block: Sole<A>) -> Pointer<A>
@@ -85,7 +85,7 @@ impl<A: Allocator> Pointer<A> {
         unsafe { str::from_utf8_unchecked(bytes) }
     }
 
-    /// One load of a free handle, for a clone or as a look. A clone that finds the block marked succeeds.
+    /// Loads the count word, for a clone or for a look. A clone that finds the block marked succeeds.
     pub(crate) fn load(&self, offset: usize) -> (u64, Pointer<A>)
         ghost clones: { Bool }
         requires right { IsFree self.now.right }
@@ -225,7 +225,7 @@ impl<A: Allocator> Pointer<A> {
         }
     }
 
-    /// Drops a pointer that stands for nothing in the block's history.
+    /// Drops a pointer without a seat. The block's history stays as it is.
     pub(crate) fn forget(self)
         requires { IsIdle self.right }
     {

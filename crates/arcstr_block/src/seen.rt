@@ -1,5 +1,6 @@
 //! What was seen of a block's history.
-ghost use Rattle.std.specs.Prelude.{List};
+ghost use mathlib.Core.List.{IsPrefix};
+ghost use Rattle.std.specs.Prelude.{◌≡◌, ◌≤◌, List, length};
 ghost use Rattle.std.specs.Coded.{coded_list};
 ghost use Rattle.arcstr_count.specs.declared.steps.Step.{Step};
 ghost use Rattle.arcstr_count.specs.contracts.steps.Step.{the_row as step_row};
@@ -7,8 +8,8 @@ ghost use Rattle.arcstr_block.specs.Book.{reached, BlockName, name_code};
 
 use std::marker::{Model, PhantomData};
 
-/// A permanent fact: a prefix of the history of a block. It has no bytes, can be sent and shared, and its drop does nothing.
-/// Its one function, a law, does not allocate and does not wait.
+/// A prefix of a block's history, which stays one. A `Seen` has no bytes, can be sent and shared, and its drop does nothing.
+/// Its one function is a law: it does nothing when it runs.
 ///
 /// `history` lists the steps in their order, and `block` names the block: its history, and the seats of its handles.
 ///
@@ -28,6 +29,21 @@ impl Model for Seen {
     ghost also_owns = { λ s. reached s.block.history s.history };
 
     ghost also_shares = { λ s _ κ. reached s.block.history s.history };
+}
+
+impl Seen {
+    /// The law that a block has one history: of two prefixes of it, the longer extends the other.
+    ///
+    /// ```
+    /// let text = Shared::<5, _>::from_text(rt.alloc(), "aé")?;
+    /// let (_, first) = text.look();
+    /// let (_, second) = text.look();
+    /// first.a_block_has_one_history(&second);
+    /// ```
+    pub fn a_block_has_one_history(&self, other: &Seen)
+        ensures prefix { self.now.block ≡ other.now.block → length self.now.history ≤ length other.now.history → IsPrefix self.now.history other.now.history }
+        ensures longer { self.now.block ≡ other.now.block → length other.now.history ≤ length self.now.history → IsPrefix other.now.history self.now.history }
+    {}
 }
 
 unsafe impl Send for Seen {}

@@ -5,21 +5,21 @@ ghost use Rattle.arcstr_block.specs.Memory.{Fits};
 ghost use Rattle.arcstr_block.specs.Word.{IsLimit, IsUnmarked, IsCountWord, IsOtherWord};
 ghost use Rattle.arcstr_block.specs.Rights.{IsFree, is_free_once};
 ghost use Rattle.arcstr_block.specs.Handle.{Handle, SawCount, SawMark, SawLeak, kept_of};
-ghost use Rattle.arcstr_block.specs.Same.{handle_of};
+ghost use Rattle.arcstr_block.specs.Steps.{handle_of};
 
 use crate::block::{Sole, offset_of_word};
 use crate::fixed::Fixed;
 use crate::owed::{Down, Owed};
 use crate::pointer::Pointer;
 use crate::seen::Seen;
-use crate::word::{is_count_of_one, looked, marked, next};
+use crate::word::{is_count_of_one, is_marked, looked, word_after_clone};
 use arcstr_count::RC_MAX;
 use std::alloc::Allocator;
 use std::marker::Model;
 use std::sync::Wait;
 
-/// A pointer that may read its block, with the length of the text in bytes, so that reading the text takes no load from
-/// the block, with the allocator of the block and the limit on its count.
+/// A handle without its drop: a pointer that may read the block, the length of its text in bytes, and its allocator. With
+/// the length here, reading the text loads nothing else.
 pub(crate) struct Counted<const LIMIT: u64, A: Allocator + Copy> {
     pub(crate) pointer: Pointer<A>,
     pub(crate) len: usize,
@@ -56,10 +56,10 @@ impl<const LIMIT: u64, A: Allocator + Copy> Model for Shared<LIMIT, A> {
 }
 
 impl<const LIMIT: u64, A: Allocator + Copy> Shared<LIMIT, A> {
-    ghost use Rattle.arcstr_block.specs.Ending.{EndsAs, OwesAs};
+    ghost use Rattle.arcstr_block.specs.Steps.{EndsAs, OwesAs};
 
     /// The first handle on a new block, which only its maker has, with a text of `len` bytes.
-    pub(crate) fn placed(block: Sole<A>, len: usize, alloc: A) -> Shared<LIMIT, A>
+    pub(crate) fn first_handle(block: Sole<A>, len: usize, alloc: A) -> Shared<LIMIT, A>
         requires limit { LIMIT ≤ RC_MAX }
         requires word { block.word ≡ bits_of fresh_word }
         requires home { block.home ≡ alloc }
@@ -187,7 +187,7 @@ impl<const LIMIT: u64, A: Allocator + Copy> Shared<LIMIT, A> {
         ensures block { result.block ≡ self.now.block }
         ensures limit { result.limit ≡ LIMIT }
     {
-        let old = match self.handle.find() {
+        let old = match self.handle.clone_if_marked() {
             Ok(handle) => return Shared { handle },
             Err(found) => found,
         };
@@ -212,7 +212,7 @@ impl<const LIMIT: u64, A: Allocator + Copy> Shared<LIMIT, A> {
         ensures block { IfSome result (λ clone. clone.block ≡ self.now.block) }
         ensures limit { IfSome result (λ clone. clone.limit ≡ LIMIT) }
     {
-        let mut old = match self.handle.find() {
+        let mut old = match self.handle.clone_if_marked() {
             Ok(handle) => return Some(Shared { handle }),
             Err(found) => found,
         };
@@ -226,7 +226,7 @@ impl<const LIMIT: u64, A: Allocator + Copy> Shared<LIMIT, A> {
     }
 
     /// The handle without its drop.
-    pub(crate) fn taken(self) -> Counted<LIMIT, A>
+    pub(crate) fn into_counted(self) -> Counted<LIMIT, A>
         ensures { self ≡ handle_of result.pointer }
     {
         let Shared { handle } = self;
@@ -256,7 +256,7 @@ impl<const LIMIT: u64, A: Allocator + Copy> Shared<LIMIT, A> {
         } = handle;
         let offset = offset_of_word(len);
         let (found, pointer) = pointer.begin(offset);
-        if marked(found) {
+        if is_marked(found) {
             let seen = pointer.seen();
             pointer.forget();
             return (Down::Ended, seen);
@@ -277,17 +277,17 @@ impl<const LIMIT: u64, A: Allocator + Copy> Shared<LIMIT, A> {
 }
 
 impl<const LIMIT: u64, A: Allocator + Copy> Counted<LIMIT, A> {
-    ghost use Rattle.arcstr_block.specs.Same.{IsSameBlock, IsCloneOf};
+    ghost use Rattle.arcstr_block.specs.Steps.{IsSameBlock, IsCloneOf};
 
     /// The load of a clone: another handle if the block is marked, else the unmarked count word that was found.
-    fn find(&self) -> Result<Counted<LIMIT, A>, u64>
+    fn clone_if_marked(&self) -> Result<Counted<LIMIT, A>, u64>
         ensures clone { IfOk result (λ clone. IsCloneOf clone.pointer self.now.pointer) }
         ensures unmarked { IfErr result IsUnmarked }
         ensures word { IfErr result (IsCountWord LIMIT) }
     {
         let (found, gained) = self.pointer.load(offset_of_word(self.len));
-        if marked(found) {
-            Ok(self.beside(gained))
+        if is_marked(found) {
+            Ok(self.with_pointer(gained))
         } else {
             gained.forget();
             Err(found)
@@ -303,9 +303,9 @@ impl<const LIMIT: u64, A: Allocator + Copy> Counted<LIMIT, A> {
     {
         let (found, gained) = self
             .pointer
-            .clone_exchange(offset_of_word(self.len), old, next(LIMIT, old));
-        if found == old || marked(found) {
-            Ok(self.beside(gained))
+            .clone_exchange(offset_of_word(self.len), old, word_after_clone(LIMIT, old));
+        if found == old || is_marked(found) {
+            Ok(self.with_pointer(gained))
         } else {
             gained.forget();
             Err(found)
@@ -331,8 +331,8 @@ impl<const LIMIT: u64, A: Allocator + Copy> Counted<LIMIT, A> {
         unreachable!()
     }
 
-    /// A handle on this block, through another pointer to it.
-    fn beside(&self, pointer: Pointer<A>) -> Counted<LIMIT, A>
+    /// Another handle on this block, with this pointer to it.
+    fn with_pointer(&self, pointer: Pointer<A>) -> Counted<LIMIT, A>
         requires same { IsSameBlock pointer self.now.pointer }
         requires free { IsFree pointer.right }
         ensures { result.pointer ≡ pointer }

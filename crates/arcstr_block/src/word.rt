@@ -13,7 +13,7 @@ pub(crate) const MARK: u64 = 1;
 pub(crate) const ONE: u64 = 2;
 
 /// Whether the block is marked.
-pub(crate) fn marked(word: u64) -> bool
+pub(crate) fn is_marked(word: u64) -> bool
     ensures { IsTrue result ↔ IsMarked word }
 {
     Word::from_bits(word).marked()
@@ -28,7 +28,7 @@ pub(crate) fn looked(word: u64) -> Option<u64>
 }
 
 /// The count word after a clone of an unmarked one.
-pub(crate) fn next(limit: u64, old: u64) -> u64
+pub(crate) fn word_after_clone(limit: u64, old: u64) -> u64
     requires unmarked { IsUnmarked old }
     requires word { IsCountWord limit old }
     requires low { limit ≤ RC_MAX }

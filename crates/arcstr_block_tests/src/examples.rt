@@ -101,7 +101,7 @@ fn shared_try_up(rt: HostRuntime) {
 fn shared_apart(rt: HostRuntime) {
     let text = Shared::<5, _>::from_text(rt.alloc(), "aé").expect(&rt, "refused");
     let clone = text.up(&rt);
-    let (text, clone) = text.apart(clone);
+    let (text, clone) = text.two_handles_have_two_seats(clone);
     check_eq!(rt; (text.as_str(), clone.as_str()), ("aé", "aé"));
 }
 
@@ -153,7 +153,7 @@ fn owed_alone(rt: HostRuntime) {
         .down()
         .0
     {
-        Down::Owes(owed) => owed.alone(other).0.give_back(),
+        Down::Owes(owed) => owed.an_owed_block_has_no_handle(other).0.give_back(),
         Down::Left | Down::Ended => {}
     }
 }
@@ -166,7 +166,7 @@ fn owed_alone_beside(rt: HostRuntime) {
         .down()
         .0
     {
-        Down::Owes(owed) => owed.alone_beside(&other).give_back(),
+        Down::Owes(owed) => owed.an_owed_block_has_no_borrowed_handle(&other).give_back(),
         Down::Left | Down::Ended => {}
     }
 }
@@ -181,7 +181,7 @@ fn owed_unmarked(rt: HostRuntime) {
         .down()
         .0
     {
-        Down::Owes(owed) => owed.unmarked(&fixed).give_back(),
+        Down::Owes(owed) => owed.an_owed_block_is_not_permanent(&fixed).give_back(),
         Down::Left | Down::Ended => {}
     }
 }
@@ -189,7 +189,7 @@ fn owed_unmarked(rt: HostRuntime) {
 #[test]
 fn owed_apart(rt: HostRuntime) {
     let give_both_back = |owed: Owed<Global>, other: Owed<Global>| {
-        let (owed, other) = owed.apart(other);
+        let (owed, other) = owed.a_block_is_owed_once(other);
         owed.give_back();
         other.give_back();
     };
@@ -234,7 +234,7 @@ fn fixed_seen(rt: HostRuntime) {
     let text = Shared::<5, _>::from_text(rt.alloc(), "aé").expect(&rt, "refused");
     let fixed = text.mark();
     let (_, later) = text.look();
-    fixed.seen().agree(&later);
+    fixed.seen().a_block_has_one_history(&later);
 }
 
 #[test]
@@ -249,7 +249,7 @@ fn seen_agree(rt: HostRuntime) {
     let text = Shared::<5, _>::from_text(rt.alloc(), "aé").expect(&rt, "refused");
     let (_, first) = text.look();
     let (_, second) = text.look();
-    first.agree(&second);
+    first.a_block_has_one_history(&second);
 }
 
 #[test]

@@ -33,7 +33,7 @@ fn cloned<R: Wait>(rt: &R, first: Shared<5, Global>) -> (Shared<5, Global>, Shar
     ensures apart { result.0.seat ≢ result.1.seat }
 {
     let second = first.up(rt);
-    first.apart(second)
+    first.two_handles_have_two_seats(second)
 }
 
 #[test]
@@ -41,7 +41,7 @@ fn apart_hands_both_back_in_order(rt: HostRuntime) {
     let first = Shared::<5, Global>::from_text(rt.alloc(), "foobar").expect(&rt, "refused");
     let other = Shared::<5, Global>::from_text(rt.alloc(), "foo").expect(&rt, "refused");
     let (first, second) = cloned(&rt, first);
-    let (second, other) = second.apart(other);
+    let (second, other) = second.two_handles_have_two_seats(other);
     check_eq!(rt; (second.as_str(), other.as_str()), ("foobar", "foo"));
     check_eq!(rt; (first.look().0, other.look().0), (Some(2), Some(1)));
 }
@@ -54,7 +54,7 @@ fn looked_twice(handle: &Shared<5, Global>) -> (Seen, Seen)
 {
     let (_, first) = handle.look();
     let (_, second) = handle.look();
-    first.agree(&second);
+    first.a_block_has_one_history(&second);
     (first, second)
 }
 
@@ -64,8 +64,8 @@ fn two_looks_agree(rt: HostRuntime) {
     let second = first.up(&rt);
     let (seen, again) = looked_twice(&first);
     let (_, other) = second.look();
-    again.agree(&seen);
-    other.agree(&seen);
+    again.a_block_has_one_history(&seen);
+    other.a_block_has_one_history(&seen);
     check_eq!(rt; second.look().0, Some(2));
 }
 
@@ -96,7 +96,7 @@ fn owes_beside(handle: Shared<5, Global>, other: Shared<5, Global>) -> (bool, Sh
 {
     match handle.down().0 {
         Down::Owes(owed) => {
-            let (owed, other) = owed.alone(other);
+            let (owed, other) = owed.an_owed_block_has_no_handle(other);
             owed.give_back();
             (true, other)
         }
@@ -121,7 +121,7 @@ fn owes_beside_lent(handle: Shared<5, Global>, lent: &Shared<5, Global>) -> bool
 {
     match handle.down().0 {
         Down::Owes(owed) => {
-            owed.alone_beside(lent).give_back();
+            owed.an_owed_block_has_no_borrowed_handle(lent).give_back();
             true
         }
         Down::Left | Down::Ended => false,
@@ -144,7 +144,7 @@ fn owes_beside_fixed(handle: Shared<5, Global>, fixed: &Fixed<Global>) -> bool
 {
     match handle.down().0 {
         Down::Owes(owed) => {
-            owed.unmarked(fixed).give_back();
+            owed.an_owed_block_is_not_permanent(fixed).give_back();
             true
         }
         Down::Left | Down::Ended => false,
@@ -169,7 +169,7 @@ fn both_owe(first: Shared<5, Global>, second: Shared<5, Global>) -> bool
     match first.down().0 {
         Down::Owes(owed) => match down {
             Down::Owes(other) => {
-                let (owed, other) = owed.apart(other);
+                let (owed, other) = owed.a_block_is_owed_once(other);
                 owed.give_back();
                 other.give_back();
                 true
@@ -251,7 +251,7 @@ fn what_marked_a_block_has_the_mark(rt: HostRuntime) {
     let Some(found) = found else {
         panic!(rt; "the mark was not found");
     };
-    made.agree(&found);
+    made.a_block_has_one_history(&found);
 }
 
 /// How many bytes of a heap are in use after two clones and three drops of one text.

@@ -1,6 +1,4 @@
-use Rattle.std.proofs.Common.{◌≡◌, ◌<◌, ◌^◌, length}
-use Rattle.std.specs.Prelude.{take}
-use Rattle.std.specs.List.{join_by}
+use Rattle.arcstr_block.proofs.Names.{◌≡◌, ◌^◌, length, ◌<◌, join_by, take}
 use Rattle.arcstr_block.proofs.joining.joined_len.Given as goal
 
 -- the length of the texts so far, joined

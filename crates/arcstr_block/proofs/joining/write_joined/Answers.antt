@@ -1,34 +1,31 @@
 -- There is room for each text, which comes after those before it.
-use Rattle.std.proofs.Common.{◌≡◌, ◌+◌, ◌∙◌, ◌++◌, length, get_or, ap, sym, subst, arith, length-append}
-use Rattle.std.specs.Prelude.{take, IsUtf8}
-use Rattle.std.specs.List.{join_by}
-use Rattle.std.proofs.lemmas.Str.{IsUtf8-append}
-use Rattle.arcstr_block.proofs.JoinedTexts.{joined_more, joined_room}
+use Rattle.arcstr_block.proofs.Names.{◌≡◌, arith, sym, subst, ap, length, ◌+◌, ◌++◌, ◌∙◌, length-append, get_or, IsUtf8-append, join_by, take, IsUtf8}
+use Rattle.arcstr_block.proofs.Texts.{joined_more, joined_room}
 use Rattle.arcstr_block.proofs.joining.write_joined.Goals as goal
 
 pub write-at-requires-clause-room : goal.write-at-requires-clause-room
 write-at-requires-clause-room g c =
-    let room = joined_room g.S.AsStr.text c.args.separator.now c.args.texts.now c.loop-i.i c.index-texts-i.result c.before-in-loop-i.result.now c.loop-i-test.true
-    c.before-in-loop-i.ensures.first c.before-in-loop-i.ensures.later in
+    let room = joined_room g.S.AsStr.text c.args.separator.now c.args.texts.now c.loop-i.i c.index-texts-i.result c.gap_before.result.now c.loop-i-test.true
+    c.gap_before.ensures.first c.gap_before.ensures.later in
     omega (arith, room, c.loop-i.invariant.0.count, c.loop-i.invariant.1, c.requires)
 
 pub write-at-requires-in-loop-i-clause-room : goal.write-at-requires-in-loop-i-clause-room
 write-at-requires-in-loop-i-clause-room g c =
-    let room = joined_room g.S.AsStr.text c.args.separator.now c.args.texts.now c.loop-i.i c.index-texts-i.result c.before-in-loop-i.result.now c.loop-i-test.true
-    c.before-in-loop-i.ensures.first c.before-in-loop-i.ensures.later in
+    let room = joined_room g.S.AsStr.text c.args.separator.now c.args.texts.now c.loop-i.i c.index-texts-i.result c.gap_before.result.now c.loop-i-test.true
+    c.gap_before.ensures.first c.gap_before.ensures.later in
     let text = ap length c.as_str-text.ensures ∙ ap (λ x. length (g.S.AsStr.text x)) c.index-texts-i.is in
     omega (arith, room, text, c.write-at.ensures.end, c.write-at.ensures.places.count, c.loop-i.invariant.0.count, c.loop-i.invariant.1, c.requires)
 
 pub loop-i-preserved : goal.loop-i-preserved
 loop-i-preserved g c =
-    let f = g.S.AsStr.text in let sep = c.args.separator.now in let xs = c.args.texts.now in let i = c.loop-i.i in let gap = c.before-in-loop-i.result.now in
+    let f = g.S.AsStr.text in let sep = c.args.separator.now in let xs = c.args.texts.now in let i = c.loop-i.i in let gap = c.gap_before.result.now in
     let x = c.index-texts-i.result in let was = c.loop-i.invariant in
     let text : c.as_str-text.result.now ≡ f (get_or xs i x) = c.as_str-text.ensures ∙ ap f c.index-texts-i.is in
     let more : join_by f sep (take (i + 1) xs) ≡ (join_by f sep (take i xs) ++ gap) ++ f (get_or xs i x) =
-    joined_more f sep xs i x gap c.loop-i-test.true c.before-in-loop-i.ensures.first c.before-in-loop-i.ensures.later in
+    joined_more f sep xs i x gap c.loop-i-test.true c.gap_before.ensures.first c.gap_before.ensures.later in
     let prefix = join_by f sep (take i xs) in
     let utf8 : IsUtf8 ((prefix ++ gap) ++ f (get_or xs i x)) =
-    IsUtf8-append (prefix ++ gap) _ (IsUtf8-append prefix gap was.3 c.before-in-loop-i.utf8) (subst IsUtf8 text c.as_str-text.utf8) in (
+    IsUtf8-append (prefix ++ gap) _ (IsUtf8-append prefix gap was.3 c.gap_before.utf8) (subst IsUtf8 text c.as_str-text.utf8) in (
       record {
         start = c.write-at-in-loop-i.ensures.places.start ∙ c.write-at.ensures.places.start ∙ was.0.start;
         count = c.write-at-in-loop-i.ensures.places.count ∙ c.write-at.ensures.places.count ∙ was.0.count;

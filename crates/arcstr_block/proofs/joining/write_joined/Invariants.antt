@@ -1,8 +1,5 @@
-use Rattle.std.proofs.Common.{◌≡◌, length, take}
-use Rattle.std.specs.Prelude.{IsUtf8}
-use Rattle.std.specs.List.{join_by}
-use Rattle.core.specs.Mem.Slots.{SamePlaces}
-use Rattle.core.specs.Mem.Slots.Ownership.{Filled}
+use Rattle.arcstr_block.proofs.Names.{◌≡◌, length, join_by, IsUtf8, SamePlaces, Filled}
+use Rattle.std.proofs.Common.{take}
 use Rattle.arcstr_block.proofs.joining.write_joined.Given as goal
 
 -- the texts so far, joined, fill the first slots

@@ -1,25 +1,20 @@
 -- `close` takes the bytes from their `Slots` once each is written.
-use Rattle.arcstr_block.proofs.WholeProofs.{◌≡◌, ℕ, ◌^◌, ◌<◌, Bool, List, [], ◌∷◌, length, sym, refl, ap, ◌∙◌, subst, arith, w64, dcons, dnil, a_type, ty_int}
-use Rattle.arcstr_block.proofs.WholeProofs.{Val, has_ty, WT, inst_fn, T, full_share, SProp, emp, fsep, tables, fact, fact_i, ‵, raw, ◌⊛◌, given}
-use Rattle.arcstr_block.proofs.WholeProofs.{later, at_ret, ◌$◌, ◌∵◌, !, qed, by, move, keep, drop, use0, use1, split, join, fsplit, fsplit3, fjoin, fjoin3}
-use Rattle.arcstr_block.proofs.WholeProofs.{fpick, fpack, learn, await, rewrite, feq_i, stop, fld, of_opd, no_more, and_then, first, blocks, exec, returns}
-use Rattle.arcstr_block.proofs.WholeProofs.{enter, alloc_all, pass_all, free_all, look_at, get, get_in, sets, lands_last, is, env, agg, sub, whole, Array, u8}
-use Rattle.arcstr_block.proofs.WholeProofs.{yes, no, part_at, RattleType, owns, Ptr, InBlock, block_ptr, ptr_val, block_of, count_of, at_block, bytes}
-use Rattle.arcstr_block.proofs.WholeProofs.{bytes_whole, types_at, plain, nothing, heard, param, bounded, calls_at_last, alive, Stays, stay_dropped, walk_of}
-use Rattle.arcstr_block.proofs.WholeProofs.{Goes-dropped, slots, tail, words_val, fm, proved, leaves}
-use mir.Syntax.{ty_ptr, ty_struct, tcons, tnil}
-use denote.RawPtr.{in_block}
-use Rattle.core.specs.Mem.Slots.Ownership.{Filled, owned}
-use Rattle.core.proofs.slots.Slots.into_raw_parts.Met as callee
-use Rattle.arcstr_block.specs.Memory.{Fits, word_lies, length_lies, text_lies, rim}
-use Rattle.arcstr_block.specs.contracts.block.Blank as N
-use Rattle.arcstr_block.specs.contracts.block.Sole as S
-use Rattle.arcstr_block.proofs.Fields.{pointer_val, typed, Words, told, made}
-use Rattle.arcstr_block.proofs.Memory.{byte_laws}
-use Rattle.arcstr_block.proofs.Places.{Bytes, R, to_bytes, EndContract, at_ends, ends_goes, ends_gives, words_typed, words_told}
+use Rattle.arcstr_block.proofs.Names.{◌≡◌, ℕ, ◌^◌, Bool, [], ◌∷◌, refl, arith, List, sym, subst, ap, length, ◌<◌, ◌∙◌, w64, T, inst_fn, ty_int, tcons, tnil}
+use Rattle.arcstr_block.proofs.Names.{ty_ptr, ty_struct, dcons, dnil, a_type, Val, has_ty, WT, fsep, full_share, emp, SProp, fact, fact_i, tables, Array, u8}
+use Rattle.arcstr_block.proofs.Names.{no, yes, part_at, param, bounded, RattleType, owns, block_of, Ptr, block_ptr, ptr_val, InBlock, count_of, at_block}
+use Rattle.arcstr_block.proofs.Names.{in_block, bytes, bytes_whole, types_at, plain, nothing, heard, calls_at_last, alive, Stays, stay_dropped, walk_of}
+use Rattle.arcstr_block.proofs.Names.{Goes-dropped, alloc_all, pass_all, free_all, look_at, get, get_in, sets, lands_last, env, is, ‵, ◌⊛◌, later, ◌$◌, ◌∵◌, !}
+use Rattle.arcstr_block.proofs.Names.{qed, move, use0, use1, split, join, fsplit, fjoin, fjoin3, fpick, fpack, await, raw, by, keep, fsplit3, given, drop}
+use Rattle.arcstr_block.proofs.Names.{learn, rewrite, feq_i, at_ret, sub, whole, agg, stop, fld, of_opd, no_more, and_then, first, blocks, exec, returns, enter}
+use Rattle.arcstr_block.proofs.Names.{tail, words_val, slots, owned, Filled, fm, leaves, proved, Fits, word_lies, length_lies, text_lies, rim}
+use Rattle.arcstr_block.proofs.Pointers.{pointer_val, typed, Words, told, made}
+use Rattle.arcstr_block.proofs.Memory.{byte_laws, Bytes, R, to_bytes, EndContract, at_ends, ends_goes, ends_gives, words_typed, words_told}
 use Rattle.arcstr_block.specs.contracts.block.Blank.close.{ended, clauses}
 use Rattle.arcstr_block.specs.contracts.block.Blank.close.Key.{name as #self}
 use Rattle.arcstr_block.proofs.block.Blank.close.Statement.{statement}
+use Rattle.core.proofs.slots.Slots.into_raw_parts.Met as callee
+use Rattle.arcstr_block.specs.contracts.block.Blank as N
+use Rattle.arcstr_block.specs.contracts.block.Sole as S
 use Rattle.arcstr_block.proofs.block.Blank.close.Code as code
 
 pub close_spec : {M : Type 1} → statement M

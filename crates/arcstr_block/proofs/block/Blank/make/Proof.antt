@@ -1,46 +1,33 @@
 -- `make` allocates a block's room, cuts it in three, writes the word and the length, and makes slots of the bytes.
-use Rattle.arcstr_block.proofs.WholeProofs.{◌≡◌, ℕ, ◌+◌, ◌^◌, ◌<◌, Bool, List, [], ◌∷◌, length, sym, refl, ap, ◌∙◌, arith, lit<, w64, Ty, dcons, dnil, a_type}
-use Rattle.arcstr_block.proofs.WholeProofs.{named, ty_int, bare, Val, vint, vptr, vstruct, WT, inst_fn, full_share, SProp, emp, Lft, Share, Fml, ftrue, fsep}
-use Rattle.arcstr_block.proofs.WholeProofs.{froom, flft, Incl-trans, ◌⊑◌, tables, fact, fact_i, ‵, raw, ◌⊛◌, some, given, later, at_ret, ◌$◌, ◌∵◌, !, qed, by}
-use Rattle.arcstr_block.proofs.WholeProofs.{move, keep, use0, use1, use2, split, join, fsplit, fsplit3, fjoin, fjoin3, fpack, pick, learn, await, rewrite}
-use Rattle.arcstr_block.proofs.WholeProofs.{feq_i, stop, fld, addr, lit, bin, of_opd, no_more, and_then, first, exec, returns, enter, alloc_all, pass_all}
-use Rattle.arcstr_block.proofs.WholeProofs.{free_all, look_at, get, get_in, through, is, sets, sets_last, env, agg, RefOf, u8, u64, usize, yes, part_at}
-use Rattle.arcstr_block.proofs.WholeProofs.{uint_vals, uint_Tells, RattleType, Valss, owns, Ptr, InBlock, block_ptr, shr_vals, shr_Tells, types_at, plain}
-use Rattle.arcstr_block.proofs.WholeProofs.{nothing, heard, param, bounded, Stays, stay_dropped, walk_of, Goes-dropped, slots, Al, words_val, word_in, fm}
-use Rattle.arcstr_block.proofs.WholeProofs.{proved, leaves}
-use Rattle.std.proofs.Common.{true, false, replicate}
-use lib.ListN.{length-replicate}
-use mir.Syntax.{Body, w8, ty_array}
-use mir.Val.{vcons, vnil}
-use base.Fml.{fwand}
-use prog.Wp.{Wp, after_seq, at_return}
-use types.Kit.{any_q}
-use types.Match.{live, vrt, in_variant}
-use types.Run.{switches_on, init, assigns}
-use types.ByLocal.{get_tag, lands_as}
+use Rattle.arcstr_block.proofs.Names.{◌≡◌, ℕ, ◌^◌, Bool, true, [], ◌∷◌, refl, arith, lit<, false, List, sym, ap, length, ◌+◌, ◌<◌, ◌∙◌, w64, replicate, inst_fn}
+use Rattle.arcstr_block.proofs.Names.{bare, Ty, w8, ty_int, ty_array, dcons, dnil, a_type, named, Body, Val, vint, vptr, vstruct, WT, vcons, vnil, Wp}
+use Rattle.arcstr_block.proofs.Names.{after_seq, at_return, Lft, Share, Incl-trans, Fml, fsep, flft, ftrue, fwand, froom, full_share, emp, SProp, ◌⊑◌, fact}
+use Rattle.arcstr_block.proofs.Names.{fact_i, tables, u8, usize, u64, RefOf, yes, part_at, param, bounded, uint_vals, uint_Tells, RattleType, Valss, owns, Ptr}
+use Rattle.arcstr_block.proofs.Names.{block_ptr, InBlock, shr_vals, shr_Tells, makes_shadow, types_at, plain, nothing, heard, within, Tuple, tuple_type}
+use Rattle.arcstr_block.proofs.Names.{calls_at, Stays, stay_dropped, walk_of, Goes-dropped, alloc_all, pass_all, free_all, look_at, get, get_in, sets, env}
+use Rattle.arcstr_block.proofs.Names.{through, sets_last, is, get_tag, lands_as, ‵, ◌⊛◌, some, later, ◌$◌, ◌∵◌, !, qed, move, pick, use0, use1, use2, split}
+use Rattle.arcstr_block.proofs.Names.{join, fsplit, fjoin, fjoin3, fpack, await, raw, by, keep, fsplit3, given, learn, rewrite, feq_i, at_ret, any_q, agg, stop}
+use Rattle.arcstr_block.proofs.Names.{fld, lit, of_opd, no_more, and_then, first, exec, returns, enter, addr, bin, switches_on, init, assigns, Al, Answer-typed}
+use Rattle.arcstr_block.proofs.Names.{Takes, at_takes, Answered, Takes-goes, Takes-gives, answers, words_val, word_in, slots, Slots, fm, leaves, proved, Fits}
+use Rattle.arcstr_block.proofs.Names.{word_offset, block_size, block_type, rooms}
 use types.Part.{whole as all_of_it}
-use denote.Shadow.{makes_shadow}
-use denote.Struct.Declared as declared
-use denote.Struct.Struct.{within}
-use denote.Struct.Tuple.{Tuple, tuple_type}
-use denote.Triple.Call.{calls_at}
+use lib.ListN.{length-replicate}
+use types.Match.{live, vrt, in_variant}
 use Rattle.core.specs.declared.result.Result.TheVariants.{Ok, Err}
-use Rattle.core.specs.declared.slots.Slots.{Slots}
-use Rattle.core.specs.contracts.alloc.AllocError as refusal
-use Rattle.core.specs.contracts.result.Result as Res
-use Rattle.core.proofs.alloc.Calls.{Answer-typed, Takes, at_takes, Answered, Takes-goes, Takes-gives, answers}
 use Rattle.core.proofs.once.Made.{ok_of, err_of}
 use Rattle.core.proofs.slots.Bodies.{after, head, arm_body}
 use Rattle.core.proofs.slots.Places.{of_room}
-use Rattle.core.proofs.slots.Slots.from_raw_parts.Met as callee
-use Rattle.arcstr_block.specs.Memory.{Fits, block_size, block_type, rooms, word_offset}
-use Rattle.arcstr_block.specs.contracts.block.Blank as N
-use Rattle.arcstr_block.proofs.Fields.{pointer_val, typed, Words, made}
-use Rattle.arcstr_block.proofs.Memory.{byte_laws, block_bytes, block_align, spreads}
-use Rattle.arcstr_block.proofs.Places.{Bytes, byte, R, MakeContract, at_makes, IsSlotsMade, makes_goes, makes_gives, words_typed}
+use Rattle.arcstr_block.proofs.Pointers.{pointer_val, typed, Words, made}
+use Rattle.arcstr_block.proofs.Memory.{byte_laws, block_bytes, block_align, spreads, Bytes, byte, R, MakeContract, at_makes, IsSlotsMade, makes_goes}
+use Rattle.arcstr_block.proofs.Memory.{makes_gives, words_typed}
 use Rattle.arcstr_block.specs.contracts.block.Blank.make.{ended, clauses}
 use Rattle.arcstr_block.specs.contracts.block.Blank.make.Key.{name as #self}
 use Rattle.arcstr_block.proofs.block.Blank.make.Statement.{statement}
+use denote.Struct.Declared as declared
+use Rattle.core.specs.contracts.alloc.AllocError as refusal
+use Rattle.core.specs.contracts.result.Result as Res
+use Rattle.core.proofs.slots.Slots.from_raw_parts.Met as callee
+use Rattle.arcstr_block.specs.contracts.block.Blank as N
 use Rattle.arcstr_block.proofs.block.Blank.make.Code as code
 
 pub make_spec : {M : Type 1} → statement M

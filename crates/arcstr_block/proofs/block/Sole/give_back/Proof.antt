@@ -1,21 +1,19 @@
 -- `give_back` makes the block room again, and returns it to the allocator.
-use Rattle.arcstr_block.proofs.WholeProofs.{◌≡◌, ℕ, ◌^◌, ◌<◌, List, [], ◌∷◌, length, sym, refl, ◌∙◌, subst, lit<, w64, Ty, dcons, dnil, a_type, named, bare}
-use Rattle.arcstr_block.proofs.WholeProofs.{Val, vunit, vint, vptr, has_ty, WT, inst_fn, T, SProp, ent, id⊢, Lft, Share, Fml, ftrue, fsep, froom, flft}
-use Rattle.arcstr_block.proofs.WholeProofs.{Incl-trans, WpFn, ◌⊑◌, tables, fact, ‵, raw, ◌⊛◌, given, later, at_ret, ◌$◌, ◌∵◌, !, qed, by, move, keep, drop}
-use Rattle.arcstr_block.proofs.WholeProofs.{use1, use2, use3, split, join, fsplit, fsplit3, fjoin, fpick, learn, suffices, await, rewrite, feq_i, stop, fld}
-use Rattle.arcstr_block.proofs.WholeProofs.{lit, unit_lit, of_opd, no_more, and_then, first, blocks, exec, returns, enter, alloc_all, pass_all, free_all}
-use Rattle.arcstr_block.proofs.WholeProofs.{look_at, get, get_in, sets, lands_last, env, sub, whole, yes, no, RattleType, owns, RefOf, usize, uint_vals}
-use Rattle.arcstr_block.proofs.WholeProofs.{uint_Tells, Ptr, block_ptr, block_of, count_of, at_block, shr_vals, shr_Tells, types_at, plain, nothing, heard}
-use Rattle.arcstr_block.proofs.WholeProofs.{param, bounded, calls_at_last, Stays, stay_dropped, walk_of, Goes-dropped, Al, tail, fm, proved, leaves}
-use mir.Syntax.{ty_unit}
-use Rattle.core.proofs.alloc.Calls.{Gives, at_gives, Gives-goes, Gives-Gives}
-use Rattle.arcstr_block.specs.Memory.{block_size, block_type, block_owns, sole_owns}
-use Rattle.arcstr_block.specs.contracts.block.Sole as S
-use Rattle.arcstr_block.proofs.Fields.{pointer_val, typed, told}
+use Rattle.arcstr_block.proofs.Names.{◌≡◌, ℕ, ◌^◌, [], ◌∷◌, refl, lit<, List, sym, subst, length, ◌<◌, ◌∙◌, w64, T, inst_fn, bare, Ty, dcons, dnil, a_type}
+use Rattle.arcstr_block.proofs.Names.{named, ty_unit, Val, vint, vptr, has_ty, WT, vunit, WpFn, Lft, Share, Incl-trans, Fml, fsep, flft, ftrue, froom, id⊢}
+use Rattle.arcstr_block.proofs.Names.{SProp, ent, ◌⊑◌, fact, tables, usize, RefOf, no, yes, param, bounded, uint_vals, uint_Tells, RattleType, owns, block_of}
+use Rattle.arcstr_block.proofs.Names.{Ptr, block_ptr, count_of, at_block, shr_vals, shr_Tells, types_at, plain, nothing, heard, calls_at_last, Stays}
+use Rattle.arcstr_block.proofs.Names.{stay_dropped, walk_of, Goes-dropped, alloc_all, pass_all, free_all, look_at, get, get_in, sets, lands_last, env, ‵, ◌⊛◌}
+use Rattle.arcstr_block.proofs.Names.{later, ◌$◌, ◌∵◌, !, qed, move, use1, use2, split, join, fsplit, fjoin, fpick, await, raw, by, keep, fsplit3, given, drop}
+use Rattle.arcstr_block.proofs.Names.{learn, rewrite, suffices, feq_i, use3, at_ret, sub, whole, stop, fld, lit, unit_lit, of_opd, no_more, and_then, first}
+use Rattle.arcstr_block.proofs.Names.{blocks, exec, returns, enter, Al, Gives, at_gives, Gives-goes, Gives-Gives, tail, fm, leaves, proved, block_owns}
+use Rattle.arcstr_block.proofs.Names.{block_size, block_type, sole_owns}
+use Rattle.arcstr_block.proofs.Pointers.{pointer_val, typed, told}
 use Rattle.arcstr_block.proofs.Memory.{block_bytes, block_align, gathers}
 use Rattle.arcstr_block.specs.contracts.block.Sole.give_back.{ended, clauses}
 use Rattle.arcstr_block.specs.contracts.block.Sole.give_back.Key.{name as #self}
 use Rattle.arcstr_block.proofs.block.Sole.give_back.Statement.{statement}
+use Rattle.arcstr_block.specs.contracts.block.Sole as S
 use Rattle.arcstr_block.proofs.block.Sole.give_back.Code as code
 
 pub give_back_spec : {M : Type 1} → statement M

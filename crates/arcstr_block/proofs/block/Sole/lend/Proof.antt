@@ -1,47 +1,26 @@
 -- `lend` lends the bytes of the text for writing, and the block has what is written. Assumes `Logic`.
-use Rattle.arcstr_block.proofs.WholeProofs.{full_share, a_type, dcons, dnil, named, Ty, inst_fn, Val, vptr, vint, SProp, ent, id⊢, Lft, GName, Share, Fml}
-use Rattle.arcstr_block.proofs.WholeProofs.{ftrue, fsep, feq, flft, WpFn, fact, tables, Item, ‵, raw, ◌⊛◌, some, later, await, pick, at_ret, ◌$◌, ◌∵◌, !, qed}
-use Rattle.arcstr_block.proofs.WholeProofs.{by, move, keep, drop, use1, split, join, rewrite, fsplit, fsplit3, fjoin, fjoin3, fpick, fpack, feq_i, suffices}
-use Rattle.arcstr_block.proofs.WholeProofs.{whole, sub, agg, look_in, stop, fld, of_opd, and_then, no_more, first, blocks, exec, returns, enter, load}
-use Rattle.arcstr_block.proofs.WholeProofs.{alloc_all, pass_all, free_all, look_at, get, through, sets, sets_last, env, Array, u8, usize, yes, no, Is, shows}
-use Rattle.arcstr_block.proofs.WholeProofs.{cell_at, part_at, param, bounded, RattleType, owns, Ptr, InBlock, block_ptr, block_of, count_of, at_block, bytes}
-use Rattle.arcstr_block.proofs.WholeProofs.{bytes_whole, plain, slice_val, nothing, peeks, Stays, stay_dropped, walk_of, Goes-dropped, word, tail}
-use mathlib.Core.Path.{◌≡◌, refl, sym, ap, subst, ◌∙◌}
-use Prim.Native.Nat.{ℕ, ◌+◌, ◌*◌, ◌<◌, ◌^◌}
-use native.Mathlib.Omega.{arith}
-use mathlib.Core.List.{List, [], ◌∷◌, ◌++◌}
-use lib.ListN.{length}
-use seplogic.Ra.Ura.{Ura}
-use mir.Syntax.{Fn, Args, Dict, w64}
-use base.Logic.{sep, mono_r}
-use base.Fml.{fobs, fbor}
-use prog.Wp.{Env, Calls, Loops, Tables}
-use types.Logic.{Logic, sem}
-use contract.Running.{tables_of}
+use Rattle.arcstr_block.proofs.Names.{◌≡◌, ℕ, ◌^◌, [], ◌∷◌, refl, arith, List, sym, subst, ap, length, ◌+◌, ◌<◌, ◌++◌, ◌∙◌, ◌*◌, w64, Ura, inst_fn, Ty, dcons}
+use Rattle.arcstr_block.proofs.Names.{dnil, a_type, named, Fn, Args, Dict, Val, vint, vptr, WpFn, Env, Calls, Loops, Tables, Lft, Share, Fml, fsep, flft, GName}
+use Rattle.arcstr_block.proofs.Names.{ftrue, feq, fbor, fobs, full_share, id⊢, SProp, ent, sep, mono_r, fact, tables, tables_of, Array, u8, usize, RefMutOf}
+use Rattle.arcstr_block.proofs.Names.{SliceRefMutOf, no, yes, Is, shows, cell_at, part_at, mem, part_of, param, bounded, RattleType, owns, block_of, Ptr}
+use Rattle.arcstr_block.proofs.Names.{block_ptr, InBlock, count_of, at_block, bytes, bytes_apart, bytes_whole, MutBor, MutRef, plain, mut_ref_to, slice_val}
+use Rattle.arcstr_block.proofs.Names.{MutSlice, nothing, peeks, opens, on_entry, triple_of, Meets, Stays, stay_dropped, walk_of, Goes-dropped, says, needs}
+use Rattle.arcstr_block.proofs.Names.{ends_at, Goes-spent_ref, walk_Meets, alloc_all, pass_all, free_all, look_at, get, sets, env, through, sets_last, ‵, ◌⊛◌}
+use Rattle.arcstr_block.proofs.Names.{some, later, ◌$◌, ◌∵◌, !, qed, move, group, pick, use1, split, join, fsplit, fjoin, fjoin3, fpick, fpack, await, done}
+use Rattle.arcstr_block.proofs.Names.{raw, by, keep, fsplit3, drop, rewrite, suffices, feq_l, feq_i, flt_l, frame, at_ret, Item, ⋆, Logic, sem, sub, whole, agg}
+use Rattle.arcstr_block.proofs.Names.{look_in, stop, fld, of_opd, no_more, and_then, first, blocks, exec, returns, enter, load, tail, word, Ghosts, Fits}
+use Rattle.arcstr_block.proofs.Names.{word_offset, word_lies, length_lies, text_lies, rim}
 use sound.WpLaws.{WpFn-mono}
-use types.Kit.{⋆, group, feq_l, flt_l, frame, done}
 use types.SemTy.{Body as Borrowed, cells}
-use denote.Builtin.{RefMutOf, SliceRefMutOf}
 use denote.Follow.{follows}
 use denote.FollowSlice.{Elements, lends_Elements}
-use denote.Memory.{mem, part_of}
-use denote.RawPtr.Bytes.{bytes_apart}
-use denote.Ref.{MutBor, MutRef}
-use denote.Signature.{mut_ref_to}
-use denote.Slice.{MutSlice}
-use denote.Steps.{opens}
 use denote.Triple.Carry.{spared}
 use denote.Triple.Clauses.{Clauses, Ended, closing}
-use denote.Triple.Entry.{on_entry}
-use denote.Triple.Spec.{Meets, triple_of}
 use denote.Triple.Table.{entered, run_framed}
-use denote.Triple.Walked.{says, needs, ends_at, Goes-spent_ref, walk_Meets}
-use Rattle.core.specs.declared.alloc.Allocator.{Ghosts}
 use Rattle.arcstr_block.specs.Lends.{with_text}
-use Rattle.arcstr_block.specs.Memory.{Fits, length_lies, text_lies, rim, word_offset, word_lies}
-use Rattle.arcstr_block.specs.contracts.block.Sole as S
-use Rattle.arcstr_block.proofs.Fields.{pointer_val, Words, told}
+use Rattle.arcstr_block.proofs.Pointers.{pointer_val, Words, told}
 use Rattle.arcstr_block.specs.contracts.block.Sole.lend.Key.{name as #self}
+use Rattle.arcstr_block.specs.contracts.block.Sole as S
 use Rattle.arcstr_block.proofs.block.Sole.lend.Statement as stated
 use Rattle.arcstr_block.proofs.block.Sole.lend.Code as code
 

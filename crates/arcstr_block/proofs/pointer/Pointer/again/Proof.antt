@@ -1,22 +1,19 @@
 -- `again` takes no step: a permanent share can be duplicated.
-use Rattle.arcstr_block.proofs.WholeProofs.{◌≡◌, ℕ, List, [], ◌∷◌, sym, refl, ap, ◌∙◌, length, dcons, dnil, a_type, named, Val, vptr, inst_fn, SProp, emp, Lft}
-use Rattle.arcstr_block.proofs.WholeProofs.{Share, Fml, ftrue, fsep, flft, fhide, ‵, raw, ◌⊛◌, ◌$◌, ◌∵◌, !, qed, by, move, keep, drop, split, join, fsplit}
-use Rattle.arcstr_block.proofs.WholeProofs.{fsplit3, fjoin, fpick, use0, use1, use3, rewrite, stop, fld, load, of_opd, no_more, and_then, returns, enter}
-use Rattle.arcstr_block.proofs.WholeProofs.{alloc_all, pass_all, free_all, look_at, get, through, sets, is, env, agg, sub, whole, look_in, tables, fact}
-use Rattle.arcstr_block.proofs.WholeProofs.{fact_i, yes, RattleType, owns, types_at, plain, Ptr, block_ptr, block_of, count_of, at_block, nothing, peeks}
-use Rattle.arcstr_block.proofs.WholeProofs.{heard, looks, shuts, unhide, Is, shows, cell_at, hidden_shr, param, bounded, RefOf, shr_vals, shr_Tells, lent_out}
-use Rattle.arcstr_block.proofs.WholeProofs.{Stays, stay_dropped, walk_of, Goes-dropped, proved, leaves}
-use Rattle.core.specs.contracts.marker.PhantomData as Marker
-use Rattle.arcstr_block.specs.Rights.{fixed, Right}
-use Rattle.arcstr_block.specs.Memory.{block_owns, block_shares, word_at}
-use Rattle.arcstr_block.specs.Ledger.{Inv, shown, pointer_shares}
+use Rattle.arcstr_block.proofs.Names.{◌≡◌, ℕ, [], ◌∷◌, refl, List, sym, ap, length, ◌∙◌, inst_fn, dcons, dnil, a_type, named, Val, vptr, Lft, Share, Fml, fsep}
+use Rattle.arcstr_block.proofs.Names.{flft, ftrue, fhide, emp, SProp, fact, fact_i, tables, RefOf, yes, Is, shows, cell_at, hidden_shr, unhide, param, bounded}
+use Rattle.arcstr_block.proofs.Names.{RattleType, owns, block_of, Ptr, block_ptr, count_of, at_block, shr_vals, shr_Tells, types_at, plain, nothing, heard}
+use Rattle.arcstr_block.proofs.Names.{peeks, looks, shuts, lent_out, Stays, stay_dropped, walk_of, Goes-dropped, alloc_all, pass_all, free_all, look_at, get}
+use Rattle.arcstr_block.proofs.Names.{sets, env, through, is, ‵, ◌⊛◌, ◌$◌, ◌∵◌, !, qed, move, use0, use1, split, join, fsplit, fjoin, fpick, raw, by, keep}
+use Rattle.arcstr_block.proofs.Names.{fsplit3, drop, rewrite, use3, sub, whole, agg, look_in, stop, fld, of_opd, no_more, and_then, returns, enter, load}
+use Rattle.arcstr_block.proofs.Names.{leaves, proved, Inv, shown, pointer_shares, block_owns, block_shares, word_at, Right, fixed}
 use Rattle.arcstr_block.proofs.Memory.{shares_laws}
-use Rattle.arcstr_block.specs.contracts.pointer.Pointer as C
-use Rattle.arcstr_block.proofs.StepFrames as framed
-use Rattle.arcstr_block.proofs.Fields.{pointer_val, typed, Words, told, opened}
+use Rattle.arcstr_block.proofs.Pointers.{pointer_val, typed, Words, told, opened}
 use Rattle.arcstr_block.specs.contracts.pointer.Pointer.again.{ended, clauses}
 use Rattle.arcstr_block.specs.contracts.pointer.Pointer.again.Key.{name as #self}
 use Rattle.arcstr_block.proofs.pointer.Pointer.again.Statement.{statement}
+use Rattle.core.specs.contracts.marker.PhantomData as Marker
+use Rattle.arcstr_block.specs.contracts.pointer.Pointer as C
+use Rattle.arcstr_block.proofs.Pointers as framed
 use Rattle.arcstr_block.proofs.pointer.Pointer.again.Code as code
 
 pub again_spec : {M : Type 1} → statement M

@@ -1,24 +1,19 @@
 -- `an_owed_block_has_no_reader` returns the owed pointer: the book of its block does not lie beside the share of a token that the other shows.
-use Rattle.arcstr_block.proofs.WholeProofs.{◌≡◌, ℕ, List, [], ◌∷◌, refl, sym, ◌∙◌, length, dcons, dnil, a_type, named, Val, vptr, inst_fn, SProp, emp, Lft}
-use Rattle.arcstr_block.proofs.WholeProofs.{Share, Fml, ftrue, fsep, flft, fhide, finv, fshr_bor, ‵, raw, ◌⊛◌, later, given, await, ◌$◌, ◌∵◌, !, qed, by, move}
-use Rattle.arcstr_block.proofs.WholeProofs.{keep, drop, split, split3, join, fsplit, fsplit3, fjoin, fpick, use0, use1, use2, learn, of_opd, returns, enter}
-use Rattle.arcstr_block.proofs.WholeProofs.{alloc_all, pass_all, free_all, look_at, get, sets, tables, fact, fact_i, RefOf, yes, no, hidden_shr, unhide, param}
-use Rattle.arcstr_block.proofs.WholeProofs.{bounded, RattleType, owns, Ptr, block_of, shr_vals, shr_Tells, types_at, plain, nothing, heard, lent_out, Stays}
-use Rattle.arcstr_block.proofs.WholeProofs.{stay_dropped, walk_of, Goes-dropped, proved, leaves}
-use Rattle.std.proofs.Common.{◌≢◌}
-use Rattle.core.specs.contracts.marker.PhantomData as Marker
-use Rattle.arcstr_block.specs.Rights.{Right, MaySee, owed}
-use Rattle.arcstr_block.specs.Memory.{block_owns, block_shares, word_at}
-use Rattle.arcstr_block.specs.Ledger.{Inv, pointer_shares}
-use Rattle.arcstr_block.specs.contracts.pointer.Pointer as C
-use Rattle.arcstr_block.proofs.LoneBlocks.{Lent, not_lent}
-use Rattle.arcstr_block.proofs.TwoPointers.{away}
-use Rattle.arcstr_block.proofs.Fields.{pointer_val, typed, Words, told}
+use Rattle.arcstr_block.proofs.Names.{◌≡◌, ℕ, [], ◌∷◌, refl, List, sym, ◌≢◌, length, ◌∙◌, inst_fn, dcons, dnil, a_type, named, Val, vptr, Lft, Share, Fml, fsep}
+use Rattle.arcstr_block.proofs.Names.{flft, finv, fshr_bor, ftrue, fhide, emp, SProp, fact, fact_i, tables, RefOf, no, yes, hidden_shr, unhide, param, bounded}
+use Rattle.arcstr_block.proofs.Names.{RattleType, owns, block_of, Ptr, shr_vals, shr_Tells, types_at, plain, nothing, heard, lent_out, Stays, stay_dropped}
+use Rattle.arcstr_block.proofs.Names.{walk_of, Goes-dropped, alloc_all, pass_all, free_all, look_at, get, sets, ‵, ◌⊛◌, later, ◌$◌, ◌∵◌, !, qed, move, use0}
+use Rattle.arcstr_block.proofs.Names.{use1, use2, split, split3, join, fsplit, fjoin, fpick, await, raw, by, keep, fsplit3, given, drop, learn, of_opd, returns}
+use Rattle.arcstr_block.proofs.Names.{enter, leaves, proved, Inv, pointer_shares, block_owns, block_shares, word_at, Right, owed, MaySee}
+use Rattle.arcstr_block.proofs.Blocks.{Lent, not_lent, away}
+use Rattle.arcstr_block.proofs.Pointers.{pointer_val, typed, Words, told}
 use Rattle.arcstr_block.proofs.Memory.{shares_laws}
-use Rattle.arcstr_block.proofs.Rights as rights
 use Rattle.arcstr_block.specs.contracts.pointer.Pointer.an_owed_block_has_no_reader.{ended, clauses}
 use Rattle.arcstr_block.specs.contracts.pointer.Pointer.an_owed_block_has_no_reader.Key.{name as #self}
 use Rattle.arcstr_block.proofs.pointer.Pointer.an_owed_block_has_no_reader.Statement.{statement}
+use Rattle.core.specs.contracts.marker.PhantomData as Marker
+use Rattle.arcstr_block.specs.contracts.pointer.Pointer as C
+use Rattle.arcstr_block.proofs.Rights as rights
 use Rattle.arcstr_block.proofs.pointer.Pointer.an_owed_block_has_no_reader.Code as code
 
 pub an_owed_block_has_no_reader_spec : {M : Type 1} → statement M

@@ -1,29 +1,20 @@
 -- `back` takes the whole block with its length, and ends the history of the block.
-use Rattle.arcstr_block.proofs.WholeProofs.{◌≡◌, ℕ, ◌+◌, ◌^◌, ◌<◌, List, [], ◌∷◌, ◌++◌, length, sym, refl, ap, arith, dcons, dnil, a_type, Val, vint, vstruct}
-use Rattle.arcstr_block.proofs.WholeProofs.{of_list, vptr, inst_fn, full_share, SProp, emp, via, Fml, ftrue, fsep, feq, ‵, raw, ◌⊛◌, later, ◌$◌, ◌∵◌, !, qed}
-use Rattle.arcstr_block.proofs.WholeProofs.{by, move, keep, drop, split, split3, join, fsplit, fsplit3, fjoin, fjoin3, fpick, fpack, use0, use1, use2, await}
-use Rattle.arcstr_block.proofs.WholeProofs.{rewrite, feq_i, flt_i, at_ret, stop, fld, load, of_opd, no_more, and_then, first, blocks, exec, returns, enter}
-use Rattle.arcstr_block.proofs.WholeProofs.{bin, alloc_all, pass_all, free_all, look_at, get, get_in, through, sets, sets_last, is, env, agg, sub, whole}
-use Rattle.arcstr_block.proofs.WholeProofs.{look_in, tables, fact, fact_i, no, yes, uint_vals, uint_Tells, RattleType, Valss, owns, usize, part_at, types_at}
-use Rattle.arcstr_block.proofs.WholeProofs.{plain, Ptr, InBlock, block_ptr, ptr_val, block_of, count_of, at_block, nothing, heard, param, bounded, alive}
-use Rattle.arcstr_block.proofs.WholeProofs.{Stays, stay_dropped, walk_of, Goes-dropped, word, tail, word_in, proved, leaves}
-use mir.Syntax.{w64}
-use types.Owned.{basic}
-use Rattle.core.proofs.tally.Steps.{word_out}
-use Rattle.arcstr_count.specs.declared.steps.Step.TheVariants.{Back}
-use Rattle.arcstr_count.specs.declared.steps.HandleState.TheVariants.{Gone}
-use Rattle.arcstr_count.specs.declared.steps.Reply.TheVariants.{Given}
-use Rattle.arcstr_block.specs.Rights.{owed, Right}
-use Rattle.arcstr_block.specs.Book.{Book, seat, Ends}
-use Rattle.arcstr_block.specs.Memory.{Fits, length_lies, block_owns, block_shares, word_offset}
-use Rattle.arcstr_block.specs.Ledger.{held_with}
-use Rattle.arcstr_block.specs.contracts.block.Sole as S
-use Rattle.arcstr_block.specs.contracts.pointer.Pointer as C
+use Rattle.arcstr_block.proofs.Names.{◌≡◌, ℕ, ◌^◌, [], ◌∷◌, refl, arith, List, sym, ap, length, ◌+◌, ◌<◌, ◌++◌, w64, inst_fn, dcons, dnil, a_type, Val, vint}
+use Rattle.arcstr_block.proofs.Names.{vptr, vstruct, of_list, Fml, fsep, ftrue, feq, full_share, emp, via, SProp, fact, fact_i, tables, usize, no, yes, part_at}
+use Rattle.arcstr_block.proofs.Names.{param, bounded, uint_vals, uint_Tells, RattleType, Valss, owns, block_of, Ptr, block_ptr, ptr_val, InBlock, count_of}
+use Rattle.arcstr_block.proofs.Names.{at_block, types_at, plain, nothing, heard, alive, Stays, stay_dropped, walk_of, Goes-dropped, alloc_all, pass_all}
+use Rattle.arcstr_block.proofs.Names.{free_all, look_at, get, get_in, sets, env, through, sets_last, is, ‵, ◌⊛◌, later, ◌$◌, ◌∵◌, !, qed, move, use0, use1}
+use Rattle.arcstr_block.proofs.Names.{use2, split, split3, join, fsplit, fjoin, fjoin3, fpick, fpack, await, raw, by, keep, fsplit3, drop, rewrite, feq_i}
+use Rattle.arcstr_block.proofs.Names.{flt_i, at_ret, basic, sub, whole, agg, look_in, stop, fld, of_opd, no_more, and_then, first, blocks, exec, returns, enter}
+use Rattle.arcstr_block.proofs.Names.{load, bin, tail, word_out, word_in, word, leaves, proved, Gone, Given, Back, Book, seat, Ends, held_with, block_owns}
+use Rattle.arcstr_block.proofs.Names.{block_shares, Fits, word_offset, length_lies, Right, owed}
 use Rattle.arcstr_block.proofs.Book.{book_back}
-use Rattle.arcstr_block.proofs.Fields.{pointer_val, typed, measured_val, measured_typed, Words, told, made}
+use Rattle.arcstr_block.proofs.Pointers.{pointer_val, typed, measured_val, measured_typed, Words, told, made}
 use Rattle.arcstr_block.specs.contracts.pointer.Pointer.back.{ended, clauses}
 use Rattle.arcstr_block.specs.contracts.pointer.Pointer.back.Key.{name as #self}
 use Rattle.arcstr_block.proofs.pointer.Pointer.back.Statement.{statement}
+use Rattle.arcstr_block.specs.contracts.block.Sole as S
+use Rattle.arcstr_block.specs.contracts.pointer.Pointer as C
 use Rattle.arcstr_block.proofs.pointer.Pointer.back.Code as code
 
 pub back_spec : {M : Type 1} → statement M

@@ -1,33 +1,24 @@
 -- `begin` is one load. A drop goes on if it finds the word unmarked.
-use Rattle.arcstr_block.proofs.WholeProofs.{◌≡◌, ℕ, ◌+◌, [], ◌∷◌, sym, refl, ap, subst, if◌then◌else◌, lit<, length, arith, w64, ◌^◌, ◌<◌, dcons, dnil, a_type}
-use Rattle.arcstr_block.proofs.WholeProofs.{Val, vptr, vint, inst_fn, SProp, via, Lft, Fml, fsep, flft, finv, fex, ‵, raw, ◌⊛◌, later, mean, at_ret, ◌$◌, ◌∵◌}
-use Rattle.arcstr_block.proofs.WholeProofs.{ !, qed, by, move, keep, drop, split, fsplit, fsplit3, fjoin, fpick, use0, use1, use3, await, stop, fld, addr, lit}
-use Rattle.arcstr_block.proofs.WholeProofs.{of_opd, no_more, and_then, first, blocks, exec, Calls-last, returns, enter, bin, alloc_all, pass_all, free_all}
-use Rattle.arcstr_block.proofs.WholeProofs.{look_at, get, get_in, through, sets, lands_last, is, env, agg, sub, whole, tables, fact, yes, no, uint_vals}
-use Rattle.arcstr_block.proofs.WholeProofs.{uint_Tells, RattleType, Valss, owns, types_at, plain, Ptr, block_ptr, ptr_val, block_of, count_of, at_block}
-use Rattle.arcstr_block.proofs.WholeProofs.{nothing, heard, param, bounded, u64, usize, alive, Stays, stay_dropped, walk_of, Goes-dropped, tail, proved}
-use Rattle.arcstr_block.proofs.WholeProofs.{leaves, fm, seq_cst, found, finds, loads}
-use Rattle.arcstr_block.specs.Word.{IsMarked, IsUnmarked}
-use Rattle.arcstr_block.specs.Rights.{IsFree, Begins, Right}
-use Rattle.arcstr_block.specs.Memory.{block_owns, block_shares, word_at, word_offset}
-use Rattle.arcstr_block.specs.Ledger.{Inv, right_to, free}
+use Rattle.arcstr_block.proofs.Names.{◌≡◌, ℕ, ◌^◌, [], ◌∷◌, refl, arith, lit<, sym, subst, ap, length, ◌+◌, ◌<◌, if◌then◌else◌, w64, inst_fn, dcons, dnil}
+use Rattle.arcstr_block.proofs.Names.{a_type, Val, vint, vptr, Lft, Fml, fsep, fex, flft, finv, via, SProp, fact, tables, usize, u64, no, yes, param, bounded}
+use Rattle.arcstr_block.proofs.Names.{uint_vals, uint_Tells, RattleType, Valss, owns, block_of, Ptr, block_ptr, ptr_val, count_of, at_block, types_at, plain}
+use Rattle.arcstr_block.proofs.Names.{nothing, heard, alive, Stays, stay_dropped, walk_of, Goes-dropped, alloc_all, pass_all, free_all, look_at, get, get_in}
+use Rattle.arcstr_block.proofs.Names.{sets, lands_last, env, through, is, ‵, ◌⊛◌, later, ◌$◌, ◌∵◌, !, qed, move, use0, use1, split, fsplit, fjoin, fpick, await}
+use Rattle.arcstr_block.proofs.Names.{raw, by, keep, fsplit3, drop, use3, at_ret, mean, sub, whole, agg, stop, fld, lit, of_opd, no_more, and_then, first}
+use Rattle.arcstr_block.proofs.Names.{blocks, exec, returns, enter, addr, bin, Calls-last, tail, found, fm, seq_cst, finds, loads, leaves, proved, EndsIn}
+use Rattle.arcstr_block.proofs.Names.{FlagAndCount, Free, Ended, Looked, Begin, seat, Ends, Inv, free, right_to, block_owns, block_shares, word_at, word_offset}
+use Rattle.arcstr_block.proofs.Names.{Right, IsFree, Begins, IsMarked, IsUnmarked}
 use Rattle.arcstr_block.proofs.Memory.{shares_laws}
-use Rattle.arcstr_block.specs.contracts.pointer.Pointer as C
-use Rattle.arcstr_block.proofs.Fields.{pointer_val, typed, found_val, found_typed, Words, told}
-use Rattle.arcstr_block.proofs.StepFrames as framed
-use Rattle.arcstr_count.specs.declared.steps.HandleState.TheVariants.{Free}
-use Rattle.arcstr_count.specs.declared.steps.Step.TheVariants.{Begin}
-use Rattle.arcstr_count.specs.declared.steps.Reply.TheVariants.{Ended, Looked}
-use Rattle.arcstr_count.specs.Word.{FlagAndCount}
-use Rattle.arcstr_count.specs.OneBlock.{EndsIn}
-use Rattle.arcstr_block.specs.Book.{seat, Ends}
+use Rattle.arcstr_block.proofs.Pointers.{pointer_val, typed, found_val, found_typed, Words, told}
 use Rattle.arcstr_block.proofs.Book.{book_begin, begun, begin_reply}
 use Rattle.arcstr_block.proofs.Words.{marked_word, unmarked_word}
-use Rattle.arcstr_block.proofs.Rights as rights
-use Rattle.arcstr_block.proofs.Steps as steps
 use Rattle.arcstr_block.specs.contracts.pointer.Pointer.begin.{ended, clauses}
 use Rattle.arcstr_block.specs.contracts.pointer.Pointer.begin.Key.{name as #self}
 use Rattle.arcstr_block.proofs.pointer.Pointer.begin.Statement.{statement}
+use Rattle.arcstr_block.specs.contracts.pointer.Pointer as C
+use Rattle.arcstr_block.proofs.Pointers as framed
+use Rattle.arcstr_block.proofs.Rights as rights
+use Rattle.arcstr_block.proofs.Steps as steps
 use Rattle.arcstr_block.proofs.pointer.Pointer.begin.Code as code
 
 pub begin_spec : {M : Type 1} → statement M

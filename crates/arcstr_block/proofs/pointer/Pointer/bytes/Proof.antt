@@ -1,28 +1,22 @@
 -- `bytes` shows the bytes of the text, for as long as the pointer is borrowed.
-use Rattle.arcstr_block.proofs.WholeProofs.{◌≡◌, ℕ, ◌^◌, ◌<◌, List, [], ◌∷◌, length, w64, arith, sym, refl, ap, ◌∙◌, dcons, dnil, a_type, named, Val, vint}
-use Rattle.arcstr_block.proofs.WholeProofs.{vptr, WT, inst_fn, SProp, emp, Lft, Share, Fml, ftrue, fsep, flft, fhide, finv, fshr_bor, ‵, raw, ◌⊛◌, at_ret, ◌$◌}
-use Rattle.arcstr_block.proofs.WholeProofs.{◌∵◌, !, qed, by, move, keep, drop, split, split3, join, fsplit, fjoin, fpick, use0, use1, use2, rewrite, feq_i}
-use Rattle.arcstr_block.proofs.WholeProofs.{flt_i, stop, fld, of_opd, no_more, and_then, first, blocks, exec, returns, enter, load, alloc_all, pass_all}
-use Rattle.arcstr_block.proofs.WholeProofs.{free_all, look_at, get, through, sets, sets_last, env, agg, sub, whole, look_in, tables, fact, fact_i, yes}
-use Rattle.arcstr_block.proofs.WholeProofs.{RattleType, owns, types_at, plain, Ptr, block_ptr, block_of, count_of, at_block, nothing, peeks, heard, looks}
-use Rattle.arcstr_block.proofs.WholeProofs.{shuts, unhide, Is, shows, cell_at, hidden_shr, param, bounded, Array, RefOf, u8, usize, uint_vals, uint_Tells}
-use Rattle.arcstr_block.proofs.WholeProofs.{slice_val, shr_vals, shr_Tells, lent_out, Stays, stay_dropped, walk_of, Goes-dropped, tail, proved, leaves, IsUtf8}
-use Rattle.std.proofs.Common.{◌*◌}
-use denote.Opens.{hide}
+use Rattle.arcstr_block.proofs.Names.{◌≡◌, ℕ, ◌^◌, [], ◌∷◌, refl, arith, List, sym, ap, length, ◌<◌, ◌∙◌, ◌*◌, w64, IsUtf8, inst_fn, dcons, dnil, a_type, named}
+use Rattle.arcstr_block.proofs.Names.{Val, vint, vptr, WT, Lft, Share, Fml, fsep, flft, finv, fshr_bor, ftrue, fhide, emp, SProp, meet_⊑_left, fact, fact_i}
+use Rattle.arcstr_block.proofs.Names.{tables, Array, u8, usize, RefOf, yes, Is, shows, cell_at, hidden_shr, unhide, hide, param, bounded, uint_vals, uint_Tells}
+use Rattle.arcstr_block.proofs.Names.{RattleType, owns, block_of, Ptr, block_ptr, count_of, at_block, shr_vals, shr_Tells, types_at, plain, slice_val, nothing}
+use Rattle.arcstr_block.proofs.Names.{heard, peeks, looks, shuts, lent_at, lent_out, Stays, stay_dropped, walk_of, Goes-dropped, alloc_all, pass_all, free_all}
+use Rattle.arcstr_block.proofs.Names.{look_at, get, sets, env, through, sets_last, ‵, ◌⊛◌, ◌$◌, ◌∵◌, !, qed, move, use0, use1, use2, split, split3, join}
+use Rattle.arcstr_block.proofs.Names.{fsplit, fjoin, fpick, raw, by, keep, drop, rewrite, feq_i, flt_i, at_ret, sub, whole, agg, look_in, stop, fld, of_opd}
+use Rattle.arcstr_block.proofs.Names.{no_more, and_then, first, blocks, exec, returns, enter, load, tail, leaves, proved, Inv, pointer_shares, block_owns}
+use Rattle.arcstr_block.proofs.Names.{block_shares, word_at, Right, MaySee}
 use denote.Moves.{moves_from}
-use contract.BorrowLft.{meet_⊑_left}
-use denote.Struct.Lending.{lent_at}
-use Rattle.core.specs.contracts.marker.PhantomData as Marker
-use Rattle.arcstr_block.specs.Rights.{MaySee, Right}
-use Rattle.arcstr_block.specs.Memory.{block_owns, block_shares, word_at}
-use Rattle.arcstr_block.specs.Ledger.{Inv, pointer_shares}
 use Rattle.arcstr_block.proofs.Memory.{shares_laws}
-use Rattle.arcstr_block.proofs.Rights as rights
-use Rattle.arcstr_block.specs.contracts.pointer.Pointer as C
-use Rattle.arcstr_block.proofs.Fields.{pointer_val, Words, told, opened}
+use Rattle.arcstr_block.proofs.Pointers.{pointer_val, Words, told, opened}
 use Rattle.arcstr_block.specs.contracts.pointer.Pointer.bytes.{ended, clauses}
 use Rattle.arcstr_block.specs.contracts.pointer.Pointer.bytes.Key.{name as #self}
 use Rattle.arcstr_block.proofs.pointer.Pointer.bytes.Statement.{statement}
+use Rattle.core.specs.contracts.marker.PhantomData as Marker
+use Rattle.arcstr_block.proofs.Rights as rights
+use Rattle.arcstr_block.specs.contracts.pointer.Pointer as C
 use Rattle.arcstr_block.proofs.pointer.Pointer.bytes.Code as code
 
 pub bytes_spec : {M : Type 1} → statement M

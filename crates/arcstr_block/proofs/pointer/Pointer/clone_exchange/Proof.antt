@@ -1,33 +1,26 @@
 -- `clone_exchange` is one compare-exchange. If it finds the old word or a marked one, the clone succeeds.
-use Rattle.arcstr_block.proofs.WholeProofs.{◌≡◌, ℕ, ◌+◌, List, [], ◌∷◌, sym, refl, ap, ◌∙◌, w64, length, arith, dcons, dnil, a_type, named, Val, vint, vptr}
-use Rattle.arcstr_block.proofs.WholeProofs.{inst_fn, SProp, emp, via, Lft, Share, Fml, ftrue, fsep, fex, flft, fhide, finv, fshr_bor, ‵, raw, ◌⊛◌, later, mean}
-use Rattle.arcstr_block.proofs.WholeProofs.{at_ret, ◌$◌, ◌∵◌, !, qed, by, move, keep, drop, split, split3, join, fsplit, fsplit3, fjoin, fpick, use0, use1}
-use Rattle.arcstr_block.proofs.WholeProofs.{use3, await, rewrite, stop, fld, load, addr, of_opd, no_more, and_then, first, blocks, exec, Calls-last, returns}
-use Rattle.arcstr_block.proofs.WholeProofs.{enter, bin, alloc_all, pass_all, free_all, look_at, get, through, sets, lands_last, is, env, agg, sub, whole}
-use Rattle.arcstr_block.proofs.WholeProofs.{look_in, tables, fact, fact_i, yes, RattleType, Valss, owns, types_at, plain, Ptr, block_ptr, block_of, count_of}
-use Rattle.arcstr_block.proofs.WholeProofs.{at_block, nothing, peeks, heard, looks, shuts, unhide, Is, shows, cell_at, hidden_shr, param, bounded, RefOf, u64}
-use Rattle.arcstr_block.proofs.WholeProofs.{shr_vals, shr_Tells, uint_vals, uint_Tells, lent_out, Stays, stay_dropped, walk_of, Goes-dropped, tail, proved}
-use Rattle.arcstr_block.proofs.WholeProofs.{leaves, fm, found, finds}
-use Rattle.core.specs.contracts.marker.PhantomData as Marker
-use Rattle.atomic_table.proofs.Calls.{exchanges}
-use Rattle.arcstr_block.specs.Word.{IsCountWord, IsClone}
-use Rattle.arcstr_block.specs.Rights.{IsFree, Gains, Right}
-use Rattle.arcstr_block.specs.Memory.{block_owns, block_shares, word_at, word_offset}
-use Rattle.arcstr_block.specs.Ledger.{Inv, knows, right_to, pointer_shares}
+use Rattle.arcstr_block.proofs.Names.{◌≡◌, ℕ, [], ◌∷◌, refl, arith, List, sym, ap, length, ◌+◌, ◌∙◌, w64, inst_fn, dcons, dnil, a_type, named, Val, vint, vptr}
+use Rattle.arcstr_block.proofs.Names.{Lft, Share, Fml, fsep, fex, flft, finv, fshr_bor, ftrue, fhide, emp, via, SProp, fact, fact_i, tables, u64, RefOf, yes}
+use Rattle.arcstr_block.proofs.Names.{Is, shows, cell_at, hidden_shr, unhide, param, bounded, uint_vals, uint_Tells, RattleType, Valss, owns, block_of, Ptr}
+use Rattle.arcstr_block.proofs.Names.{block_ptr, count_of, at_block, shr_vals, shr_Tells, types_at, plain, nothing, heard, peeks, looks, shuts, lent_out, Stays}
+use Rattle.arcstr_block.proofs.Names.{stay_dropped, walk_of, Goes-dropped, alloc_all, pass_all, free_all, look_at, get, sets, lands_last, env, through, is, ‵}
+use Rattle.arcstr_block.proofs.Names.{◌⊛◌, later, ◌$◌, ◌∵◌, !, qed, move, use0, use1, split, split3, join, fsplit, fjoin, fpick, await, raw, by, keep, fsplit3}
+use Rattle.arcstr_block.proofs.Names.{drop, rewrite, use3, at_ret, mean, sub, whole, agg, look_in, stop, fld, of_opd, no_more, and_then, first, blocks, exec}
+use Rattle.arcstr_block.proofs.Names.{returns, enter, load, addr, bin, Calls-last, tail, found, fm, finds, exchanges, leaves, proved, Free, seat_share, Inv}
+use Rattle.arcstr_block.proofs.Names.{knows, right_to, pointer_shares, block_owns, block_shares, word_at, word_offset, Right, IsFree, Gains, IsClone}
+use Rattle.arcstr_block.proofs.Names.{IsCountWord}
 use Rattle.arcstr_block.proofs.Memory.{shares_laws}
-use Rattle.arcstr_block.specs.contracts.pointer.Pointer as C
-use Rattle.arcstr_block.proofs.Fields.{pointer_val, typed, found_val, found_typed, Words, told, opened}
-use Rattle.arcstr_block.proofs.StepFrames as framed
-use Rattle.arcstr_count.specs.declared.steps.HandleState.TheVariants.{Free}
-use Rattle.arcstr_block.specs.Book.{seat_share}
-use Rattle.arcstr_block.proofs.CloneSteps.{raises as turn_raises}
+use Rattle.arcstr_block.proofs.Pointers.{pointer_val, typed, found_val, found_typed, Words, told, opened}
+use Rattle.arcstr_block.proofs.Book.{raises as turn_raises}
 use Rattle.arcstr_block.proofs.Words.{IsMarkedOr}
-use Rattle.arcstr_block.proofs.Rights as rights
-use Rattle.arcstr_block.proofs.Steps as steps
-use Rattle.arcstr_block.proofs.WordChanges as changes
 use Rattle.arcstr_block.specs.contracts.pointer.Pointer.clone_exchange.{ended, clauses}
 use Rattle.arcstr_block.specs.contracts.pointer.Pointer.clone_exchange.Key.{name as #self}
 use Rattle.arcstr_block.proofs.pointer.Pointer.clone_exchange.Statement.{statement}
+use Rattle.core.specs.contracts.marker.PhantomData as Marker
+use Rattle.arcstr_block.specs.contracts.pointer.Pointer as C
+use Rattle.arcstr_block.proofs.Pointers as framed
+use Rattle.arcstr_block.proofs.Rights as rights
+use Rattle.arcstr_block.proofs.Steps as steps
 use Rattle.arcstr_block.proofs.pointer.Pointer.clone_exchange.Code as code
 
 pub clone_exchange_spec : {M : Type 1} → statement M
@@ -128,10 +121,10 @@ clone_exchange_spec 𝓤 𝓛 𝓜 𝓡 wired Y K g d dd met md =
     move ! (4 ∷ []) $ use1 𝓛 (‵ (finv I) ⊛ ‵ (finv I)) (𝓛.invs.inv_dup I) $ split ! $
     let said : ℕ → Fml = λ n. fsep Mine (rights.newborn 𝓛 P lim pb po t s sl (IsMarkedOr old n)) in
     -- [the invariant, twice; the token; the seat; the open borrows; what is known; what is shared; the prefix; the others]
-    move ! (0 ∷ 2 ∷ 3 ∷ []) $ let after : ℕ → Fml = steps.all_after 𝓛 P lim pb po t (changes.exchanged 𝓛 P lim pb po t u old new asked)
-    (changes.Raised 𝓛 P lim pb po t u old new asked) (changes.Tok 𝓛 P lim pb po t u) (flft af u) said in
+    move ! (0 ∷ 2 ∷ 3 ∷ []) $ let after : ℕ → Fml = steps.all_after 𝓛 P lim pb po t (steps.exchanged 𝓛 P lim pb po t u old new asked)
+    (steps.Raised 𝓛 P lim pb po t u old new asked) (steps.Tok 𝓛 P lim pb po t u) (flft af u) said in
     use3 𝓛 (raw (𝓣.C _ (vptr pb po ∷ vint w64 old ∷ vint w64 new ∷ []) (λ r. mean 𝓛 (found after r))))
-    (via 𝓤 _ (changes.raises 𝓛 P lim pb po t u old new asked Mine said (λ n _.
+    (via 𝓤 _ (steps.raises 𝓛 P lim pb po t u old new asked Mine said (λ n _.
     turn_raises 𝓛 lim t.name.history t.name.seats h.seat v old new asked n)) (exchanges 𝓛 𝓜 𝓡 (code.calls-atomic_table::exchange 𝓡.env wired)
     (block_ptr pb po) old new are.1.1.0.1 are.1.1.1.0.1 after)) $
     first ! $ blocks ! $ sets ! (is ! (bin ! (get ! refl) (get ! refl) tt) (ap (vptr pb) there)) refl (tt, tt) $

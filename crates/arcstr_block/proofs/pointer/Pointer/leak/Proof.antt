@@ -1,36 +1,26 @@
 -- `leak` is one fetch-or. Whoever sets or finds the static flag has a permanent share.
-use Rattle.arcstr_block.proofs.WholeProofs.{◌≡◌, ℕ, ◌+◌, List, [], ◌∷◌, sym, refl, ap, ◌∙◌, lit<, w64, length, arith, ◌^◌, ◌<◌, dcons, dnil, a_type, named}
-use Rattle.arcstr_block.proofs.WholeProofs.{Val, vint, vptr, inst_fn, SProp, via, Lft, Share, Fml, ftrue, fsep, flft, fhide, finv, fshr_bor, fex, ‵, raw, ◌⊛◌}
-use Rattle.arcstr_block.proofs.WholeProofs.{later, mean, at_ret, ◌$◌, ◌∵◌, !, qed, by, move, keep, drop, split, split3, join, fsplit, fsplit3, fjoin, fpick}
-use Rattle.arcstr_block.proofs.WholeProofs.{use0, use1, use2, use3, await, rewrite, stop, fld, load, addr, lit, of_opd, no_more, and_then, first, blocks, exec}
-use Rattle.arcstr_block.proofs.WholeProofs.{Calls-last, returns, enter, bin, alloc_all, pass_all, free_all, look_at, get, through, sets, lands_last, is, env}
-use Rattle.arcstr_block.proofs.WholeProofs.{agg, sub, whole, look_in, tables, fact, yes, uint_vals, uint_Tells, RattleType, owns, types_at, plain, Ptr}
-use Rattle.arcstr_block.proofs.WholeProofs.{block_ptr, block_of, count_of, at_block, nothing, peeks, heard, looks, shuts, unhide, Is, shows, cell_at}
-use Rattle.arcstr_block.proofs.WholeProofs.{hidden_shr, param, bounded, RefOf, usize, shr_vals, shr_Tells, lent_out, Stays, stay_dropped, walk_of}
-use Rattle.arcstr_block.proofs.WholeProofs.{Goes-dropped, tail, proved, leaves, fm, seq_cst, found, finds}
-use Rattle.core.specs.contracts.marker.PhantomData as Marker
-use Rattle.atomic_table.proofs.Calls.{ors}
-use Rattle.arcstr_block.specs.Rights.{IsFree, fixed, Right}
-use Rattle.arcstr_block.specs.Memory.{block_owns, block_shares, word_at, word_offset}
-use Rattle.arcstr_block.specs.Ledger.{Inv, knows, right_to, pointer_shares}
+use Rattle.arcstr_block.proofs.Names.{◌≡◌, ℕ, ◌^◌, [], ◌∷◌, refl, arith, lit<, List, sym, ap, length, ◌+◌, ◌<◌, ◌∙◌, w64, inst_fn, dcons, dnil, a_type, named}
+use Rattle.arcstr_block.proofs.Names.{Val, vint, vptr, Lft, Share, Fml, fsep, fex, flft, finv, fshr_bor, ftrue, fhide, via, SProp, fact, tables, usize, RefOf}
+use Rattle.arcstr_block.proofs.Names.{yes, Is, shows, cell_at, hidden_shr, unhide, param, bounded, uint_vals, uint_Tells, RattleType, owns, block_of, Ptr}
+use Rattle.arcstr_block.proofs.Names.{block_ptr, count_of, at_block, shr_vals, shr_Tells, types_at, plain, nothing, heard, peeks, looks, shuts, lent_out, Stays}
+use Rattle.arcstr_block.proofs.Names.{stay_dropped, walk_of, Goes-dropped, alloc_all, pass_all, free_all, look_at, get, sets, lands_last, env, through, is, ‵}
+use Rattle.arcstr_block.proofs.Names.{◌⊛◌, later, ◌$◌, ◌∵◌, !, qed, move, use0, use1, use2, split, split3, join, fsplit, fjoin, fpick, await, raw, by, keep}
+use Rattle.arcstr_block.proofs.Names.{fsplit3, drop, rewrite, use3, at_ret, mean, sub, whole, agg, look_in, stop, fld, lit, of_opd, no_more, and_then, first}
+use Rattle.arcstr_block.proofs.Names.{blocks, exec, returns, enter, load, addr, bin, Calls-last, tail, found, fm, seq_cst, finds, ors, leaves, proved, EndsIn}
+use Rattle.arcstr_block.proofs.Names.{Free, Marked, Leak, seat_share, Ends, IsMarkedIn, Inv, knows, right_to, pointer_shares, block_owns, block_shares, word_at}
+use Rattle.arcstr_block.proofs.Names.{word_offset, Right, IsFree, fixed}
 use Rattle.arcstr_block.proofs.Memory.{shares_laws}
-use Rattle.arcstr_block.specs.contracts.pointer.Pointer as C
-use Rattle.arcstr_block.proofs.Fields.{pointer_val, typed, Words, told, opened}
-use Rattle.arcstr_block.proofs.StepFrames as framed
-use Rattle.arcstr_count.specs.declared.steps.HandleState.TheVariants.{Free}
-use Rattle.arcstr_count.specs.OneBlock.{EndsIn}
-use Rattle.arcstr_block.specs.Book.{seat_share, Ends}
-use Rattle.arcstr_count.specs.declared.steps.Step.TheVariants.{Leak}
-use Rattle.arcstr_count.specs.declared.steps.Reply.TheVariants.{Marked}
+use Rattle.arcstr_block.proofs.Pointers.{pointer_val, typed, Words, told, opened}
 use Rattle.arcstr_block.proofs.Book.{book_mark}
-use Rattle.arcstr_block.specs.Handle.{IsMarkedIn}
-use Rattle.arcstr_block.proofs.MarkedHistories.{marked_by_leak}
-use Rattle.arcstr_block.proofs.Rights as rights
-use Rattle.arcstr_block.proofs.Steps as steps
-use Rattle.arcstr_block.proofs.WordChanges as changes
+use Rattle.arcstr_block.proofs.Histories.{marked_by_leak}
 use Rattle.arcstr_block.specs.contracts.pointer.Pointer.leak.{ended, clauses}
 use Rattle.arcstr_block.specs.contracts.pointer.Pointer.leak.Key.{name as #self}
 use Rattle.arcstr_block.proofs.pointer.Pointer.leak.Statement.{statement}
+use Rattle.core.specs.contracts.marker.PhantomData as Marker
+use Rattle.arcstr_block.specs.contracts.pointer.Pointer as C
+use Rattle.arcstr_block.proofs.Pointers as framed
+use Rattle.arcstr_block.proofs.Rights as rights
+use Rattle.arcstr_block.proofs.Steps as steps
 use Rattle.arcstr_block.proofs.pointer.Pointer.leak.Code as code
 
 pub leak_spec : {M : Type 1} → statement M
@@ -82,10 +72,10 @@ leak_spec 𝓤 𝓛 𝓜 𝓡 wired Y K g d dd met md =
     move ! (4 ∷ []) $ use1 𝓛 (‵ (finv I) ⊛ ‵ (finv I)) (𝓛.invs.inv_dup I) $ split ! $
     let said : ℕ → Fml = λ n. fsep Mine (Ends lim t.name.history t.name.seats (Leak h.seat) Marked) in
     -- [the invariant, twice; the token; the seat; the open borrows; what is known; what is shared; the prefix; the others]
-    move ! (0 ∷ 2 ∷ 3 ∷ []) $ let after : ℕ → Fml = steps.all_after 𝓛 P lim pb po t (changes.with_mark 𝓛 P lim pb po t u) (changes.Fixed 𝓛 P lim pb po t u)
-    (changes.Tok 𝓛 P lim pb po t u) (flft af u) said in
+    move ! (0 ∷ 2 ∷ 3 ∷ []) $ let after : ℕ → Fml = steps.all_after 𝓛 P lim pb po t (steps.with_mark 𝓛 P lim pb po t u) (steps.Fixed 𝓛 P lim pb po t u)
+    (steps.Tok 𝓛 P lim pb po t u) (flft af u) said in
     use3 𝓛 (raw (𝓣.C _ (vptr pb po ∷ vint w64 1 ∷ seq_cst ∷ []) (λ r. mean 𝓛 (found after r))))
-    (via 𝓤 _ (changes.marks_it 𝓛 P lim pb po t u Mine said (λ n _.
+    (via 𝓤 _ (steps.marks_it 𝓛 P lim pb po t u Mine said (λ n _.
     book_mark 𝓛 lim t.name.history t.name.seats n h.seat v)) (ors 𝓛 𝓜 𝓡 (code.calls-core::raw_atomic::fetch_or 𝓡.env wired) (block_ptr pb po) 1
     (lit< tt) after)) $
     first ! $ blocks ! $ sets ! (is ! (bin ! (get ! refl) (get ! refl) tt) (ap (vptr pb) there)) refl (tt, tt) $

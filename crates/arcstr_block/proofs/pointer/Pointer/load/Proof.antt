@@ -1,33 +1,24 @@
 -- `load` is one load. A look that finds the word marked has a permanent share, and a clone that finds it marked succeeds.
-use Rattle.arcstr_block.proofs.WholeProofs.{◌≡◌, ℕ, Bool, ◌+◌, List, [], ◌∷◌, sym, refl, ap, ◌∙◌, lit<, length, arith, w64, ◌^◌, ◌<◌, dcons, dnil, a_type}
-use Rattle.arcstr_block.proofs.WholeProofs.{named, Val, vptr, vint, inst_fn, SProp, emp, via, Lft, Share, Fml, ftrue, fsep, flft, fhide, finv, fshr_bor, fex}
-use Rattle.arcstr_block.proofs.WholeProofs.{‵, raw, ◌⊛◌, later, mean, at_ret, ◌$◌, ◌∵◌, !, qed, by, move, keep, drop, split, split3, join, fsplit, fsplit3}
-use Rattle.arcstr_block.proofs.WholeProofs.{fjoin, fpick, use0, use1, use3, await, rewrite, stop, fld, load, addr, lit}
-use Rattle.arcstr_block.proofs.WholeProofs.{of_opd, no_more, and_then, first, blocks, exec, Calls-last, returns, enter, bin, alloc_all, pass_all, free_all}
-use Rattle.arcstr_block.proofs.WholeProofs.{look_at, get, through, sets, lands_last, is, env, agg, sub, whole, look_in, tables, fact, fact_i, yes, uint_vals}
-use Rattle.arcstr_block.proofs.WholeProofs.{uint_Tells, RattleType, Valss, owns, types_at, plain, Ptr, block_ptr, block_of, count_of, at_block, nothing, peeks}
-use Rattle.arcstr_block.proofs.WholeProofs.{heard, looks, shuts, unhide, Is, shows, cell_at, hidden_shr, param, bounded, RefOf, u64, usize, shr_vals}
-use Rattle.arcstr_block.proofs.WholeProofs.{shr_Tells, lent_out, Stays, stay_dropped, walk_of, Goes-dropped, tail, proved, leaves, fm, seq_cst, found, finds}
-use Rattle.arcstr_block.proofs.WholeProofs.{loads}
-use Rattle.core.specs.contracts.marker.PhantomData as Marker
-use Rattle.arcstr_block.specs.Word.{IsCountWord}
-use Rattle.arcstr_block.specs.Rights.{IsFree, Loads, Right}
-use Rattle.arcstr_block.specs.Memory.{block_owns, block_shares, word_at, word_offset}
-use Rattle.arcstr_block.specs.Ledger.{Inv, knows, pointer_shares}
+use Rattle.arcstr_block.proofs.Names.{◌≡◌, ℕ, ◌^◌, Bool, [], ◌∷◌, refl, arith, lit<, List, sym, ap, length, ◌+◌, ◌<◌, ◌∙◌, w64, inst_fn, dcons, dnil, a_type}
+use Rattle.arcstr_block.proofs.Names.{named, Val, vint, vptr, Lft, Share, Fml, fsep, fex, flft, finv, fshr_bor, ftrue, fhide, emp, via, SProp, fact, fact_i}
+use Rattle.arcstr_block.proofs.Names.{tables, usize, u64, RefOf, yes, Is, shows, cell_at, hidden_shr, unhide, param, bounded, uint_vals, uint_Tells, RattleType}
+use Rattle.arcstr_block.proofs.Names.{Valss, owns, block_of, Ptr, block_ptr, count_of, at_block, shr_vals, shr_Tells, types_at, plain, nothing, heard, peeks}
+use Rattle.arcstr_block.proofs.Names.{looks, shuts, lent_out, Stays, stay_dropped, walk_of, Goes-dropped, alloc_all, pass_all, free_all, look_at, get, sets}
+use Rattle.arcstr_block.proofs.Names.{lands_last, env, through, is, ‵, ◌⊛◌, later, ◌$◌, ◌∵◌, !, qed, move, use0, use1, split, split3, join, fsplit, fjoin}
+use Rattle.arcstr_block.proofs.Names.{fpick, await, raw, by, keep, fsplit3, drop, rewrite, use3, at_ret, mean, sub, whole, agg, look_in, stop, fld, lit, of_opd}
+use Rattle.arcstr_block.proofs.Names.{no_more, and_then, first, blocks, exec, returns, enter, load, addr, bin, Calls-last, tail, found, fm, seq_cst, finds}
+use Rattle.arcstr_block.proofs.Names.{loads, leaves, proved, Free, Step, seat_share, Inv, knows, pointer_shares, block_owns, block_shares, word_at, word_offset}
+use Rattle.arcstr_block.proofs.Names.{Right, IsFree, Loads, LoadedAs, IsCountWord}
 use Rattle.arcstr_block.proofs.Memory.{shares_laws}
-use Rattle.arcstr_block.specs.contracts.pointer.Pointer as C
-use Rattle.arcstr_block.proofs.Fields.{pointer_val, typed, found_val, found_typed, Words, told, opened}
-use Rattle.arcstr_block.proofs.StepFrames as framed
-use Rattle.arcstr_count.specs.declared.steps.HandleState.TheVariants.{Free}
-use Rattle.arcstr_block.specs.Book.{seat_share}
-use Rattle.arcstr_block.proofs.Rights as rights
-use Rattle.arcstr_block.proofs.Loads as steps_of
-use Rattle.arcstr_block.specs.Same.{LoadedAs}
-use Rattle.arcstr_count.specs.declared.steps.Step.{Step}
-use Rattle.arcstr_block.proofs.Steps as steps
+use Rattle.arcstr_block.proofs.Pointers.{pointer_val, typed, found_val, found_typed, Words, told, opened}
 use Rattle.arcstr_block.specs.contracts.pointer.Pointer.load.{ended, clauses}
 use Rattle.arcstr_block.specs.contracts.pointer.Pointer.load.Key.{name as #self}
 use Rattle.arcstr_block.proofs.pointer.Pointer.load.Statement.{statement}
+use Rattle.core.specs.contracts.marker.PhantomData as Marker
+use Rattle.arcstr_block.specs.contracts.pointer.Pointer as C
+use Rattle.arcstr_block.proofs.Pointers as framed
+use Rattle.arcstr_block.proofs.Rights as rights
+use Rattle.arcstr_block.proofs.Steps as steps
 use Rattle.arcstr_block.proofs.pointer.Pointer.load.Code as code
 
 pub load_spec : {M : Type 1} → statement M
@@ -77,13 +68,13 @@ load_spec 𝓤 𝓛 𝓜 𝓡 wired Y K g d dd met md =
     fsplit ! $ move ! (1 ∷ []) $ fsplit ! $
     -- [the token; the seat; the open borrows; what is known; the invariant; what is shared; the prefix; the others]
     move ! (4 ∷ []) $ use1 𝓛 (‵ (finv I) ⊛ ‵ (finv I)) (𝓛.invs.inv_dup I) $ split ! $
-    let clones : Bool = gh in let said : ℕ → Fml = λ n. fsep Mine (steps_of.entered 𝓛 P lim pb po t s sl h.seat clones n) in
+    let clones : Bool = gh in let said : ℕ → Fml = λ n. fsep Mine (rights.entered 𝓛 P lim pb po t s sl h.seat clones n) in
     -- [the invariant, twice; the token; the seat; the open borrows; what is known; what is shared; the prefix; the others]
     move ! (2 ∷ 5 ∷ []) $ fjoin ! $ move ! (1 ∷ 0 ∷ 3 ∷ []) $ let after : ℕ → Fml = steps.all_after 𝓛 P lim pb po t (λ n.
     n) (steps.Told 𝓛 P lim pb po t u right) (steps.With 𝓛 P lim pb po t u right) (flft af u) said in
     use3 𝓛 (raw (𝓣.C _ (vptr pb po ∷ seq_cst ∷ []) (λ r. mean 𝓛 (found after r))))
     (via 𝓤 _ (steps.loads 𝓛 P lim pb po t u right Mine said (λ n _.
-    steps_of.enters 𝓛 P lim pb po t s sl h.seat clones v n)) (loads 𝓛 𝓜 𝓡 (code.calls-core::raw_atomic::load 𝓡.env wired) (block_ptr pb po) after)) $
+    rights.enters 𝓛 P lim pb po t s sl h.seat clones v n)) (loads 𝓛 𝓜 𝓡 (code.calls-core::raw_atomic::load 𝓡.env wired) (block_ptr pb po) after)) $
     first ! $ blocks ! $ sets ! (is ! (bin ! (get ! refl) (get ! refl) tt) (ap (vptr pb) there)) refl (tt, tt) $
     sets ! (of_opd ! (get ! refl)) refl (tt, tt) $ sets ! (addr ! (through ! refl (fld ! refl (stop !)))) refl (tt, tt) $
     sets ! (agg ! (and_then ! (lit ! tt) (no_more !))) refl (tt, (record { fits = lit< tt }, tt)) $
@@ -101,8 +92,8 @@ load_spec 𝓤 𝓛 𝓜 𝓡 wired Y K g d dd met md =
     -- [the gain; the tokens; what is said; the invariant; what is shared; the prefix]
     move ! (5 ∷ []) $ fsplit ! $ fpick ! (λ named. drop ! $
     -- [the prefix; the gain; the tokens; what is said; the invariant; what is shared]
-    let got = steps_of.loaded 𝓛 P lim pb po t s sl h.seat clones n h.history w ok.2 ok.3 in let k : Right = got.right in
-    move ! (1 ∷ 5 ∷ 3 ∷ 0 ∷ []) $ types.Kit.group ! 4 $ use1 𝓛 (later (‵ (steps_of.AfterLoad 𝓛 P lim pb po t s sl h.seat clones n k))) got.turns $ await ! tt $
+    let got = rights.loaded 𝓛 P lim pb po t s sl h.seat clones n h.history w ok.2 ok.3 in let k : Right = got.right in
+    move ! (1 ∷ 5 ∷ 3 ∷ 0 ∷ []) $ types.Kit.group ! 4 $ use1 𝓛 (later (‵ (rights.AfterLoad 𝓛 P lim pb po t s sl h.seat clones n k))) got.turns $ await ! tt $
     fpick ! (λ x. let j : ℕ = x.0 in let r' : List Step = x.1 in fsplit3 ! $ fpick ! (λ ends. drop ! $
     -- [the prefix; the right; the tokens; the invariant]
     let h' : Row.Denot = record h { right = k; seat = j; history = r' } in let r : Val = found_val n p in

@@ -1,27 +1,20 @@
 -- `make` puts the word under the ledger's invariant, and lends what the block owns.
-use Rattle.arcstr_block.proofs.WholeProofs.{◌≡◌, ℕ, ◌+◌, List, [], ◌∷◌, sym, refl, ap, length, dcons, dnil, a_type, Val, inst_fn, SProp, emp, Fml, ftrue, fsep}
-use Rattle.arcstr_block.proofs.WholeProofs.{fex, flft, Item, ‵, raw, ◌⊛◌, later, ◌$◌, ◌∵◌, !, qed, by, move, keep, drop, split, join, fsplit, fsplit3, fjoin}
-use Rattle.arcstr_block.proofs.WholeProofs.{fpick, use0, use2, use3, await, rewrite, stop, fld, of_opd, no_more, and_then, returns, enter, alloc_all, pass_all}
-use Rattle.arcstr_block.proofs.WholeProofs.{free_all, look_at, get, get_in, sets, is, agg, sub, whole, tables, fact, fact_i, no, RattleType, owns, types_at}
-use Rattle.arcstr_block.proofs.WholeProofs.{plain, Ptr, block_ptr, ptr_val, block_of, count_of, at_block, nothing, heard, param, bounded, Stays, stay_dropped}
-use Rattle.arcstr_block.proofs.WholeProofs.{walk_of, Goes-dropped, IsUtf8, word, proved, leaves}
-use base.Fml.{Incl-refl}
-use Rattle.arcstr_count.specs.Word.{bits_of, fresh_word}
-use Rattle.arcstr_count.specs.declared.steps.Step.TheVariants.{Make}
-use Rattle.arcstr_block.specs.Word.{IsLimit}
-use Rattle.arcstr_block.specs.Rights.{counted}
-use Rattle.arcstr_block.specs.Book.{reached}
-use Rattle.arcstr_block.specs.Memory.{block_owns, block_shares, word_offset}
-use Rattle.arcstr_block.specs.Ledger.{Id, held_with}
-use Rattle.arcstr_block.specs.contracts.block.Sole as S
-use Rattle.arcstr_block.specs.contracts.pointer.Pointer as C
-use Rattle.arcstr_block.proofs.NewBlocks.{begins}
-use Rattle.arcstr_block.proofs.StepFrames as framed
-use Rattle.arcstr_block.proofs.Fields.{pointer_val, typed, told}
+use Rattle.arcstr_block.proofs.Names.{◌≡◌, ℕ, [], ◌∷◌, refl, List, sym, ap, length, ◌+◌, IsUtf8, inst_fn, dcons, dnil, a_type, Val, Fml, fsep, fex, flft, ftrue}
+use Rattle.arcstr_block.proofs.Names.{Incl-refl, emp, SProp, fact, fact_i, tables, no, param, bounded, RattleType, owns, block_of, Ptr, block_ptr, ptr_val}
+use Rattle.arcstr_block.proofs.Names.{count_of, at_block, types_at, plain, nothing, heard, Stays, stay_dropped, walk_of, Goes-dropped, alloc_all, pass_all}
+use Rattle.arcstr_block.proofs.Names.{free_all, look_at, get, get_in, sets, is, ‵, ◌⊛◌, later, ◌$◌, ◌∵◌, !, qed, move, use0, use2, split, join, fsplit, fjoin}
+use Rattle.arcstr_block.proofs.Names.{fpick, await, raw, by, keep, fsplit3, drop, rewrite, use3, Item, sub, whole, agg, stop, fld, of_opd, no_more, and_then}
+use Rattle.arcstr_block.proofs.Names.{returns, enter, word, leaves, proved, bits_of, fresh_word, Make, reached, Id, held_with, block_owns, block_shares}
+use Rattle.arcstr_block.proofs.Names.{word_offset, counted, IsLimit}
+use Rattle.arcstr_block.proofs.Blocks.{begins}
+use Rattle.arcstr_block.proofs.Pointers.{pointer_val, typed, told}
 use Rattle.arcstr_block.proofs.Memory.{shares_laws, lends_block}
 use Rattle.arcstr_block.specs.contracts.pointer.Pointer.make.{ended, clauses}
 use Rattle.arcstr_block.specs.contracts.pointer.Pointer.make.Key.{name as #self}
 use Rattle.arcstr_block.proofs.pointer.Pointer.make.Statement.{statement}
+use Rattle.arcstr_block.specs.contracts.block.Sole as S
+use Rattle.arcstr_block.specs.contracts.pointer.Pointer as C
+use Rattle.arcstr_block.proofs.Pointers as framed
 use Rattle.arcstr_block.proofs.pointer.Pointer.make.Code as code
 
 pub make_spec : {M : Type 1} → statement M

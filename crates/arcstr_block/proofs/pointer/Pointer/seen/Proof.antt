@@ -1,22 +1,18 @@
 -- `seen` returns what the pointer knows of the history, which is permanent.
-use Rattle.arcstr_block.proofs.WholeProofs.{◌≡◌, ℕ, [], ◌∷◌, refl, length, dcons, dnil, a_type, named, Val, vptr, inst_fn, SProp, emp, Lft, Share, Fml, ftrue}
-use Rattle.arcstr_block.proofs.WholeProofs.{fsep, flft, fhide, ‵, raw, ◌⊛◌, ◌$◌, ◌∵◌, !, qed, by, move, keep, drop, split, join, fsplit, fjoin, fpick, use0}
-use Rattle.arcstr_block.proofs.WholeProofs.{use1, rewrite, no_more, and_then, returns, enter, alloc_all, pass_all, free_all, look_at, get, sets, agg, tables}
-use Rattle.arcstr_block.proofs.WholeProofs.{fact, fact_i, yes, RattleType, owns, types_at, plain, Ptr, block_of, nothing, unhide, hidden_shr, param, bounded}
-use Rattle.arcstr_block.proofs.WholeProofs.{RefOf, unit, shr_vals, shr_Tells, lent_out, Stays, stay_dropped, walk_of, Goes-dropped, proved, leaves, Token}
-use Rattle.core.specs.contracts.marker.PhantomData as Marker
-use Rattle.arcstr_block.specs.Rights.{Right}
-use Rattle.arcstr_block.specs.Memory.{block_owns, block_shares, word_at}
-use Rattle.arcstr_block.specs.Ledger.{pointer_shares}
+use Rattle.arcstr_block.proofs.Names.{◌≡◌, ℕ, [], ◌∷◌, refl, length, inst_fn, dcons, dnil, a_type, named, Val, vptr, Lft, Share, Fml, fsep, flft, ftrue, fhide}
+use Rattle.arcstr_block.proofs.Names.{emp, SProp, fact, fact_i, tables, RefOf, unit, yes, hidden_shr, unhide, param, bounded, RattleType, owns, block_of, Ptr}
+use Rattle.arcstr_block.proofs.Names.{shr_vals, shr_Tells, types_at, plain, nothing, lent_out, Stays, stay_dropped, walk_of, Goes-dropped, alloc_all, pass_all}
+use Rattle.arcstr_block.proofs.Names.{free_all, look_at, get, sets, ‵, ◌⊛◌, ◌$◌, ◌∵◌, !, qed, move, use0, use1, split, join, fsplit, fjoin, fpick, raw, by}
+use Rattle.arcstr_block.proofs.Names.{keep, drop, rewrite, agg, no_more, and_then, returns, enter, leaves, proved, Token, token, token_made, BlockName, reached}
+use Rattle.arcstr_block.proofs.Names.{pointer_shares, block_owns, block_shares, word_at, Right}
 use Rattle.arcstr_block.proofs.Memory.{shares_laws}
-use Rattle.arcstr_block.specs.contracts.pointer.Pointer as C
-use Rattle.arcstr_block.specs.contracts.seen.Seen as Seen
-use Rattle.arcstr_block.specs.Book.{BlockName, reached}
-use Rattle.logbook.proofs.Fields.{token, token_made}
-use Rattle.arcstr_block.proofs.Fields.{Words}
+use Rattle.arcstr_block.proofs.Pointers.{Words}
 use Rattle.arcstr_block.specs.contracts.pointer.Pointer.seen.{ended, clauses}
 use Rattle.arcstr_block.specs.contracts.pointer.Pointer.seen.Key.{name as #self}
 use Rattle.arcstr_block.proofs.pointer.Pointer.seen.Statement.{statement}
+use Rattle.core.specs.contracts.marker.PhantomData as Marker
+use Rattle.arcstr_block.specs.contracts.pointer.Pointer as C
+use Rattle.arcstr_block.specs.contracts.seen.Seen as Seen
 use Rattle.arcstr_block.proofs.pointer.Pointer.seen.Code as code
 
 pub seen_spec : {M : Type 1} → statement M

@@ -1,34 +1,24 @@
 -- `sub` is one fetch-sub. The last one has the word and what the block owns.
-use Rattle.arcstr_block.proofs.WholeProofs.{◌≡◌, ℕ, ◌+◌, [], ◌∷◌, sym, refl, ap, subst, if◌then◌else◌, lit<, w64, length, arith, ◌^◌, ◌<◌, dcons, dnil, a_type}
-use Rattle.arcstr_block.proofs.WholeProofs.{Val, vint, vptr, inst_fn, SProp, via, Lft, Fml, ftrue, fsep, finv, fex, ‵, raw, ◌⊛◌, later, mean, at_ret, ◌$◌, ◌∵◌}
-use Rattle.arcstr_block.proofs.WholeProofs.{ !, qed, by, move, keep, drop, split, fsplit, fsplit3, fjoin, fpick, use0, use1, use3, await, rewrite, stop, fld}
-use Rattle.arcstr_block.proofs.WholeProofs.{addr, lit, of_opd, no_more, and_then, first, blocks, exec, Calls-last, returns, enter, bin, alloc_all, pass_all}
-use Rattle.arcstr_block.proofs.WholeProofs.{free_all, look_at, get, get_in, through, sets, lands_last, is, env, agg, sub, whole, tables, fact, yes, no}
-use Rattle.arcstr_block.proofs.WholeProofs.{uint_vals, uint_Tells, RattleType, Valss, owns, types_at, plain, Ptr, block_ptr, ptr_val, block_of, count_of}
-use Rattle.arcstr_block.proofs.WholeProofs.{at_block, nothing, heard, param, bounded, u64, usize, alive, Stays, stay_dropped, walk_of, Goes-dropped, tail}
-use Rattle.arcstr_block.proofs.WholeProofs.{proved, leaves, fm, seq_cst, found, finds}
-use Rattle.atomic_table.proofs.Calls.{subs}
-use Rattle.arcstr_block.specs.Rights.{dropping, Leaves, Right}
-use Rattle.std.specs.Prelude.{◌≢◌}
-use Rattle.arcstr_block.specs.Memory.{block_owns, block_shares, word_at, word_offset}
-use Rattle.arcstr_block.specs.Ledger.{Inv, held_with, right_to}
+use Rattle.arcstr_block.proofs.Names.{◌≡◌, ℕ, ◌^◌, [], ◌∷◌, refl, arith, lit<, sym, subst, ◌≢◌, ap, length, ◌+◌, ◌<◌, if◌then◌else◌, w64, inst_fn, dcons, dnil}
+use Rattle.arcstr_block.proofs.Names.{a_type, Val, vint, vptr, Lft, Fml, fsep, fex, finv, ftrue, via, SProp, fact, tables, usize, u64, no, yes, param, bounded}
+use Rattle.arcstr_block.proofs.Names.{uint_vals, uint_Tells, RattleType, Valss, owns, block_of, Ptr, block_ptr, ptr_val, count_of, at_block, types_at, plain}
+use Rattle.arcstr_block.proofs.Names.{nothing, heard, alive, Stays, stay_dropped, walk_of, Goes-dropped, alloc_all, pass_all, free_all, look_at, get, get_in}
+use Rattle.arcstr_block.proofs.Names.{sets, lands_last, env, through, is, ‵, ◌⊛◌, later, ◌$◌, ◌∵◌, !, qed, move, use0, use1, split, fsplit, fjoin, fpick, await}
+use Rattle.arcstr_block.proofs.Names.{raw, by, keep, fsplit3, drop, rewrite, use3, at_ret, mean, sub, whole, agg, stop, fld, lit, of_opd, no_more, and_then}
+use Rattle.arcstr_block.proofs.Names.{first, blocks, exec, returns, enter, addr, bin, Calls-last, tail, found, fm, seq_cst, finds, subs, leaves, proved, EndsIn}
+use Rattle.arcstr_block.proofs.Names.{Dropping, Owes, Left, Sub, seat, Ends, Inv, held_with, right_to, block_owns, block_shares, word_at, word_offset, Right}
+use Rattle.arcstr_block.proofs.Names.{dropping, Leaves}
 use Rattle.arcstr_block.proofs.Memory.{shares_laws}
-use Rattle.arcstr_block.specs.contracts.pointer.Pointer as C
-use Rattle.arcstr_block.proofs.Fields.{pointer_val, typed, found_val, found_typed, Words, told}
-use Rattle.arcstr_block.proofs.StepFrames as framed
-use Rattle.arcstr_count.specs.declared.steps.HandleState.TheVariants.{Dropping}
-use Rattle.arcstr_count.specs.declared.steps.Step.TheVariants.{Sub}
-use Rattle.arcstr_count.specs.declared.steps.Reply.TheVariants.{Owes, Left}
-use Rattle.arcstr_count.specs.OneBlock.{EndsIn}
-use Rattle.arcstr_block.specs.Book.{seat, Ends}
+use Rattle.arcstr_block.proofs.Pointers.{pointer_val, typed, found_val, found_typed, Words, told}
 use Rattle.arcstr_block.proofs.Book.{book_sub, left_in, sub_reply}
 use Rattle.arcstr_block.proofs.Words.{one_less, last_two, not_last}
-use Rattle.arcstr_block.proofs.Rights as rights
-use Rattle.arcstr_block.proofs.Steps as steps
-use Rattle.arcstr_block.proofs.WordChanges as changes
 use Rattle.arcstr_block.specs.contracts.pointer.Pointer.sub.{ended, clauses}
 use Rattle.arcstr_block.specs.contracts.pointer.Pointer.sub.Key.{name as #self}
 use Rattle.arcstr_block.proofs.pointer.Pointer.sub.Statement.{statement}
+use Rattle.arcstr_block.specs.contracts.pointer.Pointer as C
+use Rattle.arcstr_block.proofs.Pointers as framed
+use Rattle.arcstr_block.proofs.Rights as rights
+use Rattle.arcstr_block.proofs.Steps as steps
 use Rattle.arcstr_block.proofs.pointer.Pointer.sub.Code as code
 
 pub sub_spec : {M : Type 1} → statement M
@@ -65,10 +55,10 @@ sub_spec 𝓤 𝓛 𝓜 𝓡 wired Y K g d dd met md =
     sets ! (of_opd ! (get_in ! (fld ! refl (stop !)) (sub ! 1 refl (whole !)))) refl (tt, tt) $
     let said : ℕ → Fml = λ n. fsep (seat t.name.seats h.seat (left_in 𝓛 lim t.name.history t.name.seats n)) (Ends lim t.name.history t.name.seats
     (Sub h.seat) (sub_reply 𝓛 lim t.name.history t.name.seats n)) in
-    let after : ℕ → Fml = steps.all_after 𝓛 P lim pb po t one_less (changes.Left 𝓛 P lim pb po t)
-    (changes.One 𝓛 P lim pb po t) ftrue said in
+    let after : ℕ → Fml = steps.all_after 𝓛 P lim pb po t one_less (steps.Left 𝓛 P lim pb po t)
+    (steps.One 𝓛 P lim pb po t) ftrue said in
     use3 𝓛 (raw (𝓣.C _ (vptr pb po ∷ vint w64 2 ∷ seq_cst ∷ []) (λ r. mean 𝓛 (found after r))))
-    (via 𝓤 _ (changes.leaves_it 𝓛 P lim pb po t (seat t.name.seats h.seat Dropping) said (λ n fits.
+    (via 𝓤 _ (steps.leaves_it 𝓛 P lim pb po t (seat t.name.seats h.seat Dropping) said (λ n fits.
     book_sub 𝓛 lim t.name.history t.name.seats n h.seat fits)) (subs 𝓛 𝓜 𝓡 (code.calls-core::raw_atomic::fetch_sub 𝓡.env wired) (block_ptr pb po) 2
     (lit< tt) after)) $
     first ! $ blocks ! $ sets ! (is ! (bin ! (get ! refl) (get ! refl) tt) (ap (vptr pb) there)) refl (tt, tt) $

@@ -1,16 +1,15 @@
 -- `two_pointers_have_two_seats` returns both pointers: it does nothing.
-use Rattle.arcstr_block.proofs.WholeProofs.{◌≡◌, List, [], ◌∷◌, ◌++◌, refl, dcons, dnil, a_type, Val, vstruct, of_list, inst_fn, SProp, emp, fsep, feq, ‵, raw}
-use Rattle.arcstr_block.proofs.WholeProofs.{◌⊛◌, later, given, await, ◌$◌, ◌∵◌, !, qed, by, move, keep, split, join, learn, fsplit3, fjoin, fjoin3, fpack}
-use Rattle.arcstr_block.proofs.WholeProofs.{use0, use2, feq_i, of_opd, no_more, and_then, returns, enter, alloc_all, pass_all, free_all, look_at, get, sets}
-use Rattle.arcstr_block.proofs.WholeProofs.{agg, tables, fact, fact_i, no, RattleType, Valss, owns, types_at, plain, Ptr, nothing, heard, param, bounded}
-use Rattle.arcstr_block.proofs.WholeProofs.{alive, Stays, stay_dropped, walk_of, Goes-dropped, proved, leaves}
-use Rattle.arcstr_block.specs.Rights.{HasSeat}
-use Rattle.arcstr_block.specs.contracts.pointer.Pointer as C
-use Rattle.arcstr_block.proofs.Fields.{pointer_val, typed, two_val, two_typed, told}
-use Rattle.arcstr_block.proofs.TwoPointers.{Apart, OwesAnother, Distinct, are_apart}
+use Rattle.arcstr_block.proofs.Names.{◌≡◌, [], ◌∷◌, refl, List, ◌++◌, inst_fn, dcons, dnil, a_type, Val, vstruct, of_list, fsep, feq, emp, SProp, fact, fact_i}
+use Rattle.arcstr_block.proofs.Names.{tables, no, param, bounded, RattleType, Valss, owns, Ptr, types_at, plain, nothing, heard, alive, Stays, stay_dropped}
+use Rattle.arcstr_block.proofs.Names.{walk_of, Goes-dropped, alloc_all, pass_all, free_all, look_at, get, sets, ‵, ◌⊛◌, later, ◌$◌, ◌∵◌, !, qed, move, use0}
+use Rattle.arcstr_block.proofs.Names.{use2, split, join, fjoin, fjoin3, fpack, await, raw, by, keep, fsplit3, given, learn, feq_i, agg, of_opd, no_more}
+use Rattle.arcstr_block.proofs.Names.{and_then, returns, enter, leaves, proved, HasSeat}
+use Rattle.arcstr_block.proofs.Pointers.{pointer_val, typed, two_val, two_typed, told}
+use Rattle.arcstr_block.proofs.Blocks.{Apart, OwesAnother, Distinct, are_apart}
 use Rattle.arcstr_block.specs.contracts.pointer.Pointer.two_pointers_have_two_seats.{ended, clauses}
 use Rattle.arcstr_block.specs.contracts.pointer.Pointer.two_pointers_have_two_seats.Key.{name as #self}
 use Rattle.arcstr_block.proofs.pointer.Pointer.two_pointers_have_two_seats.Statement.{statement}
+use Rattle.arcstr_block.specs.contracts.pointer.Pointer as C
 use Rattle.arcstr_block.proofs.pointer.Pointer.two_pointers_have_two_seats.Code as code
 
 pub two_pointers_have_two_seats_spec : {M : Type 1} → statement M

@@ -1,17 +1,9 @@
 -- A `&` to a `Seen` holds what the `Seen` has: the fact can be duplicated. Assumes `Logic`.
-use base.Before.{before}
-use base.Logic.{snd∗}
-use types.Logic.{sem}
-use denote.Param.Shared.{copy_shared}
-use denote.Struct.Laws.{field_copy}
-use denote.Struct.Lending.{of_Lends}
-use Rattle.core.specs.contracts.marker.PhantomData as Marker
-use Rattle.logbook.proofs.Fields.{lends_twice}
-use denote.Builtin.{unit}
-use Rattle.arcstr_block.specs.Book.{reached}
-use Rattle.arcstr_block.specs.contracts.seen.Seen as C
+use Rattle.arcstr_block.proofs.Names.{before, snd∗, unit, copy_shared, field_copy, of_Lends, sem, lends_twice, reached}
 use Rattle.arcstr_block.proofs.Book.{reached_twice}
 use Rattle.arcstr_block.proofs.seen.Seen.TheLaw.Statement.{statement}
+use Rattle.core.specs.contracts.marker.PhantomData as Marker
+use Rattle.arcstr_block.specs.contracts.seen.Seen as C
 
 pub shares : statement
 shares = of_Lends C.struct (C.the_codes (Marker.the_row unit).coded) C.the_heap C.the_lent

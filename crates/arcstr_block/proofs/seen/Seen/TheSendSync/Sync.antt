@@ -1,8 +1,6 @@
-use denote.Param.Send.{IsSync, sendable}
-use denote.Struct.Struct.{Struct}
-use denote.Struct.Owning.{shape}
+use Rattle.arcstr_block.proofs.Names.{IsSync, sendable, shape, Struct}
 use Rattle.arcstr_block.specs.contracts.seen.Seen.{the_row, the_type}
-use Rattle.arcstr_block.proofs.ThreadCrossing.{reached_keyless}
+use Rattle.arcstr_block.proofs.Sharing.{reached_keyless}
 
 pub sync : IsSync the_row
 sync = let fields : IsSync (Struct (shape the_type)) = search sendable depth 20 in

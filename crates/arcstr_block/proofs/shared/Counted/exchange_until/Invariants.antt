@@ -1,4 +1,4 @@
-use Rattle.arcstr_block.specs.Word.{IsUnmarked, IsCountWord}
+use Rattle.arcstr_block.proofs.Names.{IsUnmarked, IsCountWord}
 use Rattle.arcstr_block.proofs.shared.Counted.exchange_until.Given as goal
 
 -- the word that is tried next was found unmarked

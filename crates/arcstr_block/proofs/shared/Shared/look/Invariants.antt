@@ -1,4 +1,4 @@
-use Rattle.std.proofs.Common.{false}
+use Rattle.arcstr_block.proofs.Names.{false}
 use Rattle.arcstr_block.proofs.shared.Shared.look.Given as goal
 
 -- the load is a look

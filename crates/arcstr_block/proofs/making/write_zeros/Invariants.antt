@@ -1,7 +1,5 @@
-use Rattle.std.proofs.Common.{◌≡◌, replicate}
-use Rattle.core.specs.Mem.Slots.{SamePlaces}
-use Rattle.core.specs.Mem.Slots.Ownership.{Filled}
-use Rattle.arcstr_block.proofs.making.zero.Given as goal
+use Rattle.arcstr_block.proofs.Names.{◌≡◌, replicate, SamePlaces, Filled}
+use Rattle.arcstr_block.proofs.making.write_zeros.Given as goal
 
 -- each slot below this one is written, and the items of the slots are zeros
 abbrev pub invariant-loop-place : goal.invariant-loop-place

@@ -1,31 +1,27 @@
--- What a `&` to a pointer holds: a share of its token, the invariant and what is shared. Assumes `Logic`.
-use Rattle.std.proofs.Common.{ℕ, List, [], ◌∷◌}
-use seplogic.Ra.Ura.{Ura}
-use base.FractionLaws.{Counts}
-use base.Logic.{SProp, ent, sep, wand, upd_i, id⊢, snd∗}
-use base.Fml.{Lft, Share, Fml, ftrue, fsep, fseps, fwand, fupd, fdead, fbor, flft, finv, fshr_bor}
-use base.Before.{before}
-use types.Logic.{Logic, sem}
-use types.Kit.{‵, raw, ◌⊛◌, later, ◌$◌, ◌∵◌, !, qed, by, move, keep, drop, use1, use2, use3, split, split3, fsplit, fsplit3, fjoin, fjoin3, fpick, assume}
-use types.Kit.{suffices, await, updating, now, done}
-use types.Tokens.{bor_open, obor_close, obor_alter, bor_fracture}
-use denote.Sharing.{ShrLaws, one, beside, always, held, said}
-use denote.SharingLaws.{beside_shr_laws, one_shr_laws, always_shr_laws, held_shr_laws, nothing_shr_laws, contraction}
-use denote.Struct.Lending.{Lends, Lends-nothing}
-use denote.Steps.{nothing as no_item}
+-- What a `&` to a pointer holds: a share of its token, the invariant and what is shared. A pointer can cross threads if its content and its
+-- allocator can. Assumes `Logic`.
+use Rattle.arcstr_block.proofs.Names.{◌≡◌, ℕ, Bool, true, [], ◌∷◌, false, List, length, suc, dite, Ura, bare, before, Lft, Share, Fml, fsep, flft, finv, GName}
+use Rattle.arcstr_block.proofs.Names.{fdead, fshr_bor, ftrue, fwand, fseps, fupd, fbor, full_share, Counts, latest, at_least, emp, all_i, upd_i, id⊢, ent, sep}
+use Rattle.arcstr_block.proofs.Names.{all_e, snd∗, three_quarters, Array, u8, usize, IsSend, IsSync, Common, AllSend, Frees, owning_send, struct_send}
+use Rattle.arcstr_block.proofs.Names.{struct_sync, sendable, RattleType, block_of, Ptr, ShrLaws, said, beside, always, held, beside_shr_laws, one_shr_laws}
+use Rattle.arcstr_block.proofs.Names.{always_shr_laws, held_shr_laws, nothing_shr_laws, contraction, no_item, Lends, Lends-nothing, shape, fields, to, exits_of}
+use Rattle.arcstr_block.proofs.Names.{entry_keyless, entries_keyless, ‵, ◌⊛◌, ◌$◌, ◌∵◌, !, qed, move, use1, split, split3, fsplit, fjoin, fpick, fpack}
+use Rattle.arcstr_block.proofs.Names.{updating, now, done, keep, fsplit3, assume, drop, suffices, use3, Logic, sem, obor_close, bor_fracture, bor_open}
+use Rattle.arcstr_block.proofs.Names.{obor_alter, Ghosts, halved, HandleState, Free, Dropping, Owing, Step, BlockName, Book, reached, seat, steps, state_code}
+use Rattle.arcstr_block.proofs.Names.{seat_share, Id, unmarked, if_alive, Inv, knows, free, held_with, Phase, marked, rest, right_to, shown, free_shown, known}
+use Rattle.arcstr_block.proofs.Names.{permanent, with_share, seen, stated, block_owns, block_shares, word_at, block_type, length_at, uncounted, counted, Right}
+use Rattle.arcstr_block.proofs.Names.{dropping, owed, fixed, operators}
+use denote.Sharing.{one}
 use Rattle.core.proofs.cell.Borrows.{by_one}
-use base.Share.{three_quarters}
-use Rattle.std.proofs.Common.{◌≡◌}
-use mathlib.Core.Logic.{dite}
-use base.Logic.{emp, all_i, all_e}
-use types.Kit.{fpack}
-use Rattle.arcstr_count.specs.declared.steps.Step.{Step}
-use Rattle.arcstr_count.specs.declared.steps.HandleState.TheVariants.{Free}
-use Rattle.arcstr_block.proofs.RightTests.{uncounted_or_not}
-use Rattle.arcstr_block.specs.Rights.{counted, uncounted, Right, nothing, fixed, dropping, owed}
-use Rattle.arcstr_block.specs.Book.{BlockName, reached, seat, seat_share}
-use Rattle.arcstr_block.specs.Ledger.{Id, Inv, knows, known, permanent, with_share, free, held_with, seen, free_shown, shown}
+use Rattle.arcstr_block.proofs.Words.{is_right}
+use Rattle.arcstr_block.specs.Rights.{nothing}
 use Rattle.arcstr_block.proofs.Book.{reached_twice}
+use base.Shift.{Keyless}
+use denote.Builtin.{RawPtr}
+use Rattle.std_alloc.proofs.SendSync.{quiet, lies, seen as lent}
+use Rattle.core.specs.contracts.marker.PhantomData as Marker
+use Rattle.arcstr_block.specs.contracts.block.Sole as S
+use Rattle.arcstr_block.specs.contracts.pointer.Pointer as C
 
 permanent_twice : {M : Type 1} {𝓤 : Ura M} (𝓛 : Logic 𝓤) (P : Fml) (L b o : ℕ) (t : Id)
     → ent 𝓤 (sem 𝓛 (permanent P L b o t)) (sep 𝓤 (sem 𝓛 (permanent P L b o t)) (sem 𝓛 (permanent P L b o t)))
@@ -40,7 +36,7 @@ permanent_laws P L b o t = record { contraction = λ M 𝓤 𝓛 κ. permanent_t
 
 pub knows_twice : {M : Type 1} {𝓤 : Ura M} (𝓛 : Logic 𝓤) (t : Id) (right : Right)
     → ent 𝓤 (sem 𝓛 (knows t right)) (sep 𝓤 (sem 𝓛 (knows t right)) (sem 𝓛 (knows t right)))
-knows_twice {𝓤 = 𝓤} 𝓛 t right = let D = 𝓛.A.dead (t.counting ∷ []) in let K = λ (_ : right ≡ uncounted). D in dite (uncounted_or_not right)
+knows_twice {𝓤 = 𝓤} 𝓛 t right = let D = 𝓛.A.dead (t.counting ∷ []) in let K = λ (_ : right ≡ uncounted). D in dite (is_right right uncounted)
     (λ e. qed 𝓛 (‵ (knows t right) ∷ []) ∵ use1 𝓛 (‵ (fdead (t.counting ∷ []))) (all_e 𝓤 K e) $
     use1 𝓛 (‵ (fdead (t.counting ∷ [])) ⊛ ‵ (fdead (t.counting ∷ []))) (𝓛.lfts.dead_dup (t.counting ∷ [])) $ split ! $
     use1 𝓛 (‵ (knows t right)) (all_i 𝓤 {P = D} K (λ _. id⊢ 𝓤 D)) $ move ! (1 ∷ []) $ use1 𝓛 (‵ (knows t right)) (all_i 𝓤 {P = D} K (λ _. id⊢ 𝓤 D)) $ done !)
@@ -79,25 +75,10 @@ module _ (P : Fml) (L b o : ℕ) (s : Lft → Fml) (laws : ShrLaws s) (h : ℕ) 
 
   module _ {M : Type 1} {𝓤 : Ura M} (𝓛 : Logic 𝓤) (t : Id) where
     open 𝓛 use {H, A}
-
-    abbrev Pr : Type 2
-    Pr = SProp 𝓤
-
-    abbrev ◌⊢◌ : Pr → Pr → Type 1
-    X ⊢ Y = ent 𝓤 X Y
-
-    abbrev ◌∗◌ : Pr → Pr → Pr
-    X ∗ Y = sep 𝓤 X Y
-
-    abbrev ◌-∗◌ : Pr → Pr → Pr
-    X -∗ Y = wand 𝓤 X Y
-
-    abbrev ⟦◌⟧ : Fml → Pr
-    ⟦ X ⟧ = sem 𝓛 X
+    open operators 𝓛 use {entails as ◌⊢◌, both as ◌∗◌, meaning as ⟦◌⟧}
 
     infix 26 ◌⊢◌
     infixr 35 ◌∗◌
-    infixr 30 ◌-∗◌
     abbrev I : Fml
     I = Inv P L b o t
 
@@ -171,3 +152,134 @@ module _ (P : Fml) (L b o : ℕ) (s : Lft → Fml) (laws : ShrLaws s) (h : ℕ) 
     Lends-held fixed l = λ κ ts inc sp. by_one 𝓛 κ ts sp (A.bor κ (Holds fixed)) ⟦ Shown fixed κ ⟧ (lends_fixed κ)
     Lends-held dropping l = Lends-nothing 𝓛 (Holds dropping) l
     Lends-held owed l = Lends-nothing 𝓛 (Holds owed) l
+
+-- ---- no part of what a pointer owns names a thread
+
+pub reached_keyless : (γ : GName) (history : List Step) → Keyless (reached γ history)
+unfolding at_least
+reached_keyless γ history = tt
+
+now_keyless : (γ : GName) (history : List Step) → Keyless (latest steps full_share γ history)
+unfolding latest
+now_keyless γ history = tt
+
+seat_keyless : (δ h : ℕ) (q : Share) (state : HandleState) → Keyless (seat_share δ h q state)
+seat_keyless δ h q state = entry_keyless halved δ h _
+
+roster_keyless : (δ k : ℕ) (vs : List HandleState) → Keyless (Rattle.atomic_table.specs.Seated.roster state_code δ k vs)
+roster_keyless δ k [] = λ v. entries_keyless halved δ k _
+roster_keyless δ k (v ∷ vs) = (entry_keyless halved δ k _, roster_keyless δ (suc k) vs)
+
+book_keyless : (L γ δ n : ℕ) → Keyless (Book L γ δ n)
+book_keyless L γ δ n = λ x. ((λ _. tt), (now_keyless γ x.0, roster_keyless δ 0 x.1))
+
+module _ (P : Fml) (L b o : ℕ) (t : Id) (k : Keyless P) where
+  stated_keyless : (n : ℕ) → Keyless (stated P L b o t n)
+  stated_keyless n = (tt, book_keyless L t.name.history t.name.seats n)
+
+  rest_keyless : (s : Phase) → Keyless (rest P L b o t s)
+  rest_keyless (unmarked m) = ((λ e c. tt), (tt, k))
+  rest_keyless (marked m) = ((λ e c. tt), ((λ e. tt), tt))
+
+  alive_keyless : (y : Bool) → Keyless (if_alive P L b o t y)
+  alive_keyless true = λ n. (stated_keyless n, λ s. ((λ _. tt), rest_keyless s))
+  alive_keyless false = tt
+
+  module _ (s : Lft → Fml) (common : Common s) (h : ℕ) where
+    right_keyless : (right : Right) → Keyless (right_to P L b o t s h right)
+    right_keyless nothing = common _
+    right_keyless counted = λ e. ((λ _. tt), (tt, ((λ _. tt), (common _, seat_keyless t.name.seats h three_quarters Free))))
+    right_keyless uncounted = λ e. ((λ _. tt), (tt, ((λ _. tt), (common _, seat_keyless t.name.seats h three_quarters Free))))
+    right_keyless fixed = (((λ q. tt), tt), common _)
+    right_keyless dropping = ((λ e c. tt), (common _, seat_keyless t.name.seats h three_quarters Dropping))
+    right_keyless owed = (stated_keyless 0, (k, seat_keyless t.name.seats h three_quarters Owing))
+
+    shown_common : (right : Right) → Common (shown P L b o t s h right)
+    shown_common nothing κ = tt
+    shown_common counted κ = ((λ q. tt), ((λ q. seat_keyless t.name.seats h q Free), ((λ _. tt), (alive_keyless, common _))))
+    shown_common uncounted κ = ((λ q. tt), ((λ q. seat_keyless t.name.seats h q Free), ((λ _. tt), (alive_keyless, common _))))
+    shown_common fixed κ = (((λ q. tt), tt), (alive_keyless, common _))
+    shown_common dropping κ = tt
+    shown_common owed κ = tt
+
+known_keyless : (t : Id) (block : BlockName) (history : List Step) → Keyless (known t block history)
+known_keyless t block history = ((λ _. tt), reached_keyless t.name.history history)
+
+byte_send : IsSend u8
+byte_send = search sendable
+
+bytes_send : (n : ℕ) → IsSend (Array u8 n)
+bytes_send n = search sendable
+
+number_send : IsSend usize
+number_send = search sendable
+
+number_sync : IsSync usize
+number_sync = search sendable
+
+bytes_sync : (n : ℕ) → IsSync (Array u8 n)
+bytes_sync n = search sendable
+
+abbrev common : (p : Ptr) (xs : List ℕ) → Common (block_shares p xs)
+common p xs κ = (lent usize number_sync (length_at p (length xs)) (length xs) κ, lent (Array u8 (length xs)) (bytes_sync (length xs)) p xs κ)
+
+ps : IsSend RawPtr
+ps = search sendable
+
+py : IsSync RawPtr
+py = search sendable
+
+module _ (B : RattleType) (g : Ghosts B.Denot) (f : Frees g g.dealloc_token) where
+  owns_keyless : (a : B.Denot) (p : Ptr) (xs : List ℕ) → Keyless (block_owns (g.dealloc_token a) p xs)
+  owns_keyless a p xs = let n : ℕ = length xs in (
+    lies usize number_send (length_at p n) n,
+    (
+      lies (Array u8 n) (bytes_send n) p xs,
+      (
+        ((tt, (tt, (tt, tt))), tt),
+        f.frees a (bare (block_type n)) p,
+      ),
+    ),
+  )
+
+  module _ (sb : IsSend B) (yb : IsSync B) where
+    ms : IsSend (Marker.the_field B).row
+    ms = search sendable
+
+    my : IsSync (Marker.the_field B).row
+    my = search sendable
+
+    pub pointer_send : IsSend (C.the_row B g)
+    pointer_send = let O = C.the_type B g in let all : AllSend (fields O) = (ps, (ms, tt)) in owning_send O all
+        (λ d. (
+          (λ _. tt),
+          λ t. let P = block_owns (g.dealloc_token d.home) d.at d.text in (
+            known_keyless t d.block d.history,
+            (
+              alive_keyless P d.limit (block_of d.at) (word_at d.at (length d.text)) t (owns_keyless d.home d.at d.text),
+              right_keyless P d.limit (block_of d.at) (word_at d.at (length d.text)) t (owns_keyless d.home d.at d.text) (block_shares d.at d.text)
+                  (common d.at d.text) d.seat d.right,
+            ),
+          ),
+        ))
+        (λ k. quiet (to O) (exits_of k (fields O)) ((struct_send (shape O) all).leaving k))
+
+    pub pointer_sync : IsSync (C.the_row B g)
+    pointer_sync = record {
+      shared = λ d b o κ. let P = block_owns (g.dealloc_token d.home) d.at d.text in (
+        (struct_sync (shape (C.the_type B g)) (py, (my, tt))).shared (to (C.the_type B g) d) b o κ,
+        (
+          (λ _. tt),
+          λ t. (
+            known_keyless t d.block d.history,
+            shown_common P d.limit (block_of d.at) (word_at d.at (length d.text)) t (owns_keyless d.home d.at d.text)
+                (block_shares d.at d.text) (common d.at d.text) d.seat d.right κ,
+          ),
+        ),
+      );
+    }
+
+    pub sole_send : IsSend (S.the_row B g)
+    sole_send = let O = S.the_type B g in let all : AllSend (fields O) = (ps, (ms, tt)) in owning_send O all
+        (λ d. ((λ _. tt), (tt, owns_keyless d.home d.at d.text)))
+        (λ k. quiet (to O) (exits_of k (fields O)) ((struct_send (shape O) all).leaving k))

@@ -1,4 +1,4 @@
-use Rattle.arcstr_block.proofs.shared.Shared.placed.Given as goal
+use Rattle.arcstr_block.proofs.shared.Shared.first_handle.Given as goal
 
 -- the limit of the block is that of the handle
 abbrev pub ghost-make : goal.ghost-make

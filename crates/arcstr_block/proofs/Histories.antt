@@ -1,21 +1,16 @@
--- A history of one block that ends in a mark, or in a look that found the block marked, has marked its block.
-use Rattle.std.proofs.Common.{◌≡◌, ℕ, ◌<◌, Bool, true, false, ◌||◌, ◌==◌, if◌then◌else◌, Option, None, Some, List, [], ◌∷◌, ◌++◌, refl, sym, ap, ◌∙◌, subst}
-use Rattle.std.proofs.Common.{arith}
-use Rattle.arcstr_count.specs.declared.steps.Step.{Step}
-use Rattle.arcstr_count.specs.declared.steps.Step.TheVariants.{Look, Leak}
-use Rattle.arcstr_count.specs.declared.steps.HandleState.TheVariants.{Free}
-use Rattle.arcstr_count.specs.declared.steps.Reply.TheVariants.{Count, Static, Marked}
+-- The histories of one block: those that have marked it, and the order of two prefixes, of which the longer extends the other. Assumes `Logic`.
+use Rattle.arcstr_block.proofs.Names.{◌≡◌, ℕ, Bool, true, [], ◌∷◌, refl, arith, false, List, sym, subst, ap, length, ◌<◌, ◌++◌, Some, if◌then◌else◌, ◌∙◌, ◌||◌}
+use Rattle.arcstr_block.proofs.Names.{◌==◌, Option, None, ◌≤◌, IsPrefix, cons≢nil, head-eq_of_cons-eq, tail-eq_of_cons-eq, ℕ_discrete, Ura, Fml, GName, Least}
+use Rattle.arcstr_block.proofs.Names.{SProp, ent, sep, fact, fact_i, heard, at_least_join, ‵, some, ◌$◌, ◌∵◌, !, qed, pick, use2, raw, by, given, learn}
+use Rattle.arcstr_block.proofs.Names.{rewrite, Logic, sem, EndsIn, look_reply, IsOneBlock, FlagAndCount, looked_of, Free, Marked, Count, Static, Step, Look}
+use Rattle.arcstr_block.proofs.Names.{Leak, reached, steps, IsMarkedIn, word_of, IsMarked}
 use Rattle.arcstr_count.specs.declared.faults.StepFault.{StepFault}
-use Rattle.arcstr_count.specs.Word.{FlagAndCount, looked_of}
 use Rattle.arcstr_count.specs.History.{makes, births, block_of}
 use Rattle.arcstr_count.specs.Marks.{is_marked}
 use Rattle.arcstr_count.specs.Answer.{is_accepted, reply_by}
 use Rattle.arcstr_count.specs.Past.{past_of}
-use Rattle.arcstr_count.specs.OneBlock.{IsOneBlock, EndsIn, look_reply}
 use Rattle.arcstr_count.proofs.Pasts.{past_of-step, IsPast-past_of}
 use Rattle.arcstr_count.proofs.LawsOfHandles.{block_made, step_finds}
-use Rattle.arcstr_block.specs.Word.{IsMarked, word_of}
-use Rattle.arcstr_block.specs.Handle.{IsMarkedIn}
 use Rattle.arcstr_block.proofs.Words.{marked_word}
 
 -- ---- the last step of a history of one block
@@ -58,3 +53,43 @@ pub marked_by_word : (limit n : ℕ) (history : List Step) (h : ℕ) → EndsIn 
     → IsMarkedIn limit history
 marked_by_word limit n history h ends odd =
     marked_by_look limit history h (subst (EndsIn limit history (Look h)) (ap (λ (w : FlagAndCount). look_reply (looked_of w)) (marked_word n odd)) ends)
+
+-- ---- two prefixes of one history
+
+-- the shorter of two prefixes of one list is a prefix of the other
+shorter : {X : Type 0} (prefix other whole : List X) → IsPrefix prefix whole → IsPrefix other whole → length prefix ≤ length other → IsPrefix prefix other
+shorter [] other whole h k short = (other, refl)
+shorter (x ∷ prefix) [] whole h k short = absurd (omega arith)
+shorter (x ∷ prefix) (y ∷ other) [] h k short = absurd (cons≢nil h.1)
+shorter (x ∷ prefix) (y ∷ other) (z ∷ whole) h k short =
+    let rest = shorter prefix other whole (h.0, tail-eq_of_cons-eq h.1) (k.0, tail-eq_of_cons-eq k.1) (omega arith) in
+    (rest.0, ap (λ first. first ∷ (prefix ++ rest.0)) (head-eq_of_cons-eq h.1 ∙ sym (head-eq_of_cons-eq k.1)) ∙ ap (λ more. y ∷ more) rest.1)
+
+-- the shorter of two histories is a prefix of the other
+abbrev pub InLine : List Step → List Step → Type 0
+InLine r s = (length r ≤ length s → IsPrefix r s) × (length s ≤ length r → IsPrefix s r)
+
+module _ {M : Type 1} {𝓤 : Ura M} (𝓛 : Logic 𝓤) where
+  abbrev ⟦◌⟧ : Fml → SProp 𝓤
+  ⟦ X ⟧ = sem 𝓛 X
+
+  in_line : (γ : GName) (r s : List Step) → ent 𝓤 (sep 𝓤 ⟦ reached γ r ⟧ ⟦ reached γ s ⟧) (fact 𝓤 (InLine r s))
+  in_line γ r s = qed 𝓛 (‵ (reached γ r) ∷ ‵ (reached γ s) ∷ []) ∵ use2 𝓛 (some (λ (c : List Step). given (Least steps.le r s c) (‵ (reached γ c))))
+      (at_least_join steps 𝓛 γ r s) $
+      pick ! (λ c. learn ! (λ least. by ! (fact_i 𝓤 (InLine r s) ⟦ reached γ c ⟧ (
+        (λ short. shorter r s c least.0 least.1 short),
+        (λ short.
+            shorter s r c least.1 least.0 short),
+      ))))
+
+  -- what two names of histories say: if they are equal, the histories that were reached are in line
+  abbrev pub Agrees : GName → GName → List Step → List Step → Type 0
+  Agrees γ δ r s = γ ≡ δ → InLine r s
+
+  decided : (γ δ : GName) (r s : List Step) → Dec (γ ≡ δ) → ent 𝓤 (sep 𝓤 ⟦ reached γ r ⟧ ⟦ reached δ s ⟧) (fact 𝓤 (Agrees γ δ r s))
+  decided γ δ r s (no other) = fact_i 𝓤 (Agrees γ δ r s) _ (λ same. absurd (other same))
+  decided γ δ r s (yes same) = qed 𝓛 (‵ (reached γ r) ∷ ‵ (reached δ s) ∷ []) ∵ rewrite ! 1 (λ (ε : GName). ‵ (reached ε s)) (sym same) refl $
+      use2 𝓛 (raw (fact 𝓤 (InLine r s))) (in_line γ r s) $ heard ! (InLine r s) (λ both. by ! (fact_i 𝓤 (Agrees γ δ r s) _ (λ _. both)))
+
+  pub agree : (γ δ : GName) (r s : List Step) → ent 𝓤 (sep 𝓤 ⟦ reached γ r ⟧ ⟦ reached δ s ⟧) (fact 𝓤 (Agrees γ δ r s))
+  agree γ δ r s = decided γ δ r s (ℕ_discrete γ δ)

@@ -1,9 +1,5 @@
-use Rattle.std.proofs.Common.{◌≡◌, ◌*◌, length}
-use Rattle.std.specs.Prelude.{take}
-use Rattle.std.specs.List.{repeat}
-use Rattle.core.specs.Mem.Slots.{SamePlaces}
-use Rattle.core.specs.Mem.Slots.Ownership.{Filled}
-use Rattle.arcstr_block.proofs.making.copies.Given as goal
+use Rattle.arcstr_block.proofs.Names.{◌≡◌, length, ◌*◌, repeat, take, SamePlaces, Filled}
+use Rattle.arcstr_block.proofs.making.write_copies.Given as goal
 
 -- the copies so far fill the first slots
 abbrev pub invariant-loop-copy : goal.invariant-loop-copy

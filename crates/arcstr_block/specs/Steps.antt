@@ -1,14 +1,16 @@
--- Two pointers to one block, and what a step of one says about the other.
+-- What the steps of a handle say: of another pointer to its block, and of how the handle ended.
 use Rattle.std.specs.Prelude.{◌≡◌, ℕ, Bool, true, false, List}
 use Rattle.arcstr_count.specs.declared.steps.Step.{Step}
 use Rattle.arcstr_count.specs.declared.steps.Step.TheVariants.{Look, Begin, Sub, Leak}
 use Rattle.arcstr_count.specs.declared.steps.Reply.{Reply}
-use Rattle.arcstr_count.specs.declared.steps.Reply.TheVariants.{Ended, Looked as LookedReply, Owes, Left, Marked}
+use Rattle.arcstr_count.specs.declared.steps.Reply.TheVariants.{Ended as EndedReply, Looked as LookedReply, Owes as OwesReply, Left as LeftReply, Marked}
 use Rattle.arcstr_count.specs.Word.{looked_of}
 use Rattle.arcstr_count.specs.OneBlock.{EndsIn, look_reply}
 use Rattle.arcstr_block.specs.Word.{word_of, IsMarked, IsUnmarked, IsLast}
 use Rattle.arcstr_block.specs.Handle.{Handle, IsMarkedIn}
 use Rattle.arcstr_block.specs.declared.pointer.Pointer.{Pointer}
+use Rattle.arcstr_block.specs.declared.owed.Down.{Down}
+use Rattle.arcstr_block.specs.declared.owed.Down.TheVariants.{Ended, Left, Owes}
 
 -- the history ends in a look of handle h that found the count word, and has marked its block if the count word is marked; the load of a clone,
 -- which gives birth to a handle, says nothing
@@ -43,8 +45,20 @@ module _ {A : Type 0} where
 
   -- the look of p's drop
   abbrev pub BegunAs : Pointer A → ℕ → Pointer A → Type 0
-  BegunAs p word q = (q.seat ≡ p.seat) × (IsMarked word → SawStep p q (Begin p.seat) Ended) × (IsUnmarked word → SawStep p q (Begin p.seat) LookedReply)
+  BegunAs p word q = (q.seat ≡ p.seat) × (IsMarked word → SawStep p q (Begin p.seat) EndedReply) × (IsUnmarked word → SawStep p q (Begin p.seat) LookedReply)
 
   -- the subtraction of p's drop
   abbrev pub SubtractedAs : Pointer A → ℕ → Pointer A → Type 0
-  SubtractedAs p word q = (q.seat ≡ p.seat) × (IsLast word → SawStep p q (Sub p.seat) Owes) × ((¬ IsLast word) → SawStep p q (Sub p.seat) Left)
+  SubtractedAs p word q = (q.seat ≡ p.seat) × (IsLast word → SawStep p q (Sub p.seat) OwesReply) × ((¬ IsLast word) → SawStep p q (Sub p.seat) LeftReply)
+
+-- the history ends in the look of the drop of handle h, or in its subtraction, and the core's answer has the same name
+abbrev pub EndsAs : {A : Type 0} → ℕ → List Step → ℕ → Down A → Type 0
+EndsAs limit history h Ended = EndsIn limit history (Begin h) EndedReply
+EndsAs limit history h Left = EndsIn limit history (Sub h) LeftReply
+EndsAs limit history h (Owes debt) = EndsIn limit history (Sub h) OwesReply
+
+-- if something is owed, it is the block of this handle, with the handle's seat
+abbrev pub OwesAs : {A : Type 0} → Handle → Down A → Type 0
+OwesAs handle Ended = Unit {0}
+OwesAs handle Left = Unit {0}
+OwesAs handle (Owes debt) = (debt.block ≡ handle.block) × (debt.seat ≡ handle.seat)

@@ -1,12 +1,10 @@
 -- One more copy comes after those that were made; an empty text is not copied.
-use Rattle.std.proofs.Common.{◌≡◌, ◌+◌, ◌*◌, ◌≤◌, ℕ, suc, length, refl, ap, sym, subst, ◌∙◌, arith, eqb-true}
-use Rattle.std.specs.Prelude.{take, drop, IsUtf8}
-use Rattle.std.specs.List.{repeat}
-use Rattle.std.proofs.Math.Seq.{take-length}
-use native.Mathlib.Nat.{suc-mul, mul-zero, mul-le-mul_right}
+use Rattle.arcstr_block.proofs.Names.{◌≡◌, ℕ, refl, arith, sym, subst, ap, length, suc, ◌+◌, ◌∙◌, ◌≤◌, ◌*◌, eqb-true, take-length, repeat, take, IsUtf8}
+use Rattle.arcstr_block.proofs.Names.{suc-mul, mul-zero, mul-le-mul_right}
+use Rattle.std.specs.Prelude.{drop}
 use Rattle.core.proofs.slots.Fills.{Filled-around, Filled-none}
-use Rattle.arcstr_block.proofs.Copies.{empty_copies, next_copy, copies_are_text}
-use Rattle.arcstr_block.proofs.making.copies.Goals as goal
+use Rattle.arcstr_block.proofs.Texts.{empty_copies, next_copy, copies_are_text}
+use Rattle.arcstr_block.proofs.making.write_copies.Goals as goal
 
 pub returns-then-is_empty-clause-items : goal.returns-then-is_empty-clause-items
 returns-then-is_empty-clause-items c =

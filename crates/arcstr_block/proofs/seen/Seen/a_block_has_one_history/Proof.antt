@@ -1,22 +1,19 @@
--- `agree` does nothing: what two `&` to a `Seen` hold proves its law.
-use Rattle.arcstr_block.proofs.WholeProofs.{◌≡◌, ℕ, List, [], ◌∷◌, length, refl, ap, named, Val, vunit, vptr, SProp, emp, GName, fhide, ‵, raw, ◌⊛◌, ◌$◌, ◌∵◌}
-use Rattle.arcstr_block.proofs.WholeProofs.{ !, qed, by, move, keep, drop, split, join, fsplit, fsplit3, fjoin, use0, use1, use2, feq_i, unit_lit, of_opd}
-use Rattle.arcstr_block.proofs.WholeProofs.{returns, enter, alloc_all, pass_all, free_all, look_at, sets, tables, fact, fact_i, yes, RattleType, owns}
-use Rattle.arcstr_block.proofs.WholeProofs.{types_at, plain, nothing, heard, unhide, hidden_shr, RefOf, unit, shr_vals, shr_Tells, lent_out, alive, Stays}
-use Rattle.arcstr_block.proofs.WholeProofs.{stay_dropped, walk_of, Goes-dropped, proved, leaves, Token}
-use Rattle.std.proofs.Common.{◌≤◌}
+-- `a_block_has_one_history` does nothing: what two `&` to a `Seen` hold proves its law.
+use Rattle.arcstr_block.proofs.Names.{◌≡◌, ℕ, [], ◌∷◌, refl, List, ap, length, ◌≤◌, IsPrefix, named, Val, vptr, vunit, GName, fhide, emp, SProp, fact, fact_i}
+use Rattle.arcstr_block.proofs.Names.{tables, RefOf, unit, yes, hidden_shr, unhide, RattleType, owns, shr_vals, shr_Tells, types_at, plain, nothing, heard}
+use Rattle.arcstr_block.proofs.Names.{lent_out, alive, Stays, stay_dropped, walk_of, Goes-dropped, alloc_all, pass_all, free_all, look_at, sets, ‵, ◌⊛◌, ◌$◌}
+use Rattle.arcstr_block.proofs.Names.{◌∵◌, !, qed, move, use0, use1, use2, split, join, fsplit, fjoin, raw, by, keep, fsplit3, drop, feq_i, unit_lit, of_opd}
+use Rattle.arcstr_block.proofs.Names.{returns, enter, leaves, proved, Token, BlockName, reached}
+use Rattle.arcstr_block.proofs.Histories.{Agrees, agree}
+use Rattle.arcstr_block.specs.contracts.seen.Seen.a_block_has_one_history.{ended, clauses}
+use Rattle.arcstr_block.specs.contracts.seen.Seen.a_block_has_one_history.Key.{name as #self}
+use Rattle.arcstr_block.proofs.seen.Seen.a_block_has_one_history.Statement.{statement}
 use Rattle.core.specs.contracts.marker.PhantomData as Marker
-use Rattle.arcstr_block.specs.Book.{BlockName, reached}
-use mathlib.Core.List.{IsPrefix}
 use Rattle.arcstr_block.specs.contracts.seen.Seen as C
-use Rattle.arcstr_block.proofs.HistoryOrder.{Agrees, agree}
-use Rattle.arcstr_block.specs.contracts.seen.Seen.agree.{ended, clauses}
-use Rattle.arcstr_block.specs.contracts.seen.Seen.agree.Key.{name as #self}
-use Rattle.arcstr_block.proofs.seen.Seen.agree.Statement.{statement}
-use Rattle.arcstr_block.proofs.seen.Seen.agree.Code as code
+use Rattle.arcstr_block.proofs.seen.Seen.a_block_has_one_history.Code as code
 
-pub agree_spec : {M : Type 1} → statement M
-agree_spec 𝓤 𝓛 𝓜 𝓡 wired =
+pub a_block_has_one_history_spec : {M : Type 1} → statement M
+a_block_has_one_history_spec 𝓤 𝓛 𝓜 𝓡 wired =
     let H = 𝓛.H in let 𝓣 = tables 𝓤 H 𝓜 𝓡 𝓡.env in let En = ended in let c = clauses 𝓛 𝓜.mem 𝓡.returns in let fn = code.function in
     let S : RattleType = C.the_row in
     let self = RefOf (0 ∷ []) tt (plain (λ _. S)) (λ _. tt) in let other = RefOf (1 ∷ []) tt (plain (λ _. S)) (λ _. tt) in

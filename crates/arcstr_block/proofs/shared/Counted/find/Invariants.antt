@@ -1,6 +1,0 @@
-use Rattle.std.proofs.Common.{true}
-use Rattle.arcstr_block.proofs.shared.Counted.find.Given as goal
-
--- the load is a clone's
-abbrev pub ghost-load : goal.ghost-load
-ghost-load g a = true
