@@ -1,6 +1,6 @@
--- The laws of the counts in each past: what the word stands for, and when a block is freed.
-use Rattle.std.proofs.Common.{◌≡◌, ◌↔◌, ℕ, zero, suc, ◌+◌, ◌<◌, ◌≤◌, Bool, true, false, not, ◌&&◌, ◌==◌, if◌then◌else◌, IsFalse, Some, List, [], ◌∷◌}
-use Rattle.std.proofs.Common.{length, refl, sym, ◌∙◌, ap, arith, true≢false}
+-- The laws of the counts: in each past, and over the prefixes of a history in its natural order.
+use Rattle.std.proofs.Common.{◌≡◌, ◌↔◌, ℕ, zero, suc, ◌+◌, ◌<◌, ◌≤◌, Bool, true, false, not, ◌&&◌, ◌==◌, if◌then◌else◌, IsFalse, Some, List, [], ◌∷◌, length}
+use Rattle.std.proofs.Common.{refl, sym, ◌∙◌, ap, arith, true≢false}
 use Rattle.std.proofs.lemmas.List.{nil_from_length}
 use Rattle.std.proofs.lemmas.Bool.{or_left, or_right}
 use Rattle.arcstr_count.specs.declared.steps.Step.{Step}
@@ -11,13 +11,13 @@ use Rattle.arcstr_count.specs.Word.{FlagAndCount, looked_of, is_last}
 use Rattle.arcstr_count.specs.History.{makes, births, block_of, lives}
 use Rattle.arcstr_count.specs.Marks.{is_marked, state_of, living, is_only}
 use Rattle.arcstr_count.specs.Answer.{is_accepted}
-use Rattle.arcstr_count.specs.Past.{with_step, past_from, IsPast, times_given}
+use Rattle.arcstr_count.specs.Past.{with_step, past_from, IsPast, times_given, past_of}
 use Rattle.arcstr_count.specs.Left.{word_left, is_dropping, dropping, owing, Stands}
 use Rattle.arcstr_count.specs.OneBlock.{look_reply}
-use Rattle.arcstr_count.proofs.Pasts.{IsPast-past_from}
+use Rattle.arcstr_count.proofs.Pasts.{IsPast-past_from, IsPast-past_of, past_of-append}
 use Rattle.arcstr_count.proofs.LawsOfHandles.{IsIn, step_finds, block_made}
-use Rattle.arcstr_count.proofs.HandleCounts.{held, some_held, is_only-living}
-use Rattle.arcstr_count.proofs.LawsOfBlocks.{Balanced, balance}
+use Rattle.arcstr_count.proofs.LawsOfBlocks.{held, some_held, is_only-living, Balanced, balance}
+use Rattle.arcstr_count.specs.Laws.{HoldsInEveryInterleaving}
 
 -- ---- the word
 
@@ -208,3 +208,28 @@ pub given_exactly : (limit : ℕ) (p : List Step) (b : ℕ) → IsPast limit p �
     → (times_given p b ≡ 1) ↔ IsFalse (is_marked limit p b)
 given_exactly limit p b past made none _ settled =
     ended_by limit p b (is_marked limit p b) (balance limit p b past made) (ap length none) (ap length settled)
+
+-- ==== the laws of every interleaving, over the prefixes of a history in its natural order
+
+pub holds_in_every_interleaving : (limit : ℕ) (steps : List Step) → HoldsInEveryInterleaving limit steps
+holds_in_every_interleaving limit steps = record {
+  words_stand = λ prefix later b _ made. word_stands limit (past_of limit prefix) b (IsPast-past_of limit prefix) made;
+  looks_exact = λ prefix later b _ made unmarked. (
+    unmarked_bounded limit (past_of limit prefix) b (IsPast-past_of limit prefix) made unmarked,
+    look_exact limit (past_of limit prefix) b (IsPast-past_of limit prefix) made unmarked,
+  );
+  marks_stay = λ prefix more later b _ made marked.
+      rw (past_of-append limit prefix more) (mark_stays_from limit (past_of limit prefix) more b marked);
+  one_owes = λ prefix later b _ made. (
+    one_owes limit (past_of limit prefix) b (IsPast-past_of limit prefix) made,
+    owes_alone limit (past_of limit prefix) b (IsPast-past_of limit prefix) made,
+  );
+  given_once = λ prefix more later b _ made. (
+    given_once limit (past_of limit prefix) b (IsPast-past_of limit prefix) made,
+    λ given. (
+      given_alone limit (past_of limit prefix) b (IsPast-past_of limit prefix) made given,
+      rw (past_of-append limit prefix more) (given_permanently limit (past_of limit prefix) more b (IsPast-past_of limit prefix) made given),
+    ),
+  );
+  given_exactly = λ prefix later b _ made. given_exactly limit (past_of limit prefix) b (IsPast-past_of limit prefix) made;
+}

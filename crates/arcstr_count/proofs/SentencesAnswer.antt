@@ -11,8 +11,7 @@ use Rattle.arcstr_count.specs.Marks.{is_marked, living, is_only}
 use Rattle.arcstr_count.specs.Answer.{reply_by, refusal_of, accepted_answer}
 use Rattle.arcstr_count.specs.Past.{past_of, answer_after}
 use Rattle.arcstr_count.specs.Sentences.{LivesAlone, ByFact, AcceptedAnswer, AnswerSentence}
-use Rattle.arcstr_count.proofs.SentencesDone.{only_one, is_only_one}
-use Rattle.arcstr_count.proofs.SentencesTable.{accepted_sentence}
+use Rattle.arcstr_count.proofs.SentencesState.{only_one, is_only_one, accepted_sentence}
 
 -- ---- an accepted step
 

@@ -1,6 +1,6 @@
 -- A handle is raw exactly as the sentence about the prefixes of the history says.
-use Rattle.std.proofs.Common.{◌≡◌, ◌≢◌, ◌↔◌, ℕ, Bool, true, false, ◌==◌, if◌then◌else◌, IsFalse, List, [], ◌∷◌, ◌++◌, ◌⊎◌, inl, inr, refl, sym, ◌∙◌}
-use Rattle.std.proofs.Common.{ap, subst, append_assoc}
+use Rattle.std.proofs.Common.{◌≡◌, ◌≢◌, ◌↔◌, ℕ, Bool, true, false, ◌==◌, if◌then◌else◌, IsFalse, List, [], ◌∷◌, ◌++◌, ◌⊎◌, inl, inr, refl, sym, ◌∙◌, ap, subst}
+use Rattle.std.proofs.Common.{append_assoc}
 use Rattle.std.proofs.lemmas.Bool.{eqb-true, eqb-false, eq-eqb, cond-true}
 use Rattle.arcstr_count.specs.declared.steps.Step.{Step}
 use Rattle.arcstr_count.specs.declared.steps.Step.TheVariants.{IntoRaw, FromRaw}
@@ -8,7 +8,7 @@ use Rattle.arcstr_count.specs.History.{is_raw}
 use Rattle.arcstr_count.specs.Answer.{is_accepted}
 use Rattle.arcstr_count.specs.Past.{past_of}
 use Rattle.arcstr_count.specs.Sentences.{accepted_after, LastIsIntoRaw}
-use Rattle.arcstr_count.proofs.SentencesPrefixes.{by_steps, none_in_nil, last_or_before, past_of-accepted, past_of-refused}
+use Rattle.arcstr_count.proofs.Pasts.{by_steps, none_in_nil, last_or_before, past_of-accepted, past_of-refused}
 
 -- ---- one more step of a past
 

@@ -1,11 +1,13 @@
 -- Worked examples on histories, checked by computation.
-use Rattle.std.proofs.Common.{◌≡◌, List, [], ◌∷◌, refl}
+use Rattle.std.proofs.Common.{◌≡◌, List, [], ◌∷◌, refl, ℕ, true, false}
 use Rattle.arcstr_count.specs.declared.steps.Step.{Step}
 use Rattle.arcstr_count.specs.declared.steps.Step.TheVariants.{Make, Look, Clone, Begin, Sub, Back, Leak, IntoRaw, FromRaw}
 use Rattle.arcstr_count.specs.declared.steps.Reply.TheVariants.{Made, Count, Static, Handle, Looked, Ended, Left, Owes, Given, Marked, Raw, Unraw, Refused}
 use Rattle.arcstr_count.specs.declared.faults.StepFault.TheVariants.{NoHandle, InDrop, NotInDrop, NotOwing, IsRaw, NotRaw}
 use Rattle.arcstr_count.specs.Past.{past_of, times_given}
 use Rattle.arcstr_count.proofs.Replies.{replies_to}
+use Rattle.arcstr_count.specs.Word.{FlagAndCount}
+use Rattle.arcstr_count.specs.After.{living_after, dropping_after, owing_after, given_after, word_after}
 
 -- a mark between another drop's look and its subtraction
 crossing_mark : List Step
@@ -206,3 +208,47 @@ first_script-replies = refl
 first_script-given : times_given (past_of 5 first_script) 0 ≡ 0
 unfolding first_script
 first_script-given = refl
+
+-- ==== worked examples on words and on the handles of a block, checked by computation
+
+-- what a history leaves of block 0: its word, and the handles on it that live, are dropping and owe it
+abbrev LeavesBlock : ℕ → List Step → FlagAndCount → (living dropping owing : List ℕ) → (given : ℕ) → Type 0
+LeavesBlock limit history w living dropping owing given =
+    (word_after limit history 0 ≡ w)
+    × (living_after limit history 0 ≡ living)
+    × (dropping_after limit history 0 ≡ dropping)
+    × (owing_after limit history 0 ≡ owing)
+    × (given_after limit history 0 ≡ given)
+
+-- a mark between another drop's look and its subtraction, which subtracts from the marked word
+crossing_mark-before : LeavesBlock 5 (Make ∷ Clone 0 ∷ Begin 0 ∷ Leak 1 ∷ []) (record { flag = true; count = 2 }) (0 ∷ 1 ∷ []) (0 ∷ []) [] 0
+crossing_mark-before = (refl, refl, refl, refl, refl)
+
+crossing_mark-after : LeavesBlock 5 (Make ∷ Clone 0 ∷ Begin 0 ∷ Leak 1 ∷ Sub 0 ∷ []) (record { flag = true; count = 1 }) (1 ∷ []) [] [] 0
+crossing_mark-after = (refl, refl, refl, refl, refl)
+
+-- a drop on a marked block ends at once, and the count of the word is then no longer the number of handles
+crossing_mark-ended : LeavesBlock 5 (Make ∷ Clone 0 ∷ Begin 0 ∷ Leak 1 ∷ Sub 0 ∷ Begin 1 ∷ []) (record { flag = true; count = 1 }) [] [] [] 0
+crossing_mark-ended = (refl, refl, refl, refl, refl)
+
+-- clones past the limit mark, and count no further
+words_past_the_limit : LeavesBlock 1 (Make ∷ Clone 0 ∷ Clone 0 ∷ Clone 0 ∷ []) (record { flag = true; count = 2 }) (0 ∷ 1 ∷ 2 ∷ 3 ∷ []) [] [] 0
+words_past_the_limit = (refl, refl, refl, refl, refl)
+
+-- two drops that cross: the one that subtracts last owes the block, and then frees it
+crossing_drops-both : LeavesBlock 5 (Make ∷ Clone 0 ∷ Begin 0 ∷ Begin 1 ∷ []) (record { flag = false; count = 2 }) (0 ∷ 1 ∷ []) (0 ∷ 1 ∷ []) [] 0
+crossing_drops-both = (refl, refl, refl, refl, refl)
+
+crossing_drops-owed : LeavesBlock 5 (Make ∷ Clone 0 ∷ Begin 0 ∷ Begin 1 ∷ Sub 1 ∷ Sub 0 ∷ []) (record { flag = false; count = 0 }) [] [] (0 ∷ []) 0
+crossing_drops-owed = (refl, refl, refl, refl, refl)
+
+crossing_drops-freed : LeavesBlock 5 (Make ∷ Clone 0 ∷ Begin 0 ∷ Begin 1 ∷ Sub 1 ∷ Sub 0 ∷ Back 0 ∷ []) (record { flag = false; count = 0 }) [] [] [] 1
+crossing_drops-freed = (refl, refl, refl, refl, refl)
+
+-- a raw value lives and counts
+raw_value : LeavesBlock 5 (Make ∷ Clone 0 ∷ IntoRaw 1 ∷ Begin 0 ∷ Sub 0 ∷ []) (record { flag = false; count = 1 }) (1 ∷ []) [] [] 0
+raw_value = (refl, refl, refl, refl, refl)
+
+-- limit 0: the first clone marks, and the block is never freed
+words_at_limit_zero : LeavesBlock 0 (Make ∷ Clone 0 ∷ Begin 0 ∷ Begin 1 ∷ []) (record { flag = true; count = 1 }) [] [] [] 0
+words_at_limit_zero = (refl, refl, refl, refl, refl)

@@ -1,7 +1,6 @@
 use Rattle.std.proofs.Common.{refl}
 use Rattle.arcstr_count.specs.declared.steps.Step.TheVariants.{Begin}
-use Rattle.arcstr_count.proofs.StepTaking.{takes_refused, world_kept}
-use Rattle.arcstr_count.proofs.StepsTaken.{takes_begin}
+use Rattle.arcstr_count.proofs.WorldSteps.{takes_refused, world_kept, takes_begin}
 use Rattle.arcstr_count.proofs.worlds.World.begin.Goals as goal
 
 pub returns-in-Err : goal.returns-in-Err

@@ -1,7 +1,6 @@
 use Rattle.std.proofs.Common.{refl, ◌∙◌, ap, length}
 use Rattle.arcstr_count.specs.declared.steps.Step.TheVariants.{Clone}
-use Rattle.arcstr_count.proofs.StepTaking.{takes_refused, world_kept, clone_accepted}
-use Rattle.arcstr_count.proofs.StepsTaken.{push_with, takes_clone}
+use Rattle.arcstr_count.proofs.WorldSteps.{takes_refused, world_kept, clone_accepted, push_with, takes_clone}
 use Rattle.arcstr_count.proofs.worlds.World.clone.Goals as goal
 
 pub returns-in-Err-clause-takes : goal.returns-in-Err-clause-takes

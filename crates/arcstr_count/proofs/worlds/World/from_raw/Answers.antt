@@ -1,7 +1,6 @@
 use Rattle.std.proofs.Common.{refl}
 use Rattle.arcstr_count.specs.declared.steps.Step.TheVariants.{FromRaw}
-use Rattle.arcstr_count.proofs.StepTaking.{takes_refused, world_kept}
-use Rattle.arcstr_count.proofs.StepsTaken.{takes_from_raw}
+use Rattle.arcstr_count.proofs.WorldSteps.{takes_refused, world_kept, takes_from_raw}
 use Rattle.arcstr_count.proofs.worlds.World.from_raw.Goals as goal
 
 pub returns-in-Err : goal.returns-in-Err

@@ -1,7 +1,6 @@
 use Rattle.std.proofs.Common.{refl}
 use Rattle.arcstr_count.specs.declared.steps.Step.TheVariants.{Sub}
-use Rattle.arcstr_count.proofs.StepTaking.{takes_refused, world_kept}
-use Rattle.arcstr_count.proofs.StepsTaken.{takes_sub, dropping_is_counted}
+use Rattle.arcstr_count.proofs.WorldSteps.{takes_refused, world_kept, takes_sub, dropping_is_counted}
 use Rattle.arcstr_count.proofs.worlds.World.sub.Goals as goal
 
 pub returns-in-Err : goal.returns-in-Err
