@@ -11,7 +11,7 @@ use Rattle.arcstr_count.specs.Marks.{is_marked, living, is_only}
 use Rattle.arcstr_count.specs.Answer.{reply_by, refusal_of, accepted_answer}
 use Rattle.arcstr_count.specs.Past.{past_of, answer_after}
 use Rattle.arcstr_count.specs.Sentences.{LivesAlone, ByFact, AcceptedAnswer, AnswerSentence}
-use Rattle.arcstr_count.proofs.SentencesState.{only_one, is_only_one, accepted_sentence}
+use Rattle.arcstr_count.proofs.SentencesState.{alone_sentence, accepted_sentence}
 
 -- ---- an accepted step
 
@@ -30,19 +30,10 @@ same : (x y : Reply) → (x ≡ y) ↔ (y ≡ x)
 same x y = ((λ e. sym e), (λ e. sym e))
 
 module _ (limit : ℕ) (history : List Step) where
-  alone_sentence : (h : ℕ) → IsTrue (not (is_marked limit (past_of limit history) (block_of (past_of limit history) h))
-      && is_only h (living limit (past_of limit history) (block_of (past_of limit history) h))) ↔ LivesAlone limit history h
-  alone_sentence h =
-      let marked = is_marked limit (past_of limit history) (block_of (past_of limit history) h) in
-      let others = living limit (past_of limit history) (block_of (past_of limit history) h) in (
-        (λ e. let parts = and_parts (not marked) (is_only h others) e in (not-true marked parts.0, only_one h others parts.1)),
-        (λ w. and_from (not marked) (is_only h others) (not_from_false marked w.0) (is_only_one h others w.1)),
-      )
-
   accepted_answer_sentence : (s : Step) (reply : Reply) → (accepted_answer limit (past_of limit history) s ≡ reply) ↔ AcceptedAnswer limit history s reply
   accepted_answer_sentence (Look h) reply = by_test (is_marked limit (past_of limit history) (block_of (past_of limit history) h)) _ ((λ e. e), (λ e. e)) _ _ reply
   accepted_answer_sentence (Begin h) reply = by_test (is_marked limit (past_of limit history) (block_of (past_of limit history) h)) _ ((λ e. e), (λ e. e)) _ _ reply
-  accepted_answer_sentence (Sub h) reply = by_test _ (LivesAlone limit history h) (alone_sentence h) _ _ reply
+  accepted_answer_sentence (Sub h) reply = by_test _ (LivesAlone limit history h) (alone_sentence limit h (past_of limit history)) _ _ reply
   accepted_answer_sentence s reply = same _ reply
 
 -- ---- both

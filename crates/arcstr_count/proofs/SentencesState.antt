@@ -1,5 +1,5 @@
 -- The state of a handle, and what was done to it, as sentences about the prefixes of the history.
-use Rattle.std.proofs.Common.{◌≡◌, ◌↔◌, ℕ, ◌<◌, is_none, IsTrue, Option, None, Some, IfSome, List, refl, ap, Bool, true, false, not, ◌&&◌, if◌then◌else◌, subst}
+use Rattle.std.proofs.Common.{◌∙◌, ◌≡◌, ◌↔◌, ℕ, ◌<◌, is_none, IsTrue, Option, None, Some, IfSome, List, refl, ap, Bool, true, false, not, ◌&&◌, if◌then◌else◌, subst}
 use Rattle.std.proofs.Common.{◌==◌, IsFalse, [], ◌∷◌, ◌⊎◌, inl, inr, sym}
 use Rattle.arcstr_count.specs.declared.steps.Step.{Step}
 use Rattle.arcstr_count.specs.declared.steps.HandleState.{HandleState}
@@ -81,84 +81,95 @@ state_of_test limit p h s = (
 
 -- ---- a test of pasts, and an accepted step
 
--- A test of a past says that the step s was accepted after a prefix of which Q holds, under four conditions: the empty
--- past fails; a past that passes does so by its latest step or passed before it; s makes a past pass where Q holds; and
--- a past that passes still passes after each further accepted step.
-module _ (limit : ℕ) (s : Step) (Q : List Step → Type 0) (test : List Step → Bool)
+-- the two steps are the same `Begin`, `Sub` or `Back`
+abbrev is_same : Step → Step → Bool
+is_same (Begin g) (Begin h) = g == h
+is_same (Sub g) (Sub h) = g == h
+is_same (Back g) (Back h) = g == h
+is_same x s = false
+
+is_same-true : (x s : Step) → is_same x s ≡ true → x ≡ s
+is_same-true (Begin g) (Begin h) e = ap Begin (eqb-true g h e)
+is_same-true (Sub g) (Sub h) e = ap Sub (eqb-true g h e)
+is_same-true (Back g) (Back h) e = ap Back (eqb-true g h e)
+is_same-true x s e = absurd (cc)
+
+-- A test of a past says that the step s was accepted after a prefix of which Q holds, if the empty past fails; if a past with s as its latest step
+-- passes where Q held before it, and any other past where the past before it does; and if s is not accepted again, or Q then holds again.
+module _ (limit : ℕ) (s : Step) (Q : List Step → Type 0) (holds test : List Step → Bool)
+    (itself : is_same s s ≡ true)
+    (decides : (p : List Step) → (holds p ≡ true) ↔ Q p)
     (nil : test [] ≡ false)
-    (latest : (x : Step) (p : List Step) → test (x ∷ p) ≡ true → ((x ≡ s) × Q p) ⊎ (test p ≡ true))
-    (here : (p : List Step) → Q p → test (s ∷ p) ≡ true)
-    (kept : (x : Step) (p : List Step) → is_accepted limit p x ≡ true → test p ≡ true → test (x ∷ p) ≡ true) where
+    (more : (x : Step) (p : List Step) → test (x ∷ p) ≡ (if is_same x s then holds p else test p))
+    (again : (p : List Step) → is_accepted limit p s ≡ true → test p ≡ true → holds p ≡ true) where
+  -- a past that passes does so by its latest step, or passed before it
+  latest : (x : Step) (p : List Step) → test (x ∷ p) ≡ true → ((x ≡ s) × Q p) ⊎ (test p ≡ true)
+  latest x p e = go (is_same x s) refl (sym (more x p) ∙ e)
+    where
+      go : (b : Bool) → is_same x s ≡ b → (if b then holds p else test p) ≡ true → ((x ≡ s) × Q p) ⊎ (test p ≡ true)
+      go true same e = inl (is_same-true x s same, (decides p).0 e)
+      go false other e = inr e
+
+  kept : (x : Step) (p : List Step) → is_accepted limit p x ≡ true → test p ≡ true → test (x ∷ p) ≡ true
+  kept x p accepted e = more x p ∙ go (is_same x s) refl
+    where
+      go : (b : Bool) → is_same x s ≡ b → (if b then holds p else test p) ≡ true
+      go true same = again p (subst (λ y. is_accepted limit p y ≡ true) (is_same-true x s same) accepted) e
+      go false other = e
+
   from_test : (p : List Step) → test p ≡ true → InPast p s Q
   from_test [] e = absurd (cc)
   from_test (x ∷ p) e = elim (latest x p e) [ inl w ↦ inl w | inr w ↦ inr (from_test p w) ]
 
   to_test : (p : List Step) → IsPast limit p → InPast p s Q → test p ≡ true
   to_test [] past w = absurd w
-  to_test (x ∷ p) past (inl w) = subst (λ y. test (y ∷ p) ≡ true) (sym w.0) (here p w.1)
+  to_test (x ∷ p) past (inl w) =
+      ap (λ y. test (y ∷ p)) w.0 ∙ more s p ∙ ap (λ b. if b then holds p else test p) itself ∙ (decides p).1 w.1
   to_test (x ∷ p) past (inr w) = kept x p past.0 (to_test p past.1 w)
 
-  pub test_sentence : (history : List Step) → (test (past_of limit history) ≡ true) ↔ AcceptedWhere limit history s (λ prefix. Q (past_of limit prefix))
+  test_sentence : (history : List Step) → (test (past_of limit history) ≡ true) ↔ AcceptedWhere limit history s (λ prefix. Q (past_of limit prefix))
   test_sentence history = (
     (λ e. in_history limit s Q history (from_test (past_of limit history) e)),
     (λ w. to_test (past_of limit history) (IsPast-past_of limit history) (in_past limit s Q history w)),
   )
 
-latest_if : (g h : ℕ) (before : Bool) → (if g == h then true else before) ≡ true → (g ≡ h) ⊎ (before ≡ true)
-latest_if g h before e = go (g == h) refl e
-  where
-    go : (b : Bool) → (g == h) ≡ b → (if b then true else before) ≡ true → (g ≡ h) ⊎ (before ≡ true)
-    go true d e = inl (eqb-true g h d)
-    go false d e = inr e
-
-kept_if : (b before : Bool) → before ≡ true → (if b then true else before) ≡ true
-kept_if true before e = refl
-kept_if false before e = e
-
-here_if : (h : ℕ) (b before : Bool) → b ≡ true → (if h == h then b else before) ≡ true
-here_if h b before e = rw (cond-true (h == h) b before (eq-eqb h h refl)) e
-
 -- ---- begun, subtracted, given
 
-has_begun-latest : (h : ℕ) (x : Step) (p : List Step) → has_begun (x ∷ p) h ≡ true → ((x ≡ Begin h) × Unit {0}) ⊎ (has_begun p h ≡ true)
-has_begun-latest h (Begin g) p e = elim (latest_if g h (has_begun p h) e) [ inl d ↦ inl (ap Begin d, tt) | inr d ↦ inr d ]
-has_begun-latest h s p e = inr e
+module _ (limit : ℕ) (s : Step) (test : List Step → Bool) (itself : is_same s s ≡ true) (nil : test [] ≡ false)
+    (more : (x : Step) (p : List Step) → test (x ∷ p) ≡ (if is_same x s then true else test p)) where
+  done_latest : (x : Step) (p : List Step) → test (x ∷ p) ≡ true → ((x ≡ s) × Unit {0}) ⊎ (test p ≡ true)
+  done_latest = latest limit s (λ _. Unit {0}) (λ _. true) test itself (λ p. ((λ e. tt), (λ w. refl))) nil more (λ p accepted e. refl)
 
-pub has_begun-kept : (h : ℕ) (x : Step) (p : List Step) → has_begun p h ≡ true → has_begun (x ∷ p) h ≡ true
-has_begun-kept h (Begin g) p e = kept_if (g == h) (has_begun p h) e
-has_begun-kept h s p e = e
+  done_kept : (x : Step) (p : List Step) → is_accepted limit p x ≡ true → test p ≡ true → test (x ∷ p) ≡ true
+  done_kept = kept limit s (λ _. Unit {0}) (λ _. true) test itself (λ p. ((λ e. tt), (λ w. refl))) nil more (λ p accepted e. refl)
 
-pub begun_sentence : (limit : ℕ) (h : ℕ) (history : List Step) → (has_begun (past_of limit history) h ≡ true) ↔ HasAccepted limit history (Begin h)
-begun_sentence limit h history = test_sentence limit (Begin h) (λ _. Unit {0}) (λ p. has_begun p h) refl
-    (has_begun-latest h) (λ p _. here_if h true (has_begun p h) refl) (λ x p _ e. has_begun-kept h x p e) history
+  done_sentence : (history : List Step) → (test (past_of limit history) ≡ true) ↔ HasAccepted limit history s
+  done_sentence = test_sentence limit s (λ _. Unit {0}) (λ _. true) test itself (λ p. ((λ e. tt), (λ w. refl))) nil more (λ p accepted e. refl)
 
-pub has_subtracted-latest : (h : ℕ) (x : Step) (p : List Step) → has_subtracted (x ∷ p) h ≡ true → ((x ≡ Sub h) × Unit {0}) ⊎ (has_subtracted p h ≡ true)
-has_subtracted-latest h (Sub g) p e = elim (latest_if g h (has_subtracted p h) e) [ inl d ↦ inl (ap Sub d, tt) | inr d ↦ inr d ]
-has_subtracted-latest h s p e = inr e
+has_begun-more : (h : ℕ) (x : Step) (p : List Step) → has_begun (x ∷ p) h ≡ (if is_same x (Begin h) then true else has_begun p h)
+has_begun-more h (Begin g) p = refl
+has_begun-more h x p = refl
 
-has_subtracted-kept : (h : ℕ) (x : Step) (p : List Step) → has_subtracted p h ≡ true → has_subtracted (x ∷ p) h ≡ true
-has_subtracted-kept h (Sub g) p e = kept_if (g == h) (has_subtracted p h) e
-has_subtracted-kept h s p e = e
+begun_sentence : (limit : ℕ) (h : ℕ) (history : List Step) → (has_begun (past_of limit history) h ≡ true) ↔ HasAccepted limit history (Begin h)
+begun_sentence limit h = done_sentence limit (Begin h) (λ p. has_begun p h) (eq-eqb h h refl) refl (has_begun-more h)
 
-pub subtracted_sentence : (limit : ℕ) (h : ℕ) (history : List Step) → (has_subtracted (past_of limit history) h ≡ true) ↔ HasAccepted limit history (Sub h)
-subtracted_sentence limit h history = test_sentence limit (Sub h) (λ _. Unit {0}) (λ p. has_subtracted p h) refl
-    (has_subtracted-latest h) (λ p _. here_if h true (has_subtracted p h) refl) (λ x p _ e. has_subtracted-kept h x p e) history
+has_subtracted-more : (h : ℕ) (x : Step) (p : List Step) → has_subtracted (x ∷ p) h ≡ (if is_same x (Sub h) then true else has_subtracted p h)
+has_subtracted-more h (Sub g) p = refl
+has_subtracted-more h x p = refl
 
-has_given-latest : (h : ℕ) (x : Step) (p : List Step) → has_given (x ∷ p) h ≡ true → ((x ≡ Back h) × Unit {0}) ⊎ (has_given p h ≡ true)
-has_given-latest h (Back g) p e = elim (latest_if g h (has_given p h) e) [ inl d ↦ inl (ap Back d, tt) | inr d ↦ inr d ]
-has_given-latest h s p e = inr e
+subtracted_sentence : (limit : ℕ) (h : ℕ) (history : List Step) → (has_subtracted (past_of limit history) h ≡ true) ↔ HasAccepted limit history (Sub h)
+subtracted_sentence limit h = done_sentence limit (Sub h) (λ p. has_subtracted p h) (eq-eqb h h refl) refl (has_subtracted-more h)
 
-has_given-kept : (h : ℕ) (x : Step) (p : List Step) → has_given p h ≡ true → has_given (x ∷ p) h ≡ true
-has_given-kept h (Back g) p e = kept_if (g == h) (has_given p h) e
-has_given-kept h s p e = e
+has_given-more : (h : ℕ) (x : Step) (p : List Step) → has_given (x ∷ p) h ≡ (if is_same x (Back h) then true else has_given p h)
+has_given-more h (Back g) p = refl
+has_given-more h x p = refl
 
-pub given_sentence : (limit : ℕ) (h : ℕ) (history : List Step) → (has_given (past_of limit history) h ≡ true) ↔ HasAccepted limit history (Back h)
-given_sentence limit h history = test_sentence limit (Back h) (λ _. Unit {0}) (λ p. has_given p h) refl
-    (has_given-latest h) (λ p _. here_if h true (has_given p h) refl) (λ x p _ e. has_given-kept h x p e) history
+given_sentence : (limit : ℕ) (h : ℕ) (history : List Step) → (has_given (past_of limit history) h ≡ true) ↔ HasAccepted limit history (Back h)
+given_sentence limit h = done_sentence limit (Back h) (λ p. has_given p h) (eq-eqb h h refl) refl (has_given-more h)
 
 -- ---- a handle begins once, and subtracts once
 
-pub begins_once : (limit : ℕ) (p : List Step) (h : ℕ) → is_accepted limit p (Begin h) ≡ true → has_begun p h ≡ false
+begins_once : (limit : ℕ) (p : List Step) (h : ℕ) → is_accepted limit p (Begin h) ≡ true → has_begun p h ≡ false
 begins_once limit p h e =
     let born = (handle_state_sentence limit p h Free).0 (needed_state Free (handle_state limit p h) e) in
     let free = (state_of_test limit p h Free).0 born.1 in
@@ -176,106 +187,64 @@ subtracts_once limit p h e =
 abbrev IsOnUnmarked : ℕ → ℕ → List Step → Type 0
 IsOnUnmarked limit h q = IsFalse (is_marked limit q (block_of q h))
 
+-- a handle of which a test says that a step was done where a fact held has done the step
+if_then_true : (b holds before done : Bool) → (if b then holds else before) ≡ true → (before ≡ true → done ≡ true) → (if b then true else done) ≡ true
+if_then_true true holds before done e earlier = refl
+if_then_true false holds before done e earlier = earlier e
+
 began_unmarked-begun : (limit : ℕ) (h : ℕ) (p : List Step) → began_unmarked limit p h ≡ true → has_begun p h ≡ true
 began_unmarked-begun limit h [] e = e
-began_unmarked-begun limit h (Begin g ∷ p) e = go (g == h) e (began_unmarked-begun limit h p)
-  where
-    go : (b : Bool) → (if b then not (is_marked limit p (block_of p h)) else began_unmarked limit p h) ≡ true
-        → (began_unmarked limit p h ≡ true → has_begun p h ≡ true) → (if b then true else has_begun p h) ≡ true
-    go true e before = refl
-    go false e before = before e
+began_unmarked-begun limit h (Begin g ∷ p) e = if_then_true (g == h) _ _ (has_begun p h) e (began_unmarked-begun limit h p)
 began_unmarked-begun limit h (s ∷ p) e = began_unmarked-begun limit h p e
 
-began_unmarked-latest : (limit : ℕ) (h : ℕ) (x : Step) (p : List Step) → began_unmarked limit (x ∷ p) h ≡ true
-    → ((x ≡ Begin h) × IsOnUnmarked limit h p) ⊎ (began_unmarked limit p h ≡ true)
-began_unmarked-latest limit h (Begin g) p e = go (g == h) refl e
-  where
-    go : (b : Bool) → (g == h) ≡ b → (if b then not (is_marked limit p (block_of p h)) else began_unmarked limit p h) ≡ true
-        → ((Begin g ≡ Begin h) × IsOnUnmarked limit h p) ⊎ (began_unmarked limit p h ≡ true)
-    go true d e = inl (ap Begin (eqb-true g h d), not-true (is_marked limit p (block_of p h)) e)
-    go false d e = inr e
-began_unmarked-latest limit h s p e = inr e
+began_unmarked-more : (limit : ℕ) (h : ℕ) (x : Step) (p : List Step)
+    → began_unmarked limit (x ∷ p) h ≡ (if is_same x (Begin h) then not (is_marked limit p (block_of p h)) else began_unmarked limit p h)
+began_unmarked-more limit h (Begin g) p = refl
+began_unmarked-more limit h x p = refl
 
-began_unmarked-kept : (limit : ℕ) (h : ℕ) (x : Step) (p : List Step) → is_accepted limit p x ≡ true → began_unmarked limit p h ≡ true → began_unmarked limit (x ∷ p) h ≡ true
-began_unmarked-kept limit h (Begin g) p accepted e = go (g == h) refl
-  where
-    go : (b : Bool) → (g == h) ≡ b → (if b then not (is_marked limit p (block_of p h)) else began_unmarked limit p h) ≡ true
-    go true d =
-        let same : g ≡ h = eqb-true g h d in
-        let before : has_begun p h ≡ true = began_unmarked-begun limit h p e in
-        let none : has_begun p h ≡ false = subst (λ k. has_begun p k ≡ false) same (begins_once limit p g accepted) in
-        absurd (cc)
-    go false d = e
-began_unmarked-kept limit h s p accepted e = e
-
-pub began_unmarked_sentence : (limit : ℕ) (h : ℕ) (history : List Step) → (began_unmarked limit (past_of limit history) h ≡ true) ↔ BeganUnmarked limit history h
-began_unmarked_sentence limit h history = test_sentence limit (Begin h) (IsOnUnmarked limit h) (λ p. began_unmarked limit p h) refl
-    (began_unmarked-latest limit h)
-    (λ p q. here_if h (not (is_marked limit p (block_of p h))) (began_unmarked limit p h) (not_from_false (is_marked limit p (block_of p h)) q))
-    (began_unmarked-kept limit h)
-    history
+began_unmarked_sentence : (limit : ℕ) (h : ℕ) (history : List Step) → (began_unmarked limit (past_of limit history) h ≡ true) ↔ BeganUnmarked limit history h
+began_unmarked_sentence limit h = test_sentence limit (Begin h) (IsOnUnmarked limit h) (λ p. not (is_marked limit p (block_of p h)))
+    (λ p. began_unmarked limit p h) (eq-eqb h h refl) (λ p. (not-true (is_marked limit p (block_of p h)), not_from_false (is_marked limit p (block_of p h))))
+    refl (began_unmarked-more limit h)
+    (λ p accepted e. let begun = began_unmarked-begun limit h p e in let not_begun = begins_once limit p h accepted in cc)
 
 -- ---- subtracted as the last one
 
 -- the block of h is unmarked, and h is the only handle living on it
-abbrev Alone : ℕ → ℕ → List Step → Type 0
-Alone limit h q = IsFalse (is_marked limit q (block_of q h)) × (living limit q (block_of q h) ≡ h ∷ [])
+abbrev IsAlone : ℕ → ℕ → List Step → Type 0
+IsAlone limit h q = IsFalse (is_marked limit q (block_of q h)) × (living limit q (block_of q h) ≡ h ∷ [])
 
-pub only_one : (h : ℕ) (xs : List ℕ) → is_only h xs ≡ true → xs ≡ h ∷ []
+-- what a subtraction requires of the past before it
+abbrev is_alone : ℕ → ℕ → List Step → Bool
+is_alone limit h p = not (is_marked limit p (block_of p h)) && is_only h (living limit p (block_of p h))
+
+only_one : (h : ℕ) (xs : List ℕ) → is_only h xs ≡ true → xs ≡ h ∷ []
 only_one h [] e = cc
 only_one h (x ∷ []) e = ap (λ y. y ∷ []) (eqb-true x h e)
 only_one h (x ∷ y ∷ xs) e = cc
 
-pub is_only_one : (h : ℕ) (xs : List ℕ) → xs ≡ h ∷ [] → is_only h xs ≡ true
-is_only_one h xs e = rw e (eq-eqb h h refl)
+pub alone_sentence : (limit : ℕ) (h : ℕ) (p : List Step) → (is_alone limit h p ≡ true) ↔ IsAlone limit h p
+alone_sentence limit h p =
+    let marked = is_marked limit p (block_of p h) in
+    let others = living limit p (block_of p h) in (
+      (λ e. let parts = and_parts (not marked) (is_only h others) e in (not-true marked parts.0, only_one h others parts.1)),
+      (λ w. and_from (not marked) (is_only h others) (not_from_false marked w.0) (rw (w.1) (eq-eqb h h refl))),
+    )
 
--- what a subtraction requires of the past before it
-abbrev alone : ℕ → ℕ → List Step → Bool
-alone limit h p = not (is_marked limit p (block_of p h)) && is_only h (living limit p (block_of p h))
-
-pub was_last-subtracted : (limit : ℕ) (h : ℕ) (p : List Step) → was_last limit p h ≡ true → has_subtracted p h ≡ true
+was_last-subtracted : (limit : ℕ) (h : ℕ) (p : List Step) → was_last limit p h ≡ true → has_subtracted p h ≡ true
 was_last-subtracted limit h [] e = e
-was_last-subtracted limit h (Sub g ∷ p) e = go (g == h) e (was_last-subtracted limit h p)
-  where
-    go : (b : Bool) → (if b then alone limit h p else was_last limit p h) ≡ true
-        → (was_last limit p h ≡ true → has_subtracted p h ≡ true) → (if b then true else has_subtracted p h) ≡ true
-    go true e before = refl
-    go false e before = before e
+was_last-subtracted limit h (Sub g ∷ p) e = if_then_true (g == h) _ _ (has_subtracted p h) e (was_last-subtracted limit h p)
 was_last-subtracted limit h (s ∷ p) e = was_last-subtracted limit h p e
 
-was_last-latest : (limit : ℕ) (h : ℕ) (x : Step) (p : List Step) → was_last limit (x ∷ p) h ≡ true
-    → ((x ≡ Sub h) × Alone limit h p) ⊎ (was_last limit p h ≡ true)
-was_last-latest limit h (Sub g) p e = go (g == h) refl e
-  where
-    go : (b : Bool) → (g == h) ≡ b → (if b then alone limit h p else was_last limit p h) ≡ true
-        → ((Sub g ≡ Sub h) × Alone limit h p) ⊎ (was_last limit p h ≡ true)
-    go true d e =
-        let parts = and_parts (not (is_marked limit p (block_of p h))) (is_only h (living limit p (block_of p h))) e in
-        inl (ap Sub (eqb-true g h d), (not-true (is_marked limit p (block_of p h)) parts.0, only_one h (living limit p (block_of p h)) parts.1))
-    go false d e = inr e
-was_last-latest limit h s p e = inr e
+was_last-more : (limit : ℕ) (h : ℕ) (x : Step) (p : List Step) → was_last limit (x ∷ p) h ≡ (if is_same x (Sub h) then is_alone limit h p else was_last limit p h)
+was_last-more limit h (Sub g) p = refl
+was_last-more limit h x p = refl
 
-was_last-kept : (limit : ℕ) (h : ℕ) (x : Step) (p : List Step) → is_accepted limit p x ≡ true → was_last limit p h ≡ true → was_last limit (x ∷ p) h ≡ true
-was_last-kept limit h (Sub g) p accepted e = go (g == h) refl
-  where
-    go : (b : Bool) → (g == h) ≡ b → (if b then alone limit h p else was_last limit p h) ≡ true
-    go true d =
-        let same : g ≡ h = eqb-true g h d in
-        let before : has_subtracted p h ≡ true = was_last-subtracted limit h p e in
-        let none : has_subtracted p h ≡ false = subst (λ k. has_subtracted p k ≡ false) same (subtracts_once limit p g accepted) in
-        absurd (cc)
-    go false d = e
-was_last-kept limit h s p accepted e = e
-
-was_last-here : (limit : ℕ) (h : ℕ) (p : List Step) → Alone limit h p → was_last limit (Sub h ∷ p) h ≡ true
-was_last-here limit h p q = here_if h (alone limit h p) (was_last limit p h)
-    (and_from (not (is_marked limit p (block_of p h))) (is_only h (living limit p (block_of p h)))
-    (not_from_false (is_marked limit p (block_of p h)) q.0) (is_only_one h (living limit p (block_of p h)) q.1))
-
-pub was_last_sentence : (limit : ℕ) (h : ℕ) (history : List Step)
-    → (was_last limit (past_of limit history) h ≡ true) ↔ AcceptedWhere limit history (Sub h) (λ prefix. Alone limit h (past_of limit prefix))
-was_last_sentence limit h history = test_sentence limit (Sub h) (Alone limit h) (λ p. was_last limit p h) refl
-    (was_last-latest limit h) (was_last-here limit h) (was_last-kept limit h) history
+was_last_sentence : (limit : ℕ) (h : ℕ) (history : List Step)
+    → (was_last limit (past_of limit history) h ≡ true) ↔ AcceptedWhere limit history (Sub h) (λ prefix. IsAlone limit h (past_of limit prefix))
+was_last_sentence limit h = test_sentence limit (Sub h) (IsAlone limit h) (is_alone limit h) (λ p. was_last limit p h)
+    (eq-eqb h h refl) (alone_sentence limit h) refl (was_last-more limit h)
+    (λ p accepted e. let subtracted = was_last-subtracted limit h p e in let not_subtracted = subtracts_once limit p h accepted in cc)
 
 -- ---- tests and sentences together
 
@@ -293,7 +262,7 @@ and_not_sentence a b P Q d e = (
 
 pub owes_test : (limit : ℕ) (history : List Step) (h : ℕ) → (tests_owing limit (past_of limit history) h ≡ true) ↔ OwesSentence limit history h
 owes_test limit history h = and_not_sentence (was_last limit (past_of limit history) h) (has_given (past_of limit history) h)
-    (AcceptedWhere limit history (Sub h) (λ prefix. Alone limit h (past_of limit prefix))) (HasAccepted limit history (Back h))
+    (AcceptedWhere limit history (Sub h) (λ prefix. IsAlone limit h (past_of limit prefix))) (HasAccepted limit history (Back h))
     (was_last_sentence limit h history) (given_sentence limit h history)
 
 -- ==== the state of a handle is the one that the sentence about the prefixes of the history says
@@ -361,7 +330,11 @@ state_sentence limit history h s = (
 -- a handle that has subtracted was born, is not raw, and has begun
 subtracted_began : (limit : ℕ) (h : ℕ) (p : List Step) → IsPast limit p → has_subtracted p h ≡ true → (h < births p) × (is_raw p h ≡ false) × (has_begun p h ≡ true)
 subtracted_began limit h [] past e = absurd (cc)
-subtracted_began limit h (x ∷ p) past e = elim (has_subtracted-latest h x p e) [ inl d ↦ first d.0 | inr d ↦ later (subtracted_began limit h p past.1 d) ]
+subtracted_began limit h (x ∷ p) past e =
+    elim (done_latest limit (Sub h) (λ q. has_subtracted q h) (eq-eqb h h refl) refl (has_subtracted-more h) x p e) [
+      | inl d ↦ first d.0
+      | inr d ↦ later (subtracted_began limit h p past.1 d)
+    ]
   where
     first : x ≡ Sub h → (h < births (x ∷ p)) × (is_raw (x ∷ p) h ≡ false) × (has_begun (x ∷ p) h ≡ true)
     first d =
@@ -376,7 +349,11 @@ subtracted_began limit h (x ∷ p) past e = elim (has_subtracted-latest h x p e)
         began false n = absurd (n refl)
 
     later : (h < births p) × (is_raw p h ≡ false) × (has_begun p h ≡ true) → (h < births (x ∷ p)) × (is_raw (x ∷ p) h ≡ false) × (has_begun (x ∷ p) h ≡ true)
-    later w = ((Born-more x p h (block_of p h) (w.0, refl)).0, false_from_ne_true (is_raw (x ∷ p) h) not_raw, has_begun-kept h x p w.2)
+    later w = (
+      (Born-more x p h (block_of p h) (w.0, refl)).0,
+      false_from_ne_true (is_raw (x ∷ p) h) not_raw,
+      done_kept limit (Begin h) (λ q. has_begun q h) (eq-eqb h h refl) refl (has_begun-more h) x p past.0 w.2,
+    )
       where
         not_raw : is_raw (x ∷ p) h ≡ true → ⊥
         not_raw r = elim (is_raw-latest x p h r) [

@@ -1,11 +1,9 @@
 use Rattle.std.proofs.Common.{refl, ◌∙◌, ap, length}
-use Rattle.arcstr_count.specs.declared.steps.Step.TheVariants.{Clone}
 use Rattle.arcstr_count.proofs.WorldSteps.{takes_refused, world_kept, clone_accepted, push_with, takes_clone}
 use Rattle.arcstr_count.proofs.worlds.World.clone.Goals as goal
 
 pub returns-in-Err-clause-takes : goal.returns-in-Err-clause-takes
-returns-in-Err-clause-takes g c =
-    takes_refused c.args.self.now (Clone c.args.handle) _ c.in-Err.fault refl c.in-Err.ensures.refused
+returns-in-Err-clause-takes g c = takes_refused _ _ _ _ refl c.in-Err.ensures.refused
 
 pub invariant_of-self : goal.invariant_of-self
 invariant_of-self g c = rw c.reserve.ensures.items c.self.invariant

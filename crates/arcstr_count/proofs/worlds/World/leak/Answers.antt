@@ -1,11 +1,9 @@
 use Rattle.std.proofs.Common.{refl}
-use Rattle.arcstr_count.specs.declared.steps.Step.TheVariants.{Leak}
 use Rattle.arcstr_count.proofs.WorldSteps.{takes_refused, world_kept, takes_leak}
 use Rattle.arcstr_count.proofs.worlds.World.leak.Goals as goal
 
 pub returns-in-Err : goal.returns-in-Err
-returns-in-Err g c =
-    takes_refused c.args.self.now (Leak c.args.handle) _ c.in-Err.fault refl c.in-Err.ensures.refused
+returns-in-Err g c = takes_refused _ _ _ _ refl c.in-Err.ensures.refused
 
 pub returns : goal.returns
 returns g c = rw c.set_mark.ensures

@@ -1,11 +1,9 @@
 use Rattle.std.proofs.Common.{refl}
-use Rattle.arcstr_count.specs.declared.steps.Step.TheVariants.{Sub}
 use Rattle.arcstr_count.proofs.WorldSteps.{takes_refused, world_kept, takes_sub, dropping_is_counted}
 use Rattle.arcstr_count.proofs.worlds.World.sub.Goals as goal
 
 pub returns-in-Err : goal.returns-in-Err
-returns-in-Err g c =
-    takes_refused c.args.self.now (Sub c.args.handle) _ c.in-Err.fault refl c.in-Err.ensures.refused
+returns-in-Err g c = takes_refused _ _ _ _ refl c.in-Err.ensures.refused
 
 pub dropped-word-requires : goal.dropped-word-requires
 dropped-word-requires g c =
