@@ -1,13 +1,12 @@
 -- The reply to a step is the one that the sentence about the history says.
-use Rattle.std.proofs.Common.{◌≡◌, ◌↔◌, ℕ, Bool, true, false, not, ◌&&◌, if◌then◌else◌, is_none, IsTrue, Option, None, Some, List, ◌⊎◌, inl, inr, refl, sym}
-use Rattle.std.proofs.lemmas.Bool.{not-true, not_from_false, and_parts, and_from}
+use Rattle.std.proofs.Common.{◌≡◌, ◌↔◌, ℕ, Bool, true, false, if◌then◌else◌, is_none, IsTrue, Option, None, Some, List, ◌⊎◌, inl, inr, refl, sym}
 use Rattle.arcstr_count.specs.declared.steps.Step.{Step}
 use Rattle.arcstr_count.specs.declared.steps.Step.TheVariants.{Look, Begin, Sub}
 use Rattle.arcstr_count.specs.declared.steps.Reply.{Reply}
 use Rattle.arcstr_count.specs.declared.steps.Reply.TheVariants.{Refused}
 use Rattle.arcstr_count.specs.declared.faults.StepFault.{StepFault}
 use Rattle.arcstr_count.specs.History.{block_of}
-use Rattle.arcstr_count.specs.Marks.{is_marked, living, is_only}
+use Rattle.arcstr_count.specs.Marks.{is_marked}
 use Rattle.arcstr_count.specs.Answer.{reply_by, refusal_of, accepted_answer}
 use Rattle.arcstr_count.specs.Past.{past_of, answer_after}
 use Rattle.arcstr_count.specs.Sentences.{LivesAlone, ByFact, AcceptedAnswer, AnswerSentence}

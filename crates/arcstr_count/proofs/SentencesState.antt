@@ -10,7 +10,7 @@ use Rattle.arcstr_count.specs.Past.{past_of, IsPast}
 use Rattle.arcstr_count.specs.Sentences.{accepted_after, AcceptedSentence, FirstThatHolds, AcceptedWhere, HasAccepted, BeganUnmarked, OwesSentence}
 use Rattle.arcstr_count.specs.Sentences.{births_after, state_after, LastIsIntoRaw, StateSentence}
 use Rattle.arcstr_count.proofs.LawsOfHandles.{is_in_handle_state, handle_state_is, accepts_needed, needed_state}
-use Rattle.std.proofs.lemmas.Bool.{false_from_ne_true, and_parts, and_from, not-true, not_from_false, eqb-true, eq-eqb, cond-true}
+use Rattle.std.proofs.lemmas.Bool.{false_from_ne_true, and_parts, and_from, not-true, not_from_false, eqb-true, eq-eqb}
 use Rattle.arcstr_count.specs.declared.steps.HandleState.TheVariants.{Free, Raw, Dropping, Owing, Gone}
 use Rattle.arcstr_count.specs.declared.steps.Step.TheVariants.{Begin, Sub, Back, IntoRaw}
 use Rattle.arcstr_count.proofs.Pasts.{IsPast-past_of, InPast, in_past, in_history}
