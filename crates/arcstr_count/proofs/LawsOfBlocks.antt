@@ -1,22 +1,12 @@
 -- The handles on a block, counted by their states, and the count word of the block, which counts them.
-use Rattle.std.proofs.Common.{◌≡◌, ◌≢◌, ℕ, zero, suc, ◌+◌, ◌<◌, ◌≤◌, Bool, true, false, ◌&&◌, ◌==◌, if◌then◌else◌, List, [], ◌∷◌, ◌++◌, get_or, length, filter}
-use Rattle.std.proofs.Common.{refl, sym, ◌∙◌, ap, ap₂, ◌⊎◌, inl, inr, arith, ne_eqb, eq-eqb, Contains, not, ◌||◌, nat_lt, subst, subst₂, eqb-true, ltb-true}
-use Rattle.std.proofs.Common.{ltb-false}
-use Rattle.std.proofs.lemmas.List.{length-append}
-use Rattle.std.proofs.lemmas.List.Elements.{filter-append, Contains-append_left, Contains-push}
-use Rattle.std.proofs.lemmas.Bool.{cases_eq, eqb-false}
-use Rattle.arcstr_count.specs.declared.steps.Step.{Step}
-use Rattle.arcstr_count.specs.declared.steps.Step.TheVariants.{Make, Clone, Look, Begin, Sub, Back, Leak, IntoRaw, FromRaw}
-use Rattle.arcstr_count.specs.declared.steps.HandleState.{HandleState}
-use Rattle.arcstr_count.specs.declared.steps.HandleState.TheVariants.{Free, Raw, Dropping, Owing, Gone}
-use Rattle.arcstr_count.specs.History.{makes, births, block_of, lives, numbers_below}
-use Rattle.arcstr_count.specs.Marks.{state_of, living, is_only, is_marked}
-use Rattle.arcstr_count.specs.Past.{IsPast, times_given}
-use Rattle.arcstr_count.specs.Left.{is_dropping, word_left, is_owing}
+use Rattle.arcstr_count.proofs.Names.{◌≡◌, ◌≢◌, ℕ, zero, suc, ◌+◌, ◌<◌, ◌≤◌, Bool, true, false, ◌&&◌, ◌==◌, if◌then◌else◌, List, [], ◌∷◌, ◌++◌, get_or, length}
+use Rattle.arcstr_count.proofs.Names.{filter, refl, sym, ◌∙◌, ap, ap₂, ◌⊎◌, inl, inr, arith, ne_eqb, eq-eqb, Contains, not, ◌||◌, nat_lt, subst, subst₂}
+use Rattle.arcstr_count.proofs.Names.{eqb-true, ltb-true, ltb-false, length-append, filter-append, Contains-append_left, Contains-push, cases_eq, eqb-false}
+use Rattle.arcstr_count.proofs.Names.{Step, Make, Clone, Look, Begin, Sub, Back, Leak, IntoRaw, FromRaw, HandleState, Free, Raw, Dropping, Owing, Gone, makes}
+use Rattle.arcstr_count.proofs.Names.{births, block_of, lives, numbers_below, state_of, living, is_only, is_marked, IsPast, times_given, is_dropping, word_left}
+use Rattle.arcstr_count.proofs.Names.{is_owing, FlagAndCount, cloned_of, dropped_of, marked_of, is_accepted}
 use Rattle.arcstr_count.proofs.LawsOfHandles.{same_test, other_test, IsIn, ChangesOne, state-born, block-Make, block-Make_other, block-Clone, block-Clone_other}
 use Rattle.arcstr_count.proofs.LawsOfHandles.{block_made, step_finds, Begin-changes, Sub-changes, Back-changes, IntoRaw-changes, FromRaw-changes}
-use Rattle.arcstr_count.specs.Word.{FlagAndCount, cloned_of, dropped_of, marked_of}
-use Rattle.arcstr_count.specs.Answer.{is_accepted}
 
 -- ---- how many numbers below n pass a test
 
@@ -281,7 +271,7 @@ Counts = (HandleState → Bool) → ℕ
 
 -- an unmarked block: its word counts the living handles, which are at most limit + 1; while one lives, the block
 -- is neither owed nor freed; once none lives, it is either owed by one handle or freed once
-pub record Unmarked (limit : ℕ) (w : FlagAndCount) (n : Counts) (given : ℕ) : Type 0 where
+pub record IsUnmarked (limit : ℕ) (w : FlagAndCount) (n : Counts) (given : ℕ) : Type 0 where
   pub flag : w.flag ≡ false
   pub count : w.count ≡ n lives
   pub few : n lives ≤ limit + 1
@@ -290,15 +280,15 @@ pub record Unmarked (limit : ℕ) (w : FlagAndCount) (n : Counts) (given : ℕ) 
 
 -- a marked block: its word counts no fewer than the dropping handles and at most limit + 1, and the block
 -- is neither owed nor freed
-pub record Marked (limit : ℕ) (w : FlagAndCount) (n : Counts) (given : ℕ) : Type 0 where
+pub record IsMarked (limit : ℕ) (w : FlagAndCount) (n : Counts) (given : ℕ) : Type 0 where
   pub flag : w.flag ≡ true
   pub covered : n is_dropping ≤ w.count
   pub bounded : w.count ≤ limit + 1
   pub held : n is_owing + given ≡ 0
 
-abbrev pub Balanced : ℕ → FlagAndCount → (marked : Bool) → Counts → (given : ℕ) → Type 0
-Balanced limit w false n given = Unmarked limit w n given
-Balanced limit w true n given = Marked limit w n given
+abbrev pub IsBalanced : ℕ → FlagAndCount → (marked : Bool) → Counts → (given : ℕ) → Type 0
+IsBalanced limit w false n given = IsUnmarked limit w n given
+IsBalanced limit w true n given = IsMarked limit w n given
 
 -- ---- what each step on the block does to them
 
@@ -327,11 +317,11 @@ bears n after step = record {
 
 module _ (limit : ℕ) (w : FlagAndCount) (n after : Counts) (g : ℕ) where
   after_Clone : (m : Bool) → Bears n after → 0 < n lives → n is_dropping ≤ n lives
-      → Balanced limit w m n g → Balanced limit (cloned_of limit w) (m || nat_lt limit (n lives)) after g
+      → IsBalanced limit w m n g → IsBalanced limit (cloned_of limit w) (m || nat_lt limit (n lives)) after g
   after_Clone true step some fewer b = rw b.flag (grind arith)
   after_Clone false step some fewer b = by_limit (nat_lt limit (n lives)) refl
     where
-      by_limit : (t : Bool) → nat_lt limit (n lives) ≡ t → Balanced limit (cloned_of limit w) t after g
+      by_limit : (t : Bool) → nat_lt limit (n lives) ≡ t → IsBalanced limit (cloned_of limit w) t after g
       by_limit true over =
           let over_limit = ltb-true limit (n lives) over in
           rw (b.flag, b.count, over) (grind arith)
@@ -339,38 +329,38 @@ module _ (limit : ℕ) (w : FlagAndCount) (n after : Counts) (g : ℕ) where
           let within_limit = ltb-false limit (n lives) within in
           rw (b.flag, b.count, within) (grind arith)
 
-  after_Begin : (m : Bool) → Moves n after Free (if m then Gone else Dropping) → Balanced limit w m n g → Balanced limit w m after g
+  after_Begin : (m : Bool) → Moves n after Free (if m then Gone else Dropping) → IsBalanced limit w m n g → IsBalanced limit w m after g
   after_Begin true step b = grind arith
   after_Begin false step b = grind arith
 
   after_Sub : (m only : Bool) → only ≡ (n lives == 1) → Moves n after Dropping (if not m && only then Owing else Gone)
-      → Balanced limit w m n g → Balanced limit (dropped_of w) m after g
+      → IsBalanced limit w m n g → IsBalanced limit (dropped_of w) m after g
   after_Sub true only e step b = grind arith
   after_Sub false true e step b = let last = eqb-true (n lives) 1 (sym e) in grind arith
   after_Sub false false e step b = let more : n lives ≢ 1 = eqb-false (n lives) 1 (sym e) in grind arith
 
-  after_Back : (m : Bool) (g' : ℕ) → g' ≡ g + 1 → Moves n after Owing Gone → Balanced limit w m n g → Balanced limit w m after g'
+  after_Back : (m : Bool) (g' : ℕ) → g' ≡ g + 1 → Moves n after Owing Gone → IsBalanced limit w m n g → IsBalanced limit w m after g'
   after_Back true g' e step b = grind arith
   after_Back false g' e step b = grind arith
 
   -- between a free handle and a raw one
-  after_IntoRaw : (m : Bool) → Moves n after Free Raw → Balanced limit w m n g → Balanced limit w m after g
+  after_IntoRaw : (m : Bool) → Moves n after Free Raw → IsBalanced limit w m n g → IsBalanced limit w m after g
   after_IntoRaw true step b = grind arith
   after_IntoRaw false step b = grind arith
 
-  after_FromRaw : (m : Bool) → Moves n after Raw Free → Balanced limit w m n g → Balanced limit w m after g
+  after_FromRaw : (m : Bool) → Moves n after Raw Free → IsBalanced limit w m n g → IsBalanced limit w m after g
   after_FromRaw true step b = grind arith
   after_FromRaw false step b = grind arith
 
 after_Leak : (limit : ℕ) (w : FlagAndCount) (n : Counts) (g : ℕ) (m : Bool) → 0 < n lives → n is_dropping ≤ n lives
-    → Balanced limit w m n g → Balanced limit (marked_of w) true n g
+    → IsBalanced limit w m n g → IsBalanced limit (marked_of w) true n g
 after_Leak limit w n g true some fewer b = grind arith
 after_Leak limit w n g false some fewer b = grind arith
 
 -- ---- the same in each past
 
 abbrev pub Balance : ℕ → List Step → ℕ → Type 0
-Balance limit p b = Balanced limit (word_left limit p b) (is_marked limit p b) (λ test. held limit p b test) (times_given p b)
+Balance limit p b = IsBalanced limit (word_left limit p b) (is_marked limit p b) (λ test. held limit p b test) (times_given p b)
 
 -- a step on block c leaves the other blocks alone
 on_block : (P Q : ℕ → Type 0) (b c : ℕ) → (P c → Q c) → (b ≢ c → P b → Q b) → P b → Q b
@@ -386,8 +376,8 @@ module _ (limit : ℕ) (p : List Step) (past : IsPast limit p) where
       → ((test : HandleState → Bool) → held limit q b test ≡ held limit p b test) → times_given q b ≡ times_given p b
       → Balance limit p b → Balance limit q b
   unchanged q b word mark counts given before =
-      let same = subst₂ (λ m g. Balanced limit (word_left limit p b) m (λ test. held limit p b test) g) (sym mark) (sym given) before in
-      subst₂ (λ w n. Balanced limit w (is_marked limit q b) n (times_given q b)) (sym word) (λ i test. sym (counts test) i) same
+      let same = subst₂ (λ m g. IsBalanced limit (word_left limit p b) m (λ test. held limit p b test) g) (sym mark) (sym given) before in
+      subst₂ (λ w n. IsBalanced limit w (is_marked limit q b) n (times_given q b)) (sym word) (λ i test. sym (counts test) i) same
 
   -- a new block has one free handle
   Make_here-balance : Balance limit (Make ∷ p) (makes p)
@@ -436,7 +426,7 @@ module _ (limit : ℕ) (p : List Step) (past : IsPast limit p) where
 -- a step that changes the state of one handle, given what it does to that handle's block
 changed-balance : (limit : ℕ) (p : List Step) (s : Step) (h : ℕ) (old new : HandleState) → IsPast limit p → ChangesOne limit p s h old new
     → ((after : Counts) → Moves (λ test. held limit p (block_of p h) test) after old new → Balance limit p (block_of p h)
-    → Balanced limit (word_left limit (s ∷ p) (block_of p h)) (is_marked limit (s ∷ p) (block_of p h)) after (times_given (s ∷ p) (block_of p h)))
+    → IsBalanced limit (word_left limit (s ∷ p) (block_of p h)) (is_marked limit (s ∷ p) (block_of p h)) after (times_given (s ∷ p) (block_of p h)))
     → (b : ℕ) → Balance limit p b → Balance limit (s ∷ p) b
 changed-balance limit p s h old new past c here b = on_block (λ d. Balance limit p d) (λ d. Balance limit (s ∷ p) d) b (block_of p h)
     (here (λ test. held limit (s ∷ p) (block_of p h) test) (moves _ _ _ _ (changed_here limit p s h old new c)))

@@ -1,3 +1,4 @@
+mod Names
 mod WorkedExamples
 pub mod Pasts
 pub mod LawsOfHandles
@@ -6,9 +7,6 @@ pub mod OneBlock
 pub mod LawsOfBlocks
 pub mod LawsOfPasts
 mod SentencesBlocks
-mod SentencesRaw
+mod SentencesHandles
 mod SentencesState
-mod SentencesBirths
-mod SentencesAnswer
 pub mod WorldSteps
-pub mod Replies

@@ -1,23 +1,12 @@
 -- A history of one block, its count word and its seats.
-use Rattle.std.proofs.Common.{◌≡◌, ℕ, ◌<◌, true, not, ◌&&◌, ◌==◌, if◌then◌else◌, is_none, None, Some, List, [], ◌∷◌, ◌++◌, map, length, slice_get, get_or, set}
-use Rattle.std.proofs.Common.{refl, sym, ◌∙◌, ap, subst, arith, ◌+◌, ◌≤◌, Bool, false, IsFalse, filter}
-use Rattle.std.proofs.lemmas.List.{map_push, get_or-map, map-set, length-map, reverse-append}
-use Rattle.std.proofs.lemmas.Option.{get_or_from_slice_get, slice_get_within}
-use Rattle.arcstr_count.specs.declared.steps.Step.{Step}
-use Rattle.arcstr_count.specs.declared.steps.Step.TheVariants.{Make, Look, Clone, Begin, Sub, Back, Leak}
-use Rattle.arcstr_count.specs.declared.steps.HandleState.{HandleState}
-use Rattle.arcstr_count.specs.declared.steps.HandleState.TheVariants.{Free, Dropping, Owing, Gone}
-use Rattle.arcstr_count.specs.declared.steps.HandleSummary.{HandleSummary}
-use Rattle.arcstr_count.specs.declared.steps.Reply.{Reply}
-use Rattle.arcstr_count.specs.declared.steps.Reply.TheVariants.{Handle, Looked, Ended, Left, Owes, Given, Marked}
-use Rattle.arcstr_count.specs.Word.{FlagAndCount, fresh_word, looked_of, cloned_of, dropped_of, is_last, marked_of}
-use Rattle.arcstr_count.specs.History.{makes, births, block_of, numbers_below, lives}
-use Rattle.arcstr_count.specs.Marks.{is_marked, state_of, living, is_only}
-use Rattle.arcstr_count.specs.Answer.{needs, handle_state, refusal_unless, refusal_by, refusal_of, is_accepted, reply_by, accepted_answer}
-use Rattle.arcstr_count.specs.Past.{IsPast, past_of, answer_after}
-use Rattle.arcstr_count.specs.Left.{word_left, Stands, is_dropping, is_owing}
-use Rattle.arcstr_count.specs.Summary.{handles_of, handle_summary}
-use Rattle.arcstr_count.specs.OneBlock.{Keeps, EndsIn, look_reply}
+use Rattle.arcstr_count.proofs.Names.{◌≡◌, ℕ, ◌<◌, true, not, ◌&&◌, ◌==◌, if◌then◌else◌, is_none, None, Some, List, [], ◌∷◌, ◌++◌, map, length, slice_get}
+use Rattle.arcstr_count.proofs.Names.{get_or, set, refl, sym, ◌∙◌, ap, subst, arith, ◌+◌, ◌≤◌, Bool, false, IsFalse, filter, map_push, get_or-map, map-set}
+use Rattle.arcstr_count.proofs.Names.{length-map, reverse-append, get_or_from_slice_get, slice_get_within, Step, Make, Look, Clone, Begin, Sub, Back, Leak}
+use Rattle.arcstr_count.proofs.Names.{HandleState, Free, Dropping, Owing, Gone, HandleSummary, Reply, Handle, Looked, Ended, Left, Owes, Given, Marked}
+use Rattle.arcstr_count.proofs.Names.{FlagAndCount, fresh_word, looked_of, cloned_of, dropped_of, is_last, marked_of, makes, births, block_of, numbers_below}
+use Rattle.arcstr_count.proofs.Names.{lives, is_marked, state_of, living, is_only, needs, handle_state, refusal_unless, refusal_by, refusal_of, is_accepted}
+use Rattle.arcstr_count.proofs.Names.{reply_by, accepted_answer, IsPast, past_of, answer_after, word_left, Stands, is_dropping, is_owing, handles_of}
+use Rattle.arcstr_count.proofs.Names.{handle_summary, Keeps, EndsIn, look_reply}
 use Rattle.arcstr_count.proofs.Pasts.{past_of-step, IsPast-past_of}
 use Rattle.arcstr_count.proofs.LawsOfHandles.{IsIn, handle_state_is, accepts_needed, block_made, ChangesOne, Begin-changes, Sub-changes, Back-changes}
 use Rattle.arcstr_count.proofs.LawsOfPasts.{word_stands, look_answers, Sub_counted, Sub_last, count_bounded, one_owes, owes_alone}

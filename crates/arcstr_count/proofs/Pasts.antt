@@ -1,10 +1,7 @@
--- The past of a history, step by step, and the prefixes of a history beside the suffixes of its past.
-use Rattle.std.proofs.Common.{◌≡◌, ℕ, Bool, true, false, if◌then◌else◌, List, [], ◌∷◌, ◌++◌, refl, ◌⊎◌, inl, inr, ◌∙◌, ap, subst, append_assoc}
-use Rattle.arcstr_count.specs.declared.steps.Step.{Step}
-use Rattle.arcstr_count.specs.Answer.{is_accepted}
-use Rattle.arcstr_count.specs.Past.{with_step, past_from, past_of, IsPast}
-use Rattle.std.proofs.lemmas.List.{append-nil}
-use Rattle.arcstr_count.specs.Sentences.{AcceptedWhere}
+-- The past of a history, step by step; the prefixes of a history beside the suffixes of its past; the replies to a list of steps.
+use Rattle.arcstr_count.proofs.Names.{◌≡◌, ℕ, Bool, true, false, if◌then◌else◌, List, [], ◌∷◌, ◌++◌, refl, ◌⊎◌, inl, inr, ◌∙◌, ap, subst, append_assoc, Step}
+use Rattle.arcstr_count.proofs.Names.{is_accepted, with_step, past_from, past_of, IsPast, append-nil, AcceptedWhere, suc, length, Some, sym, ap₂, slice_get}
+use Rattle.arcstr_count.proofs.Names.{Reply, answer_of, WorldView, StandsFor, AnswersEach, Answers, Follows}
 
 -- the past that two lists of steps lead to, one list after the other
 pub past_from-append : (limit : ℕ) (p xs ys : List Step) → past_from limit p (xs ++ ys) ≡ past_from limit (past_from limit p xs) ys
@@ -63,14 +60,14 @@ last_or_before (y ∷ history) x (z ∷ prefix) s later e =
 -- ---- suffixes of a past
 
 -- the past has the step, after a suffix of which Q holds
-abbrev pub InPast : List Step → Step → (List Step → Type 0) → Type 0
-InPast [] s Q = ⊥
-InPast (x ∷ p) s Q = ((x ≡ s) × Q p) ⊎ InPast p s Q
+abbrev pub IsInPast : List Step → Step → (List Step → Type 0) → Type 0
+IsInPast [] s Q = ⊥
+IsInPast (x ∷ p) s Q = ((x ≡ s) × Q p) ⊎ IsInPast p s Q
 
-InPast-with_step : (limit : ℕ) (p : List Step) (x s : Step) (Q : List Step → Type 0) → InPast p s Q → InPast (with_step limit p x) s Q
-InPast-with_step limit p x s Q h = kept (is_accepted limit p x)
+IsInPast-with_step : (limit : ℕ) (p : List Step) (x s : Step) (Q : List Step → Type 0) → IsInPast p s Q → IsInPast (with_step limit p x) s Q
+IsInPast-with_step limit p x s Q h = kept (is_accepted limit p x)
   where
-    kept : (b : Bool) → InPast (if b then x ∷ p else p) s Q
+    kept : (b : Bool) → IsInPast (if b then x ∷ p else p) s Q
     kept true = inr h
     kept false = h
 
@@ -84,17 +81,17 @@ past_of-refused limit prefix s e = past_of-step limit prefix s ∙ ap (λ b. if 
 -- ---- between the two
 
 -- an accepted step of a history is in its past
-pub in_past : (limit : ℕ) (s : Step) (Q : List Step → Type 0) (history : List Step) → AcceptedWhere limit history s (λ prefix. Q (past_of limit prefix)) → InPast (past_of limit history) s Q
-in_past limit s Q = by_steps (λ history. AcceptedWhere limit history s (λ prefix. Q (past_of limit prefix)) → InPast (past_of limit history) s Q)
+pub in_past : (limit : ℕ) (s : Step) (Q : List Step → Type 0) (history : List Step) → AcceptedWhere limit history s (λ prefix. Q (past_of limit prefix)) → IsInPast (past_of limit history) s Q
+in_past limit s Q = by_steps (λ history. AcceptedWhere limit history s (λ prefix. Q (past_of limit prefix)) → IsInPast (past_of limit history) s Q)
     (λ w. absurd (none_in_nil w.prefix s w.later w.stands))
     step
   where
-    step : (prefix : List Step) (x : Step) → (AcceptedWhere limit prefix s (λ q. Q (past_of limit q)) → InPast (past_of limit prefix) s Q)
-        → AcceptedWhere limit (prefix ++ x ∷ []) s (λ q. Q (past_of limit q)) → InPast (past_of limit (prefix ++ x ∷ [])) s Q
+    step : (prefix : List Step) (x : Step) → (AcceptedWhere limit prefix s (λ q. Q (past_of limit q)) → IsInPast (past_of limit prefix) s Q)
+        → AcceptedWhere limit (prefix ++ x ∷ []) s (λ q. Q (past_of limit q)) → IsInPast (past_of limit (prefix ++ x ∷ [])) s Q
     step prefix x before w = elim (last_or_before prefix x w.prefix s w.later w.stands) [
       | inl e ↦ (let accepted : is_accepted limit (past_of limit prefix) x ≡ true = rw (e.0, e.1) w.accepted in
           rw (past_of-accepted limit prefix x accepted) (inl (e.0, rw (e.1) w.there)))
-      | inr e ↦ rw (past_of-step limit prefix x) (InPast-with_step limit (past_of limit prefix) x s Q
+      | inr e ↦ rw (past_of-step limit prefix x) (IsInPast-with_step limit (past_of limit prefix) x s Q
           (before (record { prefix = w.prefix; later = e.0; stands = e.1; accepted = w.accepted; there = w.there })))
     ]
 
@@ -109,13 +106,13 @@ AcceptedWhere-more limit history s x P w = record {
 }
 
 -- a step in the past of a history is an accepted step of the history
-pub in_history : (limit : ℕ) (s : Step) (Q : List Step → Type 0) (history : List Step) → InPast (past_of limit history) s Q → AcceptedWhere limit history s (λ prefix. Q (past_of limit prefix))
-in_history limit s Q = by_steps (λ history. InPast (past_of limit history) s Q → AcceptedWhere limit history s (λ prefix. Q (past_of limit prefix)))
+pub in_history : (limit : ℕ) (s : Step) (Q : List Step → Type 0) (history : List Step) → IsInPast (past_of limit history) s Q → AcceptedWhere limit history s (λ prefix. Q (past_of limit prefix))
+in_history limit s Q = by_steps (λ history. IsInPast (past_of limit history) s Q → AcceptedWhere limit history s (λ prefix. Q (past_of limit prefix)))
     (λ h. absurd h)
     step
   where
-    step : (prefix : List Step) (x : Step) → (InPast (past_of limit prefix) s Q → AcceptedWhere limit prefix s (λ q. Q (past_of limit q)))
-        → InPast (past_of limit (prefix ++ x ∷ [])) s Q → AcceptedWhere limit (prefix ++ x ∷ []) s (λ q. Q (past_of limit q))
+    step : (prefix : List Step) (x : Step) → (IsInPast (past_of limit prefix) s Q → AcceptedWhere limit prefix s (λ q. Q (past_of limit q)))
+        → IsInPast (past_of limit (prefix ++ x ∷ [])) s Q → AcceptedWhere limit (prefix ++ x ∷ []) s (λ q. Q (past_of limit q))
     step prefix x before h = go (is_accepted limit (past_of limit prefix) x) refl
       where
         more : AcceptedWhere limit prefix s (λ q. Q (past_of limit q)) → AcceptedWhere limit (prefix ++ x ∷ []) s (λ q. Q (past_of limit q))
@@ -127,3 +124,54 @@ in_history limit s Q = by_steps (λ history. InPast (past_of limit history) s Q 
           | inr r ↦ more (before r)
         ]
         go false e = more (before (rw (past_of-refused limit prefix x e) at h))
+
+-- ==== the replies to a list of steps, one after another: they are the answers of the history
+
+-- what the steps of a list answer, in their order
+abbrev pub replies_from : ℕ → List Step → List Step → List Reply
+replies_from limit p [] = []
+replies_from limit p (s ∷ later) = answer_of limit p s ∷ replies_from limit (with_step limit p s) later
+
+abbrev pub replies_to : ℕ → List Step → List Reply
+replies_to limit steps = replies_from limit [] steps
+
+-- one more step at the end
+pub replies_from-step : (limit : ℕ) (p xs : List Step) (s : Step)
+    → replies_from limit p (xs ++ s ∷ []) ≡ replies_from limit p xs ++ answer_of limit (past_from limit p xs) s ∷ []
+replies_from-step limit p [] s = refl
+replies_from-step limit p (x ∷ xs) s =
+    ap (λ rs. answer_of limit p x ∷ rs) (replies_from-step limit (with_step limit p x) xs s)
+
+length-replies_from : (limit : ℕ) (p xs : List Step) → length (replies_from limit p xs) ≡ length xs
+length-replies_from limit p [] = refl
+length-replies_from limit p (x ∷ xs) = ap suc (length-replies_from limit (with_step limit p x) xs)
+
+reply_at : (limit : ℕ) (p prefix later : List Step) (s : Step)
+    → slice_get (replies_from limit p (prefix ++ s ∷ later)) (length prefix) ≡ Some (answer_of limit (past_from limit p prefix) s)
+reply_at limit p [] later s = refl
+reply_at limit p (x ∷ prefix) later s = reply_at limit (with_step limit p x) prefix later s
+
+pub replies_answer : (limit : ℕ) (steps : List Step) → AnswersEach limit steps (replies_to limit steps)
+replies_answer limit steps = record {
+  count = length-replies_from limit [] steps;
+  each = λ prefix later s is. ap (λ xs. slice_get (replies_to limit xs) (length prefix)) is ∙ reply_at limit [] prefix later s;
+}
+
+-- ---- a world in the course of a list of steps
+
+-- the world has taken these steps, with these replies
+pub record HasTaken (limit : ℕ) (done : List Step) (w : WorldView) (replies : List Reply) : Type 0 where
+  pub limited : w.summary.limit ≡ limit
+  pub stands : StandsFor w done
+  pub replied : replies ≡ replies_to limit done
+
+pub takes_more : (limit : ℕ) (done : List Step) (old new : WorldView) (replies : List Reply) (s : Step) (reply : Reply)
+    → HasTaken limit done old replies → Answers old s reply → Follows old s new → new.summary.limit ≡ old.summary.limit
+    → HasTaken limit (done ++ s ∷ []) new (replies ++ reply ∷ [])
+takes_more limit done old new replies s reply before answers follows same_limit = record {
+  limited = same_limit ∙ before.limited;
+  stands = follows done before.stands;
+  replied = ap₂ (λ rs r. rs ++ r ∷ []) before.replied
+      (answers done before.stands ∙ ap (λ n. answer_of n (past_of n done) s) before.limited)
+      ∙ sym (replies_from-step limit [] done s);
+}

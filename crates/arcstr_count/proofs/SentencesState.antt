@@ -1,21 +1,15 @@
--- The state of a handle, and what was done to it, as sentences about the prefixes of the history.
-use Rattle.std.proofs.Common.{◌∙◌, ◌≡◌, ◌↔◌, ℕ, ◌<◌, is_none, IsTrue, Option, None, Some, IfSome, List, refl, ap, Bool, true, false, not, ◌&&◌, if◌then◌else◌, subst}
-use Rattle.std.proofs.Common.{◌==◌, IsFalse, [], ◌∷◌, ◌⊎◌, inl, inr, sym}
-use Rattle.arcstr_count.specs.declared.steps.Step.{Step}
-use Rattle.arcstr_count.specs.declared.steps.HandleState.{HandleState}
-use Rattle.arcstr_count.specs.History.{births, is_raw, has_begun, has_subtracted, has_given, block_of}
-use Rattle.arcstr_count.specs.Marks.{state_of, began_unmarked, was_last, is_marked, living, is_only}
-use Rattle.arcstr_count.specs.Answer.{Need, needs, handle_state, refusal_by, is_accepted}
-use Rattle.arcstr_count.specs.Past.{past_of, IsPast}
-use Rattle.arcstr_count.specs.Sentences.{accepted_after, AcceptedSentence, FirstThatHolds, AcceptedWhere, HasAccepted, BeganUnmarked, OwesSentence}
-use Rattle.arcstr_count.specs.Sentences.{births_after, state_after, LastIsIntoRaw, StateSentence}
+-- The state of a handle, what was done to it, and the reply to a step, as sentences about the prefixes of the history.
+use Rattle.arcstr_count.proofs.Names.{◌∙◌, ◌≡◌, ◌↔◌, ℕ, ◌<◌, is_none, IsTrue, Option, None, Some, IfSome, List, refl, ap, Bool, true, false, not, ◌&&◌}
+use Rattle.arcstr_count.proofs.Names.{if◌then◌else◌, subst, ◌==◌, IsFalse, [], ◌∷◌, ◌⊎◌, inl, inr, sym, Step, HandleState, births, is_raw, has_begun}
+use Rattle.arcstr_count.proofs.Names.{has_subtracted, has_given, block_of, state_of, began_unmarked, was_last, is_marked, living, is_only, Need, needs}
+use Rattle.arcstr_count.proofs.Names.{handle_state, refusal_by, is_accepted, past_of, IsPast, accepted_after, AcceptedSentence, FirstThatHolds, AcceptedWhere}
+use Rattle.arcstr_count.proofs.Names.{HasAccepted, BeganUnmarked, OwesSentence, births_after, state_after, LastIsIntoRaw, StateSentence, false_from_ne_true}
+use Rattle.arcstr_count.proofs.Names.{and_parts, and_from, not-true, not_from_false, eqb-true, eq-eqb, Free, Raw, Dropping, Owing, Gone, Begin, Sub, Back}
+use Rattle.arcstr_count.proofs.Names.{IntoRaw, Look, Reply, Refused, StepFault, reply_by, refusal_of, accepted_answer, answer_after, LivesAlone, ByFact}
+use Rattle.arcstr_count.proofs.Names.{AcceptedAnswer, AnswerSentence}
 use Rattle.arcstr_count.proofs.LawsOfHandles.{is_in_handle_state, handle_state_is, accepts_needed, needed_state}
-use Rattle.std.proofs.lemmas.Bool.{false_from_ne_true, and_parts, and_from, not-true, not_from_false, eqb-true, eq-eqb}
-use Rattle.arcstr_count.specs.declared.steps.HandleState.TheVariants.{Free, Raw, Dropping, Owing, Gone}
-use Rattle.arcstr_count.specs.declared.steps.Step.TheVariants.{Begin, Sub, Back, IntoRaw}
-use Rattle.arcstr_count.proofs.Pasts.{IsPast-past_of, InPast, in_past, in_history}
-use Rattle.arcstr_count.proofs.SentencesBirths.{Born-more}
-use Rattle.arcstr_count.proofs.SentencesRaw.{is_raw-latest, raw_sentence}
+use Rattle.arcstr_count.proofs.Pasts.{IsPast-past_of, IsInPast, in_past, in_history}
+use Rattle.arcstr_count.proofs.SentencesHandles.{IsBorn-more, is_raw-latest, raw_sentence}
 
 by_need : (state : ℕ → Option HandleState) (o : Option Need)
     → IsTrue (is_none (refusal_by state o)) ↔ IfSome o (λ need. state need.handle ≡ Some need.state)
@@ -117,11 +111,11 @@ module _ (limit : ℕ) (s : Step) (Q : List Step → Type 0) (holds test : List 
       go true same = again p (subst (λ y. is_accepted limit p y ≡ true) (is_same-true x s same) accepted) e
       go false other = e
 
-  from_test : (p : List Step) → test p ≡ true → InPast p s Q
+  from_test : (p : List Step) → test p ≡ true → IsInPast p s Q
   from_test [] e = absurd (cc)
   from_test (x ∷ p) e = elim (latest x p e) [ inl w ↦ inl w | inr w ↦ inr (from_test p w) ]
 
-  to_test : (p : List Step) → IsPast limit p → InPast p s Q → test p ≡ true
+  to_test : (p : List Step) → IsPast limit p → IsInPast p s Q → test p ≡ true
   to_test [] past w = absurd w
   to_test (x ∷ p) past (inl w) =
       ap (λ y. test (y ∷ p)) w.0 ∙ more s p ∙ ap (λ b. if b then holds p else test p) itself ∙ (decides p).1 w.1
@@ -350,7 +344,7 @@ subtracted_began limit h (x ∷ p) past e =
 
     later : (h < births p) × (is_raw p h ≡ false) × (has_begun p h ≡ true) → (h < births (x ∷ p)) × (is_raw (x ∷ p) h ≡ false) × (has_begun (x ∷ p) h ≡ true)
     later w = (
-      (Born-more x p h (block_of p h) (w.0, refl)).0,
+      (IsBorn-more x p h (block_of p h) (w.0, refl)).0,
       false_from_ne_true (is_raw (x ∷ p) h) not_raw,
       done_kept limit (Begin h) (λ q. has_begun q h) (eq-eqb h h refl) refl (has_begun-more h) x p past.0 w.2,
     )
@@ -394,3 +388,57 @@ owing_from_owes limit history h w = (handle_state_sentence limit (past_of limit 
 
 pub owes_sentence : (limit : ℕ) (history : List Step) (h : ℕ) → (state_after limit history h ≡ Some Owing) ↔ OwesSentence limit history h
 owes_sentence limit history h = ((λ e. ((state_sentence limit history h Owing).0 e).1.3), owing_from_owes limit history h)
+
+-- ==== the reply to a step is the one that the sentence about the history says
+
+-- ---- an accepted step
+
+-- one of two replies, by a test that decides a fact
+by_test : (b : Bool) (fact : Type 0) → IsTrue b ↔ fact → (holds fails reply : Reply) → ((if b then holds else fails) ≡ reply) ↔ ByFact fact holds fails reply
+by_test true fact decides holds fails reply = (
+  (λ e. inl (decides.0 refl, sym e)),
+  elim [ inl w ↦ sym w.1 | inr w ↦ absurd (w.0 (decides.0 refl)) ],
+)
+by_test false fact decides holds fails reply = (
+  (λ e. inr ((λ f. let no = decides.1 f in cc), sym e)),
+  elim [ inl w ↦ (let no = decides.1 w.0 in cc) | inr w ↦ sym w.1 ],
+)
+
+same : (x y : Reply) → (x ≡ y) ↔ (y ≡ x)
+same x y = ((λ e. sym e), (λ e. sym e))
+
+module _ (limit : ℕ) (history : List Step) where
+  accepted_answer_sentence : (s : Step) (reply : Reply) → (accepted_answer limit (past_of limit history) s ≡ reply) ↔ AcceptedAnswer limit history s reply
+  accepted_answer_sentence (Look h) reply = by_test (is_marked limit (past_of limit history) (block_of (past_of limit history) h)) _ ((λ e. e), (λ e. e)) _ _ reply
+  accepted_answer_sentence (Begin h) reply = by_test (is_marked limit (past_of limit history) (block_of (past_of limit history) h)) _ ((λ e. e), (λ e. e)) _ _ reply
+  accepted_answer_sentence (Sub h) reply = by_test _ (LivesAlone limit history h) (alone_sentence limit h (past_of limit history)) _ _ reply
+  accepted_answer_sentence s reply = same _ reply
+
+-- ---- both
+
+-- the reply, given a refusal or none
+by_refusal : (o : Option StepFault) (answer reply : Reply) → (reply_by o answer ≡ reply)
+    ↔ ((IsTrue (is_none o) × (answer ≡ reply)) ⊎ ((fault : StepFault) × (o ≡ Some fault) × (reply ≡ Refused fault)))
+by_refusal None answer reply = (
+  (λ e. inl (refl, e)),
+  elim [ inl w ↦ w.1 | inr w ↦ (let no = w.1 in cc) ],
+)
+by_refusal (Some fault) answer reply = (
+  (λ e. inr (fault, refl, sym e)),
+  elim [ inl w ↦ (let no = w.0 in cc) | inr w ↦ (let is = w.1 in let said = w.2 in cc) ],
+)
+
+pub answer_sentence : (limit : ℕ) (history : List Step) (s : Step) (reply : Reply) → (answer_after limit history s ≡ reply) ↔ AnswerSentence limit history s reply
+answer_sentence limit history s reply =
+    let accepted = accepted_sentence limit history s in
+    let answered = accepted_answer_sentence limit history s reply in
+    let replied = by_refusal (refusal_of limit (past_of limit history) s) (accepted_answer limit (past_of limit history) s) reply in (
+      (λ e. elim (replied.0 e) [
+        | inl w ↦ inl (accepted.0 w.0, answered.0 w.1)
+        | inr w ↦ inr w
+      ]),
+      elim [
+        | inl w ↦ replied.1 (inl (accepted.1 w.0, answered.1 w.1))
+        | inr w ↦ replied.1 (inr w)
+      ],
+    )

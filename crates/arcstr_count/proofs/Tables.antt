@@ -1,29 +1,15 @@
 -- The tables of a past: how they follow from those of the steps before, and how the tables of a world stand for them.
-use Rattle.std.proofs.Common.{◌≡◌, ◌≢◌, ℕ, zero, suc, ◌<◌, ◌≤◌, Bool, true, false, List, [], ◌∷◌, ◌++◌, map, length, get_or, set, refl, sym}
-use Rattle.std.proofs.Common.{◌∙◌, ap, ◌⊎◌, inl, inr, arith, nat_lt, if◌then◌else◌, ap₂, lt-ltb, Option, None, Some, IfSome, IsNone, subst, ltb-true}
-use Rattle.std.proofs.Common.{ltb-false}
-use Rattle.std.proofs.lemmas.List.{map_push, length-map, length_push, set_at, set-append_left, get_or_push, get_or_append_left, same_lists, get_or-map}
-use Rattle.std.proofs.lemmas.Bool.{cases_eq}
-use Rattle.arcstr_count.specs.declared.steps.Step.{Step}
-use Rattle.arcstr_count.specs.declared.steps.Step.TheVariants.{Make, Clone, Back, Leak, Sub}
-use Rattle.arcstr_count.specs.declared.steps.HandleState.{HandleState}
-use Rattle.arcstr_count.specs.declared.steps.HandleState.TheVariants.{Free}
-use Rattle.arcstr_count.specs.declared.steps.HandleSummary.{HandleSummary}
-use Rattle.arcstr_count.specs.Word.{FlagAndCount, fresh_word, cloned_of, dropped_of, marked_of}
-use Rattle.arcstr_count.specs.History.{makes, births, block_of, numbers_below}
-use Rattle.arcstr_count.specs.Past.{IsPast, times_given, past_of}
-use Rattle.arcstr_count.specs.Left.{word_left}
-use Rattle.arcstr_count.specs.Summary.{BlockSummary, handle_summary, block_summary, handles_of, blocks_of, words_left, Summary, StandsFor, WorldView}
+use Rattle.arcstr_count.proofs.Names.{◌≡◌, ◌≢◌, ℕ, zero, suc, ◌<◌, ◌≤◌, Bool, true, false, List, [], ◌∷◌, ◌++◌, map, length, get_or, set, refl, sym, ◌∙◌, ap}
+use Rattle.arcstr_count.proofs.Names.{◌⊎◌, inl, inr, arith, nat_lt, if◌then◌else◌, ap₂, lt-ltb, Option, None, Some, IfSome, IsNone, subst, ltb-true, ltb-false}
+use Rattle.arcstr_count.proofs.Names.{map_push, length-map, length_push, set_at, set-append_left, get_or_push, get_or_append_left, same_lists, get_or-map}
+use Rattle.arcstr_count.proofs.Names.{cases_eq, Step, Make, Clone, Back, Leak, Sub, HandleState, Free, HandleSummary, FlagAndCount, fresh_word, cloned_of}
+use Rattle.arcstr_count.proofs.Names.{dropped_of, marked_of, makes, births, block_of, numbers_below, IsPast, times_given, past_of, word_left, BlockSummary}
+use Rattle.arcstr_count.proofs.Names.{handle_summary, block_summary, handles_of, blocks_of, words_left, Summary, StandsFor, WorldView, map-map, BlockEntry}
+use Rattle.arcstr_count.proofs.Names.{summary_in, word_in, view_of, slice_get, slice_get_within, get_or_from_slice_get, slice_get-get_or, given_after}
 use Rattle.arcstr_count.proofs.LawsOfHandles.{same_test, other_test, ChangesOne, state-born, block-Make, block-Make_other, block-Clone, block-Clone_other}
-use Rattle.std.proofs.lemmas.Simd.{map-map}
-use Rattle.arcstr_count.specs.declared.worlds.BlockEntry.{BlockEntry}
-use Rattle.arcstr_count.specs.Tables.{summary_in, word_in, view_of}
 use Rattle.arcstr_count.proofs.Pasts.{IsPast-past_of}
 use Rattle.arcstr_count.proofs.LawsOfPasts.{word_stands, given_once}
 use Rattle.arcstr_count.proofs.LawsOfBlocks.{unmade_block}
-use Rattle.std.specs.List.{slice_get}
-use Rattle.std.proofs.lemmas.Option.{slice_get_within, get_or_from_slice_get, slice_get-get_or}
-use Rattle.arcstr_count.specs.After.{given_after}
 
 -- ---- tables of a function of the numbers below n
 

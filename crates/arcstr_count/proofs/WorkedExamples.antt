@@ -1,13 +1,8 @@
 -- Worked examples on histories, checked by computation.
-use Rattle.std.proofs.Common.{◌≡◌, List, [], ◌∷◌, refl, ℕ, true, false}
-use Rattle.arcstr_count.specs.declared.steps.Step.{Step}
-use Rattle.arcstr_count.specs.declared.steps.Step.TheVariants.{Make, Look, Clone, Begin, Sub, Back, Leak, IntoRaw, FromRaw}
-use Rattle.arcstr_count.specs.declared.steps.Reply.{Reply}
-use Rattle.arcstr_count.specs.declared.steps.Reply.TheVariants.{Made, Count, Static, Handle, Looked, Ended, Left, Owes, Given, Marked, Raw as RawReply, Unraw, Refused}
-use Rattle.arcstr_count.specs.declared.faults.StepFault.TheVariants.{NoHandle, InDrop, NotInDrop, NotOwing, IsRaw, NotRaw}
-use Rattle.arcstr_count.proofs.Replies.{replies_to}
-use Rattle.arcstr_count.specs.Word.{FlagAndCount}
-use Rattle.arcstr_count.specs.After.{living_after, dropping_after, owing_after, given_after, word_after}
+use Rattle.arcstr_count.proofs.Names.{◌≡◌, List, [], ◌∷◌, refl, ℕ, true, false, Step, Make, Look, Clone, Begin, Sub, Back, Leak, IntoRaw, FromRaw, Reply, Made}
+use Rattle.arcstr_count.proofs.Names.{Count, Static, Handle, Looked, Ended, Left, Owes, Given, Marked, RawReply, Unraw, Refused, NoHandle, InDrop, NotInDrop}
+use Rattle.arcstr_count.proofs.Names.{NotOwing, IsRaw, NotRaw, FlagAndCount, living_after, dropping_after, owing_after, given_after, word_after}
+use Rattle.arcstr_count.proofs.Pasts.{replies_to}
 
 -- under a limit the steps of a history give these replies, and free block 0 this often
 abbrev Gives : ℕ → List Step → List Reply → ℕ → Type 0

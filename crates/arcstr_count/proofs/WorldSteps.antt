@@ -1,42 +1,26 @@
 -- How a world takes a step: what it finds in its tables, and what each accepted step makes of them.
-use Rattle.std.proofs.Common.{◌≡◌, ℕ, ◌<◌, ◌≤◌, Bool, true, false, nat_lt, if◌then◌else◌, Option, None, Some, option_map, List, [], ◌∷◌, ◌++◌, length, get_or}
-use Rattle.std.proofs.Common.{refl, sym, ◌∙◌, ap, subst, arith, is_none, IfSome, ltb-true, ltb-false, not, ◌&&◌, set, map, ap₂}
-use Rattle.std.proofs.Math.Logic.{∥∥₁_map, ∥∥₁_elim}
-use Rattle.std.proofs.Props.{props}
-use Rattle.std.proofs.lemmas.Option.{slice_get_within, get_or_from_slice_get, slice_get-get_or, slice_get_past}
-use Rattle.std.specs.List.{slice_get}
-use Rattle.arcstr_count.specs.declared.steps.Step.{Step}
-use Rattle.arcstr_count.specs.declared.steps.Step.TheVariants.{Clone, Make, Look, Begin, Sub, Back, Leak, IntoRaw, FromRaw}
-use Rattle.arcstr_count.specs.declared.steps.HandleState.{HandleState}
-use Rattle.arcstr_count.specs.declared.steps.HandleState.TheVariants.{Free, Raw, Dropping, Owing, Gone}
-use Rattle.arcstr_count.specs.declared.steps.HandleSummary.{HandleSummary}
-use Rattle.arcstr_count.specs.declared.steps.Reply.{Reply}
-use Rattle.arcstr_count.specs.declared.steps.Reply.TheVariants.{Refused, Made, Handle, Looked, Ended, Left, Owes, Given, Marked, Raw as RawReply, Unraw}
-use Rattle.arcstr_count.specs.declared.faults.StepFault.{StepFault}
-use Rattle.arcstr_count.specs.declared.worlds.BlockEntry.{BlockEntry}
-use Rattle.arcstr_count.specs.History.{makes, births, block_of}
-use Rattle.arcstr_count.specs.Marks.{state_of, is_marked, living, is_only}
-use Rattle.arcstr_count.specs.Answer.{Need, needs, handle_state, refusal_unless, refusal_by, refusal_of, accepted_answer, reply_by, is_accepted}
-use Rattle.arcstr_count.specs.Past.{IsPast, past_of}
-use Rattle.arcstr_count.specs.Summary.{Summary, WorldView, StandsFor, handle_summary, handles_of, summary_of, words_left}
-use Rattle.arcstr_count.specs.Tables.{view_of, IsWorld, word_in, no_handle, no_block, handles_with_state, blocks_with_word, blocks_with_mark, blocks_with_given}
-use Rattle.arcstr_count.specs.Taken.{IsRefusal, IsAcceptedBy, Answers, Follows, Takes, HasHistory}
-use Rattle.arcstr_count.specs.OneHandle.{state_at, IsAt}
+use Rattle.arcstr_count.proofs.Names.{◌≡◌, ℕ, ◌<◌, ◌≤◌, Bool, true, false, nat_lt, if◌then◌else◌, Option, None, Some, option_map, List, [], ◌∷◌, ◌++◌, length}
+use Rattle.arcstr_count.proofs.Names.{get_or, refl, sym, ◌∙◌, ap, subst, arith, is_none, IfSome, ltb-true, ltb-false, not, ◌&&◌, set, map, ap₂, ∥∥₁_map}
+use Rattle.arcstr_count.proofs.Names.{∥∥₁_elim, props, slice_get_within, get_or_from_slice_get, slice_get-get_or, slice_get_past, slice_get, Step, Clone, Make}
+use Rattle.arcstr_count.proofs.Names.{Look, Begin, Sub, Back, Leak, IntoRaw, FromRaw, HandleState, Free, Raw, Dropping, Owing, Gone, HandleSummary, Reply}
+use Rattle.arcstr_count.proofs.Names.{Refused, Made, Handle, Looked, Ended, Left, Owes, Given, Marked, RawReply, Unraw, StepFault, BlockEntry, makes, births}
+use Rattle.arcstr_count.proofs.Names.{block_of, state_of, is_marked, living, is_only, Need, needs, handle_state, refusal_unless, refusal_by, refusal_of}
+use Rattle.arcstr_count.proofs.Names.{accepted_answer, reply_by, is_accepted, IsPast, past_of, Summary, WorldView, StandsFor, handle_summary, handles_of}
+use Rattle.arcstr_count.proofs.Names.{summary_of, words_left, view_of, IsWorld, word_in, no_handle, no_block, handles_with_state, blocks_with_word}
+use Rattle.arcstr_count.proofs.Names.{blocks_with_mark, blocks_with_given, IsRefusal, IsAcceptedBy, Answers, Follows, Takes, HasHistory, state_at, IsAt}
+use Rattle.arcstr_count.proofs.Names.{FlagAndCount, fresh_word, looked_of, cloned_of, dropped_of, marked_of, is_last, word_left, look_reply}
 use Rattle.arcstr_count.proofs.Pasts.{past_of-step, IsPast-past_of}
 use Rattle.arcstr_count.proofs.LawsOfHandles.{IsIn, handle_state_is, block_made, accepts_needed, ChangesOne, Begin-changes, Sub-changes, Back-changes}
 use Rattle.arcstr_count.proofs.LawsOfHandles.{IntoRaw-changes, FromRaw-changes}
 use Rattle.arcstr_count.proofs.Tables.{handle_at, length-handles_of, length-words_left, AreTablesOf, entry_of, entries_of, get_or-entries_of, tables_from_view}
 use Rattle.arcstr_count.proofs.Tables.{view_from_tables, handle_is, handles-Make, handles-Clone, handles-changed, entry_with, with_word, length-entries_of}
 use Rattle.arcstr_count.proofs.Tables.{entries-Make, entries-Clone, entries-Sub, entries-Leak, entries-Back, words_of-entries}
-use Rattle.arcstr_count.specs.Word.{FlagAndCount, fresh_word, looked_of, cloned_of, dropped_of, marked_of, is_last}
-use Rattle.arcstr_count.specs.Left.{word_left}
-use Rattle.arcstr_count.specs.OneBlock.{look_reply}
 use Rattle.arcstr_count.proofs.LawsOfPasts.{word_stands, look_answers, Sub_counted, Sub_last}
 
 -- ---- what is found
 
 -- the handle was born, on this block and in this state, and the block was made
-pub record FoundIn (limit : ℕ) (p : List Step) (h b : ℕ) (s : HandleState) : Type 0 where
+pub record IsFoundIn (limit : ℕ) (p : List Step) (h b : ℕ) (s : HandleState) : Type 0 where
   pub is_in : IsIn limit p h s
   pub block : block_of p h ≡ b
   pub made : b < makes p
@@ -44,7 +28,7 @@ pub record FoundIn (limit : ℕ) (p : List Step) (h b : ℕ) (s : HandleState) :
 -- what a world's view has about a handle is what the past has about it
 pub found_in_past : (w : WorldView) (p : List Step) (h b : ℕ) (s : HandleState)
     → w.summary.handles ≡ handles_of w.summary.limit p → w.words ≡ words_left w.summary.limit p → IsAt w h b s
-    → FoundIn w.summary.limit p h b s
+    → IsFoundIn w.summary.limit p h b s
 found_in_past w p h b s handles words at = record {
   is_in = record { born = born; state = ap (λ (found : HandleSummary). found.state) is };
   block = ap (λ (found : HandleSummary). found.block) is;
@@ -216,7 +200,7 @@ clone_accepted w h b at history stands =
     p : List Step
     p = past_of w.summary.limit history
 
-    found : FoundIn w.summary.limit p h b Free
+    found : IsFoundIn w.summary.limit p h b Free
     found = found_in_past w p h b Free (ap (λ (t : Summary). t.handles) stands.summary) stands.words at
 
 -- ==== each accepted step: what it makes of the world's tables
@@ -262,7 +246,7 @@ record ChangesState (limit : ℕ) (p : List Step) (s : Step) (h : ℕ) (old new 
 module _ (limit : ℕ) (handles : List HandleSummary) (blocks : List BlockEntry) (old : WorldView) (h b : ℕ)
     (view_is : view_of limit handles blocks ≡ old) where
   -- what the tables have about the handle is what the past has
-  found_after : (s : HandleState) (p : List Step) → IsAt old h b s → AreTablesOf limit p handles blocks → FoundIn limit p h b s
+  found_after : (s : HandleState) (p : List Step) → IsAt old h b s → AreTablesOf limit p handles blocks → IsFoundIn limit p h b s
   found_after s p at tables = found_in_past (view_of limit handles blocks) p h b s tables.handles_are
       (ap (λ es. map word_in es) tables.blocks_are ∙ words_of-entries limit p)
       (subst (λ w. IsAt w h b s) (sym view_is) at)
@@ -272,7 +256,7 @@ module _ (limit : ℕ) (handles : List HandleSummary) (blocks : List BlockEntry)
   block_read p tables made = ap (λ (es : List BlockEntry). get_or es b no_block) tables.blocks_are ∙ get_or-entries_of limit p b no_block made
 
   -- the table of handles with the handle in another state
-  state_changed : (s : HandleState) (p : List Step) → AreTablesOf limit p handles blocks → FoundIn limit p h b s → (new : HandleState)
+  state_changed : (s : HandleState) (p : List Step) → AreTablesOf limit p handles blocks → IsFoundIn limit p h b s → (new : HandleState)
       → handles_with_state handles h new ≡ set (handles_of limit p) h (record { block = block_of p h; state = new })
   state_changed s p tables f new = set_with tables.handles_are refl (handle_is block refl)
     where
@@ -282,7 +266,7 @@ module _ (limit : ℕ) (handles : List HandleSummary) (blocks : List BlockEntry)
 
   -- the table of blocks with another word on the handle's block
   word_changed : (s : HandleState) (w : FlagAndCount) (F : FlagAndCount → FlagAndCount) (p : List Step)
-      → AreTablesOf limit p handles blocks → FoundIn limit p h b s → w ≡ F (word_left limit p b)
+      → AreTablesOf limit p handles blocks → IsFoundIn limit p h b s → w ≡ F (word_left limit p b)
       → blocks_with_word blocks b w ≡ set (entries_of limit p) (block_of p h)
       (with_word (entry_of limit p (block_of p h)) (F (word_left limit p (block_of p h))))
   word_changed s w F p tables f is = set_with tables.blocks_are (sym f.block) (ap₂ entry_with word given)
@@ -294,7 +278,7 @@ module _ (limit : ℕ) (handles : List HandleSummary) (blocks : List BlockEntry)
       given = ap (λ (x : BlockEntry). x.given) (block_read p tables f.made) ∙ ap (λ k. (entry_of limit p k).given) (sym f.block)
 
   -- the table of blocks with the handle's block freed
-  given_changed : (s : HandleState) (p : List Step) → AreTablesOf limit p handles blocks → FoundIn limit p h b s
+  given_changed : (s : HandleState) (p : List Step) → AreTablesOf limit p handles blocks → IsFoundIn limit p h b s
       → blocks_with_given blocks b ≡ set (entries_of limit p) (block_of p h) (record { word = word_left limit p (block_of p h); given = true })
   given_changed s p tables f = set_with tables.blocks_are (sym f.block) (ap (λ v. entry_with v true) word)
     where
@@ -304,7 +288,7 @@ module _ (limit : ℕ) (handles : List HandleSummary) (blocks : List BlockEntry)
   -- a step that needs the handle in a state, given what it changes after each past
   takes_step : (s : Step) (needed : HandleState) (reply : Reply) (new_handles : List HandleSummary) (new_blocks : List BlockEntry)
       → needs s ≡ Some (record { handle = h; state = needed }) → IsAt old h b needed → (IsRefusal reply → ⊥)
-      → ((p : List Step) → IsPast limit p → AreTablesOf limit p handles blocks → FoundIn limit p h b needed → is_accepted limit p s ≡ true
+      → ((p : List Step) → IsPast limit p → AreTablesOf limit p handles blocks → IsFoundIn limit p h b needed → is_accepted limit p s ≡ true
       → Changes limit p s reply new_handles new_blocks)
       → Takes old s reply (view_of limit new_handles new_blocks)
   takes_step s needed reply new_handles new_blocks need at answers change =
@@ -318,7 +302,7 @@ module _ (limit : ℕ) (handles : List HandleSummary) (blocks : List BlockEntry)
   -- a step that changes the handle's state
   takes_change : (s : Step) (needed new : HandleState) (reply : Reply) (new_blocks : List BlockEntry)
       → needs s ≡ Some (record { handle = h; state = needed }) → IsAt old h b needed → (IsRefusal reply → ⊥)
-      → ((p : List Step) → IsPast limit p → AreTablesOf limit p handles blocks → FoundIn limit p h b needed → is_accepted limit p s ≡ true
+      → ((p : List Step) → IsPast limit p → AreTablesOf limit p handles blocks → IsFoundIn limit p h b needed → is_accepted limit p s ≡ true
       → ChangesState limit p s h needed new reply new_blocks)
       → Takes old s reply (view_of limit (handles_with_state handles h new) new_blocks)
   takes_change s needed new reply new_blocks need at answers change =
@@ -335,7 +319,7 @@ module _ (limit : ℕ) (handles : List HandleSummary) (blocks : List BlockEntry)
     entry_is p tables made = entry_read limit p blocks b e tables.blocks_are made read
 
     -- the flag of the entry says whether the handle's block is marked
-    mark_is : (s : HandleState) (p : List Step) → IsPast limit p → AreTablesOf limit p handles blocks → FoundIn limit p h b s
+    mark_is : (s : HandleState) (p : List Step) → IsPast limit p → AreTablesOf limit p handles blocks → IsFoundIn limit p h b s
         → is_marked limit p (block_of p h) ≡ e.word.flag
     mark_is s p past tables f = ap (λ k. is_marked limit p k) f.block
         ∙ sym (word_stands limit p b past f.made).flag
@@ -351,7 +335,7 @@ module _ (limit : ℕ) (handles : List HandleSummary) (blocks : List BlockEntry)
         answers None refusal = refusal
         answers (Some n) refusal = refusal
 
-        change : (p : List Step) → IsPast limit p → AreTablesOf limit p handles blocks → FoundIn limit p h b Free → is_accepted limit p (Look h) ≡ true
+        change : (p : List Step) → IsPast limit p → AreTablesOf limit p handles blocks → IsFoundIn limit p h b Free → is_accepted limit p (Look h) ≡ true
             → Changes limit p (Look h) (look_reply (looked_of e.word)) handles blocks
         change p past tables f a = record {
           answer = sym (look_answers limit p (block_of p h) e.word (rw (f.block, entry_is p tables f.made) (word_stands limit p b past f.made)));

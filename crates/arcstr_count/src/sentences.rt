@@ -34,7 +34,7 @@ pub fn accepted_is(limit: u64, history: &[Step], step: Step)
 /// ```
 /// sentences::births_are(2, &[Step::Make, Step::Clone(0)]);
 /// ```
-#[tactic(auto, using(crate::proofs::SentencesBirths::births_sentence, crate::proofs::SentencesBirths::makes_sentence))]
+#[tactic(auto, using(crate::proofs::SentencesHandles::births_sentence, crate::proofs::SentencesHandles::makes_sentence))]
 pub fn births_are(limit: u64, history: &[Step])
     ensures handles { births_after limit history.now ≡ accepted_count limit history.now (λ prefix s. is_birth s) }
     ensures blocks { makes_after limit history.now ≡ accepted_count limit history.now (λ prefix s. is_make s) }
@@ -129,7 +129,7 @@ pub fn under_way_is(limit: u64, history: &[Step], block: u64, handle: u64)
 /// let history = [Step::Make, Step::Begin(0), Step::Sub(0), Step::Back(0)];
 /// sentences::given_is(2, &history, block);
 /// ```
-#[tactic(auto, using(crate::proofs::SentencesBirths::given_count_sentence))]
+#[tactic(auto, using(crate::proofs::SentencesHandles::given_count_sentence))]
 pub fn given_is(limit: u64, history: &[Step], block: u64)
     ensures { given_after limit history.now block ≡ given_count limit history.now block }
 {}
@@ -142,7 +142,7 @@ pub fn given_is(limit: u64, history: &[Step], block: u64)
 /// ```
 /// sentences::answer_is(2, &[Step::Make], Step::Look(0), Reply::Count(1));
 /// ```
-#[tactic(auto, using(crate::proofs::SentencesAnswer::answer_sentence))]
+#[tactic(auto, using(crate::proofs::SentencesState::answer_sentence))]
 pub fn answer_is(limit: u64, history: &[Step], step: Step, reply: Reply)
     ensures { (answer_after limit history.now step ≡ reply) ↔ AnswerSentence limit history.now step reply }
 {}

@@ -1,4 +1,4 @@
-use Rattle.std.proofs.Common.{refl, ◌∙◌, ap, length}
+use Rattle.arcstr_count.proofs.Names.{refl, ◌∙◌, ap, length}
 use Rattle.arcstr_count.proofs.WorldSteps.{takes_refused, world_kept, clone_accepted, push_with, takes_clone}
 use Rattle.arcstr_count.proofs.worlds.World.clone.Goals as goal
 
@@ -13,8 +13,7 @@ returns-then-is_err-clause-accepted g c = clone_accepted c.args.self.now c.args.
 
 pub returns-clause-takes : goal.returns-clause-takes
 returns-clause-takes g c = rw c.set_word.ensures
-    (takes_clone c.self.inside.limit c.self.inside.handles.items c.self.inside.blocks.items c.args.self.now
-    c.args.handle c.in-Ok.block c.self.view_is c.index.result.now c.index.ensures
+    (takes_clone _ _ _ _ _ _ c.self.view_is c.index.result.now c.index.ensures
     _ _ _ c.in-Ok.ensures.found
     (c.push_handle.ensures.number ∙ ap length c.reserve.ensures.items)
     (c.push_handle.ensures.born ∙ push_with c.reserve.ensures.items refl)

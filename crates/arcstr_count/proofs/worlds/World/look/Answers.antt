@@ -1,7 +1,4 @@
-use Rattle.std.proofs.Common.{refl, ◌∙◌, sym, subst}
-use Rattle.arcstr_count.specs.declared.steps.Step.TheVariants.{Look}
-use Rattle.arcstr_count.specs.OneBlock.{look_reply}
-use Rattle.arcstr_count.specs.Taken.{Takes}
+use Rattle.arcstr_count.proofs.Names.{refl, ◌∙◌, sym, subst, Look, look_reply, Takes}
 use Rattle.arcstr_count.proofs.WorldSteps.{takes_refused, takes_look}
 use Rattle.arcstr_count.proofs.worlds.World.look.Goals as goal
 

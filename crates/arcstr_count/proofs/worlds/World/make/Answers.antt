@@ -1,4 +1,4 @@
-use Rattle.std.proofs.Common.{refl, ◌∙◌, ap, length}
+use Rattle.arcstr_count.proofs.Names.{refl, ◌∙◌, ap, length}
 use Rattle.arcstr_count.proofs.WorldSteps.{world_kept, push_with, takes_make}
 use Rattle.arcstr_count.proofs.worlds.World.make.Goals as goal
 

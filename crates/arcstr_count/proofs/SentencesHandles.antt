@@ -1,20 +1,11 @@
--- Births, and numbers of accepted steps, as sentences about the prefixes of the history.
-use Rattle.std.proofs.Common.{◌≡◌, ℕ, zero, suc, ◌<◌, Bool, true, false, ◌&&◌, if◌then◌else◌, Some, List, [], ◌∷◌, ◌++◌, length, filter, take, slice_get, refl}
-use Rattle.std.proofs.Common.{sym, ◌∙◌, ap, arith, ◌↔◌, ◌==◌, ◌⊎◌, inl, inr, subst}
-use Rattle.std.proofs.lemmas.List.{append-nil, length_push, get_or_append_left, get_or_push, take-append-le}
-use Rattle.std.proofs.lemmas.List.Elements.{filter-append}
-use Rattle.std.proofs.lemmas.Option.{slice_get-get_or}
-use Rattle.std.proofs.Math.Seq.{take-append_seam}
-use Rattle.arcstr_count.specs.declared.steps.Step.{Step}
-use Rattle.arcstr_count.specs.declared.steps.Step.TheVariants.{Make, Clone, Back}
-use Rattle.arcstr_count.specs.History.{makes, births, block_of, numbers_below, is_make, is_birth}
-use Rattle.arcstr_count.specs.Answer.{is_accepted}
-use Rattle.arcstr_count.specs.Past.{past_of, times_given}
-use Rattle.arcstr_count.specs.After.{given_after}
-use Rattle.arcstr_count.specs.Sentences.{accepted_after, passes_after, accepted_count, births_after, makes_after, is_back_on, given_count, block_after}
-use Rattle.arcstr_count.specs.Sentences.{BornSentence}
-use Rattle.arcstr_count.proofs.Pasts.{by_steps, past_of-accepted, past_of-refused, InPast, in_past, in_history}
-use Rattle.std.proofs.lemmas.Bool.{eqb-true, eqb-false, eq-eqb, ne_eqb, cond-true, cond-false}
+-- Births of handles, raw handles, and numbers of accepted steps, as sentences about the prefixes of the history.
+use Rattle.arcstr_count.proofs.Names.{◌≡◌, ℕ, zero, suc, ◌<◌, Bool, true, false, ◌&&◌, if◌then◌else◌, Some, List, [], ◌∷◌, ◌++◌, length, filter, take}
+use Rattle.arcstr_count.proofs.Names.{slice_get, refl, sym, ◌∙◌, ap, arith, ◌↔◌, ◌==◌, ◌⊎◌, inl, inr, subst, append-nil, length_push, get_or_append_left}
+use Rattle.arcstr_count.proofs.Names.{get_or_push, take-append-le, filter-append, slice_get-get_or, take-append_seam, Step, Make, Clone, Back, makes, births}
+use Rattle.arcstr_count.proofs.Names.{block_of, numbers_below, is_make, is_birth, is_accepted, past_of, times_given, given_after, accepted_after, passes_after}
+use Rattle.arcstr_count.proofs.Names.{accepted_count, births_after, makes_after, is_back_on, given_count, block_after, BornSentence, eqb-true, eqb-false}
+use Rattle.arcstr_count.proofs.Names.{eq-eqb, ne_eqb, cond-true, cond-false, ◌≢◌, IsFalse, append_assoc, IntoRaw, FromRaw, is_raw, LastIsIntoRaw}
+use Rattle.arcstr_count.proofs.Pasts.{by_steps, past_of-accepted, past_of-refused, IsInPast, in_past, in_history, none_in_nil, last_or_before}
 
 -- ---- the numbers below another
 
@@ -126,61 +117,61 @@ abbrev ClonesOn : ℕ → ℕ → ℕ → List Step → Type 0
 ClonesOn g h b q = (births q ≡ h) × (block_of q g ≡ b)
 
 -- the sentence, about a past
-abbrev BornIn : List Step → ℕ → ℕ → Type 0
-BornIn p h b = InPast p Make (MakesOn h b) ⊎ ((g : ℕ) × InPast p (Clone g) (ClonesOn g h b))
+abbrev IsBornIn : List Step → ℕ → ℕ → Type 0
+IsBornIn p h b = IsInPast p Make (MakesOn h b) ⊎ ((g : ℕ) × IsInPast p (Clone g) (ClonesOn g h b))
 
-BornIn-more : (x : Step) (p : List Step) (h b : ℕ) → BornIn p h b → BornIn (x ∷ p) h b
-BornIn-more x p h b m = elim m [ inl w ↦ inl (inr w) | inr w ↦ inr (w.0, inr w.1) ]
+IsBornIn-more : (x : Step) (p : List Step) (h b : ℕ) → IsBornIn p h b → IsBornIn (x ∷ p) h b
+IsBornIn-more x p h b m = elim m [ inl w ↦ inl (inr w) | inr w ↦ inr (w.0, inr w.1) ]
 
-born_in : (p : List Step) (h b : ℕ) → h < births p → block_of p h ≡ b → BornIn p h b
+born_in : (p : List Step) (h b : ℕ) → h < births p → block_of p h ≡ b → IsBornIn p h b
 born_in [] h b lt e = absurd (omega arith)
 born_in (Make ∷ p) h b lt e = go (h == births p) refl e (born_in p h b)
   where
     go : (c : Bool) → (h == births p) ≡ c → (if c then makes p else block_of p h) ≡ b
-        → (h < births p → block_of p h ≡ b → BornIn p h b) → BornIn (Make ∷ p) h b
+        → (h < births p → block_of p h ≡ b → IsBornIn p h b) → IsBornIn (Make ∷ p) h b
     go true same e before = inl (inl (refl, (sym (eqb-true h (births p) same), e)))
     go false other e before =
         let differ : h ≡ births p → ⊥ = eqb-false h (births p) other in
-        BornIn-more Make p h b (before (omega (arith, differ)) e)
+        IsBornIn-more Make p h b (before (omega (arith, differ)) e)
 born_in (Clone g ∷ p) h b lt e = go (h == births p) refl e (born_in p h b)
   where
     go : (c : Bool) → (h == births p) ≡ c → (if c then block_of p g else block_of p h) ≡ b
-        → (h < births p → block_of p h ≡ b → BornIn p h b) → BornIn (Clone g ∷ p) h b
+        → (h < births p → block_of p h ≡ b → IsBornIn p h b) → IsBornIn (Clone g ∷ p) h b
     go true same e before = inr (g, inl (refl, (sym (eqb-true h (births p) same), e)))
     go false other e before =
         let differ : h ≡ births p → ⊥ = eqb-false h (births p) other in
-        BornIn-more (Clone g) p h b (before (omega (arith, differ)) e)
-born_in (s ∷ p) h b lt e = BornIn-more s p h b (born_in p h b lt e)
+        IsBornIn-more (Clone g) p h b (before (omega (arith, differ)) e)
+born_in (s ∷ p) h b lt e = IsBornIn-more s p h b (born_in p h b lt e)
 
 -- ---- a handle that was born keeps its block
 
-abbrev pub Born : List Step → ℕ → ℕ → Type 0
-Born p h b = (h < births p) × (block_of p h ≡ b)
+abbrev pub IsBorn : List Step → ℕ → ℕ → Type 0
+IsBorn p h b = (h < births p) × (block_of p h ≡ b)
 
-block_of-older : (p : List Step) (h b new : ℕ) → Born p h b → (if h == births p then new else block_of p h) ≡ b
+block_of-older : (p : List Step) (h b new : ℕ) → IsBorn p h b → (if h == births p then new else block_of p h) ≡ b
 block_of-older p h b new w =
     let older : (h == births p) ≡ false = ne_eqb h (births p) (λ e. let lt = w.0 in omega arith) in
     cond-false (h == births p) new (block_of p h) older ∙ w.1
 
-pub Born-more : (x : Step) (p : List Step) (h b : ℕ) → Born p h b → Born (x ∷ p) h b
-Born-more Make p h b w = (omega (arith, w.0), block_of-older p h b (makes p) w)
-Born-more (Clone g) p h b w = (omega (arith, w.0), block_of-older p h b (block_of p g) w)
-Born-more s p h b w = w
+pub IsBorn-more : (x : Step) (p : List Step) (h b : ℕ) → IsBorn p h b → IsBorn (x ∷ p) h b
+IsBorn-more Make p h b w = (omega (arith, w.0), block_of-older p h b (makes p) w)
+IsBorn-more (Clone g) p h b w = (omega (arith, w.0), block_of-older p h b (block_of p g) w)
+IsBorn-more s p h b w = w
 
 block_of-newest : (p : List Step) (h b new : ℕ) → births p ≡ h → new ≡ b → (if h == births p then new else block_of p h) ≡ b
 block_of-newest p h b new e d = cond-true (h == births p) new (block_of p h) (eq-eqb h (births p) (sym e)) ∙ d
 
-by_make : (p : List Step) (h b : ℕ) → InPast p Make (MakesOn h b) → Born p h b
+by_make : (p : List Step) (h b : ℕ) → IsInPast p Make (MakesOn h b) → IsBorn p h b
 by_make [] h b w = absurd w
-by_make (x ∷ p) h b (inl w) = subst (λ s. Born (s ∷ p) h b) (sym w.0)
+by_make (x ∷ p) h b (inl w) = subst (λ s. IsBorn (s ∷ p) h b) (sym w.0)
     (let e : births p ≡ h = w.1.0 in (omega arith, block_of-newest p h b (makes p) e w.1.1))
-by_make (x ∷ p) h b (inr w) = Born-more x p h b (by_make p h b w)
+by_make (x ∷ p) h b (inr w) = IsBorn-more x p h b (by_make p h b w)
 
-born_by_clone : (p : List Step) (g h b : ℕ) → InPast p (Clone g) (ClonesOn g h b) → Born p h b
+born_by_clone : (p : List Step) (g h b : ℕ) → IsInPast p (Clone g) (ClonesOn g h b) → IsBorn p h b
 born_by_clone [] g h b w = absurd w
-born_by_clone (x ∷ p) g h b (inl w) = subst (λ s. Born (s ∷ p) h b) (sym w.0)
+born_by_clone (x ∷ p) g h b (inl w) = subst (λ s. IsBorn (s ∷ p) h b) (sym w.0)
     (let e : births p ≡ h = w.1.0 in (omega arith, block_of-newest p h b (block_of p g) e w.1.1))
-born_by_clone (x ∷ p) g h b (inr w) = Born-more x p h b (born_by_clone p g h b w)
+born_by_clone (x ∷ p) g h b (inr w) = IsBorn-more x p h b (born_by_clone p g h b w)
 
 pub born_sentence : (limit : ℕ) (history : List Step) (h b : ℕ)
     → ((h < births_after limit history) × (block_after limit history h ≡ b)) ↔ BornSentence limit history h b
@@ -194,3 +185,119 @@ born_sentence limit history h b = (
     | inr c ↦ born_by_clone (past_of limit history) c.0 h b (in_past limit (Clone c.0) (ClonesOn c.0 h b) history c.1)
   ],
 )
+
+-- ==== a handle is raw exactly as the sentence about the prefixes of the history says
+
+-- ---- one more step of a past
+
+-- the latest step made the handle raw, or the handle was raw and the latest step is neither of the two
+pub is_raw-latest : (x : Step) (p : List Step) (h : ℕ) → is_raw (x ∷ p) h ≡ true
+    → (x ≡ IntoRaw h) ⊎ ((is_raw p h ≡ true) × (x ≢ IntoRaw h) × (x ≢ FromRaw h))
+is_raw-latest (IntoRaw g) p h r = go (g == h) refl r
+  where
+    go : (c : Bool) → (g == h) ≡ c → (if c then true else is_raw p h) ≡ true → (IntoRaw g ≡ IntoRaw h) ⊎ ((is_raw p h ≡ true) × (IntoRaw g ≢ IntoRaw h) × (IntoRaw g ≢ FromRaw h))
+    go true e r = inl (ap IntoRaw (eqb-true g h e))
+    go false e r = inr (r, (λ f. eqb-false g h e (cc)), (λ f. cc))
+is_raw-latest (FromRaw g) p h r = go (g == h) refl r
+  where
+    go : (c : Bool) → (g == h) ≡ c → (if c then false else is_raw p h) ≡ true → (FromRaw g ≡ IntoRaw h) ⊎ ((is_raw p h ≡ true) × (FromRaw g ≢ IntoRaw h) × (FromRaw g ≢ FromRaw h))
+    go true e r = absurd (cc)
+    go false e r = inr (r, (λ f. cc), (λ f. eqb-false g h e (cc)))
+is_raw-latest s p h r = inr (r, (λ f. cc), (λ f. cc))
+
+is_raw-into : (p : List Step) (h : ℕ) → is_raw (IntoRaw h ∷ p) h ≡ true
+is_raw-into p h = cond-true (h == h) true (is_raw p h) (eq-eqb h h refl)
+
+is_raw-kept : (x : Step) (p : List Step) (h : ℕ) → is_raw p h ≡ true → x ≢ FromRaw h → is_raw (x ∷ p) h ≡ true
+is_raw-kept (IntoRaw g) p h r n = go (g == h)
+  where
+    go : (c : Bool) → (if c then true else is_raw p h) ≡ true
+    go true = refl
+    go false = r
+is_raw-kept (FromRaw g) p h r n = go (g == h) refl
+  where
+    go : (c : Bool) → (g == h) ≡ c → (if c then false else is_raw p h) ≡ true
+    go true e = absurd (n (ap FromRaw (eqb-true g h e)))
+    go false e = r
+is_raw-kept s p h r n = r
+
+-- ---- one more step of a history
+
+-- the last one stays the last if the new step is neither of the two or is refused
+LastIsIntoRaw-more : (limit : ℕ) (history : List Step) (x : Step) (h : ℕ) → ((x ≡ IntoRaw h) ⊎ (x ≡ FromRaw h) → IsFalse (accepted_after limit history x))
+    → LastIsIntoRaw limit history h → LastIsIntoRaw limit (history ++ x ∷ []) h
+LastIsIntoRaw-more limit history x h refused w = record {
+  prefix = w.prefix;
+  later = w.later ++ x ∷ [];
+  stands = ap (λ t. t ++ x ∷ []) w.stands ∙ append_assoc w.prefix (IntoRaw h ∷ w.later) (x ∷ []);
+  accepted = w.accepted;
+  last = last;
+}
+  where
+    last : (more rest : List Step) (s : Step) → w.later ++ x ∷ [] ≡ more ++ s ∷ rest → (s ≡ IntoRaw h) ⊎ (s ≡ FromRaw h)
+        → IsFalse (accepted_after limit (w.prefix ++ IntoRaw h ∷ more) s)
+    last more rest s e which = elim (last_or_before w.later x more s rest e) [
+      | inl d ↦ (let same : history ≡ w.prefix ++ IntoRaw h ∷ more = w.stands ∙ ap (λ t. w.prefix ++ IntoRaw h ∷ t) d.1 in
+          subst (λ t. IsFalse (accepted_after limit t s)) same
+          (subst (λ t. IsFalse (accepted_after limit history t)) d.0
+          (refused (subst (λ t. (t ≡ IntoRaw h) ⊎ (t ≡ FromRaw h)) (sym d.0) which))))
+      | inr d ↦ w.last more d.0 s d.1 which
+    ]
+
+LastIsIntoRaw-before : (limit : ℕ) (history : List Step) (x : Step) (h : ℕ) (w : LastIsIntoRaw limit (history ++ x ∷ []) h) (rest : List Step)
+    → history ≡ w.prefix ++ IntoRaw h ∷ rest → w.later ≡ rest ++ x ∷ [] → LastIsIntoRaw limit history h
+LastIsIntoRaw-before limit history x h w rest e f = record {
+  prefix = w.prefix;
+  later = rest;
+  stands = e;
+  accepted = w.accepted;
+  last = λ more r s d which. w.last more (r ++ x ∷ []) s (f ∙ ap (λ t. t ++ x ∷ []) d ∙ append_assoc more (s ∷ r) (x ∷ [])) which;
+}
+
+-- ---- the two are the same
+
+raw_from_last : (limit : ℕ) (h : ℕ) (history : List Step) → LastIsIntoRaw limit history h → is_raw (past_of limit history) h ≡ true
+raw_from_last limit h = by_steps (λ history. LastIsIntoRaw limit history h → is_raw (past_of limit history) h ≡ true)
+    (λ w. absurd (none_in_nil w.prefix (IntoRaw h) w.later w.stands))
+    step
+  where
+    step : (prefix : List Step) (x : Step) → (LastIsIntoRaw limit prefix h → is_raw (past_of limit prefix) h ≡ true)
+        → LastIsIntoRaw limit (prefix ++ x ∷ []) h → is_raw (past_of limit (prefix ++ x ∷ [])) h ≡ true
+    step prefix x before w = elim (last_or_before prefix x w.prefix (IntoRaw h) w.later w.stands) [
+      | inl e ↦ (let accepted : is_accepted limit (past_of limit prefix) x ≡ true = rw (e.0, e.1) w.accepted in
+          rw (past_of-accepted limit prefix x accepted) (rw (e.0) (is_raw-into (past_of limit prefix) h)))
+      | inr e ↦ go e.0 e.1 e.2 (before (LastIsIntoRaw-before limit prefix x h w e.0 e.1 e.2)) (is_accepted limit (past_of limit prefix) x) refl
+    ]
+      where
+        go : (rest : List Step) → prefix ≡ w.prefix ++ IntoRaw h ∷ rest → w.later ≡ rest ++ x ∷ [] → is_raw (past_of limit prefix) h ≡ true
+            → (b : Bool) → is_accepted limit (past_of limit prefix) x ≡ b → is_raw (past_of limit (prefix ++ x ∷ [])) h ≡ true
+        go rest e f r false refused = rw (past_of-refused limit prefix x refused) r
+        go rest e f r true accepted = rw (past_of-accepted limit prefix x accepted) (is_raw-kept x (past_of limit prefix) h r
+            (λ d. let no : IsFalse (accepted_after limit prefix x) = rw e (w.last rest [] x f (inr d)) in cc))
+
+last_from_raw : (limit : ℕ) (h : ℕ) (history : List Step) → is_raw (past_of limit history) h ≡ true → LastIsIntoRaw limit history h
+last_from_raw limit h = by_steps (λ history. is_raw (past_of limit history) h ≡ true → LastIsIntoRaw limit history h)
+    (λ r. absurd (cc))
+    step
+  where
+    step : (prefix : List Step) (x : Step) → (is_raw (past_of limit prefix) h ≡ true → LastIsIntoRaw limit prefix h)
+        → is_raw (past_of limit (prefix ++ x ∷ [])) h ≡ true → LastIsIntoRaw limit (prefix ++ x ∷ []) h
+    step prefix x before r = go (is_accepted limit (past_of limit prefix) x) refl
+      where
+        go : (b : Bool) → is_accepted limit (past_of limit prefix) x ≡ b → LastIsIntoRaw limit (prefix ++ x ∷ []) h
+        go false e = LastIsIntoRaw-more limit prefix x h (λ _. e) (before (rw (past_of-refused limit prefix x e) at r))
+        go true e = elim (is_raw-latest x (past_of limit prefix) h (rw (past_of-accepted limit prefix x e) at r)) [
+          | inl f ↦ record {
+            prefix = prefix;
+            later = [];
+            stands = ap (λ t. prefix ++ t ∷ []) f;
+            accepted = rw f at e;
+            last = λ more rest s d which. absurd (none_in_nil more s rest d);
+          }
+          | inr f ↦ LastIsIntoRaw-more limit prefix x h
+              (λ which. absurd (elim which [ inl i ↦ f.1 i | inr o ↦ f.2 o ]))
+              (before f.0)
+        ]
+
+pub raw_sentence : (limit : ℕ) (history : List Step) (h : ℕ) → (is_raw (past_of limit history) h ≡ true) ↔ LastIsIntoRaw limit history h
+raw_sentence limit history h = (last_from_raw limit h history, raw_from_last limit h history)
