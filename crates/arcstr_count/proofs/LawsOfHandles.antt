@@ -1,16 +1,9 @@
 -- What an accepted step finds about its handle in a past, and what it leaves.
-use Rattle.std.proofs.Common.{◌≡◌, ◌≢◌, ℕ, suc, ◌<◌, ◌≤◌, Bool, true, false, not, ◌&&◌, ◌==◌, nat_lt, if◌then◌else◌, is_none, Option, None, Some}
-use Rattle.std.proofs.Common.{List, [], ◌∷◌, refl, sym, arith, ltb-true, eqb-true, eq-eqb, ne_eqb}
-use Rattle.std.proofs.lemmas.Bool.{eqb-false, lt-ltb}
-use Rattle.arcstr_count.specs.declared.steps.Step.{Step}
-use Rattle.arcstr_count.specs.declared.steps.Step.TheVariants.{Make, Clone, Begin, Sub, Back, IntoRaw, FromRaw}
-use Rattle.arcstr_count.specs.declared.steps.HandleState.{HandleState}
-use Rattle.arcstr_count.specs.declared.steps.HandleState.TheVariants.{Free, Raw, Dropping, Owing, Gone}
-use Rattle.arcstr_count.specs.History.{makes, births, block_of, is_raw, has_begun, has_subtracted, has_given, state_by}
-use Rattle.arcstr_count.specs.Marks.{is_marked, state_of, living, is_only, was_last, began_unmarked}
-use Rattle.arcstr_count.specs.Answer.{handle_state, refusal_unless, is_accepted}
-use Rattle.arcstr_count.specs.Past.{IsPast, times_given}
-use Rattle.arcstr_count.specs.Left.{word_left}
+use Rattle.arcstr_count.proofs.Names.{◌≡◌, ◌≢◌, ℕ, suc, ◌<◌, ◌≤◌, Bool, true, false, not, ◌&&◌, ◌==◌, nat_lt, if◌then◌else◌, is_none, Option, None, Some, List}
+use Rattle.arcstr_count.proofs.Names.{[], ◌∷◌, refl, sym, arith, ltb-true, eqb-true, eq-eqb, ne_eqb, eqb-false, lt-ltb, Step, Make, Clone, Begin, Sub, Back}
+use Rattle.arcstr_count.proofs.Names.{IntoRaw, FromRaw, HandleState, Free, Raw, Dropping, Owing, Gone, makes, births, block_of, is_raw, has_begun}
+use Rattle.arcstr_count.proofs.Names.{has_subtracted, has_given, state_by, is_marked, state_of, living, is_only, was_last, began_unmarked, handle_state}
+use Rattle.arcstr_count.proofs.Names.{refusal_unless, is_accepted, IsPast, times_given, word_left}
 
 -- ---- tests on numbers
 
@@ -74,31 +67,31 @@ owing_was raw begun unmarked subtracted last given e = grind arith
 
 -- ---- what is done to a handle is done in order
 
-record InOrder (raw begun subtracted last given : Bool) : Type 0 where
+record IsInOrder (raw begun subtracted last given : Bool) : Type 0 where
   free : begun ≡ true → raw ≡ false
   begun_first : begun ≡ false → subtracted ≡ false
   subtracted_first : subtracted ≡ false → given ≡ false
   last_of_subtracted : subtracted ≡ false → last ≡ false
 
 Begin-in_order : (t raw begun subtracted last given : Bool) → (t ≡ true → raw ≡ false)
-    → InOrder raw begun subtracted last given → InOrder raw (if t then true else begun) subtracted last given
+    → IsInOrder raw begun subtracted last given → IsInOrder raw (if t then true else begun) subtracted last given
 Begin-in_order t raw begun subtracted last given found o = grind arith
 
 Sub-in_order : (t owes raw begun subtracted last given : Bool) → (t ≡ true → begun ≡ true)
-    → InOrder raw begun subtracted last given
-    → InOrder raw begun (if t then true else subtracted) (if t then owes else last) given
+    → IsInOrder raw begun subtracted last given
+    → IsInOrder raw begun (if t then true else subtracted) (if t then owes else last) given
 Sub-in_order t owes raw begun subtracted last given found o = grind arith
 
 Back-in_order : (t raw begun subtracted last given : Bool) → (t ≡ true → last ≡ true)
-    → InOrder raw begun subtracted last given → InOrder raw begun subtracted last (if t then true else given)
+    → IsInOrder raw begun subtracted last given → IsInOrder raw begun subtracted last (if t then true else given)
 Back-in_order t raw begun subtracted last given found o = grind arith
 
 IntoRaw-in_order : (t raw begun subtracted last given : Bool) → (t ≡ true → begun ≡ false)
-    → InOrder raw begun subtracted last given → InOrder (if t then true else raw) begun subtracted last given
+    → IsInOrder raw begun subtracted last given → IsInOrder (if t then true else raw) begun subtracted last given
 IntoRaw-in_order t raw begun subtracted last given found o = grind arith
 
 FromRaw-in_order : (t raw begun subtracted last given : Bool)
-    → InOrder raw begun subtracted last given → InOrder (if t then false else raw) begun subtracted last given
+    → IsInOrder raw begun subtracted last given → IsInOrder (if t then false else raw) begun subtracted last given
 FromRaw-in_order t raw begun subtracted last given o = grind arith
 
 -- what was done to a handle that was found in a state, for a number that the test identifies with the handle's
@@ -119,7 +112,7 @@ module _ (limit : ℕ) (p : List Step) (g h : ℕ) (same : (g == h) ≡ true) wh
       (was_last limit p h) (has_given p h) (at_same i)).3
 
 in_order : (limit : ℕ) (p : List Step) (h : ℕ) → IsPast limit p
-    → InOrder (is_raw p h) (has_begun p h) (has_subtracted p h) (was_last limit p h) (has_given p h)
+    → IsInOrder (is_raw p h) (has_begun p h) (has_subtracted p h) (was_last limit p h) (has_given p h)
 in_order limit [] h past = record {
   free = λ e. refl;
   begun_first = λ e. refl;
@@ -146,12 +139,12 @@ in_order limit (s ∷ p) h past = in_order limit p h past.1
 -- ---- the state that an accepted step leaves
 
 Begin-leaves : (raw begun unmarked subtracted last given marked : Bool)
-    → InOrder raw begun subtracted last given → state_by raw begun unmarked subtracted last given ≡ Free
+    → IsInOrder raw begun subtracted last given → state_by raw begun unmarked subtracted last given ≡ Free
     → state_by raw true (not marked) subtracted last given ≡ (if marked then Gone else Dropping)
 Begin-leaves raw begun unmarked subtracted last given marked o e = grind arith
 
 Sub-leaves : (raw begun unmarked subtracted last given owes : Bool)
-    → InOrder raw begun subtracted last given → state_by raw begun unmarked subtracted last given ≡ Dropping
+    → IsInOrder raw begun subtracted last given → state_by raw begun unmarked subtracted last given ≡ Dropping
     → state_by raw begun unmarked true owes given ≡ (if owes then Owing else Gone)
 Sub-leaves raw begun unmarked subtracted last given owes o e = grind arith
 
@@ -161,7 +154,7 @@ Back-leaves : (raw begun unmarked subtracted last given : Bool)
 Back-leaves raw begun unmarked subtracted last given e = grind arith
 
 FromRaw-leaves : (raw begun unmarked subtracted last given : Bool)
-    → InOrder raw begun subtracted last given → state_by raw begun unmarked subtracted last given ≡ Raw
+    → IsInOrder raw begun subtracted last given → state_by raw begun unmarked subtracted last given ≡ Raw
     → state_by false begun unmarked subtracted last given ≡ Free
 FromRaw-leaves raw begun unmarked subtracted last given o e = grind arith
 

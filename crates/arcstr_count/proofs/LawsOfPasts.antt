@@ -1,30 +1,19 @@
--- The laws of the counts in each past: what the word stands for, and when a block is freed.
-use Rattle.std.proofs.Common.{◌≡◌, ◌↔◌, ℕ, zero, suc, ◌+◌, ◌<◌, ◌≤◌, Bool, true, false, not, ◌&&◌, ◌==◌, if◌then◌else◌, IsFalse, Some, List, [], ◌∷◌}
-use Rattle.std.proofs.Common.{length, refl, sym, ◌∙◌, ap, arith, true≢false}
-use Rattle.std.proofs.lemmas.List.{nil_from_length}
-use Rattle.std.proofs.lemmas.Bool.{or_left, or_right}
-use Rattle.arcstr_count.specs.declared.steps.Step.{Step}
-use Rattle.arcstr_count.specs.declared.steps.Step.TheVariants.{Make, Clone, Sub, Back, Leak}
-use Rattle.arcstr_count.specs.declared.steps.HandleState.TheVariants.{Dropping}
-use Rattle.arcstr_count.specs.declared.steps.Reply.TheVariants.{Count, Static}
-use Rattle.arcstr_count.specs.Word.{FlagAndCount, looked_of, is_last}
-use Rattle.arcstr_count.specs.History.{makes, births, block_of, lives}
-use Rattle.arcstr_count.specs.Marks.{is_marked, state_of, living, is_only}
-use Rattle.arcstr_count.specs.Answer.{is_accepted}
-use Rattle.arcstr_count.specs.Past.{with_step, past_from, IsPast, times_given}
-use Rattle.arcstr_count.specs.Left.{word_left, is_dropping, dropping, owing, Stands}
-use Rattle.arcstr_count.specs.OneBlock.{look_reply}
-use Rattle.arcstr_count.proofs.Pasts.{IsPast-past_from}
+-- The laws of the counts: in each past, and over the prefixes of a history in its natural order.
+use Rattle.arcstr_count.proofs.Names.{◌≡◌, ◌↔◌, ℕ, zero, suc, ◌+◌, ◌<◌, ◌≤◌, Bool, true, false, not, ◌&&◌, ◌==◌, if◌then◌else◌, IsFalse, Some, List, [], ◌∷◌}
+use Rattle.arcstr_count.proofs.Names.{length, refl, sym, ◌∙◌, ap, arith, true≢false, nil_from_length, or_left, or_right, Step, Make, Clone, Sub, Back, Leak}
+use Rattle.arcstr_count.proofs.Names.{Dropping, Count, Static, FlagAndCount, looked_of, is_last, makes, births, block_of, lives, is_marked, state_of, living}
+use Rattle.arcstr_count.proofs.Names.{is_only, is_accepted, with_step, past_from, IsPast, times_given, past_of, word_left, is_dropping, dropping, owing, Stands}
+use Rattle.arcstr_count.proofs.Names.{look_reply, HoldsInEveryInterleaving}
+use Rattle.arcstr_count.proofs.Pasts.{IsPast-past_from, IsPast-past_of, past_of-append}
 use Rattle.arcstr_count.proofs.LawsOfHandles.{IsIn, step_finds, block_made}
-use Rattle.arcstr_count.proofs.HandleCounts.{held, some_held, is_only-living}
-use Rattle.arcstr_count.proofs.LawsOfBlocks.{Balanced, balance}
+use Rattle.arcstr_count.proofs.LawsOfBlocks.{held, some_held, is_only-living, IsBalanced, balance}
 
 -- ---- the word
 
 -- an unmarked block and a marked one, separately
 module _ (limit : ℕ) (p : List Step) (b : ℕ) where
   stands_by : (m : Bool) → is_marked limit p b ≡ m
-      → Balanced limit (word_left limit p b) m (λ test. held limit p b test) (times_given p b)
+      → IsBalanced limit (word_left limit p b) m (λ test. held limit p b test) (times_given p b)
       → Stands limit p b (word_left limit p b)
   stands_by true marked x = record {
     flag = x.flag ∙ sym marked;
@@ -39,7 +28,7 @@ module _ (limit : ℕ) (p : List Step) (b : ℕ) where
     bounded = λ marked. absurd (true≢false (sym marked ∙ unmarked));
   }
 
-  bounded_by : (m : Bool) → Balanced limit (word_left limit p b) m (λ test. held limit p b test) (times_given p b)
+  bounded_by : (m : Bool) → IsBalanced limit (word_left limit p b) m (λ test. held limit p b test) (times_given p b)
       → (word_left limit p b).count ≤ limit + 1
   bounded_by true x = x.bounded
   bounded_by false x = omega arith
@@ -61,7 +50,7 @@ module _ (limit : ℕ) (p : List Step) (h : ℕ) (past : IsPast limit p) (born :
       found = record { born = born; state = drops }
 
       by_mark : (m : Bool)
-          → Balanced limit (word_left limit p (block_of p h)) m (λ test. held limit p (block_of p h) test) (times_given p (block_of p h))
+          → IsBalanced limit (word_left limit p (block_of p h)) m (λ test. held limit p (block_of p h) test) (times_given p (block_of p h))
           → 0 < (word_left limit p (block_of p h)).count
       by_mark true x = omega (arith, some_held limit p h Dropping is_dropping found refl)
       by_mark false x = omega (arith, some_held limit p h Dropping lives found refl)
@@ -75,7 +64,7 @@ module _ (limit : ℕ) (p : List Step) (h : ℕ) (past : IsPast limit p) (born :
       found = record { born = born; state = drops }
 
       by_mark : (m : Bool)
-          → Balanced limit (word_left limit p (block_of p h)) m (λ test. held limit p (block_of p h) test) (times_given p (block_of p h))
+          → IsBalanced limit (word_left limit p (block_of p h)) m (λ test. held limit p (block_of p h) test) (times_given p (block_of p h))
           → is_last (word_left limit p (block_of p h)) ≡ (not m && is_only h (living limit p (block_of p h)))
       by_mark true x = rw x.flag refl
       by_mark false x = rw (x.flag, x.count, is_only-living limit p h Dropping found refl) refl
@@ -149,7 +138,7 @@ ended_or_not zero t some none = (omega (arith, none refl), λ h. refl)
 ended_or_not (suc l) t some none = let no = some (omega arith) in (omega arith, λ h. omega arith)
 
 module _ (limit : ℕ) (p : List Step) (b : ℕ) where
-  owes_by : (m : Bool) → Balanced limit (word_left limit p b) m (λ test. held limit p b test) (times_given p b)
+  owes_by : (m : Bool) → IsBalanced limit (word_left limit p b) m (λ test. held limit p b test) (times_given p b)
       → (length (owing limit p b) + times_given p b ≤ 1)
       × (0 < length (owing limit p b) + times_given p b → IsFalse m × (living limit p b ≡ []))
   owes_by true x = (omega arith, λ some. absurd (omega arith))
@@ -161,7 +150,7 @@ module _ (limit : ℕ) (p : List Step) (b : ℕ) where
       × (0 < length (owing limit p b) + times_given p b → IsFalse (is_marked limit p b) × (living limit p b ≡ []))
   owes_or_given past made = owes_by (is_marked limit p b) (balance limit p b past made)
 
-  ended_by : (m : Bool) → Balanced limit (word_left limit p b) m (λ test. held limit p b test) (times_given p b)
+  ended_by : (m : Bool) → IsBalanced limit (word_left limit p b) m (λ test. held limit p b test) (times_given p b)
       → length (living limit p b) ≡ 0 → length (owing limit p b) ≡ 0 → (times_given p b ≡ 1) ↔ IsFalse m
   ended_by true x none settled = (λ given. absurd (omega arith), λ unmarked. absurd (true≢false unmarked))
   ended_by false x none settled = (λ given. refl, λ unmarked. omega (arith, x.ended none))
@@ -208,3 +197,28 @@ pub given_exactly : (limit : ℕ) (p : List Step) (b : ℕ) → IsPast limit p �
     → (times_given p b ≡ 1) ↔ IsFalse (is_marked limit p b)
 given_exactly limit p b past made none _ settled =
     ended_by limit p b (is_marked limit p b) (balance limit p b past made) (ap length none) (ap length settled)
+
+-- ==== the laws of every interleaving, over the prefixes of a history in its natural order
+
+pub holds_in_every_interleaving : (limit : ℕ) (steps : List Step) → HoldsInEveryInterleaving limit steps
+holds_in_every_interleaving limit steps = record {
+  words_stand = λ prefix later b _ made. word_stands limit (past_of limit prefix) b (IsPast-past_of limit prefix) made;
+  looks_exact = λ prefix later b _ made unmarked. (
+    unmarked_bounded limit (past_of limit prefix) b (IsPast-past_of limit prefix) made unmarked,
+    look_exact limit (past_of limit prefix) b (IsPast-past_of limit prefix) made unmarked,
+  );
+  marks_stay = λ prefix more later b _ made marked.
+      rw (past_of-append limit prefix more) (mark_stays_from limit (past_of limit prefix) more b marked);
+  one_owes = λ prefix later b _ made. (
+    one_owes limit (past_of limit prefix) b (IsPast-past_of limit prefix) made,
+    owes_alone limit (past_of limit prefix) b (IsPast-past_of limit prefix) made,
+  );
+  given_once = λ prefix more later b _ made. (
+    given_once limit (past_of limit prefix) b (IsPast-past_of limit prefix) made,
+    λ given. (
+      given_alone limit (past_of limit prefix) b (IsPast-past_of limit prefix) made given,
+      rw (past_of-append limit prefix more) (given_permanently limit (past_of limit prefix) more b (IsPast-past_of limit prefix) made given),
+    ),
+  );
+  given_exactly = λ prefix later b _ made. given_exactly limit (past_of limit prefix) b (IsPast-past_of limit prefix) made;
+}

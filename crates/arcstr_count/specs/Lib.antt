@@ -12,4 +12,3 @@ pub mod Laws
 pub mod Sentences
 pub mod Taken
 pub mod Tables
-pub mod OneHandle

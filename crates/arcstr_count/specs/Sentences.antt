@@ -82,8 +82,8 @@ BornSentence limit history h b =
 -- ---- marked
 
 -- The history has an accepted `Leak` of a handle on block b.
-abbrev pub Leaked : ℕ → List Step → ℕ → Type 0
-Leaked limit history b = (h : ℕ) × AcceptedWhere limit history (Leak h) (λ prefix. block_after limit prefix h ≡ b)
+abbrev pub HasLeak : ℕ → List Step → ℕ → Type 0
+HasLeak limit history b = (h : ℕ) × AcceptedWhere limit history (Leak h) (λ prefix. block_after limit prefix h ≡ b)
 
 -- Handle h stands on block b, which is unmarked, and more than `limit` handles live on b.
 abbrev pub IsFull : ℕ → List Step → ℕ → ℕ → Type 0
@@ -92,13 +92,13 @@ IsFull limit prefix h b =
 
 -- The history has an accepted `Clone` of a handle on block b, after a prefix that leaves b unmarked and more than
 -- `limit` handles living on b.
-abbrev pub ClonedPastLimit : ℕ → List Step → ℕ → Type 0
-ClonedPastLimit limit history b = (h : ℕ) × AcceptedWhere limit history (Clone h) (λ prefix. IsFull limit prefix h b)
+abbrev pub HasClonePastLimit : ℕ → List Step → ℕ → Type 0
+HasClonePastLimit limit history b = (h : ℕ) × AcceptedWhere limit history (Clone h) (λ prefix. IsFull limit prefix h b)
 
 -- Block b is marked after a history that has an accepted `Leak` on it, or an accepted `Clone` on it after a
 -- prefix that leaves b unmarked and more than `limit` handles living on b.
 abbrev pub MarkedSentence : ℕ → List Step → ℕ → Type 0
-MarkedSentence limit history b = Leaked limit history b ⊎ ClonedPastLimit limit history b
+MarkedSentence limit history b = HasLeak limit history b ⊎ HasClonePastLimit limit history b
 
 -- ---- the state of a handle
 

@@ -1,6 +1,8 @@
--- What a world does when it takes a step.
-use Rattle.std.specs.Prelude.{◌≡◌, IsTrue, List, [], ◌∷◌, ◌++◌}
+-- What a world keeps of a handle, and what it does when it takes a step.
+use Rattle.std.specs.Prelude.{◌≡◌, ℕ, ◌<◌, IsTrue, Option, Some, option_map, List, [], ◌∷◌, ◌++◌, length, slice_get}
 use Rattle.arcstr_count.specs.declared.steps.Step.{Step}
+use Rattle.arcstr_count.specs.declared.steps.HandleState.{HandleState}
+use Rattle.arcstr_count.specs.declared.steps.HandleSummary.{HandleSummary}
 use Rattle.arcstr_count.specs.declared.steps.Reply.{Reply}
 use Rattle.arcstr_count.specs.declared.steps.Reply.TheVariants.{Refused}
 use Rattle.arcstr_count.specs.Answer.{is_accepted}
@@ -34,3 +36,15 @@ pub record Takes (old : WorldView) (s : Step) (reply : Reply) (new : WorldView) 
 -- the world stands for at least one history
 abbrev pub HasHistory : WorldView → Type 0
 HasHistory w = ∥ ((history : List Step) × StandsFor w history) ∥₁
+
+-- ---- what a world keeps of one handle
+
+-- the state that the world keeps of a handle; `None` for one that was never born
+abbrev pub state_at : WorldView → ℕ → Option HandleState
+state_at w h = option_map (λ (found : HandleSummary). found.state) (slice_get w.summary.handles h)
+
+-- the handle is on this block in this state, and both are in the world's tables
+pub record IsAt (w : WorldView) (h b : ℕ) (state : HandleState) : Type 0 where
+  pub found : slice_get w.summary.handles h ≡ Some (record { block = b; state = state })
+  pub born : h < length w.summary.handles
+  pub made : b < length w.words

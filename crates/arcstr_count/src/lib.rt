@@ -6,17 +6,15 @@
 #![tactic(auto)]
 
 pub use faults::{RunFault, StepFault};
-pub use history_laws::every_interleaving;
+pub use laws::{every_interleaving, seats_are_counted};
 pub use runs::run;
-pub use seat_laws::seats_are_counted;
 pub use steps::{HandleState, HandleSummary, Reply, Step};
 pub use words::{RC_MAX, Word};
 pub use worlds::World;
 
 mod faults;
-mod history_laws;
+mod laws;
 mod runs;
-mod seat_laws;
 pub mod sentences;
 mod steps;
 mod words;

@@ -6,7 +6,7 @@ ghost use Rattle.arcstr_count.specs.After.{AnswersEach};
 ghost use Rattle.arcstr_count.specs.Laws.{HoldsInEveryInterleaving};
 
 use crate::faults::RunFault;
-use crate::history_laws::every_interleaving;
+use crate::laws::every_interleaving;
 use crate::steps::{Reply, Step};
 use crate::words::RC_MAX;
 use crate::worlds::World;

@@ -19,22 +19,22 @@ use crate::steps::{HandleState, Reply, Step};
 /// Which steps are accepted: `Make` always, and any other step whose handle's state has 'ok' in the table
 /// of refusals. `Look`, `Clone`, `Begin`, `Leak` and `IntoRaw` need a free handle, `Sub` a dropping one,
 /// `Back` an owing one and `FromRaw` a raw one.
-/// It does nothing when it runs.
 ///
 /// ```
 /// sentences::accepted_is(2, &[Step::Make], Step::Look(0));
 /// ```
+#[tactic(auto, using(crate::proofs::SentencesState::accepted_sentence))]
 pub fn accepted_is(limit: u64, history: &[Step], step: Step)
     ensures { IsTrue (accepted_after limit history.now step) ↔ AcceptedSentence limit history.now step }
 {}
 
 /// How many handles were born and how many blocks were made: one handle for each accepted `Make` or
 /// `Clone`, and one block for each accepted `Make`.
-/// It does nothing when it runs.
 ///
 /// ```
 /// sentences::births_are(2, &[Step::Make, Step::Clone(0)]);
 /// ```
+#[tactic(auto, using(crate::proofs::SentencesHandles::births_sentence, crate::proofs::SentencesHandles::makes_sentence))]
 pub fn births_are(limit: u64, history: &[Step])
     ensures handles { births_after limit history.now ≡ accepted_count limit history.now (λ prefix s. is_birth s) }
     ensures blocks { makes_after limit history.now ≡ accepted_count limit history.now (λ prefix s. is_make s) }
@@ -43,7 +43,6 @@ pub fn births_are(limit: u64, history: &[Step])
 /// Where a handle is born, and on which block. Handle h is born at the accepted `Make` or `Clone` with h
 /// births before it. The handle of a `Make` stands on a new block, numbered by the `Make`s before it. The
 /// handle of a `Clone` stands on the block of the handle that the step names.
-/// It does nothing when it runs.
 ///
 /// ```
 /// let (handle, block) = (1, 0);
@@ -56,12 +55,12 @@ pub fn born_is(limit: u64, history: &[Step], handle: u64, block: u64)
 
 /// When a block is marked: exactly after a history with an accepted `Leak` on it, or with an accepted
 /// `Clone` on it after a prefix that leaves it unmarked, with more than `limit` handles living on it.
-/// It does nothing when it runs.
 ///
 /// ```
 /// let block = 0;
 /// sentences::marked_is(2, &[Step::Make, Step::Leak(0)], block);
 /// ```
+#[tactic(auto, using(crate::proofs::SentencesBlocks::marked_sentence))]
 pub fn marked_is(limit: u64, history: &[Step], block: u64)
     ensures { IsTrue (marked_after limit history.now block) ↔ MarkedSentence limit history.now block }
 {}
@@ -69,13 +68,13 @@ pub fn marked_is(limit: u64, history: &[Step], block: u64)
 /// The state of a handle that was born: raw, if the last accepted step among its `IntoRaw` and `FromRaw`
 /// is `IntoRaw`; else free, if it has no accepted `Begin`; else dropping, if that `Begin` came while its
 /// block was unmarked and it has no accepted `Sub`; else owing, if it owes; else gone.
-/// It does nothing when it runs.
 ///
 /// ```
 /// let handle = 0;
 /// let history = [Step::Make, Step::IntoRaw(0)];
 /// sentences::state_is(2, &history, handle, HandleState::Raw);
 /// ```
+#[tactic(auto, using(crate::proofs::SentencesState::state_sentence))]
 pub fn state_is(limit: u64, history: &[Step], handle: u64, state: HandleState)
     ensures { (state_after limit history.now handle ≡ Some state)
         ↔ ((handle < births_after limit history.now) × StateSentence limit history.now handle state) }
@@ -83,20 +82,19 @@ pub fn state_is(limit: u64, history: &[Step], handle: u64, state: HandleState)
 
 /// Which handles owe their block: those with no accepted `Back` and with an accepted `Sub` after a prefix
 /// that leaves the block unmarked and no other handle living on it.
-/// It does nothing when it runs.
 ///
 /// ```
 /// let handle = 0;
 /// let history = [Step::Make, Step::Begin(0), Step::Sub(0)];
 /// sentences::owes_is(2, &history, handle);
 /// ```
+#[tactic(auto, using(crate::proofs::SentencesState::owes_sentence))]
 pub fn owes_is(limit: u64, history: &[Step], handle: u64)
     ensures { (state_after limit history.now handle ≡ Some Owing) ↔ OwesSentence limit history.now handle }
 {}
 
 /// Which handles live on a block: those that stand on it and are free, raw or dropping. The list has each
 /// of them once, in rising order, so its length is their number.
-/// It does nothing when it runs.
 ///
 /// ```
 /// let (block, handle) = (0, 1);
@@ -109,7 +107,6 @@ pub fn living_is(limit: u64, history: &[Step], block: u64, handle: u64)
 
 /// When a drop is under way on a block: when some handle on it is dropping or owing. The two lists contain
 /// exactly these handles.
-/// It does nothing when it runs.
 ///
 /// ```
 /// let (block, handle) = (0, 1);
@@ -126,13 +123,13 @@ pub fn under_way_is(limit: u64, history: &[Step], block: u64, handle: u64)
 {}
 
 /// How often a block was freed: once for each accepted `Back` of a handle on it.
-/// It does nothing when it runs.
 ///
 /// ```
 /// let block = 0;
 /// let history = [Step::Make, Step::Begin(0), Step::Sub(0), Step::Back(0)];
 /// sentences::given_is(2, &history, block);
 /// ```
+#[tactic(auto, using(crate::proofs::SentencesHandles::given_count_sentence))]
 pub fn given_is(limit: u64, history: &[Step], block: u64)
     ensures { given_after limit history.now block ≡ given_count limit history.now block }
 {}
@@ -141,11 +138,11 @@ pub fn given_is(limit: u64, history: &[Step], block: u64)
 /// handle. `Make` and `Clone` answer the number of births before them. `Look` answers `Static` at a marked
 /// block, else how many handles live on it. `Begin` answers `Ended` on a marked block, else `Looked`. `Sub`
 /// answers `Owes` if its block is unmarked and no other handle lives on it, else `Left`. Any other step has one reply.
-/// It does nothing when it runs.
 ///
 /// ```
 /// sentences::answer_is(2, &[Step::Make], Step::Look(0), Reply::Count(1));
 /// ```
+#[tactic(auto, using(crate::proofs::SentencesState::answer_sentence))]
 pub fn answer_is(limit: u64, history: &[Step], step: Step, reply: Reply)
     ensures { (answer_after limit history.now step ≡ reply) ↔ AnswerSentence limit history.now step reply }
 {}

@@ -8,9 +8,8 @@ ghost use Rattle.arcstr_count.specs.Summary.{StandsFor};
 ghost use Rattle.arcstr_count.specs.After.{given_after};
 ghost use Rattle.arcstr_count.specs.Tables.{handles_with_state, blocks_with_word, blocks_with_mark, blocks_with_given};
 ghost use Rattle.arcstr_count.specs.Answer.{refusal_unless};
-ghost use Rattle.arcstr_count.specs.Taken.{IsRefusal, IsAcceptedBy, Answers, Follows, Takes, HasHistory};
+ghost use Rattle.arcstr_count.specs.Taken.{IsRefusal, IsAcceptedBy, Answers, Follows, Takes, HasHistory, state_at, IsAt};
 ghost use Rattle.arcstr_count.specs.Laws.{HoldsInEveryInterleaving};
-ghost use Rattle.arcstr_count.specs.OneHandle.{state_at, IsAt};
 
 use crate::faults::{RunFault, StepFault};
 use crate::steps::{HandleState, HandleSummary, Reply, Step};

@@ -69,10 +69,6 @@ pub cut_is_drop : (text : List ℕ) (place : ℕ) → cut text place (length tex
 cut_is_drop text place = take_all (length text - place) (drop place text) (omega (arith, length-drop place text))
 
 -- the functions whose proofs use these rulesets name them
-pub ruleset found_prefixes = (found_prefix)
-
-pub ruleset found_suffixes = (found_suffix)
-
 pub ruleset slices_of_prefixes = (lawful_prefix, cut_prefix)
 
 pub ruleset slices_of_suffixes = (lawful_suffix, cut_suffix)

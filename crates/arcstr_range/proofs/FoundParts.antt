@@ -7,7 +7,7 @@ use Rattle.std.proofs.lemmas.List.{length-append, length-take-le, length-drop, g
 use Rattle.std.proofs.lemmas.Slice.{between_is}
 use Rattle.std.proofs.lemmas.Str.{IsCharBoundary-end, IsCharBoundary-start, IsUtf8-between}
 use Rattle.arcstr_range.proofs.Boundaries.{IsCharBoundary-from_prefix, cut-cut, halves_join_to_text}
-use Rattle.arcstr_range.proofs.Trims.{TrimsEnd-trim_end, TrimsStart-trim_start}
+use Rattle.arcstr_range.proofs.Trims.{trims_end, trims_start}
 use Rattle.arcstr_range.specs.Ends.{IsLawful}
 use Rattle.arcstr_range.specs.Text.{cut}
 use Rattle.arcstr_range.specs.Trim.{Trims, TrimsEnd, TrimsStart}
@@ -143,14 +143,14 @@ pub found_std_trim_start : (parent text trimmed : List ℕ) (place : ℕ) → Is
 found_std_trim_start parent text trimmed place utf8 same =
     let old = view_at text place in
     let new = view_at trimmed (place + (length text - length trimmed)) in
-    found_IsPart parent old new (IsPart-trim_start old new utf8 (TrimsStart-trim_start old new utf8 same refl))
+    found_IsPart parent old new (IsPart-trim_start old new utf8 (trims_start old new utf8 same refl))
 
 pub found_std_trim_end : (parent text trimmed : List ℕ) (place : ℕ) → IsUtf8 text → trimmed ≡ trim_end text
     → IsFoundAt parent text place → IsFoundAt parent trimmed place
 found_std_trim_end parent text trimmed place utf8 same =
     let old = view_at text place in
     let new = view_at trimmed place in
-    found_IsPart parent old new (IsPart-trim_end old new utf8 (TrimsEnd-trim_end old new same refl))
+    found_IsPart parent old new (IsPart-trim_end old new utf8 (trims_end old new same refl))
 
 -- ---- what a trim leaves of a whole text stands in that text, even if it is empty
 
@@ -189,14 +189,6 @@ pub cut_both : (text : List ℕ) (new : View) → IsUtf8 text → Trims (view_at
 cut_both text new utf8 trims = (stands_both text new utf8 trims).same
 
 -- the functions whose proofs use these rulesets name them
-pub ruleset whole_texts_are_found = (found_whole)
-
-pub ruleset parts_are_found = (found_part)
-
-pub ruleset starts_are_found = (found_std_trim_start)
-
-pub ruleset ends_are_found = (found_std_trim_end)
-
 pub ruleset trimmed_starts = (lawful_start, cut_start)
 
 pub ruleset trimmed_ends = (lawful_end, cut_end)

@@ -2,10 +2,8 @@ pub mod Affixes
 pub mod Boundaries
 pub mod Faults
 pub mod FoundParts
-pub mod LinePlaces
-pub mod LineTexts
+pub mod Lines
 pub mod Pieces
 pub mod Trims
-pub mod WhiteSpace
 pub mod WordPlaces
 pub mod WorkedExamples

@@ -27,3 +27,7 @@ pub record StandsAt (parent text : List ℕ) (place : ℕ) : Type 0 where
 -- a text is found at a place of the parent if it is empty or stands there
 abbrev pub IsFoundAt : List ℕ → List ℕ → ℕ → Type 0
 IsFoundAt parent text place = (text ≡ []) ⊎ StandsAt parent text place
+
+-- the part is found wherever the whole view is found
+abbrev pub IsFoundWith : View → View → Type 0
+IsFoundWith whole part = (parent : List ℕ) → IsFoundAt parent whole.text whole.place → IsFoundAt parent part.text part.place

@@ -1,13 +1,12 @@
 //! Views of a text that remember their place in a parent.
-ghost use Rattle.std.specs.Prelude.{◌≡◌, ℕ, List, ◌↔◌, ◌+◌, ◌≤◌, length, IsTrue, IsSome, IfSome};
+ghost use Rattle.std.specs.Prelude.{◌≡◌, ◌↔◌, ◌+◌, ◌≤◌, length, IsTrue, IsSome, IfSome};
 ghost use Rattle.std.specs.Str.{trim, trim_end, trim_start};
 ghost use Rattle.arcstr_range.specs.Ends.{IsLawful};
 ghost use Rattle.arcstr_range.specs.Trim.{Trims, TrimsEnd, TrimsStart};
-ghost use Rattle.arcstr_range.specs.View.{IsFoundAt, end_of, part_of, view_at};
+ghost use Rattle.arcstr_range.specs.View.{IsFoundAt, IsFoundWith, end_of, part_of, view_at};
 
-mod between;
-mod find;
 pub mod lines;
+mod parts;
 pub mod split;
 pub mod words;
 
@@ -53,7 +52,7 @@ impl<'a> StrView<'a> {
     /// assert_eq!(rt; view.text(), "abc");
     /// assert_eq!(rt; view.place(), 0);
     /// ```
-    #[tactic(auto, using(crate::proofs::FoundParts::whole_texts_are_found))]
+    #[tactic(auto, using(crate::proofs::FoundParts::found_whole))]
     pub fn whole(text: &'a str) -> StrView<'a>
         ensures value { result ≡ view_at text.now 0 }
         ensures found { IsFoundAt text.now result.text result.place }
@@ -122,12 +121,11 @@ impl<'a> StrView<'a> {
     /// assert_eq!(rt; part.place(), 1);
     /// assert!(rt; StrView::whole("aéb").cut(0..2).is_none());
     /// ```
-    #[tactic(auto, using(crate::proofs::FoundParts::parts_are_found))]
+    #[tactic(auto, using(crate::proofs::FoundParts::found_part))]
     pub fn cut(&self, range: Range<usize>) -> Option<StrView<'a>>
         ensures some { IsSome result ↔ IsLawful self.now.text range.start range.end }
         ensures value { IfSome result (λ part. part ≡ part_of self.now range.start range.end) }
-        ensures found { (parent : List ℕ) → IsFoundAt parent self.now.text self.now.place
-            → IfSome result (λ part. IsFoundAt parent part.text part.place) }
+        ensures found { IfSome result (IsFoundWith self.now) }
     {
         let start = range.start;
         let text = slice(self.text, range.into())?;
@@ -144,12 +142,11 @@ impl<'a> StrView<'a> {
     /// assert_eq!(rt; word.text(), "a ");
     /// assert_eq!(rt; word.place(), 2);
     /// ```
-    #[tactic(auto, using(crate::proofs::Trims::trims_of_starts, crate::proofs::FoundParts::starts_are_found))]
+    #[tactic(auto, using(crate::proofs::Trims::trims_start, crate::proofs::FoundParts::found_std_trim_start))]
     pub fn trim_start(&self) -> StrView<'a>
         ensures longest { TrimsStart self.now result }
         ensures text { result.text ≡ trim_start self.now.text }
-        ensures found { (parent : List ℕ) → IsFoundAt parent self.now.text self.now.place
-            → IsFoundAt parent result.text result.place }
+        ensures found { IsFoundWith self.now result }
     {
         let whole = self.text();
         let text = whole.trim_start();
@@ -166,12 +163,11 @@ impl<'a> StrView<'a> {
     /// assert_eq!(rt; word.text(), "  a");
     /// assert_eq!(rt; word.place(), 0);
     /// ```
-    #[tactic(auto, using(crate::proofs::Trims::trims_of_ends, crate::proofs::FoundParts::ends_are_found))]
+    #[tactic(auto, using(crate::proofs::Trims::trims_end, crate::proofs::FoundParts::found_std_trim_end))]
     pub fn trim_end(&self) -> StrView<'a>
         ensures longest { TrimsEnd self.now result }
         ensures text { result.text ≡ trim_end self.now.text }
-        ensures found { (parent : List ℕ) → IsFoundAt parent self.now.text self.now.place
-            → IsFoundAt parent result.text result.place }
+        ensures found { IsFoundWith self.now result }
     {
         StrView {
             text: self.text.trim_end(),
@@ -189,8 +185,7 @@ impl<'a> StrView<'a> {
     pub fn trim(&self) -> StrView<'a>
         ensures longest { Trims self.now result }
         ensures text { result.text ≡ trim self.now.text }
-        ensures found { (parent : List ℕ) → IsFoundAt parent self.now.text self.now.place
-            → IsFoundAt parent result.text result.place }
+        ensures found { IsFoundWith self.now result }
     {
         self.trim_start().trim_end()
     }
@@ -215,5 +210,3 @@ impl<'a> StrView<'a> {
         }
     }
 }
-
-mod parts;

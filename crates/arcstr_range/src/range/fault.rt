@@ -3,8 +3,8 @@ ghost use Rattle.std.specs.Prelude.{◌≡◌, Some};
 
 use std::error::Error;
 use std::fmt;
-
-mod to_io;
+use std::io;
+use std::io::ErrorKind;
 
 /// Why a range is refused. The variants are in the order of the tests, and the first test that fails is reported. Its message is a short text, and it owns no
 /// memory. By `?` it becomes an `io::Error` or an `anyhow::Error`.
@@ -69,3 +69,17 @@ impl fmt::Display for RangeFault {
 }
 
 impl Error for RangeFault {}
+
+/// So `?` works in a function that also does I/O.
+impl From<RangeFault> for io::Error {
+    ghost use Rattle.std.specs.Prelude.{◌≡◌};
+    ghost use Rattle.std.specs.IoError.{error_kind};
+    ghost use Rattle.std.specs.declared.io.ErrorKind.TheVariants.{InvalidInput};
+
+    ghost from_gives = { λ _ error. error_kind error ≡ InvalidInput };
+
+    /// Returns an `InvalidInput` error with the message of the fault. Allocates nothing.
+    fn from(fault: RangeFault) -> io::Error {
+        io::Error::new(ErrorKind::InvalidInput, fault.text())
+    }
+}

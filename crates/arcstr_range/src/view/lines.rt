@@ -45,17 +45,14 @@ impl<'a> StrView<'a> {
     /// let last = line.ok_or("no line")?;
     /// assert_eq!(rt; (last.text(), last.range()), ("b", 3..4));
     /// ```
-    #[tactic(auto, using(crate::proofs::LineTexts::facts_of_lines))]
+    #[tactic(auto, using(crate::proofs::Lines::facts_of_lines))]
     pub fn lines(&self) -> Lines<'a>
         ensures value { result ≡ lines_of self.now }
         ensures texts { map (λ line. line.text) result ≡ lines self.now.text }
         ensures found { AreFoundWith self.now result }
     {
         Lines {
-            rest: StrView {
-                text: self.text(),
-                place: self.place,
-            },
+            rest: self.copied(),
         }
     }
 }
@@ -67,7 +64,7 @@ impl<'a> Iterator for Lines<'a> {
 
     ghost remaining = { item_count (λ rest. rest) };
 
-    #[tactic(auto, using(crate::proofs::LinePlaces::empty_views))]
+    #[tactic(auto, using(crate::proofs::Lines::empty_views))]
     fn next(&mut self) -> Option<StrView<'a>> {
         if self.rest.text().is_empty() {
             return None;
@@ -79,7 +76,7 @@ impl<'a> Iterator for Lines<'a> {
 }
 
 /// Returns the first line, and the view after its newline.
-#[tactic(auto, using(crate::proofs::LinePlaces::empty_views))]
+#[tactic(auto, using(crate::proofs::Lines::empty_views))]
 fn split_first_line<'a>(view: &StrView<'a>) -> (StrView<'a>, StrView<'a>)
     requires { 0 < length view.now.text }
     ensures { lines_of view.now ≡ result.0 ∷ lines_of result.1 }
@@ -97,7 +94,7 @@ fn split_first_line<'a>(view: &StrView<'a>) -> (StrView<'a>, StrView<'a>)
 }
 
 /// Returns the byte offset of the first newline in the view's text.
-#[tactic(auto, using(crate::proofs::LinePlaces::first_newlines, crate::proofs::Pieces::lawful_places))]
+#[tactic(auto, using(crate::proofs::Lines::first_newlines, crate::proofs::Pieces::lawful_places))]
 fn first_newline(view: &StrView<'_>) -> Option<usize>
     ensures none { IfNone result (0 < length view.now.text → lines_of view.now ≡ view.now ∷ []) }
     ensures some { IfSome result (λ place. lines_of view.now ≡ view_at (strip_carriage_return (cut view.now.text 0 place)) view.now.place

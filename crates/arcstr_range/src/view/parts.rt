@@ -1,14 +1,34 @@
-//! Parts of a view on either side of a byte offset or of a match of a pattern. A pattern is a `char`, a `&str` or another of std's patterns. The caller must
+//! The first match of a pattern in a view, and parts of a view on either side of a byte offset or of a match. A pattern is a `char`, a `&str` or another of std's patterns. The caller must
 //! ensure that the pattern can search, as it must ensure that a closure can be called.
-ghost use Rattle.std.specs.Prelude.{◌≡◌, ◌↔◌, ◌-◌, ◌≤◌, ℕ, List, length, take, drop, IsSome, IfSome, MatchOption, None};
+ghost use Rattle.std.specs.Prelude.{◌≡◌, ◌↔◌, ◌-◌, ◌≤◌, length, take, drop, IsSome, IfSome, MatchOption, None};
 ghost use Rattle.std.specs.Str.{IsCharBoundary};
-ghost use Rattle.std.specs.Str.Pattern.{SplitsAroundMatch, StripsPrefix, StripsSuffix};
-ghost use Rattle.arcstr_range.specs.View.{IsFoundAt, end_of, part_of};
+ghost use Rattle.std.specs.Str.Pattern.{MatchBeginsAt, SplitsAroundMatch, StripsPrefix, StripsSuffix};
+ghost use Rattle.arcstr_range.specs.Ends.{IsLawful};
+ghost use Rattle.arcstr_range.specs.View.{IsFoundWith, end_of, part_of};
 
 use crate::view::StrView;
 use std::str::pattern::Pattern;
 
 impl<'a> StrView<'a> {
+    /// Returns the byte offset, within the view's text, of the first match of the pattern, as `str::find` does. `cut` accepts this offset as a start or an
+    /// end. A pattern is a `char`, a `&str` or another of std's patterns. Returns `None` exactly if there is no match. Takes time in proportion to the text.
+    ///
+    /// ```
+    /// let line = StrView::at("key = é", 10).ok_or("no view")?;
+    /// assert_eq!(rt; line.find('é'), Some(6));
+    /// assert_eq!(rt; line.find(" ="), Some(3));
+    /// assert_eq!(rt; line.find(':'), None);
+    /// ```
+    pub fn find<P: Pattern>(&self, pattern: P) -> Option<usize>
+    where
+        P: Drop,
+        requires { P.can_search pattern }
+        ensures cases { MatchOption result (P.find_in_gives pattern self.now.text None) (MatchBeginsAt (P.find_in_gives pattern) self.now.text) }
+        ensures boundary { IfSome result (IsCharBoundary self.now.text) }
+    {
+        self.text.find(pattern)
+    }
+
     /// Splits the view at a byte offset of its own text, as `str::split_at_checked` does. Returns `None` exactly if the offset is past the text or inside a
     /// character.
     ///
@@ -22,8 +42,7 @@ impl<'a> StrView<'a> {
         ensures some { IsSome result ↔ IsCharBoundary self.now.text place }
         ensures before { IfSome result (λ parts. parts.0 ≡ part_of self.now 0 place) }
         ensures after { IfSome result (λ parts. parts.1 ≡ part_of self.now place (length self.now.text)) }
-        ensures found { (parent : List ℕ) → IsFoundAt parent self.now.text self.now.place
-            → IfSome result (λ parts. IsFoundAt parent parts.0.text parts.0.place × IsFoundAt parent parts.1.text parts.1.place) }
+        ensures found { IfSome result (λ parts. IsFoundWith self.now parts.0 × IsFoundWith self.now parts.1) }
     {
         let (before, after) = self.text.split_at_checked(place)?;
         Some((self.at_start(before), self.at_end(after)))
@@ -46,8 +65,7 @@ impl<'a> StrView<'a> {
             (λ parts. SplitsAroundMatch (P.find_in_gives separator) self.now.text parts.0.text parts.1.text) }
         ensures start { IfSome result (λ parts. parts.0.place ≡ self.now.place) }
         ensures end { IfSome result (λ parts. end_of parts.1 ≡ end_of self.now) }
-        ensures found { (parent : List ℕ) → IsFoundAt parent self.now.text self.now.place
-            → IfSome result (λ parts. IsFoundAt parent parts.0.text parts.0.place × IsFoundAt parent parts.1.text parts.1.place) }
+        ensures found { IfSome result (λ parts. IsFoundWith self.now parts.0 × IsFoundWith self.now parts.1) }
     {
         let (before, after) = self.text.split_once(separator)?;
         Some((self.at_start(before), self.at_end(after)))
@@ -70,8 +88,7 @@ impl<'a> StrView<'a> {
             (λ parts. SplitsAroundMatch (P.rfind_in_gives separator) self.now.text parts.0.text parts.1.text) }
         ensures start { IfSome result (λ parts. parts.0.place ≡ self.now.place) }
         ensures end { IfSome result (λ parts. end_of parts.1 ≡ end_of self.now) }
-        ensures found { (parent : List ℕ) → IsFoundAt parent self.now.text self.now.place
-            → IfSome result (λ parts. IsFoundAt parent parts.0.text parts.0.place × IsFoundAt parent parts.1.text parts.1.place) }
+        ensures found { IfSome result (λ parts. IsFoundWith self.now parts.0 × IsFoundWith self.now parts.1) }
     {
         let (before, after) = self.text.rsplit_once(separator)?;
         Some((self.at_start(before), self.at_end(after)))
@@ -93,8 +110,7 @@ impl<'a> StrView<'a> {
         ensures text { MatchOption result (P.prefix_len_gives prefix self.now.text None)
             (λ rest. StripsPrefix (P.prefix_len_gives prefix) self.now.text rest.text) }
         ensures end { IfSome result (λ rest. end_of rest ≡ end_of self.now) }
-        ensures found { (parent : List ℕ) → IsFoundAt parent self.now.text self.now.place
-            → IfSome result (λ rest. IsFoundAt parent rest.text rest.place) }
+        ensures found { IfSome result (IsFoundWith self.now) }
     {
         let rest = self.text.strip_prefix(prefix)?;
         Some(self.at_end(rest))
@@ -116,22 +132,20 @@ impl<'a> StrView<'a> {
         ensures text { MatchOption result (P.suffix_len_gives suffix self.now.text None)
             (λ rest. StripsSuffix (P.suffix_len_gives suffix) self.now.text rest.text) }
         ensures start { IfSome result (λ rest. rest.place ≡ self.now.place) }
-        ensures found { (parent : List ℕ) → IsFoundAt parent self.now.text self.now.place
-            → IfSome result (λ rest. IsFoundAt parent rest.text rest.place) }
+        ensures found { IfSome result (IsFoundWith self.now) }
     {
         let rest = self.text.strip_suffix(suffix)?;
         Some(self.at_start(rest))
     }
 
     /// Returns the part with this prefix of the view's text. It starts where the view starts.
-    #[tactic(auto, using(crate::proofs::Affixes::found_prefixes))]
+    #[tactic(auto, using(crate::proofs::Affixes::found_prefix))]
     fn at_start(&self, prefix: &'a str) -> StrView<'a>
         requires within { length prefix.now ≤ length self.now.text }
         requires prefix { prefix.now ≡ take (length prefix.now) self.now.text }
         ensures text { result.text ≡ prefix.now }
         ensures place { result.place ≡ self.now.place }
-        ensures found { (parent : List ℕ) → IsFoundAt parent self.now.text self.now.place
-            → IsFoundAt parent result.text result.place }
+        ensures found { IsFoundWith self.now result }
     {
         StrView {
             text: prefix,
@@ -140,18 +154,38 @@ impl<'a> StrView<'a> {
     }
 
     /// Returns the part with this suffix of the view's text. It ends where the view ends.
-    #[tactic(auto, using(crate::proofs::Affixes::found_suffixes))]
+    #[tactic(auto, using(crate::proofs::Affixes::found_suffix))]
     fn at_end(&self, suffix: &'a str) -> StrView<'a>
         requires within { length suffix.now ≤ length self.now.text }
         requires suffix { suffix.now ≡ drop (length self.now.text - length suffix.now) self.now.text }
         ensures text { result.text ≡ suffix.now }
         ensures end { end_of result ≡ end_of self.now }
-        ensures found { (parent : List ℕ) → IsFoundAt parent self.now.text self.now.place
-            → IsFoundAt parent result.text result.place }
+        ensures found { IsFoundWith self.now result }
     {
         StrView {
             text: suffix,
             place: self.place + (self.text.len() - suffix.len()),
+        }
+    }
+
+    /// Returns a copy of the view.
+    pub(super) fn copied(&self) -> StrView<'a>
+        ensures { result ≡ self.now }
+    {
+        StrView {
+            text: self.text,
+            place: self.place,
+        }
+    }
+
+    /// Returns the part between two byte offsets of the view's own text, without a test.
+    pub(super) fn between(&self, start: usize, end: usize) -> StrView<'a>
+        requires { IsLawful self.now.text start end }
+        ensures { result ≡ part_of self.now start end }
+    {
+        StrView {
+            text: &self.text[start..end],
+            place: self.place + start,
         }
     }
 }

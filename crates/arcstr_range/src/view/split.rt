@@ -54,10 +54,7 @@ impl<'a> StrView<'a> {
         ensures found { AreFoundWith self.now result }
     {
         Split {
-            rest: Some(StrView {
-                text: self.text(),
-                place: self.place,
-            }),
+            rest: Some(self.copied()),
             separator,
         }
     }

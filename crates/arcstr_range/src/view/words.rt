@@ -51,10 +51,7 @@ impl<'a> StrView<'a> {
         ensures found { AreFoundWith self.now result }
     {
         SplitWhitespace {
-            rest: StrView {
-                text: self.text(),
-                place: self.place,
-            },
+            rest: self.copied(),
         }
     }
 }

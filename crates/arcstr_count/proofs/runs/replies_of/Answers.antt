@@ -1,7 +1,5 @@
-use Rattle.std.proofs.Common.{◌≡◌, ◌++◌, [], ◌∷◌, if◌then◌else◌, get_or, take, refl, ◌∙◌, ap}
-use Rattle.std.proofs.lemmas.List.{take_more, take_all}
-use Rattle.arcstr_count.specs.declared.steps.Step.TheVariants.{Make}
-use Rattle.arcstr_count.proofs.Replies.{takes_more, replies_answer}
+use Rattle.arcstr_count.proofs.Names.{◌≡◌, ◌++◌, [], ◌∷◌, if◌then◌else◌, get_or, take, refl, ◌∙◌, ap, take_more, take_all, Make}
+use Rattle.arcstr_count.proofs.Pasts.{takes_more, replies_answer}
 use Rattle.arcstr_count.proofs.runs.replies_of.Goals as goal
 
 pub loop-step-init : goal.loop-step-init

@@ -1,5 +1,5 @@
-use Rattle.std.proofs.Common.{take}
-use Rattle.arcstr_count.proofs.Replies.{HasTaken}
+use Rattle.arcstr_count.proofs.Names.{take}
+use Rattle.arcstr_count.proofs.Pasts.{HasTaken}
 use Rattle.arcstr_count.proofs.runs.replies_of.Given as goal
 
 abbrev pub invariant-loop-step : goal.invariant-loop-step

@@ -1,4 +1,4 @@
-use Rattle.arcstr_count.proofs.SentencesBirths.{born_sentence}
+use Rattle.arcstr_count.proofs.SentencesHandles.{born_sentence}
 use Rattle.arcstr_count.proofs.sentences.born_is.Goals as goal
 
 pub returns : goal.returns

@@ -1,4 +1,4 @@
-use Rattle.arcstr_count.proofs.SentencesLiving.{living_sentence, living_rising}
+use Rattle.arcstr_count.proofs.SentencesBlocks.{living_sentence, living_rising}
 use Rattle.arcstr_count.proofs.sentences.living_is.Goals as goal
 
 pub returns-clause-members : goal.returns-clause-members

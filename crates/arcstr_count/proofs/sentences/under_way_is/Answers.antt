@@ -1,4 +1,4 @@
-use Rattle.arcstr_count.proofs.SentencesLiving.{dropping_sentence, owing_sentence, under_way_sentence}
+use Rattle.arcstr_count.proofs.SentencesBlocks.{dropping_sentence, owing_sentence, under_way_sentence}
 use Rattle.arcstr_count.proofs.sentences.under_way_is.Goals as goal
 
 pub returns-clause-dropping : goal.returns-clause-dropping

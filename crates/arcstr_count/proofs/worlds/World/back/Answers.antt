@@ -1,17 +1,13 @@
-use Rattle.std.proofs.Common.{refl}
-use Rattle.arcstr_count.specs.declared.steps.Step.TheVariants.{Back}
-use Rattle.arcstr_count.proofs.StepTaking.{takes_refused, world_kept}
-use Rattle.arcstr_count.proofs.StepsTaken.{takes_back}
+use Rattle.arcstr_count.proofs.Names.{refl}
+use Rattle.arcstr_count.proofs.WorldSteps.{takes_refused, world_kept, takes_back}
 use Rattle.arcstr_count.proofs.worlds.World.back.Goals as goal
 
 pub returns-in-Err : goal.returns-in-Err
-returns-in-Err g c =
-    takes_refused c.args.self.now (Back c.args.handle) _ c.in-Err.fault refl c.in-Err.ensures.refused
+returns-in-Err g c = takes_refused _ _ _ _ refl c.in-Err.ensures.refused
 
 pub returns : goal.returns
 returns g c = rw (c.set_state.ensures, c.set_given.ensures)
-    (takes_back c.self.inside.limit c.self.inside.handles.items c.self.inside.blocks.items c.args.self.now
-    c.args.handle c.in-Ok.block c.self.view_is c.in-Ok.ensures.found)
+    (takes_back _ _ _ _ _ _ c.self.view_is c.in-Ok.ensures.found)
 
 pub invariant_of-self : goal.invariant_of-self
 invariant_of-self g c = world_kept _ _ _ _ _ _ _ _ c.self.invariant c.self.view_is (returns g c)

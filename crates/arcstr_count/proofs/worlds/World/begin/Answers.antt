@@ -1,17 +1,13 @@
-use Rattle.std.proofs.Common.{refl}
-use Rattle.arcstr_count.specs.declared.steps.Step.TheVariants.{Begin}
-use Rattle.arcstr_count.proofs.StepTaking.{takes_refused, world_kept}
-use Rattle.arcstr_count.proofs.StepsTaken.{takes_begin}
+use Rattle.arcstr_count.proofs.Names.{refl}
+use Rattle.arcstr_count.proofs.WorldSteps.{takes_refused, world_kept, takes_begin}
 use Rattle.arcstr_count.proofs.worlds.World.begin.Goals as goal
 
 pub returns-in-Err : goal.returns-in-Err
-returns-in-Err g c =
-    takes_refused c.args.self.now (Begin c.args.handle) _ c.in-Err.fault refl c.in-Err.ensures.refused
+returns-in-Err g c = takes_refused _ _ _ _ refl c.in-Err.ensures.refused
 
 pub returns : goal.returns
 returns g c = rw c.set_state.ensures
-    (takes_begin c.self.inside.limit c.self.inside.handles.items c.self.inside.blocks.items c.args.self.now
-    c.args.handle c.in-Ok.block c.self.view_is c.index.result.now c.index.ensures
+    (takes_begin _ _ _ _ _ _ c.self.view_is c.index.result.now c.index.ensures
     _ _ c.in-Ok.ensures.found c.after_begin-state.ensures.state c.after_begin-state.ensures.reply)
 
 pub invariant_of-self : goal.invariant_of-self

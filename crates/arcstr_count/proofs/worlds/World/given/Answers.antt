@@ -1,6 +1,5 @@
-use Rattle.std.proofs.Common.{◌∙◌, ap}
-use Rattle.std.specs.List.{slice_get}
-use Rattle.arcstr_count.proofs.TimesFreed.{given_of_entry}
+use Rattle.arcstr_count.proofs.Names.{◌∙◌, ap, slice_get}
+use Rattle.arcstr_count.proofs.Tables.{given_of_entry}
 use Rattle.arcstr_count.proofs.worlds.World.given.Goals as goal
 
 pub returns-clause-value : goal.returns-clause-value

@@ -1,6 +1,5 @@
-use Rattle.std.proofs.Common.{◌∙◌, ap}
-use Rattle.std.specs.List.{slice_get}
-use Rattle.arcstr_count.proofs.StepTaking.{known_handle_is_on_its_block}
+use Rattle.arcstr_count.proofs.Names.{◌∙◌, ap, slice_get}
+use Rattle.arcstr_count.proofs.WorldSteps.{known_handle_is_on_its_block}
 use Rattle.arcstr_count.proofs.worlds.World.known_handle.Goals as goal
 
 pub returns-clause-found : goal.returns-clause-found

@@ -1,13 +1,9 @@
-use Rattle.std.proofs.Common.{refl, ◌∙◌, sym, subst}
-use Rattle.arcstr_count.specs.declared.steps.Step.TheVariants.{Look}
-use Rattle.arcstr_count.specs.OneBlock.{look_reply}
-use Rattle.arcstr_count.specs.Taken.{Takes}
-use Rattle.arcstr_count.proofs.StepTaking.{takes_refused}
-use Rattle.arcstr_count.proofs.StepsTaken.{takes_look}
+use Rattle.arcstr_count.proofs.Names.{refl, ◌∙◌, sym, subst, Look, look_reply, Takes}
+use Rattle.arcstr_count.proofs.WorldSteps.{takes_refused, takes_look}
 use Rattle.arcstr_count.proofs.worlds.World.look.Goals as goal
 
 pub returns-in-Err : goal.returns-in-Err
-returns-in-Err g c = takes_refused c.args.self.now (Look c.args.handle) _ c.in-Err.fault refl c.in-Err.ensures.refused
+returns-in-Err g c = takes_refused _ _ _ _ refl c.in-Err.ensures.refused
 
 pub returns-in-None : goal.returns-in-None
 returns-in-None g c = subst (λ o. Takes c.args.self.now (Look c.args.handle) (look_reply o) c.args.self.now) (sym c.looked.ensures ∙ c.in-None.is)

@@ -1,6 +1,5 @@
-use Rattle.std.proofs.Common.{refl, ◌∙◌, ap, length}
-use Rattle.arcstr_count.proofs.StepTaking.{world_kept}
-use Rattle.arcstr_count.proofs.StepsTaken.{push_with, takes_make}
+use Rattle.arcstr_count.proofs.Names.{refl, ◌∙◌, ap, length}
+use Rattle.arcstr_count.proofs.WorldSteps.{world_kept, push_with, takes_make}
 use Rattle.arcstr_count.proofs.worlds.World.make.Goals as goal
 
 pub invariant_of-self : goal.invariant_of-self

@@ -1,6 +1,5 @@
-use Rattle.std.proofs.Common.{subst}
-use Rattle.arcstr_count.specs.Taken.{HasHistory}
-use Rattle.arcstr_count.proofs.Laws.{holds_in_every_interleaving}
+use Rattle.arcstr_count.proofs.Names.{subst, HasHistory}
+use Rattle.arcstr_count.proofs.LawsOfPasts.{holds_in_every_interleaving}
 use Rattle.arcstr_count.proofs.worlds.World.stands_for_a_history.Goals as goal
 
 pub returns-clause-some : goal.returns-clause-some

@@ -1,24 +1,84 @@
--- The handles that live on a block, and those whose drops are under way, as sentences about single handles.
-use Rattle.std.proofs.Common.{◌≡◌, ◌≢◌, ◌↔◌, ℕ, zero, suc, ◌+◌, ◌<◌, Bool, true, false, ◌&&◌, ◌==◌, if◌then◌else◌, Some, List, [], ◌∷◌, length}
-use Rattle.std.proofs.Common.{filter, slice_index, Contains, ◌⊎◌, inl, inr, refl, sym, ◌∙◌, subst, arith}
-use Rattle.std.specs.List.Sorted.{IsStrictlyIncreasing}
-use Rattle.std.proofs.lemmas.Bool.{and_parts, and_from, eqb-true, eq-eqb, cases_order}
-use Rattle.std.proofs.lemmas.List.{get_or_append_left, get_or_push}
-use Rattle.std.proofs.lemmas.List.Elements.{Contains-append_left, Contains-push, Contains-push_cases, Contains-append_cases, filter-append}
-use Rattle.std.proofs.lemmas.List.Kept.{IsStrictlyIncreasing-filter}
-use Rattle.arcstr_count.specs.declared.steps.Step.{Step}
-use Rattle.arcstr_count.specs.declared.steps.HandleState.{HandleState}
-use Rattle.arcstr_count.specs.declared.steps.HandleState.TheVariants.{Free, Raw, Dropping, Owing}
-use Rattle.arcstr_count.specs.History.{births, block_of, lives, numbers_below}
-use Rattle.arcstr_count.specs.Marks.{state_of, living}
-use Rattle.arcstr_count.specs.Answer.{handle_state}
-use Rattle.arcstr_count.specs.Past.{past_of}
-use Rattle.arcstr_count.specs.Left.{is_dropping, is_owing}
-use Rattle.arcstr_count.specs.After.{living_after, dropping_after, owing_after}
-use Rattle.arcstr_count.specs.Sentences.{block_after, state_after, LivingSentence, UnderWaySentence}
-use Rattle.arcstr_count.proofs.SentencesTable.{handle_state_sentence}
+-- Marked blocks and the handles on a block, as sentences about the prefixes of the history.
+use Rattle.arcstr_count.proofs.Names.{◌≡◌, ◌↔◌, ℕ, ◌<◌, Bool, true, false, ◌&&◌, ◌==◌, nat_lt, IsTrue, IsFalse, List, [], ◌∷◌, length, ◌⊎◌, inl, inr, refl, sym}
+use Rattle.arcstr_count.proofs.Names.{subst, ◌≢◌, zero, suc, ◌+◌, if◌then◌else◌, Some, filter, slice_index, Contains, ◌∙◌, arith, or_cases, or_left, or_right}
+use Rattle.arcstr_count.proofs.Names.{and_parts, and_from, eqb-true, eq-eqb, ltb-true, lt-ltb, cases_order, Step, Clone, Leak, block_of, births, lives}
+use Rattle.arcstr_count.proofs.Names.{numbers_below, is_marked, living, state_of, past_of, marked_after, living_after, dropping_after, owing_after}
+use Rattle.arcstr_count.proofs.Names.{MarkedSentence, block_after, state_after, LivingSentence, UnderWaySentence, IsStrictlyIncreasing, get_or_append_left}
+use Rattle.arcstr_count.proofs.Names.{get_or_push, Contains-append_left, Contains-push, Contains-push_cases, Contains-append_cases, filter-append}
+use Rattle.arcstr_count.proofs.Names.{IsStrictlyIncreasing-filter, HandleState, Free, Raw, Dropping, Owing, handle_state, is_dropping, is_owing}
+use Rattle.arcstr_count.proofs.Pasts.{IsInPast, in_past, in_history}
+use Rattle.arcstr_count.proofs.SentencesState.{handle_state_sentence}
 use Rattle.arcstr_count.proofs.Tables.{length-numbers_below}
-use Rattle.arcstr_count.proofs.HandleCounts.{contains_passing}
+use Rattle.arcstr_count.proofs.LawsOfBlocks.{contains_passing}
+
+-- the block of h is b
+abbrev IsOn : ℕ → ℕ → List Step → Type 0
+IsOn h b q = block_of q h ≡ b
+
+-- the block of h is b, which is unmarked, and more than `limit` handles live on it
+abbrev IsOnFull : ℕ → ℕ → ℕ → List Step → Type 0
+IsOnFull limit h b q = (block_of q h ≡ b) × IsFalse (is_marked limit q b) × (limit < length (living limit q b))
+
+-- the sentence, about a past
+abbrev IsMarkedIn : ℕ → List Step → ℕ → Type 0
+IsMarkedIn limit p b = ((h : ℕ) × IsInPast p (Leak h) (IsOn h b)) ⊎ ((h : ℕ) × IsInPast p (Clone h) (IsOnFull limit h b))
+
+IsMarkedIn-more : (limit : ℕ) (x : Step) (p : List Step) (b : ℕ) → IsMarkedIn limit p b → IsMarkedIn limit (x ∷ p) b
+IsMarkedIn-more limit x p b m = elim m [ inl w ↦ inl (w.0, inr w.1) | inr w ↦ inr (w.0, inr w.1) ]
+
+IsMarkedIn-is_marked : (limit : ℕ) (p : List Step) (b : ℕ) → is_marked limit p b ≡ true → IsMarkedIn limit p b
+IsMarkedIn-is_marked limit [] b m = cc
+IsMarkedIn-is_marked limit (Leak h ∷ p) b m = elim (or_cases (block_of p h == b) (is_marked limit p b) m) [
+  | inl e ↦ inl (h, inl (refl, eqb-true (block_of p h) b e))
+  | inr e ↦ IsMarkedIn-more limit (Leak h) p b (IsMarkedIn-is_marked limit p b e)
+]
+IsMarkedIn-is_marked limit (Clone h ∷ p) b m = by_mark (is_marked limit p b) refl (IsMarkedIn-is_marked limit p b)
+  where
+    by_mark : (c : Bool) → is_marked limit p b ≡ c → (is_marked limit p b ≡ true → IsMarkedIn limit p b) → IsMarkedIn limit (Clone h ∷ p) b
+    by_mark true e before = IsMarkedIn-more limit (Clone h) p b (before e)
+    by_mark false e before = elim (or_cases (is_marked limit p b) ((block_of p h == b) && nat_lt limit (length (living limit p b))) m) [
+      | inl t ↦ absurd (cc)
+      | inr t ↦ (let parts = and_parts (block_of p h == b) (nat_lt limit (length (living limit p b))) t in
+          inr (h, inl (refl, (eqb-true (block_of p h) b parts.0, e, ltb-true limit (length (living limit p b)) parts.1))))
+    ]
+IsMarkedIn-is_marked limit (s ∷ p) b m = IsMarkedIn-more limit s p b (IsMarkedIn-is_marked limit p b m)
+
+-- a mark stays
+is_marked-more : (limit : ℕ) (x : Step) (p : List Step) (b : ℕ) → is_marked limit p b ≡ true → is_marked limit (x ∷ p) b ≡ true
+is_marked-more limit (Leak h) p b m = or_right (block_of p h == b) (is_marked limit p b) m
+is_marked-more limit (Clone h) p b m =
+    or_left (is_marked limit p b) ((block_of p h == b) && nat_lt limit (length (living limit p b))) m
+is_marked-more limit s p b m = m
+
+by_leak : (limit : ℕ) (p : List Step) (h b : ℕ) → IsInPast p (Leak h) (IsOn h b) → is_marked limit p b ≡ true
+by_leak limit [] h b w = absurd w
+by_leak limit (x ∷ p) h b (inl w) =
+    subst (λ s. is_marked limit (s ∷ p) b ≡ true) (sym w.0)
+    (or_left (block_of p h == b) (is_marked limit p b) (eq-eqb (block_of p h) b w.1))
+by_leak limit (x ∷ p) h b (inr w) = is_marked-more limit x p b (by_leak limit p h b w)
+
+marked_by_clone : (limit : ℕ) (p : List Step) (h b : ℕ) → IsInPast p (Clone h) (IsOnFull limit h b) → is_marked limit p b ≡ true
+marked_by_clone limit [] h b w = absurd w
+marked_by_clone limit (x ∷ p) h b (inl w) =
+    subst (λ s. is_marked limit (s ∷ p) b ≡ true) (sym w.0)
+    (or_right (is_marked limit p b) ((block_of p h == b) && nat_lt limit (length (living limit p b)))
+    (and_from (block_of p h == b) (nat_lt limit (length (living limit p b)))
+    (eq-eqb (block_of p h) b w.1.0) (lt-ltb limit (length (living limit p b)) w.1.2)))
+marked_by_clone limit (x ∷ p) h b (inr w) = is_marked-more limit x p b (marked_by_clone limit p h b w)
+
+pub marked_sentence : (limit : ℕ) (history : List Step) (b : ℕ) → IsTrue (marked_after limit history b) ↔ MarkedSentence limit history b
+marked_sentence limit history b = (
+  (λ m. elim (IsMarkedIn-is_marked limit (past_of limit history) b m) [
+    | inl w ↦ inl (w.0, in_history limit (Leak w.0) (IsOn w.0 b) history w.1)
+    | inr w ↦ inr (w.0, in_history limit (Clone w.0) (IsOnFull limit w.0 b) history w.1)
+  ]),
+  elim [
+    | inl w ↦ by_leak limit (past_of limit history) w.0 b (in_past limit (Leak w.0) (IsOn w.0 b) history w.1)
+    | inr w ↦ marked_by_clone limit (past_of limit history) w.0 b (in_past limit (Clone w.0) (IsOnFull limit w.0 b) history w.1)
+  ],
+)
+
+-- ==== the handles that live on a block, and those whose drops are under way, as sentences about single handles
 
 -- ---- the numbers below another
 

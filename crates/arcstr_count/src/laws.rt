@@ -1,15 +1,28 @@
-//! The seats of one block: the states of the handles that were born on it, in the order of their births.
+//! Laws of every list of steps, in whatever order the handles act, and of the seats of one block. A law does nothing when it runs: its clauses are its
+//! purpose. The seats of a block are the states of the handles that were born on it, in the order of their births.
+
 ghost use Rattle.std.specs.Prelude.{◌≡◌, ◌+◌, ◌<◌, ◌≤◌, IsTrue, IsFalse, length, filter};
 ghost use Rattle.arcstr_count.specs.History.{lives};
+ghost use Rattle.arcstr_count.specs.Laws.{HoldsInEveryInterleaving};
 ghost use Rattle.arcstr_count.specs.Left.{is_dropping, is_owing};
 ghost use Rattle.arcstr_count.specs.OneBlock.{Keeps};
 
 use crate::steps::{HandleState, Step};
 use crate::words::Word;
 
+/// The laws of every interleaving: for any limit, any list of steps, any prefix of the list and any
+/// block made in that prefix. It has no precondition.
+///
+/// ```
+/// let steps = [Step::Make, Step::Clone(0), Step::Leak(1), Step::Begin(0)];
+/// count::every_interleaving(RC_MAX, &steps);
+/// ```
+pub fn every_interleaving(limit: u64, steps: &[Step])
+    ensures laws { HoldsInEveryInterleaving limit steps.now }
+{}
+
 /// The law of a running block, whose count word and seats are those of a history of one block: it has as many
-/// handles as the history. It does nothing when it runs: its clauses are its purpose. They say nothing where
-/// the count word and the seats are not the history's.
+/// handles as the history. Its clauses say nothing where the count word and the seats are not the history's.
 ///
 /// An unmarked count word counts the seats of living handles. A marked count word counts at least those of
 /// dropping handles. No count exceeds limit + 1. At most one seat owes; if one does, the count word is unmarked
@@ -20,6 +33,7 @@ use crate::words::Word;
 /// let seats = [HandleState::Free, HandleState::Dropping];
 /// count::seats_are_counted(RC_MAX, &history, Word::from_bits(4), &seats);
 /// ```
+#[tactic(auto, using(crate::proofs::OneBlock::laws_of_seats))]
 pub fn seats_are_counted(limit: u64, history: &[Step], word: Word, seats: &[HandleState])
     ensures counted { Keeps limit history.now word seats.now → IsFalse word.flag
         → word.count ≡ length (filter lives seats.now) }
