@@ -1,123 +1,104 @@
-//! Clone and drop, of each kind of text.
+//! Clone and drop, of each kind of text, and values that are kept at once, so that their bytes and allocations can be counted from outside.
 
-use crate::machine::Machine;
-use crate::requests::Request;
-use crate::rounds::Unit;
-use crate::texts::{handles, letters};
-use crate::{families, rounds, threads};
+use crate::plan::{Kind, Plan};
+use crate::requests::{Machine, Request};
+use crate::texts::{add_each, add_times, handles, letters, text};
 use anyhow::Result;
 use arcstr::{ArcStr, Substr, literal};
-use std::alloc::AllocError;
 use std::sync::Wait;
-use std::time::Instant;
+use std::thread;
 
-/// What a round clones.
-#[derive(Drop)]
-enum Clones {
-    OfText(ArcStr, Look),
-    OfSlice(Substr),
-    InThreads(ArcStr, Look),
-    /// Several handles in turn.
-    OfHandles(Vec<ArcStr>),
+pub(crate) fn run<M: Machine>(rt: &M, plan: &mut Plan) -> Result<()> {
+    plan.figure("clone_drop", Kind::Usual, |request| {
+        let text = text(rt.alloc(), request)?;
+        request.time(rt, || Ok(clone_and_read(rt, &text, request.operations)))
+    })?;
+    plan.figure("clone_drop_bare", Kind::Usual, |request| {
+        let text = text(rt.alloc(), request)?;
+        request.time(rt, || Ok(clone_unread(rt, &text, request.operations)))
+    })?;
+    plan.figure("clone_drop_slice", Kind::Usual, |request| {
+        let slice = Substr::full(text(rt.alloc(), request)?);
+        request.time(
+            rt,
+            || Ok(add_times(request.operations, || slice.clone(rt).len())),
+        )
+    })?;
+    run_on_handles(rt, plan)?;
+    run_in_threads(rt, plan)?;
+    run_kept(rt, plan)
 }
 
-/// What a round reads of a clone before it drops the clone.
-#[derive(Clone, Copy)]
-enum Look {
-    Length,
-    Nothing,
-}
-
-/// Times a figure of this family. A round can start threads, so this family does not use `Round`.
-pub(crate) fn run<M: Machine>(rt: &M, request: &Request) -> Result<()> {
-    let prepared = prepare(rt, request)?;
-    for _ in 0..request.rounds {
-        let start = Instant::now(rt)?;
-        let sum = prepared.once(rt, request)?;
-        rounds::finish(rt, request, Unit::Operation, start, sum)?;
-    }
-    Ok(())
-}
-
-fn prepare<M: Machine>(rt: &M, request: &Request) -> Result<Clones> {
-    let text = letters(rt.alloc(), request.size, request.size)?;
-    let text = ArcStr::from_str(rt.alloc(), text.as_str())?;
-    match request.figure {
-        "clone_drop" => Ok(Clones::OfText(text, Look::Length)),
-        "clone_drop_bare" => Ok(Clones::OfText(text, Look::Nothing)),
-        "clone_drop_slice" => Ok(Clones::OfSlice(Substr::full(text))),
-        "clone_drop_contended" => Ok(Clones::InThreads(text, Look::Length)),
-        "clone_drop_contended_bare" => Ok(Clones::InThreads(text, Look::Nothing)),
-        _ => Ok(Clones::OfHandles(prepare_handles(rt, request.figure, text)?)),
-    }
-}
-
-/// Returns eight handles of the kind that the figure names.
-fn prepare_handles<M: Machine>(rt: &M, figure: &str, text: ArcStr) -> Result<Vec<ArcStr>> {
-    let one = match figure {
-        "clone_drop_literal" => literal!("a literal text, in read-only memory"),
-        "clone_drop_empty" => ArcStr::new(),
-        "clone_drop_fixed" => text.leak().to_arc_str(),
-        "clone_drop_marked" => return marked_handles(rt, text),
-        _ => return families::no_figure(),
-    };
-    Ok(handles(rt, rt.alloc(), &one, 8)?)
-}
-
-/// Returns eight handles that were counted before their block was marked static.
-fn marked_handles<M: Machine>(rt: &M, text: ArcStr) -> Result<Vec<ArcStr>> {
-    let all = handles(rt, rt.alloc(), &text, 8)?;
-    let _ = text.leak();
-    Ok(all)
-}
-
-impl Clones {
-    /// Does one round, and returns the sum of what its operations returned.
-    fn once<M: Machine>(&self, rt: &M, request: &Request) -> Result<usize, AllocError> {
-        let operations = request.operations;
-        match self {
-            Clones::OfText(text, look) => Ok(clone_text(rt, text, *look, operations)),
-            Clones::OfSlice(slice) => Ok(clone_slice(rt, slice, operations)),
-            Clones::InThreads(text, look) => clone_in_threads(rt, request, text, *look),
-            Clones::OfHandles(all) => Ok(clone_each(rt, all, operations / 8)),
-        }
-    }
-}
-
-/// Clones the text in each thread of the request, and returns the sum of their results.
-fn clone_in_threads<M: Machine>(
-    rt: &M,
-    request: &Request,
-    text: &ArcStr,
-    look: Look,
-) -> Result<usize, AllocError> {
-    let sums = threads::map_workers(
-        rt,
-        rt.alloc(),
-        request.threads,
-        &|_| { clone_text(rt, text, look, request.operations) },
+fn run_on_handles<M: Machine>(rt: &M, plan: &mut Plan) -> Result<()> {
+    plan.figure("clone_drop_literal", Kind::Usual, |request| {
+        clone_eight(
+            rt,
+            request,
+            &literal!("a literal text, in read-only memory"),
+        )
+    })?;
+    plan.figure(
+        "clone_drop_empty",
+        Kind::Usual,
+        |request| clone_eight(rt, request, &ArcStr::new()),
     )?;
-    let mut sum = 0usize;
-    for it in sums {
-        sum = sum.wrapping_add(it);
-    }
-    Ok(sum)
+    plan.figure("clone_drop_fixed", Kind::Usual, |request| {
+        let fixed = text(rt.alloc(), request)?.leak();
+        clone_eight(rt, request, &fixed.to_arc_str())
+    })?;
+    // Handles that were counted before their block was marked static.
+    plan.figure("clone_drop_marked", Kind::Usual, |request| {
+        let text = text(rt.alloc(), request)?;
+        let all = handles(rt, rt.alloc(), &text, 8)?;
+        let _ = text.leak();
+        clone_each(rt, request, &all)
+    })
 }
 
-fn clone_text<R: Wait>(rt: &R, text: &ArcStr, look: Look, operations: usize) -> usize {
-    match look {
-        Look::Length => clone_and_read(rt, text, operations),
-        Look::Nothing => clone_unread(rt, text, operations),
-    }
+fn run_in_threads<M: Machine>(rt: &M, plan: &mut Plan) -> Result<()> {
+    plan.figure("clone_drop_contended", Kind::TwoThreads, |request| {
+        let text = text(rt.alloc(), request)?;
+        let work = |_: usize| clone_and_read(rt, &text, request.operations);
+        request.time(rt, || {
+            let sums = thread::map_indices(rt, rt.alloc(), request.threads, &work)?;
+            Ok(add_each(&sums, 1, |sum| *sum))
+        })
+    })?;
+    plan.figure("clone_drop_contended_bare", Kind::TwoThreads, |request| {
+        let text = text(rt.alloc(), request)?;
+        let work = |_: usize| clone_unread(rt, &text, request.operations);
+        request.time(rt, || {
+            let sums = thread::map_indices(rt, rt.alloc(), request.threads, &work)?;
+            Ok(add_each(&sums, 1, |sum| *sum))
+        })
+    })
+}
+
+fn run_kept<M: Machine>(rt: &M, plan: &mut Plan) -> Result<()> {
+    plan.figure("keep", Kind::Kept, |request| {
+        let text = letters(rt.alloc(), request.size, request.size)?;
+        request.time(
+            rt,
+            || keep(
+                rt,
+                request,
+                || Ok(ArcStr::from_str(rt.alloc(), text.as_str())?),
+            ),
+        )
+    })?;
+    plan.figure("keep_clones", Kind::Kept, |request| {
+        let text = text(rt.alloc(), request)?;
+        request.time(rt, || keep(rt, request, || Ok(text.clone(rt))))
+    })?;
+    plan.figure("keep_slices", Kind::Kept, |request| {
+        let slice = Substr::full(text(rt.alloc(), request)?);
+        request.time(rt, || keep(rt, request, || Ok(slice.clone(rt))))
+    })
 }
 
 /// Clones a text, reads the length of each clone, and drops it.
 fn clone_and_read<R: Wait>(rt: &R, text: &ArcStr, operations: usize) -> usize {
-    let mut sum = 0usize;
-    for _ in 0..operations {
-        sum = sum.wrapping_add(text.clone(rt).len());
-    }
-    sum
+    add_times(operations, || text.clone(rt).len())
 }
 
 /// Clones a text, and drops each clone unread.
@@ -128,21 +109,27 @@ fn clone_unread<R: Wait>(rt: &R, text: &ArcStr, operations: usize) -> usize {
     operations
 }
 
-fn clone_slice<R: Wait>(rt: &R, slice: &Substr, operations: usize) -> usize {
-    let mut sum = 0usize;
-    for _ in 0..operations {
-        sum = sum.wrapping_add(slice.clone(rt).len());
-    }
-    sum
+/// Times clones of eight handles on a text in turn.
+fn clone_eight<M: Machine>(rt: &M, request: &Request, text: &ArcStr) -> Result<()> {
+    clone_each(rt, request, &handles(rt, rt.alloc(), text, 8)?)
 }
 
-/// Clones each of the texts in turn.
-fn clone_each<R: Wait>(rt: &R, all: &[ArcStr], times: usize) -> usize {
-    let mut sum = 0usize;
-    for _ in 0..times {
-        for text in all {
-            sum = sum.wrapping_add(text.clone(rt).len());
-        }
+fn clone_each<M: Machine>(rt: &M, request: &Request, all: &[ArcStr]) -> Result<()> {
+    let times = request.operations / 8;
+    request.time(rt, || Ok(add_each(all, times, |text| text.clone(rt).len())))
+}
+
+/// Keeps as many values as the request has operations, and returns their number.
+fn keep<M: Machine, T: Drop, F: Fn() -> Result<T>>(
+    rt: &M,
+    request: &Request,
+    make: F,
+) -> Result<usize>
+    requires { F.IsAlwaysCallable make }
+{
+    let mut kept = Vec::with_capacity(rt.alloc(), request.operations)?;
+    for _ in 0..request.operations {
+        kept.push(make()?)?;
     }
-    sum
+    Ok(kept.len())
 }

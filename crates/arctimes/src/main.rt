@@ -9,53 +9,39 @@
 #![tactic(auto)]
 
 mod clones;
-mod comparisons;
-mod families;
 mod interner;
-mod json;
-mod kept;
-mod looks;
-mod machine;
 mod makings;
 mod parts;
+mod plan;
 mod reads;
 mod requests;
-mod rounds;
-mod scripts;
-mod slices;
-mod table;
 mod texts;
-mod threads;
 mod words;
 
-use crate::families::Family;
-use crate::machine::Machine;
-use crate::requests::Request;
-use anyhow::Result;
+use crate::plan::Plan;
+use crate::requests::{Machine, Request};
+use anyhow::{Result, bail};
 use std::env;
 
 fn main(rt: HostRuntime) -> Result<()> {
     let given: Vec<String> = env::args(&rt)?.skip(1).collect(rt.alloc())?;
-    match given.first() {
-        None => table::run(&rt),
-        Some(_) => run(&rt, &Request::from_arguments(&given)?),
+    let mut plan = match given.first() {
+        None => Plan::of_each(),
+        Some(_) => Plan::of_one(Request::from_arguments(&given)?),
+    };
+    run(&rt, &mut plan)?;
+    if plan.timed() == 0 {
+        bail!("there is no figure of this name");
     }
+    Ok(())
 }
 
-/// Times the figure by the module of its family.
-fn run<M: Machine>(rt: &M, request: &Request) -> Result<()> {
-    match families::family_of(request.figure)? {
-        Family::Clones => clones::run(rt, request),
-        Family::Makings => makings::run(rt, request),
-        Family::Slices => slices::run(rt, request),
-        Family::Comparisons => comparisons::run(rt, request),
-        Family::Looks => looks::run(rt, request),
-        Family::Reads => reads::run(rt, request),
-        Family::Json => json::run(rt, request),
-        Family::Words => words::run(rt, request),
-        Family::Kept => kept::run(rt, request),
-        Family::Scripts => scripts::run(rt, request),
-        Family::Parts => parts::run(rt, request),
-        Family::Interner => interner::run(rt, request),
-    }
+/// Times the figures of the plan.
+fn run<M: Machine>(rt: &M, plan: &mut Plan) -> Result<()> {
+    clones::run(rt, plan)?;
+    makings::run(rt, plan)?;
+    reads::run(rt, plan)?;
+    words::run(rt, plan)?;
+    parts::run(rt, plan)?;
+    interner::run(rt, plan)
 }

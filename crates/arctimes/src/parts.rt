@@ -1,9 +1,8 @@
 //! The lines and parts of a text as views, compared with those of `str`, and look-ups by a `&str`.
 
-use crate::machine::Machine;
-use crate::requests::Request;
-use crate::rounds::{Round, Unit};
-use crate::{families, rounds};
+use crate::plan::{Kind, Plan};
+use crate::requests::Machine;
+use crate::texts::add_each;
 use anyhow::Result;
 use arcstr::{ArcStr, StrView};
 use std::alloc::{AllocError, Global};
@@ -12,46 +11,32 @@ use std::collections::HashMap;
 /// The number of bytes of each line and each part, with the character after it.
 const STEP: usize = 40;
 
-/// What a round iterates over.
-#[derive(Drop)]
-enum Parts {
-    Lines(String),
-    LinesOfStr(String),
-    Split(String),
-    SplitOfStr(String),
-    LookUps(HashMap<ArcStr, usize>, Vec<String>),
-}
-
-/// Times a figure of this family.
-pub(crate) fn run<M: Machine>(rt: &M, request: &Request) -> Result<()> {
-    rounds::run(rt, request, Unit::Operation, &prepare(rt.alloc(), request)?)
-}
-
-fn prepare(alloc: Global, request: &Request) -> Result<Parts> {
-    match request.figure {
-        "lines" => Ok(Parts::Lines(rows(alloc, request.size, '\n')?)),
-        "lines_of_str" => Ok(Parts::LinesOfStr(rows(alloc, request.size, '\n')?)),
-        "split" => Ok(Parts::Split(rows(alloc, request.size, ',')?)),
-        "split_of_str" => Ok(Parts::SplitOfStr(rows(alloc, request.size, ',')?)),
-        "look_up" => {
-            let words = words(alloc, request.count)?;
-            Ok(Parts::LookUps(places(alloc, &words)?, words))
-        }
-        _ => families::no_figure(),
-    }
-}
-
-impl Round for Parts {
-    fn once<M: Machine>(&self, _rt: &M, request: &Request) -> Result<usize, AllocError> {
-        let times = request.operations;
-        Ok(match self {
-            Parts::Lines(text) => add_lines(text, times),
-            Parts::LinesOfStr(text) => add_lines_of_str(text, times),
-            Parts::Split(text) => add_parts(text, times),
-            Parts::SplitOfStr(text) => add_parts_of_str(text, times),
-            Parts::LookUps(places, words) => add_places(places, words, times / 1000),
-        })
-    }
+pub(crate) fn run<M: Machine>(rt: &M, plan: &mut Plan) -> Result<()> {
+    plan.figure("lines", Kind::Usual, |request| {
+        let text = rows(rt.alloc(), request.size, '\n')?;
+        request.time(rt, || Ok(add_lines(&text, request.operations)))
+    })?;
+    plan.figure("lines_of_str", Kind::Usual, |request| {
+        let text = rows(rt.alloc(), request.size, '\n')?;
+        request.time(rt, || Ok(add_lines_of_str(&text, request.operations)))
+    })?;
+    plan.figure("split", Kind::Usual, |request| {
+        let text = rows(rt.alloc(), request.size, ',')?;
+        request.time(rt, || Ok(add_parts(&text, request.operations)))
+    })?;
+    plan.figure("split_of_str", Kind::Usual, |request| {
+        let text = rows(rt.alloc(), request.size, ',')?;
+        request.time(rt, || Ok(add_parts_of_str(&text, request.operations)))
+    })?;
+    plan.figure("look_up", Kind::ManyTexts, |request| {
+        let words = words(rt.alloc(), request.count)?;
+        let places = places(rt.alloc(), &words)?;
+        let place_of = |word: &String| places.get(word.as_str()).map_or(0, |place| *place);
+        request.time(
+            rt,
+            || Ok(add_each(&words, request.operations / 1000, place_of)),
+        )
+    })
 }
 
 /// Returns this many letters, with `end` in place of each 40th.
@@ -122,19 +107,6 @@ fn add_parts_of_str(text: &str, times: usize) -> usize {
     for _ in 0..times {
         for part in text.split(',') {
             sum = sum.wrapping_add(part.len());
-        }
-    }
-    sum
-}
-
-/// Returns the sum of the map's values at the words.
-fn add_places(places: &HashMap<ArcStr, usize>, words: &[String], times: usize) -> usize {
-    let mut sum = 0usize;
-    for _ in 0..times {
-        for word in words {
-            if let Some(place) = places.get(word.as_str()) {
-                sum = sum.wrapping_add(*place);
-            }
         }
     }
     sum

@@ -1,6 +1,24 @@
-//! A request to the program: a figure, and how much of it.
+//! A request to the program: a figure, and how much of it. Its rounds read the clock and print the results.
 
+use crate::plan::Kind;
 use anyhow::{Context, Result};
+use std::rt::{Clock, Env};
+use std::sync::Wait;
+use std::thread::Threads;
+use std::time::Instant;
+
+/// A clock, memory, standard streams, threads, and the permission to wait for them.
+pub(crate) trait Machine: Clock
+    + Env
+    + AllocGlobal
+    + Input
+    + Print
+    + Eprint
+    + Threads
+    + Wait
+    + Sync {}
+
+impl<R: Clock + Env + AllocGlobal + Input + Print + Eprint + Threads + Wait + Sync> Machine for R {}
 
 /// The form in which the rounds of a figure are printed.
 #[derive(Clone, Copy, PartialEq, Eq)]
@@ -15,6 +33,7 @@ pub(crate) enum Form {
 #[derive(Clone, Copy)]
 pub(crate) struct Request<'a> {
     pub(crate) figure: &'a str,
+    pub(crate) kind: Kind,
     /// The number of operations in a round (N).
     pub(crate) operations: usize,
     pub(crate) rounds: usize,
@@ -33,6 +52,7 @@ impl<'a> Request<'a> {
     pub(crate) fn of(figure: &'a str) -> Request<'a> {
         Request {
             figure,
+            kind: Kind::Usual,
             operations: 1000,
             rounds: 3,
             threads: 1,
@@ -49,15 +69,62 @@ impl<'a> Request<'a> {
         let usual = Request::of(figure);
         let size = number(arguments, 4, usual.size)?;
         Ok(Request {
-            figure,
             operations: number(arguments, 1, usual.operations)?,
             rounds: number(arguments, 2, usual.rounds)?,
             threads: number(arguments, 3, usual.threads)?.max(1),
             size,
             place: number(arguments, 5, size)?,
             count: number(arguments, 6, usual.count)?.max(1),
-            form: usual.form,
+            ..usual
         })
+    }
+
+    /// Times each round, and prints it. A round returns the sum of what its operations returned.
+    pub(crate) fn time<M: Machine, F: Fn() -> Result<usize>>(&self, rt: &M, round: F) -> Result<()>
+        requires { F.IsAlwaysCallable round }
+    {
+        for _ in 0..self.rounds {
+            let start = Instant::now(rt)?;
+            let sum = round()?;
+            self.finish(rt, start, sum)?;
+        }
+        Ok(())
+    }
+
+    /// Reads the clock at the end of a round, and prints the round.
+    pub(crate) fn finish<M: Machine>(&self, rt: &M, start: Instant, sum: usize) -> Result<()> {
+        let nanoseconds = start.elapsed(rt)?.as_nanos();
+        let (figure, threads, size) = (self.figure, self.threads, self.size);
+        let operations = self.operations;
+        match self.form {
+            Form::Lines => {
+                println!(rt; "{figure} {threads} {size} {nanoseconds} {operations} {sum}")?;
+            }
+            Form::Table => {
+                println!(rt; "{figure} {sum}")?;
+                self.tell(
+                    rt,
+                    nanoseconds.saturating_mul(10) / self.units(sum).max(1) as u128,
+                )?;
+            }
+        }
+        Ok(())
+    }
+
+    /// Prints the time of one operation, in tenths of nanoseconds.
+    fn tell<M: Machine>(&self, rt: &M, tenths: u128) -> Result<()> {
+        let (figure, whole, tenth) = (self.figure, tenths / 10, tenths % 10);
+        eprintln!(rt; "{figure:<28} {whole:>8}.{tenth} ns")?;
+        Ok(())
+    }
+
+    /// How many units a round's time is divided by in the table: reads, words or operations.
+    fn units(&self, sum: usize) -> usize {
+        match self.kind {
+            Kind::ManyTexts => (self.operations / 1000).saturating_mul(self.count),
+            Kind::Words => sum,
+            _ => self.operations,
+        }
     }
 }
 

@@ -1,98 +1,74 @@
 //! The words of texts, found by threads: thread `i % THREADS` finds those of text `i`.
 
-use crate::machine::Machine;
-use crate::requests::{Form, Request};
-use crate::rounds::Unit;
-use crate::{families, rounds, threads};
+use crate::plan::{Kind, Plan};
+use crate::requests::{Form, Machine, Request};
+use crate::texts::add_each;
 use anyhow::Result;
 use arcstr::ArcStr;
 use arctokens::{tokens, tokens_all};
 use std::alloc::{AllocError, Global};
-use std::io;
-use std::sync::Wait;
-use std::time::Instant;
+use std::{io, thread};
 
 /// The texts for the table, which does not read standard input.
 const FEW_WORDS: &str =
     "the words of a text, \u{e4}\u{df}\u{4e2d} and\u{a0}spaces \u{1} of  two\ttexts\n";
 
-/// What a round finds for a text's words.
-#[derive(Clone, Copy)]
-enum Found {
-    /// Their number, found by std.
-    Count,
-    /// Their byte ranges.
-    Places,
-    /// Slices of them.
-    Slices,
+pub(crate) fn run<M: Machine>(rt: &M, plan: &mut Plan) -> Result<()> {
+    let alloc = rt.alloc();
+    plan.figure("count", Kind::Words, |request| {
+        count_each(
+            rt,
+            request,
+            |text| Ok(text.as_str().split_whitespace().count()),
+        )
+    })?;
+    plan.figure("ranges", Kind::Words, |request| {
+        count_each(rt, request, |text| Ok(places(alloc, text.as_str())?.len()))
+    })?;
+    plan.figure("words", Kind::Words, |request| {
+        count_each(rt, request, |text| Ok(tokens(rt, alloc, text)?.len()))
+    })?;
+    // As many workers as the request has threads, from 1 to 64.
+    plan.figure("tokens_all", Kind::Words, |request| {
+        let texts = texts_of(rt, request)?;
+        let workers = request.threads.min(64).max(1);
+        request.time(rt, || {
+            let lists = tokens_all(rt, alloc, &texts, workers)?;
+            Ok(add_each(&lists, 1, |list| list.len()))
+        })
+    })
 }
 
-/// The texts that a round reads: each in turn, or all in one call of `tokens_all`.
-#[derive(Drop)]
-enum Words {
-    Each(Vec<ArcStr>, Found),
-    All(Vec<ArcStr>),
-}
-
-/// Times a figure of this family. A round can start threads, so this family does not use `Round`.
-pub(crate) fn run<M: Machine>(rt: &M, request: &Request) -> Result<()> {
-    let prepared = prepare(rt, request)?;
-    for _ in 0..request.rounds {
-        let start = Instant::now(rt)?;
-        let sum = prepared.once(rt, request)?;
-        rounds::finish(rt, request, Unit::Sum, start, sum)?;
-    }
-    Ok(())
-}
-
-fn prepare<M: Machine>(rt: &M, request: &Request) -> Result<Words> {
-    let texts = texts_of(rt, request)?;
-    match request.figure {
-        "count" => Ok(Words::Each(texts, Found::Count)),
-        "ranges" => Ok(Words::Each(texts, Found::Places)),
-        "words" => Ok(Words::Each(texts, Found::Slices)),
-        "tokens_all" => Ok(Words::All(texts)),
-        _ => families::no_figure(),
-    }
-}
-
-impl Words {
-    /// Does one round, and returns the sum of what its operations returned.
-    fn once<M: Machine>(&self, rt: &M, request: &Request) -> Result<usize, AllocError> {
-        match self {
-            Words::Each(texts, found) => count_each(rt, request, texts, *found),
-            Words::All(texts) => count_all(rt, request, texts),
-        }
-    }
-}
-
-/// Returns the number of words of all texts, found by the threads of the request.
-fn count_each<M: Machine>(
+/// Times the threads of the request, each of which counts the words of its share of the texts. They drop what `count` finds in a text before the next one.
+fn count_each<M: Machine, F: Fn(&ArcStr) -> Result<usize, AllocError> + Sync>(
     rt: &M,
     request: &Request,
-    texts: &[ArcStr],
-    found: Found,
-) -> Result<usize, AllocError> {
-    let counts = threads::map_workers(
-        rt,
-        rt.alloc(),
-        request.threads,
-        &|worker| { words_of_share(rt, rt.alloc(), texts, found, worker, request.threads) },
-    )?;
-    let mut sum = 0usize;
-    for count in counts {
-        sum = sum.wrapping_add(count?);
-    }
-    Ok(sum)
+    count: F,
+) -> Result<()>
+    requires { F.IsAlwaysCallable count }
+{
+    let texts = texts_of(rt, request)?;
+    let work = |worker: usize| count_share(&texts, worker, request.threads, &count);
+    request.time(rt, || {
+        let mut sum = 0usize;
+        for of_share in thread::map_indices(rt, rt.alloc(), request.threads, &work)? {
+            sum = sum.wrapping_add(of_share?);
+        }
+        Ok(sum)
+    })
 }
 
-/// Returns the number of words in all lists of `tokens_all`, with as many workers as the request has threads, from 1 to 64.
-fn count_all<M: Machine>(rt: &M, request: &Request, texts: &[ArcStr]) -> Result<usize, AllocError> {
-    let workers = request.threads.min(64).max(1);
-    let lists = tokens_all(rt, rt.alloc(), texts, workers)?;
+fn count_share<F: Fn(&ArcStr) -> Result<usize, AllocError>>(
+    texts: &[ArcStr],
+    worker: usize,
+    workers: usize,
+    count: &F,
+) -> Result<usize, AllocError>
+    requires { F.IsAlwaysCallable count.now }
+{
     let mut sum = 0usize;
-    for list in &lists {
-        sum = sum.wrapping_add(list.len());
+    for text in texts.iter().skip(worker).step_by(workers.max(1)) {
+        sum = sum.wrapping_add(count(text)?);
     }
     Ok(sum)
 }
@@ -112,27 +88,6 @@ fn texts_of<M: Machine>(rt: &M, request: &Request) -> Result<Vec<ArcStr>> {
         texts.push(ArcStr::from_str(rt.alloc(), text)?)?;
     }
     Ok(texts)
-}
-
-/// Returns the number of words of one worker's texts. The words of each text are dropped before the next text.
-fn words_of_share<R: Wait>(
-    rt: &R,
-    alloc: Global,
-    texts: &[ArcStr],
-    found: Found,
-    worker: usize,
-    workers: usize,
-) -> Result<usize, AllocError> {
-    let mut sum = 0usize;
-    for text in texts.iter().skip(worker).step_by(workers.max(1)) {
-        let count = match found {
-            Found::Count => text.as_str().split_whitespace().count(),
-            Found::Places => places(alloc, text.as_str())?.len(),
-            Found::Slices => tokens(rt, alloc, text)?.len(),
-        };
-        sum = sum.wrapping_add(count);
-    }
-    Ok(sum)
 }
 
 /// Returns the byte ranges of the words, found by the characters of the text.
