@@ -11,7 +11,7 @@ use std::io::{Stderr, Stdout, Write};
 use std::{fmt, io};
 
 /// How often a call is made before the program gives up. Two tries suffice if one allocation is refused.
-const TRIES: usize = 4;
+pub(crate) const TRIES: usize = 4;
 
 /// Shows the script `refusals` where a call begins and ends, by a write of zero bytes to standard output, and
 /// prints how it ended. The library that the script loads below the program sees the write; nothing else changes.
@@ -29,40 +29,15 @@ impl Meter {
         }
     }
 
-    /// Makes a call until it is not refused, compares what it made, and drops that. After each try `stands`
-    /// compares what the call must leave unchanged.
-    pub(crate) fn made<T: Drop, E: Into<Stop>, F, C, S>(
-        self,
-        call: F,
-        compare: C,
-        stands: S,
-    ) -> Result<(), Stop>
-    where
-        F: Fn() -> Result<T, E>,
-        C: Fn(&T) -> Result<(), Stop>,
-        S: Fn() -> Result<(), Stop>,
-        requires call { F.IsAlwaysCallable call }
-        requires compare { C.IsAlwaysCallable compare }
-        requires stands { S.IsAlwaysCallable stands }
-    {
-        retry(|| {
-            let ended = self.compared(self.counted(&call), &compare);
-            stands()?;
-            ended
-        })
-    }
-
     /// Compares what a call made, if it was not refused, and drops it.
-    pub(crate) fn compared<T: Drop, E: Into<Stop>, C: Fn(&T) -> Result<(), Stop>>(
+    pub(crate) fn compared<T: Made, E: Into<Stop>>(
         self,
         made: Result<T, E>,
-        compare: C,
-    ) -> Result<(), Stop>
-        requires { C.IsAlwaysCallable compare }
-    {
+        wanted: &str,
+    ) -> Result<(), Stop> {
         match made {
             Ok(value) => {
-                compare(&value)?;
+                value.check(wanted)?;
                 self.drop(value);
                 Ok(())
             }
@@ -105,54 +80,82 @@ pub(crate) fn retry<T: Drop, F: FnMut() -> Result<T, Stop>>(mut once: F) -> Resu
     Err(Stop::Refused)
 }
 
-/// Why a call was not completed and compared.
+/// What a call makes of a text.
+pub(crate) trait Made: Drop {
+    /// Compares it with this text, and the count of its block, if it has one, with one handle.
+    fn check(&self, wanted: &str) -> Result<(), Stop>;
+}
+
+/// Why a call was not completed and compared: it was refused, or this part is not as it should be.
 #[derive(Clone, Copy)]
 pub(crate) enum Stop {
     /// The call ran out of memory, and reported it.
     Refused,
-    /// This part is not as it should be.
-    Differs(&'static str),
-}
-
-impl Stop {
-    fn of_fault(is_memory: bool) -> Stop {
-        if is_memory {
-            Stop::Refused
-        } else {
-            Stop::Differs("a fault")
-        }
-    }
+    Text,
+    Range,
+    Count,
+    Copy,
+    Value,
+    Closure,
+    Length,
+    Order,
+    Hash,
+    Reply,
+    Given,
+    Answer,
+    Gate,
+    Fault,
 }
 
 impl fmt::Display for Stop {
     fn fmt<W: fmt::Write>(&self, f: &mut fmt::Formatter<W>) -> fmt::Result {
         f.write_str(match self {
             Stop::Refused => "refused each time",
-            Stop::Differs(part) => part,
+            Stop::Text => "a text",
+            Stop::Range => "a range",
+            Stop::Count => "a count",
+            Stop::Copy => "a copy",
+            Stop::Value => "a JSON value",
+            Stop::Closure => "the run of a closure",
+            Stop::Length => "the length of a list",
+            Stop::Order => "an order",
+            Stop::Hash => "a hash",
+            Stop::Reply => "a reply",
+            Stop::Given => "how often a block was freed",
+            Stop::Answer => "an answer",
+            Stop::Gate => "how often a worker passed its gate",
+            Stop::Fault => "a fault",
         })
     }
 }
 
+impl Stop {
+    /// Why a call stopped that reported a fault.
+    fn of_fault(is_memory: bool) -> Stop {
+        if is_memory {
+            Stop::Refused
+        } else {
+            Stop::Fault
+        }
+    }
+}
+
 /// Stops if this part is not as it should be.
-pub(crate) fn check(part: &'static str, as_it_should_be: bool) -> Result<(), Stop>
+pub(crate) fn check(part: Stop, as_it_should_be: bool) -> Result<(), Stop>
     ensures { IsOk result ↔ IsTrue as_it_should_be }
 {
-    if as_it_should_be {
-        Ok(())
-    } else {
-        Err(Stop::Differs(part))
-    }
+    if as_it_should_be { Ok(()) } else { Err(part) }
 }
 
 /// Compares a text with this text, and its count with this number of handles.
 pub(crate) fn check_text(text: &ArcStr, wanted: &str, handles: usize) -> Result<(), Stop> {
-    check("a text", text.as_str() == wanted)?;
+    check(Stop::Text, text.as_str() == wanted)?;
     check_count(text, handles)
 }
 
 /// Compares the count of a text with this number of handles.
 pub(crate) fn check_count(text: &ArcStr, handles: usize) -> Result<(), Stop> {
-    check("a count", ArcStr::strong_count(text) == Some(handles))
+    check(Stop::Count, ArcStr::strong_count(text) == Some(handles))
 }
 
 impl From<AllocError> for Stop {

@@ -1,7 +1,6 @@
 //! Calls that copy a shared text or a JSON value. A refusal leaves what they copy unchanged, and they then
 //! copy it again.
-use crate::calls::{Meter, Stop, check, check_text, retry};
-use crate::making::Made;
+use crate::calls::{Made, Meter, Stop, TRIES, check, check_text, retry};
 use arcstr::{ArcStr, Substr};
 use serde_json::Value;
 use std::alloc::Global;
@@ -9,153 +8,152 @@ use std::borrow::CowStr;
 use std::io;
 use std::sync::Wait;
 
+/// What is copied.
+trait Copied: Drop {
+    fn make(alloc: Global) -> Result<Self, Stop>;
+
+    /// Compares it with what was made, and the count of its block, if it has one, with this number of handles.
+    fn check_copied(&self, handles: usize) -> Result<(), Stop>;
+}
+
+impl Copied for ArcStr {
+    fn make(alloc: Global) -> Result<ArcStr, Stop> {
+        Ok(ArcStr::from_str(alloc, "foobar")?)
+    }
+
+    fn check_copied(&self, handles: usize) -> Result<(), Stop> {
+        check_text(self, "foobar", handles)
+    }
+}
+
+/// The slice `bar` of a text `foobar`.
+impl Copied for Substr {
+    fn make(alloc: Global) -> Result<Substr, Stop> {
+        let parent = ArcStr::from_str(alloc, "foobar")?;
+        Ok(Substr::from_parts_unchecked(parent, 3..6))
+    }
+
+    fn check_copied(&self, handles: usize) -> Result<(), Stop> {
+        check(Stop::Text, self.as_str() == "bar")?;
+        check(Stop::Range, self.range() == (3..6))?;
+        check_text(self.parent(), "foobar", handles)
+    }
+}
+
+impl Copied for Value {
+    fn make(alloc: Global) -> Result<Value, Stop> {
+        Ok(Value::try_from_str(alloc, "foobar")?)
+    }
+
+    fn check_copied(&self, _handles: usize) -> Result<(), Stop> {
+        self.check("foobar")
+    }
+}
+
+impl Made for String {
+    fn check(&self, wanted: &str) -> Result<(), Stop> {
+        check(Stop::Copy, self.as_str() == wanted)
+    }
+}
+
+impl Made for Value {
+    fn check(&self, wanted: &str) -> Result<(), Stop> {
+        check(Stop::Value, self.as_str() == Some(wanted))
+    }
+}
+
 pub(crate) fn run(rt: &impl Wait, meter: Meter, alloc: Global) -> io::Result<()> {
-    copies_of_text(meter, alloc)?;
-    meter.again("ArcStr::into_cow", || text_into_cow(rt, meter, alloc))?;
-    meter.again("ArcStr::from_json", || {
-        let value = Value::try_from_str(alloc, "foobar")?;
-        let call = || ArcStr::from_json(alloc, &value);
-        meter.made(
-            call,
-            |text| text.check("foobar"),
-            || check_value(&value, "foobar"),
-        )
+    let foobar = "foobar";
+    copy(meter, alloc, "ArcStr::to_string", foobar, |text: &ArcStr| {
+        text.to_string(alloc)
     })?;
-    copies_of_slice(meter, alloc)?;
-    meter.again("Substr::into_cow", || slice_into_cow(rt, meter, alloc))?;
-    meter.again("Substr::from_json", || {
-        let value = Value::try_from_str(alloc, "foobar")?;
-        let call = || Substr::from_json(alloc, &value);
-        meter.made(
-            call,
-            |slice| slice.check("foobar"),
-            || check_value(&value, "foobar"),
-        )
+    copy(meter, alloc, "ArcStr::to_json", foobar, |text: &ArcStr| {
+        text.to_json(alloc)
     })?;
-    meter.again("Substr::to_arc_str", || {
-        let slice = bar_of_foobar(alloc)?;
-        let call = || slice.to_arc_str(alloc);
-        meter.made(call, |text| text.check("bar"), || check_bar(&slice, 1))
-    })
+    meter.again("ArcStr::into_cow", || {
+        let text = ArcStr::make(alloc)?;
+        into_cow(meter, text.clone(rt), &text, foobar, |text| {
+            text.into_cow(alloc)
+        })
+    })?;
+    copy(meter, alloc, "ArcStr::from_json", foobar, |value| {
+        ArcStr::from_json(alloc, value)
+    })?;
+    copy(meter, alloc, "Substr::to_string", "bar", |slice: &Substr| {
+        slice.to_string(alloc)
+    })?;
+    copy(meter, alloc, "Substr::to_json", "bar", |slice: &Substr| {
+        slice.to_json(alloc)
+    })?;
+    meter.again("Substr::into_cow", || {
+        let slice = Substr::make(alloc)?;
+        into_cow(meter, slice.clone(rt), &slice, "bar", |slice| {
+            slice.into_cow(alloc)
+        })
+    })?;
+    copy(meter, alloc, "Substr::from_json", foobar, |value| {
+        Substr::from_json(alloc, value)
+    })?;
+    copy(
+        meter,
+        alloc,
+        "Substr::to_arc_str",
+        "bar",
+        |slice: &Substr| { slice.to_arc_str(alloc) },
+    )
 }
 
-fn copies_of_text(meter: Meter, alloc: Global) -> io::Result<()> {
-    meter.again("ArcStr::to_string", || {
-        let text = ArcStr::from_str(alloc, "foobar")?;
-        let call = || text.to_string(alloc);
-        meter.made(
-            call,
-            |copy| check_copy(copy, "foobar"),
-            || text.check("foobar"),
-        )
-    })?;
-    meter.again("ArcStr::to_json", || {
-        let text = ArcStr::from_str(alloc, "foobar")?;
-        let call = || text.to_json(alloc);
-        meter.made(
-            call,
-            |value| check_value(value, "foobar"),
-            || text.check("foobar"),
-        )
-    })
-}
-
-fn copies_of_slice(meter: Meter, alloc: Global) -> io::Result<()> {
-    meter.again("Substr::to_string", || {
-        let slice = bar_of_foobar(alloc)?;
-        let call = || slice.to_string(alloc);
-        meter.made(
-            call,
-            |copy| check_copy(copy, "bar"),
-            || check_bar(&slice, 1),
-        )
-    })?;
-    meter.again("Substr::to_json", || {
-        let slice = bar_of_foobar(alloc)?;
-        let call = || slice.to_json(alloc);
-        meter.made(
-            call,
-            |value| check_value(value, "bar"),
-            || check_bar(&slice, 1),
-        )
+/// Copies a value until that is not refused. The value stands after each try.
+fn copy<K: Copied, T: Made, E: Into<Stop>, F: Fn(&K) -> Result<T, E>>(
+    meter: Meter,
+    alloc: Global,
+    line: &str,
+    wanted: &str,
+    call: F,
+) -> io::Result<()>
+    requires { F.IsAlwaysCallable call }
+{
+    meter.again(line, || {
+        let value = K::make(alloc)?;
+        retry(|| {
+            let ended = meter.compared(meter.counted(|| call(&value)), wanted);
+            value.check_copied(1)?;
+            ended
+        })
     })
 }
 
 /// Takes one of two handles on a text; a refusal returns it.
-fn text_into_cow(rt: &impl Wait, meter: Meter, alloc: Global) -> Result<(), Stop> {
-    let text = ArcStr::from_str(alloc, "foobar")?;
-    let mut taken = Some(text.clone(rt));
-    retry(|| {
-        let Some(handle) = taken.take() else {
-            return Err(Stop::Differs("a handle"))
-        };
-        match meter.counted(|| handle.into_cow(alloc)) {
+fn into_cow<K: Copied, F: Fn(K) -> Result<CowStr, K>>(
+    meter: Meter,
+    mut taken: K,
+    other: &K,
+    wanted: &str,
+    call: F,
+) -> Result<(), Stop>
+    requires { F.IsAlwaysCallable call }
+{
+    for _ in 0..TRIES {
+        match meter.counted(|| call(taken)) {
             Ok(cow) => {
-                check_text(&text, "foobar", 1)?;
-                check_owned(meter, cow, "foobar")
+                other.check_copied(1)?;
+                return check_owned(meter, cow, wanted);
             }
-            Err(back) => {
-                check_text(&back, "foobar", 2)?;
-                taken = Some(back);
-                Err(Stop::Refused)
-            }
+            Err(back) => taken = back,
         }
-    })
-}
-
-/// Takes one of two slices of a text; a refusal returns it.
-fn slice_into_cow(rt: &impl Wait, meter: Meter, alloc: Global) -> Result<(), Stop> {
-    let slice = bar_of_foobar(alloc)?;
-    let mut taken = Some(slice.clone(rt));
-    retry(|| {
-        let Some(handle) = taken.take() else {
-            return Err(Stop::Differs("a handle"))
-        };
-        match meter.counted(|| handle.into_cow(alloc)) {
-            Ok(cow) => {
-                check_bar(&slice, 1)?;
-                check_owned(meter, cow, "bar")
-            }
-            Err(back) => {
-                check_bar(&back, 2)?;
-                taken = Some(back);
-                Err(Stop::Refused)
-            }
-        }
-    })
-}
-
-/// The slice `bar` of a text `foobar`.
-fn bar_of_foobar(alloc: Global) -> Result<Substr, Stop> {
-    let parent = ArcStr::from_str(alloc, "foobar")?;
-    Ok(Substr::from_parts_unchecked(parent, 3..6))
-}
-
-/// Compares a slice with `bar` of `foobar`, and the count of its parent with this number of handles.
-fn check_bar(slice: &Substr, handles: usize) -> Result<(), Stop> {
-    check("a text", slice.as_str() == "bar")?;
-    check("a range", slice.range() == (3..6))?;
-    check_text(slice.parent(), "foobar", handles)
-}
-
-/// Compares a copy with this text.
-fn check_copy(copy: &String, wanted: &str) -> Result<(), Stop> {
-    check("a copy", copy.as_str() == wanted)
-}
-
-/// Compares a value with this JSON string.
-fn check_value(value: &Value, wanted: &str) -> Result<(), Stop> {
-    check("a JSON value", value.as_str() == Some(wanted))
+        taken.check_copied(2)?;
+    }
+    Err(Stop::Refused)
 }
 
 /// Compares what a text became with a copy of this one, and drops it.
 fn check_owned(meter: Meter, cow: CowStr, wanted: &str) -> Result<(), Stop> {
     match cow {
         CowStr::Owned(copy) => {
-            check_copy(&copy, wanted)?;
+            copy.check(wanted)?;
             meter.drop(copy);
             Ok(())
         }
-        CowStr::Borrowed(_) => Err(Stop::Differs("a copy")),
+        CowStr::Borrowed(_) => Err(Stop::Copy),
     }
 }

@@ -50,16 +50,17 @@ const ANSWER: &[u8] = b"made 0\nhandle 1\ncount 2\nbad\n";
 
 pub(crate) fn run(meter: Meter, alloc: Global) -> io::Result<()> {
     meter.again("run", || {
-        let is_right = |replies: &Vec<Reply>| check(
-            "a reply",
-            replies.as_slice() == REPLIES.as_slice(),
-        );
-        meter.made(|| count::run(alloc, LIMIT, &STEPS), is_right, || Ok(()))
+        let replies = meter.counted(|| count::run(alloc, LIMIT, &STEPS))?;
+        check(Stop::Reply, replies.as_slice() == REPLIES.as_slice())?;
+        meter.drop(replies);
+        Ok(())
     })?;
     meter.again("World::step", || steps_of_a_world(meter, alloc))?;
     meter.again("script::answer", || {
-        let is_right = |answered: &Vec<u8>| check("an answer", answered.as_slice() == ANSWER);
-        meter.made(|| answer(alloc, SCRIPT), is_right, || Ok(()))
+        let answered = meter.counted(|| answer(alloc, SCRIPT))?;
+        check(Stop::Answer, answered.as_slice() == ANSWER)?;
+        meter.drop(answered);
+        Ok(())
     })?;
     meter.again("script::copy", || copy_of_a_script(meter, alloc))
 }
@@ -69,7 +70,7 @@ fn steps_of_a_world(meter: Meter, alloc: Global) -> Result<(), Stop> {
     let mut world = World::new(alloc, LIMIT)?;
     for (step, wanted) in STEPS.iter().zip(REPLIES) {
         let reply = reply_to(meter, &mut world, *step)?;
-        check("a reply", reply == wanted)?;
+        check(Stop::Reply, reply == wanted)?;
     }
     meter.drop(world);
     Ok(())
@@ -82,8 +83,8 @@ fn reply_to(meter: Meter, world: &mut World<Global>, step: Step) -> Result<Reply
     retry(|| {
         let reply = meter.counted(|| world.step(step));
         if reply.is_err() {
-            check("a count", count_of_each(world)? == counts)?;
-            check("how often a block was freed", given_of_each(world) == given)?;
+            check(Stop::Count, count_of_each(world)? == counts)?;
+            check(Stop::Given, given_of_each(world) == given)?;
         }
         Ok(reply?)
     })
@@ -114,9 +115,9 @@ fn copy_of_a_script(meter: Meter, alloc: Global) -> Result<(), Stop> {
     let mut output = Port::new(room.as_mut_slice());
     let copied = meter.counted(|| copy(alloc, &mut input, &mut output));
     match copied {
-        Ok(()) => check("an answer", room.as_slice() == ANSWER),
+        Ok(()) => check(Stop::Answer, room.as_slice() == ANSWER),
         Err(fault) => {
-            check("an answer", room == [0; 28])?;
+            check(Stop::Answer, room == [0; 28])?;
             Err(fault.into())
         }
     }

@@ -8,12 +8,10 @@ use std::sync::Wait;
 
 pub(crate) fn run(rt: &impl Wait, meter: Meter, alloc: Global) -> io::Result<()> {
     meter.again("Interner::with_capacity", || {
-        let call = || Interner::with_capacity(alloc, 100);
-        meter.made(
-            call,
-            |made| check("the length of a list", made.is_empty()),
-            || Ok(()),
-        )
+        let interner = meter.counted(|| Interner::with_capacity(alloc, 100))?;
+        check(Stop::Length, interner.is_empty())?;
+        meter.drop(interner);
+        Ok(())
     })?;
     meter.again("Interner::intern", || {
         let mut interner = Interner::new(alloc);
@@ -28,16 +26,14 @@ pub(crate) fn run(rt: &impl Wait, meter: Meter, alloc: Global) -> io::Result<()>
     meter.again("Interner::intern_arc", || intern_arc(rt, meter, alloc))?;
     meter.again("Interner::intern_substr", || {
         let text = ArcStr::from_str(alloc, "foobar")?;
-        let part = text.view().cut(0..3).ok_or(Stop::Differs("a range"))?;
+        let part = text.view().cut(0..3).ok_or(Stop::Range)?;
         intern_slice(rt, meter, alloc, &text.substr_from(rt, part))
     })?;
     meter.again("SharedInterner::new", || {
-        let call = || SharedInterner::new(alloc, 2);
-        meter.made(
-            call,
-            |made| check("the length of a list", made.is_empty(rt)),
-            || Ok(()),
-        )
+        let interner = meter.counted(|| SharedInterner::new(alloc, 2))?;
+        check(Stop::Length, interner.is_empty(rt))?;
+        meter.drop(interner);
+        Ok(())
     })?;
     meter.again("SharedInterner::intern", || intern_shared(rt, meter, alloc))
 }
@@ -75,8 +71,8 @@ fn intern_shared(rt: &impl Wait, meter: Meter, alloc: Global) -> Result<(), Stop
     let symbol = retry(|| {
         let interned = meter.counted(|| interner.intern(rt, "foobar"));
         if interned.is_err() {
-            check("the length of a list", interner.is_empty(rt))?;
-            check("a text", interner.get(rt, "foobar").is_none())?;
+            check(Stop::Length, interner.is_empty(rt))?;
+            check(Stop::Text, interner.get(rt, "foobar").is_none())?;
         }
         Ok(interned?)
     })?;
@@ -91,12 +87,10 @@ fn check_shared(
     interner: &SharedInterner,
     symbol: SharedSymbol,
 ) -> Result<(), Stop> {
-    check("the length of a list", interner.len(rt) == 1)?;
-    let found = interner.get(rt, "foobar").ok_or(Stop::Differs("an order"))?;
-    check("an order", found.number() == symbol.number())?;
-    let there = interner
-        .symbol_at(symbol.number())
-        .ok_or(Stop::Differs("a text"))?;
+    check(Stop::Length, interner.len(rt) == 1)?;
+    let found = interner.get(rt, "foobar").ok_or(Stop::Order)?;
+    check(Stop::Order, found.number() == symbol.number())?;
+    let there = interner.symbol_at(symbol.number()).ok_or(Stop::Text)?;
     check_text(interner.text(&there), "foobar", 1)
 }
 
@@ -107,9 +101,9 @@ fn check_interned(
     wanted: &str,
     handles: usize,
 ) -> Result<(), Stop> {
-    check("the length of a list", interner.len() == 1)?;
-    check("an order", interner.get(wanted) == Some(symbol))?;
-    let text = interner.resolve(symbol).ok_or(Stop::Differs("a text"))?;
+    check(Stop::Length, interner.len() == 1)?;
+    check(Stop::Order, interner.get(wanted) == Some(symbol))?;
+    let text = interner.resolve(symbol).ok_or(Stop::Text)?;
     check_text(text, wanted, handles)
 }
 
@@ -119,7 +113,7 @@ fn check_unchanged(
     interned: Result<Symbol, InternFault>,
 ) -> Result<Symbol, Stop> {
     if interned.is_err() {
-        check("the length of a list", interner.is_empty())?;
+        check(Stop::Length, interner.is_empty())?;
     }
     Ok(interned?)
 }

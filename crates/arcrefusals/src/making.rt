@@ -1,5 +1,5 @@
 //! Calls that make a text in a block of its own.
-use crate::calls::{Meter, Stop, check, check_text};
+use crate::calls::{Made, Meter, Stop, check, check_text};
 use arcstr::block::Shared;
 use arcstr::{ArcStr, Substr, format_arcstr};
 use std::alloc::Global;
@@ -7,12 +7,6 @@ use std::io;
 
 /// A block that a clone marks while more than five handles on it live.
 type Block = Shared<5, Global>;
-
-/// What a call makes of a text.
-pub(crate) trait Made: Drop {
-    /// Compares it with this text, and the count of its block with one handle.
-    fn check(&self, wanted: &str) -> Result<(), Stop>;
-}
 
 impl Made for ArcStr {
     fn check(&self, wanted: &str) -> Result<(), Stop> {
@@ -22,15 +16,15 @@ impl Made for ArcStr {
 
 impl Made for Substr {
     fn check(&self, wanted: &str) -> Result<(), Stop> {
-        check("a range", self.range() == (0..wanted.len()))?;
+        check(Stop::Range, self.range() == (0..wanted.len()))?;
         check_text(self.parent(), wanted, 1)
     }
 }
 
 impl Made for Block {
     fn check(&self, wanted: &str) -> Result<(), Stop> {
-        check("a text", self.as_str() == wanted)?;
-        check("a count", self.look().0 == Some(1))
+        check(Stop::Text, self.as_str() == wanted)?;
+        check(Stop::Count, self.look().0 == Some(1))
     }
 }
 
@@ -42,51 +36,34 @@ pub(crate) fn run(meter: Meter, alloc: Global) -> io::Result<()> {
 }
 
 /// Makes a text, compares it, and drops it.
-fn make<T: Made, E: Into<Stop>, F>(
+fn make<T: Made, E: Into<Stop>, F: Fn() -> Result<T, E>>(
     meter: Meter,
     line: &str,
     wanted: &str,
     call: F,
 ) -> io::Result<()>
-where
-    F: Fn() -> Result<T, E>,
     requires { F.IsAlwaysCallable call }
 {
-    meter.again(
-        line,
-        || meter.made(&call, |made| made.check(wanted), || Ok(())),
-    )
+    meter.again(line, || meter.compared(meter.counted(&call), wanted))
 }
 
 fn texts(meter: Meter, alloc: Global) -> io::Result<()> {
-    make(
-        meter,
-        "ArcStr::from_str",
-        "foobar",
-        || ArcStr::from_str(alloc, "foobar"),
-    )?;
-    make(
-        meter,
-        "ArcStr::try_alloc",
-        "foo bar.",
-        || ArcStr::try_alloc(alloc, "foo bar."),
-    )?;
-    make(
-        meter,
-        "ArcStr::from_utf8",
-        "foo, bar.",
-        || ArcStr::from_utf8(alloc, b"foo, bar."),
-    )?;
+    make(meter, "ArcStr::from_str", "foobar", || {
+        ArcStr::from_str(alloc, "foobar")
+    })?;
+    make(meter, "ArcStr::try_alloc", "foo bar.", || {
+        ArcStr::try_alloc(alloc, "foo bar.")
+    })?;
+    make(meter, "ArcStr::from_utf8", "foo, bar.", || {
+        ArcStr::from_utf8(alloc, b"foo, bar.")
+    })?;
     let four_times = "0123456789abcdef0123456789abcdef0123456789abcdef0123456789abcdef";
     make(meter, "ArcStr::try_repeat", four_times, || {
         ArcStr::try_repeat(alloc, "0123456789abcdef", 4)
     })?;
-    make(
-        meter,
-        "ArcStr::repeat",
-        "ababab",
-        || ArcStr::repeat(alloc, "ab", 3),
-    )?;
+    make(meter, "ArcStr::repeat", "ababab", || {
+        ArcStr::repeat(alloc, "ab", 3)
+    })?;
     make(meter, "ArcStr::join", "foo, , bar", || {
         ArcStr::join(alloc, &["foo", "", "bar"], ", ")
     })
@@ -102,19 +79,16 @@ fn filled_text(meter: Meter, alloc: Global) -> io::Result<()> {
                 bytes.copy_from_slice(b"abc");
             })
         });
-        check("the run of a closure", ran == made.is_ok())?;
-        meter.compared(made, |text| text.check("abc"))
+        check(Stop::Closure, ran == made.is_ok())?;
+        meter.compared(made, "abc")
     })
 }
 
 /// Reads texts from other forms. What is formatted is longer than the room that it first has.
 fn read_texts(meter: Meter, alloc: Global) -> io::Result<()> {
-    make(
-        meter,
-        "Substr::from_str",
-        "foobar",
-        || Substr::from_str(alloc, "foobar"),
-    )?;
+    make(meter, "Substr::from_str", "foobar", || {
+        Substr::from_str(alloc, "foobar")
+    })?;
     make(meter, "format_arcstr!", "cool 123 and 456", || {
         format_arcstr!(alloc; "cool {} and {}", 123, 456)
     })?;
@@ -127,12 +101,9 @@ fn read_texts(meter: Meter, alloc: Global) -> io::Result<()> {
 }
 
 fn blocks(meter: Meter, alloc: Global) -> io::Result<()> {
-    make(
-        meter,
-        "Shared::from_text",
-        "foobar",
-        || Block::from_text(alloc, "foobar"),
-    )?;
+    make(meter, "Shared::from_text", "foobar", || {
+        Block::from_text(alloc, "foobar")
+    })?;
     meter.again("Shared::init", || {
         let mut ran = false;
         let made = meter.counted(|| {
@@ -141,13 +112,10 @@ fn blocks(meter: Meter, alloc: Global) -> io::Result<()> {
                 bytes.fill(b'a');
             })
         });
-        check("the run of a closure", ran == made.is_ok())?;
-        meter.compared(made, |block| block.check("aaaaaaaaa"))
+        check(Stop::Closure, ran == made.is_ok())?;
+        meter.compared(made, "aaaaaaaaa")
     })?;
-    make(
-        meter,
-        "Shared::repeat",
-        "ababab",
-        || Block::repeat(alloc, "ab", 3),
-    )
+    make(meter, "Shared::repeat", "ababab", || {
+        Block::repeat(alloc, "ab", 3)
+    })
 }

@@ -1,6 +1,6 @@
 //! Calls that return handles on texts: callers in threads, and the words of texts. After each refusal, and
 //! once everything that was returned is dropped, each text has only the handle of its owner.
-use crate::calls::{Meter, Stop, check, check_count, check_text, retry};
+use crate::calls::{Made, Meter, Stop, check, check_count, check_text, retry};
 use arcbench_core::pool::{Gate, callers};
 use arcstr::{ArcStr, Substr};
 use arctokens::{tokens, tokens_all, tokens_all_with};
@@ -48,26 +48,30 @@ pub(crate) fn run<R: Sync + Threads + Wait>(rt: &R, meter: Meter, alloc: Global)
     // The words are more than a list first has room for.
     meter.again("tokens", || {
         let text = ArcStr::from_str(alloc, "a b c d e")?;
-        let call = || tokens(rt, alloc, &text);
-        meter.made(
-            call,
-            |words| check_words(words, 5),
-            || check_count(&text, 1),
-        )
+        retry(|| {
+            let words = meter.counted(|| tokens(rt, alloc, &text));
+            let ended = meter.compared(words, "abcde");
+            check_count(&text, 1)?;
+            ended
+        })
     })?;
     meter.again("callers", || {
         let text = ArcStr::from_str(alloc, "foobar")?;
-        let call = || callers(rt, alloc, &text, 2, &OpenGate);
-        meter.made(
-            call,
-            |handles| check_handles(handles),
-            || check_count(&text, 1),
-        )
+        retry(|| {
+            let handles = meter.counted(|| callers(rt, alloc, &text, 2, &OpenGate));
+            let ended = meter.compared(handles, "foobar");
+            check_count(&text, 1)?;
+            ended
+        })
     })?;
     meter.again("tokens_all", || {
         let texts = two_texts(alloc)?;
-        let call = || tokens_all(rt, alloc, &texts, 2);
-        meter.made(call, |lists| check_lists(lists), || check_owners(&texts))
+        retry(|| {
+            let lists = meter.counted(|| tokens_all(rt, alloc, &texts, 2));
+            let ended = meter.compared(lists, "abcde");
+            check_owners(&texts)?;
+            ended
+        })
     })?;
     meter.again("tokens_all_with", || words_behind_a_gate(rt, meter, alloc))
 }
@@ -88,42 +92,45 @@ fn words_behind_a_gate<R: Sync + Threads + Wait>(
     retry(|| {
         let gate = Passes::none();
         let lists = meter.counted(|| tokens_all_with(rt, alloc, &texts, 3, &gate));
-        check(
-            "how often a worker passed its gate",
-            gate.are(1) || lists.is_err() && gate.are(0),
-        )?;
-        let ended = meter.compared(lists, |lists| check_lists(lists));
+        check(Stop::Gate, gate.are(1) || lists.is_err() && gate.are(0))?;
+        let ended = meter.compared(lists, "abcde");
         check_owners(&texts)?;
         ended
     })
 }
 
-/// Compares two handles on a text that its owner has too.
-fn check_handles(handles: &[ArcStr]) -> Result<(), Stop> {
-    check("the length of a list", handles.len() == 2)?;
-    for handle in handles {
-        check_text(handle, "foobar", 3)?;
+/// Two handles on a text that its owner has too.
+impl Made for Vec<ArcStr> {
+    fn check(&self, wanted: &str) -> Result<(), Stop> {
+        check(Stop::Length, self.len() == 2)?;
+        for handle in self {
+            check_text(handle, wanted, 3)?;
+        }
+        Ok(())
     }
-    Ok(())
 }
 
-/// Compares the words of a text of two and of one of five.
-fn check_lists(lists: &[Vec<Substr>]) -> Result<(), Stop> {
-    check("the length of a list", lists.len() == 2)?;
-    check_words(&lists[0], 2)?;
-    check_words(&lists[1], 5)
+/// The words of a text: these letters, each at an even byte offset. The text has one handle for its owner and one
+/// for each word.
+impl Made for Vec<Substr> {
+    fn check(&self, wanted: &str) -> Result<(), Stop> {
+        check(Stop::Length, self.len() == wanted.len())?;
+        for (at, (word, letter)) in self.iter().zip(wanted.bytes()).enumerate() {
+            check(Stop::Text, word.as_bytes() == [letter])?;
+            check(Stop::Range, word.range() == (2 * at..2 * at + 1))?;
+            check_count(word.parent(), self.len() + 1)?;
+        }
+        Ok(())
+    }
 }
 
-/// Compares the words of a text with this many letters from `a` on, each at an even byte offset, and the
-/// count of the text with one for its owner and one for each word.
-fn check_words(words: &[Substr], wanted: usize) -> Result<(), Stop> {
-    check("the length of a list", words.len() == wanted)?;
-    for (at, (word, letter)) in words.iter().zip(["a", "b", "c", "d", "e"]).enumerate() {
-        check("a text", word.as_str() == letter)?;
-        check("a range", word.range() == (2 * at..2 * at + 1))?;
-        check_count(word.parent(), words.len() + 1)?;
+/// The words of a text with the first two letters, and of one with all.
+impl Made for Vec<Vec<Substr>> {
+    fn check(&self, wanted: &str) -> Result<(), Stop> {
+        check(Stop::Length, self.len() == 2)?;
+        self[0].check("ab")?;
+        self[1].check(wanted)
     }
-    Ok(())
 }
 
 /// Compares the count of each text with that of its owner alone.

@@ -10,12 +10,14 @@ use std::sync::Wait;
 
 pub(crate) fn run(rt: &impl Wait, meter: Meter, alloc: Global) -> io::Result<()> {
     meter.again("ArcStr::from_str of an empty text", || {
-        let made = meter.counted(|| ArcStr::from_str(alloc, ""));
-        meter.compared(made, |text| check("a text", text.as_str() == ""))
+        let text = meter.counted(|| ArcStr::from_str(alloc, ""))?;
+        check(Stop::Text, text.as_str() == "")?;
+        meter.drop(text);
+        Ok(())
     })?;
     meter.again("literal!", || {
         let text = meter.counted(|| literal!("foobar"));
-        check("a text", text.as_str() == "foobar")?;
+        check(Stop::Text, text.as_str() == "foobar")?;
         meter.drop(text);
         Ok(())
     })?;
@@ -38,15 +40,14 @@ pub(crate) fn run(rt: &impl Wait, meter: Meter, alloc: Global) -> io::Result<()>
                 StrView::whole(" foo ").trim().range(),
             )
         });
-        check("a range", ends == Ok((1, 6)))?;
-        check("a range", trimmed == (1..4))
+        check(Stop::Range, ends == Ok((1, 6)))?;
+        check(Stop::Range, trimmed == (1..4))
     })?;
     meter.again("World::new", || {
-        let made = meter.counted(|| World::new(alloc, 5));
-        meter.compared(
-            made,
-            |world| check("how often a block was freed", world.given(0) == 0),
-        )
+        let world = meter.counted(|| World::new(alloc, 5))?;
+        check(Stop::Given, world.given(0) == 0)?;
+        meter.drop(world);
+        Ok(())
     })
 }
 
@@ -113,8 +114,8 @@ fn check_slice(
     wanted: &str,
     handles: usize,
 ) -> Result<(), Stop> {
-    let slice = made.ok_or(Stop::Differs("a fault"))?;
-    check("a text", slice.as_str() == wanted)?;
+    let slice = made.ok_or(Stop::Fault)?;
+    check(Stop::Text, slice.as_str() == wanted)?;
     check_count(slice.parent(), handles)?;
     meter.drop(slice);
     Ok(())
@@ -124,18 +125,18 @@ fn check_slice(
 fn leak(meter: Meter, alloc: Global) -> Result<(), Stop> {
     let text = ArcStr::from_str(alloc, "foobar")?;
     let kept = meter.counted(|| text.leak());
-    check("a text", kept.as_str() == "foobar")?;
-    check("a count", ArcStr::strong_count(&text).is_none())?;
+    check(Stop::Text, kept.as_str() == "foobar")?;
+    check(Stop::Count, ArcStr::strong_count(&text).is_none())?;
     meter.drop(text);
-    check("a text", kept.as_str() == "foobar")
+    check(Stop::Text, kept.as_str() == "foobar")
 }
 
 fn comparison(meter: Meter, alloc: Global) -> Result<(), Stop> {
     let one = ArcStr::from_str(alloc, "foobar")?;
     let other = ArcStr::from_str(alloc, "foobaz")?;
     let (same, order) = meter.counted(|| (one == other, one.cmp(&other)));
-    check("an order", !same)?;
-    check("an order", order == Ordering::Less)
+    check(Stop::Order, !same)?;
+    check(Stop::Order, order == Ordering::Less)
 }
 
 fn hash(meter: Meter, alloc: Global) -> Result<(), Stop> {
@@ -143,5 +144,5 @@ fn hash(meter: Meter, alloc: Global) -> Result<(), Stop> {
     let (mut one, mut other) = (DefaultHasher::new(), DefaultHasher::new());
     meter.counted(|| text.hash(&mut one));
     "foobar".hash(&mut other);
-    check("a hash", one.finish() == other.finish())
+    check(Stop::Hash, one.finish() == other.finish())
 }

@@ -1,6 +1,6 @@
 //! Clone and drop, of each kind of text, and values that are kept at once, so that their bytes and allocations can be counted from outside.
 
-use crate::plan::{Kind, Plan};
+use crate::figures::no_figure;
 use crate::requests::{Machine, Request};
 use crate::texts::{add_each, add_times, handles, letters, text};
 use anyhow::Result;
@@ -8,91 +8,71 @@ use arcstr::{ArcStr, Substr, literal};
 use std::sync::Wait;
 use std::thread;
 
-pub(crate) fn run<M: Machine>(rt: &M, plan: &mut Plan) -> Result<()> {
-    plan.figure("clone_drop", Kind::Usual, |request| {
-        let text = text(rt.alloc(), request)?;
-        request.time(rt, || Ok(clone_and_read(rt, &text, request.operations)))
-    })?;
-    plan.figure("clone_drop_bare", Kind::Usual, |request| {
-        let text = text(rt.alloc(), request)?;
-        request.time(rt, || Ok(clone_unread(rt, &text, request.operations)))
-    })?;
-    plan.figure("clone_drop_slice", Kind::Usual, |request| {
-        let slice = Substr::full(text(rt.alloc(), request)?);
-        request.time(
-            rt,
-            || Ok(add_times(request.operations, || slice.clone(rt).len())),
-        )
-    })?;
-    run_on_handles(rt, plan)?;
-    run_in_threads(rt, plan)?;
-    run_kept(rt, plan)
+pub(crate) fn run<M: Machine>(rt: &M, request: &Request) -> Result<()> {
+    let text = text(rt.alloc(), request)?;
+    match request.figure {
+        "clone_drop" => request.time(rt, || Ok(clone_and_read(rt, &text, request.operations))),
+        "clone_drop_bare" => request.time(rt, || Ok(clone_unread(rt, &text, request.operations))),
+        "clone_drop_slice" => {
+            let slice = Substr::full(text);
+            request.time_operations(rt, || slice.clone(rt).len())
+        }
+        _ => no_figure(),
+    }
 }
 
-fn run_on_handles<M: Machine>(rt: &M, plan: &mut Plan) -> Result<()> {
-    plan.figure("clone_drop_literal", Kind::Usual, |request| {
-        clone_eight(
-            rt,
-            request,
-            &literal!("a literal text, in read-only memory"),
-        )
-    })?;
-    plan.figure(
-        "clone_drop_empty",
-        Kind::Usual,
-        |request| clone_eight(rt, request, &ArcStr::new()),
-    )?;
-    plan.figure("clone_drop_fixed", Kind::Usual, |request| {
-        let fixed = text(rt.alloc(), request)?.leak();
-        clone_eight(rt, request, &fixed.to_arc_str())
-    })?;
-    // Handles that were counted before their block was marked static.
-    plan.figure("clone_drop_marked", Kind::Usual, |request| {
-        let text = text(rt.alloc(), request)?;
-        let all = handles(rt, rt.alloc(), &text, 8)?;
-        let _ = text.leak();
-        clone_each(rt, request, &all)
-    })
+/// Clones eight handles in turn.
+pub(crate) fn run_on_handles<M: Machine>(rt: &M, request: &Request) -> Result<()> {
+    let all = handles_of(rt, request)?;
+    request.time_each(rt, &all, 8, |text| text.clone(rt).len())
 }
 
-fn run_in_threads<M: Machine>(rt: &M, plan: &mut Plan) -> Result<()> {
-    plan.figure("clone_drop_contended", Kind::TwoThreads, |request| {
-        let text = text(rt.alloc(), request)?;
-        let work = |_: usize| clone_and_read(rt, &text, request.operations);
-        request.time(rt, || {
-            let sums = thread::map_indices(rt, rt.alloc(), request.threads, &work)?;
-            Ok(add_each(&sums, 1, |sum| *sum))
-        })
-    })?;
-    plan.figure("clone_drop_contended_bare", Kind::TwoThreads, |request| {
-        let text = text(rt.alloc(), request)?;
-        let work = |_: usize| clone_unread(rt, &text, request.operations);
-        request.time(rt, || {
-            let sums = thread::map_indices(rt, rt.alloc(), request.threads, &work)?;
-            Ok(add_each(&sums, 1, |sum| *sum))
-        })
-    })
+/// Returns eight handles of the kind that the figure names.
+fn handles_of<M: Machine>(rt: &M, request: &Request) -> Result<Vec<ArcStr>> {
+    let text = text(rt.alloc(), request)?;
+    let one = match request.figure {
+        "clone_drop_literal" => literal!("a literal text, in read-only memory"),
+        "clone_drop_empty" => ArcStr::new(),
+        "clone_drop_fixed" => text.leak().to_arc_str(),
+        "clone_drop_marked" => return marked_handles(rt, text),
+        _ => return no_figure(),
+    };
+    Ok(handles(rt, rt.alloc(), &one, 8)?)
 }
 
-fn run_kept<M: Machine>(rt: &M, plan: &mut Plan) -> Result<()> {
-    plan.figure("keep", Kind::Kept, |request| {
-        let text = letters(rt.alloc(), request.size, request.size)?;
-        request.time(
-            rt,
-            || keep(
-                rt,
-                request,
-                || Ok(ArcStr::from_str(rt.alloc(), text.as_str())?),
-            ),
-        )
-    })?;
-    plan.figure("keep_clones", Kind::Kept, |request| {
-        let text = text(rt.alloc(), request)?;
-        request.time(rt, || keep(rt, request, || Ok(text.clone(rt))))
-    })?;
-    plan.figure("keep_slices", Kind::Kept, |request| {
-        let slice = Substr::full(text(rt.alloc(), request)?);
-        request.time(rt, || keep(rt, request, || Ok(slice.clone(rt))))
+/// Returns eight handles that were counted before their block was marked static.
+fn marked_handles<M: Machine>(rt: &M, text: ArcStr) -> Result<Vec<ArcStr>> {
+    let all = handles(rt, rt.alloc(), &text, 8)?;
+    let _ = text.leak();
+    Ok(all)
+}
+
+/// Clones a text in each thread of the request.
+pub(crate) fn run_in_threads<M: Machine>(rt: &M, request: &Request) -> Result<()> {
+    let text = text(rt.alloc(), request)?;
+    match request.figure {
+        "clone_drop_contended" => {
+            time_threads(rt, request, |_| {
+                clone_and_read(rt, &text, request.operations)
+            })
+        }
+        "clone_drop_contended_bare" => {
+            time_threads(rt, request, |_| clone_unread(rt, &text, request.operations))
+        }
+        _ => no_figure(),
+    }
+}
+
+fn time_threads<M: Machine, F: Fn(usize) -> usize + Sync>(
+    rt: &M,
+    request: &Request,
+    work: F,
+) -> Result<()>
+    requires { F.IsAlwaysCallable work }
+{
+    request.time(rt, || {
+        let sums = thread::map_indices(rt, rt.alloc(), request.threads, &work)?;
+        Ok(add_each(&sums, 1, |sum| *sum))
     })
 }
 
@@ -109,26 +89,41 @@ fn clone_unread<R: Wait>(rt: &R, text: &ArcStr, operations: usize) -> usize {
     operations
 }
 
-/// Times clones of eight handles on a text in turn.
-fn clone_eight<M: Machine>(rt: &M, request: &Request, text: &ArcStr) -> Result<()> {
-    clone_each(rt, request, &handles(rt, rt.alloc(), text, 8)?)
+/// Keeps texts, clones of one text, or clones of one slice.
+pub(crate) fn run_kept<M: Machine>(rt: &M, request: &Request) -> Result<()> {
+    let letters = letters(rt.alloc(), request.size, request.size)?;
+    let text = text(rt.alloc(), request)?;
+    match request.figure {
+        "keep" => time_kept(
+            rt,
+            request,
+            || Ok(ArcStr::from_str(rt.alloc(), letters.as_str())?),
+        ),
+        "keep_clones" => time_kept(rt, request, || Ok(text.clone(rt))),
+        "keep_slices" => {
+            let slice = Substr::full(text);
+            time_kept(rt, request, || Ok(slice.clone(rt)))
+        }
+        _ => no_figure(),
+    }
 }
 
-fn clone_each<M: Machine>(rt: &M, request: &Request, all: &[ArcStr]) -> Result<()> {
-    let times = request.operations / 8;
-    request.time(rt, || Ok(add_each(all, times, |text| text.clone(rt).len())))
-}
-
-/// Keeps as many values as the request has operations, and returns their number.
-fn keep<M: Machine, T: Drop, F: Fn() -> Result<T>>(
+/// Times how long as many values as the request has operations take to be made and kept.
+fn time_kept<M: Machine, T: Drop, F: Fn() -> Result<T>>(
     rt: &M,
     request: &Request,
     make: F,
-) -> Result<usize>
+) -> Result<()>
     requires { F.IsAlwaysCallable make }
 {
-    let mut kept = Vec::with_capacity(rt.alloc(), request.operations)?;
-    for _ in 0..request.operations {
+    request.time(rt, || keep(rt, request.operations, &make))
+}
+
+fn keep<M: Machine, T: Drop, F: Fn() -> Result<T>>(rt: &M, count: usize, make: F) -> Result<usize>
+    requires { F.IsAlwaysCallable make }
+{
+    let mut kept = Vec::with_capacity(rt.alloc(), count)?;
+    for _ in 0..count {
         kept.push(make()?)?;
     }
     Ok(kept.len())

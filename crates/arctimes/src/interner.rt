@@ -1,8 +1,7 @@
 //! An interner of the words on standard input: the symbol of each word in their order, and the text of each symbol; and one that threads share.
 
-use crate::plan::{Kind, Plan};
+use crate::figures::no_figure;
 use crate::requests::{Machine, Request};
-use crate::texts::add_each;
 use crate::words;
 use anyhow::Result;
 use arcintern::{InternFault, Interner, SharedInterner, Symbol};
@@ -15,40 +14,31 @@ use std::time::Instant;
 const SHARDS: usize = 64;
 
 /// N is the number of words.
-pub(crate) fn run<M: Machine>(rt: &M, plan: &mut Plan) -> Result<()> {
-    plan.figure("intern", Kind::Usual, |request| {
-        let input = words::input(rt, request)?;
-        let words = split(rt.alloc(), &input)?;
-        time_interning(rt, &of_words(request, &words), &words)
-    })?;
-    plan.figure("intern_get", Kind::Usual, |request| {
-        let input = words::input(rt, request)?;
-        let words = split(rt.alloc(), &input)?;
-        let mut interner = Interner::new(rt.alloc());
-        intern_all(&mut interner, &words)?;
-        let index_of = |word: &&str| interner.get(word).map_or(0, |symbol| symbol.index());
-        of_words(request, &words).time(rt, || Ok(add_each(&words, 1, index_of)))
-    })?;
-    plan.figure("intern_resolve", Kind::Usual, |request| {
-        let input = words::input(rt, request)?;
-        let words = split(rt.alloc(), &input)?;
-        let mut interner = Interner::new(rt.alloc());
-        let symbols = symbols_of(rt.alloc(), &mut interner, &words)?;
-        let len_of = |symbol: &Symbol| interner.resolve(*symbol).map_or(0, |text| text.len());
-        of_words(request, &words).time(rt, || Ok(add_each(&symbols, 1, len_of)))
-    })?;
-    plan.figure("intern_shared", Kind::Usual, |request| {
-        let input = words::input(rt, request)?;
-        let words = split(rt.alloc(), &input)?;
-        time_sharing(rt, &of_words(request, &words), &words)
-    })
-}
-
-/// Returns the request with the number of words for its operations.
-fn of_words<'a>(request: &Request<'a>, words: &[&str]) -> Request<'a> {
-    Request {
+pub(crate) fn run<M: Machine>(rt: &M, request: &Request) -> Result<()> {
+    let input = words::input(rt, request)?;
+    let words = split(rt.alloc(), &input)?;
+    let request = Request {
         operations: words.len(),
         ..*request
+    };
+    match request.figure {
+        "intern" => time_interning(rt, &request, &words),
+        "intern_get" | "intern_resolve" => time_looking_up(rt, &request, &words),
+        "intern_shared" => time_sharing(rt, &request, &words),
+        _ => no_figure(),
+    }
+}
+
+/// Times look-ups in an interner that has all the words.
+fn time_looking_up<M: Machine>(rt: &M, request: &Request, words: &[&str]) -> Result<()> {
+    let mut interner = Interner::new(rt.alloc());
+    let symbols = symbols_of(rt.alloc(), &mut interner, words)?;
+    if request.figure == "intern_get" {
+        let index_of = |word: &&str| interner.get(word).map_or(0, |symbol| symbol.index());
+        request.time_each(rt, words, words.len(), index_of)
+    } else {
+        let len_of = |symbol: &Symbol| interner.resolve(*symbol).map_or(0, |text| text.len());
+        request.time_each(rt, &symbols, words.len(), len_of)
     }
 }
 

@@ -9,39 +9,22 @@
 #![tactic(auto)]
 
 mod clones;
+mod figures;
 mod interner;
 mod makings;
 mod parts;
-mod plan;
 mod reads;
 mod requests;
 mod texts;
 mod words;
 
-use crate::plan::Plan;
-use crate::requests::{Machine, Request};
-use anyhow::{Result, bail};
+use anyhow::Result;
 use std::env;
 
 fn main(rt: HostRuntime) -> Result<()> {
     let given: Vec<String> = env::args(&rt)?.skip(1).collect(rt.alloc())?;
-    let mut plan = match given.first() {
-        None => Plan::of_each(),
-        Some(_) => Plan::of_one(Request::from_arguments(&given)?),
-    };
-    run(&rt, &mut plan)?;
-    if plan.timed() == 0 {
-        bail!("there is no figure of this name");
+    match given.first() {
+        None => figures::run_each(&rt),
+        Some(figure) => figures::run_one(&rt, figure, &given),
     }
-    Ok(())
-}
-
-/// Times the figures of the plan.
-fn run<M: Machine>(rt: &M, plan: &mut Plan) -> Result<()> {
-    clones::run(rt, plan)?;
-    makings::run(rt, plan)?;
-    reads::run(rt, plan)?;
-    words::run(rt, plan)?;
-    parts::run(rt, plan)?;
-    interner::run(rt, plan)
 }

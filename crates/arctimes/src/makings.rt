@@ -1,11 +1,11 @@
 //! Making and dropping of texts, of their slices and of JSON strings, and scripts of steps, run as `arcbench script` runs them.
 
-use crate::plan::{Kind, Plan};
-use crate::requests::Machine;
-use crate::texts::{add_each, add_times, eight, letters, text};
+use crate::figures::no_figure;
+use crate::requests::{Machine, Request};
+use crate::texts::{eight, letters, text};
 use anyhow::Result;
 use arcbench_core::script;
-use arcstr::{ArcStr, Substr};
+use arcstr::{ArcStr, RangeFault, Substr, TextFault};
 use serde_json::Value;
 use std::alloc::{AllocError, Global};
 
@@ -14,70 +14,67 @@ const START: usize = 1000;
 
 const END: usize = 3000;
 
-pub(crate) fn run<M: Machine>(rt: &M, plan: &mut Plan) -> Result<()> {
-    run_makings(rt, plan)?;
-    run_slices(rt, plan)?;
-    run_json(rt, plan)?;
-    plan.figure("script", Kind::Usual, |request| {
-        let lines = script_of(rt.alloc(), request.operations)?;
-        request.time(
-            rt,
-            || Ok(script::answer(rt.alloc(), lines.as_bytes()).map_or(0, |answer| answer.len())),
-        )
-    })
-}
-
-fn run_makings<M: Machine>(rt: &M, plan: &mut Plan) -> Result<()> {
+pub(crate) fn run<M: Machine>(rt: &M, request: &Request) -> Result<()> {
     let alloc = rt.alloc();
-    plan.figure("make_drop", Kind::Usual, |request| {
-        let text = letters(alloc, request.size, request.size)?;
-        let one = || ArcStr::from_str(alloc, text.as_str()).map_or(0, |made| made.len());
-        request.time(rt, || Ok(add_times(request.operations, one)))
-    })?;
-    plan.figure("from_utf8", Kind::Usual, |request| {
-        let text = letters(alloc, request.size, request.size)?;
-        let one = || ArcStr::from_utf8(alloc, text.as_bytes()).map_or(0, |made| made.len());
-        request.time(rt, || Ok(add_times(request.operations, one)))
-    })?;
-    plan.figure("repeat", Kind::Usual, |request| {
-        let one = || ArcStr::repeat(alloc, "x", request.size).map_or(0, |made| made.len());
-        request.time(rt, || Ok(add_times(request.operations, one)))
-    })
+    let text = letters(alloc, request.size, request.size)?;
+    match request.figure {
+        "make_drop" => request.time_operations(rt, || {
+            len_of(ArcStr::from_str(alloc, text.as_str()))
+        }),
+        "from_utf8" => request.time_operations(rt, || {
+            len_of(ArcStr::from_utf8(alloc, text.as_bytes()))
+        }),
+        "repeat" => request.time_operations(rt, || {
+            len_of(ArcStr::repeat(alloc, "x", request.size))
+        }),
+        _ => no_figure(),
+    }
 }
 
-fn run_slices<M: Machine>(rt: &M, plan: &mut Plan) -> Result<()> {
-    plan.figure("substr", Kind::LongText, |request| {
-        let text = text(rt.alloc(), request)?;
-        let one = || text.substr(rt, START..END).map_or(0, |slice| slice.len());
-        request.time(rt, || Ok(add_times(request.operations, one)))
-    })?;
-    plan.figure("substr_of_substr", Kind::LongText, |request| {
-        let whole = Substr::full(text(rt.alloc(), request)?);
-        let one = || whole.substr(rt, START..END).map_or(0, |slice| slice.len());
-        request.time(rt, || Ok(add_times(request.operations, one)))
-    })
+/// Returns the length of a text that was made, and drops it.
+fn len_of(made: Result<ArcStr, TextFault>) -> usize {
+    made.map_or(0, |text| text.len())
 }
 
-fn run_json<M: Machine>(rt: &M, plan: &mut Plan) -> Result<()> {
+pub(crate) fn run_slices<M: Machine>(rt: &M, request: &Request) -> Result<()> {
+    let text = text(rt.alloc(), request)?;
+    match request.figure {
+        "substr" => request.time_operations(rt, || slice_len(text.substr(rt, START..END))),
+        "substr_of_substr" => {
+            let whole = Substr::full(text);
+            request.time_operations(rt, || slice_len(whole.substr(rt, START..END)))
+        }
+        _ => no_figure(),
+    }
+}
+
+/// Returns the length of a slice, and drops it.
+fn slice_len(made: Result<Substr, RangeFault>) -> usize {
+    made.map_or(0, |slice| slice.len())
+}
+
+pub(crate) fn run_json<M: Machine>(rt: &M, request: &Request) -> Result<()> {
     let alloc = rt.alloc();
-    plan.figure("to_json", Kind::Usual, |request| {
-        let texts = eight(alloc, request, request.place)?;
-        request.time(
-            rt,
-            || Ok(add_each(&texts, request.operations / 8, |text| {
-                text.to_json(alloc)
-                    .map_or(0, |value| value.as_str().map_or(0, |text| text.len()))
-            })),
-        )
-    })?;
-    plan.figure("from_json", Kind::Usual, |request| {
-        let values = values_of(alloc, &eight(alloc, request, request.place)?)?;
-        request.time(
-            rt,
-            || Ok(add_each(&values, request.operations / 8, |value| {
+    let texts = eight(alloc, request, request.place)?;
+    match request.figure {
+        "to_json" => request.time_each(rt, &texts, 8, |text| {
+            let value = text.to_json(alloc);
+            value.map_or(0, |value| value.as_str().map_or(0, |text| text.len()))
+        }),
+        "from_json" => {
+            let values = values_of(alloc, &texts)?;
+            request.time_each(rt, &values, 8, |value| {
                 ArcStr::from_json(alloc, value).map_or(0, |text| text.len())
-            })),
-        )
+            })
+        }
+        _ => no_figure(),
+    }
+}
+
+pub(crate) fn run_script<M: Machine>(rt: &M, request: &Request) -> Result<()> {
+    let lines = script_of(rt.alloc(), request.operations)?;
+    request.time(rt, || {
+        Ok(script::answer(rt.alloc(), lines.as_bytes()).map_or(0, |answer| answer.len()))
     })
 }
 

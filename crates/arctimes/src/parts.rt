@@ -1,8 +1,7 @@
 //! The lines and parts of a text as views, compared with those of `str`, and look-ups by a `&str`.
 
-use crate::plan::{Kind, Plan};
-use crate::requests::Machine;
-use crate::texts::add_each;
+use crate::figures::no_figure;
+use crate::requests::{Machine, Request};
 use anyhow::Result;
 use arcstr::{ArcStr, StrView};
 use std::alloc::{AllocError, Global};
@@ -11,31 +10,28 @@ use std::collections::HashMap;
 /// The number of bytes of each line and each part, with the character after it.
 const STEP: usize = 40;
 
-pub(crate) fn run<M: Machine>(rt: &M, plan: &mut Plan) -> Result<()> {
-    plan.figure("lines", Kind::Usual, |request| {
-        let text = rows(rt.alloc(), request.size, '\n')?;
-        request.time(rt, || Ok(add_lines(&text, request.operations)))
-    })?;
-    plan.figure("lines_of_str", Kind::Usual, |request| {
-        let text = rows(rt.alloc(), request.size, '\n')?;
-        request.time(rt, || Ok(add_lines_of_str(&text, request.operations)))
-    })?;
-    plan.figure("split", Kind::Usual, |request| {
-        let text = rows(rt.alloc(), request.size, ',')?;
-        request.time(rt, || Ok(add_parts(&text, request.operations)))
-    })?;
-    plan.figure("split_of_str", Kind::Usual, |request| {
-        let text = rows(rt.alloc(), request.size, ',')?;
-        request.time(rt, || Ok(add_parts_of_str(&text, request.operations)))
-    })?;
-    plan.figure("look_up", Kind::ManyTexts, |request| {
-        let words = words(rt.alloc(), request.count)?;
-        let places = places(rt.alloc(), &words)?;
-        let place_of = |word: &String| places.get(word.as_str()).map_or(0, |place| *place);
-        request.time(
-            rt,
-            || Ok(add_each(&words, request.operations / 1000, place_of)),
-        )
+pub(crate) fn run<M: Machine>(rt: &M, request: &Request) -> Result<()> {
+    let end = if request.figure.starts_with("lines") {
+        '\n'
+    } else {
+        ','
+    };
+    let text = rows(rt.alloc(), request.size, end)?;
+    match request.figure {
+        "lines" => request.time_operations(rt, || add_views(StrView::whole(&text).lines())),
+        "lines_of_str" => request.time_operations(rt, || add_texts(text.lines())),
+        "split" => request.time_operations(rt, || add_views(StrView::whole(&text).split(','))),
+        "split_of_str" => request.time_operations(rt, || add_texts(text.split(','))),
+        _ => no_figure(),
+    }
+}
+
+/// Looks up each of COUNT words.
+pub(crate) fn run_look_ups<M: Machine>(rt: &M, request: &Request) -> Result<()> {
+    let words = words(rt.alloc(), request.count)?;
+    let places = places(rt.alloc(), &words)?;
+    request.time_each(rt, &words, 1000, |word| {
+        places.get(word.as_str()).map_or(0, |place| *place)
     })
 }
 
@@ -66,48 +62,22 @@ fn places(alloc: Global, words: &[String]) -> Result<HashMap<ArcStr, usize>> {
     Ok(places)
 }
 
-/// Returns the sum of the lengths and the places of the lines.
-fn add_lines(text: &str, times: usize) -> usize {
+/// Returns the sum of the lengths and the places of views.
+fn add_views<'a, I: Iterator<Item = StrView<'a>> + Drop>(views: I) -> usize {
     let mut sum = 0usize;
-    for _ in 0..times {
-        for line in StrView::whole(text).lines() {
-            sum = sum
-                .wrapping_add(line.text().len())
-                .wrapping_add(line.place());
-        }
+    for view in views {
+        sum = sum
+            .wrapping_add(view.text().len())
+            .wrapping_add(view.place());
     }
     sum
 }
 
-fn add_lines_of_str(text: &str, times: usize) -> usize {
+/// Returns the sum of the lengths of texts.
+fn add_texts<'a, I: Iterator<Item = &'a str> + Drop>(texts: I) -> usize {
     let mut sum = 0usize;
-    for _ in 0..times {
-        for line in text.lines() {
-            sum = sum.wrapping_add(line.len());
-        }
-    }
-    sum
-}
-
-/// Returns the sum of the lengths and the places of the parts.
-fn add_parts(text: &str, times: usize) -> usize {
-    let mut sum = 0usize;
-    for _ in 0..times {
-        for part in StrView::whole(text).split(',') {
-            sum = sum
-                .wrapping_add(part.text().len())
-                .wrapping_add(part.place());
-        }
-    }
-    sum
-}
-
-fn add_parts_of_str(text: &str, times: usize) -> usize {
-    let mut sum = 0usize;
-    for _ in 0..times {
-        for part in text.split(',') {
-            sum = sum.wrapping_add(part.len());
-        }
+    for text in texts {
+        sum = sum.wrapping_add(text.len());
     }
     sum
 }

@@ -1,6 +1,7 @@
 //! A request to the program: a figure, and how much of it. Its rounds read the clock and print the results.
 
-use crate::plan::Kind;
+use crate::figures::Family;
+use crate::texts::{add_each, add_times};
 use anyhow::{Context, Result};
 use std::rt::{Clock, Env};
 use std::sync::Wait;
@@ -33,7 +34,7 @@ pub(crate) enum Form {
 #[derive(Clone, Copy)]
 pub(crate) struct Request<'a> {
     pub(crate) figure: &'a str,
-    pub(crate) kind: Kind,
+    pub(crate) family: Family,
     /// The number of operations in a round (N).
     pub(crate) operations: usize,
     pub(crate) rounds: usize,
@@ -49,10 +50,10 @@ pub(crate) struct Request<'a> {
 
 impl<'a> Request<'a> {
     /// Returns a request for a thousand operations in three rounds, of one thread on a text of 64 bytes.
-    pub(crate) fn of(figure: &'a str) -> Request<'a> {
+    fn of(figure: &'a str, family: Family) -> Request<'a> {
         Request {
             figure,
-            kind: Kind::Usual,
+            family,
             operations: 1000,
             rounds: 3,
             threads: 1,
@@ -63,10 +64,38 @@ impl<'a> Request<'a> {
         }
     }
 
+    /// Returns a request for a short round of a figure, printed as a line of the table.
+    pub(crate) fn short(figure: &'a str, family: Family) -> Request<'a> {
+        let usual = Request {
+            operations: 8000,
+            rounds: 1,
+            form: Form::Table,
+            ..Request::of(figure, family)
+        };
+        match family {
+            Family::Slices => Request {
+                size: 4096,
+                ..usual
+            },
+            Family::Contended => Request {
+                threads: 2,
+                ..usual
+            },
+            Family::Reads | Family::LookUps => Request {
+                count: 1000,
+                ..usual
+            },
+            _ => usual,
+        }
+    }
+
     /// Parses a request from the arguments, in the order FIGURE N ROUNDS THREADS SIZE AT COUNT.
-    pub(crate) fn from_arguments(arguments: &'a [String]) -> Result<Request<'a>> {
-        let figure = arguments.first().map_or("", |argument| argument.as_str());
-        let usual = Request::of(figure);
+    pub(crate) fn from_arguments(
+        figure: &'a str,
+        family: Family,
+        arguments: &[String],
+    ) -> Result<Request<'a>> {
+        let usual = Request::of(figure, family);
         let size = number(arguments, 4, usual.size)?;
         Ok(Request {
             operations: number(arguments, 1, usual.operations)?,
@@ -77,6 +106,27 @@ impl<'a> Request<'a> {
             count: number(arguments, 6, usual.count)?.max(1),
             ..usual
         })
+    }
+
+    /// Times rounds in each of which `of` returns a number for each operation.
+    pub(crate) fn time_operations<M: Machine, F: Fn() -> usize>(&self, rt: &M, of: F) -> Result<()>
+        requires { F.IsAlwaysCallable of }
+    {
+        self.time(rt, || Ok(add_times(self.operations, &of)))
+    }
+
+    /// Times rounds in each of which `of` returns a number for each of these items, once for each `part` operations.
+    pub(crate) fn time_each<M: Machine, T, F: Fn(&T) -> usize>(
+        &self,
+        rt: &M,
+        all: &[T],
+        part: usize,
+        of: F,
+    ) -> Result<()>
+        requires { F.IsAlwaysCallable of }
+    {
+        let times = self.operations / part.max(1);
+        self.time(rt, || Ok(add_each(all, times, &of)))
     }
 
     /// Times each round, and prints it. A round returns the sum of what its operations returned.
@@ -102,27 +152,19 @@ impl<'a> Request<'a> {
             }
             Form::Table => {
                 println!(rt; "{figure} {sum}")?;
-                self.tell(
-                    rt,
-                    nanoseconds.saturating_mul(10) / self.units(sum).max(1) as u128,
-                )?;
+                let tenths = nanoseconds.saturating_mul(10) / self.units(sum).max(1) as u128;
+                let (whole, tenth) = (tenths / 10, tenths % 10);
+                eprintln!(rt; "{figure:<28} {whole:>8}.{tenth} ns")?;
             }
         }
         Ok(())
     }
 
-    /// Prints the time of one operation, in tenths of nanoseconds.
-    fn tell<M: Machine>(&self, rt: &M, tenths: u128) -> Result<()> {
-        let (figure, whole, tenth) = (self.figure, tenths / 10, tenths % 10);
-        eprintln!(rt; "{figure:<28} {whole:>8}.{tenth} ns")?;
-        Ok(())
-    }
-
-    /// How many units a round's time is divided by in the table: reads, words or operations.
+    /// How many units a round's time is divided by in the table: texts that were read (N / 1000 rounds over COUNT texts), words or operations.
     fn units(&self, sum: usize) -> usize {
-        match self.kind {
-            Kind::ManyTexts => (self.operations / 1000).saturating_mul(self.count),
-            Kind::Words => sum,
+        match self.family {
+            Family::Reads => (self.operations / 1000).saturating_mul(self.count),
+            Family::Words => sum,
             _ => self.operations,
         }
     }

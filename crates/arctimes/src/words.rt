@@ -1,76 +1,62 @@
 //! The words of texts, found by threads: thread `i % THREADS` finds those of text `i`.
 
-use crate::plan::{Kind, Plan};
+use crate::figures::no_figure;
 use crate::requests::{Form, Machine, Request};
 use crate::texts::add_each;
 use anyhow::Result;
 use arcstr::ArcStr;
 use arctokens::{tokens, tokens_all};
 use std::alloc::{AllocError, Global};
+use std::sync::Wait;
 use std::{io, thread};
 
 /// The texts for the table, which does not read standard input.
 const FEW_WORDS: &str =
     "the words of a text, \u{e4}\u{df}\u{4e2d} and\u{a0}spaces \u{1} of  two\ttexts\n";
 
-pub(crate) fn run<M: Machine>(rt: &M, plan: &mut Plan) -> Result<()> {
-    let alloc = rt.alloc();
-    plan.figure("count", Kind::Words, |request| {
-        count_each(
-            rt,
-            request,
-            |text| Ok(text.as_str().split_whitespace().count()),
-        )
-    })?;
-    plan.figure("ranges", Kind::Words, |request| {
-        count_each(rt, request, |text| Ok(places(alloc, text.as_str())?.len()))
-    })?;
-    plan.figure("words", Kind::Words, |request| {
-        count_each(rt, request, |text| Ok(tokens(rt, alloc, text)?.len()))
-    })?;
-    // As many workers as the request has threads, from 1 to 64.
-    plan.figure("tokens_all", Kind::Words, |request| {
-        let texts = texts_of(rt, request)?;
-        let workers = request.threads.min(64).max(1);
-        request.time(rt, || {
-            let lists = tokens_all(rt, alloc, &texts, workers)?;
-            Ok(add_each(&lists, 1, |list| list.len()))
-        })
-    })
+/// What a round finds for a text's words.
+#[derive(Clone, Copy)]
+enum Found {
+    /// Their number, found by std.
+    Count,
+    /// Their byte ranges.
+    Places,
+    /// Slices of them.
+    Slices,
 }
 
-/// Times the threads of the request, each of which counts the words of its share of the texts. They drop what `count` finds in a text before the next one.
-fn count_each<M: Machine, F: Fn(&ArcStr) -> Result<usize, AllocError> + Sync>(
+pub(crate) fn run<M: Machine>(rt: &M, request: &Request) -> Result<()> {
+    let texts = texts_of(rt, request)?;
+    match request.figure {
+        "count" => request.time(rt, || count_each(rt, request, &texts, Found::Count)),
+        "ranges" => request.time(rt, || count_each(rt, request, &texts, Found::Places)),
+        "words" => request.time(rt, || count_each(rt, request, &texts, Found::Slices)),
+        "tokens_all" => request.time(rt, || count_all(rt, request, &texts)),
+        _ => no_figure(),
+    }
+}
+
+/// Returns the number of words of all texts, found by the threads of the request.
+fn count_each<M: Machine>(
     rt: &M,
     request: &Request,
-    count: F,
-) -> Result<()>
-    requires { F.IsAlwaysCallable count }
-{
-    let texts = texts_of(rt, request)?;
-    let work = |worker: usize| count_share(&texts, worker, request.threads, &count);
-    request.time(rt, || {
-        let mut sum = 0usize;
-        for of_share in thread::map_indices(rt, rt.alloc(), request.threads, &work)? {
-            sum = sum.wrapping_add(of_share?);
-        }
-        Ok(sum)
-    })
-}
-
-fn count_share<F: Fn(&ArcStr) -> Result<usize, AllocError>>(
     texts: &[ArcStr],
-    worker: usize,
-    workers: usize,
-    count: &F,
-) -> Result<usize, AllocError>
-    requires { F.IsAlwaysCallable count.now }
-{
+    found: Found,
+) -> Result<usize> {
+    let (alloc, threads) = (rt.alloc(), request.threads);
+    let work = |worker: usize| words_of_share(rt, alloc, texts, found, worker, threads);
     let mut sum = 0usize;
-    for text in texts.iter().skip(worker).step_by(workers.max(1)) {
-        sum = sum.wrapping_add(count(text)?);
+    for count in thread::map_indices(rt, alloc, threads, &work)? {
+        sum = sum.wrapping_add(count?);
     }
     Ok(sum)
+}
+
+/// Returns the number of words in all lists of `tokens_all`, with as many workers as the request has threads, from 1 to 64.
+fn count_all<M: Machine>(rt: &M, request: &Request, texts: &[ArcStr]) -> Result<usize> {
+    let workers = request.threads.min(64).max(1);
+    let lists = tokens_all(rt, rt.alloc(), texts, workers)?;
+    Ok(add_each(&lists, 1, |list| list.len()))
 }
 
 /// Returns the texts that the request reads, with a byte 1 between two.
@@ -88,6 +74,27 @@ fn texts_of<M: Machine>(rt: &M, request: &Request) -> Result<Vec<ArcStr>> {
         texts.push(ArcStr::from_str(rt.alloc(), text)?)?;
     }
     Ok(texts)
+}
+
+/// Returns the number of words of one worker's texts. The words of each text are dropped before the next text.
+fn words_of_share<R: Wait>(
+    rt: &R,
+    alloc: Global,
+    texts: &[ArcStr],
+    found: Found,
+    worker: usize,
+    workers: usize,
+) -> Result<usize, AllocError> {
+    let mut sum = 0usize;
+    for text in texts.iter().skip(worker).step_by(workers.max(1)) {
+        let count = match found {
+            Found::Count => text.as_str().split_whitespace().count(),
+            Found::Places => places(alloc, text.as_str())?.len(),
+            Found::Slices => tokens(rt, alloc, text)?.len(),
+        };
+        sum = sum.wrapping_add(count);
+    }
+    Ok(sum)
 }
 
 /// Returns the byte ranges of the words, found by the characters of the text.
