@@ -116,7 +116,7 @@ impl Made for Vec<Substr> {
     fn check(&self, wanted: &str) -> Result<(), Stop> {
         check(Stop::Length, self.len() == wanted.len())?;
         for (at, (word, letter)) in self.iter().zip(wanted.bytes()).enumerate() {
-            check(Stop::Text, word.as_bytes() == [letter])?;
+            check(Stop::Text, word.as_bytes() == [letter].as_slice())?;
             check(Stop::Range, word.range() == (2 * at..2 * at + 1))?;
             check_count(word.parent(), self.len() + 1)?;
         }

@@ -7,6 +7,7 @@ use anyhow::Result;
 use arcstr::{ArcStr, Substr, literal};
 use std::sync::Wait;
 use std::thread;
+use std::time::Instant;
 
 pub(crate) fn run<M: Machine>(rt: &M, request: &Request) -> Result<()> {
     let text = text(rt.alloc(), request)?;
@@ -34,17 +35,15 @@ fn handles_of<M: Machine>(rt: &M, request: &Request) -> Result<Vec<ArcStr>> {
         "clone_drop_literal" => literal!("a literal text, in read-only memory"),
         "clone_drop_empty" => ArcStr::new(),
         "clone_drop_fixed" => text.leak().to_arc_str(),
-        "clone_drop_marked" => return marked_handles(rt, text),
+        "clone_drop_marked" => {
+            // Handles that were counted before their block was marked static.
+            let all = handles(rt, rt.alloc(), &text)?;
+            let _ = text.leak();
+            return Ok(all);
+        }
         _ => return no_figure(),
     };
-    Ok(handles(rt, rt.alloc(), &one, 8)?)
-}
-
-/// Returns eight handles that were counted before their block was marked static.
-fn marked_handles<M: Machine>(rt: &M, text: ArcStr) -> Result<Vec<ArcStr>> {
-    let all = handles(rt, rt.alloc(), &text, 8)?;
-    let _ = text.leak();
-    Ok(all)
+    handles(rt, rt.alloc(), &one)
 }
 
 /// Clones a text in each thread of the request.
@@ -70,10 +69,12 @@ fn time_threads<M: Machine, F: Fn(usize) -> usize + Sync>(
 ) -> Result<()>
     requires { F.IsAlwaysCallable work }
 {
-    request.time(rt, || {
+    for _ in 0..request.rounds {
+        let start = Instant::now(rt)?;
         let sums = thread::map_indices(rt, rt.alloc(), request.threads, &work)?;
-        Ok(add_each(&sums, 1, |sum| *sum))
-    })
+        request.finish(rt, start, add_each(&sums, 1, |sum| *sum))?;
+    }
+    Ok(())
 }
 
 /// Clones a text, reads the length of each clone, and drops it.
@@ -94,36 +95,32 @@ pub(crate) fn run_kept<M: Machine>(rt: &M, request: &Request) -> Result<()> {
     let letters = letters(rt.alloc(), request.size, request.size)?;
     let text = text(rt.alloc(), request)?;
     match request.figure {
-        "keep" => time_kept(
-            rt,
-            request,
-            || Ok(ArcStr::from_str(rt.alloc(), letters.as_str())?),
-        ),
-        "keep_clones" => time_kept(rt, request, || Ok(text.clone(rt))),
+        "keep" => request.time(rt, || {
+            keep(
+                rt,
+                request,
+                || Ok(ArcStr::from_str(rt.alloc(), letters.as_str())?),
+            )
+        }),
+        "keep_clones" => request.time(rt, || keep(rt, request, || Ok(text.clone(rt)))),
         "keep_slices" => {
             let slice = Substr::full(text);
-            time_kept(rt, request, || Ok(slice.clone(rt)))
+            request.time(rt, || keep(rt, request, || Ok(slice.clone(rt))))
         }
         _ => no_figure(),
     }
 }
 
-/// Times how long as many values as the request has operations take to be made and kept.
-fn time_kept<M: Machine, T: Drop, F: Fn() -> Result<T>>(
+/// Makes and keeps as many values as the request has operations, and returns their number.
+fn keep<M: Machine, T: Drop, F: Fn() -> Result<T>>(
     rt: &M,
     request: &Request,
     make: F,
-) -> Result<()>
+) -> Result<usize>
     requires { F.IsAlwaysCallable make }
 {
-    request.time(rt, || keep(rt, request.operations, &make))
-}
-
-fn keep<M: Machine, T: Drop, F: Fn() -> Result<T>>(rt: &M, count: usize, make: F) -> Result<usize>
-    requires { F.IsAlwaysCallable make }
-{
-    let mut kept = Vec::with_capacity(rt.alloc(), count)?;
-    for _ in 0..count {
+    let mut kept = Vec::with_capacity(rt.alloc(), request.operations)?;
+    for _ in 0..request.operations {
         kept.push(make()?)?;
     }
     Ok(kept.len())

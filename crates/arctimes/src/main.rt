@@ -1,8 +1,7 @@
 //! Times the calls of `arcstr`, `arctokens` and `arcintern` and the scripts of `arcbench`, one figure after another.
 //!
 //! `arctimes FIGURE N ROUNDS THREADS SIZE AT COUNT` times one figure, and prints a line for each round: `FIGURE THREADS SIZE NANOSECONDS N SUM`. Arguments
-//! that are left out have the values of `Request::of`. Figures of words and of an interner read their texts from standard input, separated by a
-//! byte 1. The crate's README.md describes each figure.
+//! that are left out have the values of `Request::of`. The crate's README.md describes each figure.
 //!
 //! Without arguments, it does a short round of each figure. Standard output then has the name and SUM of each, which are the same in every run, and standard
 //! error has the table of times.

@@ -62,15 +62,10 @@ pub(crate) fn many(alloc: Global, text: &str, count: usize) -> Result<Vec<ArcStr
     Ok(texts)
 }
 
-/// Returns this many handles to one text.
-pub(crate) fn handles<R: Wait>(
-    rt: &R,
-    alloc: Global,
-    text: &ArcStr,
-    count: usize,
-) -> Result<Vec<ArcStr>, AllocError> {
+/// Returns eight handles to one text.
+pub(crate) fn handles<R: Wait>(rt: &R, alloc: Global, text: &ArcStr) -> Result<Vec<ArcStr>> {
     let mut handles = Vec::new(alloc);
-    for _ in 0..count {
+    for _ in 0..8 {
         handles.push(text.clone(rt))?;
     }
     Ok(handles)
