@@ -154,12 +154,8 @@ impl<'a> Request<'a> {
     /// Reads the clock at the end of a round, and prints the round.
     pub(crate) fn finish<M: Machine>(&self, rt: &M, start: Instant, sum: usize) -> Result<()> {
         let nanoseconds = start.elapsed(rt)?.as_nanos();
-        let (figure, threads, size, operations) = (
-            self.figure,
-            self.threads,
-            self.size,
-            self.operations,
-        );
+        let (figure, threads, size) = (self.figure, self.threads, self.size);
+        let operations = self.operations;
         match self.form {
             Form::Lines => {
                 println!(rt; "{figure} {threads} {size} {nanoseconds} {operations} {sum}")?;
