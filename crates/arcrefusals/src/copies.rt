@@ -1,260 +1,159 @@
 //! Calls that copy a shared text or a JSON value. A refusal leaves what they copy unchanged, and they then
 //! copy it again.
-use crate::calls::TRIES;
-use crate::making::{check_made, check_slice_made, check_text};
-use crate::meter::Meter;
-use crate::stop::{Part, Stop, check, is_refused};
+use crate::calls::{Made, Meter, Stop, TRIES, check, check_text, retry};
 use arcstr::{ArcStr, Substr};
 use serde_json::Value;
-use std::alloc::{AllocError, Global};
+use std::alloc::Global;
 use std::borrow::CowStr;
+use std::io;
 use std::sync::Wait;
 
-/// The calls, in the order of their lines.
-pub(crate) const CALLS: [Copying; 9] = [
-    Copying::ToString,
-    Copying::ToJson,
-    Copying::IntoCow,
-    Copying::FromJson,
-    Copying::SubstrToString,
-    Copying::SubstrToJson,
-    Copying::SubstrIntoCow,
-    Copying::SubstrFromJson,
-    Copying::SubstrToArcStr,
-];
+/// What is copied.
+trait Copied: Drop {
+    fn make(alloc: Global) -> Result<Self, Stop>;
 
-#[derive(Clone, Copy)]
-pub(crate) enum Copying {
-    ToString,
-    ToJson,
-    IntoCow,
-    FromJson,
-    SubstrToString,
-    SubstrToJson,
-    SubstrIntoCow,
-    SubstrFromJson,
-    SubstrToArcStr,
+    /// Compares it with what was made, and the count of its block, if it has one, with this number of handles.
+    fn check_copied(&self, handles: usize) -> Result<(), Stop>;
 }
 
-impl Copying {
-    pub(crate) fn line(self) -> &'static str {
-        match self {
-            Copying::ToString => "ArcStr::to_string: the copy, the text stands, count 1",
-            Copying::ToJson => "ArcStr::to_json: the value, the text stands, count 1",
-            Copying::IntoCow => "ArcStr::into_cow: the copy, or the text back",
-            Copying::FromJson => "ArcStr::from_json: the text, count 1, the value stands",
-            Copying::SubstrToString => "Substr::to_string: the copy, the slice stands, count 1",
-            Copying::SubstrToJson => "Substr::to_json: the value, the slice stands, count 1",
-            Copying::SubstrIntoCow => "Substr::into_cow: the copy, or the slice back",
-            Copying::SubstrFromJson =>
-                "Substr::from_json: the text, its range, count 1, the value stands",
-            Copying::SubstrToArcStr => "Substr::to_arc_str: the copy, the slice stands, count 1",
-        }
+impl Copied for ArcStr {
+    fn make(alloc: Global) -> Result<ArcStr, Stop> {
+        Ok(ArcStr::from_str(alloc, "foobar")?)
     }
 
-    /// Makes the call. A call on a text makes one first.
-    pub(crate) fn once(self, rt: &impl Wait, meter: Meter, alloc: Global) -> Result<(), Stop> {
-        match self {
-            Copying::ToString => text_to_string(meter, alloc),
-            Copying::ToJson => text_to_json(meter, alloc),
-            Copying::IntoCow => text_into_cow(rt, meter, alloc),
-            Copying::FromJson => text_from_json(meter, alloc),
-            Copying::SubstrToString => slice_to_string(meter, alloc),
-            Copying::SubstrToJson => slice_to_json(meter, alloc),
-            Copying::SubstrIntoCow => slice_into_cow(rt, meter, alloc),
-            Copying::SubstrFromJson => slice_from_json(meter, alloc),
-            Copying::SubstrToArcStr => slice_to_arc_str(meter, alloc),
-        }
+    fn check_copied(&self, handles: usize) -> Result<(), Stop> {
+        check_text(self, "foobar", handles)
     }
-}
-
-fn text_to_string(meter: Meter, alloc: Global) -> Result<(), Stop> {
-    let text = ArcStr::from_str(alloc, "foobar")?;
-    for _ in 0..TRIES {
-        meter.begin();
-        let copy = text.to_string(alloc);
-        meter.end();
-        let ended = check_copy(meter, copy, "foobar");
-        check_text(&text, "foobar", 1)?;
-        if !is_refused(ended) {
-            return ended;
-        }
-    }
-    Err(Stop::Refused)
-}
-
-fn text_to_json(meter: Meter, alloc: Global) -> Result<(), Stop> {
-    let text = ArcStr::from_str(alloc, "foobar")?;
-    for _ in 0..TRIES {
-        meter.begin();
-        let value = text.to_json(alloc);
-        meter.end();
-        let ended = check_written(meter, value, "foobar");
-        check_text(&text, "foobar", 1)?;
-        if !is_refused(ended) {
-            return ended;
-        }
-    }
-    Err(Stop::Refused)
-}
-
-/// Takes one of two handles on a text; a refusal returns it.
-fn text_into_cow(rt: &impl Wait, meter: Meter, alloc: Global) -> Result<(), Stop> {
-    let mut text = ArcStr::from_str(alloc, "foobar")?;
-    let other = text.clone(rt);
-    for _ in 0..TRIES {
-        meter.begin();
-        let cow = text.into_cow(alloc);
-        meter.end();
-        match cow {
-            Ok(cow) => {
-                check_text(&other, "foobar", 1)?;
-                return check_owned(meter, cow, "foobar");
-            }
-            Err(back) => text = back,
-        }
-        check_text(&text, "foobar", 2)?;
-    }
-    Err(Stop::Refused)
-}
-
-fn text_from_json(meter: Meter, alloc: Global) -> Result<(), Stop> {
-    let value = Value::try_from_str(alloc, "foobar")?;
-    for _ in 0..TRIES {
-        meter.begin();
-        let made = ArcStr::from_json(alloc, &value);
-        meter.end();
-        let ended = check_made(meter, made, "foobar");
-        check_value(&value, "foobar")?;
-        if !is_refused(ended) {
-            return ended;
-        }
-    }
-    Err(Stop::Refused)
-}
-
-fn slice_to_string(meter: Meter, alloc: Global) -> Result<(), Stop> {
-    let slice = bar_of_foobar(alloc)?;
-    for _ in 0..TRIES {
-        meter.begin();
-        let copy = slice.to_string(alloc);
-        meter.end();
-        let ended = check_copy(meter, copy, "bar");
-        check_bar(&slice, 1)?;
-        if !is_refused(ended) {
-            return ended;
-        }
-    }
-    Err(Stop::Refused)
-}
-
-fn slice_to_json(meter: Meter, alloc: Global) -> Result<(), Stop> {
-    let slice = bar_of_foobar(alloc)?;
-    for _ in 0..TRIES {
-        meter.begin();
-        let value = slice.to_json(alloc);
-        meter.end();
-        let ended = check_written(meter, value, "bar");
-        check_bar(&slice, 1)?;
-        if !is_refused(ended) {
-            return ended;
-        }
-    }
-    Err(Stop::Refused)
-}
-
-/// Takes one of two slices of a text; a refusal returns it.
-fn slice_into_cow(rt: &impl Wait, meter: Meter, alloc: Global) -> Result<(), Stop> {
-    let mut slice = bar_of_foobar(alloc)?;
-    let other = slice.clone(rt);
-    for _ in 0..TRIES {
-        meter.begin();
-        let cow = slice.into_cow(alloc);
-        meter.end();
-        match cow {
-            Ok(cow) => {
-                check_bar(&other, 1)?;
-                return check_owned(meter, cow, "bar");
-            }
-            Err(back) => slice = back,
-        }
-        check_bar(&slice, 2)?;
-    }
-    Err(Stop::Refused)
-}
-
-fn slice_from_json(meter: Meter, alloc: Global) -> Result<(), Stop> {
-    let value = Value::try_from_str(alloc, "foobar")?;
-    for _ in 0..TRIES {
-        meter.begin();
-        let made = Substr::from_json(alloc, &value);
-        meter.end();
-        let ended = check_slice_made(meter, made, "foobar");
-        check_value(&value, "foobar")?;
-        if !is_refused(ended) {
-            return ended;
-        }
-    }
-    Err(Stop::Refused)
-}
-
-fn slice_to_arc_str(meter: Meter, alloc: Global) -> Result<(), Stop> {
-    let slice = bar_of_foobar(alloc)?;
-    for _ in 0..TRIES {
-        meter.begin();
-        let copy = slice.to_arc_str(alloc);
-        meter.end();
-        let ended = check_made(meter, copy, "bar");
-        check_bar(&slice, 1)?;
-        if !is_refused(ended) {
-            return ended;
-        }
-    }
-    Err(Stop::Refused)
 }
 
 /// The slice `bar` of a text `foobar`.
-fn bar_of_foobar(alloc: Global) -> Result<Substr, Stop> {
-    let parent = ArcStr::from_str(alloc, "foobar")?;
-    Ok(Substr::from_parts_unchecked(parent, 3..6))
+impl Copied for Substr {
+    fn make(alloc: Global) -> Result<Substr, Stop> {
+        let parent = ArcStr::from_str(alloc, "foobar")?;
+        Ok(Substr::from_parts_unchecked(parent, 3..6))
+    }
+
+    fn check_copied(&self, handles: usize) -> Result<(), Stop> {
+        check(Stop::Text, self.as_str() == "bar")?;
+        check(Stop::Range, self.range() == (3..6))?;
+        check_text(self.parent(), "foobar", handles)
+    }
 }
 
-/// Compares a slice with `bar` of `foobar`, and the count of its parent with this number of handles.
-fn check_bar(slice: &Substr, handles: usize) -> Result<(), Stop> {
-    check(Part::Text, slice.as_str() == "bar")?;
-    check(Part::Range, slice.range() == (3..6))?;
-    check_text(slice.parent(), "foobar", handles)
+impl Copied for Value {
+    fn make(alloc: Global) -> Result<Value, Stop> {
+        Ok(Value::try_from_str(alloc, "foobar")?)
+    }
+
+    fn check_copied(&self, _handles: usize) -> Result<(), Stop> {
+        self.check("foobar")
+    }
 }
 
-/// Compares a copy with this text, if there is a copy, and drops it.
-fn check_copy(meter: Meter, copy: Result<String, AllocError>, wanted: &str) -> Result<(), Stop> {
-    let copy = copy?;
-    check(Part::Copy, copy.as_str() == wanted)?;
-    meter.drop_counted(copy);
-    Ok(())
+impl Made for String {
+    fn check(&self, wanted: &str) -> Result<(), Stop> {
+        check(Stop::Copy, self.as_str() == wanted)
+    }
 }
 
-/// Compares a value with this JSON string, if there is a value, and drops it.
-fn check_written(meter: Meter, value: Result<Value, AllocError>, wanted: &str) -> Result<(), Stop> {
-    let value = value?;
-    check_value(&value, wanted)?;
-    meter.drop_counted(value);
-    Ok(())
+impl Made for Value {
+    fn check(&self, wanted: &str) -> Result<(), Stop> {
+        check(Stop::Value, self.as_str() == Some(wanted))
+    }
 }
 
-/// Compares a value with this JSON string.
-fn check_value(value: &Value, wanted: &str) -> Result<(), Stop> {
-    check(Part::Value, value.as_str() == Some(wanted))
+pub(crate) fn run(rt: &impl Wait, meter: Meter, alloc: Global) -> io::Result<()> {
+    let foobar = "foobar";
+    copy(meter, alloc, "ArcStr::to_string", foobar, |text: &ArcStr| {
+        text.to_string(alloc)
+    })?;
+    copy(meter, alloc, "ArcStr::to_json", foobar, |text: &ArcStr| {
+        text.to_json(alloc)
+    })?;
+    meter.again("ArcStr::into_cow", || {
+        let text = ArcStr::make(alloc)?;
+        into_cow(meter, text.clone(rt), &text, foobar, |text| {
+            text.into_cow(alloc)
+        })
+    })?;
+    copy(meter, alloc, "ArcStr::from_json", foobar, |value| {
+        ArcStr::from_json(alloc, value)
+    })?;
+    copy(meter, alloc, "Substr::to_string", "bar", |slice: &Substr| {
+        slice.to_string(alloc)
+    })?;
+    copy(meter, alloc, "Substr::to_json", "bar", |slice: &Substr| {
+        slice.to_json(alloc)
+    })?;
+    meter.again("Substr::into_cow", || {
+        let slice = Substr::make(alloc)?;
+        into_cow(meter, slice.clone(rt), &slice, "bar", |slice| {
+            slice.into_cow(alloc)
+        })
+    })?;
+    copy(meter, alloc, "Substr::from_json", foobar, |value| {
+        Substr::from_json(alloc, value)
+    })?;
+    copy(
+        meter,
+        alloc,
+        "Substr::to_arc_str",
+        "bar",
+        |slice: &Substr| { slice.to_arc_str(alloc) },
+    )
+}
+
+/// Copies a value until that is not refused. The value stands after each try.
+fn copy<K: Copied, T: Made, E: Into<Stop>, F: Fn(&K) -> Result<T, E>>(
+    meter: Meter,
+    alloc: Global,
+    line: &str,
+    wanted: &str,
+    call: F,
+) -> io::Result<()>
+    requires { F.IsAlwaysCallable call }
+{
+    meter.again(line, || {
+        let value = K::make(alloc)?;
+        retry(|| {
+            let ended = meter.compared(meter.counted(|| call(&value)), wanted);
+            value.check_copied(1)?;
+            ended
+        })
+    })
+}
+
+/// Takes one of two handles on a text; a refusal returns it.
+fn into_cow<K: Copied, F: Fn(K) -> Result<CowStr, K>>(
+    meter: Meter,
+    mut taken: K,
+    other: &K,
+    wanted: &str,
+    call: F,
+) -> Result<(), Stop>
+    requires { F.IsAlwaysCallable call }
+{
+    for _ in 0..TRIES {
+        match meter.counted(|| call(taken)) {
+            Ok(cow) => {
+                other.check_copied(1)?;
+                return check_owned(meter, cow, wanted);
+            }
+            Err(back) => taken = back,
+        }
+        taken.check_copied(2)?;
+    }
+    Err(Stop::Refused)
 }
 
 /// Compares what a text became with a copy of this one, and drops it.
 fn check_owned(meter: Meter, cow: CowStr, wanted: &str) -> Result<(), Stop> {
     match cow {
         CowStr::Owned(copy) => {
-            check(Part::Copy, copy.as_str() == wanted)?;
-            meter.drop_counted(copy);
+            copy.check(wanted)?;
+            meter.drop(copy);
             Ok(())
         }
-        CowStr::Borrowed(_) => Err(Stop::Differs(Part::Copy)),
+        CowStr::Borrowed(_) => Err(Stop::Copy),
     }
 }

@@ -1,11 +1,11 @@
 //! Calls on histories of steps, and on scripts of them.
-use crate::calls::TRIES;
-use crate::meter::Meter;
-use crate::stop::{Part, Stop, check};
+use crate::calls::{Meter, Stop, check, retry};
 use arcbench_core::port::Port;
 use arcbench_core::script::{answer, copy};
-use arcstr::count::{Reply, RunFault, Step, World, run};
+use arcstr::count;
+use arcstr::count::{Reply, Step, World};
 use std::alloc::Global;
+use std::io;
 
 const LIMIT: u64 = 9;
 
@@ -48,50 +48,21 @@ const SCRIPT: &[u8] = b"limit 5\nmake\nclone 0\nlook 1\nback\n";
 
 const ANSWER: &[u8] = b"made 0\nhandle 1\ncount 2\nbad\n";
 
-/// The calls, in the order of their lines.
-pub(crate) const CALLS: [History; 4] = [
-    History::Run,
-    History::Step,
-    History::Answer,
-    History::Copy,
-];
-
-#[derive(Clone, Copy)]
-pub(crate) enum History {
-    Run,
-    Step,
-    Answer,
-    Copy,
-}
-
-impl History {
-    pub(crate) fn line(self) -> &'static str {
-        match self {
-            History::Run => "run: the reply to each step",
-            History::Step => "World::step: the reply, and nothing changes without memory",
-            History::Answer => "script::answer: the answer",
-            History::Copy => "script::copy: the answer, and nothing is written without memory",
-        }
-    }
-
-    pub(crate) fn once(self, meter: Meter, alloc: Global) -> Result<(), Stop> {
-        match self {
-            History::Run => run_of_steps(meter, alloc),
-            History::Step => steps_of_a_world(meter, alloc),
-            History::Answer => answer_to_a_script(meter, alloc),
-            History::Copy => copy_of_a_script(meter, alloc),
-        }
-    }
-}
-
-fn run_of_steps(meter: Meter, alloc: Global) -> Result<(), Stop> {
-    meter.begin();
-    let replies = run(alloc, LIMIT, &STEPS);
-    meter.end();
-    let replies = replies?;
-    check(Part::Reply, replies.as_slice() == REPLIES.as_slice())?;
-    meter.drop_counted(replies);
-    Ok(())
+pub(crate) fn run(meter: Meter, alloc: Global) -> io::Result<()> {
+    meter.again("run", || {
+        let replies = meter.counted(|| count::run(alloc, LIMIT, &STEPS))?;
+        check(Stop::Reply, replies.as_slice() == REPLIES.as_slice())?;
+        meter.drop(replies);
+        Ok(())
+    })?;
+    meter.again("World::step", || steps_of_a_world(meter, alloc))?;
+    meter.again("script::answer", || {
+        let answered = meter.counted(|| answer(alloc, SCRIPT))?;
+        check(Stop::Answer, answered.as_slice() == ANSWER)?;
+        meter.drop(answered);
+        Ok(())
+    })?;
+    meter.again("script::copy", || copy_of_a_script(meter, alloc))
 }
 
 /// Takes each step, and repeats it while it is refused.
@@ -99,9 +70,9 @@ fn steps_of_a_world(meter: Meter, alloc: Global) -> Result<(), Stop> {
     let mut world = World::new(alloc, LIMIT)?;
     for (step, wanted) in STEPS.iter().zip(REPLIES) {
         let reply = reply_to(meter, &mut world, *step)?;
-        check(Part::Reply, reply == wanted)?;
+        check(Stop::Reply, reply == wanted)?;
     }
-    meter.drop_counted(world);
+    meter.drop(world);
     Ok(())
 }
 
@@ -109,18 +80,14 @@ fn steps_of_a_world(meter: Meter, alloc: Global) -> Result<(), Stop> {
 fn reply_to(meter: Meter, world: &mut World<Global>, step: Step) -> Result<Reply, Stop> {
     let counts = count_of_each(world)?;
     let given = given_of_each(world);
-    for _ in 0..TRIES {
-        meter.begin();
-        let reply = world.step(step);
-        meter.end();
-        if let Ok(reply) = reply {
-            return Ok(reply);
+    retry(|| {
+        let reply = meter.counted(|| world.step(step));
+        if reply.is_err() {
+            check(Stop::Count, count_of_each(world)? == counts)?;
+            check(Stop::Given, given_of_each(world) == given)?;
         }
-        check(Part::Fault, reply == Err(RunFault::Memory))?;
-        check(Part::Count, count_of_each(world)? == counts)?;
-        check(Part::Given, given_of_each(world) == given)?;
-    }
-    Err(Stop::Refused)
+        Ok(reply?)
+    })
 }
 
 /// The replies to a look through each handle that is made. These looks change nothing.
@@ -141,28 +108,16 @@ fn given_of_each(world: &World<Global>) -> [u64; 6] {
     given
 }
 
-fn answer_to_a_script(meter: Meter, alloc: Global) -> Result<(), Stop> {
-    meter.begin();
-    let answered = answer(alloc, SCRIPT);
-    meter.end();
-    let answered = answered?;
-    check(Part::Answer, answered.as_slice() == ANSWER)?;
-    meter.drop_counted(answered);
-    Ok(())
-}
-
 /// Calls `copy` with a buffer of the answer's length as output. Nothing is written there if the call is refused.
 fn copy_of_a_script(meter: Meter, alloc: Global) -> Result<(), Stop> {
     let mut room = [0; 28];
     let mut input = Port::new(SCRIPT);
     let mut output = Port::new(room.as_mut_slice());
-    meter.begin();
-    let copied = copy(alloc, &mut input, &mut output);
-    meter.end();
+    let copied = meter.counted(|| copy(alloc, &mut input, &mut output));
     match copied {
-        Ok(()) => check(Part::Answer, room.as_slice() == ANSWER),
+        Ok(()) => check(Stop::Answer, room.as_slice() == ANSWER),
         Err(fault) => {
-            check(Part::Answer, room == [0; 28])?;
+            check(Stop::Answer, room == [0; 28])?;
             Err(fault.into())
         }
     }

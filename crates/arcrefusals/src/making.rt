@@ -1,207 +1,121 @@
 //! Calls that make a text in a block of its own.
-ghost use Rattle.std.specs.Prelude.{◌≡◌, OnOk};
-
-use crate::meter::Meter;
-use crate::stop::{Part, Stop, check};
+use crate::calls::{Made, Meter, Stop, check, check_text};
+use arcstr::block::Shared;
 use arcstr::{ArcStr, Substr, format_arcstr};
 use std::alloc::Global;
+use std::io;
 
-/// The calls, in the order of their lines.
-pub(crate) const CALLS: [Making; 11] = [
-    Making::FromStr,
-    Making::TryAlloc,
-    Making::FromUtf8,
-    Making::TryRepeat,
-    Making::Repeat,
-    Making::Join,
-    Making::InitWith,
-    Making::SubstrFromStr,
-    Making::FormatArcstr,
-    Making::Deserialize,
-    Making::SubstrDeserialize,
-];
+/// A block that a clone marks while more than five handles on it live.
+type Block = Shared<5, Global>;
 
-#[derive(Clone, Copy)]
-pub(crate) enum Making {
-    FromStr,
-    TryAlloc,
-    FromUtf8,
-    TryRepeat,
-    Repeat,
-    Join,
-    InitWith,
-    SubstrFromStr,
-    FormatArcstr,
-    Deserialize,
-    SubstrDeserialize,
-}
-
-impl Making {
-    pub(crate) fn line(self) -> &'static str {
-        match self {
-            Making::FromStr => "ArcStr::from_str: the text, count 1",
-            Making::TryAlloc => "ArcStr::try_alloc: the text, count 1",
-            Making::FromUtf8 => "ArcStr::from_utf8: the text, count 1",
-            Making::TryRepeat => "ArcStr::try_repeat: the text, count 1",
-            Making::Repeat => "ArcStr::repeat: the text, count 1",
-            Making::Join => "ArcStr::join: the text, count 1",
-            Making::InitWith =>
-                "ArcStr::init_with: the text, count 1, no closure runs without memory",
-            Making::SubstrFromStr => "Substr::from_str: the text, its range, count 1",
-            Making::FormatArcstr => "format_arcstr!: the text, count 1",
-            Making::Deserialize => "ArcStr::deserialize: the text, count 1",
-            Making::SubstrDeserialize => "Substr::deserialize: the text, its range, count 1",
-        }
-    }
-
-    pub(crate) fn once(self, meter: Meter, alloc: Global) -> Result<(), Stop> {
-        match self {
-            Making::FromStr => from_str(meter, alloc),
-            Making::TryAlloc => try_alloc(meter, alloc),
-            Making::FromUtf8 => from_utf8(meter, alloc),
-            Making::TryRepeat => try_repeat(meter, alloc),
-            Making::Repeat => repeat(meter, alloc),
-            Making::Join => join(meter, alloc),
-            Making::InitWith => init_with(meter, alloc),
-            Making::SubstrFromStr => slice_from_str(meter, alloc),
-            Making::FormatArcstr => formatted(meter, alloc),
-            Making::Deserialize => deserialized(meter, alloc),
-            Making::SubstrDeserialize => slice_deserialized(meter, alloc),
-        }
+impl Made for ArcStr {
+    fn check(&self, wanted: &str) -> Result<(), Stop> {
+        check_text(self, wanted, 1)
     }
 }
 
-fn from_str(meter: Meter, alloc: Global) -> Result<(), Stop> {
-    meter.begin();
-    let made = ArcStr::from_str(alloc, "foobar");
-    meter.end();
-    check_made(meter, made, "foobar")
+impl Made for Substr {
+    fn check(&self, wanted: &str) -> Result<(), Stop> {
+        check(Stop::Range, self.range() == (0..wanted.len()))?;
+        check_text(self.parent(), wanted, 1)
+    }
 }
 
-fn try_alloc(meter: Meter, alloc: Global) -> Result<(), Stop> {
-    meter.begin();
-    let made = ArcStr::try_alloc(alloc, "foo bar.");
-    meter.end();
-    check_made(meter, made, "foo bar.")
+impl Made for Block {
+    fn check(&self, wanted: &str) -> Result<(), Stop> {
+        check(Stop::Text, self.as_str() == wanted)?;
+        check(Stop::Count, self.look().0 == Some(1))
+    }
 }
 
-fn from_utf8(meter: Meter, alloc: Global) -> Result<(), Stop> {
-    meter.begin();
-    let made = ArcStr::from_utf8(alloc, b"foo, bar.");
-    meter.end();
-    check_made(meter, made, "foo, bar.")
+pub(crate) fn run(meter: Meter, alloc: Global) -> io::Result<()> {
+    texts(meter, alloc)?;
+    filled_text(meter, alloc)?;
+    read_texts(meter, alloc)?;
+    blocks(meter, alloc)
 }
 
-fn try_repeat(meter: Meter, alloc: Global) -> Result<(), Stop> {
-    meter.begin();
-    let made = ArcStr::try_repeat(alloc, "0123456789abcdef", 4);
-    meter.end();
-    check_made(
-        meter,
-        made,
-        "0123456789abcdef0123456789abcdef0123456789abcdef0123456789abcdef",
-    )
+/// Makes a text, compares it, and drops it.
+fn make<T: Made, E: Into<Stop>, F: Fn() -> Result<T, E>>(
+    meter: Meter,
+    line: &str,
+    wanted: &str,
+    call: F,
+) -> io::Result<()>
+    requires { F.IsAlwaysCallable call }
+{
+    meter.again(line, || meter.compared(meter.counted(&call), wanted))
 }
 
-fn repeat(meter: Meter, alloc: Global) -> Result<(), Stop> {
-    meter.begin();
-    let made = ArcStr::repeat(alloc, "ab", 3);
-    meter.end();
-    check_made(meter, made, "ababab")
-}
-
-fn join(meter: Meter, alloc: Global) -> Result<(), Stop> {
-    meter.begin();
-    let made = ArcStr::join(alloc, &["foo", "", "bar"], ", ");
-    meter.end();
-    check_made(meter, made, "foo, , bar")
+fn texts(meter: Meter, alloc: Global) -> io::Result<()> {
+    make(meter, "ArcStr::from_str", "foobar", || {
+        ArcStr::from_str(alloc, "foobar")
+    })?;
+    make(meter, "ArcStr::try_alloc", "foo bar.", || {
+        ArcStr::try_alloc(alloc, "foo bar.")
+    })?;
+    make(meter, "ArcStr::from_utf8", "foo, bar.", || {
+        ArcStr::from_utf8(alloc, b"foo, bar.")
+    })?;
+    let four_times = "0123456789abcdef0123456789abcdef0123456789abcdef0123456789abcdef";
+    make(meter, "ArcStr::try_repeat", four_times, || {
+        ArcStr::try_repeat(alloc, "0123456789abcdef", 4)
+    })?;
+    make(meter, "ArcStr::repeat", "ababab", || {
+        ArcStr::repeat(alloc, "ab", 3)
+    })?;
+    make(meter, "ArcStr::join", "foo, , bar", || {
+        ArcStr::join(alloc, &["foo", "", "bar"], ", ")
+    })
 }
 
 /// Fills a text with a closure, which runs exactly if the call is not refused.
-fn init_with(meter: Meter, alloc: Global) -> Result<(), Stop> {
-    let mut ran = false;
-    meter.begin();
-    let made = ArcStr::init_with(alloc, 3, |bytes| {
-        ran = true;
-        bytes.copy_from_slice(b"abc");
-    });
-    meter.end();
-    check(Part::Closure, ran == made.is_ok())?;
-    check_made(meter, made, "abc")
+fn filled_text(meter: Meter, alloc: Global) -> io::Result<()> {
+    meter.again("ArcStr::init_with", || {
+        let mut ran = false;
+        let made = meter.counted(|| {
+            ArcStr::init_with(alloc, 3, |bytes| {
+                ran = true;
+                bytes.copy_from_slice(b"abc");
+            })
+        });
+        check(Stop::Closure, ran == made.is_ok())?;
+        meter.compared(made, "abc")
+    })
 }
 
-fn slice_from_str(meter: Meter, alloc: Global) -> Result<(), Stop> {
-    meter.begin();
-    let made = Substr::from_str(alloc, "foobar");
-    meter.end();
-    check_slice_made(meter, made, "foobar")
+/// Reads texts from other forms. What is formatted is longer than the room that it first has.
+fn read_texts(meter: Meter, alloc: Global) -> io::Result<()> {
+    make(meter, "Substr::from_str", "foobar", || {
+        Substr::from_str(alloc, "foobar")
+    })?;
+    make(meter, "format_arcstr!", "cool 123 and 456", || {
+        format_arcstr!(alloc; "cool {} and {}", 123, 456)
+    })?;
+    make(meter, "ArcStr::deserialize", "foobar", || {
+        serde_json::from_str::<ArcStr>(alloc, "\"foobar\"")
+    })?;
+    make(meter, "Substr::deserialize", "foobar", || {
+        serde_json::from_str::<Substr>(alloc, "\"foobar\"")
+    })
 }
 
-/// Formats more than the text first has room for.
-fn formatted(meter: Meter, alloc: Global) -> Result<(), Stop> {
-    meter.begin();
-    let made = format_arcstr!(alloc; "cool {} and {}", 123, 456);
-    meter.end();
-    check_made(meter, made, "cool 123 and 456")
-}
-
-fn deserialized(meter: Meter, alloc: Global) -> Result<(), Stop> {
-    meter.begin();
-    let read: Result<ArcStr, _> = serde_json::from_str(alloc, "\"foobar\"");
-    meter.end();
-    check_made(meter, read, "foobar")
-}
-
-fn slice_deserialized(meter: Meter, alloc: Global) -> Result<(), Stop> {
-    meter.begin();
-    let read: Result<Substr, _> = serde_json::from_str(alloc, "\"foobar\"");
-    meter.end();
-    check_slice_made(meter, read, "foobar")
-}
-
-/// Checks that the new text is this text in a block of its own, if the call was not refused, and drops it.
-pub(crate) fn check_made<E: Into<Stop>>(
-    meter: Meter,
-    made: Result<ArcStr, E>,
-    wanted: &str,
-) -> Result<(), Stop> {
-    match made {
-        Ok(text) => {
-            check_text(&text, wanted, 1)?;
-            meter.drop_counted(text);
-            Ok(())
-        }
-        Err(fault) => Err(fault.into()),
-    }
-}
-
-/// Checks that the new slice is all of this text in a block of its own, if the call was not refused, and
-/// drops it.
-pub(crate) fn check_slice_made<E: Into<Stop>>(
-    meter: Meter,
-    made: Result<Substr, E>,
-    wanted: &str,
-) -> Result<(), Stop> {
-    match made {
-        Ok(slice) => {
-            check(Part::Range, slice.range() == (0..wanted.len()))?;
-            check_text(slice.parent(), wanted, 1)?;
-            meter.drop_counted(slice);
-            Ok(())
-        }
-        Err(fault) => Err(fault.into()),
-    }
-}
-
-/// Compares a text with this text, and its count with this number of handles.
-pub(crate) fn check_text(text: &ArcStr, wanted: &str, handles: usize) -> Result<(), Stop>
-    ensures { OnOk result (text.now.text ≡ wanted.now) }
-{
-    check(Part::Text, text.as_str() == wanted)?;
-    check_count(text, handles)
-}
-
-/// Compares the count of a text with this number of handles.
-pub(crate) fn check_count(text: &ArcStr, handles: usize) -> Result<(), Stop> {
-    check(Part::Count, ArcStr::strong_count(text) == Some(handles))
+fn blocks(meter: Meter, alloc: Global) -> io::Result<()> {
+    make(meter, "Shared::from_text", "foobar", || {
+        Block::from_text(alloc, "foobar")
+    })?;
+    meter.again("Shared::init", || {
+        let mut ran = false;
+        let made = meter.counted(|| {
+            Block::init(alloc, 9, |bytes| {
+                ran = true;
+                bytes.fill(b'a');
+            })
+        });
+        check(Stop::Closure, ran == made.is_ok())?;
+        meter.compared(made, "aaaaaaaaa")
+    })?;
+    make(meter, "Shared::repeat", "ababab", || {
+        Block::repeat(alloc, "ab", 3)
+    })
 }

@@ -1,123 +1,85 @@
-//! Clone and drop, of each kind of text.
+//! Clone and drop, of each kind of text, and values that are kept at once, so that their bytes and allocations can be counted from outside.
 
-use crate::machine::Machine;
-use crate::requests::Request;
-use crate::rounds::Unit;
-use crate::texts::{handles, letters};
-use crate::{families, rounds, threads};
+use crate::figures::no_figure;
+use crate::requests::{Machine, Request};
+use crate::texts::{add_each, add_times, handles, letters, text};
 use anyhow::Result;
 use arcstr::{ArcStr, Substr, literal};
-use std::alloc::AllocError;
 use std::sync::Wait;
+use std::thread;
 use std::time::Instant;
 
-/// What a round clones.
-#[derive(Drop)]
-enum Clones {
-    OfText(ArcStr, Look),
-    OfSlice(Substr),
-    InThreads(ArcStr, Look),
-    /// Several handles in turn.
-    OfHandles(Vec<ArcStr>),
-}
-
-/// What a round reads of a clone before it drops the clone.
-#[derive(Clone, Copy)]
-enum Look {
-    Length,
-    Nothing,
-}
-
-/// Times a figure of this family. A round can start threads, so this family does not use `Round`.
 pub(crate) fn run<M: Machine>(rt: &M, request: &Request) -> Result<()> {
-    let prepared = prepare(rt, request)?;
+    let text = text(rt.alloc(), request)?;
+    match request.figure {
+        "clone_drop" => request.time(rt, || Ok(clone_and_read(rt, &text, request.operations))),
+        "clone_drop_bare" => request.time(rt, || Ok(clone_unread(rt, &text, request.operations))),
+        "clone_drop_slice" => {
+            let slice = Substr::full(text);
+            request.time_operations(rt, || slice.clone(rt).len())
+        }
+        _ => no_figure(),
+    }
+}
+
+/// Clones eight handles in turn.
+pub(crate) fn run_on_handles<M: Machine>(rt: &M, request: &Request) -> Result<()> {
+    let all = handles_of(rt, request)?;
+    request.time_each(rt, &all, 8, |text| text.clone(rt).len())
+}
+
+/// Returns eight handles of the kind that the figure names.
+fn handles_of<M: Machine>(rt: &M, request: &Request) -> Result<Vec<ArcStr>> {
+    let text = text(rt.alloc(), request)?;
+    let one = match request.figure {
+        "clone_drop_literal" => literal!("a literal text, in read-only memory"),
+        "clone_drop_empty" => ArcStr::new(),
+        "clone_drop_fixed" => text.leak().to_arc_str(),
+        "clone_drop_marked" => {
+            // Handles that were counted before their block was marked static.
+            let all = handles(rt, rt.alloc(), &text)?;
+            let _ = text.leak();
+            return Ok(all);
+        }
+        _ => return no_figure(),
+    };
+    handles(rt, rt.alloc(), &one)
+}
+
+/// Clones a text in each thread of the request.
+pub(crate) fn run_in_threads<M: Machine>(rt: &M, request: &Request) -> Result<()> {
+    let text = text(rt.alloc(), request)?;
+    match request.figure {
+        "clone_drop_contended" => {
+            time_threads(rt, request, |_| {
+                clone_and_read(rt, &text, request.operations)
+            })
+        }
+        "clone_drop_contended_bare" => {
+            time_threads(rt, request, |_| clone_unread(rt, &text, request.operations))
+        }
+        _ => no_figure(),
+    }
+}
+
+fn time_threads<M: Machine, F: Fn(usize) -> usize + Sync>(
+    rt: &M,
+    request: &Request,
+    work: F,
+) -> Result<()>
+    requires { F.IsAlwaysCallable work }
+{
     for _ in 0..request.rounds {
         let start = Instant::now(rt)?;
-        let sum = prepared.once(rt, request)?;
-        rounds::finish(rt, request, Unit::Operation, start, sum)?;
+        let sums = thread::map_indices(rt, rt.alloc(), request.threads, &work)?;
+        request.finish(rt, start, add_each(&sums, 1, |sum| *sum))?;
     }
     Ok(())
 }
 
-fn prepare<M: Machine>(rt: &M, request: &Request) -> Result<Clones> {
-    let text = letters(rt.alloc(), request.size, request.size)?;
-    let text = ArcStr::from_str(rt.alloc(), text.as_str())?;
-    match request.figure {
-        "clone_drop" => Ok(Clones::OfText(text, Look::Length)),
-        "clone_drop_bare" => Ok(Clones::OfText(text, Look::Nothing)),
-        "clone_drop_slice" => Ok(Clones::OfSlice(Substr::full(text))),
-        "clone_drop_contended" => Ok(Clones::InThreads(text, Look::Length)),
-        "clone_drop_contended_bare" => Ok(Clones::InThreads(text, Look::Nothing)),
-        _ => Ok(Clones::OfHandles(prepare_handles(rt, request.figure, text)?)),
-    }
-}
-
-/// Returns eight handles of the kind that the figure names.
-fn prepare_handles<M: Machine>(rt: &M, figure: &str, text: ArcStr) -> Result<Vec<ArcStr>> {
-    let one = match figure {
-        "clone_drop_literal" => literal!("a literal text, in read-only memory"),
-        "clone_drop_empty" => ArcStr::new(),
-        "clone_drop_fixed" => text.leak().to_arc_str(),
-        "clone_drop_marked" => return marked_handles(rt, text),
-        _ => return families::no_figure(),
-    };
-    Ok(handles(rt, rt.alloc(), &one, 8)?)
-}
-
-/// Returns eight handles that were counted before their block was marked static.
-fn marked_handles<M: Machine>(rt: &M, text: ArcStr) -> Result<Vec<ArcStr>> {
-    let all = handles(rt, rt.alloc(), &text, 8)?;
-    let _ = text.leak();
-    Ok(all)
-}
-
-impl Clones {
-    /// Does one round, and returns the sum of what its operations returned.
-    fn once<M: Machine>(&self, rt: &M, request: &Request) -> Result<usize, AllocError> {
-        let operations = request.operations;
-        match self {
-            Clones::OfText(text, look) => Ok(clone_text(rt, text, *look, operations)),
-            Clones::OfSlice(slice) => Ok(clone_slice(rt, slice, operations)),
-            Clones::InThreads(text, look) => clone_in_threads(rt, request, text, *look),
-            Clones::OfHandles(all) => Ok(clone_each(rt, all, operations / 8)),
-        }
-    }
-}
-
-/// Clones the text in each thread of the request, and returns the sum of their results.
-fn clone_in_threads<M: Machine>(
-    rt: &M,
-    request: &Request,
-    text: &ArcStr,
-    look: Look,
-) -> Result<usize, AllocError> {
-    let sums = threads::map_workers(
-        rt,
-        rt.alloc(),
-        request.threads,
-        &|_| { clone_text(rt, text, look, request.operations) },
-    )?;
-    let mut sum = 0usize;
-    for it in sums {
-        sum = sum.wrapping_add(it);
-    }
-    Ok(sum)
-}
-
-fn clone_text<R: Wait>(rt: &R, text: &ArcStr, look: Look, operations: usize) -> usize {
-    match look {
-        Look::Length => clone_and_read(rt, text, operations),
-        Look::Nothing => clone_unread(rt, text, operations),
-    }
-}
-
 /// Clones a text, reads the length of each clone, and drops it.
 fn clone_and_read<R: Wait>(rt: &R, text: &ArcStr, operations: usize) -> usize {
-    let mut sum = 0usize;
-    for _ in 0..operations {
-        sum = sum.wrapping_add(text.clone(rt).len());
-    }
-    sum
+    add_times(operations, || text.clone(rt).len())
 }
 
 /// Clones a text, and drops each clone unread.
@@ -128,21 +90,38 @@ fn clone_unread<R: Wait>(rt: &R, text: &ArcStr, operations: usize) -> usize {
     operations
 }
 
-fn clone_slice<R: Wait>(rt: &R, slice: &Substr, operations: usize) -> usize {
-    let mut sum = 0usize;
-    for _ in 0..operations {
-        sum = sum.wrapping_add(slice.clone(rt).len());
+/// Keeps texts, clones of one text, or clones of one slice.
+pub(crate) fn run_kept<M: Machine>(rt: &M, request: &Request) -> Result<()> {
+    let letters = letters(rt.alloc(), request.size, request.size)?;
+    let text = text(rt.alloc(), request)?;
+    match request.figure {
+        "keep" => request.time(rt, || {
+            keep(
+                rt,
+                request,
+                || Ok(ArcStr::from_str(rt.alloc(), letters.as_str())?),
+            )
+        }),
+        "keep_clones" => request.time(rt, || keep(rt, request, || Ok(text.clone(rt)))),
+        "keep_slices" => {
+            let slice = Substr::full(text);
+            request.time(rt, || keep(rt, request, || Ok(slice.clone(rt))))
+        }
+        _ => no_figure(),
     }
-    sum
 }
 
-/// Clones each of the texts in turn.
-fn clone_each<R: Wait>(rt: &R, all: &[ArcStr], times: usize) -> usize {
-    let mut sum = 0usize;
-    for _ in 0..times {
-        for text in all {
-            sum = sum.wrapping_add(text.clone(rt).len());
-        }
+/// Makes and keeps as many values as the request has operations, and returns their number.
+fn keep<M: Machine, T: Drop, F: Fn() -> Result<T>>(
+    rt: &M,
+    request: &Request,
+    make: F,
+) -> Result<usize>
+    requires { F.IsAlwaysCallable make }
+{
+    let mut kept = Vec::with_capacity(rt.alloc(), request.operations)?;
+    for _ in 0..request.operations {
+        kept.push(make()?)?;
     }
-    sum
+    Ok(kept.len())
 }

@@ -1,19 +1,19 @@
 //! An interner of the words on standard input: the symbol of each word in their order, and the text of each symbol; and one that threads share.
 
-use crate::machine::Machine;
-use crate::requests::Request;
-use crate::rounds::Unit;
-use crate::{families, rounds, threads, words};
+use crate::figures::no_figure;
+use crate::requests::{Machine, Request};
+use crate::words;
 use anyhow::Result;
 use arcintern::{InternFault, Interner, SharedInterner, Symbol};
 use std::alloc::{AllocError, Global};
 use std::sync::Wait;
+use std::thread;
 use std::time::Instant;
 
 /// The number of shards of the interner that threads share.
 const SHARDS: usize = 64;
 
-/// Times a figure of this family. N is the number of words.
+/// N is the number of words.
 pub(crate) fn run<M: Machine>(rt: &M, request: &Request) -> Result<()> {
     let input = words::input(rt, request)?;
     let words = split(rt.alloc(), &input)?;
@@ -25,7 +25,20 @@ pub(crate) fn run<M: Machine>(rt: &M, request: &Request) -> Result<()> {
         "intern" => time_interning(rt, &request, &words),
         "intern_get" | "intern_resolve" => time_looking_up(rt, &request, &words),
         "intern_shared" => time_sharing(rt, &request, &words),
-        _ => families::no_figure(),
+        _ => no_figure(),
+    }
+}
+
+/// Times look-ups in an interner that has all the words.
+fn time_looking_up<M: Machine>(rt: &M, request: &Request, words: &[&str]) -> Result<()> {
+    let mut interner = Interner::new(rt.alloc());
+    let symbols = symbols_of(rt.alloc(), &mut interner, words)?;
+    if request.figure == "intern_get" {
+        let index_of = |word: &&str| interner.get(word).map_or(0, |symbol| symbol.index());
+        request.time_each(rt, words, words.len(), index_of)
+    } else {
+        let len_of = |symbol: &Symbol| interner.resolve(*symbol).map_or(0, |text| text.len());
+        request.time_each(rt, &symbols, words.len(), len_of)
     }
 }
 
@@ -35,23 +48,7 @@ fn time_interning<M: Machine>(rt: &M, request: &Request, words: &[&str]) -> Resu
         let mut interner = Interner::new(rt.alloc());
         let start = Instant::now(rt)?;
         let sum = intern_all(&mut interner, words)?;
-        rounds::finish(rt, request, Unit::Operation, start, sum)?;
-    }
-    Ok(())
-}
-
-/// Times look-ups in an interner that has all the words.
-fn time_looking_up<M: Machine>(rt: &M, request: &Request, words: &[&str]) -> Result<()> {
-    let mut interner = Interner::new(rt.alloc());
-    let symbols = symbols_of(rt.alloc(), &mut interner, words)?;
-    for _ in 0..request.rounds {
-        let start = Instant::now(rt)?;
-        let sum = if request.figure == "intern_get" {
-            add_symbols(&interner, words)
-        } else {
-            add_lengths(&interner, &symbols)
-        };
-        rounds::finish(rt, request, Unit::Operation, start, sum)?;
+        request.finish(rt, start, sum)?;
     }
     Ok(())
 }
@@ -60,32 +57,14 @@ fn time_looking_up<M: Machine>(rt: &M, request: &Request, words: &[&str]) -> Res
 fn time_sharing<M: Machine>(rt: &M, request: &Request, words: &[&str]) -> Result<()> {
     let interner = SharedInterner::new(rt.alloc(), SHARDS)?;
     intern_share(rt, &interner, words, 0, 1)?;
-    for _ in 0..request.rounds {
-        let start = Instant::now(rt)?;
-        let sum = intern_in_threads(rt, request, &interner, words)?;
-        rounds::finish(rt, request, Unit::Operation, start, sum)?;
-    }
-    Ok(())
-}
-
-/// Returns the sum of the lengths of the words' texts, which the threads of the request intern.
-fn intern_in_threads<M: Machine>(
-    rt: &M,
-    request: &Request,
-    interner: &SharedInterner,
-    words: &[&str],
-) -> Result<usize> {
-    let sums = threads::map_workers(
-        rt,
-        rt.alloc(),
-        request.threads,
-        &|worker| { intern_share(rt, interner, words, worker, request.threads) },
-    )?;
-    let mut sum = 0usize;
-    for of_worker in sums {
-        sum = sum.wrapping_add(of_worker?);
-    }
-    Ok(sum)
+    let work = |worker: usize| intern_share(rt, &interner, words, worker, request.threads);
+    request.time(rt, || {
+        let mut sum = 0usize;
+        for of_share in thread::map_indices(rt, rt.alloc(), request.threads, &work)? {
+            sum = sum.wrapping_add(of_share?);
+        }
+        Ok(sum)
+    })
 }
 
 /// Interns one worker's share of the words, and returns the sum of the lengths of their texts.
@@ -138,26 +117,4 @@ fn symbols_of(
         symbols.push(interner.intern(word)?)?;
     }
     Ok(symbols)
-}
-
-/// Returns the sum of the words' symbols, which the interner has.
-fn add_symbols(interner: &Interner, words: &[&str]) -> usize {
-    let mut sum = 0usize;
-    for word in words {
-        if let Some(symbol) = interner.get(word) {
-            sum = sum.wrapping_add(symbol.index());
-        }
-    }
-    sum
-}
-
-/// Returns the sum of the lengths of the symbols' texts.
-fn add_lengths(interner: &Interner, symbols: &[Symbol]) -> usize {
-    let mut sum = 0usize;
-    for symbol in symbols {
-        if let Some(text) = interner.resolve(*symbol) {
-            sum = sum.wrapping_add(text.len());
-        }
-    }
-    sum
 }

@@ -1,80 +1,102 @@
-//! Making and dropping of texts.
+//! Making and dropping of texts, of their slices and of JSON strings, and scripts of steps, run as `arcbench script` runs them.
 
-use crate::machine::Machine;
-use crate::requests::Request;
-use crate::rounds::{Round, Unit};
-use crate::texts::letters;
-use crate::{families, rounds};
+use crate::figures::no_figure;
+use crate::requests::{Machine, Request};
+use crate::texts::{eight, letters, text};
 use anyhow::Result;
-use arcstr::ArcStr;
+use arcbench_core::script;
+use arcstr::{ArcStr, RangeFault, Substr, TextFault};
+use serde_json::Value;
 use std::alloc::{AllocError, Global};
 
-/// What a round makes.
-#[derive(Drop)]
-enum Makings {
-    /// Texts from a string.
-    OfText(String),
-    /// Texts from a string's bytes.
-    OfBytes(String),
-    /// Copies of one letter.
-    Repeats,
-}
+/// The start and the end of the slices.
+const START: usize = 1000;
 
-/// Times a figure of this family.
+const END: usize = 3000;
+
 pub(crate) fn run<M: Machine>(rt: &M, request: &Request) -> Result<()> {
-    rounds::run(rt, request, Unit::Operation, &prepare(rt, request)?)
-}
-
-fn prepare<M: Machine>(rt: &M, request: &Request) -> Result<Makings> {
-    let text = letters(rt.alloc(), request.size, request.size)?;
+    let alloc = rt.alloc();
+    let text = letters(alloc, request.size, request.size)?;
     match request.figure {
-        "make_drop" => Ok(Makings::OfText(text)),
-        "from_utf8" => Ok(Makings::OfBytes(text)),
-        "repeat" => Ok(Makings::Repeats),
-        _ => families::no_figure(),
+        "make_drop" => request.time_operations(rt, || {
+            len_of(ArcStr::from_str(alloc, text.as_str()))
+        }),
+        "from_utf8" => request.time_operations(rt, || {
+            len_of(ArcStr::from_utf8(alloc, text.as_bytes()))
+        }),
+        "repeat" => request.time_operations(rt, || {
+            len_of(ArcStr::repeat(alloc, "x", request.size))
+        }),
+        _ => no_figure(),
     }
 }
 
-impl Round for Makings {
-    fn once<M: Machine>(&self, rt: &M, request: &Request) -> Result<usize, AllocError> {
-        let (alloc, times) = (rt.alloc(), request.operations);
-        Ok(match self {
-            Makings::OfText(text) => make_texts(alloc, text.as_str(), times),
-            Makings::OfBytes(text) => make_of_bytes(alloc, text.as_bytes(), times),
-            Makings::Repeats => repeat_letter(alloc, request.size, times),
-        })
+/// Returns the length of a text that was made, and drops it.
+fn len_of(made: Result<ArcStr, TextFault>) -> usize {
+    made.map_or(0, |text| text.len())
+}
+
+pub(crate) fn run_slices<M: Machine>(rt: &M, request: &Request) -> Result<()> {
+    let text = text(rt.alloc(), request)?;
+    match request.figure {
+        "substr" => request.time_operations(rt, || slice_len(text.substr(rt, START..END))),
+        "substr_of_substr" => {
+            let whole = Substr::full(text);
+            request.time_operations(rt, || slice_len(whole.substr(rt, START..END)))
+        }
+        _ => no_figure(),
     }
 }
 
-/// Makes texts, reads the length of each, and drops it.
-fn make_texts(alloc: Global, text: &str, operations: usize) -> usize {
-    let mut sum = 0usize;
-    for _ in 0..operations {
-        if let Ok(made) = ArcStr::from_str(alloc, text) {
-            sum = sum.wrapping_add(made.len());
+/// Returns the length of a slice, and drops it.
+fn slice_len(made: Result<Substr, RangeFault>) -> usize {
+    made.map_or(0, |slice| slice.len())
+}
+
+pub(crate) fn run_json<M: Machine>(rt: &M, request: &Request) -> Result<()> {
+    let alloc = rt.alloc();
+    let texts = eight(alloc, request, request.place)?;
+    match request.figure {
+        "to_json" => request.time_each(rt, &texts, 8, |text| {
+            let value = text.to_json(alloc);
+            value.map_or(0, |value| value.as_str().map_or(0, |text| text.len()))
+        }),
+        "from_json" => {
+            let values = values_of(alloc, &texts)?;
+            request.time_each(rt, &values, 8, |value| {
+                ArcStr::from_json(alloc, value).map_or(0, |text| text.len())
+            })
+        }
+        _ => no_figure(),
+    }
+}
+
+pub(crate) fn run_script<M: Machine>(rt: &M, request: &Request) -> Result<()> {
+    let lines = script_of(rt.alloc(), request.operations)?;
+    request.time(rt, || {
+        Ok(script::answer(rt.alloc(), lines.as_bytes()).map_or(0, |answer| answer.len()))
+    })
+}
+
+fn values_of(alloc: Global, texts: &[ArcStr]) -> Result<Vec<Value>, AllocError> {
+    let mut values = Vec::new(alloc);
+    for text in texts {
+        values.push(text.to_json(alloc)?)?;
+    }
+    Ok(values)
+}
+
+/// Returns a script of this many steps on one block: clones, and for each clone a look and a drop of two steps.
+fn script_of(alloc: Global, steps: usize) -> Result<String, AllocError> {
+    let mut lines = String::from_str(alloc, "limit 1000000\nmake\n")?;
+    for step in 1..steps {
+        let clone = step / 4 + 1;
+        match step % 4 {
+            1 => writeln!(lines, "clone 0")?,
+            2 => writeln!(lines, "look {clone}")?,
+            3 => writeln!(lines, "begin {clone}")?,
+            _ => writeln!(lines, "sub {}", clone - 1)?,
         }
     }
-    sum
-}
-
-/// Makes texts from bytes, which are tested first.
-fn make_of_bytes(alloc: Global, bytes: &[u8], operations: usize) -> usize {
-    let mut sum = 0usize;
-    for _ in 0..operations {
-        if let Ok(made) = ArcStr::from_utf8(alloc, bytes) {
-            sum = sum.wrapping_add(made.len());
-        }
-    }
-    sum
-}
-
-/// Makes texts of copies of one letter.
-fn repeat_letter(alloc: Global, copies: usize, operations: usize) -> usize {
-    let mut sum = 0usize;
-    for _ in 0..operations {
-        if let Ok(made) = ArcStr::repeat(alloc, "x", copies) {
-            sum = sum.wrapping_add(made.len());
-        }
-    }
-    sum
+    Ok(lines)
 }

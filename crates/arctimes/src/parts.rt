@@ -1,9 +1,7 @@
 //! The lines and parts of a text as views, compared with those of `str`, and look-ups by a `&str`.
 
-use crate::machine::Machine;
-use crate::requests::Request;
-use crate::rounds::{Round, Unit};
-use crate::{families, rounds};
+use crate::figures::no_figure;
+use crate::requests::{Machine, Request};
 use anyhow::Result;
 use arcstr::{ArcStr, StrView};
 use std::alloc::{AllocError, Global};
@@ -12,46 +10,29 @@ use std::collections::HashMap;
 /// The number of bytes of each line and each part, with the character after it.
 const STEP: usize = 40;
 
-/// What a round iterates over.
-#[derive(Drop)]
-enum Parts {
-    Lines(String),
-    LinesOfStr(String),
-    Split(String),
-    SplitOfStr(String),
-    LookUps(HashMap<ArcStr, usize>, Vec<String>),
-}
-
-/// Times a figure of this family.
 pub(crate) fn run<M: Machine>(rt: &M, request: &Request) -> Result<()> {
-    rounds::run(rt, request, Unit::Operation, &prepare(rt.alloc(), request)?)
-}
-
-fn prepare(alloc: Global, request: &Request) -> Result<Parts> {
+    let end = if request.figure.starts_with("lines") {
+        '\n'
+    } else {
+        ','
+    };
+    let text = rows(rt.alloc(), request.size, end)?;
     match request.figure {
-        "lines" => Ok(Parts::Lines(rows(alloc, request.size, '\n')?)),
-        "lines_of_str" => Ok(Parts::LinesOfStr(rows(alloc, request.size, '\n')?)),
-        "split" => Ok(Parts::Split(rows(alloc, request.size, ',')?)),
-        "split_of_str" => Ok(Parts::SplitOfStr(rows(alloc, request.size, ',')?)),
-        "look_up" => {
-            let words = words(alloc, request.count)?;
-            Ok(Parts::LookUps(places(alloc, &words)?, words))
-        }
-        _ => families::no_figure(),
+        "lines" => request.time_operations(rt, || add_views(StrView::whole(&text).lines())),
+        "lines_of_str" => request.time_operations(rt, || add_texts(text.lines())),
+        "split" => request.time_operations(rt, || add_views(StrView::whole(&text).split(','))),
+        "split_of_str" => request.time_operations(rt, || add_texts(text.split(','))),
+        _ => no_figure(),
     }
 }
 
-impl Round for Parts {
-    fn once<M: Machine>(&self, _rt: &M, request: &Request) -> Result<usize, AllocError> {
-        let times = request.operations;
-        Ok(match self {
-            Parts::Lines(text) => add_lines(text, times),
-            Parts::LinesOfStr(text) => add_lines_of_str(text, times),
-            Parts::Split(text) => add_parts(text, times),
-            Parts::SplitOfStr(text) => add_parts_of_str(text, times),
-            Parts::LookUps(places, words) => add_places(places, words, times / 1000),
-        })
-    }
+/// Looks up each of COUNT words.
+pub(crate) fn run_look_ups<M: Machine>(rt: &M, request: &Request) -> Result<()> {
+    let words = words(rt.alloc(), request.count)?;
+    let places = places(rt.alloc(), &words)?;
+    request.time_each(rt, &words, 1000, |word| {
+        places.get(word.as_str()).map_or(0, |place| *place)
+    })
 }
 
 /// Returns this many letters, with `end` in place of each 40th.
@@ -81,61 +62,22 @@ fn places(alloc: Global, words: &[String]) -> Result<HashMap<ArcStr, usize>> {
     Ok(places)
 }
 
-/// Returns the sum of the lengths and the places of the lines.
-fn add_lines(text: &str, times: usize) -> usize {
+/// Returns the sum of the lengths and the places of views.
+fn add_views<'a, I: Iterator<Item = StrView<'a>> + Drop>(views: I) -> usize {
     let mut sum = 0usize;
-    for _ in 0..times {
-        for line in StrView::whole(text).lines() {
-            sum = sum
-                .wrapping_add(line.text().len())
-                .wrapping_add(line.place());
-        }
+    for view in views {
+        sum = sum
+            .wrapping_add(view.text().len())
+            .wrapping_add(view.place());
     }
     sum
 }
 
-fn add_lines_of_str(text: &str, times: usize) -> usize {
+/// Returns the sum of the lengths of texts.
+fn add_texts<'a, I: Iterator<Item = &'a str> + Drop>(texts: I) -> usize {
     let mut sum = 0usize;
-    for _ in 0..times {
-        for line in text.lines() {
-            sum = sum.wrapping_add(line.len());
-        }
-    }
-    sum
-}
-
-/// Returns the sum of the lengths and the places of the parts.
-fn add_parts(text: &str, times: usize) -> usize {
-    let mut sum = 0usize;
-    for _ in 0..times {
-        for part in StrView::whole(text).split(',') {
-            sum = sum
-                .wrapping_add(part.text().len())
-                .wrapping_add(part.place());
-        }
-    }
-    sum
-}
-
-fn add_parts_of_str(text: &str, times: usize) -> usize {
-    let mut sum = 0usize;
-    for _ in 0..times {
-        for part in text.split(',') {
-            sum = sum.wrapping_add(part.len());
-        }
-    }
-    sum
-}
-
-/// Returns the sum of the map's values at the words.
-fn add_places(places: &HashMap<ArcStr, usize>, words: &[String], times: usize) -> usize {
-    let mut sum = 0usize;
-    for _ in 0..times {
-        for word in words {
-            if let Some(place) = places.get(word.as_str()) {
-                sum = sum.wrapping_add(*place);
-            }
-        }
+    for text in texts {
+        sum = sum.wrapping_add(text.len());
     }
     sum
 }

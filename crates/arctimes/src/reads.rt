@@ -1,54 +1,86 @@
-//! Reads of many short texts.
+//! Equality, order and hash; reads of the count word of a block; and reads of many short texts.
 
-use crate::machine::Machine;
-use crate::requests::Request;
-use crate::rounds::{Round, Unit};
-use crate::texts::{many, mixed};
-use crate::{families, rounds};
+use crate::figures::no_figure;
+use crate::requests::{Machine, Request};
+use crate::texts::{eight, many, text};
 use anyhow::Result;
 use arcstr::{ArcStr, Substr};
-use std::alloc::AllocError;
+use std::cmp::Ordering;
+use std::hash::{DefaultHasher, Hash, Hasher};
 
-/// The text of each: 16 bytes.
+/// The text of each of many: 16 bytes.
 const TEXT: &str = "0123456789abcdef";
 
-/// What a round reads.
-#[derive(Drop)]
-enum Reads {
-    Lengths(Vec<ArcStr>),
-    LastBytes(Vec<ArcStr>),
-    LastBytesOfSlices(Vec<Substr>),
-}
+/// The distance from a text to the next one that is read.
+const STEP: usize = 7919;
 
-/// Times a figure of this family.
-pub(crate) fn run<M: Machine>(rt: &M, request: &Request) -> Result<()> {
-    rounds::run(rt, request, Unit::Read, &prepare(rt, request)?)
-}
-
-fn prepare<M: Machine>(rt: &M, request: &Request) -> Result<Reads> {
-    let all = texts_of(rt, request)?;
+/// Compares eight texts, each in its own block, with one more.
+pub(crate) fn run_comparisons<M: Machine>(rt: &M, request: &Request) -> Result<()> {
+    let one = text(rt.alloc(), request)?;
+    let all = eight(rt.alloc(), request, request.place)?;
     match request.figure {
-        "read" => Ok(Reads::Lengths(all)),
-        "read_byte" => Ok(Reads::LastBytes(all)),
-        "read_slice" => Ok(Reads::LastBytesOfSlices(slices_of(rt, &all)?)),
-        _ => families::no_figure(),
+        "eq" => request.time_each(rt, &all, 8, |text| if *text == one { 1 } else { 0 }),
+        "cmp" => request.time_each(rt, &all, 8, |text| match text.cmp(&one) {
+            Ordering::Less => 1,
+            Ordering::Equal => 2,
+            Ordering::Greater => 3,
+        }),
+        "hash" => request.time_each(rt, &all, 8, hash_of),
+        _ => no_figure(),
     }
 }
 
-impl Round for Reads {
-    fn once<M: Machine>(&self, _rt: &M, request: &Request) -> Result<usize, AllocError> {
-        let times = request.operations / 1000;
-        Ok(match self {
-            Reads::Lengths(all) => add_lengths(all, times),
-            Reads::LastBytes(all) => add_last_bytes(all, times),
-            Reads::LastBytesOfSlices(all) => add_last_bytes_of_slices(all, times),
-        })
+fn hash_of(text: &ArcStr) -> usize {
+    let mut hasher = DefaultHasher::new();
+    text.hash(&mut hasher);
+    hasher.finish() as usize
+}
+
+/// Reads the count words of eight texts.
+pub(crate) fn run_looks<M: Machine>(rt: &M, request: &Request) -> Result<()> {
+    let all = eight(rt.alloc(), request, request.size)?;
+    match request.figure {
+        "strong_count" => {
+            request.time_each(rt, &all, 8, |text| ArcStr::strong_count(text).unwrap_or(0))
+        }
+        "is_static" => {
+            request.time_each(
+                rt,
+                &all,
+                8,
+                |text| if ArcStr::is_static(text) { 0 } else { 1 },
+            )
+        }
+        _ => no_figure(),
     }
 }
 
-fn texts_of<M: Machine>(rt: &M, request: &Request) -> Result<Vec<ArcStr>> {
+pub(crate) fn run<M: Machine>(rt: &M, request: &Request) -> Result<()> {
+    let all = mixed(rt, request)?;
+    match request.figure {
+        "read" => request.time_each(rt, &all, 1000, |text| text.len()),
+        "read_byte" => request.time_each(rt, &all, 1000, |text| last_byte(text.as_bytes())),
+        "read_slice" => {
+            let slices = slices_of(rt, &all)?;
+            request.time_each(rt, &slices, 1000, |slice| last_byte(slice.as_bytes()))
+        }
+        _ => no_figure(),
+    }
+}
+
+fn last_byte(bytes: &[u8]) -> usize {
+    bytes.last().map_or(0, |byte| *byte as usize)
+}
+
+/// Returns as many texts as the request asks for, in steps of 7919, so that neighbours in the list are not neighbours in memory.
+fn mixed<M: Machine>(rt: &M, request: &Request) -> Result<Vec<ArcStr>> {
     let texts = many(rt.alloc(), TEXT, request.count)?;
-    Ok(mixed(rt, rt.alloc(), &texts)?)
+    let mut handles = Vec::new(rt.alloc());
+    for turn in 0..texts.len() {
+        let place = turn.wrapping_mul(STEP) % texts.len();
+        handles.push(texts[place].clone(rt))?;
+    }
+    Ok(handles)
 }
 
 /// Returns the slice `1..15` of each text.
@@ -58,38 +90,4 @@ fn slices_of<M: Machine>(rt: &M, texts: &[ArcStr]) -> Result<Vec<Substr>> {
         slices.push(text.substr(rt, 1..15)?)?;
     }
     Ok(slices)
-}
-
-fn add_lengths(all: &[ArcStr], times: usize) -> usize {
-    let mut sum = 0usize;
-    for _ in 0..times {
-        for text in all {
-            sum = sum.wrapping_add(text.len());
-        }
-    }
-    sum
-}
-
-fn add_last_bytes(all: &[ArcStr], times: usize) -> usize {
-    let mut sum = 0usize;
-    for _ in 0..times {
-        for text in all {
-            if let Some(last) = text.as_bytes().last() {
-                sum = sum.wrapping_add(*last as usize);
-            }
-        }
-    }
-    sum
-}
-
-fn add_last_bytes_of_slices(all: &[Substr], times: usize) -> usize {
-    let mut sum = 0usize;
-    for _ in 0..times {
-        for slice in all {
-            if let Some(last) = slice.as_bytes().last() {
-                sum = sum.wrapping_add(*last as usize);
-            }
-        }
-    }
-    sum
 }

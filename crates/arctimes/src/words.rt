@@ -1,16 +1,14 @@
 //! The words of texts, found by threads: thread `i % THREADS` finds those of text `i`.
 
-use crate::machine::Machine;
-use crate::requests::{Form, Request};
-use crate::rounds::Unit;
-use crate::{families, rounds, threads};
+use crate::figures::no_figure;
+use crate::requests::{Form, Machine, Request};
+use crate::texts::add_each;
 use anyhow::Result;
 use arcstr::ArcStr;
 use arctokens::{tokens, tokens_all};
 use std::alloc::{AllocError, Global};
-use std::io;
 use std::sync::Wait;
-use std::time::Instant;
+use std::{io, thread};
 
 /// The texts for the table, which does not read standard input.
 const FEW_WORDS: &str =
@@ -27,42 +25,14 @@ enum Found {
     Slices,
 }
 
-/// The texts that a round reads: each in turn, or all in one call of `tokens_all`.
-#[derive(Drop)]
-enum Words {
-    Each(Vec<ArcStr>, Found),
-    All(Vec<ArcStr>),
-}
-
-/// Times a figure of this family. A round can start threads, so this family does not use `Round`.
 pub(crate) fn run<M: Machine>(rt: &M, request: &Request) -> Result<()> {
-    let prepared = prepare(rt, request)?;
-    for _ in 0..request.rounds {
-        let start = Instant::now(rt)?;
-        let sum = prepared.once(rt, request)?;
-        rounds::finish(rt, request, Unit::Sum, start, sum)?;
-    }
-    Ok(())
-}
-
-fn prepare<M: Machine>(rt: &M, request: &Request) -> Result<Words> {
     let texts = texts_of(rt, request)?;
     match request.figure {
-        "count" => Ok(Words::Each(texts, Found::Count)),
-        "ranges" => Ok(Words::Each(texts, Found::Places)),
-        "words" => Ok(Words::Each(texts, Found::Slices)),
-        "tokens_all" => Ok(Words::All(texts)),
-        _ => families::no_figure(),
-    }
-}
-
-impl Words {
-    /// Does one round, and returns the sum of what its operations returned.
-    fn once<M: Machine>(&self, rt: &M, request: &Request) -> Result<usize, AllocError> {
-        match self {
-            Words::Each(texts, found) => count_each(rt, request, texts, *found),
-            Words::All(texts) => count_all(rt, request, texts),
-        }
+        "count" => request.time(rt, || count_each(rt, request, &texts, Found::Count)),
+        "ranges" => request.time(rt, || count_each(rt, request, &texts, Found::Places)),
+        "words" => request.time(rt, || count_each(rt, request, &texts, Found::Slices)),
+        "tokens_all" => request.time(rt, || count_all(rt, request, &texts)),
+        _ => no_figure(),
     }
 }
 
@@ -72,29 +42,21 @@ fn count_each<M: Machine>(
     request: &Request,
     texts: &[ArcStr],
     found: Found,
-) -> Result<usize, AllocError> {
-    let counts = threads::map_workers(
-        rt,
-        rt.alloc(),
-        request.threads,
-        &|worker| { words_of_share(rt, rt.alloc(), texts, found, worker, request.threads) },
-    )?;
+) -> Result<usize> {
+    let (alloc, threads) = (rt.alloc(), request.threads);
+    let work = |worker: usize| words_of_share(rt, alloc, texts, found, worker, threads);
     let mut sum = 0usize;
-    for count in counts {
+    for count in thread::map_indices(rt, alloc, threads, &work)? {
         sum = sum.wrapping_add(count?);
     }
     Ok(sum)
 }
 
 /// Returns the number of words in all lists of `tokens_all`, with as many workers as the request has threads, from 1 to 64.
-fn count_all<M: Machine>(rt: &M, request: &Request, texts: &[ArcStr]) -> Result<usize, AllocError> {
+fn count_all<M: Machine>(rt: &M, request: &Request, texts: &[ArcStr]) -> Result<usize> {
     let workers = request.threads.min(64).max(1);
     let lists = tokens_all(rt, rt.alloc(), texts, workers)?;
-    let mut sum = 0usize;
-    for list in &lists {
-        sum = sum.wrapping_add(list.len());
-    }
-    Ok(sum)
+    Ok(add_each(&lists, 1, |list| list.len()))
 }
 
 /// Returns the texts that the request reads, with a byte 1 between two.
