@@ -1,7 +1,8 @@
 //! Tests of a shared interner, by one thread and by eight.
 ghost use Rattle.std.specs.Prelude.{◌≤◌};
 
-use crate::checks::{check, check_eq};
+use super::made;
+use crate::tests::checks::{check, check_eq};
 use arcintern::{InternFault, SharedInterner, SharedSymbol, Symbol};
 use arcstr::{ArcStr, literal};
 use std::alloc::{AllocError, AllocGlobal, Global};
@@ -29,14 +30,10 @@ fn interned(rt: &(impl Abort + Wait), interner: &SharedInterner, word: &str) -> 
 
 /// Asserts that the text of the number is this one, in a block that is the interner's alone.
 fn check_alone(rt: &(impl Abort + Wait), interner: &SharedInterner, number: Symbol, wanted: &str) {
-    match interner.symbol_at(number) {
-        Some(symbol) => {
-            let text = interner.text(&symbol);
-            check_eq!(rt; text.as_str(), wanted);
-            check_eq!(rt; ArcStr::strong_count(text), Some(1));
-        }
-        None => panic!(rt; "no text"),
-    }
+    let symbol = interner.symbol_at(number).expect(rt, "no text");
+    let text = interner.text(&symbol);
+    check_eq!(rt; text.as_str(), wanted);
+    check_eq!(rt; ArcStr::strong_count(text), Some(1));
     check!(rt;
         interner
             .resolve(rt, number)
@@ -66,17 +63,14 @@ fn intern_words(
 fn check_symbols<R: Abort + AllocGlobal + Wait>(
     rt: &R,
     interner: &SharedInterner,
-    lists: &[Result<Vec<Symbol>, InternFault>],
+    lists: Vec<Result<Vec<Symbol>, InternFault>>,
 ) {
     check_eq!(rt; lists.len(), THREADS);
-    let Some(Ok(wanted)) = lists.first() else {
-        panic!(rt; "refused");
-    };
+    let mut wanted = Vec::new(rt.alloc());
     for list in lists {
-        match list {
-            Ok(symbols) => check!(rt; symbols.as_slice() == wanted.as_slice()),
-            Err(_) => panic!(rt; "refused"),
-        }
+        let symbols = list.expect(rt, "refused");
+        check!(rt; wanted.is_empty() || symbols == wanted);
+        wanted = symbols;
     }
     check_eq!(rt; wanted.len(), WORDS);
     for (number, symbol) in wanted.iter().enumerate() {
@@ -100,7 +94,7 @@ fn check_threads<R: Abort + AllocGlobal + Threads + Wait + Sync>(rt: &R, shards:
         &|index| { intern_words(rt, alloc, shared, index.saturating_mul(WORDS / THREADS)) },
     )
     .expect(rt, "refused");
-    check_symbols(rt, &interner, &lists);
+    check_symbols(rt, &interner, lists);
 }
 
 #[test]
@@ -147,7 +141,7 @@ fn numbers_of_one_shard_come_in_order(rt: HostRuntime) {
 
 #[test]
 fn a_text_is_kept_as_a_clone(rt: HostRuntime) {
-    let text = ArcStr::from_str(rt.alloc(), "foobar").expect(&rt, "refused");
+    let text = made(&rt, "foobar");
     let interner = SharedInterner::new(rt.alloc(), 2).expect(&rt, "refused");
     let symbol = interner.intern_arc(&rt, &text).expect(&rt, "refused");
     check!(rt; interner.intern_arc(&rt, &text).expect(&rt, "refused").number() == symbol.number());
@@ -158,7 +152,7 @@ fn a_text_is_kept_as_a_clone(rt: HostRuntime) {
 
 #[test]
 fn a_slice_of_all_of_a_text_is_kept_as_a_clone(rt: HostRuntime) {
-    let text = ArcStr::from_str(rt.alloc(), "foobar").expect(&rt, "refused");
+    let text = made(&rt, "foobar");
     let slice = text.substr(&rt, ..).expect(&rt, "refused");
     let interner = SharedInterner::new(rt.alloc(), 2).expect(&rt, "refused");
     interner.intern_substr(&rt, &slice).expect(&rt, "refused");
@@ -167,7 +161,7 @@ fn a_slice_of_all_of_a_text_is_kept_as_a_clone(rt: HostRuntime) {
 
 #[test]
 fn another_slice_is_copied(rt: HostRuntime) {
-    let text = ArcStr::from_str(rt.alloc(), "foobar").expect(&rt, "refused");
+    let text = made(&rt, "foobar");
     let interner = SharedInterner::new(rt.alloc(), 2).expect(&rt, "refused");
     let symbol = interner
         .intern_substr(&rt, &text.substr(&rt, ..3).expect(&rt, "refused"))

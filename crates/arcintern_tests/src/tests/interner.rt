@@ -1,5 +1,6 @@
 //! Interners of a few words and of many, and the counts of the texts that they keep.
-use crate::checks::{check, check_eq};
+use super::made;
+use crate::tests::checks::{check, check_eq};
 use arcintern::{InternFault, Interner, Symbol};
 use arcstr::{ArcStr, literal};
 use std::alloc::AllocGlobal;
@@ -15,13 +16,9 @@ fn interned(rt: &impl Abort, interner: &mut Interner, word: &str) -> Symbol {
 
 /// Asserts that the text of the symbol is this one, in a block that is the interner's alone.
 fn check_alone(rt: &impl Abort, interner: &Interner, symbol: Symbol, wanted: &str) {
-    match interner.resolve(symbol) {
-        Some(text) => {
-            check_eq!(rt; text.as_str(), wanted);
-            check_eq!(rt; ArcStr::strong_count(text), Some(1));
-        }
-        None => panic!(rt; "no text"),
-    }
+    let text = interner.resolve(symbol).expect(rt, "no text");
+    check_eq!(rt; text.as_str(), wanted);
+    check_eq!(rt; ArcStr::strong_count(text), Some(1));
 }
 
 /// Asserts that an interner tells the two words apart, and finds each again.
@@ -85,7 +82,7 @@ fn many_words_are_numbered_as_they_come(rt: HostRuntime) {
 
 #[test]
 fn a_text_is_kept_as_a_clone(rt: HostRuntime) {
-    let text = ArcStr::from_str(rt.alloc(), "foobar").expect(&rt, "refused");
+    let text = made(&rt, "foobar");
     let mut interner = Interner::new(rt.alloc());
     let symbol = interner.intern_arc(&rt, &text).expect(&rt, "refused");
     check!(rt; interner.intern_arc(&rt, &text).expect(&rt, "refused") == symbol);
@@ -96,7 +93,7 @@ fn a_text_is_kept_as_a_clone(rt: HostRuntime) {
 
 #[test]
 fn a_text_is_not_kept_twice(rt: HostRuntime) {
-    let text = ArcStr::from_str(rt.alloc(), "foobar").expect(&rt, "refused");
+    let text = made(&rt, "foobar");
     let mut interner = Interner::new(rt.alloc());
     let symbol = interner.intern("foobar").expect(&rt, "refused");
     check!(rt; interner.intern_arc(&rt, &text).expect(&rt, "refused") == symbol);
@@ -105,7 +102,7 @@ fn a_text_is_not_kept_twice(rt: HostRuntime) {
 
 #[test]
 fn a_slice_of_all_of_a_text_is_kept_as_a_clone(rt: HostRuntime) {
-    let text = ArcStr::from_str(rt.alloc(), "foobar").expect(&rt, "refused");
+    let text = made(&rt, "foobar");
     let slice = text.substr(&rt, ..).expect(&rt, "refused");
     let mut interner = Interner::new(rt.alloc());
     interner.intern_substr(&rt, &slice).expect(&rt, "refused");
@@ -114,7 +111,7 @@ fn a_slice_of_all_of_a_text_is_kept_as_a_clone(rt: HostRuntime) {
 
 #[test]
 fn another_slice_is_copied(rt: HostRuntime) {
-    let text = ArcStr::from_str(rt.alloc(), "foobar").expect(&rt, "refused");
+    let text = made(&rt, "foobar");
     let mut interner = Interner::new(rt.alloc());
     let symbol = interner
         .intern_substr(&rt, &text.substr(&rt, ..3).expect(&rt, "refused"))
