@@ -7,12 +7,6 @@ use std::process::Abort;
 /// Byte offsets at which a view starts in its parent. A view at the last one ends near `usize::MAX`.
 const STARTS: [usize; 3] = [0, 7, usize::MAX - 50];
 
-/// Asserts that an iterator over a view at `start` ends here, and again if it is asked again.
-fn check_ended<'a>(rt: &impl Abort, parts: &mut impl Iterator<Item = StrView<'a>>) {
-    check!(rt; parts.next().is_none());
-    check!(rt; parts.next().is_none());
-}
-
 /// Asserts that a part of a view at `start` has the text, and stands at this offset of the view.
 fn check_part(rt: &impl Abort, part: Option<StrView<'_>>, text: &str, offset: usize, start: usize) {
     let part = part.expect(rt, "too few parts");
@@ -49,7 +43,8 @@ fn has_the_lines_of_a_str(rt: HostRuntime) {
             for (offset, line) in offsets.iter().zip(text.lines()) {
                 check_part(&rt, lines.next(), line, *offset, start);
             }
-            check_ended(&rt, &mut lines);
+            check!(rt; lines.next().is_none());
+            check!(rt; lines.next().is_none());
         }
     }
 }
@@ -81,7 +76,8 @@ fn has_the_words_of_a_str(rt: HostRuntime) {
             for (offset, word) in offsets.iter().zip(text.split_whitespace()) {
                 check_part(&rt, words.next(), word, *offset, start);
             }
-            check_ended(&rt, &mut words);
+            check!(rt; words.next().is_none());
+            check!(rt; words.next().is_none());
         }
     }
 }
@@ -112,7 +108,8 @@ fn splits_as_a_str(rt: HostRuntime) {
             for (offset, part) in offsets.iter().zip(text.split(separator)) {
                 check_part(&rt, parts.next(), part, *offset, start);
             }
-            check_ended(&rt, &mut parts);
+            check!(rt; parts.next().is_none());
+            check!(rt; parts.next().is_none());
         }
     }
 }

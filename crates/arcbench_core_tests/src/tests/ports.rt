@@ -1,6 +1,6 @@
 //! Ports: the bytes of the reader and the writer in them, and a flag that stays.
-use super::fakes::{FakeReader, FakeWriter, NEVER};
-use crate::checks::{check, check_eq};
+use super::fixtures::{FakeReader, FakeWriter, NEVER};
+use crate::tests::checks::{check, check_eq};
 use arcbench_core::port::Port;
 use std::io::ErrorKind;
 

@@ -1,5 +1,5 @@
-use super::test_steps::{Wanted, check_count, check_tokens, made};
-use crate::checks::{check, check_eq};
+use super::{Wanted, check_count, check_tokens, made};
+use crate::tests::checks::{check, check_eq};
 use arcstr::ArcStr;
 use arctokens::tokens;
 use std::alloc::AllocGlobal;

@@ -1,8 +1,8 @@
 //! Tests of many texts.
 ghost use Rattle.std.specs.Prelude.{◌≤◌};
 
-use super::test_steps::{check_count, check_tokens, made};
-use crate::checks::{check, check_eq};
+use super::{check_count, check_tokens, made};
+use crate::tests::checks::{check, check_eq};
 use arcstr::{ArcStr, Substr};
 use arctokens::{Gate, tokens, tokens_all, tokens_all_with};
 use std::alloc::{AllocError, AllocGlobal};

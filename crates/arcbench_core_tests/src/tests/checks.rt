@@ -5,7 +5,7 @@ use std::process::Abort;
 /// Asserts a condition.
 macro_rules! check {
     ($rt:expr; $condition:expr $(,)?) => {
-        $crate::checks::holds(&$rt, $condition, stringify!($condition))
+        $crate::tests::checks::holds(&$rt, $condition, stringify!($condition))
     };
 }
 
@@ -14,7 +14,7 @@ pub(crate) use check;
 /// Asserts that two values are equal.
 macro_rules! check_eq {
     ($rt:expr; $left:expr, $right:expr $(,)?) => {
-        $crate::checks::are_equal(&$rt, &$left, &$right)
+        $crate::tests::checks::are_equal(&$rt, &$left, &$right)
     };
 }
 

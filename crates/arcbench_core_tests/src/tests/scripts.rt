@@ -1,21 +1,125 @@
-//! Runs of a script, with each read and each write failing in turn, and of a long script.
-use super::fakes::{FakeReader, FakeWriter, NEVER};
-use super::texts::{FIRST_ANSWER, FIRST_SCRIPT};
-use crate::checks::{check, check_eq};
+//! Answers to scripts with each command, each reply and lines outside the grammar, and runs of a script with each read and each write failing in turn. The
+//! library's `proofs/WorkedExamples.antt` computes the answers to other scripts, and that of `arcstr_count` the replies to lists of steps.
+use super::fixtures::{FIRST_ANSWER, FIRST_SCRIPT, FakeReader, FakeWriter, NEVER};
+use crate::tests::checks::{check, check_eq};
 use arcbench_core::port::Port;
 use arcbench_core::script::{CopyFault, answer, copy};
 use linked_list_allocator::LocalHeap;
-use std::alloc::{AllocError, Allocator, Global};
+use std::alloc::{AllocError, AllocGlobal, Allocator, Global};
+use std::process::Abort;
+
+/// Asserts that this is the answer to the script.
+fn check_answer<R: Abort + AllocGlobal>(rt: &R, script: &[u8], want: &str) {
+    let out = answer(rt.alloc(), script).expect(rt, "refused");
+    check_eq!(rt; out.as_slice(), want.as_bytes());
+}
+
+/// Each line of a script under the limit 5, with its answer.
+const LINES: [(&str, &str); 20] = [
+    ("make", "made 0"),
+    ("look 0", "count 1"),
+    ("clone 0", "handle 1"),
+    ("raw 1", "raw"),
+    ("look 1", "refused 5 IsRaw"),
+    ("unraw 1", "unraw"),
+    ("unraw 1", "refused 6 NotRaw"),
+    ("sub 1", "refused 3 NotInDrop"),
+    ("back 1", "refused 4 NotOwing"),
+    ("begin 0", "looked"),
+    ("look 0", "refused 2 InDrop"),
+    ("sub 0", "left"),
+    ("look 0", "refused 1 NoHandle"),
+    ("begin 1", "looked"),
+    ("sub 1", "owes"),
+    ("back 1", "given"),
+    ("make", "made 2"),
+    ("leak 2", "marked"),
+    ("look 2", "static"),
+    ("begin 2", "ended"),
+];
+
+/// Each line of a script under the limit 1, with its answer.
+const LINES_PAST_THE_LIMIT: [(&str, &str); 6] = [
+    ("make", "made 0"),
+    ("clone 0", "handle 1"),
+    ("look 1", "count 2"),
+    ("clone 1", "handle 2"),
+    ("look 0", "static"),
+    ("begin 2", "ended"),
+];
+
+/// Asserts that each line after a first line has its answer.
+fn check_lines<R: Abort + AllocGlobal>(rt: &R, first_line: &str, lines: &[(&str, &str)]) {
+    let mut script = String::from_str(rt.alloc(), first_line).expect(rt, "no memory");
+    let mut answers = String::new(rt.alloc());
+    for (line, answer) in lines {
+        write!(script, "{line}\n").expect(rt, "no memory");
+        write!(answers, "{answer}\n").expect(rt, "no memory");
+    }
+    check_answer(rt, script.as_bytes(), answers.as_str());
+}
+
+#[test]
+fn answers_each_command_with_each_reply(rt: HostRuntime) {
+    check_lines(&rt, "limit 5\n", &LINES);
+}
+
+#[test]
+fn a_clone_past_the_limit_marks_the_block(rt: HostRuntime) {
+    check_lines(&rt, "limit 1\n", &LINES_PAST_THE_LIMIT);
+}
+
+#[test]
+fn takes_no_other_byte(rt: HostRuntime) {
+    let lines: [&[u8]; 12] = [
+        b"make\r",
+        b"make ",
+        b" make",
+        b"Make",
+        b"look",
+        b"look ",
+        b"look 0 ",
+        b"look\t0",
+        b"look 00",
+        b"look +0",
+        b"look \xff",
+        b"\xe9",
+    ];
+    for line in lines {
+        let mut script = b"limit 5\nmake\n".to_vec(rt.alloc()).expect(&rt, "refused");
+        script.extend_from_slice(line).expect(&rt, "refused");
+        check_answer(&rt, &script, "made 0\nbad\n");
+    }
+}
+
+#[test]
+fn wants_a_lawful_first_line(rt: HostRuntime) {
+    let scripts: [&[u8]; 10] = [
+        b"",
+        b"\n",
+        b"limit 05\nmake\n",
+        b"limit  5\n",
+        b"limit\n",
+        b"limit \n",
+        b" limit 5\n",
+        b"limit 5\r\n",
+        b"limit 18446744073709551616\n",
+        b"make\nlimit 5\n",
+    ];
+    for script in scripts {
+        check_answer(&rt, script, "bad limit\n");
+    }
+}
 
 /// What a run of the first script returned, and what it wrote.
 #[derive(Drop)]
-pub struct Outcome {
-    pub result: Result<(), CopyFault>,
-    pub written: Vec<u8>,
+struct Outcome {
+    result: Result<(), CopyFault>,
+    written: Vec<u8>,
 }
 
 /// Runs the first script, from a reader and to a writer that fail at these calls.
-pub fn run_first_script<A: Allocator + Copy>(
+fn run_first_script<A: Allocator + Copy>(
     alloc: A,
     global: Global,
     read: u64,

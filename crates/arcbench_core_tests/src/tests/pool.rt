@@ -1,4 +1,4 @@
-use crate::checks::{check, check_eq};
+use crate::tests::checks::{check, check_eq};
 use arcbench_core::pool::{Gate, PoolFault, callers};
 use arcstr::ArcStr;
 use std::sync::atomic::{AtomicU64, Ordering};
