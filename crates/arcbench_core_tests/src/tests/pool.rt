@@ -1,4 +1,4 @@
-use crate::tests::checks::{check, check_eq};
+use crate::tests::checks::check_eq;
 use arcbench_core::pool::{Gate, PoolFault, callers};
 use arcstr::ArcStr;
 use std::sync::atomic::{AtomicU64, Ordering};
@@ -67,20 +67,6 @@ fn all_workers_meet_with_their_clones(rt: HostRuntime) {
     }
 }
 
-/// For `rt try --test --fail-alloc N`, which refuses allocation N: the call gives all handles, or a fault after
-/// which no clone lives. With ample memory, as in the gate, the test sees only the first.
-#[test]
-fn a_refused_call_leaves_one_handle(rt: HostRuntime) {
-    let Ok(text) = ArcStr::from_str(rt.alloc(), "foobar") else {
-        return;
-    };
-    match callers(&rt, rt.alloc(), &text, 2, &OpenGate) {
-        Ok(handles) => check_eq!(rt; handles.len(), 2),
-        Err(fault) => check!(rt; fault == PoolFault::Memory || fault == PoolFault::NoThread),
-    }
-    check_eq!(rt; ArcStr::strong_count(&text), Some(1));
-}
-
 /// Counts how often a worker of each number passes.
 #[derive(Drop)]
 struct Counted {
@@ -110,5 +96,16 @@ fn each_worker_passes_once_with_its_number(rt: HostRuntime) {
             check_eq!(rt; passes.load(Ordering::SeqCst), 1);
             check_eq!(rt; handle.as_str(), "foobar");
         }
+    }
+}
+
+#[test]
+fn prints_each_fault(rt: HostRuntime) {
+    for (fault, wanted) in [
+        (PoolFault::Memory, "out of memory"),
+        (PoolFault::NoThread, "no thread"),
+    ] {
+        let printed = format!(in rt.alloc(); "{fault}").expect(&rt, "refused");
+        check_eq!(rt; printed.as_str(), wanted);
     }
 }

@@ -17,6 +17,7 @@ fn check_replies(
     let replies = run(rt.alloc(), limit, steps).expect(rt, "refused");
     check_eq!(rt; replies.as_slice(), wanted);
     let mut world = World::new(rt.alloc(), limit).expect(rt, "refused");
+    check_eq!(rt; world.given(0), 0);
     for (step, reply) in steps.iter().zip(wanted) {
         check_eq!(rt; world.step(*step).expect(rt, "refused"), *reply);
     }
@@ -77,8 +78,10 @@ fn a_dropped_block_is_given_back_once(rt: HostRuntime) {
 #[test]
 fn the_limit_is_at_most_the_greatest(rt: HostRuntime) {
     check!(rt; run(rt.alloc(), RC_MAX, &[]).expect(&rt, "refused").is_empty());
-    let refused = run(rt.alloc(), RC_MAX + 1, &[]);
-    check!(rt; matches!(refused, Err(RunFault::LimitTooLarge)));
+    let refused = run(rt.alloc(), RC_MAX + 1, &[]).err();
+    check_eq!(rt; refused, Some(RunFault::LimitTooLarge));
+    let refused = World::new(rt.alloc(), RC_MAX + 1).err();
+    check_eq!(rt; refused, Some(RunFault::LimitTooLarge));
 }
 
 #[test]

@@ -115,6 +115,7 @@ fn a_view_is_not_found_past_the_own_text(rt: HostRuntime) {
 fn places_of_the_own_text_give_all_of_it(rt: HostRuntime) {
     check_sliced(&rt, bar(&rt).substr_using(&rt, |_| 0..3), "bar", 3..6);
     check_sliced(&rt, bar(&rt).try_substr_using(&rt, |_| 0..3), "bar", 3..6);
+    check_no_slice(&rt, bar(&rt).substr_using(&rt, |_| 0..9), RangeFault::PastEnd);
 }
 
 /// Asserts that the answer is `Substr::new()`.

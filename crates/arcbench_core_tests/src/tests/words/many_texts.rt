@@ -195,24 +195,3 @@ fn each_worker_passes_once_before_its_first_text(rt: HostRuntime) {
     check_eq!(rt; gate.workers.load(Ordering::SeqCst), u64::MAX);
     check_eq!(rt; gate.handles.load(Ordering::SeqCst), 2);
 }
-
-fn check_one_list(rt: &impl Abort, lists: &[Vec<Substr>]) {
-    match lists {
-        [list] => check_tokens(rt, list, &[(0, 3, "foo"), (4, 7, "bar")]),
-        _ => panic!(rt; "not one list"),
-    }
-}
-
-/// For `rt try --test --fail-alloc N`, which makes allocation N fail. The call returns all lists or an error; in either case no slice is left. With ample
-/// memory, as in the gate, the test only checks the lists.
-#[test]
-fn a_refused_call_leaves_no_slice(rt: HostRuntime) {
-    let Ok(text) = ArcStr::from_str(rt.alloc(), "foo bar") else {
-        return;
-    };
-    let texts = [text];
-    if let Ok(lists) = tokens_all(&rt, rt.alloc(), &texts, 2) {
-        check_one_list(&rt, &lists);
-    }
-    check_count(&rt, &texts[0], Some(1));
-}

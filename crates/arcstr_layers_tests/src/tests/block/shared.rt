@@ -184,9 +184,14 @@ fn limits_are_crossed_by_threads(rt: HostRuntime) {
 
 #[test]
 fn faults_print_their_texts(rt: HostRuntime) {
-    let (length, memory) = (TextFault::Length, TextFault::Memory);
-    let printed = format!(in rt.alloc(); "{length}, {memory}").expect(&rt, "refused");
-    check_eq!(rt; printed.as_str(), "text is too long, out of memory");
+    for (fault, wanted) in [
+        (TextFault::Length, "text is too long"),
+        (TextFault::Memory, "out of memory"),
+        (TextFault::Utf8(3), "bytes are not UTF-8 from place 3"),
+    ] {
+        let printed = format!(in rt.alloc(); "{fault}").expect(&rt, "refused");
+        check_eq!(rt; printed.as_str(), wanted);
+    }
 }
 
 #[test]
@@ -241,24 +246,14 @@ fn clones<R: Wait>(rt: &R, handle: &Shared<1000, Global>, arrived: &AtomicU64) -
     together && handle.look().0.is_some()
 }
 
-/// The look after four threads cloned and dropped at once, and whether each of them found a count.
-fn look_after_four<R: Threads + Wait + Sync>(
-    rt: &R,
-    alloc: Global,
-) -> Result<(Option<u64>, bool), TextFault> {
-    let first = Shared::<1000, Global>::from_text(alloc, "foobar")?;
-    let arrived = AtomicU64::new(0);
-    let (lent, gate) = (&first, &arrived);
-    let ((one, two), (three, four)) = thread::join(
-        rt,
-        || thread::join(rt, || clones(rt, lent, gate), || clones(rt, lent, gate)),
-        || thread::join(rt, || clones(rt, lent, gate), || clones(rt, lent, gate)),
-    );
-    Ok((first.look().0, one && two && three && four))
-}
-
 /// A compare-exchange that fails because of another thread's step is repeated, and does not mark the block.
 #[test]
 fn four_threads_leave_one(rt: HostRuntime) {
-    check_eq!(rt; look_after_four(&rt, rt.alloc()).expect(&rt, "refused"), (Some(1), true));
+    let text = Shared::<1000, Global>::from_text(rt.alloc(), "foobar").expect(&rt, "refused");
+    let arrived = AtomicU64::new(0);
+    let (lent, gate) = (&text, &arrived);
+    let found = thread::map_indices(&rt, rt.alloc(), 4, &|_| clones(&rt, lent, gate));
+    let found = found.expect(&rt, "no thread");
+    check_eq!(rt; found.as_slice(), [true; 4].as_slice());
+    check_eq!(rt; text.look().0, Some(1));
 }

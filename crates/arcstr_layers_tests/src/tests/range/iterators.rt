@@ -4,8 +4,8 @@ use crate::tests::checks::{check, check_eq};
 use arcstr_range::view::StrView;
 use std::process::Abort;
 
-/// Byte offsets at which a view starts in its parent. A view at the last one ends near `usize::MAX`.
-const STARTS: [usize; 3] = [0, 7, usize::MAX - 50];
+/// A byte offset at which a view of a short text ends near `usize::MAX`.
+const NEAR_MAX: usize = usize::MAX - 50;
 
 /// Asserts that a part of a view at `start` has the text, and stands at this offset of the view.
 fn check_part(rt: &impl Abort, part: Option<StrView<'_>>, text: &str, offset: usize, start: usize) {
@@ -34,18 +34,23 @@ const LINES: [(&str, &[usize]); 15] = [
     ("foo\nbar\n\r\nbaz", &[0, 4, 8, 10]),
 ];
 
+/// Asserts that the lines of a view of the text at `start` are those of the text, at these offsets.
+fn check_lines(rt: &impl Abort, text: &str, offsets: &[usize], start: usize) {
+    let mut lines = view_at(rt, text, start).lines();
+    for (offset, wanted) in offsets.iter().zip(text.lines()) {
+        check_part(rt, lines.next(), wanted, *offset, start);
+    }
+    check!(rt; lines.next().is_none());
+    check!(rt; lines.next().is_none());
+}
+
 #[test]
 fn has_the_lines_of_a_str(rt: HostRuntime) {
     for (text, offsets) in LINES {
         check_eq!(rt; text.lines().count(), offsets.len());
-        for start in STARTS {
-            let mut lines = view_at(&rt, text, start).lines();
-            for (offset, line) in offsets.iter().zip(text.lines()) {
-                check_part(&rt, lines.next(), line, *offset, start);
-            }
-            check!(rt; lines.next().is_none());
-            check!(rt; lines.next().is_none());
-        }
+        check_lines(&rt, text, offsets, 0);
+        check_lines(&rt, text, offsets, 7);
+        check_lines(&rt, text, offsets, NEAR_MAX);
     }
 }
 
@@ -67,18 +72,23 @@ const WORDS: [(&str, &[usize]); 11] = [
     ),
 ];
 
+/// Asserts that the words of a view of the text at `start` are those of the text, at these offsets.
+fn check_words(rt: &impl Abort, text: &str, offsets: &[usize], start: usize) {
+    let mut words = view_at(rt, text, start).split_whitespace();
+    for (offset, wanted) in offsets.iter().zip(text.split_whitespace()) {
+        check_part(rt, words.next(), wanted, *offset, start);
+    }
+    check!(rt; words.next().is_none());
+    check!(rt; words.next().is_none());
+}
+
 #[test]
 fn has_the_words_of_a_str(rt: HostRuntime) {
     for (text, offsets) in WORDS {
         check_eq!(rt; text.split_whitespace().count(), offsets.len());
-        for start in STARTS {
-            let mut words = view_at(&rt, text, start).split_whitespace();
-            for (offset, word) in offsets.iter().zip(text.split_whitespace()) {
-                check_part(&rt, words.next(), word, *offset, start);
-            }
-            check!(rt; words.next().is_none());
-            check!(rt; words.next().is_none());
-        }
+        check_words(&rt, text, offsets, 0);
+        check_words(&rt, text, offsets, 7);
+        check_words(&rt, text, offsets, NEAR_MAX);
     }
 }
 
@@ -99,18 +109,23 @@ const PARTS: [(&str, char, &[usize]); 13] = [
     ("(///)", '/', &[0, 2, 3, 4]),
 ];
 
+/// Asserts that the parts of a view of the text at `start` are those of the text, at these offsets.
+fn check_split(rt: &impl Abort, text: &str, separator: char, offsets: &[usize], start: usize) {
+    let mut parts = view_at(rt, text, start).split(separator);
+    for (offset, wanted) in offsets.iter().zip(text.split(separator)) {
+        check_part(rt, parts.next(), wanted, *offset, start);
+    }
+    check!(rt; parts.next().is_none());
+    check!(rt; parts.next().is_none());
+}
+
 #[test]
 fn splits_as_a_str(rt: HostRuntime) {
     for (text, separator, offsets) in PARTS {
         check_eq!(rt; text.split(separator).count(), offsets.len());
-        for start in STARTS {
-            let mut parts = view_at(&rt, text, start).split(separator);
-            for (offset, part) in offsets.iter().zip(text.split(separator)) {
-                check_part(&rt, parts.next(), part, *offset, start);
-            }
-            check!(rt; parts.next().is_none());
-            check!(rt; parts.next().is_none());
-        }
+        check_split(&rt, text, separator, offsets, 0);
+        check_split(&rt, text, separator, offsets, 7);
+        check_split(&rt, text, separator, offsets, NEAR_MAX);
     }
 }
 
