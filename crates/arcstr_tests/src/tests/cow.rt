@@ -1,6 +1,6 @@
 use crate::tests::checks::check_eq;
 use crate::tests::steps::{made, part};
-use arcstr::{ArcStr, Substr, literal};
+use arcstr::literal;
 use std::borrow::CowStr;
 use std::process::Abort;
 

@@ -1,5 +1,5 @@
 use crate::tests::steps::{check_copied, made, part};
-use arcstr::{ArcStr, Substr, literal};
+use arcstr::{Substr, literal};
 
 #[test]
 fn a_text_is_padded_as_a_str_is(rt: HostRuntime) {
