@@ -1,0 +1,7 @@
+mod checks;
+mod fixtures;
+mod pool;
+mod ports;
+mod program;
+mod scripts;
+mod words;

@@ -1,0 +1,12 @@
+mod checks;
+mod interner;
+mod shared_interner;
+
+use arcstr::ArcStr;
+use std::alloc::AllocGlobal;
+use std::process::Abort;
+
+/// Copies the text into a new `ArcStr`. Aborts if out of memory.
+fn made(rt: &(impl Abort + AllocGlobal), text: &str) -> ArcStr {
+    ArcStr::from_str(rt.alloc(), text).expect(rt, "no memory")
+}

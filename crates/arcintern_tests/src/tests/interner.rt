@@ -1,0 +1,149 @@
+//! Interners of a few words and of many, and the counts of the texts that they keep.
+use super::made;
+use crate::tests::checks::{check, check_eq};
+use arcintern::{InternFault, Interner, Symbol};
+use arcstr::{ArcStr, literal};
+use std::alloc::AllocGlobal;
+use std::process::Abort;
+
+/// How many words the large interner has.
+const WORDS: usize = 100_000;
+
+/// Interns a word, where memory is there.
+fn interned(rt: &impl Abort, interner: &mut Interner, word: &str) -> Symbol {
+    interner.intern(word).expect(rt, "refused")
+}
+
+/// Asserts that the text of the symbol is this one, in a block that is the interner's alone.
+fn check_alone(rt: &impl Abort, interner: &Interner, symbol: Symbol, wanted: &str) {
+    let text = interner.resolve(symbol).expect(rt, "no text");
+    check_eq!(rt; text.as_str(), wanted);
+    check_eq!(rt; ArcStr::strong_count(text), Some(1));
+}
+
+/// Asserts that an interner tells the two words apart, and finds each again.
+fn check_apart(rt: &(impl Abort + AllocGlobal), one: &str, other: &str) {
+    let mut interner = Interner::new(rt.alloc());
+    let first = interned(rt, &mut interner, one);
+    let second = interned(rt, &mut interner, other);
+    check!(rt; first != second);
+    check!(rt; interned(rt, &mut interner, one) == first);
+    check!(rt; interner.get(other) == Some(second));
+    check_eq!(rt; interner.len(), 2);
+    check_alone(rt, &interner, first, one);
+    check_alone(rt, &interner, second, other);
+}
+
+#[test]
+fn words_are_told_apart(rt: HostRuntime) {
+    check_apart(&rt, "foo", "fop");
+    check_apart(&rt, "foo", "foo ");
+    check_apart(&rt, "é", "è");
+    check_apart(&rt, "\u{1f980}", "\u{1f981}");
+    check_apart(
+        &rt,
+        "0123456789abcdef0123456789abcdef0123456789abcdef0123456789abcdee",
+        "0123456789abcdef0123456789abcdef0123456789abcdef0123456789abcdef",
+    );
+}
+
+#[test]
+fn an_empty_word_is_a_text_too(rt: HostRuntime) {
+    let mut interner = Interner::new(rt.alloc());
+    check!(rt; interner.get("").is_none());
+    let symbol = interner.intern("").expect(&rt, "refused");
+    check!(rt; interner.intern("").expect(&rt, "refused") == symbol);
+    check_eq!(rt; interner.len(), 1);
+    check!(rt; ArcStr::is_static(&interner[symbol]));
+}
+
+/// The word of a number.
+fn word_of(rt: &(impl Abort + AllocGlobal), number: usize) -> String {
+    format!(in rt.alloc(); "word {number}").expect(rt, "no memory")
+}
+
+#[test]
+fn many_words_are_numbered_as_they_come(rt: HostRuntime) {
+    let mut interner = Interner::new(rt.alloc());
+    for number in 0..WORDS {
+        let word = word_of(&rt, number);
+        check_eq!(rt; interned(&rt, &mut interner, &word).index(), number);
+    }
+    for number in 0..WORDS / 2 {
+        let word = word_of(&rt, number * 2);
+        check_eq!(rt; interned(&rt, &mut interner, &word).index(), number * 2);
+    }
+    check_eq!(rt; interner.len(), WORDS);
+    for (number, text) in interner.iter().enumerate() {
+        check_eq!(rt; text.as_str(), word_of(&rt, number).as_str());
+        check_eq!(rt; ArcStr::strong_count(text), Some(1));
+    }
+}
+
+#[test]
+fn a_text_is_kept_as_a_clone(rt: HostRuntime) {
+    let text = made(&rt, "foobar");
+    let mut interner = Interner::new(rt.alloc());
+    let symbol = interner.intern_arc(&rt, &text).expect(&rt, "refused");
+    check!(rt; interner.intern_arc(&rt, &text).expect(&rt, "refused") == symbol);
+    check_eq!(rt; ArcStr::strong_count(&text), Some(2));
+    drop(interner);
+    check_eq!(rt; ArcStr::strong_count(&text), Some(1));
+}
+
+#[test]
+fn a_text_is_not_kept_twice(rt: HostRuntime) {
+    let text = made(&rt, "foobar");
+    let mut interner = Interner::new(rt.alloc());
+    let symbol = interner.intern("foobar").expect(&rt, "refused");
+    check!(rt; interner.intern_arc(&rt, &text).expect(&rt, "refused") == symbol);
+    check_eq!(rt; ArcStr::strong_count(&text), Some(1));
+}
+
+#[test]
+fn a_slice_of_all_of_a_text_is_kept_as_a_clone(rt: HostRuntime) {
+    let text = made(&rt, "foobar");
+    let slice = text.substr(&rt, ..).expect(&rt, "refused");
+    let mut interner = Interner::new(rt.alloc());
+    interner.intern_substr(&rt, &slice).expect(&rt, "refused");
+    check_eq!(rt; ArcStr::strong_count(&text), Some(3));
+}
+
+#[test]
+fn another_slice_is_copied(rt: HostRuntime) {
+    let text = made(&rt, "foobar");
+    let mut interner = Interner::new(rt.alloc());
+    let symbol = interner
+        .intern_substr(&rt, &text.substr(&rt, ..3).expect(&rt, "refused"))
+        .expect(&rt, "refused");
+    interner
+        .intern_substr(&rt, &text.substr(&rt, 1..).expect(&rt, "refused"))
+        .expect(&rt, "refused");
+    check_eq!(rt; ArcStr::strong_count(&text), Some(1));
+    check_eq!(rt; interner.len(), 2);
+    check_alone(&rt, &interner, symbol, "foo");
+}
+
+#[test]
+fn a_literal_stays_a_literal(rt: HostRuntime) {
+    let mut interner = Interner::with_capacity(rt.alloc(), 1).expect(&rt, "refused");
+    let symbol = interner
+        .intern_arc(&rt, &literal!("foo"))
+        .expect(&rt, "refused");
+    check!(rt; ArcStr::is_static(&interner[symbol]));
+}
+
+#[test]
+fn symbols_and_faults_are_printed(rt: HostRuntime) {
+    let symbol = interned(&rt, &mut Interner::new(rt.alloc()), "foo");
+    let printed = format!(in rt.alloc();
+        "{symbol:?} {}, {}",
+        InternFault::Length,
+        InternFault::Memory
+    )
+    .expect(&rt, "refused");
+    check_eq!(rt;
+        printed.as_str(),
+        "Symbol(0) text is too long, out of memory"
+    );
+}

@@ -1,0 +1,196 @@
+//! Tests of a shared interner, by one thread and by eight.
+ghost use Rattle.std.specs.Prelude.{◌≤◌};
+
+use super::made;
+use crate::tests::checks::{check, check_eq};
+use arcintern::{InternFault, SharedInterner, SharedSymbol, Symbol};
+use arcstr::{ArcStr, literal};
+use std::alloc::{AllocError, AllocGlobal, Global};
+use std::mem::size_of;
+use std::process::Abort;
+use std::sync::Wait;
+use std::thread;
+use std::thread::Threads;
+
+/// How many threads intern at once.
+const THREADS: usize = 8;
+
+/// How many words each thread interns.
+const WORDS: usize = 2_000;
+
+/// The word of a number.
+fn word_of(alloc: Global, number: usize) -> Result<String, AllocError> {
+    format!(in alloc; "word {number}")
+}
+
+/// The number of a word, where memory is there.
+fn interned(rt: &(impl Abort + Wait), interner: &SharedInterner, word: &str) -> Symbol {
+    interner.intern(rt, word).expect(rt, "refused").number()
+}
+
+/// Asserts that the text of the number is this one, in a block that is the interner's alone.
+fn check_alone(rt: &(impl Abort + Wait), interner: &SharedInterner, number: Symbol, wanted: &str) {
+    let symbol = interner.symbol_at(number).expect(rt, "no text");
+    let text = interner.text(&symbol);
+    check_eq!(rt; text.as_str(), wanted);
+    check_eq!(rt; ArcStr::strong_count(text), Some(1));
+    check!(rt;
+        interner
+            .resolve(rt, number)
+            .is_some_and(|text| text.eq_str(wanted))
+    );
+}
+
+/// Interns the words from the number `first` on and then those before it, and answers their symbols in the order of the words.
+fn intern_words(
+    rt: &impl Wait,
+    alloc: Global,
+    interner: &SharedInterner,
+    first: usize,
+) -> Result<Vec<Symbol>, InternFault> {
+    let mut symbols = Vec::with_capacity(alloc, WORDS)?;
+    for number in first..WORDS {
+        interner.intern(rt, &word_of(alloc, number)?)?;
+    }
+    for number in 0..WORDS {
+        let symbol = interner.intern(rt, &word_of(alloc, number)?)?;
+        symbols.push(symbol.number())?;
+    }
+    Ok(symbols)
+}
+
+/// Asserts that each list has the symbols of the first, and that each symbol has its word.
+fn check_symbols<R: Abort + AllocGlobal + Wait>(
+    rt: &R,
+    interner: &SharedInterner,
+    lists: Vec<Result<Vec<Symbol>, InternFault>>,
+) {
+    check_eq!(rt; lists.len(), THREADS);
+    let mut wanted = Vec::new(rt.alloc());
+    for list in lists {
+        let symbols = list.expect(rt, "refused");
+        check!(rt; wanted.is_empty() || symbols == wanted);
+        wanted = symbols;
+    }
+    check_eq!(rt; wanted.len(), WORDS);
+    for (number, symbol) in wanted.iter().enumerate() {
+        let word = word_of(rt.alloc(), number).expect(rt, "no memory");
+        check_alone(rt, interner, *symbol, &word);
+    }
+    check_eq!(rt; interner.len(rt), WORDS);
+}
+
+/// Interns the same words by all threads at once, each from another word on.
+fn check_threads<R: Abort + AllocGlobal + Threads + Wait + Sync>(rt: &R, shards: usize)
+    requires { (1 ≤ shards) × (shards ≤ 64) }
+{
+    let interner = SharedInterner::new(rt.alloc(), shards).expect(rt, "refused");
+    let alloc = rt.alloc();
+    let shared = &interner;
+    let lists = thread::map_indices(
+        rt,
+        alloc,
+        THREADS,
+        &|index| { intern_words(rt, alloc, shared, index.saturating_mul(WORDS / THREADS)) },
+    )
+    .expect(rt, "refused");
+    check_symbols(rt, &interner, lists);
+}
+
+#[test]
+fn threads_agree_on_eight_shards(rt: HostRuntime) {
+    check_threads(&rt, 8);
+}
+
+#[test]
+fn threads_agree_on_one_shard(rt: HostRuntime) {
+    check_threads(&rt, 1);
+}
+
+#[test]
+fn threads_agree_on_sixty_four_shards(rt: HostRuntime) {
+    check_threads(&rt, 64);
+}
+
+#[test]
+fn words_are_told_apart(rt: HostRuntime) {
+    let interner = SharedInterner::new(rt.alloc(), 3).expect(&rt, "refused");
+    for word in ["foo", "fop", "foo ", "", "é", "è", "\u{1f980}"] {
+        check!(rt; interner.get(&rt, word).is_none());
+        let number = interned(&rt, &interner, word);
+        check!(rt; interned(&rt, &interner, word) == number);
+        let found = interner.get(&rt, word);
+        check!(rt; found.is_some_and(|found| found.number() == number));
+        check!(rt;
+            interner
+                .resolve(&rt, number)
+                .is_some_and(|text| text.eq_str(word))
+        );
+    }
+    check_eq!(rt; interner.len(&rt), 7);
+}
+
+#[test]
+fn numbers_of_one_shard_come_in_order(rt: HostRuntime) {
+    let interner = SharedInterner::new(rt.alloc(), 1).expect(&rt, "refused");
+    for number in 0..WORDS {
+        let word = word_of(rt.alloc(), number).expect(&rt, "refused");
+        check_eq!(rt; interned(&rt, &interner, &word).index(), number);
+    }
+}
+
+#[test]
+fn a_text_is_kept_as_a_clone(rt: HostRuntime) {
+    let text = made(&rt, "foobar");
+    let interner = SharedInterner::new(rt.alloc(), 2).expect(&rt, "refused");
+    let symbol = interner.intern_arc(&rt, &text).expect(&rt, "refused");
+    check!(rt; interner.intern_arc(&rt, &text).expect(&rt, "refused").number() == symbol.number());
+    check_eq!(rt; ArcStr::strong_count(&text), Some(2));
+    drop(interner);
+    check_eq!(rt; ArcStr::strong_count(&text), Some(1));
+}
+
+#[test]
+fn a_slice_of_all_of_a_text_is_kept_as_a_clone(rt: HostRuntime) {
+    let text = made(&rt, "foobar");
+    let slice = text.substr(&rt, ..).expect(&rt, "refused");
+    let interner = SharedInterner::new(rt.alloc(), 2).expect(&rt, "refused");
+    interner.intern_substr(&rt, &slice).expect(&rt, "refused");
+    check_eq!(rt; ArcStr::strong_count(&text), Some(3));
+}
+
+#[test]
+fn another_slice_is_copied(rt: HostRuntime) {
+    let text = made(&rt, "foobar");
+    let interner = SharedInterner::new(rt.alloc(), 2).expect(&rt, "refused");
+    let symbol = interner
+        .intern_substr(&rt, &text.substr(&rt, ..3).expect(&rt, "refused"))
+        .expect(&rt, "refused");
+    check_eq!(rt; ArcStr::strong_count(&text), Some(1));
+    check_alone(&rt, &interner, symbol.number(), "foo");
+}
+
+#[test]
+fn a_literal_stays_a_literal(rt: HostRuntime) {
+    let interner = SharedInterner::new(rt.alloc(), 2).expect(&rt, "refused");
+    let symbol = interner
+        .intern_arc(&rt, &literal!("foo"))
+        .expect(&rt, "refused");
+    check!(rt; ArcStr::is_static(interner.text(&symbol)));
+}
+
+#[test]
+fn words_go_to_each_shard(rt: HostRuntime) {
+    let interner = SharedInterner::new(rt.alloc(), 8).expect(&rt, "refused");
+    let mut served = [false; 8];
+    for number in 0..WORDS {
+        let word = word_of(rt.alloc(), number).expect(&rt, "refused");
+        served[interned(&rt, &interner, &word).index() % 8] = true;
+    }
+    check_eq!(rt; served, [true; 8]);
+}
+
+#[test]
+fn symbols_have_four_bytes(rt: HostRuntime) {
+    check_eq!(rt; (size_of::<Symbol>(), size_of::<SharedSymbol>()), (4, 4));
+}

@@ -1,0 +1,4 @@
+mod block;
+mod checks;
+mod count;
+mod range;

@@ -1,0 +1,188 @@
+//! Callers of the laws, with what the laws tell them as contracts.
+ghost use Rattle.std.specs.Prelude.{◌≡◌, ◌≢◌, ◌≤◌, IsTrue, IfSome, length};
+ghost use mathlib.Core.List.{IsPrefix};
+ghost use Rattle.arcstr_block.specs.Handle.{IsMarkedIn};
+
+use super::made;
+use crate::tests::checks::check_eq;
+use arcstr_block::{Down, Fixed, Seen, Shared};
+use std::alloc::Global;
+use std::sync::Wait;
+
+/// A handle and its clone, which have two seats in the history of one block.
+fn cloned<R: Wait>(rt: &R, first: Shared<5, Global>) -> (Shared<5, Global>, Shared<5, Global>)
+    ensures kept { result.0 ≡ first }
+    ensures text { result.1.text ≡ first.text }
+    ensures block { result.1.block ≡ result.0.block }
+    ensures apart { result.0.seat ≢ result.1.seat }
+{
+    let second = first.up(rt);
+    first.two_handles_have_two_seats(second)
+}
+
+#[test]
+fn apart_hands_both_back_in_order(rt: HostRuntime) {
+    let first = made(&rt, "foobar");
+    let other = made(&rt, "foo");
+    let (first, second) = cloned(&rt, first);
+    let (second, other) = second.two_handles_have_two_seats(other);
+    check_eq!(rt; (second.as_str(), other.as_str()), ("foobar", "foo"));
+    check_eq!(rt; (first.look().0, other.look().0), (Some(2), Some(1)));
+}
+
+/// What two looks at one block saw of its one history.
+fn looked_twice(handle: &Shared<5, Global>) -> (Seen, Seen)
+    ensures prefix { length result.0.history ≤ length result.1.history → IsPrefix result.0.history result.1.history }
+    ensures longer { length result.1.history ≤ length result.0.history → IsPrefix result.1.history result.0.history }
+    ensures block { result.1.block ≡ result.0.block }
+{
+    let (_, first) = handle.look();
+    let (_, second) = handle.look();
+    first.a_block_has_one_history(&second);
+    (first, second)
+}
+
+#[test]
+fn two_looks_agree(rt: HostRuntime) {
+    let first = made(&rt, "foobar");
+    let second = first.up(&rt);
+    let (seen, again) = looked_twice(&first);
+    let (_, other) = second.look();
+    again.a_block_has_one_history(&seen);
+    other.a_block_has_one_history(&seen);
+    check_eq!(rt; second.look().0, Some(2));
+}
+
+/// Ends a handle, and frees what it owes: if it owes anything, its block is not that of the other handle.
+fn owes_beside(handle: Shared<5, Global>, other: Shared<5, Global>) -> (bool, Shared<5, Global>)
+    ensures kept { result.1 ≡ other }
+    ensures alone { IsTrue result.0 → handle.block ≢ other.block }
+{
+    match handle.down().0 {
+        Down::Owes(owed) => {
+            let (owed, other) = owed.an_owed_block_has_no_handle(other);
+            owed.give_back();
+            (true, other)
+        }
+        Down::Left | Down::Ended => (false, other),
+    }
+}
+
+#[test]
+fn no_handle_is_left_on_what_is_owed(rt: HostRuntime) {
+    let first = made(&rt, "foobar");
+    let second = first.up(&rt);
+    let other = made(&rt, "foo");
+    let (left, other) = owes_beside(first, other);
+    let (owes, other) = owes_beside(second, other);
+    check_eq!(rt; (left, owes), (false, true));
+    check_eq!(rt; (other.as_str(), other.look().0), ("foo", Some(1)));
+}
+
+/// Ends a handle, and frees what it owes: if it owes anything, its block is not that of the borrowed handle.
+fn owes_beside_lent(handle: Shared<5, Global>, lent: &Shared<5, Global>) -> bool
+    ensures { IsTrue result → handle.block ≢ lent.now.block }
+{
+    match handle.down().0 {
+        Down::Owes(owed) => {
+            owed.an_owed_block_has_no_borrowed_handle(lent).give_back();
+            true
+        }
+        Down::Left | Down::Ended => false,
+    }
+}
+
+#[test]
+fn no_lent_handle_is_on_what_is_owed(rt: HostRuntime) {
+    let first = made(&rt, "foobar");
+    let second = first.up(&rt);
+    let other = made(&rt, "foo");
+    check_eq!(rt; owes_beside_lent(first, &second), false);
+    check_eq!(rt; owes_beside_lent(second, &other), true);
+    check_eq!(rt; other.look().0, Some(1));
+}
+
+/// Ends a handle, and frees what it owes: if it owes anything, its block is not the permanent one.
+fn owes_beside_fixed(handle: Shared<5, Global>, fixed: &Fixed<Global>) -> bool
+    ensures { IsTrue result → handle.block ≢ fixed.now.block }
+{
+    match handle.down().0 {
+        Down::Owes(owed) => {
+            owed.an_owed_block_is_not_permanent(fixed).give_back();
+            true
+        }
+        Down::Left | Down::Ended => false,
+    }
+}
+
+#[test]
+fn what_is_owed_is_not_marked(rt: HostRuntime) {
+    let first = made(&rt, "foobar");
+    let other = made(&rt, "foo");
+    let fixed = first.mark();
+    check_eq!(rt; owes_beside_fixed(first, &fixed), false);
+    check_eq!(rt; owes_beside_fixed(other, &fixed), true);
+    check_eq!(rt; fixed.as_str(), "foobar");
+}
+
+/// Ends two handles, and frees what they owe: if both owe, they were on two blocks.
+fn both_owe(first: Shared<5, Global>, second: Shared<5, Global>) -> bool
+    ensures { IsTrue result → first.block ≢ second.block }
+{
+    let down = second.down().0;
+    match first.down().0 {
+        Down::Owes(owed) => match down {
+            Down::Owes(other) => {
+                let (owed, other) = owed.a_block_is_owed_once(other);
+                owed.give_back();
+                other.give_back();
+                true
+            }
+            Down::Left | Down::Ended => {
+                owed.give_back();
+                false
+            }
+        },
+        Down::Left | Down::Ended => {
+            match down {
+                Down::Owes(owed) => owed.give_back(),
+                Down::Left | Down::Ended => {}
+            }
+            false
+        }
+    }
+}
+
+#[test]
+fn a_block_is_owed_once(rt: HostRuntime) {
+    let first = made(&rt, "foobar");
+    let other = made(&rt, "foo");
+    let second = first.up(&rt);
+    let third = first.up(&rt);
+    check_eq!(rt; both_owe(first, second), false);
+    check_eq!(rt; both_owe(third, other), true);
+}
+
+/// Marks the block through one handle and finds it marked through another: both saw a prefix of one history that has the mark.
+fn marks_and_finds(first: &Shared<5, Global>, second: &Shared<5, Global>) -> (Seen, Option<Seen>)
+    requires { second.now.block ≡ first.now.block }
+    ensures made { IsMarkedIn 5 result.0.history }
+    ensures found { IfSome result.1 (λ found. (found.block ≡ result.0.block) × IsMarkedIn 5 found.history) }
+{
+    let made = first.mark().again().seen();
+    match second.fixed().0 {
+        Some(fixed) => (made, Some(fixed.seen())),
+        None => (made, None),
+    }
+}
+
+#[test]
+fn what_marked_a_block_has_the_mark(rt: HostRuntime) {
+    let first = made(&rt, "foobar");
+    let (first, second) = cloned(&rt, first);
+    let (made, found) = marks_and_finds(&first, &second);
+    let Some(found) = found else {
+        panic!(rt; "the mark was not found");
+    };
+    made.a_block_has_one_history(&found);
+}

@@ -1,0 +1,157 @@
+use crate::tests::checks::{check, check_eq};
+use arcstr_range::range::{RangeFault, StrRange, checked_ends, inner_ends, is_boundary, slice};
+use std::io;
+
+/// The smallest offset that does not fit in 32 bits.
+const WIDE: usize = 4294967296;
+
+const MAX: usize = usize::MAX;
+
+/// Takes the range by `Into<StrRange>`, as the text types do.
+fn found<R: Into<StrRange> + Drop>(text: &str, range: R) -> Result<(usize, usize), RangeFault> {
+    checked_ends(text, range.into())
+}
+
+#[test]
+fn ends_are_at_most_the_length(rt: HostRuntime) {
+    check_eq!(rt; StrRange::To(WIDE).ends(10), Err(RangeFault::PastEnd));
+    check_eq!(rt; StrRange::To(10).ends(10), Ok((0, 10)));
+    check_eq!(rt; StrRange::To(MAX).ends(MAX), Ok((0, MAX)));
+}
+
+#[test]
+fn inclusive_ends_do_not_wrap(rt: HostRuntime) {
+    check_eq!(rt;
+        StrRange::ToInclusive(MAX).ends(10),
+        Err(RangeFault::PastEnd)
+    );
+    check_eq!(rt;
+        StrRange::ToInclusive(MAX).ends(MAX),
+        Err(RangeFault::PastEnd)
+    );
+    check_eq!(rt;
+        StrRange::Inclusive(MAX, MAX).ends(MAX),
+        Err(RangeFault::PastEnd)
+    );
+}
+
+#[test]
+fn from_a_place(rt: HostRuntime) {
+    check_eq!(rt; found("aé", 3..), Ok((3, 3)));
+    check_eq!(rt; found("aé", 2..), Err(RangeFault::OffBoundary));
+    check_eq!(rt; found("aé", 4..), Err(RangeFault::OutOfOrder));
+    check_eq!(rt; found("aé", MAX..), Err(RangeFault::OutOfOrder));
+}
+
+#[test]
+fn up_to_a_place(rt: HostRuntime) {
+    check_eq!(rt; found("aé", ..0), Ok((0, 0)));
+    check_eq!(rt; found("aé", ..2), Err(RangeFault::OffBoundary));
+    check_eq!(rt; found("aé", ..4), Err(RangeFault::PastEnd));
+    check_eq!(rt; found("aé", ..MAX), Err(RangeFault::PastEnd));
+}
+
+#[test]
+fn between_places(rt: HostRuntime) {
+    check_eq!(rt; found("aé", 1..3), Ok((1, 3)));
+    check_eq!(rt; found("aé", 2..1), Err(RangeFault::OutOfOrder));
+    check_eq!(rt; found("aé", 9..8), Err(RangeFault::OutOfOrder));
+    check_eq!(rt; found("aé", 0..4), Err(RangeFault::PastEnd));
+    check_eq!(rt; found("aé", 0..2), Err(RangeFault::OffBoundary));
+}
+
+#[test]
+fn between_equal_and_greatest_places(rt: HostRuntime) {
+    check_eq!(rt; found("aé", 2..2), Err(RangeFault::OffBoundary));
+    check_eq!(rt; found("aé", MAX..0), Err(RangeFault::OutOfOrder));
+    check_eq!(rt; found("aé", MAX..MAX), Err(RangeFault::PastEnd));
+}
+
+#[test]
+fn between_a_place_and_a_last_one(rt: HostRuntime) {
+    check_eq!(rt; found("aé", 0..=0), Ok((0, 1)));
+    check_eq!(rt; found("aé", 1..=1), Err(RangeFault::OffBoundary));
+    check_eq!(rt; found("aé", 3..=2), Ok((3, 3)));
+    check_eq!(rt; found("aé", 4..=2), Err(RangeFault::OutOfOrder));
+}
+
+#[test]
+fn between_greatest_places_inclusive_and_by_the_form_itself(rt: HostRuntime) {
+    check_eq!(rt; found("aé", MAX..=0), Err(RangeFault::OutOfOrder));
+    check_eq!(rt; found("aé", MAX..=MAX), Err(RangeFault::PastEnd));
+    check_eq!(rt; found("aé", StrRange::From(1)), Ok((1, 3)));
+}
+
+#[test]
+fn up_to_a_last_place(rt: HostRuntime) {
+    check_eq!(rt; found("aé", ..=0), Ok((0, 1)));
+    check_eq!(rt; found("aé", ..=2), Ok((0, 3)));
+    check_eq!(rt; found("aé", ..=3), Err(RangeFault::PastEnd));
+    check_eq!(rt; found("aé", ..), Ok((0, 3)));
+}
+
+#[test]
+fn a_spent_inclusive_range_is_empty(rt: HostRuntime) {
+    let mut range = 1..=1;
+    check_eq!(rt; range.next(), Some(1));
+    check_eq!(rt; StrRange::from(range), StrRange::Between(1, 1));
+    check_eq!(rt; StrRange::from(1..=1), StrRange::Inclusive(1, 1));
+}
+
+#[test]
+fn slices_are_those_of_str(rt: HostRuntime) {
+    check_eq!(rt; slice("aé", StrRange::Between(1, 3)), Some("é"));
+    check_eq!(rt; slice("aé", StrRange::Between(0, 2)), None);
+    check_eq!(rt; slice("aé", StrRange::Between(2, 2)), None);
+    check_eq!(rt; slice("aé", StrRange::ToInclusive(MAX)), None);
+}
+
+#[test]
+fn boundaries_are_between_characters(rt: HostRuntime) {
+    check!(rt; is_boundary("aé", 0));
+    check!(rt; is_boundary("aé", 1));
+    check!(rt; !is_boundary("aé", 2));
+    check!(rt; is_boundary("aé", 3));
+    check!(rt; !is_boundary("aé", 4));
+}
+
+#[test]
+fn inner_ends_are_measured_in_the_substring(rt: HostRuntime) {
+    check_eq!(rt;
+        inner_ends("foobarbaz", 3..6, StrRange::Between(1, 3)),
+        Ok((4, 6))
+    );
+    check_eq!(rt;
+        inner_ends("foobarbaz", 3..6, StrRange::Between(2, 2)),
+        Ok((5, 5))
+    );
+    check_eq!(rt;
+        inner_ends("foobarbaz", 3..6, StrRange::Between(0, 5)),
+        Err(RangeFault::PastEnd)
+    );
+    check_eq!(rt;
+        inner_ends("foobarbaz", 3..9, StrRange::Between(1, 5)),
+        Ok((4, 8))
+    );
+}
+
+#[test]
+fn faults_have_numbers_and_texts(rt: HostRuntime) {
+    for (fault, wanted) in [
+        (RangeFault::OutOfOrder, "1 range start is after its end"),
+        (RangeFault::PastEnd, "2 range ends past the text"),
+        (RangeFault::OffBoundary, "4 range cuts a character"),
+    ] {
+        let number = fault.number();
+        let printed = format!(in rt.alloc(); "{number} {fault}").expect(&rt, "refused");
+        check_eq!(rt; printed.as_str(), wanted);
+    }
+}
+
+#[test]
+fn faults_are_faults_of_reading_and_writing(rt: HostRuntime) {
+    let fault = io::Error::from(RangeFault::OffBoundary);
+    check_eq!(rt; fault.kind(), io::ErrorKind::InvalidInput);
+    let printed = fault.to_string(rt.alloc()).expect(&rt, "refused");
+    check_eq!(rt; printed.as_str(), "range cuts a character");
+}

@@ -1,0 +1,117 @@
+//! Texts and slices as values of `serde_json`, and in structs that derive the traits of `serde`.
+use crate::tests::checks::{check, check_eq};
+use crate::tests::steps::{
+    check_copied, check_count, check_slice, check_text, made, many_digits, part,
+};
+use arcstr::{ArcStr, JsonFault, Substr, literal};
+use serde::{Deserialize, Serialize};
+use serde_json::Value;
+use std::alloc::AllocGlobal;
+use std::mem::size_of;
+use std::process::Abort;
+
+/// Returns the JSON string of the text.
+fn string(rt: &(impl Abort + AllocGlobal), text: &str) -> Value {
+    Value::try_from_str(rt.alloc(), text).expect(rt, "no memory")
+}
+
+/// Asserts that the value is the string of this text, and that it reads as an `ArcStr` and as a `Substr`.
+fn check_read(rt: &(impl Abort + AllocGlobal), value: &Value, wanted: &str) {
+    check_text(rt, value.as_str().expect(rt, "no string"), wanted);
+    let text = ArcStr::from_json(rt.alloc(), value).expect(rt, "no text");
+    check_text(rt, text.as_str(), wanted);
+    let slice = Substr::from_json(rt.alloc(), value).expect(rt, "no slice");
+    check_text(rt, slice.as_str(), wanted);
+}
+
+#[test]
+fn a_slice_is_written_and_read_back(rt: HostRuntime) {
+    let slice = part(&rt, &literal!("aé"), 1..);
+    let value = slice.to_json(rt.alloc()).expect(&rt, "no memory");
+    check_read(&rt, &value, "é");
+    let read = Substr::from_json(rt.alloc(), &value).expect(&rt, "no slice");
+    check!(rt; read == slice);
+}
+
+#[test]
+fn a_million_bytes_are_read(rt: HostRuntime) {
+    let digits = many_digits(&rt);
+    let value = string(&rt, digits.as_str());
+    check_read(&rt, &value, digits.as_str());
+}
+
+#[test]
+fn a_written_text_is_parsed_back(rt: HostRuntime) {
+    let text = "\"\\/ \0\u{1f}\n\u{7f}é\u{10ffff}";
+    let value = made(&rt, text).to_json(rt.alloc()).expect(&rt, "no memory");
+    let written = value.to_string(rt.alloc()).expect(&rt, "no memory");
+    check_text(
+        &rt,
+        written.as_str(),
+        "\"\\\"\\\\/ \\u0000\\u001f\\n\u{7f}é\u{10ffff}\"",
+    );
+    let parsed = Value::from_str(rt.alloc(), written.as_str());
+    check_read(&rt, &parsed.expect(&rt, "not parsed"), text);
+}
+
+#[test]
+fn other_values_are_no_texts(rt: HostRuntime) {
+    let number = Value::from(12u8);
+    check_eq!(rt; ArcStr::from_json(rt.alloc(), &number).err(), Some(JsonFault::NotText));
+    check_eq!(rt; Substr::from_json(rt.alloc(), &number).err(), Some(JsonFault::NotText));
+}
+
+#[test]
+fn faults_have_numbers_and_texts(rt: HostRuntime) {
+    for (fault, wanted) in [
+        (JsonFault::NotText, "1 value is not a text"),
+        (JsonFault::Length, "2 text is too long"),
+        (JsonFault::Memory, "3 out of memory"),
+    ] {
+        let number = fault.number();
+        check_copied(&rt, format!(in rt.alloc(); "{number} {fault}"), wanted);
+    }
+    check_eq!(rt; size_of::<JsonFault>(), 1);
+}
+
+#[derive(Drop, Serialize, Deserialize)]
+struct Entry {
+    name: ArcStr,
+    value: Substr,
+    tags: Vec<ArcStr>,
+}
+
+#[test]
+fn a_struct_of_texts_is_written_as_json(rt: HostRuntime) {
+    let text = made(&rt, "key=\"é\"");
+    let mut tags = Vec::new(rt.alloc());
+    tags.push(literal!("a\nb")).expect(&rt, "no memory");
+    tags.push(ArcStr::new()).expect(&rt, "no memory");
+    let entry = Entry {
+        name: text.clone(&rt),
+        value: part(&rt, &text, 4..),
+        tags,
+    };
+    let json = serde_json::to_string(rt.alloc(), &entry).expect(&rt, "not written");
+    let wanted = "{\"name\":\"key=\\\"é\\\"\",\"value\":\"\\\"é\\\"\",\"tags\":[\"a\\nb\",\"\"]}";
+    check_text(&rt, json.as_str(), wanted);
+}
+
+#[test]
+fn a_struct_of_texts_is_read_from_json(rt: HostRuntime) {
+    let json = "{\"value\":\"\\u00e9 b\",\"tags\":[\"x\",\"\"],\"name\":\"plain\"}";
+    let entry: Entry = serde_json::from_str(rt.alloc(), json).expect(&rt, "not read");
+    check_text(&rt, entry.name.as_str(), "plain");
+    check_count(&rt, &entry.name, Some(1));
+    check_slice(&rt, &entry.value, "é b", 0..4);
+    assert!(rt; entry.tags.len() == 2);
+    check!(rt; ArcStr::is_static(&entry.tags[1]));
+}
+
+#[test]
+fn a_number_is_not_read_as_a_text(rt: HostRuntime) {
+    let read: Result<ArcStr, _> = serde_json::from_str(rt.alloc(), "12");
+    check!(rt; read.is_err());
+    let read: Result<Substr, _> = serde_json::from_str(rt.alloc(), "null");
+    check!(rt; read.is_err());
+}

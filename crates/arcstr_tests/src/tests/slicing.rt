@@ -1,0 +1,210 @@
+use crate::tests::checks::check;
+use crate::tests::steps::{
+    check_count, check_no_slice, check_nothing, check_part, check_slice, check_sliced, check_text,
+    made, part,
+};
+use arcstr::{ArcStr, RangeFault, StrRange, StrView, Substr, literal};
+use std::ops::Range;
+use std::process::Abort;
+use std::sync::Wait;
+
+const MAX: usize = usize::MAX;
+
+#[test]
+fn slices_keep_their_parent(rt: HostRuntime) {
+    let text = made(&rt, "abcde");
+    let tail = part(&rt, &text, 2..);
+    check_slice(&rt, &tail, "cde", 2..5);
+    check_text(&rt, tail.parent().as_str(), "abcde");
+    check_count(&rt, &text, Some(2));
+}
+
+/// Asserts that `substr` of `aé` refuses the range with this fault.
+fn refuses<R: Into<StrRange>>(rt: &(impl Abort + Wait), range: R, wanted: RangeFault) {
+    check_no_slice(rt, literal!("aé").substr(rt, range), wanted);
+}
+
+/// Asserts the text and the byte range of the slice of `aé`.
+fn gives<R: Into<StrRange>>(rt: &(impl Abort + Wait), range: R, text: &str, places: Range<usize>) {
+    check_sliced(rt, literal!("aé").substr(rt, range), text, places);
+}
+
+#[test]
+fn a_range_of_each_form_gives_its_slice(rt: HostRuntime) {
+    gives(&rt, 3.., "", 3..3);
+    gives(&rt, ..1, "a", 0..1);
+    gives(&rt, 1..3, "é", 1..3);
+    gives(&rt, .., "aé", 0..3);
+    gives(&rt, 3..=2, "", 3..3);
+    gives(&rt, ..=2, "aé", 0..3);
+}
+
+#[test]
+fn a_range_of_each_form_is_refused(rt: HostRuntime) {
+    refuses(&rt, 4.., RangeFault::OutOfOrder);
+    refuses(&rt, ..2, RangeFault::OffBoundary);
+    refuses(&rt, 2..2, RangeFault::OffBoundary);
+    refuses(&rt, MAX..=MAX, RangeFault::PastEnd);
+    refuses(&rt, ..=3, RangeFault::PastEnd);
+}
+
+#[test]
+fn a_part_is_read_without_a_handle(rt: HostRuntime) {
+    let text = literal!("foobarbaz");
+    let bar = text.get(StrRange::Between(3, 6));
+    check_part(&rt, bar, Some("bar"));
+    check_part(&rt, literal!("aé").get(..2), None);
+}
+
+/// Returns the slice `bar` of `foobarbaz`.
+fn bar(rt: &(impl Abort + Wait)) -> Substr {
+    part(rt, &literal!("foobarbaz"), 3..6)
+}
+
+#[test]
+fn a_slice_of_a_slice_keeps_the_parent(rt: HostRuntime) {
+    let inner = bar(&rt).substr(&rt, 1..3).expect(&rt, "no slice");
+    check_slice(&rt, &inner, "ar", 4..6);
+    check_text(&rt, inner.parent().as_str(), "foobarbaz");
+    check_no_slice(&rt, bar(&rt).substr(&rt, 0..5), RangeFault::PastEnd);
+    check_part(&rt, bar(&rt).get(0..5), None);
+}
+
+/// Returns the slice of the text that a view of `shown` at `place` shows, if there is one.
+fn found(rt: &(impl Abort + Wait), text: &ArcStr, shown: &str, place: usize) -> Option<Substr> {
+    let view = StrView::at(shown, place).expect(rt, "no view");
+    text.try_substr_from(rt, view)
+}
+
+#[test]
+fn an_empty_view_is_found_everywhere(rt: HostRuntime) {
+    let text = made(&rt, "abab");
+    for place in [99, MAX] {
+        let slice = found(&rt, &text, "", place);
+        check_nothing(&rt, &slice.expect(&rt, "not found"));
+    }
+    check_nothing(&rt, &text.substr_from(&rt, StrView::whole("")));
+}
+
+#[test]
+fn a_trimmed_view_gives_its_slice(rt: HostRuntime) {
+    let text = made(&rt, "   abc");
+    let view = StrView::whole(text.as_str()).trim();
+    let slice = text.try_substr_from(&rt, view).expect(&rt, "not found");
+    check_slice(&rt, &slice, "abc", 3..6);
+}
+
+#[test]
+fn a_trimmed_view_of_a_slice_gives_its_slice(rt: HostRuntime) {
+    let slice = part(&rt, &made(&rt, "foo   bar"), StrRange::From(3));
+    check_text(&rt, slice.as_str(), "   bar");
+    let view = StrView::whole(slice.as_str()).trim();
+    let trimmed = slice.try_substr_from(&rt, view).expect(&rt, "not found");
+    check_slice(&rt, &trimmed, "bar", 6..9);
+}
+
+#[test]
+fn a_view_is_not_found_past_the_own_text(rt: HostRuntime) {
+    for (shown, place) in [("bar", 3), ("foo", 0)] {
+        let view = StrView::at(shown, place).expect(&rt, "no view");
+        check!(rt; bar(&rt).try_substr_from(&rt, view).is_none());
+    }
+}
+
+#[test]
+fn places_of_the_own_text_give_all_of_it(rt: HostRuntime) {
+    check_sliced(&rt, bar(&rt).substr_using(&rt, |_| 0..3), "bar", 3..6);
+    check_sliced(&rt, bar(&rt).try_substr_using(&rt, |_| 0..3), "bar", 3..6);
+    check_no_slice(&rt, bar(&rt).substr_using(&rt, |_| 0..9), RangeFault::PastEnd);
+}
+
+/// Asserts that the answer is `Substr::new()`.
+fn check_found_nothing(rt: &impl Abort, answer: Result<Substr, RangeFault>) {
+    check_nothing(rt, &answer.expect(rt, "no slice"));
+}
+
+#[test]
+fn equal_places_of_a_closure_give_the_slice_of_nothing(rt: HostRuntime) {
+    let text = made(&rt, "aé");
+    check_found_nothing(&rt, text.substr_using(&rt, |_| 2..2));
+    check_found_nothing(&rt, text.substr_using(&rt, |_| MAX..MAX));
+    check_found_nothing(&rt, text.try_substr_using(&rt, |_| 7..7));
+    check_found_nothing(&rt, bar(&rt).substr_using(&rt, |_| 9..9));
+}
+
+#[test]
+fn a_closure_is_called_once_before_any_test(rt: HostRuntime) {
+    let mut calls = 0u32;
+    let answer = literal!("abc").substr_using(&rt, |_| {
+        calls += 1;
+        9..8
+    });
+    check_no_slice(&rt, answer, RangeFault::OutOfOrder);
+    check!(rt; calls == 1);
+}
+
+// Views that are made from a text are found in it: `substr_from` accepts them without a test.
+
+#[test]
+fn trimmed_views_of_a_text_are_found(rt: HostRuntime) {
+    let text = made(&rt, "  abc ");
+    let whole = text.view();
+    check_slice(&rt, &text.substr_from(&rt, whole.trim()), "abc", 2..5);
+    let tail = text.substr_from(&rt, whole.trim_start());
+    check_slice(&rt, &tail, "abc ", 2..6);
+    check_slice(&rt, &text.substr_from(&rt, whole.trim_end()), "  abc", 0..5);
+}
+
+#[test]
+fn a_cut_of_a_view_of_a_text_is_found(rt: HostRuntime) {
+    let text = made(&rt, "  abc ");
+    let view = StrView::whole(text.as_str()).trim();
+    let cut = view.cut(1..3).expect(&rt, "no part");
+    check_slice(&rt, &text.substr_from(&rt, cut), "bc", 3..5);
+}
+
+#[test]
+fn views_of_the_own_text_of_a_slice_are_found(rt: HostRuntime) {
+    let slice = part(&rt, &made(&rt, "key: value"), 4..);
+    let view = slice.view().trim();
+    let cut = view.cut(0..3).expect(&rt, "no part");
+    check_slice(&rt, &slice.substr_from(&rt, cut), "val", 5..8);
+    check_slice(&rt, &slice.substr_from(&rt, view), "value", 5..10);
+}
+
+#[test]
+fn parts_of_a_view_of_a_text_are_found(rt: HostRuntime) {
+    let text = made(&rt, "a: --b=c;");
+    let (name, rest) = text.view().split_once(": ").expect(&rt, "no `: `");
+    check_slice(&rt, &text.substr_from(&rt, name), "a", 0..1);
+    let pair = rest.strip_prefix("--").expect(&rt, "no `--`");
+    check_slice(&rt, &text.substr_from(&rt, rest), "--b=c;", 3..9);
+    let pair = pair.strip_suffix(';').expect(&rt, "no `;`");
+    let (_, value) = pair.rsplit_once('=').expect(&rt, "no `=`");
+    check_slice(&rt, &text.substr_from(&rt, value), "c", 7..8);
+    let (_, end) = pair.split_at(1).expect(&rt, "no place");
+    check_slice(&rt, &text.substr_from(&rt, end), "=c", 6..8);
+    check_slice(&rt, &text.substr_from(&rt, pair), "b=c", 5..8);
+}
+
+/// Returns the slices of the last line and of the last word, each found in a loop without a test. As in user code, the proof that the text has them is
+/// automatic.
+fn last_slices(rt: &impl Wait, text: &ArcStr) -> [Option<Substr>; 2] {
+    let (mut last_line, mut last_word) = (None, None);
+    for line in text.view().lines() {
+        for word in line.split_whitespace() {
+            last_word = Some(text.substr_from(rt, word));
+        }
+        last_line = Some(text.substr_from(rt, line));
+    }
+    [last_line, last_word]
+}
+
+#[test]
+fn views_in_a_loop_become_slices(rt: HostRuntime) {
+    let text = made(&rt, "é 1\r\n a, b \n");
+    let wanted = [(" a, b ", 6..12), ("b", 10..11)];
+    for (slice, (text, range)) in last_slices(&rt, &text).into_iter().zip(wanted) {
+        check_slice(&rt, &slice.expect(&rt, "no slice"), text, range);
+    }
+}

@@ -1,0 +1,74 @@
+//! Texts and slices that are sent to threads and shared between them.
+use crate::tests::checks::{check, check_eq};
+use crate::tests::steps::{check_count, check_text, made, part};
+use arcstr::{ArcStr, JsonFault, Substr};
+use std::sync::Wait;
+use std::thread;
+
+const ROUNDS: u32 = 100_000;
+
+/// Clones the text and drops the clone many times. Returns the length of the last clone.
+fn cloned_often(rt: &impl Wait, text: &ArcStr) -> usize {
+    let mut length = 0;
+    for _ in 0..ROUNDS {
+        length = text.clone(rt).len();
+    }
+    length
+}
+
+#[test]
+fn a_text_and_a_static_text_move_to_a_thread(rt: HostRuntime) {
+    let text = made(&rt, "foobar");
+    let kept = text.leak();
+    let reader = thread::spawn(&rt, move || (text.len(), kept.len())).expect(&rt, "no thread");
+    check!(rt; reader.join(&rt) == (6, 6));
+}
+
+#[test]
+fn two_threads_clone_and_drop_one_text(rt: HostRuntime) {
+    let text = made(&rt, "foobar");
+    let lengths = thread::join(
+        &rt,
+        || cloned_often(&rt, &text),
+        || cloned_often(&rt, &text),
+    );
+    check!(rt; lengths == (6, 6));
+    check_text(&rt, text.as_str(), "foobar");
+    check_count(&rt, &text, Some(1));
+}
+
+/// Returns the value, whose type must be `Send` and `Sync`.
+fn crossing<T: Send + Sync>(value: T) -> T {
+    value
+}
+
+#[test]
+fn raw_handles_static_texts_and_faults_may_cross_threads(rt: HostRuntime) {
+    check_text(&rt, crossing(made(&rt, "foobar").leak()).as_str(), "foobar");
+    let raw = crossing(ArcStr::into_raw(made(&rt, "foobar")));
+    check_text(&rt, ArcStr::from_raw(raw).as_str(), "foobar");
+    check_eq!(rt; crossing(JsonFault::Memory), JsonFault::Memory);
+}
+
+#[test]
+fn a_slice_is_read_where_its_parents_handle_is_not(rt: HostRuntime) {
+    let text = made(&rt, "foobarbaz");
+    let slice = part(&rt, &text, 3..6);
+    let owner = thread::spawn(&rt, move || drop(text)).expect(&rt, "no thread");
+    let reader = thread::spawn(&rt, move || (slice.len(), slice.as_str() == "bar"));
+    let reader = reader.expect(&rt, "no thread");
+    owner.join(&rt);
+    check!(rt; reader.join(&rt) == (3, true));
+}
+
+#[test]
+fn two_threads_read_one_slice(rt: HostRuntime) {
+    let slice = Substr::from_str(rt.alloc(), "foobar").expect(&rt, "no memory");
+    let read = thread::join(
+        &rt,
+        || slice.as_str() == "foobar",
+        || slice.clone(&rt).as_str() == "foobar",
+    );
+    check!(rt; read == (true, true));
+    check_count(&rt, slice.parent(), Some(1));
+}
