@@ -2,11 +2,10 @@
 ghost use Rattle.std.specs.Prelude.{◌≡◌, Some};
 ghost use Rattle.arcintern.specs.Fault.{intern_fault_text};
 
+use std::alloc::{AllocError, AllocFailed};
 use std::error::Error;
-use std::fmt;
-
-mod from_memory;
-mod to_io;
+use std::io::ErrorKind;
+use std::{fmt, io};
 
 /// Why a text is not interned. It takes one byte, and prints what is wrong. By `?` it becomes an `io::Error` and an `anyhow::Error`.
 ///
@@ -37,3 +36,43 @@ impl fmt::Display for InternFault {
 }
 
 impl Error for InternFault {}
+
+impl From<AllocError> for InternFault {
+    ghost use Rattle.std.specs.Prelude.{◌≡◌};
+    ghost use Rattle.arcintern.specs.declared.fault.InternFault.TheVariants.{Memory};
+
+    ghost from_gives = { λ _ fault. fault ≡ Memory };
+
+    fn from(_refused: AllocError) -> InternFault {
+        InternFault::Memory
+    }
+}
+
+/// What could not be stored is dropped.
+impl<T: Drop> From<AllocFailed<T>> for InternFault {
+    ghost use Rattle.std.specs.Prelude.{◌≡◌};
+    ghost use Rattle.arcintern.specs.declared.fault.InternFault.TheVariants.{Memory};
+
+    ghost from_gives = { λ _ fault. fault ≡ Memory };
+
+    fn from(refused: AllocFailed<T>) -> InternFault {
+        InternFault::from(AllocError::from(refused))
+    }
+}
+
+impl From<InternFault> for io::Error {
+    ghost use Rattle.std.specs.Prelude.{◌≡◌};
+    ghost use Rattle.std.specs.IoError.{error_kind};
+    ghost use Rattle.arcintern.specs.Fault.{intern_fault_kind};
+
+    ghost from_gives = { λ fault error. error_kind error ≡ intern_fault_kind fault };
+
+    /// `OutOfMemory` where the memory ran out, and else `InvalidInput`.
+    fn from(fault: InternFault) -> io::Error {
+        match fault {
+            InternFault::Full => io::Error::new(ErrorKind::InvalidInput, "interner is full"),
+            InternFault::Length => io::Error::new(ErrorKind::InvalidInput, "text is too long"),
+            InternFault::Memory => io::Error::from(ErrorKind::OutOfMemory),
+        }
+    }
+}

@@ -17,7 +17,7 @@ use std::marker::Model;
 mod interning;
 mod lookup;
 
-pub(crate) use interning::{copied, is_whole};
+pub(crate) use interning::{copy_of, is_whole};
 
 /// The number of texts that an interner can hold.
 ///

@@ -194,14 +194,14 @@ impl<S: BuildHasher> SharedInterner<S> {
 
 /// Shards without texts.
 fn empty_shards(alloc: Global, shards: usize) -> Result<Vec<RwLock<Numbers>>, InternFault>
-    ensures len { IfOk result (λ made. length made.items ≡ shards) }
+    ensures len { IfOk result (λ numbers. length numbers.items ≡ shards) }
     ensures fault { IfErr result (λ fault. fault ≡ InternFault.Memory) }
 {
-    let mut made = Vec::with_capacity(alloc, shards)?;
+    let mut numbers = Vec::with_capacity(alloc, shards)?;
     let mut count = 0;
     while count < shards {
-        made.push_reserved(RwLock::new(Numbers::new(alloc)));
+        numbers.push_reserved(RwLock::new(Numbers::new(alloc)));
         count += 1;
     }
-    Ok(made)
+    Ok(numbers)
 }

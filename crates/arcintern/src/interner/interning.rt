@@ -36,10 +36,10 @@ impl<S: BuildHasher> Interner<S> {
         ensures full { IsErrOf result InternFault.Full ↔ ((¬ HasWord self.old word.now) × (MOST_TEXTS ≤ length self.old)) }
         ensures too_long { IsErrOf result InternFault.Length ↔ ((¬ HasWord self.old word.now) × (length self.old < MOST_TEXTS) × IsTooLong (length word.now)) }
     {
-        match self.known(word)? {
+        match self.find_or_room(word)? {
             Some(symbol) => Ok(symbol),
             None => {
-                let text = copied(*self.texts.allocator(), word)?;
+                let text = copy_of(*self.texts.allocator(), word)?;
                 self.push(text)
             }
         }
@@ -68,7 +68,7 @@ impl<S: BuildHasher> Interner<S> {
         ensures full { IsErrOf result InternFault.Full ↔ ((¬ HasWord self.old text.now.text) × (MOST_TEXTS ≤ length self.old)) }
         ensures never_too_long { ¬ (IsErrOf result InternFault.Length) }
     {
-        match self.known(text.as_str())? {
+        match self.find_or_room(text.as_str())? {
             Some(symbol) => Ok(symbol),
             None => self.push(text.clone(rt)),
         }
@@ -107,8 +107,9 @@ impl<S: BuildHasher> Interner<S> {
         }
     }
 
-    /// The symbol of this word, where it has a text. Without one, `Full` where the interner has no room for it.
-    fn known(&self, word: &str) -> Result<Option<Symbol>, InternFault>
+    /// Returns the symbol of this word if one of the texts spells it. If none does, returns `None` if there is room for one more text,
+    /// and else fails with `Full`.
+    fn find_or_room(&self, word: &str) -> Result<Option<Symbol>, InternFault>
         ensures found { IfOk result (λ found. IfSome found (λ symbol. IsWordAt self.now symbol word.now)) }
         ensures there { IfOk result (λ found. IsSome found ↔ HasWord self.now word.now) }
         ensures once { HasEachOnce self.now }
@@ -139,8 +140,8 @@ impl<S: BuildHasher> Interner<S> {
     }
 }
 
-/// A copy of the word.
-pub(crate) fn copied(alloc: Global, word: &str) -> Result<ArcStr, InternFault>
+/// Returns a copy of the word.
+pub(crate) fn copy_of(alloc: Global, word: &str) -> Result<ArcStr, InternFault>
     ensures made { IfOk result (λ text. text ≡ made_of word.now) }
     ensures too_long { IsErrOf result InternFault.Length ↔ IsTooLong (length word.now) }
     ensures never_full { IfErr result (λ fault. ¬ (fault ≡ InternFault.Full)) }
@@ -148,7 +149,7 @@ pub(crate) fn copied(alloc: Global, word: &str) -> Result<ArcStr, InternFault>
     match ArcStr::from_str(alloc, word) {
         Ok(text) => Ok(text),
         Err(TextFault::Length) => Err(InternFault::Length),
-        Err(_) => Err(InternFault::Memory),
+        Err(TextFault::Memory | TextFault::Utf8(_)) => Err(InternFault::Memory),
     }
 }
 

@@ -6,7 +6,7 @@ ghost use Rattle.arcintern.specs.Shared.{IsSymbolOfWord};
 ghost use Rattle.arcintern.specs.Texts.{IsWhole};
 
 use crate::fault::InternFault;
-use crate::interner::{MOST_TEXTS, copied, is_whole};
+use crate::interner::{MOST_TEXTS, copy_of, is_whole};
 use crate::shared_interner::SharedInterner;
 use crate::shared_interner::shared_symbol::SharedSymbol;
 use crate::symbol::Symbol;
@@ -31,7 +31,7 @@ impl<S: BuildHasher> SharedInterner<S> {
         ensures word { IfOk result (λ symbol. IsSymbolOfWord self.now symbol word.now) }
         ensures too_long { IsErrOf result InternFault.Length → IsTooLong (length word.now) }
     {
-        self.interned(rt, word, None)
+        self.find_or_add(rt, word, None)
     }
 
     /// Returns the symbol of the text that spells the same as this one. If there is none, a clone of this text becomes a text: that
@@ -49,7 +49,7 @@ impl<S: BuildHasher> SharedInterner<S> {
         ensures word { IfOk result (λ symbol. IsSymbolOfWord self.now symbol text.now.text) }
         ensures never_too_long { ¬ (IsErrOf result InternFault.Length) }
     {
-        self.interned(rt, text.as_str(), Some(text))
+        self.find_or_add(rt, text.as_str(), Some(text))
     }
 
     /// Returns the symbol of the text that spells the same as this slice. If there is none, a clone of the slice's parent becomes a text
@@ -97,7 +97,7 @@ impl<S: BuildHasher> SharedInterner<S> {
     }
 
     /// The symbol of the word. If there is none, the text becomes `whole` or, without one, a copy of the word.
-    fn interned(
+    fn find_or_add(
         &self,
         rt: &impl Wait,
         word: &str,
@@ -118,7 +118,7 @@ impl<S: BuildHasher> SharedInterner<S> {
             Ok(symbol) => Ok(symbol),
             Err(Some(key)) => {
                 let number = number_of(numbers.len(), self.shards.len(), shard)?;
-                let text = made(rt, self.alloc, word, whole)?;
+                let text = text_to_keep(rt, self.alloc, word, whole)?;
                 numbers.add(rt, &self.texts, key, number, text)
             }
             Err(None) => Err(InternFault::Full),
@@ -152,7 +152,7 @@ fn number_of(index: usize, shards: usize, shard: usize) -> Result<Symbol, Intern
 }
 
 /// A clone of `whole` or, without one, a copy of the word.
-fn made(
+fn text_to_keep(
     rt: &impl Wait,
     alloc: Global,
     word: &str,
@@ -164,6 +164,6 @@ fn made(
 {
     match whole {
         Some(text) => Ok(text.clone(rt)),
-        None => copied(alloc, word),
+        None => copy_of(alloc, word),
     }
 }

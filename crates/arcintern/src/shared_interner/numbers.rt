@@ -59,7 +59,7 @@ impl Numbers {
             let Some(number) = self.by_key.get(&key) else {
                 return Err(Some(key));
             };
-            if let Some(symbol) = spelled(texts, *number, word) {
+            if let Some(symbol) = symbol_if_word(texts, *number, word) {
                 return Ok(symbol);
             }
             key = key.wrapping_add(1);
@@ -90,7 +90,7 @@ impl Numbers {
 }
 
 /// The symbol of this number, if its text spells the word.
-fn spelled(texts: &TextList, number: Symbol, word: &str) -> Option<SharedSymbol>
+fn symbol_if_word(texts: &TextList, number: Symbol, word: &str) -> Option<SharedSymbol>
     ensures { IfSome result (λ symbol. IsSymbolOfWord texts.now symbol word.now) }
 {
     let symbol = texts.at(number)?;

@@ -50,6 +50,7 @@ pub(crate) struct TextList {
 impl Model for TextList {
     ghost use Rattle.std.specs.Prelude.{List, ◌≡◌, length};
     ghost use Rattle.std.specs.Coded.{coded_list};
+    ghost use Rattle.arcintern.specs.declared.shared_interner.text_list.TheConstants.{ROWS};
     ghost use Rattle.boxcar.specs.Slot.{Named, named_coded};
 
     ghost Value = { List Named };
@@ -58,7 +59,7 @@ impl Model for TextList {
 
     ghost view = { λ list. list.rows.items };
 
-    ghost invariant = { λ list. length list.rows.items ≡ 28 };
+    ghost invariant = { λ list. length list.rows.items ≡ ROWS };
 }
 
 impl TextList {
@@ -78,7 +79,7 @@ impl TextList {
         ensures of { IfSome result (λ symbol. IsSymbolOf self.now symbol) }
         ensures number { IfSome result (λ symbol. symbol.number ≡ number) }
     {
-        let (row, slot) = located(number);
+        let (row, slot) = row_and_slot(number);
         let written = self.row(row).witness()?;
         let item = slot_at(self.row(row).value(&written), slot)?.witness()?;
         Some(SharedSymbol::new(number, row, slot, written, item))
@@ -89,7 +90,7 @@ impl TextList {
         requires { IsSymbolOf self.now symbol.now }
         ensures { result.now ≡ symbol.now.text }
     {
-        let (row, slot) = located(symbol.number);
+        let (row, slot) = row_and_slot(symbol.number);
         self.row(row).value(&symbol.row)[slot].value(&symbol.item)
     }
 
@@ -100,7 +101,7 @@ impl TextList {
         requires same { one.now.number ≡ other.now.number }
         ensures { one.now.text ≡ other.now.text }
     {
-        let _ = located(one.number);
+        let _ = row_and_slot(one.number);
         one.row.agrees(&other.row);
         one.item.agrees(&other.item);
     }
@@ -117,8 +118,8 @@ impl TextList {
         ensures number { IfOk result (λ symbol. symbol.number ≡ number) }
         ensures text { IfOk result (λ symbol. symbol.text ≡ text) }
     {
-        let (row, slot) = located(number);
-        let written = self.made_row(rt, row)?;
+        let (row, slot) = row_and_slot(number);
+        let written = self.row_or_new(rt, row)?;
         let Some(found) = slot_at(self.row(row).value(&written), slot) else {
             return Err(AllocError);
         };
@@ -130,15 +131,15 @@ impl TextList {
 
     /// The slot of a row.
     fn row(&self, row: usize) -> &OnceSlot<Row, AnyRow>
-        requires { row < 28 }
+        requires { row < ROWS }
         ensures { result.now.id ≡ id_at self.now row }
     {
         &self.rows[row]
     }
 
     /// Shows a row, which is made if it is not there.
-    fn made_row(&self, rt: &impl Wait, row: usize) -> Result<Written<Row>, AllocError>
-        requires { row < 28 }
+    fn row_or_new(&self, rt: &impl Wait, row: usize) -> Result<Written<Row>, AllocError>
+        requires { row < ROWS }
         ensures { IfOk result (λ written. written.of ≡ id_at self.now row) }
     {
         if let Some(written) = self.row(row).witness() {
@@ -159,18 +160,19 @@ impl TextList {
 }
 
 /// The row of a number, and its slot in the row.
-fn located(number: Symbol) -> (usize, usize)
+fn row_and_slot(number: Symbol) -> (usize, usize)
     ensures at { IsAt number result.0 result.1 }
-    ensures row { result.0 < 28 }
+    ensures row { result.0 < ROWS }
 {
     let above = number.bits() as usize + 32;
     let row = above.ilog2() as usize - 5;
     (row, above - row_len(row))
 }
 
-/// How many slots the row has.
+/// Returns how many slots the row has.
+#[tactic(auto, using(boxcar::proofs::Spans::span_small))]
 fn row_len(row: usize) -> usize
-    requires { row < 28 }
+    requires { row < ROWS }
     ensures { result ≡ span row }
 {
     32 << row
@@ -189,7 +191,7 @@ fn slot_at(row: &Row, slot: usize) -> Option<&OnceSlot<ArcStr, AnyText>>
 
 /// An empty row.
 fn new_row(alloc: Global, row: usize) -> Result<Row, AllocError>
-    requires { row < 28 }
+    requires { row < ROWS }
 {
     let len = row_len(row);
     let mut slots = Vec::with_capacity(alloc, len)?;

@@ -1,7 +1,11 @@
-use Rattle.std.proofs.Common.{rules, arith, ◌+◌, ◌<◌}
+use Rattle.std.proofs.Common.{rules, ℕ, ◌+◌, ◌^◌, ◌<◌, ◌≤◌, arith, pow_mono, lt_of_not-le}
 use Rattle.boxcar.proofs.Spans.{top_above, span_top}
-use Rattle.arcintern.proofs.Rows.{exponent_below}
-use Rattle.arcintern.proofs.shared_interner.text_list.located.Goals as goal
+use Rattle.arcintern.proofs.shared_interner.text_list.row_and_slot.Goals as goal
+
+-- a power of two that is at most 2 ^ 33 - 1 has an exponent below 33
+exponent_below : (number exponent : ℕ) → 2 ^ exponent ≤ number → number < 8589934592 → exponent < 33
+exponent_below number exponent low small =
+    lt_of_not-le (λ (le : 33 ≤ exponent). let most : 8589934592 ≤ 2 ^ exponent = pow_mono le in omega arith)
 
 pub overflow_sub-row : goal.overflow_sub-row
 overflow_sub-row c = top_above (c.bits.result + 32) c.ilog2.result c.ilog2.ensures.power_le c.ilog2.ensures.next_power_gt (omega arith)
