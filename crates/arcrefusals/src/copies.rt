@@ -73,7 +73,7 @@ pub(crate) fn run(rt: &impl Wait, meter: Meter, alloc: Global) -> io::Result<()>
     meter.again("ArcStr::into_cow", || {
         let text = ArcStr::make(alloc)?;
         into_cow(meter, text.clone(rt), &text, foobar, |text| {
-            text.into_cow(alloc)
+            owned(alloc, text.into_cow(alloc))
         })
     })?;
     copy(meter, alloc, "ArcStr::from_json", foobar, |value| {
@@ -88,7 +88,7 @@ pub(crate) fn run(rt: &impl Wait, meter: Meter, alloc: Global) -> io::Result<()>
     meter.again("Substr::into_cow", || {
         let slice = Substr::make(alloc)?;
         into_cow(meter, slice.clone(rt), &slice, "bar", |slice| {
-            slice.into_cow(alloc)
+            owned(alloc, slice.into_cow(alloc))
         })
     })?;
     copy(meter, alloc, "Substr::from_json", foobar, |value| {
@@ -124,7 +124,7 @@ fn copy<K: Copied, T: Made, E: Into<Stop>, F: Fn(&K) -> Result<T, E>>(
 }
 
 /// Takes one of two handles on a text; a refusal returns it.
-fn into_cow<K: Copied, F: Fn(K) -> Result<CowStr, K>>(
+fn into_cow<K: Copied, F: Fn(K) -> Result<String, K>>(
     meter: Meter,
     mut taken: K,
     other: &K,
@@ -135,9 +135,11 @@ fn into_cow<K: Copied, F: Fn(K) -> Result<CowStr, K>>(
 {
     for _ in 0..TRIES {
         match meter.counted(|| call(taken)) {
-            Ok(cow) => {
+            Ok(copy) => {
                 other.check_copied(1)?;
-                return check_owned(meter, cow, wanted);
+                copy.check(wanted)?;
+                meter.drop(copy);
+                return Ok(());
             }
             Err(back) => taken = back,
         }
@@ -146,14 +148,11 @@ fn into_cow<K: Copied, F: Fn(K) -> Result<CowStr, K>>(
     Err(Stop::Refused)
 }
 
-/// Compares what a text became with a copy of this one, and drops it.
-fn check_owned(meter: Meter, cow: CowStr, wanted: &str) -> Result<(), Stop> {
-    match cow {
-        CowStr::Owned(copy) => {
-            copy.check(wanted)?;
-            meter.drop(copy);
-            Ok(())
-        }
-        CowStr::Borrowed(_) => Err(Stop::Copy),
+/// Returns the copy that a text became, and an empty one if the text stayed borrowed.
+fn owned<K>(alloc: Global, made: Result<CowStr, K>) -> Result<String, K> {
+    match made {
+        Ok(CowStr::Owned(copy)) => Ok(copy),
+        Ok(CowStr::Borrowed(_)) => Ok(String::new(alloc)),
+        Err(back) => Err(back),
     }
 }

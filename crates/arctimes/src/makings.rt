@@ -9,11 +9,6 @@ use arcstr::{ArcStr, RangeFault, Substr, TextFault};
 use serde_json::Value;
 use std::alloc::{AllocError, Global};
 
-/// The start and the end of the slices.
-const START: usize = 1000;
-
-const END: usize = 3000;
-
 pub(crate) fn run<M: Machine>(rt: &M, request: &Request) -> Result<()> {
     let alloc = rt.alloc();
     let text = letters(alloc, request.size, request.size)?;
@@ -39,10 +34,10 @@ fn len_of(made: Result<ArcStr, TextFault>) -> usize {
 pub(crate) fn run_slices<M: Machine>(rt: &M, request: &Request) -> Result<()> {
     let text = text(rt.alloc(), request)?;
     match request.figure {
-        "substr" => request.time_operations(rt, || slice_len(text.substr(rt, START..END))),
+        "substr" => request.time_operations(rt, || slice_len(text.substr(rt, 1000..3000))),
         "substr_of_substr" => {
             let whole = Substr::full(text);
-            request.time_operations(rt, || slice_len(whole.substr(rt, START..END)))
+            request.time_operations(rt, || slice_len(whole.substr(rt, 1000..3000)))
         }
         _ => no_figure(),
     }

@@ -11,17 +11,14 @@ use std::collections::HashMap;
 const STEP: usize = 40;
 
 pub(crate) fn run<M: Machine>(rt: &M, request: &Request) -> Result<()> {
-    let end = if request.figure.starts_with("lines") {
-        '\n'
-    } else {
-        ','
-    };
+    let is_of_lines = request.figure.starts_with("lines");
+    let end = if is_of_lines { '\n' } else { ',' };
     let text = rows(rt.alloc(), request.size, end)?;
     match request.figure {
-        "lines" => request.time_operations(rt, || add_views(StrView::whole(&text).lines())),
-        "lines_of_str" => request.time_operations(rt, || add_texts(text.lines())),
-        "split" => request.time_operations(rt, || add_views(StrView::whole(&text).split(','))),
-        "split_of_str" => request.time_operations(rt, || add_texts(text.split(','))),
+        "lines" => request.time_operations(rt, || add_lines(&text)),
+        "lines_of_str" => request.time_operations(rt, || add_lines_of_str(&text)),
+        "split" => request.time_operations(rt, || add_parts(&text)),
+        "split_of_str" => request.time_operations(rt, || add_parts_of_str(&text)),
         _ => no_figure(),
     }
 }
@@ -62,22 +59,36 @@ fn places(alloc: Global, words: &[String]) -> Result<HashMap<ArcStr, usize>> {
     Ok(places)
 }
 
-/// Returns the sum of the lengths and the places of views.
-fn add_views<'a, I: Iterator<Item = StrView<'a>> + Drop>(views: I) -> usize {
+/// Returns the sum of the lengths and the places of the lines.
+fn add_lines(text: &str) -> usize {
     let mut sum = 0usize;
-    for view in views {
-        sum = sum
-            .wrapping_add(view.text().len())
-            .wrapping_add(view.place());
+    for line in StrView::whole(text).lines() {
+        sum = sum.wrapping_add(line.text().len().wrapping_add(line.place()));
     }
     sum
 }
 
-/// Returns the sum of the lengths of texts.
-fn add_texts<'a, I: Iterator<Item = &'a str> + Drop>(texts: I) -> usize {
+fn add_lines_of_str(text: &str) -> usize {
     let mut sum = 0usize;
-    for text in texts {
-        sum = sum.wrapping_add(text.len());
+    for line in text.lines() {
+        sum = sum.wrapping_add(line.len());
+    }
+    sum
+}
+
+/// Returns the sum of the lengths and the places of the parts.
+fn add_parts(text: &str) -> usize {
+    let mut sum = 0usize;
+    for part in StrView::whole(text).split(',') {
+        sum = sum.wrapping_add(part.text().len().wrapping_add(part.place()));
+    }
+    sum
+}
+
+fn add_parts_of_str(text: &str) -> usize {
+    let mut sum = 0usize;
+    for part in text.split(',') {
+        sum = sum.wrapping_add(part.len());
     }
     sum
 }

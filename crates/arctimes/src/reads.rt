@@ -11,9 +11,6 @@ use std::hash::{DefaultHasher, Hash, Hasher};
 /// The text of each of many: 16 bytes.
 const TEXT: &str = "0123456789abcdef";
 
-/// The distance from a text to the next one that is read.
-const STEP: usize = 7919;
-
 /// Compares eight texts, each in its own block, with one more.
 pub(crate) fn run_comparisons<M: Machine>(rt: &M, request: &Request) -> Result<()> {
     let one = text(rt.alloc(), request)?;
@@ -77,7 +74,7 @@ fn mixed<M: Machine>(rt: &M, request: &Request) -> Result<Vec<ArcStr>> {
     let texts = many(rt.alloc(), TEXT, request.count)?;
     let mut handles = Vec::new(rt.alloc());
     for turn in 0..texts.len() {
-        let place = turn.wrapping_mul(STEP) % texts.len();
+        let place = turn.wrapping_mul(7919) % texts.len();
         handles.push(texts[place].clone(rt))?;
     }
     Ok(handles)

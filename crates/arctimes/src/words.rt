@@ -14,14 +14,11 @@ use std::{io, thread};
 const FEW_WORDS: &str =
     "the words of a text, \u{e4}\u{df}\u{4e2d} and\u{a0}spaces \u{1} of  two\ttexts\n";
 
-/// What a round finds for a text's words.
+/// What a round finds for a text's words: their number, found by std, their byte ranges, or slices of them.
 #[derive(Clone, Copy)]
 enum Found {
-    /// Their number, found by std.
     Count,
-    /// Their byte ranges.
     Places,
-    /// Slices of them.
     Slices,
 }
 
