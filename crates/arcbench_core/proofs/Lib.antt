@@ -1,8 +1,5 @@
-pub mod FirstLines
-pub mod ParsedNumbers
-pub mod WorkedExamples
-pub mod JoinedAnswers
 pub mod AnsweredLines
+pub mod KnownUtf8
 pub mod LineTexts
 pub mod TokensPrinted
-pub mod KnownUtf8
+pub mod WorkedExamples

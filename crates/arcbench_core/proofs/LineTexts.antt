@@ -1,21 +1,108 @@
--- A line has a step exactly if it is the text of the step.
-use Rattle.std.proofs.Common.{◌≡◌, ◌==◌, ◌⊎◌, inl, inr, ℕ, zero, suc, ◌^◌, ◌+◌, ◌<◌, ◌≤◌, Bool, true, false, not, if◌then◌else◌, List, [], ◌∷◌, ◌++◌}
-use Rattle.std.proofs.Common.{length, get_or, Option, None, Some, refl, sym, ap, ◌∙◌, arith}
-use Rattle.std.specs.Prelude.{codes, option_and_then, IfSome}
-use Rattle.std.specs.Fmt.{decimal}
-use Rattle.std.specs.List.{position_or_len}
-use Rattle.std.specs.Str.{bytes_eq}
-use Rattle.std.specs.Str.Parse.{digits_value}
-use Rattle.std.proofs.lemmas.Bool.{eqb-true, eq-eqb, ne_eqb, lt-ltb, not-false, cases_lt, and_parts}
-use Rattle.std.proofs.lemmas.Fmt.{decimal-digits_value, digits_decimal, digits_value-decimal, decimal_nonempty, first_decimal, decimal_digit}
-use Rattle.std.proofs.lemmas.List.Sums.{prefix_len_stops, split_at_first}
-use Rattle.std.proofs.lemmas.Slice.Eq.{bytes_eq-Decides}
+-- The lines of bytes, the numbers that `parse` reads, and the lines of steps: a line has a step exactly if it is the text of the step.
+use Rattle.std.proofs.Common.{◌≡◌, ◌==◌, ◌⊎◌, inl, inr, ℕ, ◌+◌, ◌<◌, ◌≤◌, Bool, false, not, List, [], ◌∷◌, length, refl, arith, zero, suc, ◌^◌, true}
+use Rattle.std.proofs.Common.{if◌then◌else◌, ◌++◌, get_or, Option, None, Some, Result, Ok, Err, ◌≢◌, sym, ap, ◌∙◌}
 use Rattle.std.proofs.Math.ListN.{drop_of_length-le}
+use Rattle.std.proofs.lemmas.Bool.{cases_lt, not-true, eqb-true, eq-eqb, ne_eqb, lt-ltb, ltb-true, not-false, and_parts}
+use Rattle.std.proofs.lemmas.Fmt.{IsAscii-from_digits, decimal-digits_value, digits_decimal, digits_value-decimal, decimal_nonempty, first_decimal}
+use Rattle.std.proofs.lemmas.Fmt.{decimal_digit}
+use Rattle.std.proofs.lemmas.List.{take_all}
+use Rattle.std.proofs.lemmas.List.Elements.{All-from_get_or}
+use Rattle.std.proofs.lemmas.List.Splits.{slice_split_first, slice_split_none, length-slice_split}
+use Rattle.std.proofs.lemmas.List.Sums.{prefix_len_passes, prefix_len_stops, split_at_first}
+use Rattle.std.proofs.lemmas.Slice.Eq.{bytes_eq-Decides}
+use Rattle.std.proofs.lemmas.Str.{IsUtf8-from_ascii}
+use Rattle.std.proofs.lemmas.Str.Parse.{IsNumeralModel, numerals_by_value, tells_all_ascii_digits, parse_plain}
+use Rattle.std.specs.Fmt.{decimal}
+use Rattle.std.specs.List.{slice_split, before_first, after_first, position_or_len, All}
+use Rattle.std.specs.Prelude.{codes, option_and_then, IfSome}
+use Rattle.std.specs.Result.{OkIff, result_ok}
+use Rattle.std.specs.Str.{all_ascii_digits, bytes_eq, IsUtf8}
+use Rattle.std.specs.Str.Parse.{digits_value, ParsesUnsigned}
 use Rattle.arcstr_count.specs.declared.steps.Step.{Step}
 use Rattle.arcstr_count.specs.declared.steps.Step.TheVariants.{Make, Look, Clone, Begin, Sub, Back, Leak, IntoRaw, FromRaw}
-use Rattle.arcbench_core.specs.Line.{space, zero_digit, command_part, after_command, is_decimal, has_idle_zero, number_of, step_named, step_of, limit_in}
+use Rattle.arcbench_core.specs.Line.{newline, without_empty_last, script_lines, plus_sign, space, zero_digit, command_part, after_command, is_decimal}
+use Rattle.arcbench_core.specs.Line.{has_idle_zero, number_of, step_named, step_of, limit_in}
 use Rattle.arcbench_core.specs.LineText.{line_text, limit_text, HasHandle}
-use Rattle.arcbench_core.proofs.ParsedNumbers.{own, is_decimal-true, from_is_decimal}
+
+-- ---- the first line
+
+-- a part before other parts is a line, empty or not
+without_empty_last-cons : (part : List ℕ) (parts : List (List ℕ)) → 0 < length parts → without_empty_last (part ∷ parts) ≡ part ∷ without_empty_last parts
+without_empty_last-cons part [] h = absurd (omega arith)
+without_empty_last-cons [] (next ∷ parts) h = refl
+without_empty_last-cons (b ∷ part) (next ∷ parts) h = refl
+
+-- a last part that is not empty is a line
+without_empty_last-one : (part : List ℕ) → 0 < length part → without_empty_last (part ∷ []) ≡ part ∷ []
+without_empty_last-one [] h = absurd (omega arith)
+without_empty_last-one (b ∷ part) h = refl
+
+-- no byte passes if the index of the first that does is past the end
+none_passes : (p : ℕ → Bool) (bytes : List ℕ) → length bytes ≤ position_or_len p bytes → All (λ b. p b ≡ false) bytes
+none_passes p bytes h =
+    All-from_get_or (λ b. p b ≡ false) bytes 0
+    (λ k in_bytes. not-true _ (prefix_len_passes (λ b. not (p b)) bytes k 0 (omega arith)))
+
+first_part_is_first_line : (p : ℕ → Bool) (bytes : List ℕ) → 0 < length bytes
+    → (position_or_len p bytes < length bytes) ⊎ (length bytes ≤ position_or_len p bytes)
+    → without_empty_last (slice_split p bytes) ≡ before_first p bytes ∷ without_empty_last (slice_split p (after_first p bytes))
+first_part_is_first_line p bytes h (inl there) =
+    let more : 0 < length (slice_split p (after_first p bytes)) = omega (arith, length-slice_split p (after_first p bytes)) in
+    rw (slice_split_first p bytes 0 there) (without_empty_last-cons _ _ more)
+first_part_is_first_line p bytes h (inr absent) =
+    let past : length bytes ≤ position_or_len p bytes + 1 = omega arith in
+    rw (slice_split_none p bytes (none_passes p bytes absent), take_all (position_or_len p bytes) bytes absent, drop_of_length-le bytes past)
+    (without_empty_last-one bytes h)
+
+pub script_lines-first : (bytes : List ℕ) → 0 < length bytes
+    → script_lines bytes ≡ before_first (λ b. b == newline) bytes ∷ script_lines (after_first (λ b. b == newline) bytes)
+script_lines-first bytes h = first_part_is_first_line (λ b. b == newline) bytes h (cases_lt (position_or_len (λ b. b == newline) bytes) (length bytes))
+
+-- bytes without a newline are one line
+pub script_lines-none : (bytes : List ℕ) → 0 < length bytes → position_or_len (λ b. b == newline) bytes ≡ length bytes → script_lines bytes ≡ bytes ∷ []
+script_lines-none bytes h absent =
+    let past : length bytes ≤ position_or_len (λ b. b == newline) bytes = omega (arith, absent) in
+    rw (slice_split_none (λ b. b == newline) bytes (none_passes (λ b. b == newline) bytes past)) (without_empty_last-one bytes h)
+
+-- the function whose proof uses this ruleset names it
+pub ruleset first_lines = (script_lines-first)
+
+-- ---- what `parse` returns for a NUMBER
+
+-- ASCII digits are the digits that `parse` knows
+own : IsNumeralModel (λ ds. all_ascii_digits ds ≡ true) (digits_value 10)
+own = numerals_by_value _ tells_all_ascii_digits
+
+is_decimal-true : (text : List ℕ) → (all_ascii_digits text ≡ true) × (0 < length text) × (digits_value 10 text < 2 ^ 64) → is_decimal text ≡ true
+is_decimal-true text h = rw (h.0, lt-ltb _ _ h.1, lt-ltb _ _ h.2) refl
+
+from_is_decimal : (text : List ℕ) → is_decimal text ≡ true → (all_ascii_digits text ≡ true) × (0 < length text) × (digits_value 10 text < 2 ^ 64)
+from_is_decimal text h =
+    let parts = and_parts _ _ h in
+    let prefix = and_parts _ _ parts.0 in
+    (prefix.0, ltb-true _ _ prefix.1, ltb-true _ _ parts.1)
+
+-- the value, if the text is decimal, according to `parse`
+decimal_by : (text : List ℕ) (b : Bool) → is_decimal text ≡ b → {E : Type 0} → (r : Result ℕ E)
+    → OkIff r ((all_ascii_digits text ≡ true) × (0 < length text) × (digits_value 10 text < 2 ^ 64)) (digits_value 10 text)
+    → result_ok r ≡ (if b then Some (digits_value 10 text) else None)
+decimal_by text true is (Ok x) h = ap Some h.1
+decimal_by text false is (Ok x) h = absurd (let e = is_decimal-true text h.0 in cc)
+decimal_by text true is (Err e) h = absurd (h (from_is_decimal text is))
+decimal_by text false is (Err e) h = refl
+
+pub decimal_from_parse : (text : List ℕ) → get_or text 0 0 ≢ plus_sign → {E : Type 0} → (r : Result ℕ E) → ParsesUnsigned 64 10 text r
+    → result_ok r ≡ (if is_decimal text then Some (digits_value 10 text) else None)
+decimal_from_parse text no_sign r h = decimal_by text (is_decimal text) refl r (parse_plain own 64 text r h no_sign)
+
+-- decimal digits are UTF-8
+no_decimal_by : (text : List ℕ) (b : Bool) → is_decimal text ≡ b → ¬ (IsUtf8 text) → None ≡ (if b then Some (digits_value 10 text) else None)
+no_decimal_by text true is not_text =
+    absurd (not_text (IsUtf8-from_ascii text (IsAscii-from_digits text (own.to text (from_is_decimal text is).0))))
+no_decimal_by text false is not_text = refl
+
+pub no_decimal : (text : List ℕ) → ¬ (IsUtf8 text) → None ≡ (if is_decimal text then Some (digits_value 10 text) else None)
+no_decimal text not_text = no_decimal_by text (is_decimal text) refl not_text
 
 -- ---- numbers
 
@@ -87,45 +174,34 @@ number_after line n e =
     let some : 0 < length (after_command line) = rw number.0 (decimal_nonempty n number.1) in
     command_and_rest line some ∙ ap (λ rest. command_part line ++ space ∷ rest) number.0
 
--- the commands of steps
-step_named-Some : (command : List ℕ) (h : ℕ) (step : Step) → step_named command h ≡ Some step → command ++ space ∷ decimal h ≡ line_text step
-step_named-Some command h step e =
-    elim (chosen (bytes_eq command (codes "look")) (Look h) step _ e) [
-      | inl c ↦ named (codes "look") c.0 ∙ ap line_text c.1
-      | inr e ↦
-          elim (chosen (bytes_eq command (codes "clone")) (Clone h) step _ e) [
-            | inl c ↦ named (codes "clone") c.0 ∙ ap line_text c.1
-            | inr e ↦
-                elim (chosen (bytes_eq command (codes "begin")) (Begin h) step _ e) [
-                  | inl c ↦ named (codes "begin") c.0 ∙ ap line_text c.1
-                  | inr e ↦
-                      elim (chosen (bytes_eq command (codes "sub")) (Sub h) step _ e) [
-                        | inl c ↦ named (codes "sub") c.0 ∙ ap line_text c.1
-                        | inr e ↦
-                            elim (chosen (bytes_eq command (codes "back")) (Back h) step _ e) [
-                              | inl c ↦ named (codes "back") c.0 ∙ ap line_text c.1
-                              | inr e ↦
-                                  elim (chosen (bytes_eq command (codes "leak")) (Leak h) step _ e) [
-                                    | inl c ↦ named (codes "leak") c.0 ∙ ap line_text c.1
-                                    | inr e ↦
-                                        elim (chosen (bytes_eq command (codes "raw")) (IntoRaw h) step _ e) [
-                                          | inl c ↦ named (codes "raw") c.0 ∙ ap line_text c.1
-                                          | inr e ↦
-                                              elim (chosen (bytes_eq command (codes "unraw")) (FromRaw h) step _ e) [
-                                                | inl c ↦ named (codes "unraw") c.0 ∙ ap line_text c.1
-                                                | inr e ↦
-                                                    absurd cc
-                                              ]
-                                        ]
-                                  ]
-                            ]
-                      ]
-                ]
-          ]
+-- the step of the first entry of a table that has this command
+abbrev step_in : List (List ℕ × Step) → List ℕ → Option Step
+step_in [] command = None
+step_in (entry ∷ rest) command = if bytes_eq command entry.0 then Some entry.1 else step_in rest command
+
+-- each entry has the command of its step, whose handle is `h`
+abbrev AreCommands : ℕ → List (List ℕ × Step) → Type 0
+AreCommands h [] = Unit {0}
+AreCommands h (entry ∷ rest) = (entry.0 ++ space ∷ decimal h ≡ line_text entry.1) × AreCommands h rest
+
+step_in-Some : (table : List (List ℕ × Step)) (command : List ℕ) (h : ℕ) (step : Step) → AreCommands h table → step_in table command ≡ Some step
+    → command ++ space ∷ decimal h ≡ line_text step
+step_in-Some [] command h step are e = absurd cc
+step_in-Some (entry ∷ rest) command h step are e =
+    elim (chosen (bytes_eq command entry.0) entry.1 step (step_in rest command) e) [
+      | inl c ↦ ap (λ w. w ++ space ∷ decimal h) (same_bytes command entry.0 c.0) ∙ are.0 ∙ ap line_text c.1
+      | inr e ↦ step_in-Some rest command h step are.1 e
     ]
-  where
-    named : (text : List ℕ) → bytes_eq command text ≡ true → command ++ space ∷ decimal h ≡ text ++ space ∷ decimal h
-    named text same = ap (λ w. w ++ space ∷ decimal h) (same_bytes command text same)
+
+commands : ℕ → List (List ℕ × Step)
+commands h =
+    (codes "look", Look h) ∷ (codes "clone", Clone h) ∷ (codes "begin", Begin h) ∷ (codes "sub", Sub h) ∷ (codes "back", Back h)
+    ∷ (codes "leak", Leak h) ∷ (codes "raw", IntoRaw h) ∷ (codes "unraw", FromRaw h) ∷ []
+
+step_named-Some : (command : List ℕ) (h : ℕ) (step : Step) → step_named command h ≡ Some step → command ++ space ∷ decimal h ≡ line_text step
+unfolding commands
+step_named-Some command h step e =
+    step_in-Some (commands h) command h step (refl, (refl, (refl, (refl, (refl, (refl, (refl, (refl, tt)))))))) e
 
 -- ---- lines
 
@@ -156,7 +232,8 @@ step_of-line_text (FromRaw n) h = rw (number_of-decimal n h) refl
 pub limit_in-Some : (line : List ℕ) (n : ℕ) → limit_in line ≡ Some n → line ≡ limit_text n
 limit_in-Some line n e = limit_by (bytes_eq (command_part line) (codes "limit")) refl e
   where
-    limit_by : (b : Bool) → bytes_eq (command_part line) (codes "limit") ≡ b → (if b then number_of (after_command line) else None) ≡ Some n → line ≡ limit_text n
+    limit_by : (b : Bool) → bytes_eq (command_part line) (codes "limit") ≡ b
+        → (if b then number_of (after_command line) else None) ≡ Some n → line ≡ limit_text n
     limit_by true same e = number_after line n e ∙ ap (λ w. w ++ space ∷ decimal n) (same_bytes (command_part line) (codes "limit") same)
     limit_by false same e = absurd cc
 

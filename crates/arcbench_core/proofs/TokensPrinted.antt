@@ -93,3 +93,8 @@ IsTokenAnswer-lists input start output texts read lists shown of_lines same_text
           printed ∙ ap (λ l. l ++ lines_of_lists 0 shown) empty ∙ ap (lines_of_lists 0) same_lists ∙ has.lines
           ∙ ap (λ l. lines_from 0 l has.words) same;
     }
+
+-- the functions whose proofs use these rulesets name them
+pub ruleset one_slice_more = (slice_lines-more, append_assoc)
+
+pub ruleset one_list_more = (lines_of_lists-more, append_assoc)

@@ -8,6 +8,8 @@ use Rattle.arcbench_core.specs.declared.program.Command.{Command}
 use Rattle.arcbench_core.specs.declared.program.Command.TheVariants.{Script, Threads, Tokens}
 use Rattle.arcbench_core.specs.declared.program.Fault.{Fault}
 use Rattle.arcbench_core.specs.declared.program.Fault.TheVariants.{Usage, LimitTooLarge, Memory, Io, NoThread, NotUtf8}
+use Rattle.arcbench_core.specs.declared.input.InputFault.{InputFault}
+use Rattle.arcbench_core.specs.declared.input.InputFault.TheVariants.{Memory as InputMemory, Io as InputIo}
 use Rattle.arcbench_core.specs.declared.script.CopyFault.{CopyFault}
 use Rattle.arcbench_core.specs.declared.script.CopyFault.TheVariants.{LimitTooLarge as CopyLimitTooLarge, Memory as CopyMemory, Io as CopyIo}
 use Rattle.arcbench_core.specs.ScriptRun.{WritesAnswer}
@@ -82,6 +84,11 @@ abbrev pub fault_of : CopyFault → Fault
 fault_of CopyLimitTooLarge = LimitTooLarge
 fault_of CopyMemory = Memory
 fault_of CopyIo = Io
+
+-- the fault of the program whose input was not read
+abbrev pub fault_of_input : InputFault → Fault
+fault_of_input InputMemory = Memory
+fault_of_input InputIo = Io
 
 -- the status of the program after a fault
 abbrev pub status_of : Fault → ℕ

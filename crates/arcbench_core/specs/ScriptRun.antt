@@ -3,6 +3,8 @@ use Rattle.std.specs.Prelude.{◌≡◌, ℕ, List, Option, Ok, codes}
 use Rattle.std.specs.Io.KnownBytes.{Appends}
 use Rattle.arcbench_core.specs.declared.script.CopyFault.{CopyFault}
 use Rattle.arcbench_core.specs.declared.script.CopyFault.TheVariants.{LimitTooLarge, Memory, Io}
+use Rattle.arcbench_core.specs.declared.input.InputFault.{InputFault}
+use Rattle.arcbench_core.specs.declared.input.InputFault.TheVariants.{Memory as InputMemory, Io as InputIo}
 use Rattle.arcstr_count.specs.declared.faults.RunFault.{RunFault}
 use Rattle.arcstr_count.specs.declared.faults.RunFault.TheVariants.{LimitTooLarge as RunLimitTooLarge, Memory as RunMemory}
 use Rattle.arcbench_core.specs.Script.{answer_to}
@@ -25,3 +27,8 @@ copy_fault_text Io = codes "io"
 abbrev pub copy_fault_from : RunFault → CopyFault
 copy_fault_from RunLimitTooLarge = LimitTooLarge
 copy_fault_from RunMemory = Memory
+
+-- the fault of a run whose script was not read
+abbrev pub copy_fault_of_input : InputFault → CopyFault
+copy_fault_of_input InputMemory = Memory
+copy_fault_of_input InputIo = Io

@@ -12,6 +12,7 @@ use std::str;
 /// assert_eq!(rt; number_of(b"64"), Some(64));
 /// assert_eq!(rt; number_of(b"064"), None);
 /// ```
+#[tactic(auto, using(crate::proofs::LineTexts::number_written, crate::proofs::LineTexts::number_read))]
 pub fn number_of(text: &[u8]) -> Option<u64>
     ensures value { result ≡ number_of text.now }
     ensures written { IfSome result (λ n. text.now ≡ decimal n) }
@@ -34,6 +35,7 @@ fn read_number(text: &[u8]) -> Option<u64>
 }
 
 /// The value of decimal digits, below `2^64`.
+#[tactic(auto, using(crate::proofs::LineTexts::decimal_from_parse, crate::proofs::LineTexts::no_decimal))]
 fn decimal_of(text: &[u8]) -> Option<u64>
     requires no_sign { slice_index text.now 0 ≢ plus_sign }
     ensures { result ≡ (if is_decimal text.now then Some (digits_value 10 text.now) else None) }

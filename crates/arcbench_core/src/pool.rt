@@ -145,19 +145,19 @@ pub fn callers<R: Threads + Wait + Sync, G: Gate + Sync>(
             let mut started: Vec<Worker<G>> = Vec::with_capacity(alloc, workers)?;
             for worker in 0..workers {
                 let promise = HandleOf { text, gate, worker };
-                let Ok(handle) = scope.spawn_with(promise, move || called(rt, text, worker, gate))
+                let Ok(handle) = scope.spawn_with(promise, move || clone_and_pass(rt, text, worker, gate))
                 else {
                     break;
                 };
                 started.push_reserved(handle);
             }
-            complete(join_all(rt, text, gate, started), workers)
+            check_all_started(join_all(rt, text, gate, started), workers)
         },
     )
 }
 
-/// What one worker does: clones the text, passes the gate, and returns the clone.
-fn called<R: Wait, G: Gate>(rt: &R, text: &ArcStr, worker: usize, gate: &G) -> ArcStr
+/// Does the work of one worker: clones the text, passes the gate, and returns the clone.
+fn clone_and_pass<R: Wait, G: Gate>(rt: &R, text: &ArcStr, worker: usize, gate: &G) -> ArcStr
     ensures same_text { result ≡ text.now }
     ensures passed { G.passed gate.now worker }
 {
@@ -191,8 +191,8 @@ fn join_all<'a, R: Threads, G: Gate>(
     }
 }
 
-/// The handles, if there is one for each worker; else the fault.
-fn complete(
+/// Returns the handles if there is one for each worker, and else the fault.
+fn check_all_started(
     handles: Result<Vec<ArcStr>, AllocError>,
     workers: usize,
 ) -> Result<Vec<ArcStr>, PoolFault>

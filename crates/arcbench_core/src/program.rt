@@ -7,10 +7,10 @@ ghost use Rattle.arcstr_count.specs.declared.faults.RunFault.TheVariants.{LimitT
 ghost use Rattle.arcbench_core.specs.Script.{answer_to};
 ghost use Rattle.arcbench_core.specs.Threads.{ReadSharedText, threads_answer};
 ghost use Rattle.arcbench_core.specs.TokenLines.{WritesTokens};
-ghost use Rattle.arcbench_core.specs.Program.{command_in, worker_count, fault_of, status_of, HasLawfulCount, IsDone, ReadsInput};
+ghost use Rattle.arcbench_core.specs.Program.{command_in, worker_count, fault_of, fault_of_input, status_of, HasLawfulCount, IsDone, ReadsInput};
 ghost use Rattle.arcbench_core.specs.Program.{IsForScript, IsForThreads, IsForTokens, IsFaultOfThreads, IsFaultOfTokens};
 
-use crate::input::read_to_end;
+use crate::input::{InputFault, read_to_end};
 use crate::numbers::number_of;
 use crate::pool::PoolFault;
 use crate::port::Port;
@@ -61,6 +61,17 @@ impl From<CopyFault> for Fault {
             CopyFault::LimitTooLarge => Fault::LimitTooLarge,
             CopyFault::Memory => Fault::Memory,
             CopyFault::Io => Fault::Io,
+        }
+    }
+}
+
+impl From<InputFault> for Fault {
+    ghost from_gives = { λ fault given. given ≡ fault_of_input fault };
+
+    fn from(fault: InputFault) -> Fault {
+        match fault {
+            InputFault::Memory => Fault::Memory,
+            InputFault::Io => Fault::Io,
         }
     }
 }

@@ -3,9 +3,9 @@ ghost use Rattle.std.specs.Prelude.{◌≡◌, ◌≢◌, ◌↔◌, ◌⊎◌, 
 ghost use Rattle.std.specs.Io.KnownBytes.{IsAtEnd};
 ghost use Rattle.arcstr_count.specs.declared.faults.RunFault.TheVariants.{LimitTooLarge as RunLimitTooLarge};
 ghost use Rattle.arcbench_core.specs.Script.{answer_to};
-ghost use Rattle.arcbench_core.specs.ScriptRun.{WritesAnswer, copy_fault_number, copy_fault_text, copy_fault_from};
+ghost use Rattle.arcbench_core.specs.ScriptRun.{WritesAnswer, copy_fault_from, copy_fault_number, copy_fault_of_input, copy_fault_text};
 
-use crate::input::read_to_end;
+use crate::input::{InputFault, read_to_end};
 pub use crate::numbers::number_of;
 use crate::port::Port;
 pub use answers::answer;
@@ -17,7 +17,6 @@ use std::io::{Read, Write};
 
 mod answers;
 mod line;
-mod reply;
 
 /// Why a script was not answered.
 ///
@@ -85,6 +84,17 @@ impl From<RunFault> for CopyFault {
         match fault {
             RunFault::LimitTooLarge => CopyFault::LimitTooLarge,
             RunFault::Memory => CopyFault::Memory,
+        }
+    }
+}
+
+impl From<InputFault> for CopyFault {
+    ghost from_gives = { λ fault given. given ≡ copy_fault_of_input fault };
+
+    fn from(fault: InputFault) -> CopyFault {
+        match fault {
+            InputFault::Memory => CopyFault::Memory,
+            InputFault::Io => CopyFault::Io,
         }
     }
 }

@@ -37,22 +37,22 @@ pub fn start<R: Threads + Wait + Sync>(
     start_with(rt, alloc, ArcStr::from_str(alloc, "foobar"), workers)
 }
 
-/// Starts callers of a text that was made; returns `Memory` if the text was not made.
+/// Starts callers of this text; returns `Memory` if there is none.
 fn start_with<R: Threads + Wait + Sync>(
     rt: &R,
     alloc: Global,
-    made: Result<ArcStr, TextFault>,
+    text: Result<ArcStr, TextFault>,
     workers: usize,
 ) -> Result<Vec<ArcStr>, PoolFault>
     requires workers { (1 ≤ workers) × (workers ≤ 64) }
-    requires shared_text { IfOk made (λ text. text.text ≡ shared_text) }
+    requires shared_text { IfOk text (λ text. text.text ≡ shared_text) }
     ensures one_each { IfOk result (λ handles. vec_len handles ≡ workers) }
     ensures shared_text { IfOk result (λ handles. ReadSharedText handles.items) }
-    ensures memory { OnErr made (result ≡ Err PoolFault.Memory) }
+    ensures memory { OnErr text (result ≡ Err PoolFault.Memory) }
 {
-    match made {
+    match text {
         Ok(text) => callers(rt, alloc, &text, workers, &OpenGate),
-        Err(_) => Err(PoolFault::Memory),
+        Err(TextFault::Length | TextFault::Memory | TextFault::Utf8(_)) => Err(PoolFault::Memory),
     }
 }
 
@@ -77,6 +77,7 @@ pub fn answer(alloc: Global, handles: Result<Vec<ArcStr>, PoolFault>) -> Result<
 }
 
 /// Appends the line of each worker, in the order of their handles.
+#[tactic(auto, using(crate::proofs::AnsweredLines::one_worker_more))]
 fn push_lines(out: &mut String, handles: &[ArcStr]) -> Result<(), AllocError>
     requires { ReadSharedText handles.now }
     ensures { OnOk result (string_bytes out.new ≡ string_bytes out.old ++ worker_lines (length handles.now)) }

@@ -99,6 +99,7 @@ fn first_line_of_text(text: &str) -> (&str, &str)
 }
 
 /// Appends the lines of all slices: those of each list under the list's number.
+#[tactic(auto, using(crate::proofs::TokensPrinted::one_list_more))]
 fn push_lists<A: Allocator>(out: &mut String<A>, lists: &[Vec<Substr>]) -> Result<(), AllocError>
     ensures { OnOk result (string_bytes out.new ≡ string_bytes out.old ++ lines_of_lists 0 lists.now) }
 {
@@ -109,6 +110,7 @@ fn push_lists<A: Allocator>(out: &mut String<A>, lists: &[Vec<Substr>]) -> Resul
 }
 
 /// Appends the lines of slices of one text.
+#[tactic(auto, using(crate::proofs::TokensPrinted::one_slice_more))]
 fn push_slices<A: Allocator>(
     out: &mut String<A>,
     number: usize,

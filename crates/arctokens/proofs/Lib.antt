@@ -1,12 +1,4 @@
-pub mod Characters
-pub mod OneList
-pub mod CharacterAt
-pub mod RunSteps
-pub mod OneKind
-pub mod WordRuns
+pub mod Pieces
+pub mod Runs
+pub mod TextWords
 pub mod WorkedExamples
-pub mod TokensBefore
-pub mod WorkerTurns
-pub mod PieceSteps
-pub mod TakenLists
-pub mod VisibleLanes

@@ -1,27 +1,14 @@
 //! The tokens of many texts, found by 1 to 64 workers.
 ghost use Rattle.std.specs.Prelude.{◌≤◌, IfOk};
+ghost use Rattle.arctokens.specs.Pieces.{ArePieces};
 ghost use Rattle.arctokens.specs.Tokens.{AreTokensOfEach};
 
-use crate::weaving::woven;
-use crate::workers::pieces_of_all;
+use crate::workers::{Gate, pieces_of_all};
 use arcstr::{ArcStr, Substr};
 use std::alloc::{AllocError, Global};
+use std::mem;
 use std::sync::Wait;
 use std::thread::Threads;
-
-/// A gate that each worker passes once, before its first text.
-///
-/// ```
-/// struct Open;
-/// impl Gate for Open {
-///     fn pass(&self, _worker: usize) {}
-/// }
-/// tokens_all_with(&rt, rt.alloc(), &[literal!("a b")], 2, &Open)?;
-/// ```
-pub trait Gate {
-    /// Called once for each worker, with its number, even if the worker has no text.
-    fn pass(&self, worker: usize);
-}
 
 /// A gate at which no worker waits.
 struct OpenGate;
@@ -83,5 +70,25 @@ pub fn tokens_all_with<R: Threads + Wait + Sync, G: Gate + Sync>(
     ensures { IfOk result (λ lists. AreTokensOfEach texts.now lists.items) }
 {
     let pieces = pieces_of_all(rt, alloc, texts, workers, gate)?;
-    woven(alloc, texts, workers, pieces)
+    in_order_of_texts(alloc, texts, workers, pieces)
+}
+
+/// Returns the lists of all pieces in the order of the texts, which the workers took in turn.
+fn in_order_of_texts(
+    alloc: Global,
+    texts: &[ArcStr],
+    workers: usize,
+    mut pieces: Vec<Vec<Vec<Substr>>>,
+) -> Result<Vec<Vec<Substr>>, AllocError>
+    requires some { 1 ≤ workers }
+    requires pieces { ArePieces texts.now workers pieces.items }
+    ensures { IfOk result (λ lists. AreTokensOfEach texts.now lists.items) }
+{
+    let mut lists = Vec::with_capacity(alloc, texts.len())?;
+    for number in 0..texts.len() {
+        let piece = &mut pieces[number % workers];
+        let list = mem::replace(&mut piece[number / workers], Vec::new(alloc));
+        lists.push_reserved(list);
+    }
+    Ok(lists)
 }

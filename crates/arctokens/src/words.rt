@@ -39,7 +39,7 @@ fn run_end(text: &str, from: usize, white: bool) -> usize
 {
     let mut at = from;
     while at < text.len() {
-        let passed = passed_at(text, at, white);
+        let passed = run_prefix(text, at, white);
         at += passed;
         if passed == LANES {
             continue;
@@ -55,7 +55,7 @@ fn run_end(text: &str, from: usize, white: bool) -> usize
 
 /// Returns how many bytes a run of the given kind can pass at once. In a run of white space, that is none. In a run of other characters, it is the number of
 /// visible ASCII characters at the start of the next vector.
-fn passed_at(text: &str, place: usize, white: bool) -> usize
+fn run_prefix(text: &str, place: usize, white: bool) -> usize
     requires inside { place < length text.now }
     requires boundary { IsCharBoundary text.now place }
     ensures alike { AreAlike text.now place (place + result) white }

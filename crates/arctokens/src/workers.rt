@@ -5,13 +5,26 @@ ghost use Rattle.arctokens.specs.Pieces.{ArePieces, IsPieceOf};
 ghost use Rattle.arctokens.specs.Tokens.{AreTokens};
 ghost use Rattle.arctokens.specs.Shares.{AreSharesOfFirst, IsPromiseOf, IsShare};
 
-use crate::many_texts::Gate;
 use crate::one_text::tokens;
 use arcstr::{ArcStr, Substr};
 use std::alloc::{AllocError, Global};
 use std::sync::Wait;
 use std::thread;
 use std::thread::{Promise, PromisedHandle, Threads};
+
+/// A gate that each worker passes once, before its first text.
+///
+/// ```
+/// struct Open;
+/// impl Gate for Open {
+///     fn pass(&self, _worker: usize) {}
+/// }
+/// tokens_all_with(&rt, rt.alloc(), &[literal!("a b")], 2, &Open)?;
+/// ```
+pub trait Gate {
+    /// Called once for each worker, with its number, even if the worker has no text.
+    fn pass(&self, worker: usize);
+}
 
 /// The lists of one worker's texts, or an allocation failure.
 type Piece = Result<Vec<Vec<Substr>>, AllocError>;

@@ -3,12 +3,12 @@ ghost use Rattle.std.specs.Prelude.{◌≡◌, ◌++◌, ◌∷◌, [], ◌↔�
 ghost use Rattle.arcstr_count.specs.declared.steps.Step.{Step};
 ghost use Rattle.arcstr_count.specs.Summary.{StandsFor};
 ghost use Rattle.arcbench_core.specs.Line.{newline, script_lines, step_of};
+ghost use Rattle.arcbench_core.specs.Reply.{reply_text};
 ghost use Rattle.arcbench_core.specs.Script.{answer_by, answer_to, answer_under, answers, bad_limit, history_with};
 
 use super::line::{first_line, limit_in, step_of};
-use super::reply::push_reply;
-use arcstr::count::{RunFault, World};
-use std::alloc::Allocator;
+use arcstr::count::{Reply, RunFault, World};
+use std::alloc::{AllocError, Allocator};
 
 /// Returns the answer to a script: `bad limit` if its first line sets no limit, else a line for each of the
 /// other lines, with the reply to its step or `bad`.
@@ -104,4 +104,28 @@ fn answer_line<A: Allocator + Copy>(
         return Err(RunFault::Memory);
     }
     Ok(())
+}
+
+/// Appends the text of a reply, without the end of its line.
+fn push_reply<A: Allocator>(out: &mut String<A>, reply: Reply) -> Result<(), AllocError>
+    ensures { OnOk result (string_bytes out.new ≡ string_bytes out.old ++ reply_text reply) }
+{
+    match reply {
+        Reply::Made(handle) => write!(out, "made {handle}"),
+        Reply::Count(count) => write!(out, "count {count}"),
+        Reply::Static => write!(out, "static"),
+        Reply::Handle(handle) => write!(out, "handle {handle}"),
+        Reply::Looked => write!(out, "looked"),
+        Reply::Ended => write!(out, "ended"),
+        Reply::Left => write!(out, "left"),
+        Reply::Owes => write!(out, "owes"),
+        Reply::Given => write!(out, "given"),
+        Reply::Marked => write!(out, "marked"),
+        Reply::Raw => write!(out, "raw"),
+        Reply::Unraw => write!(out, "unraw"),
+        Reply::Refused(fault) => {
+            let number = fault.number();
+            write!(out, "refused {number} {fault}")
+        }
+    }
 }

@@ -9,6 +9,7 @@ use crate::numbers::number_of;
 use arcstr::count::Step;
 
 /// The first line of bytes, and what comes after it.
+#[tactic(auto, using(crate::proofs::LineTexts::first_lines))]
 pub(crate) fn first_line(bytes: &[u8]) -> (&[u8], &[u8])
     requires { 0 < length bytes.now }
     ensures lines { script_lines bytes.now ≡ result.0.now ∷ script_lines result.1.now }
@@ -18,6 +19,7 @@ pub(crate) fn first_line(bytes: &[u8]) -> (&[u8], &[u8])
 }
 
 /// The limit that a first line `limit NUMBER` sets. Any other line sets none.
+#[tactic(auto, using(crate::proofs::LineTexts::limit_written))]
 pub(crate) fn limit_in(line: &[u8]) -> Option<u64>
     ensures value { result ≡ limit_in line.now }
     ensures written { IfSome result (λ n. line.now ≡ limit_text n) }

@@ -1,7 +1,7 @@
 use Rattle.std.proofs.Common.{lit<}
 use Rattle.std.proofs.lemmas.Str.Pattern.{split_once_first}
 use Rattle.arcbench_core.specs.Line.{newline}
-use Rattle.arcbench_core.proofs.FirstLines.{script_lines-first, script_lines-none}
+use Rattle.arcbench_core.proofs.LineTexts.{script_lines-first, script_lines-none}
 use Rattle.arcbench_core.proofs.tokens.first_line_of_text.Goals as goal
 
 pub returns-in-Some-clause-lines : goal.returns-in-Some-clause-lines

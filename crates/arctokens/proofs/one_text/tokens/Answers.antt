@@ -1,7 +1,7 @@
 use Rattle.std.proofs.Common.{ℕ, List, sym, subst}
 use Rattle.std.specs.Str.{IsUtf8}
 use Rattle.arctokens.specs.Runs.{IsFirstWord}
-use Rattle.arctokens.proofs.TokensBefore.{AreTokensBefore, AreTokensBefore-start, AreTokensBefore-push}
+use Rattle.arctokens.proofs.TextWords.{AreTokensBefore, AreTokensBefore-start, AreTokensBefore-push}
 use Rattle.arctokens.proofs.one_text.tokens.Goals as goal
 
 pub loop-word-init : goal.loop-word-init

@@ -1,5 +1,5 @@
 use Rattle.std.proofs.Common.{length, ◌-◌}
-use Rattle.arctokens.proofs.TokensBefore.{AreTokensBefore}
+use Rattle.arctokens.proofs.TextWords.{AreTokensBefore}
 use Rattle.arctokens.proofs.one_text.tokens.Given as goal
 
 abbrev pub invariant-loop-word : goal.invariant-loop-word

@@ -1,7 +1,7 @@
 use Rattle.std.proofs.Common.{◌≡◌, Bool, ◌+◌, ◌∙◌, sym, subst, get_or, rules}
 use Rattle.std.specs.Char.{is_whitespace}
 use Rattle.arctokens.specs.Runs.{IsCharacterBetween}
-use Rattle.arctokens.proofs.CharacterAt.{ascii_between, spelled_between}
+use Rattle.arctokens.proofs.Runs.{ascii_between, spelled_between}
 use Rattle.arctokens.proofs.words.character_at.Goals as goal
 
 pub returns-then-byte-lt128 : goal.returns-then-byte-lt128

@@ -1,5 +1,5 @@
 use Rattle.std.proofs.Common.{◌<◌, length, arith}
-use Rattle.arctokens.proofs.WordRuns.{IsFirstWord-runs, HasNoWord-run}
+use Rattle.arctokens.proofs.TextWords.{IsFirstWord-runs, HasNoWord-run}
 use Rattle.arctokens.proofs.words.next_word.Goals as goal
 
 pub returns-then-start-text-clause-none : goal.returns-then-start-text-clause-none

@@ -1,6 +1,6 @@
 use Rattle.std.proofs.Common.{take, drop, arith, w8}
 use Rattle.std.proofs.lemmas.Simd.{length-chunk, chunk-fits}
-use Rattle.arctokens.proofs.VisibleLanes.{lane_mask-others}
+use Rattle.arctokens.proofs.Runs.{lane_mask-others}
 use Rattle.arctokens.proofs.words.other_bytes.Goals as goal
 
 pub returns : goal.returns

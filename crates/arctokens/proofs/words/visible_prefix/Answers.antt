@@ -1,5 +1,5 @@
 use Rattle.std.proofs.Common.{◌+◌, ◌≤◌, length, arith}
-use Rattle.arctokens.proofs.VisibleLanes.{all_visible, some_visible}
+use Rattle.arctokens.proofs.Runs.{all_visible, some_visible}
 use Rattle.arctokens.proofs.words.visible_prefix.Goals as goal
 
 pub returns-then-others-eq0-clause-visible : goal.returns-then-others-eq0-clause-visible

@@ -1,5 +1,5 @@
 use Rattle.std.proofs.Common.{◌<◌, arith}
-use Rattle.arctokens.proofs.PieceSteps.{IsPieceBefore-more}
+use Rattle.arctokens.proofs.Pieces.{IsPieceBefore-more}
 use Rattle.arctokens.proofs.workers.piece_of.Goals as goal
 
 pub loop-number-preserved : goal.loop-number-preserved

@@ -1,5 +1,5 @@
 use Rattle.std.proofs.Common.{length, ◌-◌}
-use Rattle.arctokens.proofs.PieceSteps.{IsPieceBefore}
+use Rattle.arctokens.proofs.Pieces.{IsPieceBefore}
 use Rattle.arctokens.proofs.workers.piece_of.Given as goal
 
 abbrev pub invariant-loop-number : goal.invariant-loop-number

@@ -5,7 +5,7 @@ use Rattle.std.proofs.lemmas.Iterator.Consumers.{YieldsList-turn}
 use Rattle.arctokens.specs.Pieces.{ArePiecesOfFirst}
 use Rattle.arctokens.specs.Shares.{IsShare}
 use Rattle.arctokens.specs.declared.workers.Share.{Share}
-use Rattle.arctokens.proofs.PieceSteps.{ArePiecesOfFirst-more}
+use Rattle.arctokens.proofs.Pieces.{ArePiecesOfFirst-more}
 use Rattle.arctokens.proofs.workers.pieces_of_shares.Goals as goal
 
 -- the share and its piece belong to the next worker

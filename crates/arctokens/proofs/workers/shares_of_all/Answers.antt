@@ -1,7 +1,7 @@
 use Rattle.std.proofs.Common.{◌≡◌, ℕ, length, sym, subst, arith}
 use Rattle.std.proofs.lemmas.List.{length_push}
 use Rattle.arctokens.specs.Shares.{AreSharesOfFirst, IsShare}
-use Rattle.arctokens.proofs.PieceSteps.{AreSharesOfFirst-more}
+use Rattle.arctokens.proofs.Pieces.{AreSharesOfFirst-more}
 use Rattle.arctokens.proofs.workers.shares_of_all.Goals as goal
 
 -- the share belongs to the next worker

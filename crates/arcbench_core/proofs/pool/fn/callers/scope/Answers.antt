@@ -27,7 +27,7 @@ pub returns : goal.returns
 returns g c =
     let Same : _ → Type 0 = λ handle. handle ≡ c.captures.text.now in
     let Passed = g.G.Gate.passed c.captures.gate.now in
-    let from = c.complete.ensures.ok in
+    let from = c.check_all_started.ensures.ok in
     let known = c.join_all.ensures in
-    let found = handed_out c.join_all.result c.complete.result _ c.captures.workers Same Passed from known.one_each known.same_text known.all_passed in
+    let found = handed_out c.join_all.result c.check_all_started.result _ c.captures.workers Same Passed from known.one_each known.same_text known.all_passed in
     record { one_each = found.0; same_text = found.1; all_passed = found.2 }

@@ -1,5 +1,5 @@
-use Rattle.arctokens.proofs.RunSteps.{AreAlike-passed_none, AreAlike-visible}
-use Rattle.arctokens.proofs.words.passed_at.Goals as goal
+use Rattle.arctokens.proofs.Runs.{AreAlike-passed_none, AreAlike-visible}
+use Rattle.arctokens.proofs.words.run_prefix.Goals as goal
 
 pub returns-then-white-clause-alike : goal.returns-then-white-clause-alike
 returns-then-white-clause-alike c = AreAlike-passed_none c.args.text.now c.args.place c.args.white c.requires.boundary
