@@ -113,14 +113,20 @@ fn copy<K: Copied, T: Made, E: Into<Stop>, F: Fn(&K) -> Result<T, E>>(
 ) -> io::Result<()>
     requires { F.IsAlwaysCallable call }
 {
-    meter.again(line, || {
+    let once = ||
+        requires { F.IsAlwaysCallable call }
+    {
         let value = K::make(alloc)?;
-        retry(|| {
+        let copied = ||
+            requires { F.IsAlwaysCallable call }
+        {
             let ended = meter.compared(meter.counted(|| call(&value)), wanted);
             value.check_copied(1)?;
             ended
-        })
-    })
+        };
+        retry(copied)
+    };
+    meter.again(line, once)
 }
 
 /// Takes one of two handles on a text; a refusal returns it.

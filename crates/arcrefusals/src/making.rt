@@ -44,7 +44,10 @@ fn make<T: Made, E: Into<Stop>, F: Fn() -> Result<T, E>>(
 ) -> io::Result<()>
     requires { F.IsAlwaysCallable call }
 {
-    meter.again(line, || meter.compared(meter.counted(&call), wanted))
+    let once = ||
+        requires { F.IsAlwaysCallable call }
+    { meter.compared(meter.counted(&call), wanted) };
+    meter.again(line, once)
 }
 
 fn texts(meter: Meter, alloc: Global) -> io::Result<()> {

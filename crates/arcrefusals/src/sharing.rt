@@ -69,7 +69,8 @@ pub(crate) fn run<R: Sync + Threads + Wait>(rt: &R, meter: Meter, alloc: Global)
         retry(|| {
             let lists = meter.counted(|| tokens_all(rt, alloc, &texts, 2));
             let ended = meter.compared(lists, "abcde");
-            check_owners(&texts)?;
+            check_count(&texts[0], 1)?;
+            check_count(&texts[1], 1)?;
             ended
         })
     })?;
@@ -94,7 +95,8 @@ fn words_behind_a_gate<R: Sync + Threads + Wait>(
         let lists = meter.counted(|| tokens_all_with(rt, alloc, &texts, 3, &gate));
         check(Stop::Gate, gate.are(1) || lists.is_err() && gate.are(0))?;
         let ended = meter.compared(lists, "abcde");
-        check_owners(&texts)?;
+        check_count(&texts[0], 1)?;
+        check_count(&texts[1], 1)?;
         ended
     })
 }
@@ -131,12 +133,4 @@ impl Made for Vec<Vec<Substr>> {
         self[0].check("ab")?;
         self[1].check(wanted)
     }
-}
-
-/// Compares the count of each text with that of its owner alone.
-fn check_owners(texts: &[ArcStr]) -> Result<(), Stop> {
-    for text in texts {
-        check_count(text, 1)?;
-    }
-    Ok(())
 }
