@@ -166,7 +166,9 @@ fn owed_alone_beside(rt: HostRuntime) {
         .down()
         .0
     {
-        Down::Owes(owed) => owed.an_owed_block_has_no_borrowed_handle(&other).give_back(),
+        Down::Owes(owed) => owed
+            .an_owed_block_has_no_borrowed_handle(&other)
+            .give_back(),
         Down::Left | Down::Ended => {}
     }
 }
