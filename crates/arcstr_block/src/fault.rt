@@ -6,9 +6,8 @@ ghost use Rattle.arcstr_block.specs.declared.fault.TextFault.TheVariants.{Memory
 
 use std::alloc::{AllocError, AllocFailed};
 use std::error::Error;
-use std::fmt;
-use std::io;
 use std::io::ErrorKind;
+use std::{fmt, io};
 
 /// The least number of bytes that is too long for a block.
 pub(crate) const TOO_LONG: usize = (1 << 63) - 25;

@@ -52,6 +52,7 @@ impl<const LIMIT: u64, A: Allocator + Copy> Shared<LIMIT, A> {
 /// assert_eq!(rt; joined_len(&["a", "b"], ", "), Some(4));
 /// assert_eq!(rt; joined_len(&["a"], ", "), Some(1));
 /// ```
+#[tactic(auto, using(crate::proofs::Texts::joined_room, std::proofs::lemmas::List::take_all))]
 pub fn joined_len<S: AsStr>(texts: &[S], separator: &str) -> Option<usize>
     ensures { SomeIff result (length (join_by S.text separator.now texts.now) < 2 ^ 64) (length (join_by S.text separator.now texts.now)) }
 {
@@ -65,6 +66,7 @@ pub fn joined_len<S: AsStr>(texts: &[S], separator: &str) -> Option<usize>
 }
 
 /// Writes the texts from the first slot on, with the separator between each two.
+#[tactic(auto, using(crate::proofs::Texts::joined_room))]
 fn write_joined<S: AsStr>(bytes: &mut Slots<u8>, texts: &[S], separator: &str)
     requires { slots_len bytes.old ≡ length (join_by S.text separator.now texts.now) }
     ensures items { slots_items bytes.new ≡ join_by S.text separator.now texts.now }

@@ -41,7 +41,10 @@ impl<const LIMIT: u64, A: Allocator + Copy> Shared<LIMIT, A> {
     /// let (text, clone) = text.two_handles_have_two_seats(clone);
     /// assert_eq!(rt; (text.as_str(), clone.as_str()), ("aé", "aé"));
     /// ```
-    pub fn two_handles_have_two_seats(self, other: Shared<LIMIT, A>) -> (Shared<LIMIT, A>, Shared<LIMIT, A>)
+    pub fn two_handles_have_two_seats(
+        self,
+        other: Shared<LIMIT, A>,
+    ) -> (Shared<LIMIT, A>, Shared<LIMIT, A>)
         ensures first { result.0 ≡ self }
         ensures second { result.1 ≡ other }
         ensures apart { self.block ≡ other.block → self.seat ≢ other.seat }
@@ -81,7 +84,10 @@ impl<A: Allocator + Copy> Owed<A> {
     ///     Down::Left | Down::Ended => {}
     /// }
     /// ```
-    pub fn an_owed_block_has_no_handle<const LIMIT: u64>(self, other: Shared<LIMIT, A>) -> (Owed<A>, Shared<LIMIT, A>)
+    pub fn an_owed_block_has_no_handle<const LIMIT: u64>(
+        self,
+        other: Shared<LIMIT, A>,
+    ) -> (Owed<A>, Shared<LIMIT, A>)
         ensures first { result.0 ≡ self }
         ensures second { result.1 ≡ other }
         ensures alone { self.block ≢ other.block }
@@ -99,7 +105,10 @@ impl<A: Allocator + Copy> Owed<A> {
     ///     Down::Left | Down::Ended => {}
     /// }
     /// ```
-    pub fn an_owed_block_has_no_borrowed_handle<const LIMIT: u64>(self, handle: &Shared<LIMIT, A>) -> Owed<A>
+    pub fn an_owed_block_has_no_borrowed_handle<const LIMIT: u64>(
+        self,
+        handle: &Shared<LIMIT, A>,
+    ) -> Owed<A>
         ensures same { result ≡ self }
         ensures alone { self.block ≢ handle.now.block }
     {

@@ -301,9 +301,11 @@ impl<const LIMIT: u64, A: Allocator + Copy> Counted<LIMIT, A> {
         ensures clone { IfOk result (λ clone. IsCloneOf clone.pointer self.now.pointer) }
         ensures found { IfErr result (IsOtherWord LIMIT old) }
     {
-        let (found, gained) = self
-            .pointer
-            .clone_exchange(offset_of_word(self.len), old, word_after_clone(LIMIT, old));
+        let (found, gained) = self.pointer.clone_exchange(
+            offset_of_word(self.len),
+            old,
+            word_after_clone(LIMIT, old),
+        );
         if found == old || is_marked(found) {
             Ok(self.with_pointer(gained))
         } else {

@@ -1,20 +1,7 @@
--- There is room for each text, which comes after those before it.
+-- Each text comes after those before it.
 use Rattle.arcstr_block.proofs.Names.{◌≡◌, arith, sym, subst, ap, length, ◌+◌, ◌++◌, ◌∙◌, length-append, get_or, IsUtf8-append, join_by, take, IsUtf8}
-use Rattle.arcstr_block.proofs.Texts.{joined_more, joined_room}
+use Rattle.arcstr_block.proofs.Texts.{joined_more}
 use Rattle.arcstr_block.proofs.joining.write_joined.Goals as goal
-
-pub write-at-requires-clause-room : goal.write-at-requires-clause-room
-write-at-requires-clause-room g c =
-    let room = joined_room g.S.AsStr.text c.args.separator.now c.args.texts.now c.loop-i.i c.index-texts-i.result c.gap_before.result.now c.loop-i-test.true
-    c.gap_before.ensures.first c.gap_before.ensures.later in
-    omega (arith, room, c.loop-i.invariant.0.count, c.loop-i.invariant.1, c.requires)
-
-pub write-at-requires-in-loop-i-clause-room : goal.write-at-requires-in-loop-i-clause-room
-write-at-requires-in-loop-i-clause-room g c =
-    let room = joined_room g.S.AsStr.text c.args.separator.now c.args.texts.now c.loop-i.i c.index-texts-i.result c.gap_before.result.now c.loop-i-test.true
-    c.gap_before.ensures.first c.gap_before.ensures.later in
-    let text = ap length c.as_str-text.ensures ∙ ap (λ x. length (g.S.AsStr.text x)) c.index-texts-i.is in
-    omega (arith, room, text, c.write-at.ensures.end, c.write-at.ensures.places.count, c.loop-i.invariant.0.count, c.loop-i.invariant.1, c.requires)
 
 pub loop-i-preserved : goal.loop-i-preserved
 loop-i-preserved g c =

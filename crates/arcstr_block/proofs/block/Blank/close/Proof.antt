@@ -3,7 +3,7 @@ use Rattle.arcstr_block.proofs.Names.{◌≡◌, ℕ, ◌^◌, Bool, [], ◌∷�
 use Rattle.arcstr_block.proofs.Names.{ty_ptr, ty_struct, dcons, dnil, a_type, Val, has_ty, WT, fsep, full_share, emp, SProp, fact, fact_i, tables, Array, u8}
 use Rattle.arcstr_block.proofs.Names.{no, yes, part_at, param, bounded, RattleType, owns, block_of, Ptr, block_ptr, ptr_val, InBlock, count_of, at_block}
 use Rattle.arcstr_block.proofs.Names.{in_block, bytes, bytes_whole, types_at, plain, nothing, heard, calls_at_last, alive, Stays, stay_dropped, walk_of}
-use Rattle.arcstr_block.proofs.Names.{Goes-dropped, alloc_all, pass_all, free_all, look_at, get, get_in, sets, lands_last, env, is, ‵, ◌⊛◌, later, ◌$◌, ◌∵◌, !}
+use Rattle.arcstr_block.proofs.Names.{Goes-dropped, alloc_all, pass_all, free_all, look_at, get, get_in, sets, lands_last, env, is, !, ‵, ◌⊛◌, later, ◌$◌, ◌∵◌}
 use Rattle.arcstr_block.proofs.Names.{qed, move, use0, use1, split, join, fsplit, fjoin, fjoin3, fpick, fpack, await, raw, by, keep, fsplit3, given, drop}
 use Rattle.arcstr_block.proofs.Names.{learn, rewrite, feq_i, at_ret, sub, whole, agg, stop, fld, of_opd, no_more, and_then, first, blocks, exec, returns, enter}
 use Rattle.arcstr_block.proofs.Names.{tail, words_val, slots, owned, Filled, fm, leaves, proved, Fits, word_lies, length_lies, text_lies, rim}
