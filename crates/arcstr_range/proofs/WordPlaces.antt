@@ -72,12 +72,12 @@ words_at_word place word (c ∷ rest) black white some =
 -- ---- from std's cuts of bytes to cuts of characters
 
 -- a prefix of the characters' bytes that spells characters is a prefix of the characters
-record IsPrefixOf (cs prefix : List ℕ) (behind : List ℕ) : Type 0 where
+record PrefixOf (cs prefix : List ℕ) (behind : List ℕ) : Type 0 where
   pub rest : List ℕ
   pub split : cs ≡ prefix ++ rest
   pub spelled : encode_utf8_all rest ≡ behind
 
-prefix_of : (cs prefix behind : List ℕ) → encode_utf8_all cs ≡ encode_utf8_all prefix ++ behind → IsPrefixOf cs prefix behind
+prefix_of : (cs prefix behind : List ℕ) → encode_utf8_all cs ≡ encode_utf8_all prefix ++ behind → PrefixOf cs prefix behind
 prefix_of cs [] behind same = record { rest = cs; split = refl; spelled = same }
 prefix_of [] (f ∷ prefix) behind same =
     absurd (omega (arith, ap length same, length-append (encode_utf8 f ++ encode_utf8_all prefix) behind, length-append (encode_utf8 f) (encode_utf8_all prefix), length-encode f, (len_utf8_bounds f).0))
@@ -119,11 +119,11 @@ skip_word (c ∷ word) rest black some = skip_one c (word ++ rest) false (All-he
 module _ (view : View) (gap word behind more : List ℕ) (utf8 : IsUtf8 view.text) (split : view.text ≡ gap ++ (word ++ behind)) (some : 0 < length word)
     (white : NoCharPasses is_not_whitespace gap) (black : NoCharPasses is_whitespace word)
     (ends : 0 < length behind → (c : ℕ) × (is_whitespace c ≡ true) × (behind ≡ encode_utf8 c ++ more) × IsScalar c) where
-  after_gap : IsPrefixOf (chars view.text) white.0 (word ++ behind)
+  after_gap : PrefixOf (chars view.text) white.0 (word ++ behind)
   after_gap =
       prefix_of (chars view.text) white.0 (word ++ behind) (encodes-chars view.text utf8 ∙ split ∙ ap (λ (l : List ℕ). l ++ (word ++ behind)) (sym white.1))
 
-  after_word : IsPrefixOf after_gap.rest black.0 behind
+  after_word : PrefixOf after_gap.rest black.0 behind
   after_word = prefix_of after_gap.rest black.0 behind (after_gap.spelled ∙ ap (λ (l : List ℕ). l ++ behind) (sym black.1))
 
   characters : chars view.text ≡ white.0 ++ (black.0 ++ after_word.rest)

@@ -2,9 +2,8 @@
 ghost use Rattle.std.specs.Prelude.{◌≡◌, Some};
 
 use std::error::Error;
-use std::fmt;
-use std::io;
 use std::io::ErrorKind;
+use std::{fmt, io};
 
 /// Why a range is refused. The variants are in the order of the tests, and the first test that fails is reported. Its message is a short text, and it owns no
 /// memory. By `?` it becomes an `io::Error` or an `anyhow::Error`.
@@ -70,7 +69,7 @@ impl fmt::Display for RangeFault {
 
 impl Error for RangeFault {}
 
-/// So `?` works in a function that also does I/O.
+/// Lets `?` work in a function that also does I/O.
 impl From<RangeFault> for io::Error {
     ghost use Rattle.std.specs.Prelude.{◌≡◌};
     ghost use Rattle.std.specs.IoError.{error_kind};
