@@ -37,8 +37,10 @@ limits = refl
 scripts : Gives answer_to (
     (codes "limit 5\nmake\nclone 0\nlook 1\nbegin 0\nsub 0\nlook 1\n", Ok (codes "made 0\nhandle 1\ncount 2\nlooked\nleft\ncount 1\n"))
     ∷ (codes "limit 5\nmake\nlook 0\nlook  0\n\nmake 1\nlook 9\nlook 0", Ok (codes "made 0\ncount 1\nbad\nbad\nbad\nrefused 1 NoHandle\ncount 1\n"))
-    ∷ (codes "limit 5\nmake\nraw 0\nlook 0\nunraw 0\nleak 0\nclone 0\nbegin 1\nlook 0\nback 0\nmake\nbegin 2\nsub 2\nback 2\n",
-    Ok (codes "made 0\nraw\nrefused 5 IsRaw\nunraw\nmarked\nhandle 1\nended\nstatic\nrefused 4 NotOwing\nmade 2\nlooked\nowes\ngiven\n"))
+    ∷ (
+      codes "limit 5\nmake\nraw 0\nlook 0\nunraw 0\nleak 0\nclone 0\nbegin 1\nlook 0\nback 0\nmake\nbegin 2\nsub 2\nback 2\n",
+      Ok (codes "made 0\nraw\nrefused 5 IsRaw\nunraw\nmarked\nhandle 1\nended\nstatic\nrefused 4 NotOwing\nmade 2\nlooked\nowes\ngiven\n"),
+    )
     ∷ [])
 unfolding digits
 scripts = refl

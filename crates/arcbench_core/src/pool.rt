@@ -145,8 +145,10 @@ pub fn callers<R: Threads + Wait + Sync, G: Gate + Sync>(
             let mut started: Vec<Worker<G>> = Vec::with_capacity(alloc, workers)?;
             for worker in 0..workers {
                 let promise = HandleOf { text, gate, worker };
-                let Ok(handle) = scope.spawn_with(promise, move || clone_and_pass(rt, text, worker, gate))
-                else {
+                let Ok(handle) = scope.spawn_with(
+                    promise,
+                    move || clone_and_pass(rt, text, worker, gate),
+                ) else {
                     break;
                 };
                 started.push_reserved(handle);
