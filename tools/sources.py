@@ -58,16 +58,6 @@ def without_layout(code):
     return re.sub(r",?\s+(?=\))|\s+", "", code)
 
 
-def as_test(code):
-    """The code as a test has it, for a short proof: `check!` and `check_eq!` of its crate's `checks.rt` in place of `assert!` and `assert_eq!`, and
-    `expect` and `panic!`, which abort, in place of `?` and `return`. The assertion of the length of what is indexed stays: the index rests on it."""
-    indexed = "|".join(re.findall(r"\b(\w+)\[", code)) or "(?!)"
-    code = re.sub(rf"\bassert(_eq)?!\((?!rt; (?:{indexed})\.len\(\), )", r"check\1!(", code)
-    code = re.sub(r"\.ok_or\((\"[^\"]*\")\)\?", r".expect(&rt, \1)", code)
-    code = re.sub(r"return Err\(Fail::from\((\"[^\"]*\")\)\)", r"panic!(rt; \1)", code)
-    return "".join('.expect(&rt, "refused")' if bare == "?" else letter for bare, letter in zip(without_comments(code, literals=False), code))
-
-
 def listed_crates():
     """The crates that crates.txt lists, in its order."""
     lines = (ROOT / "crates.txt").read_text().splitlines()
