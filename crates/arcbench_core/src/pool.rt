@@ -130,8 +130,10 @@ pub fn callers<R: Threads + Wait + Sync, G: Gate + Sync>(
     gate: &G,
 ) -> Result<Vec<ArcStr>, PoolFault>
     requires { (1 ≤ workers) × (workers ≤ 64) }
+    // Promise: There is one handle for each worker, and each has the same text.
     ensures one_each { IfOk result (λ handles. vec_len handles ≡ workers) }
     ensures same_text { IfOk result (λ handles. (worker : ℕ) (d : _) → worker < workers → slice_index_or handles.items worker d ≡ text.now) }
+    // Promise: Each worker passes the gate with its number.
     ensures all_passed { OnOk result ((worker : ℕ) → worker < workers → G.passed gate.now worker) }
 {
     thread::scope(

@@ -76,6 +76,7 @@ impl<R: Read> Port<R> {
         ensures bound { ReadsAtMost result buf.new }
         ensures bytes { ReadConsumes (R.remaining self.old.value) (R.remaining self.new.value)
             result buf.new }
+        // Promise: The port remembers a fault.
         ensures failed { self.new.failed ≡ (self.old.failed || is_err result) }
     {
         let result = self.value.read(buf);
@@ -95,6 +96,7 @@ impl<W: Write> Port<W> {
     pub fn write_all(&mut self, bytes: &[u8]) -> io::Result<()>
         ensures bytes { OnOk result (Appends (W.contents self.old.value) (W.contents self.new.value)
             bytes.now) }
+        // Promise: The port remembers a fault.
         ensures failed { self.new.failed ≡ (self.old.failed || is_err result) }
     {
         let result = self.value.write_all(bytes);

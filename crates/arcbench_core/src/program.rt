@@ -107,24 +107,34 @@ where
     requires output_is_sound { output.old.failed ≡ false }
 
     ensures statuses { result ≤ 6 }
+    // Promise: Status 1 comes exactly for arguments that mean no command.
     ensures usage { (result ≡ 1) ↔ (command_in arguments.now ≡ None) }
+    // Promise: After status 0 the whole answer was written, and the input was read to its end.
     ensures done { result ≡ 0 → IfSome (command_in arguments.now) (λ command. IsDone command
         (R.remaining input.old.value) (W.contents output.old.value) (W.contents output.new.value)) }
     ensures at_end { result ≡ 0 → ReadsInput arguments.now → IsAtEnd (R.remaining input.new.value) }
+    // Promise: Status 2 comes only to `script`. Unless memory or a stream fails, it comes exactly if the script's limit is too large.
     ensures too_large { result ≢ 3 → result ≢ 4 → IsForScript arguments.now → IfSome (R.remaining input.old.value)
         (λ script. (result ≡ 2) ↔ (answer_to script ≡ Err LimitTooLarge)) }
     ensures too_large_of_scripts { result ≡ 2 → IsForScript arguments.now }
+    // Promise: Status 3 comes only to a command.
     ensures memory { result ≡ 3 → IsSome (command_in arguments.now) }
+    // Promise: Status 4 comes exactly if a port failed.
     ensures io { (result ≡ 4) ↔ (IsTrue input.new.failed ⊎ IsTrue output.new.failed) }
+    // Promise: Status 5 comes only to `threads`.
     ensures no_thread { result ≡ 5 → IsForThreads arguments.now }
+    // Promise: Status 6 comes only to `tokens`. Unless memory or a stream fails, it comes exactly if the input is not UTF-8.
     ensures not_utf8 { result ≢ 3 → result ≢ 4 → IsForTokens arguments.now → IfSome (R.remaining input.old.value)
         (λ bytes. (result ≡ 6) ↔ ¬ (IsUtf8 bytes)) }
     ensures not_utf8_of_tokens { result ≡ 6 → IsForTokens arguments.now }
 
     // What stays the same.
+    // Promise: A command without input reads none.
     ensures unread { ¬ (ReadsInput arguments.now) → input.new ≡ input.old }
+    // Promise: Nothing was written after a fault of reading, nor after other statuses than 0 and 4.
     ensures unwritten { result ≢ 0 → result ≢ 4 → output.new ≡ output.old }
     ensures unwritten_unread { IsTrue input.new.failed → output.new ≡ output.old }
+    // Promise: After status 0 no error was written.
     ensures silent { result ≡ 0 → errors.new ≡ errors.old }
 {
     let done = match command_of(arguments) {
@@ -143,6 +153,7 @@ where
 /// text, which counts as no command.
 ///
 /// ```
+/// use std::io::{self, ErrorKind};
 /// let mut errors = Vec::new(rt.alloc());
 /// let status = serve_without_words(&mut errors, &io::Error::from(ErrorKind::OutOfMemory));
 /// assert_eq!(rt; status, 3);

@@ -23,6 +23,7 @@ mod line;
 /// Plain data of 1 byte: it may be copied, sent and shared, and its drop does nothing.
 ///
 /// ```
+/// use arcstr::count::RunFault;
 /// assert_eq!(rt; CopyFault::from(RunFault::Memory), CopyFault::Memory);
 /// ```
 #[derive(Clone, Copy, Debug, PartialEq, Eq)]
@@ -125,12 +126,15 @@ pub fn copy<A: Allocator + Copy, R: Read, W: Write>(
         (λ script. WritesAnswer script (W.contents output.old.value) (W.contents output.new.value))) }
     ensures at_end { OnOk result (IsAtEnd (R.remaining input.new.value)) }
 
+    // Promise: `Io` comes exactly if a port failed.
     ensures io { (result ≡ Err CopyFault.Io) ↔ (IsTrue input.new.failed ⊎ IsTrue output.new.failed) }
+    // Promise: Unless memory or a stream fails, `LimitTooLarge` comes exactly if the script's limit is too large.
     ensures too_large { result ≢ Err CopyFault.Memory → result ≢ Err CopyFault.Io
         → IfSome (R.remaining input.old.value) (λ script.
         (result ≡ Err CopyFault.LimitTooLarge) ↔ (answer_to script ≡ Err RunLimitTooLarge)) }
 
     // Nothing was written after any fault except one of writing.
+    // Promise: Unless writing fails, a call that fails writes nothing.
     ensures unwritten { IfErr result (λ fault. fault ≢ CopyFault.Io → output.new ≡ output.old) }
     ensures unwritten_unread { IsTrue input.new.failed → output.new ≡ output.old }
 {

@@ -78,6 +78,7 @@ impl Interner<BuildHasherDefault<FoldHasher>> {
     /// ```
     pub fn with_capacity(alloc: Global, texts: usize) -> Result<Interner, InternFault>
         ensures empty { IfOk result (λ interner. interner ≡ []) }
+        // Promise: It fails only with `Memory`.
         ensures refused { IfErr result (λ fault. fault ≡ InternFault.Memory) }
     {
         let texts = IndexSet::with_capacity(alloc, texts)?;
@@ -89,6 +90,7 @@ impl<S: BuildHasher> Interner<S> {
     /// Makes an interner without texts, which hashes by `hash_builder`.
     ///
     /// ```
+    /// use std::hash::RandomState;
     /// let mut interner = Interner::with_hasher(rt.alloc(), RandomState::new(&rt)?);
     /// let symbol = interner.intern("foo")?;
     /// assert!(rt; interner.get("foo") == Some(symbol));

@@ -80,6 +80,7 @@ impl<S: BuildHasher + Drop> SharedInterner<S> {
     /// Makes an interner without texts, which hashes by `hash_builder`, and is as `new` makes it.
     ///
     /// ```
+    /// use std::hash::RandomState;
     /// let interner = SharedInterner::with_hasher(rt.alloc(), 8, RandomState::new(&rt)?)?;
     /// let symbol = interner.intern(&rt, "foo")?;
     /// assert!(rt; interner.text(&symbol).eq_str("foo"));

@@ -117,6 +117,7 @@ impl ArcStr {
     /// assert_eq!(rt; ArcStr::strong_count(&text), Some(2));
     /// ```
     pub fn clone(&self, rt: &impl Wait) -> ArcStr
+        // Promise: The clone is the same value.
         ensures { result ≡ self.now }
     {
         let form = match &self.form {
@@ -190,7 +191,9 @@ impl ArcStr {
     /// assert_eq!(rt; ArcStr::strong_count(&text), None);
     /// ```
     pub fn strong_count(this: &ArcStr) -> Option<usize>
+        // Promise: A count is from 1 to `RC_MAX + 1`.
         ensures counted { IfSome result (λ count. (1 ≤ count) × (count ≤ RC_MAX + 1)) }
+        // Promise: A literal or a permanent block has none.
         ensures never_static { IsStatic this.now.kind → IsNone result }
     {
         match &this.form {
@@ -227,6 +230,7 @@ impl ArcStr {
     /// assert_eq!(rt; kept.as_str(), "foo");
     /// ```
     pub fn leak(&self) -> StaticStr
+        // Promise: The text stays the same, and a literal stays a literal.
         ensures { result ≡ leaked self.now }
     {
         let text = match &self.form {
@@ -249,6 +253,7 @@ impl ArcStr {
     /// ```
     pub fn as_static(this: &ArcStr) -> Option<StaticStr>
         ensures same { IfSome result (λ kept. kept ≡ leaked this.now) }
+        // Promise: A literal or a permanent block always is.
         ensures always_static { IsStatic this.now.kind → IsSome result }
     {
         let text = match &this.form {
@@ -269,6 +274,7 @@ impl ArcStr {
     /// assert_eq!(rt; ArcStr::strong_count(&text), Some(1));
     /// ```
     pub fn into_raw(this: ArcStr) -> RawArcStr
+        // Promise: `from_raw` returns the same text.
         ensures { result ≡ this }
     {
         RawArcStr { text: this }
@@ -353,6 +359,7 @@ impl Clone for ArcStr {
     /// For a block, it tries the compare-exchange at most 1,000 times. Here `AllocError` means that other threads changed the count word each time; nothing
     /// has changed then. For a literal or a permanent block, the clone takes no atomic step and never fails.
     fn clone(&self) -> Result<ArcStr, AllocError>
+        // Promise: It never fails for a static text.
         ensures cases { MatchResult result (λ copy. copy ≡ self.now) (λ _. ¬ (IsStatic self.now.kind)) }
     {
         let form = match &self.form {

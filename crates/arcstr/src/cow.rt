@@ -13,6 +13,7 @@ impl ArcStr {
     /// Returns the text, borrowed from this handle.
     ///
     /// ```
+    /// use std::borrow::CowStr;
     /// let text = ArcStr::from_str(rt.alloc(), "foo")?;
     /// let cow = text.to_cow();
     /// assert_eq!(rt; cow.as_str(), "foo");
@@ -31,6 +32,7 @@ impl ArcStr {
     /// Returns the `ArcStr` itself if the allocation fails, and only then.
     ///
     /// ```
+    /// use std::borrow::CowStr;
     /// let borrowed = ArcStr::from_static("foo").into_cow(rt.alloc())?;
     /// assert!(rt; matches!(&borrowed, CowStr::Borrowed(_)));
     /// let copied = ArcStr::from_str(rt.alloc(), "foo")?.into_cow(rt.alloc())?;
@@ -38,8 +40,10 @@ impl ArcStr {
     /// ```
     pub fn into_cow(self, alloc: Global) -> Result<CowStr<'static>, ArcStr>
         ensures text { IfOk result (λ cow. cow_str_bytes cow ≡ self.text) }
+        // Promise: It borrows exactly the text of a literal, which always succeeds.
         ensures borrowed { IfOk result (λ cow. IsBorrowedStr cow ↔ (self.kind ≡ literal)) }
         ensures of_literal { self.kind ≡ literal → IsOk result }
+        // Promise: A refused call returns the value.
         ensures back { IfErr result (λ text. text ≡ self) }
     {
         if let Some(text) = self.literal_text() {

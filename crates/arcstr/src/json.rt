@@ -15,6 +15,7 @@ use std::fmt;
 /// size is one byte, and its drop does nothing.
 ///
 /// ```
+/// use serde_json::Value;
 /// let fault = ArcStr::from_json(rt.alloc(), &Value::from(12u8)).err();
 /// assert_eq!(rt; fault, Some(JsonFault::NotText));
 /// let shown = format!(in rt.alloc(); "{}", JsonFault::NotText)?;
@@ -110,6 +111,7 @@ impl ArcStr {
     /// Errors, in this order: `NotText` if the value is not a string; `Length` if the text has `2^63 - 25` bytes or more; `Memory` if the allocation fails.
     ///
     /// ```
+    /// use serde_json::Value;
     /// let value = Value::try_from_str(rt.alloc(), "foo")?;
     /// let text = ArcStr::from_json(rt.alloc(), &value)?;
     /// assert_eq!(rt; text.as_str(), "foo");
@@ -117,6 +119,7 @@ impl ArcStr {
     /// assert_eq!(rt; fault, Some(JsonFault::NotText));
     /// ```
     pub fn from_json(alloc: Global, value: &Value) -> Result<ArcStr, JsonFault>
+        // Promise: It fails with the first fault that applies.
         ensures { ReadsArcStr value.now result }
     {
         let Some(text) = value.as_str() else {

@@ -24,6 +24,7 @@ impl ArcStr {
     /// assert_eq!(rt; ArcStr::strong_count(&text), Some(1));
     /// ```
     pub fn from_str(alloc: Global, text: &str) -> Result<ArcStr, TextFault>
+        // Promise: An empty text is a literal. The call fails with `Length` exactly if the text is too long.
         ensures { AnswersCopy text.now result }
     {
         if text.is_empty() {
@@ -57,9 +58,12 @@ impl ArcStr {
     /// ```
     pub fn from_utf8(alloc: Global, bytes: &[u8]) -> Result<ArcStr, TextFault>
         ensures made { IfOk result (λ made. made ≡ made_of bytes.now) }
+        // Promise: Without bytes the text is the empty literal.
         ensures empty { bytes.now ≡ [] → result ≡ Ok (literal_of []) }
+        // Promise: Bytes that are not UTF-8 give `Utf8` with the length of their longest prefix that is.
         ensures text { OnOk result (IsUtf8 bytes.now) }
         ensures no_text { ¬ (IsUtf8 bytes.now) → IsErrOf result (TextFault.Utf8 (utf8_valid_len bytes.now)) }
+        // Promise: Bytes that are UTF-8 give `Length` exactly if they are too many.
         ensures too_long { IsUtf8 bytes.now → (IsErrOf result TextFault.Length ↔ IsTooLong (length bytes.now)) }
         ensures refused { IfErr result (IsFaultOfCopying bytes.now) }
     {
@@ -91,10 +95,12 @@ impl ArcStr {
     ) -> Result<ArcStr, TextFault>
         requires callable { (¬ IsTooLong n) → FnOnceTakesAtMut F.FnOnce fill (replicate n 0) }
         ensures left { IfOk result (λ made. FnOnceReturnsAtMut F.FnOnce fill (replicate n 0) tt made.text) }
+        // Promise: The text is UTF-8 and has the length that was asked for. An empty one is a literal.
         ensures text { IfOk result (λ made. IsUtf8 made.text) }
         ensures as_long { IfOk result (λ made. length made.text ≡ n) }
         ensures kind { IfOk result (λ made. made ≡ made_of made.text) }
         ensures empty { n ≡ 0 → result ≡ Ok (literal_of []) }
+        // Promise: The call fails with `Length` exactly if `n` is too long, and with `Utf8` only if the closure leaves no UTF-8.
         ensures too_long { IsErrOf result TextFault.Length ↔ IsTooLong n }
         ensures refused { IfErr result (IsFaultOfFilling (λ bytes. FnOnceReturnsAtMut F.FnOnce fill (replicate n 0) tt bytes) n) }
     {
@@ -120,6 +126,7 @@ impl ArcStr {
     /// ```
     #[tactic(auto, using(crate::proofs::Texts::copies_of_nothing))]
     pub fn try_repeat(alloc: Global, text: &str, n: usize) -> Result<ArcStr, TextFault>
+        // Promise: An empty text is a literal. The call fails with `Length` exactly if the text is too long.
         ensures { AnswersCopies n text.now result }
     {
         if n == 0 || text.is_empty() {
@@ -155,6 +162,7 @@ impl ArcStr {
     /// assert_eq!(rt; twice.as_str(), "usr/lib/éusr/lib/é");
     /// ```
     pub fn join<S: AsStr>(alloc: Global, texts: &[S], separator: &str) -> Result<ArcStr, TextFault>
+        // Promise: An empty text is a literal. The call fails with `Length` exactly if the text is too long.
         ensures { AnswersCopy (join_by S.text separator.now texts.now) result }
     {
         match joined_len(texts, separator) {
@@ -186,6 +194,7 @@ impl Substr {
     /// assert_eq!(rt; ArcStr::strong_count(&text), Some(1));
     /// ```
     pub fn to_arc_str(&self, alloc: Global) -> Result<ArcStr, TextFault>
+        // Promise: An empty text is a literal. The call fails with `Length` exactly if the text is too long.
         ensures { AnswersCopy (text_of self.now) result }
     {
         ArcStr::from_str(alloc, self.as_str())

@@ -46,6 +46,7 @@ impl ArcStr {
     /// ```
     pub fn view(&self) -> StrView<'_>
         ensures value { result ≡ view_at self.now.text 0 }
+        // Promise: It is found in the text.
         ensures found { IsFoundAt self.now.text result.text result.place }
     {
         StrView::whole(self.as_str())
@@ -65,6 +66,7 @@ impl ArcStr {
     /// ```
     #[inline]
     pub fn substr<R: Into<StrRange>>(&self, rt: &impl Wait, range: R) -> Result<Substr, RangeFault>
+        // Promise: The call succeeds exactly if the range is lawful, and otherwise returns the first fault.
         ensures { (given : StrRange) × R.converts range given
             × AnswersRange self.now.text (slice_of self.now) given result }
     {
@@ -82,6 +84,7 @@ impl ArcStr {
     /// assert_eq!(rt; slice.as_str(), "foo");
     /// ```
     pub fn try_substr_from(&self, rt: &impl Wait, view: StrView<'_>) -> Option<Substr>
+        // Promise: There is a slice exactly if the view is found in the text.
         ensures found { IsSome result ↔ IsFoundAt self.now.text view.entry.text view.entry.place }
         ensures value { IfSome result (IsSliceOfView (slice_of self.now) view.entry) }
     {
@@ -129,6 +132,7 @@ impl ArcStr {
         find: F,
     ) -> Result<Substr, RangeFault>
         requires { FnOnceTakesAt F.FnOnce find self.now.text }
+        // Promise: The call succeeds exactly if the offsets are equal or their range is lawful, and otherwise returns the first fault.
         ensures { (found : Range ℕ) × FnOnceReturnsAt F.FnOnce find self.now.text found
             × AnswersFoundRange self.now.text (slice_of self.now) found result }
     {

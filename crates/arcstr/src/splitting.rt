@@ -36,6 +36,7 @@ impl ArcStr {
         rt: &impl Wait,
         place: usize,
     ) -> Result<(Substr, Substr), RangeFault>
+        // Promise: The call succeeds exactly if the range is lawful, and otherwise returns the first fault.
         ensures { AnswersSplitAt self.now.text (slice_of self.now) place result }
     {
         let (start, end) = checked_ends(self.as_str(), StrRange::To(place))?;
@@ -65,8 +66,10 @@ impl ArcStr {
         requires { P.can_search separator }
         ensures texts { MatchOption result (P.find_in_gives separator self.now.text None)
             (λ parts. SplitsAroundMatch (P.find_in_gives separator) self.now.text (text_of parts.0) (text_of parts.1)) }
+        // Promise: The first slice starts where the text starts, and the second ends where the text ends.
         ensures before { IfSome result (λ parts. LiesAtStart (slice_of self.now) parts.0) }
         ensures after { IfSome result (λ parts. LiesAtEnd self.now.text (slice_of self.now) parts.1) }
+        // Promise: A text is split at a character exactly if it has that character, and the parts with it between them are the text.
         ensures at_a_character { IfSome (P.single_char separator) (λ character. FindsCharacter (P.find_in_gives separator) character
             → AnswersSplit self.now.text (slice_of self.now) character result) }
     {
@@ -93,6 +96,7 @@ impl ArcStr {
         requires { P.can_search separator }
         ensures texts { MatchOption result (P.rfind_in_gives separator self.now.text None)
             (λ parts. SplitsAroundMatch (P.rfind_in_gives separator) self.now.text (text_of parts.0) (text_of parts.1)) }
+        // Promise: The first slice starts where the text starts, and the second ends where the text ends.
         ensures before { IfSome result (λ parts. LiesAtStart (slice_of self.now) parts.0) }
         ensures after { IfSome result (λ parts. LiesAtEnd self.now.text (slice_of self.now) parts.1) }
     {
@@ -114,6 +118,7 @@ impl ArcStr {
         requires { P.can_search prefix }
         ensures text { MatchOption result (P.prefix_len_gives prefix self.now.text None)
             (λ rest. StripsPrefix (P.prefix_len_gives prefix) self.now.text (text_of rest)) }
+        // Promise: It ends where the text ends.
         ensures slice { IfSome result (LiesAtEnd self.now.text (slice_of self.now)) }
     {
         let rest = self.as_str().strip_prefix(prefix)?;
@@ -134,6 +139,7 @@ impl ArcStr {
         requires { P.can_search suffix }
         ensures text { MatchOption result (P.suffix_len_gives suffix self.now.text None)
             (λ rest. StripsSuffix (P.suffix_len_gives suffix) self.now.text (text_of rest)) }
+        // Promise: It starts where the text starts.
         ensures slice { IfSome result (LiesAtStart (slice_of self.now)) }
     {
         let rest = self.as_str().strip_suffix(suffix)?;

@@ -45,6 +45,11 @@ impl Model for Substr {
 
 impl Substr {
     /// Creates a new empty slice: that of the empty literal, from 0 to 0.
+    ///
+    /// ```
+    /// let slice = Substr::new();
+    /// assert!(rt; slice.is_empty());
+    /// ```
     pub fn new() -> Substr
         ensures { result ≡ empty_slice }
     {
@@ -115,13 +120,22 @@ impl Substr {
     pub fn range(&self) -> Range<usize>
         ensures start { result.start ≡ self.now.start }
         ensures end { result.end ≡ self.now.end }
+        // Promise: The range is in order, inside the parent's text and at character boundaries.
         ensures lawful { IsSoundSlice self.now }
     {
         self.start..self.end
     }
 
     /// Makes another slice with the same byte range of the same parent. Clones the parent's handle as `ArcStr::clone` does, and so can wait.
+    ///
+    /// ```
+    /// let slice = Substr::from_str(rt.alloc(), "foobar")?;
+    /// let again = slice.clone(&rt);
+    /// assert!(rt; again == slice);
+    /// assert_eq!(rt; ArcStr::strong_count(slice.parent()), Some(2));
+    /// ```
     pub fn clone(&self, rt: &impl Wait) -> Substr
+        // Promise: The clone is the same value.
         ensures { result ≡ self.now }
     {
         Substr {
@@ -132,6 +146,11 @@ impl Substr {
     }
 
     /// Returns the slice's own text: the parent's text between the two byte offsets.
+    ///
+    /// ```
+    /// let slice = literal!("foobar").substr(&rt, 3..)?;
+    /// assert_eq!(rt; slice.as_str(), "bar");
+    /// ```
     #[tactic(auto, using(arcstr_range::proofs::Boundaries::slices_by_characters))]
     pub fn as_str(&self) -> &str
         ensures text { result.now ≡ text_of self.now }
@@ -181,6 +200,7 @@ impl Clone for Substr {
 
     /// Makes another slice with the same byte range of the same parent. Clones the parent as `Clone` of `ArcStr` does, and so never waits.
     fn clone(&self) -> Result<Substr, AllocError>
+        // Promise: It never fails for a static text.
         ensures cases { MatchResult result (λ copy. copy ≡ self.now) (λ _. ¬ (IsStatic self.now.parent.kind)) }
     {
         Ok(Substr {

@@ -15,6 +15,7 @@ use std::marker::Model;
 /// the block stays.
 ///
 /// ```
+/// use std::alloc::Global;
 /// let text = Shared::<5, _>::from_text(rt.alloc(), "aé")?;
 /// let fixed: Fixed<Global> = text.mark();
 /// drop(text);

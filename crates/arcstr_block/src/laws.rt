@@ -155,6 +155,7 @@ impl<A: Allocator> Owed<A> {
     /// The law that a block is owed once. It returns both, in their order.
     ///
     /// ```
+    /// use std::alloc::Global;
     /// let give_both_back = |owed: Owed<Global>, other: Owed<Global>| {
     ///     let (owed, other) = owed.a_block_is_owed_once(other);
     ///     owed.give_back();

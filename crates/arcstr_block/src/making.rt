@@ -28,6 +28,7 @@ impl<const LIMIT: u64, A: Allocator + Copy> Shared<LIMIT, A> {
         requires limit { LIMIT ≤ RC_MAX }
         ensures made { IfOk result (λ made. made.text ≡ text.now) }
         ensures limit { IfOk result (λ made. made.limit ≡ LIMIT) }
+        // Promise: It fails with `Length` exactly if the text is too long, and otherwise only with `Memory`.
         ensures too_long { IsErrOf result TextFault.Length ↔ IsTooLong (length text.now) }
         ensures refused { IfErr result (IsFaultOfMaking (length text.now)) }
     {
@@ -62,8 +63,10 @@ impl<const LIMIT: u64, A: Allocator + Copy> Shared<LIMIT, A> {
         requires callable { (¬ IsTooLong n) → FnOnceTakesAtMut F.FnOnce fill (replicate n 0) }
         ensures made { IfOk result (λ made. FnOnceReturnsAtMut F.FnOnce fill (replicate n 0) tt made.text) }
         ensures limit { IfOk result (λ made. made.limit ≡ LIMIT) }
+        // Promise: The text is UTF-8 and has the length that was asked for.
         ensures as_long { IfOk result (λ made. length made.text ≡ n) }
         ensures text { IfOk result (λ made. IsUtf8 made.text) }
+        // Promise: It fails with `Length` exactly if the text is too long, and with `Utf8` only if the closure leaves no UTF-8.
         ensures too_long { IsErrOf result TextFault.Length ↔ IsTooLong n }
         ensures refused { IfErr result (IsFaultOfFilling (λ bytes. FnOnceReturnsAtMut F.FnOnce fill (replicate n 0) tt bytes) n) }
     {
@@ -94,6 +97,7 @@ impl<const LIMIT: u64, A: Allocator + Copy> Shared<LIMIT, A> {
         requires { LIMIT ≤ RC_MAX }
         ensures made { IfOk result (λ made. made.text ≡ repeat n text.now) }
         ensures limit { IfOk result (λ made. made.limit ≡ LIMIT) }
+        // Promise: It fails with `Length` exactly if the text is too long, and otherwise only with `Memory`.
         ensures too_long { IsErrOf result TextFault.Length ↔ IsTooLong (n * length text.now) }
         ensures refused { IfErr result (IsFaultOfMaking (n * length text.now)) }
     {

@@ -62,6 +62,7 @@ impl<A: Allocator> Owed<A> {
     /// The test `all_memory_is_given_back` checks that a heap has the memory again.
     ///
     /// ```
+    /// use linked_list_allocator::LocalHeap;
     /// let heap = LocalHeap::new(rt.alloc(), 4096)?;
     /// match Shared::<5, _>::from_text(&heap, "aé")?.down().0 {
     ///     Down::Owes(owed) => assert_eq!(rt; (owed.give_back(), heap.used()), ((), 0)),

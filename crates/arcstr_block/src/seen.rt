@@ -14,6 +14,7 @@ use std::marker::{Model, PhantomData};
 /// `history` lists the steps in their order, and `block` names the block: its history, and the seats of its handles.
 ///
 /// ```
+/// use std::mem::size_of_val;
 /// let text = Shared::<5, _>::from_text(rt.alloc(), "aé")?;
 /// let (count, seen) = text.look();
 /// assert_eq!(rt; (count, size_of_val(&seen)), (Some(1), 0));

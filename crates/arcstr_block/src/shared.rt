@@ -113,7 +113,9 @@ impl<const LIMIT: u64, A: Allocator + Copy> Shared<LIMIT, A> {
     /// assert_eq!(rt; text.look().0, None);
     /// ```
     pub fn look(&self) -> (Option<u64>, Seen)
+        // Promise: A count is from 1 to one above the limit.
         ensures count { IfSome result.0 (λ count. (0 < count) × (count ≤ LIMIT + 1)) }
+        // Promise: The count, or the mark, is what the history seen says.
         ensures seen { MatchOption result.0 (SawMark LIMIT result.1.history self.now.seat) (λ count. SawCount LIMIT result.1.history self.now.seat count) }
         ensures block { result.1.block ≡ self.now.block }
     {
@@ -132,6 +134,7 @@ impl<const LIMIT: u64, A: Allocator + Copy> Shared<LIMIT, A> {
     /// assert!(rt; text.fixed().0.is_some());
     /// ```
     pub fn fixed(&self) -> (Option<Fixed<A>>, Seen)
+        // Promise: It returns one exactly if the block is marked in the history seen.
         ensures kept { IfSome result.0 (λ fixed. fixed ≡ kept_of LIMIT self.now result.1.history) }
         ensures seen { MatchOption result.0 ((n : ℕ) × SawCount LIMIT result.1.history self.now.seat n) (λ _. SawMark LIMIT result.1.history self.now.seat) }
         ensures block { result.1.block ≡ self.now.block }
@@ -163,7 +166,9 @@ impl<const LIMIT: u64, A: Allocator + Copy> Shared<LIMIT, A> {
     /// assert_eq!(rt; fixed.as_str(), "aé");
     /// ```
     pub fn mark(&self) -> Fixed<A>
+        // Promise: The permanent block has the handle's text.
         ensures kept { result ≡ kept_of LIMIT self.now result.history }
+        // Promise: The mark is a step of the history seen.
         ensures step { SawLeak LIMIT result.history self.now.seat }
     {
         Fixed {
@@ -183,6 +188,7 @@ impl<const LIMIT: u64, A: Allocator + Copy> Shared<LIMIT, A> {
     /// assert_eq!(rt; (clone.as_str(), clone.look().0), ("aé", Some(2)));
     /// ```
     pub fn up<R: Wait>(&self, rt: &R) -> Shared<LIMIT, A>
+        // Promise: The clone has the same text, block and limit.
         ensures text { result.text ≡ self.now.text }
         ensures block { result.block ≡ self.now.block }
         ensures limit { result.limit ≡ LIMIT }
@@ -208,6 +214,7 @@ impl<const LIMIT: u64, A: Allocator + Copy> Shared<LIMIT, A> {
     /// assert!(rt; clone.is_some_and(|clone| clone.as_str() == "aé"));
     /// ```
     pub fn try_up(&self, tries: u32) -> Option<Shared<LIMIT, A>>
+        // Promise: The clone has the same text, block and limit.
         ensures text { IfSome result (λ clone. clone.text ≡ self.now.text) }
         ensures block { IfSome result (λ clone. clone.block ≡ self.now.block) }
         ensures limit { IfSome result (λ clone. clone.limit ≡ LIMIT) }
@@ -244,6 +251,7 @@ impl<const LIMIT: u64, A: Allocator + Copy> Shared<LIMIT, A> {
     /// }
     /// ```
     pub fn down(self) -> (Down<A>, Seen)
+        // Promise: The drop ends as the history seen says. Exactly the last handle owes the block.
         ensures seen { EndsAs LIMIT result.1.history self.seat result.0 }
         ensures owes { OwesAs self result.0 }
         ensures block { result.1.block ≡ self.block }

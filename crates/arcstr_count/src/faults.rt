@@ -13,7 +13,7 @@ use std::fmt;
 /// Takes 1 byte.
 ///
 /// ```
-/// let replies = count::run(rt.alloc(), 2, &[Step::Make, Step::Sub(0)])?;
+/// let replies = run(rt.alloc(), 2, &[Step::Make, Step::Sub(0)])?;
 /// let refused = Reply::Refused(StepFault::NotInDrop);
 /// assert_eq!(rt; replies.last(), Some(&refused));
 /// ```

@@ -15,7 +15,7 @@ use crate::words::Word;
 ///
 /// ```
 /// let steps = [Step::Make, Step::Clone(0), Step::Leak(1), Step::Begin(0)];
-/// count::every_interleaving(RC_MAX, &steps);
+/// every_interleaving(RC_MAX, &steps);
 /// ```
 pub fn every_interleaving(limit: u64, steps: &[Step])
     ensures laws { HoldsInEveryInterleaving limit steps.now }
@@ -31,15 +31,19 @@ pub fn every_interleaving(limit: u64, steps: &[Step])
 /// ```
 /// let history = [Step::Make, Step::Clone(0), Step::Begin(1)];
 /// let seats = [HandleState::Free, HandleState::Dropping];
-/// count::seats_are_counted(RC_MAX, &history, Word::from_bits(4), &seats);
+/// seats_are_counted(RC_MAX, &history, Word::from_bits(4), &seats);
 /// ```
 #[tactic(auto, using(crate::proofs::OneBlock::laws_of_seats))]
 pub fn seats_are_counted(limit: u64, history: &[Step], word: Word, seats: &[HandleState])
+    // Promise: While the block is unmarked, its count is the number of living handles.
     ensures counted { Keeps limit history.now word seats.now → IsFalse word.flag
         → word.count ≡ length (filter lives seats.now) }
+    // Promise: Once it is marked, its count is at least the number of dropping handles.
     ensures covered { Keeps limit history.now word seats.now → IsTrue word.flag
         → length (filter is_dropping seats.now) ≤ word.count }
+    // Promise: The count is at most one above the limit.
     ensures bounded { Keeps limit history.now word seats.now → word.count ≤ limit + 1 }
+    // Promise: At most one handle owes the block. The block is then unmarked, and no handle lives on it.
     ensures one_owes { Keeps limit history.now word seats.now → length (filter is_owing seats.now) ≤ 1 }
     ensures owed { Keeps limit history.now word seats.now → 0 < length (filter is_owing seats.now)
         → IsFalse word.flag × (word.count ≡ 0) × (length (filter lives seats.now) ≡ 0) }

@@ -20,7 +20,7 @@ use std::alloc::Allocator;
 ///
 /// ```
 /// let steps = [Step::Make, Step::Clone(0), Step::Look(1)];
-/// let replies = count::run(rt.alloc(), 2, &steps)?;
+/// let replies = run(rt.alloc(), 2, &steps)?;
 /// assert_eq!(rt; replies.last(), Some(&Reply::Count(2)));
 /// ```
 pub fn run<A: Allocator + Copy>(
@@ -28,12 +28,15 @@ pub fn run<A: Allocator + Copy>(
     limit: u64,
     steps: &[Step],
 ) -> Result<Vec<Reply, A>, RunFault>
+    // Promise: It fails with `LimitTooLarge` exactly if the limit is above `RC_MAX`.
     ensures too_large { (result ≡ Err RunFault.LimitTooLarge) ↔ (RC_MAX < limit) }
 
     // Each reply is the answer to its step after the steps before it.
+    // Promise: The steps before a step decide its reply.
     ensures replies { IfOk result (λ replies. AnswersEach limit steps.now replies.items) }
 
     // What holds after every prefix of the steps, for every block made in it.
+    // Promise: Every interleaving keeps the six laws.
     ensures laws { HoldsInEveryInterleaving limit steps.now }
 {
     every_interleaving(limit, steps);

@@ -11,7 +11,7 @@ use crate::faults::StepFault;
 ///
 /// ```
 /// let steps = [Step::Make, Step::Begin(0), Step::Sub(0)];
-/// let replies = count::run(rt.alloc(), 2, &steps)?;
+/// let replies = run(rt.alloc(), 2, &steps)?;
 /// assert_eq!(rt; replies.last(), Some(&Reply::Owes));
 /// ```
 #[derive(Clone, Copy, Debug, PartialEq, Eq)]
@@ -83,7 +83,7 @@ pub enum Reply {
 /// ```
 /// let history = [Step::Make, Step::Clone(0), Step::IntoRaw(1)];
 /// let seats = [HandleState::Free, HandleState::Raw];
-/// count::seats_are_counted(2, &history, Word::from_bits(4), &seats);
+/// seats_are_counted(2, &history, Word::from_bits(4), &seats);
 /// ```
 #[derive(Clone, Copy, Debug, PartialEq, Eq)]
 pub enum HandleState {

@@ -99,6 +99,7 @@ impl Word {
     /// ```
     pub fn count(self) -> u64
         ensures value { result ≡ self.count }
+        // Promise: It is below `2^63`.
         ensures range { result < 2 ^ 63 }
     {
         self.bits / 2
@@ -129,6 +130,7 @@ impl Word {
     /// ```
     pub fn cloned(self, limit: u64) -> Word
         requires { limit ≤ RC_MAX }
+        // Promise: A marked one stays as it was, one whose count is above the limit gets the flag, and any other one counts one more.
         ensures { result ≡ cloned_of limit self }
     {
         if self.marked() || self.count() > limit {

@@ -65,8 +65,10 @@ impl<A: Allocator + Copy> World<A> {
     /// assert!(rt; matches!(refused, Err(RunFault::LimitTooLarge)));
     /// ```
     pub fn new(alloc: A, limit: u64) -> Result<World<A>, RunFault>
+        // Promise: It fails exactly if the limit is above `RC_MAX`.
         ensures too_large { (result ≡ Err RunFault.LimitTooLarge) ↔ (RC_MAX < limit) }
         ensures made { limit ≤ RC_MAX → IsOk result }
+        // Promise: A new world stands for the empty history, with this limit.
         ensures fresh { IfOk result (λ world. (world.summary.limit ≡ limit) × StandsFor world []) }
     {
         if limit > RC_MAX {
@@ -91,13 +93,17 @@ impl<A: Allocator + Copy> World<A> {
     /// assert_eq!(rt; world.step(Step::Sub(0))?, refused);
     /// ```
     pub fn step(&mut self, step: Step) -> Result<Reply, RunFault>
+        // Promise: It answers as each history of the world says, and extends each by the step.
         ensures answers { IfOk result (Answers self.old step) }
         ensures stands { OnOk result (Follows self.old step self.new) }
+        // Promise: A refused step changes nothing.
         ensures refused { IfOk result (λ reply. IsRefusal reply → self.new ≡ self.old) }
 
+        // Promise: Only an accepted `Make` or `Clone` runs out of memory, which changes nothing.
         ensures memory { IfErr result (λ fault. (fault ≡ RunFault.Memory) × (self.new ≡ self.old)) }
         ensures memory_only_to_births { OnErr result (IsTrue (is_birth step) × IsAcceptedBy self.old step) }
 
+        // Promise: The limit stays the same.
         ensures limit { self.new.summary.limit ≡ self.old.summary.limit }
     {
         match step {

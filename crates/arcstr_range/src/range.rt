@@ -52,6 +52,7 @@ impl StrRange {
     /// ```
     #[tactic(auto, using(crate::proofs::Faults::refused_with))]
     pub fn ends(self, len: usize) -> Result<(usize, usize), RangeFault>
+        // Promise: They are in order and inside. Otherwise the call returns the first fault, which is never `OffBoundary`.
         ensures answer { let ends = ends_of self len in
             AnswersEnds ends (FitsLength len ends.0 ends.1) (IsFirstFault (length_rule len ends.0 ends.1)) result }
         ensures no_characters { result ≢ Err RangeFault.OffBoundary }

@@ -55,6 +55,7 @@ impl<'a> StrView<'a> {
     #[tactic(auto, using(crate::proofs::FoundParts::found_whole))]
     pub fn whole(text: &'a str) -> StrView<'a>
         ensures value { result ≡ view_at text.now 0 }
+        // Promise: It is found in its text.
         ensures found { IsFoundAt text.now result.text result.place }
     {
         StrView { text, place: 0 }
@@ -68,6 +69,7 @@ impl<'a> StrView<'a> {
     /// assert!(rt; StrView::at("abc", usize::MAX).is_none());
     /// ```
     pub fn at(text: &'a str, place: usize) -> Option<StrView<'a>>
+        // Promise: There is a view exactly if its end is at most `usize::MAX`.
         ensures some { IsSome result ↔ (place + length text.now ≤ usize.MAX) }
         ensures value { IfSome result (λ view. view ≡ view_at text.now place) }
     {
@@ -94,6 +96,7 @@ impl<'a> StrView<'a> {
     /// ```
     pub fn place(&self) -> usize
         ensures value { result ≡ self.now.place }
+        // Promise: The view's end is at most `usize::MAX`.
         ensures fits { end_of self.now ≤ usize.MAX }
     {
         self.place
@@ -123,8 +126,10 @@ impl<'a> StrView<'a> {
     /// ```
     #[tactic(auto, using(crate::proofs::FoundParts::found_part))]
     pub fn cut(&self, range: Range<usize>) -> Option<StrView<'a>>
+        // Promise: There is a part exactly if the offsets are in order, inside the text and at character boundaries.
         ensures some { IsSome result ↔ IsLawful self.now.text range.start range.end }
         ensures value { IfSome result (λ part. part ≡ part_of self.now range.start range.end) }
+        // Promise: It is found wherever the view is found.
         ensures found { IfSome result (IsFoundWith self.now) }
     {
         let start = range.start;
@@ -146,6 +151,7 @@ impl<'a> StrView<'a> {
     pub fn trim_start(&self) -> StrView<'a>
         ensures longest { TrimsStart self.now result }
         ensures text { result.text ≡ trim_start self.now.text }
+        // Promise: It is found wherever the view is found.
         ensures found { IsFoundWith self.now result }
     {
         let whole = self.text();
@@ -167,6 +173,7 @@ impl<'a> StrView<'a> {
     pub fn trim_end(&self) -> StrView<'a>
         ensures longest { TrimsEnd self.now result }
         ensures text { result.text ≡ trim_end self.now.text }
+        // Promise: It is found wherever the view is found.
         ensures found { IsFoundWith self.now result }
     {
         StrView {
@@ -185,6 +192,7 @@ impl<'a> StrView<'a> {
     pub fn trim(&self) -> StrView<'a>
         ensures longest { Trims self.now result }
         ensures text { result.text ≡ trim self.now.text }
+        // Promise: It is found wherever the view is found.
         ensures found { IsFoundWith self.now result }
     {
         self.trim_start().trim_end()

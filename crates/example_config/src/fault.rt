@@ -34,6 +34,7 @@ pub struct Refusal {
 }
 
 impl Refusal {
+    /// Makes the refusal of a part of a line, at the part's byte offset.
     pub fn at(part: &Substr, reason: Reason) -> Refusal
         ensures reason { result.reason ≡ reason }
         ensures place { result.place ≡ part.now.start }

@@ -268,3 +268,44 @@ fn tokens_fail_at_each_write(rt: HostRuntime) {
         check_eq!(rt; found.errors.as_slice(), IO.as_bytes());
     }
 }
+
+/// A script whose limit is too large.
+const TOO_LARGE_A_LIMIT: &str = "limit 4611686018427387904\nmake\n";
+
+/// Arguments are tested first. Then a fault of reading comes before a limit that is too large and before an input that is not UTF-8, and these
+/// come before a fault of writing.
+#[test]
+fn tells_the_first_of_two_faults(rt: HostRuntime) {
+    let none: &[&str] = &[];
+    let script: &[&str] = &["script"];
+    let tokens: &[&str] = &["tokens", "2"];
+    let fails_at = |read, write| FailsAt {
+        read,
+        write,
+        error: NEVER,
+    };
+    let rows = [
+        (none, TOO_LARGE_A_LIMIT.as_bytes(), fails_at(0, 0), 1, USAGE),
+        (
+            script,
+            TOO_LARGE_A_LIMIT.as_bytes(),
+            fails_at(9, NEVER),
+            4,
+            IO,
+        ),
+        (
+            script,
+            TOO_LARGE_A_LIMIT.as_bytes(),
+            fails_at(NEVER, 0),
+            2,
+            TOO_LARGE,
+        ),
+        (tokens, b"\xff foo", fails_at(1, NEVER), 4, IO),
+        (tokens, b"\xff foo", fails_at(NEVER, 0), 6, NOT_UTF8),
+        (tokens, b"\xff", NO_FAULT, 6, NOT_UTF8),
+    ];
+    for (arguments, input, at, status, line) in rows {
+        let found = run_on_bytes(&rt, arguments, input, at).expect(&rt, "no memory");
+        expect(&rt, &found, status, "", line);
+    }
+}

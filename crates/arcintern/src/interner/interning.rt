@@ -27,13 +27,19 @@ impl<S: BuildHasher> Interner<S> {
     /// ```
     pub fn intern(&mut self, word: &str) -> Result<Symbol, InternFault>
         ensures word { IfOk result (λ symbol. IsWordAt self.new symbol word.now) }
+        // Promise: A known word is never refused, and changes nothing.
         ensures known { HasWord self.old word.now → IsOk result }
         ensures same { HasWord self.old word.now → self.new ≡ self.old }
+        // Promise: A new word adds a copy at the end.
         ensures added { (¬ HasWord self.old word.now) → OnOk result (self.new ≡ self.old ++ made_of word.now ∷ []) }
+        // Promise: Each text keeps its symbol, and stands once.
         ensures kept { KeepsTexts self.old self.new }
         ensures once { HasEachOnce self.new }
+        // Promise: A refused call changes nothing.
         ensures refused { OnErr result (self.new ≡ self.old) }
+        // Promise: `Full` comes exactly for a new word in an interner with `MOST_TEXTS` texts.
         ensures full { IsErrOf result InternFault.Full ↔ ((¬ HasWord self.old word.now) × (MOST_TEXTS ≤ length self.old)) }
+        // Promise: `Length` comes exactly for a new word that is too long, in an interner that is not full.
         ensures too_long { IsErrOf result InternFault.Length ↔ ((¬ HasWord self.old word.now) × (length self.old < MOST_TEXTS) × IsTooLong (length word.now)) }
     {
         match self.find_or_room(word)? {
@@ -59,13 +65,19 @@ impl<S: BuildHasher> Interner<S> {
     /// ```
     pub fn intern_arc(&mut self, rt: &impl Wait, text: &ArcStr) -> Result<Symbol, InternFault>
         ensures word { IfOk result (λ symbol. IsWordAt self.new symbol text.now.text) }
+        // Promise: A known word is never refused, and changes nothing.
         ensures known { HasWord self.old text.now.text → IsOk result }
         ensures same { HasWord self.old text.now.text → self.new ≡ self.old }
+        // Promise: A new word adds a clone of the text at the end.
         ensures added { (¬ HasWord self.old text.now.text) → OnOk result (self.new ≡ self.old ++ text.now ∷ []) }
+        // Promise: Each text keeps its symbol, and stands once.
         ensures kept { KeepsTexts self.old self.new }
         ensures once { HasEachOnce self.new }
+        // Promise: A refused call changes nothing.
         ensures refused { OnErr result (self.new ≡ self.old) }
+        // Promise: `Full` comes exactly for a new word in an interner with `MOST_TEXTS` texts.
         ensures full { IsErrOf result InternFault.Full ↔ ((¬ HasWord self.old text.now.text) × (MOST_TEXTS ≤ length self.old)) }
+        // Promise: `Length` never comes.
         ensures never_too_long { ¬ (IsErrOf result InternFault.Length) }
     {
         match self.find_or_room(text.as_str())? {
@@ -87,15 +99,21 @@ impl<S: BuildHasher> Interner<S> {
     /// ```
     pub fn intern_substr(&mut self, rt: &impl Wait, slice: &Substr) -> Result<Symbol, InternFault>
         ensures word { IfOk result (λ symbol. IsWordAt self.new symbol (text_of slice.now)) }
+        // Promise: A known word is never refused, and changes nothing.
         ensures known { HasWord self.old (text_of slice.now) → IsOk result }
         ensures same { HasWord self.old (text_of slice.now) → self.new ≡ self.old }
+        // Promise: A new word adds one text at the end: a clone of a whole text, or a copy of a part.
         ensures added_whole { (¬ HasWord self.old (text_of slice.now)) → IsWhole slice.now → OnOk result (self.new ≡ self.old ++ slice.now.parent ∷ []) }
         ensures added_part { (¬ HasWord self.old (text_of slice.now)) → (¬ IsWhole slice.now)
             → OnOk result (self.new ≡ self.old ++ made_of (text_of slice.now) ∷ []) }
+        // Promise: Each text keeps its symbol, and stands once.
         ensures kept { KeepsTexts self.old self.new }
         ensures once { HasEachOnce self.new }
+        // Promise: A refused call changes nothing.
         ensures refused { OnErr result (self.new ≡ self.old) }
+        // Promise: `Full` comes exactly for a new word in an interner with `MOST_TEXTS` texts.
         ensures full { IsErrOf result InternFault.Full ↔ ((¬ HasWord self.old (text_of slice.now)) × (MOST_TEXTS ≤ length self.old)) }
+        // Promise: `Length` comes exactly for the copy of a new part that is too long, in an interner that is not full.
         ensures too_long_part { (¬ IsWhole slice.now) → (IsErrOf result InternFault.Length
             ↔ ((¬ HasWord self.old (text_of slice.now)) × (length self.old < MOST_TEXTS) × IsTooLong (length (text_of slice.now)))) }
         ensures never_too_long_whole { IsWhole slice.now → ¬ (IsErrOf result InternFault.Length) }

@@ -18,6 +18,7 @@ impl<S: BuildHasher> Interner<S> {
     /// assert!(rt; interner.get("fo").is_none());
     /// ```
     pub fn get(&self, word: &str) -> Option<Symbol>
+        // Promise: It finds exactly the words that are there, each of which stands once.
         ensures found { IsSome result ↔ HasWord self.now word.now }
         ensures word { IfSome result (λ symbol. IsWordAt self.now symbol word.now) }
         ensures once { HasEachOnce self.now }
@@ -37,6 +38,7 @@ impl<S: BuildHasher> Interner<S> {
     /// assert!(rt; Interner::new(rt.alloc()).resolve(symbol).is_none());
     /// ```
     pub fn resolve(&self, symbol: Symbol) -> Option<&ArcStr>
+        // Promise: It finds exactly the symbols that are there.
         ensures found { IsSome result ↔ (symbol < length self.now) }
         ensures text { option_copied result ≡ slice_get self.now symbol }
     {

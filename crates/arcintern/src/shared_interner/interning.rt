@@ -29,6 +29,7 @@ impl<S: BuildHasher> SharedInterner<S> {
     /// ```
     pub fn intern(&self, rt: &impl Wait, word: &str) -> Result<SharedSymbol, InternFault>
         ensures word { IfOk result (λ symbol. IsSymbolOfWord self.now symbol word.now) }
+        // Promise: `Length` comes only for a copy that is too long.
         ensures too_long { IsErrOf result InternFault.Length → IsTooLong (length word.now) }
     {
         self.find_or_add(rt, word, None)
@@ -47,6 +48,7 @@ impl<S: BuildHasher> SharedInterner<S> {
     /// ```
     pub fn intern_arc(&self, rt: &impl Wait, text: &ArcStr) -> Result<SharedSymbol, InternFault>
         ensures word { IfOk result (λ symbol. IsSymbolOfWord self.now symbol text.now.text) }
+        // Promise: `Length` never comes.
         ensures never_too_long { ¬ (IsErrOf result InternFault.Length) }
     {
         self.find_or_add(rt, text.as_str(), Some(text))
@@ -65,6 +67,7 @@ impl<S: BuildHasher> SharedInterner<S> {
     /// ```
     pub fn intern_substr(&self, rt: &impl Wait, slice: &Substr) -> Result<SharedSymbol, InternFault>
         ensures word { IfOk result (λ symbol. IsSymbolOfWord self.now symbol (text_of slice.now)) }
+        // Promise: `Length` comes only for a copy that is too long.
         ensures too_long { IsErrOf result InternFault.Length → IsTooLong (length (text_of slice.now)) }
         ensures never_too_long_whole { IsWhole slice.now → ¬ (IsErrOf result InternFault.Length) }
     {

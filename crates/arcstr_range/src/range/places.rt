@@ -32,6 +32,7 @@ pub fn is_boundary(text: &str, place: usize) -> bool
 /// assert_eq!(rt; cut, Err(RangeFault::OffBoundary));
 /// ```
 pub fn checked_ends(text: &str, range: StrRange) -> Result<(usize, usize), RangeFault>
+    // Promise: They are in order, inside the text and at character boundaries. Otherwise the call returns the first fault.
     ensures { AnswersEnds (ends_in text.now range) (IsLawfulRange text.now range) (IsFirstRangeFault text.now range) result }
 {
     let (start, end) = range.ends(text.len())?;
@@ -60,9 +61,11 @@ pub fn inner_ends(
     range: StrRange,
 ) -> Result<(usize, usize), RangeFault>
     requires { IsLawful parent.now outer.start outer.end }
+    // Promise: The range is summed into the parent. Its faults are those of the range in the substring.
     ensures answer { let own = cut parent.now outer.start outer.end in
         let ends = ends_in own range in
         AnswersEnds (outer.start + ends.0, outer.start + ends.1) (IsLawfulRange own range) (IsFirstRangeFault own range) result }
+    // Promise: The ends cut the same text from the parent, at character boundaries.
     ensures sound { IfOk result (λ ends. IsLawful parent.now ends.0 ends.1) }
     ensures same_text { let own = cut parent.now outer.start outer.end in
         IfOk result (λ ends. cut parent.now ends.0 ends.1 ≡ cut_by own range) }
@@ -83,8 +86,10 @@ pub fn inner_ends(
 /// ```
 #[tactic(auto, using(crate::proofs::Boundaries::slices_by_characters))]
 pub fn slice(text: &str, range: StrRange) -> Option<&str>
+    // Promise: There is a slice exactly if the range is lawful.
     ensures some { IsSome result ↔ IsLawfulRange text.now range }
     ensures value { IfSome result (λ part. part.now ≡ cut_by text.now range) }
+    // Promise: It has the characters between the ends.
     ensures characters { let ends = ends_in text.now range in
         IfSome result (λ part. SpellsBetween text.now ends.0 ends.1 part.now) }
 {

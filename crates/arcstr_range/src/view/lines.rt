@@ -49,6 +49,7 @@ impl<'a> StrView<'a> {
     pub fn lines(&self) -> Lines<'a>
         ensures value { result ≡ lines_of self.now }
         ensures texts { map (λ line. line.text) result ≡ lines self.now.text }
+        // Promise: Each part is found wherever the view is found.
         ensures found { AreFoundWith self.now result }
     {
         Lines {

@@ -24,6 +24,7 @@ impl<'a> StrView<'a> {
         P: Drop,
         requires { P.can_search pattern }
         ensures cases { MatchOption result (P.find_in_gives pattern self.now.text None) (MatchBeginsAt (P.find_in_gives pattern) self.now.text) }
+        // Promise: The offset is a character boundary.
         ensures boundary { IfSome result (IsCharBoundary self.now.text) }
     {
         self.text.find(pattern)
@@ -39,9 +40,11 @@ impl<'a> StrView<'a> {
     /// assert!(rt; StrView::whole("é").split_at(1).is_none());
     /// ```
     pub fn split_at(&self, place: usize) -> Option<(StrView<'a>, StrView<'a>)>
+        // Promise: There are parts exactly if the offset is a character boundary of the text.
         ensures some { IsSome result ↔ IsCharBoundary self.now.text place }
         ensures before { IfSome result (λ parts. parts.0 ≡ part_of self.now 0 place) }
         ensures after { IfSome result (λ parts. parts.1 ≡ part_of self.now place (length self.now.text)) }
+        // Promise: Each part is found wherever the view is found.
         ensures found { IfSome result (λ parts. IsFoundWith self.now parts.0 × IsFoundWith self.now parts.1) }
     {
         let (before, after) = self.text.split_at_checked(place)?;
@@ -63,8 +66,10 @@ impl<'a> StrView<'a> {
         requires { P.can_search separator }
         ensures texts { MatchOption result (P.find_in_gives separator self.now.text None)
             (λ parts. SplitsAroundMatch (P.find_in_gives separator) self.now.text parts.0.text parts.1.text) }
+        // Promise: The first part starts where the view starts, and the second ends where the view ends.
         ensures start { IfSome result (λ parts. parts.0.place ≡ self.now.place) }
         ensures end { IfSome result (λ parts. end_of parts.1 ≡ end_of self.now) }
+        // Promise: Each part is found wherever the view is found.
         ensures found { IfSome result (λ parts. IsFoundWith self.now parts.0 × IsFoundWith self.now parts.1) }
     {
         let (before, after) = self.text.split_once(separator)?;
@@ -86,8 +91,10 @@ impl<'a> StrView<'a> {
         requires { P.can_search separator }
         ensures texts { MatchOption result (P.rfind_in_gives separator self.now.text None)
             (λ parts. SplitsAroundMatch (P.rfind_in_gives separator) self.now.text parts.0.text parts.1.text) }
+        // Promise: The first part starts where the view starts, and the second ends where the view ends.
         ensures start { IfSome result (λ parts. parts.0.place ≡ self.now.place) }
         ensures end { IfSome result (λ parts. end_of parts.1 ≡ end_of self.now) }
+        // Promise: Each part is found wherever the view is found.
         ensures found { IfSome result (λ parts. IsFoundWith self.now parts.0 × IsFoundWith self.now parts.1) }
     {
         let (before, after) = self.text.rsplit_once(separator)?;
@@ -109,7 +116,9 @@ impl<'a> StrView<'a> {
         requires { P.can_search prefix }
         ensures text { MatchOption result (P.prefix_len_gives prefix self.now.text None)
             (λ rest. StripsPrefix (P.prefix_len_gives prefix) self.now.text rest.text) }
+        // Promise: It ends where the view ends.
         ensures end { IfSome result (λ rest. end_of rest ≡ end_of self.now) }
+        // Promise: It is found wherever the view is found.
         ensures found { IfSome result (IsFoundWith self.now) }
     {
         let rest = self.text.strip_prefix(prefix)?;
@@ -131,7 +140,9 @@ impl<'a> StrView<'a> {
         requires { P.can_search suffix }
         ensures text { MatchOption result (P.suffix_len_gives suffix self.now.text None)
             (λ rest. StripsSuffix (P.suffix_len_gives suffix) self.now.text rest.text) }
+        // Promise: It starts where the view starts.
         ensures start { IfSome result (λ rest. rest.place ≡ self.now.place) }
+        // Promise: It is found wherever the view is found.
         ensures found { IfSome result (IsFoundWith self.now) }
     {
         let rest = self.text.strip_suffix(suffix)?;

@@ -51,6 +51,7 @@ impl<'a> StrView<'a> {
     pub fn split(&self, separator: char) -> Split<'a>
         ensures value { result ≡ parts_at separator self.now }
         ensures texts { map (λ part. part.text) result ≡ texts_between (λ c. c == separator) self.now.text }
+        // Promise: Each part is found wherever the view is found.
         ensures found { AreFoundWith self.now result }
     {
         Split {

@@ -48,6 +48,7 @@ impl<'a> StrView<'a> {
     pub fn split_whitespace(&self) -> SplitWhitespace<'a>
         ensures value { result ≡ words_of self.now }
         ensures texts { map (λ word. word.text) result ≡ filter is_not_empty (texts_between is_whitespace self.now.text) }
+        // Promise: Each part is found wherever the view is found.
         ensures found { AreFoundWith self.now result }
     {
         SplitWhitespace {

@@ -85,6 +85,17 @@ fn a_leaked_text_reads_on_without_its_handles(rt: HostRuntime) {
 }
 
 #[test]
+fn a_literal_that_is_cloned_stays_a_literal(rt: HostRuntime) {
+    let mut text = literal!("Wow!");
+    for _ in 0..4 {
+        text = text.clone(&rt);
+    }
+    let kept = ArcStr::as_static(&text).expect(&rt, "not static");
+    check_text(&rt, kept.as_str(), "Wow!");
+    check_part(&rt, kept.literal(), Some("Wow!"));
+}
+
+#[test]
 fn a_static_text_gives_handles_again(rt: HostRuntime) {
     let kept = made(&rt, "foobar").leak();
     check!(rt; kept.is_static());

@@ -1,7 +1,8 @@
 //! Texts and slices as values of `serde_json`, and in structs that derive the traits of `serde`.
 use crate::tests::checks::{check, check_eq};
 use crate::tests::steps::{
-    check_copied, check_count, check_slice, check_text, made, many_digits, part,
+    check_copied, check_count, check_empty, check_nothing, check_slice, check_text, made,
+    many_digits, part,
 };
 use arcstr::{ArcStr, JsonFault, Substr, literal};
 use serde::{Deserialize, Serialize};
@@ -56,9 +57,33 @@ fn a_written_text_is_parsed_back(rt: HostRuntime) {
 
 #[test]
 fn other_values_are_no_texts(rt: HostRuntime) {
-    let number = Value::from(12u8);
-    check_eq!(rt; ArcStr::from_json(rt.alloc(), &number).err(), Some(JsonFault::NotText));
-    check_eq!(rt; Substr::from_json(rt.alloc(), &number).err(), Some(JsonFault::NotText));
+    for json in ["null", "true", "[]", "12"] {
+        let value = Value::from_str(rt.alloc(), json).expect(&rt, "not parsed");
+        check_eq!(rt; ArcStr::from_json(rt.alloc(), &value).err(), Some(JsonFault::NotText));
+        check_eq!(rt; Substr::from_json(rt.alloc(), &value).err(), Some(JsonFault::NotText));
+    }
+}
+
+#[test]
+fn an_empty_string_is_the_empty_text(rt: HostRuntime) {
+    let value = string(&rt, "");
+    check_empty(
+        &rt,
+        &ArcStr::from_json(rt.alloc(), &value).expect(&rt, "refused"),
+    );
+    check_nothing(
+        &rt,
+        &Substr::from_json(rt.alloc(), &value).expect(&rt, "refused"),
+    );
+}
+
+#[test]
+fn a_text_is_written_and_read_back(rt: HostRuntime) {
+    let text = made(&rt, "hi");
+    let value = text.to_json(rt.alloc()).expect(&rt, "no memory");
+    check_read(&rt, &value, "hi");
+    let read = ArcStr::from_json(rt.alloc(), &value).expect(&rt, "refused");
+    check!(rt; read == text);
 }
 
 #[test]

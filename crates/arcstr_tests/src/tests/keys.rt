@@ -26,6 +26,7 @@ fn map_of(rt: &(impl Abort + AllocGlobal), text: ArcStr) -> HashMap<ArcStr, u8> 
 fn a_hash_map_of_texts_is_read_by_a_str(rt: HostRuntime) {
     let map = map_of(&rt, made(&rt, "é"));
     check_eq!(rt; map.get("é"), Some(&1));
+    check_eq!(rt; map.get(&literal!("é")), Some(&1));
     check_eq!(rt; map.get(""), Some(&3));
     check_eq!(rt; map.get("bar"), None);
     // An index rests on this assertion.
@@ -82,6 +83,20 @@ fn a_sorted_set_of_texts_is_read_by_a_str(rt: HostRuntime) {
     check!(rt; !set.contains("e"));
     check!(rt; set.remove("é"));
     check_count(&rt, &text, Some(1));
+}
+
+#[test]
+fn a_sorted_set_is_walked_in_the_order_of_bytes(rt: HostRuntime) {
+    let mut set = BTreeSet::new(rt.alloc());
+    for text in ["é", "b", "ab", "Z", "a"] {
+        set.insert(made(&rt, text)).expect(&rt, "no memory");
+    }
+    let mut walked = String::new(rt.alloc());
+    for text in set.iter() {
+        walked.push_str(text.as_str()).expect(&rt, "no memory");
+        walked.push(' ').expect(&rt, "no memory");
+    }
+    check_eq!(rt; walked.as_str(), "Z a ab b é ");
 }
 
 /// Returns a map with this text and two literals as keys.

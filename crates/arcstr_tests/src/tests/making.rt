@@ -74,6 +74,7 @@ fn copies_are_joined(rt: HostRuntime) {
     check_made(&rt, ArcStr::try_repeat(rt.alloc(), "A", 10), "AAAAAAAAAA");
     check_made(&rt, ArcStr::try_repeat(rt.alloc(), "é", 2), "éé");
     check_made(&rt, ArcStr::repeat(rt.alloc(), "ab", 2), "abab");
+    check_made(&rt, ArcStr::try_repeat(rt.alloc(), "", usize::MAX), "");
 }
 
 fn check_not_repeated(

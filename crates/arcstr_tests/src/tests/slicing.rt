@@ -1,4 +1,4 @@
-use crate::tests::checks::check;
+use crate::tests::checks::{check, check_eq};
 use crate::tests::steps::{
     check_count, check_no_slice, check_nothing, check_part, check_slice, check_sliced, check_text,
     made, part,
@@ -17,11 +17,11 @@ fn slices_keep_their_parent(rt: HostRuntime) {
     check_slice(&rt, &tail, "cde", 2..5);
     check_text(&rt, tail.parent().as_str(), "abcde");
     check_count(&rt, &text, Some(2));
-}
-
-/// Asserts that `substr` of `aé` refuses the range with this fault.
-fn refuses<R: Into<StrRange>>(rt: &(impl Abort + Wait), range: R, wanted: RangeFault) {
-    check_no_slice(rt, literal!("aé").substr(rt, range), wanted);
+    let end = part(&rt, &text, 5..);
+    check_slice(&rt, &end, "", 5..5);
+    check_text(&rt, end.parent().as_str(), "abcde");
+    check_no_slice(&rt, text.substr(&rt, 6..), RangeFault::OutOfOrder);
+    check_sliced(&rt, literal!("12345").substr(&rt, 1..4), "234", 1..4);
 }
 
 /// Asserts the text and the byte range of the slice of `aé`.
@@ -32,20 +32,40 @@ fn gives<R: Into<StrRange>>(rt: &(impl Abort + Wait), range: R, text: &str, plac
 #[test]
 fn a_range_of_each_form_gives_its_slice(rt: HostRuntime) {
     gives(&rt, 3.., "", 3..3);
+    gives(&rt, ..0, "", 0..0);
     gives(&rt, ..1, "a", 0..1);
     gives(&rt, 1..3, "é", 1..3);
     gives(&rt, .., "aé", 0..3);
+    gives(&rt, 0..=0, "a", 0..1);
     gives(&rt, 3..=2, "", 3..3);
+    gives(&rt, ..=0, "a", 0..1);
     gives(&rt, ..=2, "aé", 0..3);
 }
 
 #[test]
 fn a_range_of_each_form_is_refused(rt: HostRuntime) {
-    refuses(&rt, 4.., RangeFault::OutOfOrder);
-    refuses(&rt, ..2, RangeFault::OffBoundary);
-    refuses(&rt, 2..2, RangeFault::OffBoundary);
-    refuses(&rt, MAX..=MAX, RangeFault::PastEnd);
-    refuses(&rt, ..=3, RangeFault::PastEnd);
+    let refused = [
+        (StrRange::From(2), RangeFault::OffBoundary),
+        (StrRange::From(4), RangeFault::OutOfOrder),
+        (StrRange::From(MAX), RangeFault::OutOfOrder),
+        (StrRange::To(2), RangeFault::OffBoundary),
+        (StrRange::To(4), RangeFault::PastEnd),
+        (StrRange::To(MAX), RangeFault::PastEnd),
+        (StrRange::Between(0, 2), RangeFault::OffBoundary),
+        (StrRange::Between(2, 2), RangeFault::OffBoundary),
+        (StrRange::Between(2, 1), RangeFault::OutOfOrder),
+        (StrRange::Between(9, 8), RangeFault::OutOfOrder),
+        (StrRange::Between(0, 4), RangeFault::PastEnd),
+        (StrRange::Between(MAX, MAX), RangeFault::PastEnd),
+        (StrRange::Inclusive(1, 1), RangeFault::OffBoundary),
+        (StrRange::Inclusive(4, 2), RangeFault::OutOfOrder),
+        (StrRange::Inclusive(MAX, 0), RangeFault::OutOfOrder),
+        (StrRange::Inclusive(MAX, MAX), RangeFault::PastEnd),
+        (StrRange::ToInclusive(3), RangeFault::PastEnd),
+    ];
+    for (range, fault) in refused {
+        check_no_slice(&rt, literal!("aé").substr(&rt, range), fault);
+    }
 }
 
 #[test]
@@ -53,7 +73,10 @@ fn a_part_is_read_without_a_handle(rt: HostRuntime) {
     let text = literal!("foobarbaz");
     let bar = text.get(StrRange::Between(3, 6));
     check_part(&rt, bar, Some("bar"));
-    check_part(&rt, literal!("aé").get(..2), None);
+    let text = made(&rt, "aé");
+    check_part(&rt, text.get(1..3), Some("é"));
+    check_part(&rt, text.get(0..2), None);
+    check_part(&rt, text.get(2..2), None);
 }
 
 /// Returns the slice `bar` of `foobarbaz`.
@@ -68,6 +91,11 @@ fn a_slice_of_a_slice_keeps_the_parent(rt: HostRuntime) {
     check_text(&rt, inner.parent().as_str(), "foobarbaz");
     check_no_slice(&rt, bar(&rt).substr(&rt, 0..5), RangeFault::PastEnd);
     check_part(&rt, bar(&rt).get(0..5), None);
+    let nothing = bar(&rt).substr(&rt, 2..2).expect(&rt, "no slice");
+    check_slice(&rt, &nothing, "", 5..5);
+    check_text(&rt, nothing.parent().as_str(), "foobarbaz");
+    let tail = part(&rt, &literal!("foobarbaz"), 3..);
+    check_sliced(&rt, tail.substr(&rt, 1..5), "arba", 4..8);
 }
 
 /// Returns the slice of the text that a view of `shown` at `place` shows, if there is one.
@@ -84,6 +112,25 @@ fn an_empty_view_is_found_everywhere(rt: HostRuntime) {
         check_nothing(&rt, &slice.expect(&rt, "not found"));
     }
     check_nothing(&rt, &text.substr_from(&rt, StrView::whole("")));
+}
+
+#[test]
+fn a_view_is_found_where_its_text_stands(rt: HostRuntime) {
+    let rows = [
+        ("abab", "b", 3, Some(3..4)),
+        ("abab", "ab", 2, Some(2..4)),
+        ("abab", "ab", 1, None),
+        ("abab", "ab", 3, None),
+        ("abab", "a", MAX - 1, None),
+        ("aé", "é", 1, Some(1..3)),
+        ("aé", "é", 0, None),
+        ("   abc", "abc", 0, None),
+    ];
+    for (text, shown, place, range) in rows {
+        let slice = found(&rt, &made(&rt, text), shown, place);
+        check_eq!(rt; slice.map(|slice| slice.range()), range);
+    }
+    check!(rt; StrView::at("abc", MAX).is_none());
 }
 
 #[test]
@@ -109,13 +156,31 @@ fn a_view_is_not_found_past_the_own_text(rt: HostRuntime) {
         let view = StrView::at(shown, place).expect(&rt, "no view");
         check!(rt; bar(&rt).try_substr_from(&rt, view).is_none());
     }
+    let own = bar(&rt).try_substr_from(&rt, StrView::whole("bar"));
+    check_slice(&rt, &own.expect(&rt, "not found"), "bar", 3..6);
 }
 
 #[test]
 fn places_of_the_own_text_give_all_of_it(rt: HostRuntime) {
     check_sliced(&rt, bar(&rt).substr_using(&rt, |_| 0..3), "bar", 3..6);
     check_sliced(&rt, bar(&rt).try_substr_using(&rt, |_| 0..3), "bar", 3..6);
-    check_no_slice(&rt, bar(&rt).substr_using(&rt, |_| 0..9), RangeFault::PastEnd);
+    check_no_slice(
+        &rt,
+        bar(&rt).substr_using(&rt, |_| 0..9),
+        RangeFault::PastEnd,
+    );
+}
+
+#[test]
+fn a_closure_gives_its_range_or_is_refused(rt: HostRuntime) {
+    let padded = made(&rt, "   abc");
+    check_sliced(&rt, padded.substr_using(&rt, |_| 3..6), "abc", 3..6);
+    let text = made(&rt, "abc");
+    check_sliced(&rt, text.try_substr_using(&rt, |_| 1..3), "bc", 1..3);
+    let reversed = text.try_substr_using(&rt, |_| 2..1);
+    check_no_slice(&rt, reversed, RangeFault::OutOfOrder);
+    let inside = literal!("aé").substr_using(&rt, |_| 1..2);
+    check_no_slice(&rt, inside, RangeFault::OffBoundary);
 }
 
 /// Asserts that the answer is `Substr::new()`.

@@ -13,26 +13,28 @@ fn found<R: Into<StrRange> + Drop>(text: &str, range: R) -> Result<(usize, usize
 }
 
 #[test]
-fn ends_are_at_most_the_length(rt: HostRuntime) {
-    check_eq!(rt; StrRange::To(WIDE).ends(10), Err(RangeFault::PastEnd));
-    check_eq!(rt; StrRange::To(10).ends(10), Ok((0, 10)));
-    check_eq!(rt; StrRange::To(MAX).ends(MAX), Ok((0, MAX)));
-}
-
-#[test]
-fn inclusive_ends_do_not_wrap(rt: HostRuntime) {
-    check_eq!(rt;
-        StrRange::ToInclusive(MAX).ends(10),
-        Err(RangeFault::PastEnd)
-    );
-    check_eq!(rt;
-        StrRange::ToInclusive(MAX).ends(MAX),
-        Err(RangeFault::PastEnd)
-    );
-    check_eq!(rt;
-        StrRange::Inclusive(MAX, MAX).ends(MAX),
-        Err(RangeFault::PastEnd)
-    );
+fn ends_have_the_width_of_usize_and_do_not_wrap(rt: HostRuntime) {
+    let rows = [
+        (StrRange::Full, WIDE - 1, Ok((0, WIDE - 1))),
+        (StrRange::Full, WIDE, Ok((0, WIDE))),
+        (StrRange::ToInclusive(WIDE - 2), WIDE, Ok((0, WIDE - 1))),
+        (StrRange::ToInclusive(WIDE - 1), WIDE, Ok((0, WIDE))),
+        (StrRange::From(WIDE), WIDE, Ok((WIDE, WIDE))),
+        (StrRange::To(10), 10, Ok((0, 10))),
+        (StrRange::To(MAX), MAX, Ok((0, MAX))),
+        (
+            StrRange::Between(WIDE + 1, WIDE),
+            WIDE,
+            Err(RangeFault::OutOfOrder),
+        ),
+        (StrRange::To(WIDE), 10, Err(RangeFault::PastEnd)),
+        (StrRange::ToInclusive(MAX), 10, Err(RangeFault::PastEnd)),
+        (StrRange::ToInclusive(MAX), MAX, Err(RangeFault::PastEnd)),
+        (StrRange::Inclusive(MAX, MAX), MAX, Err(RangeFault::PastEnd)),
+    ];
+    for (range, length, ends) in rows {
+        check_eq!(rt; range.ends(length), ends);
+    }
 }
 
 #[test]
