@@ -192,28 +192,24 @@ def lines_before(text, part, old):
 
 
 def wrong_bodies_in(path):
-    """The wrong bodies of a file `wrong-bodies/SUBJECT.edits`, blocks of lines, or the one of a file `must-fail/NAME.edit`. They edit `src/SUBJECT.rt`, or the
-    file that a line `file:` names, and there the part that a line `in:` names, if one does. Such a line holds for its block alone if it stands in one, else
-    for all blocks below it."""
-    found, file, part, text = [], f"src/{path.stem}.rt", "", path.read_text()
-    for block in (text if path.suffix == ".edits" else f"## {path.stem}\n{text}").split("\n\n"):
-        body, own, own_part, before = None, file, part, ""
-        for line in block.splitlines():
-            word, _, rest = line.partition(" ")
-            if word == "##":
-                body = WrongBody(path, rest)
-                found.append(body)
-            elif word == "file:":
-                own = rest
-                file = file if body else own
-            elif word == "in:":
-                own_part = rest
-                part = part if body else own_part
-            elif word == "old:":
-                before = lines_before((path.parents[1] / own).read_text(), own_part, rest) if own_part else ""
-                body.hunks.append([own, before + rest, ""])
-            elif word == "new:":
-                body.hunks[-1][2] = before + rest
-            elif word == "refused:":
-                body.refused = rest.split(", ")
+    """The wrong bodies of a file `wrong-bodies/SUBJECT.edits`, each from a line `## NAME` to a line `refused:`, or the one of a file `must-fail/NAME.edit`. They
+    edit `src/SUBJECT.rt`, or the file that a line `file:` names, and there the part that a line `in:` names, if one does. Such a line holds for its body alone
+    if it stands in one, else for all below it."""
+    found, body, whole, own = [], None, {"file:": f"src/{path.stem}.rt", "in:": ""}, {}
+    lines = path.read_text().splitlines()
+    for line in lines if path.suffix == ".edits" else [f"## {path.stem}", *lines]:
+        word, _, rest = line.partition(" ")
+        if word == "##":
+            body, own = WrongBody(path, rest), dict(whole)
+            found.append(body)
+        elif word in whole:
+            (own if body else whole)[word] = rest
+        elif word == "old:":
+            before = lines_before((path.parents[1] / own["file:"]).read_text(), own["in:"], rest) if own["in:"] else ""
+            body.hunks.append([own["file:"], before + rest, ""])
+        elif word == "new:":
+            body.hunks[-1][2] = before + rest
+        elif word == "refused:":
+            body.refused = rest.split(", ")
+            body = None
     return found
