@@ -3,7 +3,7 @@ use Rattle.std.specs.Prelude.{ℕ, List, ◌++◌, codes}
 use Rattle.std.specs.Fmt.{decimal}
 use Rattle.arcstr_count.specs.declared.steps.Reply.{Reply}
 use Rattle.arcstr_count.specs.declared.steps.Reply.TheVariants.{Made, Count, Static, Handle, Looked, Ended, Left, Owes, Given, Marked, Raw, Unraw, Refused}
-use Rattle.arcstr_count.specs.Faults.{step_fault_number, step_fault_text}
+use Rattle.arcstr_count.specs.Answer.{step_fault_number, step_fault_text}
 
 -- one or two words, and a number in decimal if the reply has one, without the end of the line
 abbrev pub reply_text : Reply → List ℕ
