@@ -21,8 +21,7 @@ use Rattle.std.specs.Str.Parse.{digits_value, ParsesUnsigned}
 use Rattle.arcstr_count.specs.declared.steps.Step.{Step}
 use Rattle.arcstr_count.specs.declared.steps.Step.TheVariants.{Make, Look, Clone, Begin, Sub, Back, Leak, IntoRaw, FromRaw}
 use Rattle.arcbench_core.specs.Line.{newline, without_empty_last, script_lines, plus_sign, space, zero_digit, command_part, after_command, is_decimal}
-use Rattle.arcbench_core.specs.Line.{has_idle_zero, number_of, step_named, step_of, limit_in}
-use Rattle.arcbench_core.specs.LineText.{line_text, limit_text, HasHandle}
+use Rattle.arcbench_core.specs.Line.{has_idle_zero, number_of, step_named, step_of, limit_in, line_text, limit_text, HasHandle}
 
 -- ---- the first line
 

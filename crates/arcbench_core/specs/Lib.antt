@@ -1,10 +1,5 @@
 pub mod Line
-pub mod LineText
-pub mod Reply
 pub mod Script
-pub mod Port
-pub mod ScriptRun
 pub mod Program
-pub mod Pool
 pub mod Threads
 pub mod TokenLines

@@ -1,9 +1,10 @@
--- The lines of a script: how its bytes are cut, what a NUMBER is, and which step a line stands for.
+-- The lines of a script: how its bytes are cut, what a NUMBER is, which step a line stands for, and the text of that line.
 use Rattle.std.specs.Prelude.{ℕ, ◌^◌, Bool, not, ◌&&◌, ◌==◌, nat_lt, if◌then◌else◌, List, [], ◌∷◌, length, slice_index}
-use Rattle.std.specs.Prelude.{Option, None, Some, option_and_then, codes}
+use Rattle.std.specs.Prelude.{Option, None, Some, option_and_then, codes, ◌<◌, ◌++◌}
 use Rattle.std.specs.List.{slice_split, before_first, after_first}
 use Rattle.std.specs.Str.{bytes_eq, all_ascii_digits}
 use Rattle.std.specs.Str.Parse.{digits_value}
+use Rattle.std.specs.Fmt.{decimal}
 use Rattle.arcstr_count.specs.declared.steps.Step.{Step}
 use Rattle.arcstr_count.specs.declared.steps.Step.TheVariants.{Make, Look, Clone, Begin, Sub, Back, Leak, IntoRaw, FromRaw}
 
@@ -80,3 +81,31 @@ step_of line =
 -- the limit that a first line `limit NUMBER` sets; any other line sets none
 abbrev pub limit_in : List ℕ → Option ℕ
 limit_in line = if bytes_eq (command_part line) (codes "limit") then number_of (after_command line) else None
+
+-- ---- the text of the line that stands for a step: nine forms, and no other line has a step
+
+abbrev pub line_text : Step → List ℕ
+line_text Make = codes "make"
+line_text (Look h) = codes "look " ++ decimal h
+line_text (Clone h) = codes "clone " ++ decimal h
+line_text (Begin h) = codes "begin " ++ decimal h
+line_text (Sub h) = codes "sub " ++ decimal h
+line_text (Back h) = codes "back " ++ decimal h
+line_text (Leak h) = codes "leak " ++ decimal h
+line_text (IntoRaw h) = codes "raw " ++ decimal h
+line_text (FromRaw h) = codes "unraw " ++ decimal h
+
+abbrev pub limit_text : ℕ → List ℕ
+limit_text n = codes "limit " ++ decimal n
+
+-- the number of the step's handle, if it has one, is below 2 ^ 64
+abbrev pub HasHandle : Step → Type 0
+HasHandle Make = Unit {0}
+HasHandle (Look h) = h < 2 ^ 64
+HasHandle (Clone h) = h < 2 ^ 64
+HasHandle (Begin h) = h < 2 ^ 64
+HasHandle (Sub h) = h < 2 ^ 64
+HasHandle (Back h) = h < 2 ^ 64
+HasHandle (Leak h) = h < 2 ^ 64
+HasHandle (IntoRaw h) = h < 2 ^ 64
+HasHandle (FromRaw h) = h < 2 ^ 64

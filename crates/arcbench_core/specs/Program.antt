@@ -12,7 +12,7 @@ use Rattle.arcbench_core.specs.declared.input.InputFault.{InputFault}
 use Rattle.arcbench_core.specs.declared.input.InputFault.TheVariants.{Memory as InputMemory, Io as InputIo}
 use Rattle.arcbench_core.specs.declared.script.CopyFault.{CopyFault}
 use Rattle.arcbench_core.specs.declared.script.CopyFault.TheVariants.{LimitTooLarge as CopyLimitTooLarge, Memory as CopyMemory, Io as CopyIo}
-use Rattle.arcbench_core.specs.ScriptRun.{WritesAnswer}
+use Rattle.arcbench_core.specs.Script.{WritesAnswer}
 use Rattle.arcbench_core.specs.Line.{number_of}
 use Rattle.arcbench_core.specs.Threads.{threads_answer}
 use Rattle.arcbench_core.specs.TokenLines.{WritesTokens}

@@ -1,14 +1,43 @@
--- The answer to a script.
-use Rattle.std.specs.Prelude.{ℕ, nat_lt, if◌then◌else◌, List, [], ◌∷◌, ◌++◌, length, map, take, slice_index_or, Option, None, Some, Result, Ok, Err, codes}
+-- The answer to a script, the texts of its replies, and what a run of the script writes and answers.
+use Rattle.std.specs.Prelude.{ℕ, nat_lt, if◌then◌else◌, List, [], ◌∷◌, ◌++◌, length, map, take, slice_index_or, Option, None, Some, Result, Ok, Err, codes, ◌≡◌}
 use Rattle.std.specs.List.{concat, filter_map}
+use Rattle.std.specs.Fmt.{decimal}
+use Rattle.std.specs.Io.KnownBytes.{Appends}
 use Rattle.arcstr_count.specs.declared.steps.Step.{Step}
 use Rattle.arcstr_count.specs.declared.faults.RunFault.{RunFault}
-use Rattle.arcstr_count.specs.declared.faults.RunFault.TheVariants.{LimitTooLarge}
+use Rattle.arcstr_count.specs.declared.faults.RunFault.TheVariants.{LimitTooLarge as RunLimitTooLarge, Memory as RunMemory}
 use Rattle.arcstr_count.specs.declared.words.TheConstants.{RC_MAX}
 use Rattle.arcstr_count.specs.History.{numbers_below}
 use Rattle.arcstr_count.specs.Past.{answer_after}
+use Rattle.arcstr_count.specs.declared.steps.Reply.{Reply}
+use Rattle.arcstr_count.specs.declared.steps.Reply.TheVariants.{Made, Count, Static, Handle, Looked, Ended, Left, Owes, Given, Marked, Raw, Unraw, Refused}
+use Rattle.arcstr_count.specs.Answer.{step_fault_number, step_fault_text}
+use Rattle.arcbench_core.specs.declared.script.CopyFault.{CopyFault}
+use Rattle.arcbench_core.specs.declared.script.CopyFault.TheVariants.{LimitTooLarge, Memory, Io}
+use Rattle.arcbench_core.specs.declared.input.InputFault.{InputFault}
+use Rattle.arcbench_core.specs.declared.input.InputFault.TheVariants.{Memory as InputMemory, Io as InputIo}
 use Rattle.arcbench_core.specs.Line.{newline, script_lines, step_of, limit_in}
-use Rattle.arcbench_core.specs.Reply.{reply_text}
+
+-- ---- the text of a reply
+
+-- one or two words, and a number in decimal if the reply has one, without the end of the line
+abbrev pub reply_text : Reply → List ℕ
+reply_text (Made h) = codes "made " ++ decimal h
+reply_text (Count n) = codes "count " ++ decimal n
+reply_text Static = codes "static"
+reply_text (Handle h) = codes "handle " ++ decimal h
+reply_text Looked = codes "looked"
+reply_text Ended = codes "ended"
+reply_text Left = codes "left"
+reply_text Owes = codes "owes"
+reply_text Given = codes "given"
+reply_text Marked = codes "marked"
+reply_text Raw = codes "raw"
+reply_text Unraw = codes "unraw"
+reply_text (Refused fault) =
+    codes "refused " ++ decimal (step_fault_number fault) ++ codes " " ++ step_fault_text fault
+
+-- ---- the answer
 
 -- the history of lines: the steps of the lines that have one
 abbrev pub steps_of : List (List ℕ) → List Step
@@ -43,7 +72,7 @@ bad_limit = codes "bad limit" ++ newline ∷ []
 abbrev pub answer_under : Option ℕ → List (List ℕ) → Result (List ℕ) RunFault
 answer_under None later = Ok bad_limit
 answer_under (Some limit) later =
-    if nat_lt RC_MAX limit then Err LimitTooLarge else Ok (answers limit later)
+    if nat_lt RC_MAX limit then Err RunLimitTooLarge else Ok (answers limit later)
 
 abbrev pub answer_to_lines : List (List ℕ) → Result (List ℕ) RunFault
 answer_to_lines [] = Ok bad_limit
@@ -52,3 +81,29 @@ answer_to_lines (first ∷ later) = answer_under (limit_in first) later
 -- the answer to a script, or the fault that its limit is too large
 abbrev pub answer_to : List ℕ → Result (List ℕ) RunFault
 answer_to script = answer_to_lines (script_lines script)
+
+-- ---- a run of a script, and its faults
+
+-- the bytes that a writer holds grow by the answer to the script, and by nothing else
+abbrev pub WritesAnswer : List ℕ → Option (List ℕ) → Option (List ℕ) → Type 0
+WritesAnswer script old new = (answer : List ℕ) × (answer_to script ≡ Ok answer) × Appends old new answer
+
+abbrev pub copy_fault_number : CopyFault → ℕ
+copy_fault_number LimitTooLarge = 1
+copy_fault_number Memory = 2
+copy_fault_number Io = 3
+
+abbrev pub copy_fault_text : CopyFault → List ℕ
+copy_fault_text LimitTooLarge = codes "limit too large"
+copy_fault_text Memory = codes "out of memory"
+copy_fault_text Io = codes "io"
+
+-- the fault of a run whose answer met a fault
+abbrev pub copy_fault_from : RunFault → CopyFault
+copy_fault_from RunLimitTooLarge = LimitTooLarge
+copy_fault_from RunMemory = Memory
+
+-- the fault of a run whose script was not read
+abbrev pub copy_fault_of_input : InputFault → CopyFault
+copy_fault_of_input InputMemory = Memory
+copy_fault_of_input InputIo = Io

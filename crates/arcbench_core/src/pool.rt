@@ -1,6 +1,6 @@
 //! Callers in threads of their own, each with its own handle on one text.
 ghost use Rattle.std.specs.Prelude.{◌≡◌, ◌≢◌, ℕ, ◌<◌, ◌≤◌, ◌↔◌, IfOk, OnOk, IsErr, IsOkAnd, Ok, Err, Some, vec_len, slice_index_or};
-ghost use Rattle.arcbench_core.specs.Pool.{pool_fault_number, pool_fault_text};
+ghost use Rattle.arcbench_core.specs.Threads.{pool_fault_number, pool_fault_text};
 
 use arcstr::ArcStr;
 use std::alloc::{AllocError, Global};

@@ -2,7 +2,7 @@
 ghost use Rattle.std.specs.Prelude.{◌≡◌, ◌||◌, false, is_err, OnOk};
 ghost use Rattle.std.specs.Io.{ReadsAtMost};
 ghost use Rattle.std.specs.Io.KnownBytes.{ReadConsumes, Appends};
-ghost use Rattle.arcbench_core.specs.Port.{PortView};
+ghost use Rattle.arcbench_core.specs.Threads.{PortView};
 
 use std::io;
 use std::io::{Read, Write};

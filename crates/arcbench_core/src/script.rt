@@ -2,8 +2,7 @@
 ghost use Rattle.std.specs.Prelude.{◌≡◌, ◌≢◌, ◌↔◌, ◌⊎◌, false, IsTrue, IfErr, OnOk, IfSome, Some, Err};
 ghost use Rattle.std.specs.Io.KnownBytes.{IsAtEnd};
 ghost use Rattle.arcstr_count.specs.declared.faults.RunFault.TheVariants.{LimitTooLarge as RunLimitTooLarge};
-ghost use Rattle.arcbench_core.specs.Script.{answer_to};
-ghost use Rattle.arcbench_core.specs.ScriptRun.{WritesAnswer, copy_fault_from, copy_fault_number, copy_fault_of_input, copy_fault_text};
+ghost use Rattle.arcbench_core.specs.Script.{answer_to, WritesAnswer, copy_fault_from, copy_fault_number, copy_fault_of_input, copy_fault_text};
 
 use crate::input::{InputFault, read_to_end};
 pub use crate::numbers::number_of;

@@ -1,7 +1,13 @@
--- The texts of an interner, in the order in which they came.
-use Rattle.std.specs.Prelude.{◌≡◌, ◌≢◌, ℕ, ◌<◌, List, length, slice_get, AllPairs, Any, IsSomeAnd}
+-- The texts of an interner, in the order in which they came, the symbols of a shared interner, and the faults of both.
+use Rattle.std.specs.Prelude.{◌≡◌, ◌≢◌, ℕ, ◌<◌, List, length, slice_get, AllPairs, Any, IsSomeAnd, codes}
+use Rattle.std.specs.declared.io.ErrorKind.{ErrorKind}
+use Rattle.std.specs.declared.io.ErrorKind.TheVariants.{InvalidInput, OutOfMemory}
 use Rattle.arcstr.specs.Substr.{SubstrView}
 use Rattle.arcstr.specs.TextView.{TextView}
+use Rattle.boxcar.specs.Slot.{Named}
+use Rattle.boxcar.specs.Table.{IsAt, id_at}
+use Rattle.arcintern.specs.declared.fault.InternFault.{InternFault}
+use Rattle.arcintern.specs.declared.fault.InternFault.TheVariants.{Full, Length, Memory}
 
 -- one of the texts spells this word
 abbrev pub HasWord : List TextView → List ℕ → Type 0
@@ -22,3 +28,31 @@ KeepsTexts old new = (index : ℕ) → index < length old → slice_get new inde
 -- the slice is all of its parent
 abbrev pub IsWhole : SubstrView → Type 0
 IsWhole slice = (slice.start ≡ 0) × (slice.end ≡ length slice.parent.text)
+
+-- ---- a shared interner, and its symbols
+
+-- what clauses see of a symbol: its number, the text that it stands for, and the name of the row that holds the text
+pub record SymbolView : Type 0 where
+  pub number : ℕ
+  pub text : TextView
+  pub row : ℕ
+
+-- the symbol is of the interner with these rows
+unfoldable pub IsSymbolOf : List Named → SymbolView → Type 0
+IsSymbolOf rows symbol = (row slot : ℕ) → IsAt symbol.number row slot → symbol.row ≡ id_at rows row
+
+-- the symbol is of the interner with these rows, and its text spells this word
+abbrev pub IsSymbolOfWord : List Named → SymbolView → List ℕ → Type 0
+IsSymbolOfWord rows symbol word = IsSymbolOf rows symbol × (symbol.text.text ≡ word)
+
+-- ---- the faults of an interner: their texts, and their kinds as faults of reading and writing
+
+abbrev pub intern_fault_text : InternFault → List ℕ
+intern_fault_text Full = codes "interner is full"
+intern_fault_text Length = codes "text is too long"
+intern_fault_text Memory = codes "out of memory"
+
+abbrev pub intern_fault_kind : InternFault → ErrorKind
+intern_fault_kind Full = InvalidInput
+intern_fault_kind Length = InvalidInput
+intern_fault_kind Memory = OutOfMemory

@@ -1,6 +1,6 @@
 //! Why a text is not interned.
 ghost use Rattle.std.specs.Prelude.{◌≡◌, Some};
-ghost use Rattle.arcintern.specs.Fault.{intern_fault_text};
+ghost use Rattle.arcintern.specs.Texts.{intern_fault_text};
 
 use std::alloc::{AllocError, AllocFailed};
 use std::error::Error;
@@ -63,7 +63,7 @@ impl<T: Drop> From<AllocFailed<T>> for InternFault {
 impl From<InternFault> for io::Error {
     ghost use Rattle.std.specs.Prelude.{◌≡◌};
     ghost use Rattle.std.specs.IoError.{error_kind};
-    ghost use Rattle.arcintern.specs.Fault.{intern_fault_kind};
+    ghost use Rattle.arcintern.specs.Texts.{intern_fault_kind};
 
     ghost from_gives = { λ fault error. error_kind error ≡ intern_fault_kind fault };
 

@@ -2,7 +2,7 @@
 //!
 //! Each call with a handle `rt` can wait: for a thread that is adding a text to the same shard.
 ghost use Rattle.std.specs.Prelude.{◌≡◌, ◌≤◌, IfErr, IfOk, IfSome, length};
-ghost use Rattle.arcintern.specs.Shared.{IsSymbolOf};
+ghost use Rattle.arcintern.specs.Texts.{IsSymbolOf};
 
 use crate::fault::InternFault;
 use crate::shared_interner::numbers::Numbers;

@@ -1,15 +1,11 @@
 pub mod TextView
-pub mod Forms
 pub mod Making
-pub mod Printing
 pub mod Substr
 pub mod Slicing
 pub mod Splitting
-pub mod Trimming
 pub mod TextOrder
 pub mod Json
 pub use Rattle.arcstr_range.specs.Ends
-pub use Rattle.arcstr_range.specs.RangeFault
 pub use Rattle.arcstr_range.specs.Text
 pub use Rattle.arcstr_range.specs.Trim
 pub use Rattle.arcstr_range.specs.View

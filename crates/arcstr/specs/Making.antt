@@ -1,10 +1,10 @@
--- Results and errors of the calls that make texts.
-use Rattle.std.specs.Prelude.{◌≡◌, ◌*◌, ◌⊎◌, ◌↔◌, ℕ, List, [], length, Result, Ok, IsUtf8, IfOk, IfErr, IsErrOf}
+-- Results and errors of the calls that make texts, and of formatting into one.
+use Rattle.std.specs.Prelude.{◌≡◌, ◌*◌, ◌⊎◌, ◌↔◌, ℕ, List, [], length, Result, Ok, IsUtf8, IfOk, IfErr, IsErrOf, OnOk}
 use Rattle.std.specs.List.{repeat}
 use Rattle.arcstr_block.specs.declared.fault.TextFault.{TextFault}
 use Rattle.arcstr_block.specs.declared.fault.TextFault.TheVariants.{Length}
-use Rattle.arcstr.specs.TextView.{TextView, literal_of, made_of}
 pub use Rattle.arcstr_block.specs.Making.{IsTooLong, IsFaultOfMaking, IsFaultOfBytes, IsFaultOfFilling}
+use Rattle.arcstr.specs.TextView.{TextView, literal_of, made_of}
 
 -- why a copy of bytes fails: they are not UTF-8, or the text cannot be made
 abbrev pub IsFaultOfCopying : List ℕ → TextFault → Type 0
@@ -30,3 +30,9 @@ pub record AnswersCopies (n : ℕ) (text : List ℕ) (answer : Result TextView T
   pub no_text : text ≡ [] → answer ≡ Ok (literal_of [])
   pub too_long : IsErrOf answer Length ↔ IsTooLong (n * length text)
   pub refused : IfErr answer (IsFaultOfMaking (n * length text))
+
+-- the result if this text is printed: the text, made as any other; an error if an allocation fails, or if the text is too long
+pub record AnswersPrinted (text : List ℕ) (answer : Result TextView TextFault) : Type 0 where
+  pub made : IfOk answer (λ made. made ≡ made_of text)
+  pub not_too_long : OnOk answer (¬ IsTooLong (length text))
+  pub refused : IfErr answer (IsFaultOfMaking (length text))

@@ -1,13 +1,13 @@
 -- Results of the slicing calls. Each definition takes the receiver's own text, and the slice between two byte offsets of that text: `slice_of` for a shared
 -- text, `slice_within` for a shared slice.
-use Rattle.std.specs.Prelude.{◌≡◌, ◌≢◌, ◌↔◌, ℕ, List, [], Option, Result, Ok, IsOk, IsErrOf, IsSome, IfOk, IfSome}
+use Rattle.std.specs.Prelude.{◌≡◌, ◌≢◌, ◌↔◌, ℕ, List, [], Option, Result, Ok, IsOk, IsErrOf, IsSome, IfOk, IfSome, ◌+◌, length}
 use Rattle.std.specs.declared.ops.Range.{Range}
 use Rattle.arcstr_range.specs.declared.range.StrRange.{StrRange}
 use Rattle.arcstr_range.specs.declared.range.StrRange.TheVariants.{Between}
 use Rattle.arcstr_range.specs.declared.range.fault.RangeFault.{RangeFault}
 use Rattle.arcstr_range.specs.Ends.{ends_in, cut_by, IsLawfulRange, IsFirstRangeFault}
 use Rattle.arcstr_range.specs.Text.{SpellsBetween}
-use Rattle.arcstr_range.specs.View.{View, end_of}
+use Rattle.arcstr_range.specs.View.{View, end_of, view_at}
 use Rattle.arcstr.specs.Substr.{SubstrView, empty_slice, text_of}
 
 -- the result for a range: the slice between its ends, with the text between them, exactly if the range is valid in the text, and otherwise its first fault
@@ -33,3 +33,11 @@ pub record AnswersGet (text : List ℕ) (range : StrRange) (answer : Option (Lis
   pub some : IsSome answer ↔ IsLawfulRange text range
   pub value : IfSome answer (λ part. part ≡ cut_by text range)
   pub characters : IfSome answer (SpellsBetween text (ends_in text range).0 (ends_in text range).1)
+
+-- ---- white space removed around a text
+
+-- the slice has the byte range and the text of the view that a trim of the whole text leaves
+pub record IsTrimmed (trims : View → View → Type 0) (text : List ℕ) (between : ℕ → ℕ → SubstrView) (slice : SubstrView) : Type 0 where
+  pub place : ℕ
+  pub longest : trims (view_at text 0) (view_at (text_of slice) place)
+  pub there : slice ≡ between place (place + length (text_of slice))

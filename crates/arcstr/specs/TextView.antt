@@ -1,5 +1,8 @@
--- How contracts see a shared text: its bytes, and where they lie.
-use Rattle.std.specs.Prelude.{◌≢◌, ◌==◌, if◌then◌else◌, ℕ, List, length}
+-- How contracts see a shared text, its bytes and where they lie, and the forms of a shared text.
+use Rattle.std.specs.Prelude.{◌≢◌, ◌==◌, if◌then◌else◌, ℕ, List, length, ◌≡◌}
+use Rattle.arcstr_count.specs.declared.words.TheConstants.{RC_MAX}
+use Rattle.arcstr.specs.declared.arc_str.Form.{Form}
+use Rattle.arcstr.specs.declared.arc_str.Form.TheVariants.{Literal, Counted, Fixed}
 
 -- where the bytes of a text lie: in the program, in a counted block, or in a permanent block
 pub data Kind : Type 0 where
@@ -41,3 +44,20 @@ leaked_kind fixed_block = fixed_block
 -- the same text after it is leaked
 abbrev pub leaked : TextView → TextView
 leaked view = record { text = view.text; kind = leaked_kind view.kind }
+
+-- ---- the forms of a shared text
+
+abbrev pub text_view : Form → TextView
+text_view (Literal text) = record { text = text.now; kind = literal }
+text_view (Counted shared) = record { text = shared.text; kind = block }
+text_view (Fixed fixed) = record { text = fixed.text; kind = fixed_block }
+
+-- the limit above which a clone marks the block static, or `RC_MAX` if there is no counted block
+abbrev pub limit_of : Form → ℕ
+limit_of (Literal text) = RC_MAX
+limit_of (Counted shared) = shared.limit
+limit_of (Fixed fixed) = RC_MAX
+
+-- a clone marks the block static if it has more than `RC_MAX` handles, and not before
+abbrev pub IsLimited : Form → Type 0
+IsLimited form = limit_of form ≡ RC_MAX

@@ -1,7 +1,6 @@
 //! `ArcStr`: a reference-counted immutable text that threads share.
 ghost use Rattle.std.specs.Prelude.{◌≡◌, ◌+◌, ◌≤◌, ◌↔◌, [], length, IsTrue, IsSome, IsNone, IfSome, MatchResult};
-ghost use Rattle.arcstr.specs.Forms.{IsLimited};
-ghost use Rattle.arcstr.specs.TextView.{IsStatic, literal, literal_of, fixed_of, counted_of, leaked};
+ghost use Rattle.arcstr.specs.TextView.{IsLimited, IsStatic, literal, literal_of, fixed_of, counted_of, leaked};
 
 use crate::static_str::StaticStr;
 use arcstr_block::{Fixed, Shared};
@@ -48,7 +47,7 @@ impl Model for ArcStr {
 
     ghost Value = { TextView };
 
-    ghost use Rattle.arcstr.specs.Forms.{text_view};
+    ghost use Rattle.arcstr.specs.TextView.{text_view};
 
     ghost view = { λ shared. text_view shared.form };
 }

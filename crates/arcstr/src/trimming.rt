@@ -5,7 +5,7 @@ ghost use Rattle.arcstr_range.specs.Ends.{IsLawful};
 ghost use Rattle.arcstr_range.specs.Text.{cut};
 ghost use Rattle.arcstr_range.specs.Trim.{Trims, TrimsEnd, TrimsStart};
 ghost use Rattle.arcstr_range.specs.View.{view_at};
-ghost use Rattle.arcstr.specs.Trimming.{IsTrimmed};
+ghost use Rattle.arcstr.specs.Slicing.{IsTrimmed};
 ghost use Rattle.arcstr.specs.Substr.{slice_of, slice_within, text_of};
 
 use crate::arc_str::ArcStr;

@@ -15,12 +15,12 @@ pub use Rattle.std.proofs.lemmas.List.Kept.{IsStrictlyIncreasing-filter}
 pub use Rattle.std.proofs.lemmas.Option.{get_or_from_slice_get, slice_get-get_or, slice_get_past, slice_get_within}
 pub use Rattle.std.proofs.lemmas.Simd.{map-map}
 pub use Rattle.std.specs.List.Sorted.{IsStrictlyIncreasing}
-pub use Rattle.arcstr_count.specs.After.{AnswersEach, dropping_after, given_after, living_after, marked_after, owing_after, word_after}
+pub use Rattle.arcstr_count.specs.Past.{AnswersEach, dropping_after, given_after, living_after, marked_after, owing_after, word_after}
 pub use Rattle.arcstr_count.specs.Answer.{Need, accepted_answer, answer_of, handle_state, is_accepted, needs, refusal_by, refusal_of, refusal_unless, reply_by}
 pub use Rattle.arcstr_count.specs.History.{births, block_of, has_begun, has_given, has_subtracted, is_birth, is_make, is_raw, lives, makes, numbers_below}
 pub use Rattle.arcstr_count.specs.History.{state_by}
 pub use Rattle.arcstr_count.specs.Laws.{HoldsInEveryInterleaving}
-pub use Rattle.arcstr_count.specs.Left.{Stands, dropping, is_dropping, is_owing, owing, word_left}
+pub use Rattle.arcstr_count.specs.Marks.{Stands, dropping, is_dropping, is_owing, owing, word_left}
 pub use Rattle.arcstr_count.specs.Marks.{began_unmarked, is_marked, is_only, living, state_of, was_last}
 pub use Rattle.arcstr_count.specs.OneBlock.{EndsIn, Keeps, look_reply}
 pub use Rattle.arcstr_count.specs.Past.{IsPast, answer_after, past_from, past_of, times_given, with_step}
@@ -29,10 +29,9 @@ pub use Rattle.arcstr_count.specs.Sentences.{FirstThatHolds, HasAccepted, LastIs
 pub use Rattle.arcstr_count.specs.Sentences.{StateSentence, UnderWaySentence, accepted_after, accepted_count, births_after, block_after, given_count}
 pub use Rattle.arcstr_count.specs.Sentences.{is_back_on, makes_after, passes_after, state_after}
 pub use Rattle.arcstr_count.specs.Summary.{BlockSummary, StandsFor, Summary, WorldView, block_summary, blocks_of, handle_summary, handles_of, summary_of}
-pub use Rattle.arcstr_count.specs.Summary.{words_left}
+pub use Rattle.arcstr_count.specs.Summary.{words_left, Answers, Follows, HasHistory, IsAcceptedBy, IsRefusal, Takes, IsAt, state_at}
 pub use Rattle.arcstr_count.specs.Tables.{IsWorld, blocks_with_given, blocks_with_mark, blocks_with_word, handles_with_state, no_block, no_handle, summary_in}
 pub use Rattle.arcstr_count.specs.Tables.{view_of, word_in}
-pub use Rattle.arcstr_count.specs.Taken.{Answers, Follows, HasHistory, IsAcceptedBy, IsRefusal, Takes, IsAt, state_at}
 pub use Rattle.arcstr_count.specs.Word.{FlagAndCount, cloned_of, dropped_of, fresh_word, is_last, looked_of, marked_of}
 pub use Rattle.arcstr_count.specs.declared.faults.StepFault.{StepFault}
 pub use Rattle.arcstr_count.specs.declared.faults.StepFault.TheVariants.{InDrop, IsRaw, NoHandle, NotInDrop, NotOwing, NotRaw}

@@ -1,5 +1,5 @@
--- Which steps are accepted, and what each step answers after a history.
-use Rattle.std.specs.Prelude.{ℕ, Bool, not, ◌&&◌, nat_lt, if◌then◌else◌, is_none, Option, None, Some, List, length}
+-- Which steps are accepted, what each step answers after a history, and the numbers and the texts of the faults.
+use Rattle.std.specs.Prelude.{ℕ, Bool, not, ◌&&◌, nat_lt, if◌then◌else◌, is_none, Option, None, Some, List, length, codes}
 use Rattle.arcstr_count.specs.declared.steps.Step.{Step}
 use Rattle.arcstr_count.specs.declared.steps.Step.TheVariants.{Make, Look, Clone, Begin, Sub, Back, Leak, IntoRaw, FromRaw}
 use Rattle.arcstr_count.specs.declared.steps.HandleState.{HandleState}
@@ -9,6 +9,8 @@ use Rattle.arcstr_count.specs.declared.steps.Reply.TheVariants.{Made, Count, Sta
 use Rattle.arcstr_count.specs.declared.steps.Reply.TheVariants.{Given, Marked, Raw as RawReply, Unraw, Refused}
 use Rattle.arcstr_count.specs.declared.faults.StepFault.{StepFault}
 use Rattle.arcstr_count.specs.declared.faults.StepFault.TheVariants.{NoHandle, InDrop, NotInDrop, NotOwing, IsRaw, NotRaw}
+use Rattle.arcstr_count.specs.declared.faults.RunFault.{RunFault}
+use Rattle.arcstr_count.specs.declared.faults.RunFault.TheVariants.{LimitTooLarge, Memory}
 use Rattle.arcstr_count.specs.History.{births, block_of}
 use Rattle.arcstr_count.specs.Marks.{is_marked, state_of, living, is_only}
 
@@ -88,3 +90,29 @@ reply_by (Some fault) reply = Refused fault
 -- what a step answers after a past
 abbrev pub answer_of : ℕ → List Step → Step → Reply
 answer_of limit p s = reply_by (refusal_of limit p s) (accepted_answer limit p s)
+
+-- ---- the faults
+
+abbrev pub step_fault_number : StepFault → ℕ
+step_fault_number NoHandle = 1
+step_fault_number InDrop = 2
+step_fault_number NotInDrop = 3
+step_fault_number NotOwing = 4
+step_fault_number IsRaw = 5
+step_fault_number NotRaw = 6
+
+abbrev pub step_fault_text : StepFault → List ℕ
+step_fault_text NoHandle = codes "NoHandle"
+step_fault_text InDrop = codes "InDrop"
+step_fault_text NotInDrop = codes "NotInDrop"
+step_fault_text NotOwing = codes "NotOwing"
+step_fault_text IsRaw = codes "IsRaw"
+step_fault_text NotRaw = codes "NotRaw"
+
+abbrev pub run_fault_number : RunFault → ℕ
+run_fault_number LimitTooLarge = 1
+run_fault_number Memory = 2
+
+abbrev pub run_fault_text : RunFault → List ℕ
+run_fault_text LimitTooLarge = codes "limit too large"
+run_fault_text Memory = codes "out of memory"

@@ -2,7 +2,7 @@
 use Rattle.std.specs.Prelude.{◌≡◌, ℕ, ◌+◌, ◌<◌, ◌≤◌, ◌↔◌, IsTrue, IsFalse, Some, List, [], ◌++◌, length}
 use Rattle.arcstr_count.specs.declared.steps.Step.{Step}
 use Rattle.arcstr_count.specs.Word.{looked_of}
-use Rattle.arcstr_count.specs.After.{AtEachPrefix, IsMade, StandsAfter, marked_after, living_after, dropping_after, owing_after, given_after, word_after}
+use Rattle.arcstr_count.specs.Past.{AtEachPrefix, IsMade, StandsAfter, marked_after, living_after, dropping_after, owing_after, given_after, word_after}
 
 -- P holds of every prefix of the steps, every prefix that extends or equals it, and every block made in the first
 abbrev pub ThenOrLater : ℕ → List Step → (List Step → List Step → ℕ → Type 0) → Type 0

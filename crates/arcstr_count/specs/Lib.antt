@@ -1,14 +1,10 @@
 pub mod Word
-pub mod Faults
 pub mod History
 pub mod Marks
 pub mod Answer
 pub mod Past
-pub mod Left
 pub mod Summary
-pub mod After
 pub mod OneBlock
 pub mod Laws
 pub mod Sentences
-pub mod Taken
 pub mod Tables

@@ -6,10 +6,9 @@ use Rattle.arcstr_count.specs.declared.steps.Reply.{Reply}
 use Rattle.arcstr_count.specs.declared.steps.Reply.TheVariants.{Count, Static}
 use Rattle.arcstr_count.specs.Word.{FlagAndCount}
 use Rattle.arcstr_count.specs.History.{makes, births, numbers_below}
-use Rattle.arcstr_count.specs.Marks.{state_of}
+use Rattle.arcstr_count.specs.Marks.{state_of, word_left}
 use Rattle.arcstr_count.specs.Answer.{is_accepted}
 use Rattle.arcstr_count.specs.Past.{past_of, answer_after}
-use Rattle.arcstr_count.specs.Left.{word_left}
 
 -- one block is made in the history, and no step of it is refused
 pub record IsOneBlock (limit : ℕ) (history : List Step) : Type 0 where

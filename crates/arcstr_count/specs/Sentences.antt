@@ -14,8 +14,7 @@ use Rattle.arcstr_count.specs.declared.steps.Reply.TheVariants.{Given, Marked, R
 use Rattle.arcstr_count.specs.declared.faults.StepFault.{StepFault}
 use Rattle.arcstr_count.specs.History.{makes, births, block_of, numbers_below}
 use Rattle.arcstr_count.specs.Answer.{needs, handle_state, refusal_by, is_accepted}
-use Rattle.arcstr_count.specs.Past.{past_of}
-use Rattle.arcstr_count.specs.After.{marked_after, living_after}
+use Rattle.arcstr_count.specs.Past.{past_of, marked_after, living_after}
 
 -- ---- the definitions, after a history in its natural order
 

@@ -6,8 +6,7 @@ use Rattle.arcstr_count.specs.declared.steps.HandleSummary.{HandleSummary}
 use Rattle.arcstr_count.specs.declared.words.TheConstants.{RC_MAX}
 use Rattle.arcstr_count.specs.declared.worlds.BlockEntry.{BlockEntry}
 use Rattle.arcstr_count.specs.Word.{FlagAndCount, fresh_word, marked_of}
-use Rattle.arcstr_count.specs.Summary.{BlockSummary, WorldView}
-use Rattle.arcstr_count.specs.Taken.{HasHistory}
+use Rattle.arcstr_count.specs.Summary.{BlockSummary, WorldView, HasHistory}
 
 -- what a summary keeps of a block, according to the block's entry
 abbrev pub summary_in : BlockEntry → BlockSummary

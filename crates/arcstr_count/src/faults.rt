@@ -2,7 +2,7 @@
 //! plain data: it may be copied, sent and shared, and its drop does nothing. No call here allocates.
 
 ghost use Rattle.std.specs.Prelude.{◌≡◌, Some};
-ghost use Rattle.arcstr_count.specs.Faults.{step_fault_number, run_fault_number, step_fault_text, run_fault_text};
+ghost use Rattle.arcstr_count.specs.Answer.{step_fault_number, run_fault_number, step_fault_text, run_fault_text};
 
 use std::error::Error;
 use std::fmt;

@@ -4,7 +4,7 @@
 ghost use Rattle.std.specs.Prelude.{◌≡◌, ◌+◌, ◌<◌, ◌≤◌, IsTrue, IsFalse, length, filter};
 ghost use Rattle.arcstr_count.specs.History.{lives};
 ghost use Rattle.arcstr_count.specs.Laws.{HoldsInEveryInterleaving};
-ghost use Rattle.arcstr_count.specs.Left.{is_dropping, is_owing};
+ghost use Rattle.arcstr_count.specs.Marks.{is_dropping, is_owing};
 ghost use Rattle.arcstr_count.specs.OneBlock.{Keeps};
 
 use crate::steps::{HandleState, Step};

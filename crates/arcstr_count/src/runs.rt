@@ -2,7 +2,7 @@
 
 ghost use Rattle.std.specs.Prelude.{◌≡◌, ◌<◌, ◌↔◌, [], IfOk, IfErr};
 ghost use Rattle.arcstr_count.specs.Summary.{StandsFor};
-ghost use Rattle.arcstr_count.specs.After.{AnswersEach};
+ghost use Rattle.arcstr_count.specs.Past.{AnswersEach};
 ghost use Rattle.arcstr_count.specs.Laws.{HoldsInEveryInterleaving};
 
 use crate::faults::RunFault;

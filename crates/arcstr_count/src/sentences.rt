@@ -8,8 +8,7 @@ ghost use Rattle.std.specs.Prelude.{◌≡◌, ◌≢◌, ◌↔◌, ◌<◌, �
 ghost use Rattle.std.specs.List.Sorted.{IsStrictlyIncreasing};
 ghost use Rattle.arcstr_count.specs.declared.steps.HandleState.TheVariants.{Dropping, Owing};
 ghost use Rattle.arcstr_count.specs.History.{is_make, is_birth};
-ghost use Rattle.arcstr_count.specs.After.{marked_after, living_after, dropping_after, owing_after, given_after};
-ghost use Rattle.arcstr_count.specs.Past.{answer_after};
+ghost use Rattle.arcstr_count.specs.Past.{marked_after, living_after, dropping_after, owing_after, given_after, answer_after};
 ghost use Rattle.arcstr_count.specs.Sentences.{accepted_after, makes_after, births_after, block_after, state_after};
 ghost use Rattle.arcstr_count.specs.Sentences.{accepted_count, given_count, AcceptedSentence, BornSentence, MarkedSentence};
 ghost use Rattle.arcstr_count.specs.Sentences.{StateSentence, OwesSentence, LivingSentence, UnderWaySentence, AnswerSentence};

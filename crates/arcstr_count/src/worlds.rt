@@ -4,11 +4,10 @@ ghost use Rattle.std.specs.Prelude.{◌≡◌, ◌<◌, ◌≤◌, ◌↔◌, �
 ghost use Rattle.std.specs.Prelude.{IsTrue, IfOk, IfErr, OnOk, OnErr, IsOk, IfSome, IsNone, Some, slice_get, vec_len, vec_capacity};
 ghost use Rattle.arcstr_count.specs.declared.steps.Step.{Step};
 ghost use Rattle.arcstr_count.specs.History.{is_birth};
-ghost use Rattle.arcstr_count.specs.Summary.{StandsFor};
-ghost use Rattle.arcstr_count.specs.After.{given_after};
+ghost use Rattle.arcstr_count.specs.Summary.{StandsFor, IsRefusal, IsAcceptedBy, Answers, Follows, Takes, HasHistory, state_at, IsAt};
+ghost use Rattle.arcstr_count.specs.Past.{given_after};
 ghost use Rattle.arcstr_count.specs.Tables.{handles_with_state, blocks_with_word, blocks_with_mark, blocks_with_given};
 ghost use Rattle.arcstr_count.specs.Answer.{refusal_unless};
-ghost use Rattle.arcstr_count.specs.Taken.{IsRefusal, IsAcceptedBy, Answers, Follows, Takes, HasHistory, state_at, IsAt};
 ghost use Rattle.arcstr_count.specs.Laws.{HoldsInEveryInterleaving};
 
 use crate::faults::{RunFault, StepFault};

@@ -3,8 +3,7 @@ use Rattle.std.proofs.Common.{◌≡◌, ◌<◌, ◌⊎◌, inl, inr, refl, ap,
 use Rattle.std.specs.Prelude.{Err, IsErrOf}
 use Rattle.arcstr_range.specs.declared.range.fault.RangeFault.{RangeFault}
 use Rattle.arcstr_range.specs.declared.range.fault.RangeFault.TheVariants.{OutOfOrder, PastEnd, OffBoundary}
-use Rattle.arcstr_range.specs.Ends.{IsFirstFault}
-use Rattle.arcstr_range.specs.RangeFault.{range_fault_number}
+use Rattle.arcstr_range.specs.Ends.{IsFirstFault, range_fault_number}
 
 -- different faults have different numbers
 ordered : (given fault : RangeFault) →

@@ -1,12 +1,25 @@
--- The ends of a range, the rules for them, and the first fault of ends that break one.
-use Rattle.std.specs.Prelude.{◌≡◌, ◌↔◌, ℕ, ◌+◌, ◌<◌, ◌≤◌, List, length, ⊤, Result, IsOk, IsErrOf, IfOk, IfErr}
+-- The faults of a range, the ends of a range, the rules for them, and the first fault of ends that break one.
+use Rattle.std.specs.Prelude.{◌≡◌, ◌↔◌, ℕ, ◌+◌, ◌<◌, ◌≤◌, List, length, ⊤, Result, IsOk, IsErrOf, IfOk, IfErr, codes}
 use Rattle.std.specs.Str.{IsCharBoundary}
 use Rattle.arcstr_range.specs.declared.range.StrRange.{StrRange}
 use Rattle.arcstr_range.specs.declared.range.StrRange.TheVariants.{Between, From, To, Full, Inclusive, ToInclusive}
 use Rattle.arcstr_range.specs.declared.range.fault.RangeFault.{RangeFault}
 use Rattle.arcstr_range.specs.declared.range.fault.RangeFault.TheVariants.{OutOfOrder, PastEnd, OffBoundary}
-use Rattle.arcstr_range.specs.RangeFault.{range_fault_number}
 use Rattle.arcstr_range.specs.Text.{cut}
+
+-- the number of a fault: rules with lower numbers are tested first. No fault has the number 3
+abbrev pub range_fault_number : RangeFault → ℕ
+range_fault_number OutOfOrder = 1
+range_fault_number PastEnd = 2
+range_fault_number OffBoundary = 4
+
+-- the message of a fault
+abbrev pub range_fault_text : RangeFault → List ℕ
+range_fault_text OutOfOrder = codes "range start is after its end"
+range_fault_text PastEnd = codes "range ends past the text"
+range_fault_text OffBoundary = codes "range cuts a character"
+
+-- ---- the ends of a range
 
 -- the start and the end of a range in a sequence of this length, as unbounded natural numbers
 abbrev pub ends_of : StrRange → ℕ → ℕ × ℕ

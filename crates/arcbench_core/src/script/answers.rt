@@ -3,8 +3,7 @@ ghost use Rattle.std.specs.Prelude.{◌≡◌, ◌++◌, ◌∷◌, [], ◌↔�
 ghost use Rattle.arcstr_count.specs.declared.steps.Step.{Step};
 ghost use Rattle.arcstr_count.specs.Summary.{StandsFor};
 ghost use Rattle.arcbench_core.specs.Line.{newline, script_lines, step_of};
-ghost use Rattle.arcbench_core.specs.Reply.{reply_text};
-ghost use Rattle.arcbench_core.specs.Script.{answer_by, answer_to, answer_under, answers, bad_limit, history_with};
+ghost use Rattle.arcbench_core.specs.Script.{reply_text, answer_by, answer_to, answer_under, answers, bad_limit, history_with};
 
 use super::line::{first_line, limit_in, step_of};
 use arcstr::count::{Reply, RunFault, World};

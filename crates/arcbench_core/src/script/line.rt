@@ -2,8 +2,7 @@
 ghost use Rattle.std.specs.Prelude.{◌≡◌, ◌==◌, ℕ, ◌^◌, ◌<◌, ◌∷◌, Some, IfSome, length, position};
 ghost use Rattle.std.specs.List.{before_first, after_first};
 ghost use Rattle.arcstr_count.specs.declared.steps.Step.{Step};
-ghost use Rattle.arcbench_core.specs.LineText.{line_text, limit_text, HasHandle};
-ghost use Rattle.arcbench_core.specs.Line.{script_lines, step_named, step_of, limit_in};
+ghost use Rattle.arcbench_core.specs.Line.{line_text, limit_text, HasHandle, script_lines, step_named, step_of, limit_in};
 
 use crate::numbers::number_of;
 use arcstr::count::Step;

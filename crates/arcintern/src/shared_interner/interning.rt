@@ -2,8 +2,7 @@
 ghost use Rattle.std.specs.Prelude.{◌≡◌, ◌+◌, ◌*◌, ◌<◌, ◌≤◌, IfErr, IfOk, IfSome, IsErrOf, IsNone, length};
 ghost use Rattle.arcstr.specs.Making.{IsTooLong};
 ghost use Rattle.arcstr.specs.Substr.{text_of};
-ghost use Rattle.arcintern.specs.Shared.{IsSymbolOfWord};
-ghost use Rattle.arcintern.specs.Texts.{IsWhole};
+ghost use Rattle.arcintern.specs.Texts.{IsSymbolOfWord, IsWhole};
 
 use crate::fault::InternFault;
 use crate::interner::{MOST_TEXTS, copy_of, is_whole};

@@ -1,6 +1,6 @@
 //! The numbers of one shard's texts, by the hashes of the texts.
 ghost use Rattle.std.specs.Prelude.{◌≡◌, IfErr, IfOk, IfSome, OnErr};
-ghost use Rattle.arcintern.specs.Shared.{IsSymbolOf, IsSymbolOfWord};
+ghost use Rattle.arcintern.specs.Texts.{IsSymbolOf, IsSymbolOfWord};
 
 use crate::fault::InternFault;
 use crate::shared_interner::shared_symbol::SharedSymbol;

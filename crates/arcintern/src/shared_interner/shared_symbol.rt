@@ -2,7 +2,7 @@
 ghost use Rattle.std.specs.Prelude.{◌≡◌, ◌<◌, List, length};
 ghost use Rattle.boxcar.specs.Slot.{Named};
 ghost use Rattle.boxcar.specs.Table.{IsAt, id_at};
-ghost use Rattle.arcintern.specs.Shared.{IsSymbolOf};
+ghost use Rattle.arcintern.specs.Texts.{IsSymbolOf};
 
 use crate::shared_interner::text_list::Row;
 use crate::symbol::Symbol;
@@ -29,7 +29,7 @@ pub struct SharedSymbol {
 impl Model for SharedSymbol {
     ghost use Rattle.std.specs.Prelude.{◌≡◌, ◌<◌, ℕ, length};
     ghost use Rattle.boxcar.specs.Table.{IsAt, id_at};
-    ghost use Rattle.arcintern.specs.Shared.{SymbolView};
+    ghost use Rattle.arcintern.specs.Texts.{SymbolView};
 
     ghost Value = { SymbolView };
 

@@ -2,7 +2,7 @@
 ghost use Rattle.std.specs.Prelude.{◌≡◌, ◌+◌, ◌^◌, ◌<◌, ◌≤◌, IfOk, IfSome, length, vec_len, vec_capacity};
 ghost use Rattle.boxcar.specs.Slot.{Named, named_coded};
 ghost use Rattle.boxcar.specs.Table.{IsAt, id_at, span};
-ghost use Rattle.arcintern.specs.Shared.{IsSymbolOf};
+ghost use Rattle.arcintern.specs.Texts.{IsSymbolOf};
 
 use crate::shared_interner::shared_symbol::SharedSymbol;
 use crate::symbol::Symbol;

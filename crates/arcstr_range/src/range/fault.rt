@@ -27,7 +27,7 @@ pub enum RangeFault {
 }
 
 impl RangeFault {
-    ghost use Rattle.arcstr_range.specs.RangeFault.{range_fault_number, range_fault_text};
+    ghost use Rattle.arcstr_range.specs.Ends.{range_fault_number, range_fault_text};
 
     /// Returns the number of the fault, in the order of the tests from 1 on. No fault has the number 3.
     ///
@@ -58,7 +58,7 @@ impl RangeFault {
 }
 
 impl fmt::Display for RangeFault {
-    ghost use Rattle.arcstr_range.specs.RangeFault.{range_fault_text};
+    ghost use Rattle.arcstr_range.specs.Ends.{range_fault_text};
 
     ghost output = { λ fault. Some (range_fault_text fault) };
 

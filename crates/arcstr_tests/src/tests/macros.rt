@@ -1,7 +1,7 @@
 //! The results of the macros, as contracts of functions that only call a macro, and as tests.
 ghost use Rattle.std.specs.Prelude.{◌≡◌, ◌++◌, IfSome, codes, encode_utf8, if◌then◌else◌};
 ghost use Rattle.std.specs.Fmt.{decimal};
-ghost use Rattle.arcstr.specs.Printing.{AnswersPrinted};
+ghost use Rattle.arcstr.specs.Making.{AnswersPrinted};
 ghost use Rattle.arcstr.specs.Substr.{whole_of};
 ghost use Rattle.arcstr.specs.TextView.{literal_of};
 

@@ -1,6 +1,6 @@
 use Rattle.std.proofs.Common.{◌<◌, length, sym, ap, subst, ◌∙◌}
 use Rattle.boxcar.specs.Table.{id_at}
-use Rattle.arcintern.specs.Shared.{IsSymbolOf}
+use Rattle.arcintern.specs.Texts.{IsSymbolOf}
 use Rattle.boxcar.proofs.Spans.{one_bucket, one_slot}
 use Rattle.arcintern.proofs.shared_interner.shared_symbol.SharedSymbol.new.Goals as goal
 

@@ -1,6 +1,6 @@
 use Rattle.std.proofs.Common.{sym, ap, subst, ◌∙◌}
 use Rattle.boxcar.specs.Table.{IsAt, id_at}
-use Rattle.arcintern.specs.Shared.{IsSymbolOf, SymbolView}
+use Rattle.arcintern.specs.Texts.{IsSymbolOf, SymbolView}
 use Rattle.arcintern.proofs.shared_interner.text_list.TextList.agrees.Goals as goal
 
 pub agrees-requires : goal.agrees-requires

@@ -1,6 +1,6 @@
 use Rattle.std.proofs.Common.{rules, ◌<◌, length, sym, ap, subst, ◌∙◌}
 use Rattle.boxcar.specs.Table.{IsAt}
-use Rattle.arcintern.specs.Shared.{IsSymbolOf, SymbolView}
+use Rattle.arcintern.specs.Texts.{IsSymbolOf, SymbolView}
 use Rattle.arcintern.proofs.shared_interner.text_list.TextList.text.Goals as goal
 
 pub value-requires : goal.value-requires
