@@ -1,7 +1,6 @@
--- Worked scripts, whose answers are computed by the definition.
+-- Worked lines, numbers, steps and limits, checked by computation. scripts/histories.scripts has whole scripts.
 use Rattle.std.proofs.Common.{◌≡◌, ℕ, List, [], ◌∷◌, ◌++◌, map, refl}
 use Rattle.std.specs.Prelude.{None, Some, Ok, Err, codes}
-use Rattle.std.specs.Fmt.{digits}
 use Rattle.arcstr_count.specs.declared.steps.Step.TheVariants.{Look}
 use Rattle.arcstr_count.specs.declared.faults.RunFault.TheVariants.{LimitTooLarge}
 use Rattle.arcbench_core.specs.Line.{script_lines, number_of, step_of}
@@ -32,15 +31,3 @@ limits : Gives answer_to (
     ∷ (codes "limit 4611686018427387903\n", Ok []) ∷ (codes "limit 4611686018427387904\nmake\n", Err LimitTooLarge)
     ∷ (codes "limit 18446744073709551615", Err LimitTooLarge) ∷ [])
 limits = refl
-
--- a clone and a drop, bad lines, and all commands
-scripts : Gives answer_to (
-    (codes "limit 5\nmake\nclone 0\nlook 1\nbegin 0\nsub 0\nlook 1\n", Ok (codes "made 0\nhandle 1\ncount 2\nlooked\nleft\ncount 1\n"))
-    ∷ (codes "limit 5\nmake\nlook 0\nlook  0\n\nmake 1\nlook 9\nlook 0", Ok (codes "made 0\ncount 1\nbad\nbad\nbad\nrefused 1 NoHandle\ncount 1\n"))
-    ∷ (
-      codes "limit 5\nmake\nraw 0\nlook 0\nunraw 0\nleak 0\nclone 0\nbegin 1\nlook 0\nback 0\nmake\nbegin 2\nsub 2\nback 2\n",
-      Ok (codes "made 0\nraw\nrefused 5 IsRaw\nunraw\nmarked\nhandle 1\nended\nstatic\nrefused 4 NotOwing\nmade 2\nlooked\nowes\ngiven\n"),
-    )
-    ∷ [])
-unfolding digits
-scripts = refl

@@ -1,4 +1,3 @@
-pub mod Examples
 pub mod FirstMatches
 pub mod Orders
 pub mod Texts

@@ -1,5 +1,5 @@
-//! Answers to scripts with each command, each reply and lines outside the grammar, and runs of a script with each read and each write failing in turn. The
-//! library's `proofs/WorkedExamples.antt` computes the answers to other scripts, and that of `arcstr_count` the replies to lists of steps.
+//! Answers to scripts with each command, each reply and lines outside the grammar, and runs of a script with each read and each write failing in turn. The file
+//! scripts/histories.scripts has more scripts, which `tools/scripts` runs through the program.
 use super::fixtures::{FIRST_ANSWER, FIRST_SCRIPT, FakeReader, FakeWriter, NEVER};
 use crate::tests::checks::{check, check_eq};
 use arcbench_core::port::Port;

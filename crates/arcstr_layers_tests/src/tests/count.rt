@@ -1,6 +1,5 @@
-//! The count word, and histories by `run` and by a world.
+//! The count word, and replies to steps by `run` and by a world.
 use crate::tests::checks::{check, check_eq};
-use arcstr_count::Step::{Back, Begin, Clone, FromRaw, IntoRaw, Leak, Look, Make, Sub};
 use arcstr_count::{
     HandleState, HandleSummary, RC_MAX, Reply, RunFault, Step, StepFault, Word, World, run,
 };
@@ -8,177 +7,71 @@ use std::alloc::{AllocGlobal, Global};
 use std::mem::size_of;
 use std::process::Abort;
 
-/// Limits and histories, each with how often its block 0 is freed. `scripts/histories.scripts` has the replies.
-const HISTORIES: [(u64, &[Step], u64); 16] = [
-    (5, &[Make, Clone(0), Begin(0), Leak(1), Sub(0), Begin(1)], 0),
-    (
-        1,
-        &[
-            Make,
-            Clone(0),
-            Look(0),
-            Clone(0),
-            Look(0),
-            Clone(0),
-            Look(0),
-        ],
-        0,
-    ),
-    (
-        5,
-        &[
-            Make,
-            Clone(0),
-            Begin(0),
-            Begin(1),
-            Sub(1),
-            Sub(0),
-            Back(1),
-            Back(0),
-            Look(0),
-        ],
-        1,
-    ),
-    (0, &[Make, Clone(0), Look(1)], 0),
-    (5, &[Make, IntoRaw(0), Look(0), FromRaw(0), Look(0)], 0),
-    (
-        5,
-        &[
-            Make,
-            Clone(0),
-            Clone(0),
-            Begin(0),
-            Begin(1),
-            Sub(0),
-            Leak(2),
-            Sub(1),
-            Begin(2),
-            Look(2),
-        ],
-        0,
-    ),
-    (
-        5,
-        &[
-            Make,
-            Begin(0),
-            Leak(0),
-            Sub(0),
-            Sub(0),
-            Back(0),
-            Back(0),
-            Back(7),
-        ],
-        1,
-    ),
-    (
-        5,
-        &[
-            Make,
-            Leak(0),
-            Leak(0),
-            Clone(0),
-            Look(1),
-            Begin(1),
-            Begin(0),
-        ],
-        0,
-    ),
-    (
-        5,
-        &[
-            Make,
-            IntoRaw(0),
-            IntoRaw(0),
-            Sub(0),
-            Back(0),
-            FromRaw(0),
-            FromRaw(0),
-        ],
-        0,
-    ),
-    (
-        5,
-        &[
-            Make,
-            Clone(0),
-            IntoRaw(1),
-            Begin(0),
-            Sub(0),
-            FromRaw(0),
-            FromRaw(1),
-            Begin(1),
-            Sub(1),
-            Back(1),
-        ],
-        1,
-    ),
-    (
-        5,
-        &[Make, Make, Clone(0), Begin(1), Sub(1), Back(1), Look(0)],
-        0,
-    ),
-    (0, &[Make, Begin(0), Sub(0), Back(0), Look(0)], 1),
-    (0, &[Make, Clone(0), Begin(0), Begin(1)], 0),
-    (
-        1,
-        &[
-            Make,
-            Clone(0),
-            Begin(0),
-            Clone(1),
-            Sub(0),
-            Begin(1),
-            Begin(2),
-        ],
-        0,
-    ),
-    (
-        1,
-        &[
-            Make,
-            Clone(0),
-            Begin(0),
-            Sub(0),
-            Clone(1),
-            Look(1),
-            Begin(1),
-            Begin(2),
-            Sub(2),
-            Sub(1),
-            Back(1),
-        ],
-        1,
-    ),
-    (5, &[], 0),
-];
-
-/// Asserts that `run` and a `World` reply alike to these steps, and how often they free block 0.
-fn check_given(rt: &(impl Abort + AllocGlobal), limit: u64, steps: &[Step], given: u64) {
-    let mut world = World::new(rt.alloc(), limit).expect(rt, "limit");
-    let mut replies = Vec::new(rt.alloc());
-    for step in steps {
-        let reply = world.step(*step).expect(rt, "no memory");
-        replies.push(reply).expect(rt, "no memory");
+/// Asserts the replies to the steps, by `run` and by a world that takes them one at a time. Returns the world.
+fn check_replies(
+    rt: &(impl Abort + AllocGlobal),
+    limit: u64,
+    steps: &[Step],
+    wanted: &[Reply],
+) -> World<Global> {
+    let replies = run(rt.alloc(), limit, steps).expect(rt, "refused");
+    check_eq!(rt; replies.as_slice(), wanted);
+    let mut world = World::new(rt.alloc(), limit).expect(rt, "refused");
+    check_eq!(rt; world.given(0), 0);
+    for (step, reply) in steps.iter().zip(wanted) {
+        check_eq!(rt; world.step(*step).expect(rt, "refused"), *reply);
     }
-    check_eq!(rt; world.given(0), given);
-    let ran = run(rt.alloc(), limit, steps).expect(rt, "no memory");
-    check_eq!(rt; ran, replies);
+    world
+}
+
+/// Two drops cross: the one that subtracts last owes the block, and frees it once.
+#[test]
+fn crossing_drops(rt: HostRuntime) {
+    let steps = [
+        Step::Make,
+        Step::Clone(0),
+        Step::Begin(0),
+        Step::Begin(1),
+        Step::Sub(1),
+        Step::Sub(0),
+        Step::Back(1),
+        Step::Back(0),
+        Step::Look(0),
+    ];
+    let wanted = [
+        Reply::Made(0),
+        Reply::Handle(1),
+        Reply::Looked,
+        Reply::Looked,
+        Reply::Left,
+        Reply::Owes,
+        Reply::Refused(StepFault::NotOwing),
+        Reply::Given,
+        Reply::Refused(StepFault::NoHandle),
+    ];
+    let world = check_replies(&rt, 5, &steps, &wanted);
+    check_eq!(rt; world.given(0), 1);
 }
 
 #[test]
-fn a_block_is_freed_once_or_never(rt: HostRuntime) {
-    for (limit, steps, given) in HISTORIES {
-        check_given(&rt, limit, steps, given);
-    }
-}
-
-#[test]
-fn each_block_is_freed_on_its_own(rt: HostRuntime) {
-    let mut world = World::new(rt.alloc(), 0).expect(&rt, "limit");
-    for step in [Make, Make, Begin(1), Sub(1), Back(1), Back(1)] {
-        let _reply = world.step(step).expect(&rt, "no memory");
-    }
+fn a_dropped_block_is_given_back_once(rt: HostRuntime) {
+    let steps = [
+        Step::Make,
+        Step::Make,
+        Step::Begin(1),
+        Step::Sub(1),
+        Step::Back(1),
+        Step::Back(1),
+    ];
+    let wanted = [
+        Reply::Made(0),
+        Reply::Made(1),
+        Reply::Looked,
+        Reply::Owes,
+        Reply::Given,
+        Reply::Refused(StepFault::NotOwing),
+    ];
+    let world = check_replies(&rt, 0, &steps, &wanted);
     check_eq!(rt; (world.given(0), world.given(1), world.given(2)), (0, 1, 0));
 }
 
