@@ -1,17 +1,17 @@
-/* Loaded before the C library, it refuses requests for memory (calls of malloc, calloc and realloc) and starts of threads,
-   and counts them. The environment says what is refused:
+/* Loaded before the C library, it refuses requests for memory (calls of malloc, calloc and realloc) and starts of threads, and counts them. The environment
+   says what is refused:
 
      REFUSED_REQUEST=N   the Nth request
      REFUSED_IN_CALL=N   the Nth request of each counted call
      REFUSED_THREAD=N    the Nth start of a thread
      REFUSED_REST=yes    all later ones of the same kind too
 
-   To file descriptor 9 it writes a line for each refusal: "refused request SIZE", "refused request of a start SIZE" (one
-   that the C library makes to start a thread) or "refused start"; and "started" where it lets a thread start.
+   To file descriptor 9 it writes a line for each refusal: "refused request SIZE", "refused request of a start SIZE" (one that the C library makes to start a
+   thread) or "refused start"; and "started" where it lets a thread start.
 
-   A write of no bytes to standard output begins a counted call, and the next one ends it. To file descriptor 8 it writes
-   "[" and " ]" for them, and in between " +SIZE" for each piece of memory that was given and " -SIZE" for each that was
-   freed. What the C library requests to start a thread is not counted. A realloc is a piece given and a piece freed. */
+   A write of no bytes to standard output begins a counted call, and the next one ends it. To file descriptor 8 it writes "[" and " ]" for them, and in between
+   " +SIZE" for each piece of memory that was given and " -SIZE" for each that was freed. A realloc is a piece given and a piece freed. What the C library
+   requests to start a thread is not counted. */
 
 enum { OUTPUT = 1, COUNTS = 8, EVENTS = 9, TRY_AGAIN = 11, NO_MEMORY = 12, SLOTS = 1 << 16 };
 
