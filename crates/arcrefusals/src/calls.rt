@@ -13,14 +13,14 @@ use std::{fmt, io};
 /// How often a call is made before the program gives up. Two tries suffice if one allocation is refused.
 pub(crate) const TRIES: usize = 4;
 
-/// Shows the script `refusals` where a call begins and ends, by a write of zero bytes to standard output, and
-/// prints how it ended. The library that the script loads below the program sees the write; nothing else changes.
+/// Shows the script `refusals` where a call begins and ends, by a write of zero bytes to standard output, and prints how it ended. The library that the
+/// script loads below the program sees the write; nothing else changes.
 #[derive(Clone, Copy)]
 pub(crate) struct Meter(pub(crate) Stdout, pub(crate) Stderr);
 
 impl Meter {
     /// Prepares a call and makes it, until neither is refused, and prints its line.
-    pub(crate) fn again<F: FnMut() -> Result<(), Stop>>(self, line: &str, once: F) -> io::Result<()>
+    pub(crate) fn again<F: Fn() -> Result<(), Stop>>(self, line: &str, once: F) -> io::Result<()>
         requires { F.IsAlwaysCallable once }
     {
         match retry(once) {
@@ -86,10 +86,9 @@ pub(crate) trait Made: Drop {
     fn check(&self, wanted: &str) -> Result<(), Stop>;
 }
 
-/// Why a call was not completed and compared: it was refused, or this part is not as it should be.
+/// Why a call was not completed and compared: it ran out of memory and reported that, or this part is not as it should be.
 #[derive(Clone, Copy)]
 pub(crate) enum Stop {
-    /// The call ran out of memory, and reported it.
     Refused,
     Text,
     Range,

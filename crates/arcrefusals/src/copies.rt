@@ -1,6 +1,5 @@
-//! Calls that copy a shared text or a JSON value. A refusal leaves what they copy unchanged, and they then
-//! copy it again.
-use crate::calls::{Made, Meter, Stop, TRIES, check, check_text, retry};
+//! Calls that copy a shared text or a JSON value. A refusal leaves what they copy unchanged, and they then copy it again.
+use crate::calls::{Made, Meter, Stop, TRIES, check, check_text};
 use arcstr::{ArcStr, Substr};
 use serde_json::Value;
 use std::alloc::Global;
@@ -115,18 +114,26 @@ fn copy<K: Copied, T: Made, E: Into<Stop>, F: Fn(&K) -> Result<T, E>>(
 {
     let once = ||
         requires { F.IsAlwaysCallable call }
-    {
-        let value = K::make(alloc)?;
-        let copied = ||
-            requires { F.IsAlwaysCallable call }
-        {
-            let ended = meter.compared(meter.counted(|| call(&value)), wanted);
-            value.check_copied(1)?;
-            ended
-        };
-        retry(copied)
-    };
+    { copy_again(meter, K::make(alloc)?, wanted, &call) };
     meter.again(line, once)
+}
+
+fn copy_again<K: Copied, T: Made, E: Into<Stop>, F: Fn(&K) -> Result<T, E>>(
+    meter: Meter,
+    value: K,
+    wanted: &str,
+    call: &F,
+) -> Result<(), Stop>
+    requires { F.IsAlwaysCallable call.now }
+{
+    for _ in 0..TRIES {
+        let ended = meter.compared(meter.counted(|| call(&value)), wanted);
+        value.check_copied(1)?;
+        if !matches!(ended, Err(Stop::Refused)) {
+            return ended;
+        }
+    }
+    Err(Stop::Refused)
 }
 
 /// Takes one of two handles on a text; a refusal returns it.

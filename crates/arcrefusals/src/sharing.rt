@@ -1,5 +1,5 @@
-//! Calls that return handles on texts: callers in threads, and the words of texts. After each refusal, and
-//! once everything that was returned is dropped, each text has only the handle of its owner.
+//! Calls that return handles on texts: callers in threads, and the words of texts. After each refusal, and once everything that was returned is dropped, each
+//! text has only the handle of its owner.
 use crate::calls::{Made, Meter, Stop, check, check_count, check_text, retry};
 use arcbench_core::pool::{Gate, callers};
 use arcstr::{ArcStr, Substr};
@@ -82,8 +82,7 @@ fn two_texts(alloc: Global) -> Result<[ArcStr; 2], Stop> {
     Ok([one, ArcStr::from_str(alloc, "a b c d e")?])
 }
 
-/// Finds the words of two texts with three workers. If memory is refused, either all workers have passed the
-/// gate or none has.
+/// Finds the words of two texts with three workers. If memory is refused, either all workers have passed the gate or none has.
 fn words_behind_a_gate<R: Sync + Threads + Wait>(
     rt: &R,
     meter: Meter,
@@ -112,8 +111,7 @@ impl Made for Vec<ArcStr> {
     }
 }
 
-/// The words of a text: these letters, each at an even byte offset. The text has one handle for its owner and one
-/// for each word.
+/// The words of a text: these letters, each at an even byte offset. The text has one handle for its owner and one for each word.
 impl Made for Vec<Substr> {
     fn check(&self, wanted: &str) -> Result<(), Stop> {
         check(Stop::Length, self.len() == wanted.len())?;
