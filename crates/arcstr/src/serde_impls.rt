@@ -1,9 +1,10 @@
 //! The traits of `serde` for texts and slices, which are written and read as strings, so that structs with texts can derive them. A slice is written as its
 //! own text, and read as the slice of all of a new text. Writing allocates nothing itself and takes no atomic step.
-ghost use Rattle.std.specs.Prelude.{IfOk, OnOk};
+ghost use Rattle.std.specs.Prelude.{◌≡◌, IfOk, OnOk};
 ghost use Rattle.serde.specs.Event.{Logs, text};
 ghost use Rattle.serde.specs.Steps.{Gives};
-ghost use Rattle.arcstr.specs.Substr.{text_of};
+ghost use Rattle.arcstr.specs.Substr.{text_of, whole_of};
+ghost use Rattle.arcstr.specs.TextView.{made_of};
 
 use crate::arc_str::ArcStr;
 use crate::substr::Substr;
@@ -48,6 +49,7 @@ impl DeserializeOwned for ArcStr {
         from: &mut Deserializer<'_, '_, F>,
     ) -> Result<ArcStr, F::Error>
         ensures read { IfOk result (λ made. Gives F.gives from.old (text made.text) from.new) }
+        ensures kind { IfOk result (λ made. made ≡ made_of made.text) }
     {
         let read = from.string(alloc)?;
         match ArcStr::from_str(alloc, read.as_str()) {
@@ -66,6 +68,7 @@ impl<'de> Deserialize<'de> for ArcStr {
         from: &mut Deserializer<'de, '_, F>,
     ) -> Result<ArcStr, F::Error>
         ensures read { IfOk result (λ made. Gives F.gives from.old (text made.text) from.new) }
+        ensures kind { IfOk result (λ made. made ≡ made_of made.text) }
     {
         DeserializeOwned::deserialize_owned(alloc, from)
     }
@@ -78,6 +81,7 @@ impl DeserializeOwned for Substr {
         from: &mut Deserializer<'_, '_, F>,
     ) -> Result<Substr, F::Error>
         ensures read { IfOk result (λ slice. Gives F.gives from.old (text (text_of slice)) from.new) }
+        ensures whole { IfOk result (λ slice. slice ≡ whole_of slice.parent) }
     {
         let parent: ArcStr = DeserializeOwned::deserialize_owned(alloc, from)?;
         Ok(Substr::full(parent))
@@ -91,6 +95,7 @@ impl<'de> Deserialize<'de> for Substr {
         from: &mut Deserializer<'de, '_, F>,
     ) -> Result<Substr, F::Error>
         ensures read { IfOk result (λ slice. Gives F.gives from.old (text (text_of slice)) from.new) }
+        ensures whole { IfOk result (λ slice. slice ≡ whole_of slice.parent) }
     {
         DeserializeOwned::deserialize_owned(alloc, from)
     }

@@ -39,6 +39,9 @@ fn a_million_bytes_are_read(rt: HostRuntime) {
     let digits = many_digits(&rt);
     let value = string(&rt, digits.as_str());
     check_read(&rt, &value, digits.as_str());
+    let slice = part(&rt, &made(&rt, digits.as_str()), 1..);
+    let value = slice.to_json(rt.alloc()).expect(&rt, "no memory");
+    check_text(&rt, value.as_str().expect(&rt, "no string"), slice.as_str());
 }
 
 #[test]
@@ -120,6 +123,7 @@ fn a_struct_of_texts_is_written_as_json(rt: HostRuntime) {
     let json = serde_json::to_string(rt.alloc(), &entry).expect(&rt, "not written");
     let wanted = "{\"name\":\"key=\\\"é\\\"\",\"value\":\"\\\"é\\\"\",\"tags\":[\"a\\nb\",\"\"]}";
     check_text(&rt, json.as_str(), wanted);
+    check_count(&rt, &text, Some(3));
 }
 
 #[test]
