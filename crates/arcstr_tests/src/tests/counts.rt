@@ -1,5 +1,5 @@
-//! The count of a text after each call of `ArcStr` or `Substr`, and again after the result of the call is dropped. A call that takes one valid step too many, or forgets
-//! a handle, still meets its contract and returns the right value. Only the count detects it.
+//! The count of a text after each call of `ArcStr` or `Substr`, and again after the result of the call is dropped. A call that takes one valid step too many,
+//! or forgets a handle, still meets its contract and returns the right value. Only the count detects it.
 use crate::tests::checks::check;
 use crate::tests::steps::{check_count, made, part};
 use arcstr::{ArcStr, Substr, format_arcstr};
