@@ -13,7 +13,7 @@ MODULE = re.compile(ATTRIBUTES + r"(?:pub(?:\([a-z]+\))? )?mod (?P<name>\w+);", 
 FUNCTION = re.compile(
     ATTRIBUTES + r"(?P<public>pub )?(?:pub\([a-z]+\) )?(?:(?:const|unsafe|extern|async) )*fn (?P<name>\w+)", re.M)
 OWNER = re.compile(
-    r"^(?:unsafe )?(?:impl\b(?:<[^{]*?>)? (?:(?P<own>[^{;\n]*?) for &|(?:(?P<trait>[^{;\n]*?) for )?(?P<type>\w+))"
+    r"^(?:unsafe )?(?:impl\b(?:<[^{]*?>)? (?:(?P<own>[^{;\n]*?) for &|(?:(?P<trait>[^{;\n]*?) for )?(?P<type>\w+(?:::\w+)*))"
     r"|(?:pub )?trait (?P<new>\w+))[^;{]*\{", re.M)
 CLAUSE = re.compile(r"\b(?P<kind>ensures|requires|invariant|decreases)(?: (?P<name>\w+))?\s*$")
 HIDING = re.compile(r"#!?\[(?:cfg|path|ignore).*?\]$", re.M)
