@@ -35,9 +35,9 @@ pub fn between(rt: &impl Wait, slice: &Substr, first: char, last: char) -> Optio
     ensures text { IfSome result (λ inner. IsEnclosed slice.now first last inner) }
     ensures kept { IfSome result (λ inner. inner.parent ≡ slice.now.parent) }
 {
-    let (before, rest) = slice.substr_split_once(rt, first)?;
+    let rest = slice.substr_strip_prefix(rt, first)?;
     let (inner, after) = rest.substr_split_once(rt, last)?;
-    (before.is_empty() && after.is_empty()).then_some(inner)
+    after.is_empty().then_some(inner)
 }
 
 /// The content of a line.
