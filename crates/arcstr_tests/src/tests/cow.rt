@@ -1,6 +1,6 @@
 use crate::tests::checks::check_eq;
-use crate::tests::steps::{made, part};
-use arcstr::literal;
+use crate::tests::steps::{made, many_digits, part};
+use arcstr::{Substr, literal};
 use std::borrow::CowStr;
 use std::process::Abort;
 
@@ -40,6 +40,16 @@ fn the_text_of_a_block_is_copied(rt: HostRuntime) {
     let text = made(&rt, "hi");
     check_borrowed(&rt, text.to_cow(), "hi");
     check_owned(&rt, text.into_cow(rt.alloc()), "hi");
+}
+
+/// `into_cow` copies a text by `to_string`.
+#[test]
+fn a_million_bytes_are_copied(rt: HostRuntime) {
+    let digits = many_digits(&rt);
+    let wanted = digits.as_str();
+    check_owned(&rt, made(&rt, wanted).into_cow(rt.alloc()), wanted);
+    let slice = Substr::full(made(&rt, wanted));
+    check_owned(&rt, slice.into_cow(rt.alloc()), wanted);
 }
 
 #[test]
