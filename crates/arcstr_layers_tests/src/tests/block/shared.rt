@@ -237,56 +237,35 @@ fn a_fixed_block_outlives_two_threads(rt: HostRuntime) {
     }
 }
 
-/// Makes 200,000 clones once both threads have arrived, and keeps them, so that the count never is again what an exchange that failed expected.
-fn kept_clones<R: Wait>(
+/// Makes 150,000 clones once four threads have arrived, and keeps 100,000 of them, so that the count does not come back to one that an exchange expected in vain.
+fn clones<R: Wait>(
     rt: &R,
     alloc: Global,
     handle: &Shared<1_000_000, Global>,
     arrived: &AtomicU64,
 ) -> Option<Vec<Shared<1_000_000, Global>>> {
     let mut kept = Vec::new(alloc);
-    if !all_arrive(arrived, 2) {
+    if !all_arrive(arrived, 4) {
         return None;
     }
-    for _ in 0..100_000 {
+    for _ in 0..50_000 {
         kept.push(handle.try_up(1000)?).ok()?;
+        drop(handle.up(rt));
         kept.push(handle.up(rt)).ok()?;
     }
     Some(kept)
 }
 
-/// An exchange that fails is repeated with the count that it found.
-#[test]
-fn two_threads_keep_their_clones(rt: HostRuntime) {
-    let text = Shared::from_text(rt.alloc(), "foobar").expect(&rt, "refused");
-    let arrived = AtomicU64::new(0);
-    let (lent, gate) = (&text, &arrived);
-    let kept = thread::join(
-        &rt,
-        || kept_clones(&rt, rt.alloc(), lent, gate),
-        || kept_clones(&rt, rt.alloc(), lent, gate),
-    );
-    check!(rt; kept.0.is_some() && kept.1.is_some());
-    check_eq!(rt; text.look().0, Some(400_001));
-}
-
-/// Clones and drops 100,000 times once four threads have arrived. Returns whether they have, and the look after it has a count.
-fn clones<R: Wait>(rt: &R, handle: &Shared<1000, Global>, arrived: &AtomicU64) -> bool {
-    let together = all_arrive(arrived, 4);
-    for _ in 0..100_000 {
-        drop(handle.up(rt));
-    }
-    together && handle.look().0.is_some()
-}
-
-/// A compare-exchange that fails because of another thread's step is repeated, and does not mark the block.
+/// A compare-exchange that fails because of another thread's step is repeated with the count that it found, and does not mark the block.
 #[test]
 fn four_threads_leave_one(rt: HostRuntime) {
-    let text = Shared::<1000, Global>::from_text(rt.alloc(), "foobar").expect(&rt, "refused");
+    let text = Shared::from_text(rt.alloc(), "foobar").expect(&rt, "refused");
     let arrived = AtomicU64::new(0);
-    let (lent, gate) = (&text, &arrived);
-    let found = thread::map_indices(&rt, rt.alloc(), 4, &|_| clones(&rt, lent, gate));
-    let found = found.expect(&rt, "no thread");
-    check_eq!(rt; found.as_slice(), [true; 4].as_slice());
+    let (lent, gate, alloc) = (&text, &arrived, rt.alloc());
+    let kept = thread::map_indices(&rt, alloc, 4, &|_| clones(&rt, alloc, lent, gate));
+    let kept = kept.expect(&rt, "no thread");
+    check!(rt; kept.iter().all(|clones| clones.is_some()));
+    check_eq!(rt; text.look().0, Some(400_001));
+    drop(kept);
     check_eq!(rt; text.look().0, Some(1));
 }
