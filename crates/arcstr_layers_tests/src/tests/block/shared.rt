@@ -237,7 +237,7 @@ fn a_fixed_block_outlives_two_threads(rt: HostRuntime) {
     }
 }
 
-/// Makes 150,000 clones once four threads have arrived, and keeps 100,000 of them, so that the count does not come back to one that an exchange expected in vain.
+/// Clones 150,000 times once four threads have arrived, and keeps 100,000 clones, so that a count that an exchange did not find never comes back.
 fn clones<R: Wait>(
     rt: &R,
     alloc: Global,
