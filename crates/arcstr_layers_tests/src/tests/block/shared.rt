@@ -8,6 +8,7 @@ use arcstr_block::{Down, Fixed, Owed, Seen, Shared, TextFault};
 use linked_list_allocator::LocalHeap;
 use std::alloc::Global;
 use std::mem::size_of;
+use std::process::Abort;
 use std::sync::Wait;
 use std::sync::atomic::{AtomicU64, Ordering};
 use std::thread::Threads;
@@ -238,22 +239,21 @@ fn a_fixed_block_outlives_two_threads(rt: HostRuntime) {
 }
 
 /// Clones 150,000 times once four threads have arrived, and keeps 100,000 clones, so that a count that an exchange did not find never comes back.
-fn clones<R: Wait>(
+fn clones<R: Abort + Wait>(
     rt: &R,
     alloc: Global,
     handle: &Shared<1_000_000, Global>,
     arrived: &AtomicU64,
-) -> Option<Vec<Shared<1_000_000, Global>>> {
+) -> Vec<Shared<1_000_000, Global>> {
     let mut kept = Vec::new(alloc);
-    if !all_arrive(arrived, 4) {
-        return None;
-    }
+    check!(rt; all_arrive(arrived, 4));
     for _ in 0..50_000 {
-        kept.push(handle.try_up(1000)?).ok()?;
+        let clone = handle.try_up(1000).expect(rt, "gave up");
+        kept.push(clone).expect(rt, "no memory");
         drop(handle.up(rt));
-        kept.push(handle.up(rt)).ok()?;
+        kept.push(handle.up(rt)).expect(rt, "no memory");
     }
-    Some(kept)
+    kept
 }
 
 /// A compare-exchange that fails because of another thread's step is repeated with the count that it found, and does not mark the block.
@@ -264,7 +264,6 @@ fn four_threads_leave_one(rt: HostRuntime) {
     let (lent, gate, alloc) = (&text, &arrived, rt.alloc());
     let kept = thread::map_indices(&rt, alloc, 4, &|_| clones(&rt, alloc, lent, gate));
     let kept = kept.expect(&rt, "no thread");
-    check!(rt; kept.iter().all(|clones| clones.is_some()));
     check_eq!(rt; text.look().0, Some(400_001));
     drop(kept);
     check_eq!(rt; text.look().0, Some(1));
