@@ -211,13 +211,14 @@ fn prints_the_words_of_each_line(rt: HostRuntime) {
     }
 }
 
+/// Each line has 404 bytes.
 #[test]
 fn prints_the_words_of_3_000_lines(rt: HostRuntime) {
     let mut lines = String::new(rt.alloc());
     let mut wanted = String::new(rt.alloc());
     for number in 0..3_000 {
-        lines.push_str(" ab\n").expect(&rt, "refused");
-        write!(wanted, "{number} 1..3 ab\n").expect(&rt, "refused");
+        write!(lines, "{:>403}\n", "ab").expect(&rt, "refused");
+        write!(wanted, "{number} 401..403 ab\n").expect(&rt, "refused");
     }
     let found = run_program(&rt, &["tokens", "3"], lines.as_str(), NO_FAULT).expect(&rt, "refused");
     expect(&rt, &found, 0, wanted.as_str(), "");

@@ -187,14 +187,14 @@ fn the_first_of_reading_and_memory_is_answered(rt: HostRuntime) {
     check!(rt; refused);
 }
 
-/// How many clones a script of 100,000 bytes makes.
-const CLONES: u64 = 12_497;
+/// How many clones and blocks a script of 130,025 bytes makes.
+const ROUNDS: u64 = 10_000;
 
-/// A script that clones one handle this often, and looks.
+/// A script that clones one handle and makes another block this often, and looks.
 fn long_script(alloc: Global) -> Result<String, AllocError> {
-    let mut script = String::from_str(alloc, "limit 100000\nmake\n")?;
-    for _ in 0..CLONES {
-        script.push_str("clone 0\n")?;
+    let mut script = String::from_str(alloc, "limit 1000000\nmake\n")?;
+    for _ in 0..ROUNDS {
+        script.push_str("clone 0\nmake\n")?;
     }
     script.push_str("look 0")?;
     Ok(script)
@@ -202,10 +202,11 @@ fn long_script(alloc: Global) -> Result<String, AllocError> {
 
 fn long_answer(alloc: Global) -> Result<String, AllocError> {
     let mut out = String::from_str(alloc, "made 0\n")?;
-    for handle in 1..CLONES + 1 {
-        write!(out, "handle {handle}\n")?;
+    for round in 0..ROUNDS {
+        let (clone, block) = (2 * round + 1, 2 * round + 2);
+        write!(out, "handle {clone}\nmade {block}\n")?;
     }
-    out.push_str("count 12498\n")?;
+    out.push_str("count 10001\n")?;
     Ok(out)
 }
 
@@ -213,7 +214,7 @@ fn long_answer(alloc: Global) -> Result<String, AllocError> {
 fn answers_and_runs_a_long_script(rt: HostRuntime) {
     let script = long_script(rt.alloc()).expect(&rt, "refused");
     let wanted = long_answer(rt.alloc()).expect(&rt, "refused");
-    check_eq!(rt; script.len(), 100_000);
+    check_eq!(rt; script.len(), 130_025);
     let out = answer(rt.alloc(), script.as_bytes()).expect(&rt, "refused");
     check_eq!(rt; out.as_slice(), wanted.as_bytes());
     let mut written = Vec::new(rt.alloc());

@@ -74,6 +74,7 @@ fn reading_leaves_the_count(rt: HostRuntime) {
     check_dropped(&rt, &text, text.as_bytes().len() == text.len());
     check_dropped(&rt, &text, !text.is_empty());
     check_dropped(&rt, &text, text.get(1..) == Some("oo"));
+    check_dropped(&rt, &text, text.view().text() == "foo");
 }
 
 #[test]
@@ -226,6 +227,7 @@ fn reading_a_slice_leaves_the_count(rt: HostRuntime) {
     check_dropped(&rt, slice.parent(), slice.as_bytes().len() == slice.len());
     check_dropped(&rt, slice.parent(), !slice.is_empty());
     check_dropped(&rt, slice.parent(), slice.get(1..) == Some("ar"));
+    check_dropped(&rt, slice.parent(), slice.view().text() == "bar");
     check_dropped(&rt, slice.parent(), slice.range() == (3..6));
 }
 

@@ -1,5 +1,5 @@
 use crate::tests::checks::check_eq;
-use crate::tests::steps::{made, part};
+use crate::tests::steps::{made, many_digits, part};
 use arcstr::literal;
 use std::borrow::CowStr;
 use std::process::Abort;
@@ -37,16 +37,19 @@ fn the_text_of_a_leaked_block_is_copied(rt: HostRuntime) {
 
 #[test]
 fn the_text_of_a_block_is_copied(rt: HostRuntime) {
-    let text = made(&rt, "hi");
-    check_borrowed(&rt, text.to_cow(), "hi");
-    check_owned(&rt, text.into_cow(rt.alloc()), "hi");
+    let digits = many_digits(&rt);
+    let text = made(&rt, digits.as_str());
+    check_borrowed(&rt, text.to_cow(), digits.as_str());
+    check_owned(&rt, text.into_cow(rt.alloc()), digits.as_str());
 }
 
 #[test]
 fn the_slice_of_a_block_is_copied(rt: HostRuntime) {
-    let slice = part(&rt, &made(&rt, "foobar"), 3..);
-    check_borrowed(&rt, slice.to_cow(), "bar");
-    check_owned(&rt, slice.into_cow(rt.alloc()), "bar");
+    let digits = many_digits(&rt);
+    let wanted = digits.as_str().get(13..).expect(&rt, "short");
+    let slice = part(&rt, &made(&rt, digits.as_str()), 13..);
+    check_borrowed(&rt, slice.to_cow(), wanted);
+    check_owned(&rt, slice.into_cow(rt.alloc()), wanted);
 }
 
 #[test]

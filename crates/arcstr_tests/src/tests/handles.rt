@@ -42,7 +42,7 @@ fn a_clone_shares_the_count(rt: HostRuntime) {
 }
 
 /// A number of handles at which a text is still counted. The limit, `RC_MAX`, is too large for a test.
-const HANDLES: usize = 70_000;
+const HANDLES: usize = 200_000;
 
 #[test]
 fn many_handles_are_counted_and_mark_nothing(rt: HostRuntime) {

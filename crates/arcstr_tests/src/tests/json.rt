@@ -37,9 +37,13 @@ fn a_slice_is_written_and_read_back(rt: HostRuntime) {
 #[test]
 fn a_million_bytes_are_read(rt: HostRuntime) {
     let digits = many_digits(&rt);
-    let value = string(&rt, digits.as_str());
+    let text = made(&rt, digits.as_str());
+    let value = text.to_json(rt.alloc()).expect(&rt, "no memory");
     check_read(&rt, &value, digits.as_str());
-    let slice = part(&rt, &made(&rt, digits.as_str()), 1..);
+    let json = serde_json::to_string(rt.alloc(), &text).expect(&rt, "not written");
+    let read: Substr = serde_json::from_str(rt.alloc(), json.as_str()).expect(&rt, "not read");
+    check_text(&rt, read.as_str(), digits.as_str());
+    let slice = part(&rt, &text, 1..);
     let value = slice.to_json(rt.alloc()).expect(&rt, "no memory");
     check_text(&rt, value.as_str().expect(&rt, "no string"), slice.as_str());
 }
@@ -133,6 +137,7 @@ fn a_struct_of_texts_is_read_from_json(rt: HostRuntime) {
     check_text(&rt, entry.name.as_str(), "plain");
     check_count(&rt, &entry.name, Some(1));
     check_slice(&rt, &entry.value, "é b", 0..4);
+    check_count(&rt, entry.value.parent(), Some(1));
     assert!(rt; entry.tags.len() == 2);
     check!(rt; ArcStr::is_static(&entry.tags[1]));
 }

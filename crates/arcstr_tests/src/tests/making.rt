@@ -104,6 +104,7 @@ fn copies_of_a_million_bytes_are_read_back(rt: HostRuntime) {
     let bytes = wanted.as_bytes();
     check_made(&rt, ArcStr::from_utf8(rt.alloc(), bytes), wanted);
     check_made(&rt, format_arcstr!(rt.alloc(); "{wanted}"), wanted);
+    check_made(&rt, ArcStr::join(rt.alloc(), &["", wanted], ""), wanted);
 }
 
 #[test]
@@ -111,6 +112,7 @@ fn a_made_slice_of_a_million_bytes_is_read_back(rt: HostRuntime) {
     let digits = many_digits(&rt);
     let slice = Substr::from_str(rt.alloc(), digits.as_str()).expect(&rt, "no memory");
     check_slice(&rt, &slice, digits.as_str(), 0..1_000_000);
+    check_made(&rt, slice.to_arc_str(rt.alloc()), digits.as_str());
 }
 
 #[test]

@@ -7,11 +7,14 @@ use std::thread;
 
 const ROUNDS: u32 = 100_000;
 
-/// Clones the text and drops the clone many times. Returns the length of the last clone.
+/// Clones the text in both ways and drops the clones, many times. Returns the length of the last clone, or 0 if a clone by the trait failed.
 fn cloned_often(rt: &impl Wait, text: &ArcStr) -> usize {
     let mut length = 0;
     for _ in 0..ROUNDS {
         length = text.clone(rt).len();
+        if Clone::clone(text).is_err() {
+            return 0;
+        }
     }
     length
 }

@@ -39,6 +39,8 @@ fn words_of_characters_of_several_bytes(rt: HostRuntime) {
 #[test]
 fn a_text_of_one_word(rt: HostRuntime) {
     check_words(&rt, "foobar", &[(0, 6, "foobar")]);
+    let long = ArcStr::repeat(rt.alloc(), "foobar", 100_000).expect(&rt, "no memory");
+    check_words(&rt, long.as_str(), &[(0, 600_000, long.as_str())]);
     check_words(&rt, "é", &[(0, 2, "é")]);
 }
 

@@ -32,16 +32,6 @@ fn a_refused_fill_gives_its_memory_back(rt: HostRuntime) {
     check_eq!(rt; heap.used(), 0);
 }
 
-#[test]
-fn one_byte_is_filled_and_a_text_is_copied_twice(rt: HostRuntime) {
-    let filled = Shared::<5, _>::init(rt.alloc(), 1, |bytes| bytes[0] = b'a').expect(
-        &rt, "refused",
-    );
-    check_eq!(rt; filled.as_str(), "a");
-    let copies = Shared::<5, _>::repeat(rt.alloc(), "ab", 2).expect(&rt, "refused");
-    check_eq!(rt; copies.as_str(), "abab");
-}
-
 /// A text of 64 bytes. Its block has 80, to which a heap adds nothing: a heap rounds sizes up to a multiple of 16.
 const TEXT: &str = "0123456789abcdef0123456789abcdef0123456789abcdef0123456789abcdef";
 
@@ -143,6 +133,8 @@ fn is_read_back(alloc: Global, long: &str, len: usize) -> Result<bool, TextFault
 #[test]
 fn texts_of_all_sizes_are_read_back(rt: HostRuntime) {
     let long = Shared::<5, _>::repeat(rt.alloc(), "abcdefghijk", 100_000).expect(&rt, "refused");
+    let joined = Shared::<5, _>::join(rt.alloc(), &["", long.as_str()], "", 1_100_000);
+    check_eq!(rt; joined.expect(&rt, "refused").as_str(), long.as_str());
     for len in [0, 1, 7, 8, 9, 64, 4096, 1_000_000] {
         check_eq!(rt;
             (len, is_read_back(rt.alloc(), long.as_str(), len).expect(&rt, "refused")),

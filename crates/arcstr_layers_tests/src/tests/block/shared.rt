@@ -8,6 +8,7 @@ use arcstr_block::{Down, Fixed, Owed, Seen, Shared, TextFault};
 use linked_list_allocator::LocalHeap;
 use std::alloc::Global;
 use std::mem::size_of;
+use std::process::Abort;
 use std::sync::Wait;
 use std::sync::atomic::{AtomicU64, Ordering};
 use std::thread::Threads;
@@ -237,23 +238,33 @@ fn a_fixed_block_outlives_two_threads(rt: HostRuntime) {
     }
 }
 
-/// Clones and drops 100,000 times once four threads have arrived. Returns whether they have, and the look after it has a count.
-fn clones<R: Wait>(rt: &R, handle: &Shared<1000, Global>, arrived: &AtomicU64) -> bool {
-    let together = all_arrive(arrived, 4);
-    for _ in 0..100_000 {
+/// Clones 150,000 times once four threads have arrived, and keeps 100,000 clones, so that a count that an exchange did not find never comes back.
+fn clones<R: Abort + Wait>(
+    rt: &R,
+    alloc: Global,
+    handle: &Shared<1_000_000, Global>,
+    arrived: &AtomicU64,
+) -> Vec<Shared<1_000_000, Global>> {
+    let mut kept = Vec::new(alloc);
+    check!(rt; all_arrive(arrived, 4));
+    for _ in 0..50_000 {
+        let clone = handle.try_up(1000).expect(rt, "gave up");
+        kept.push(clone).expect(rt, "no memory");
         drop(handle.up(rt));
+        kept.push(handle.up(rt)).expect(rt, "no memory");
     }
-    together && handle.look().0.is_some()
+    kept
 }
 
-/// A compare-exchange that fails because of another thread's step is repeated, and does not mark the block.
+/// A compare-exchange that fails because of another thread's step is repeated with the count that it found, and does not mark the block.
 #[test]
 fn four_threads_leave_one(rt: HostRuntime) {
-    let text = Shared::<1000, Global>::from_text(rt.alloc(), "foobar").expect(&rt, "refused");
+    let text = Shared::from_text(rt.alloc(), "foobar").expect(&rt, "refused");
     let arrived = AtomicU64::new(0);
-    let (lent, gate) = (&text, &arrived);
-    let found = thread::map_indices(&rt, rt.alloc(), 4, &|_| clones(&rt, lent, gate));
-    let found = found.expect(&rt, "no thread");
-    check_eq!(rt; found.as_slice(), [true; 4].as_slice());
+    let (lent, gate, alloc) = (&text, &arrived, rt.alloc());
+    let kept = thread::map_indices(&rt, alloc, 4, &|_| clones(&rt, alloc, lent, gate));
+    let kept = kept.expect(&rt, "no thread");
+    check_eq!(rt; text.look().0, Some(400_001));
+    drop(kept);
     check_eq!(rt; text.look().0, Some(1));
 }

@@ -147,13 +147,9 @@ fn faults_have_numbers_and_texts(rt: HostRuntime) {
         let number = fault.number();
         let printed = format!(in rt.alloc(); "{number} {fault}").expect(&rt, "refused");
         check_eq!(rt; printed.as_str(), wanted);
+        let fault = io::Error::from(fault);
+        check_eq!(rt; fault.kind(), io::ErrorKind::InvalidInput);
+        let printed = format!(in rt.alloc(); "{number} {fault}").expect(&rt, "refused");
+        check_eq!(rt; printed.as_str(), wanted);
     }
-}
-
-#[test]
-fn faults_are_faults_of_reading_and_writing(rt: HostRuntime) {
-    let fault = io::Error::from(RangeFault::OffBoundary);
-    check_eq!(rt; fault.kind(), io::ErrorKind::InvalidInput);
-    let printed = fault.to_string(rt.alloc()).expect(&rt, "refused");
-    check_eq!(rt; printed.as_str(), "range cuts a character");
 }
