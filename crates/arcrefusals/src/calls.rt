@@ -161,21 +161,13 @@ pub(crate) enum Stop {
 }
 
 /// Stops if something is not as it should be.
-pub(crate) fn check(as_it_should_be: bool) -> Result<(), Stop> {
-    if as_it_should_be {
-        Ok(())
-    } else {
-        Err(Stop::Differs)
-    }
+pub(crate) fn check(is_so: bool) -> Result<(), Stop> {
+    if is_so { Ok(()) } else { Err(Stop::Differs) }
 }
 
 /// Why a call stopped that reported a fault.
-fn of_fault(is_memory: bool) -> Stop {
-    if is_memory {
-        Stop::Refused
-    } else {
-        Stop::Fault
-    }
+fn of_fault(memory: bool) -> Stop {
+    if memory { Stop::Refused } else { Stop::Fault }
 }
 
 /// Whether a text is this one, and its block has this many handles.

@@ -13,20 +13,12 @@ pub(crate) fn run<R: Machine>(rt: &R) -> io::Result<()> {
     again::<ArcStr, ArcStr, R>(rt, "ArcStr::clone", 0, "foobar", 2)?;
     again::<ArcStr, Substr, R>(rt, "ArcStr::substr", 0, "bar", 2)?;
     again::<Substr, Substr, R>(rt, "Substr::substr", 0, "ar", 2)?;
-    again::<ArcStr, Parts, R>(
-        rt,
-        "ArcStr::substr_split_at, substr_split_once, substr_rsplit_once, substr_strip_prefix, substr_strip_suffix",
-        0,
-        "bar",
-        9,
-    )?;
-    again::<Substr, Parts, R>(
-        rt,
-        "Substr::substr_split_at, substr_split_once, substr_rsplit_once, substr_strip_prefix, substr_strip_suffix",
-        0,
-        "r",
-        9,
-    )?;
+    let parts =
+        "ArcStr::substr_split_at, substr_split_once, substr_rsplit_once, substr_strip_prefix, substr_strip_suffix";
+    again::<ArcStr, Parts, R>(rt, parts, 0, "bar", 9)?;
+    let parts =
+        "Substr::substr_split_at, substr_split_once, substr_rsplit_once, substr_strip_prefix, substr_strip_suffix";
+    again::<Substr, Parts, R>(rt, parts, 0, "r", 9)?;
     again_whole(rt, "ArcStr::leak", 0)?;
     again_whole(rt, "==, cmp", 1)?;
     again_whole(rt, "hash", 2)?;
