@@ -1,160 +1,183 @@
 //! Makes a call of the library until it is not refused, and says why it was not completed and compared.
-ghost use Rattle.std.specs.Prelude.{◌↔◌, IsOk, IsTrue};
-
+use crate::{histories, sharing, without_memory};
 use arcbench_core::pool::PoolFault;
 use arcbench_core::script::CopyFault;
 use arcintern::InternFault;
 use arcstr::count::RunFault;
 use arcstr::{ArcStr, JsonFault, TextFault};
 use std::alloc::AllocError;
-use std::io::{Stderr, Stdout, Write};
-use std::{fmt, io};
+use std::io;
+use std::io::Write;
+use std::sync::Wait;
+use std::thread::Threads;
 
 /// How often a call is made before the program gives up. Two tries suffice if one allocation is refused.
 pub(crate) const TRIES: usize = 4;
 
-/// Shows the script `refusals` where a call begins and ends, by a write of zero bytes to standard output, and prints how it ended. The library that the
-/// script loads below the program sees the write; nothing else changes.
-#[derive(Clone, Copy)]
-pub(crate) struct Meter(pub(crate) Stdout, pub(crate) Stderr);
+/// Memory, standard streams, threads, and the permission to wait for them.
+pub(crate) trait Machine: AllocGlobal + Print + Eprint + Threads + Wait + Sync {}
 
-impl Meter {
-    /// Prepares a call and makes it, until neither is refused, and prints its line.
-    pub(crate) fn again<F: Fn() -> Result<(), Stop>>(self, line: &str, once: F) -> io::Result<()>
-        requires { F.IsAlwaysCallable once }
-    {
-        match retry(once) {
-            Ok(()) => println!(self.1; "{line}"),
-            Err(stop) => println!(self.0; "{line}: not so: {stop}"),
-        }
+impl<R: AllocGlobal + Print + Eprint + Threads + Wait + Sync> Machine for R {}
+
+/// What calls work on.
+pub(crate) trait Given: Drop {
+    fn prepare<R: Machine>(rt: &R) -> Result<Self, Stop>;
+
+    /// Whether it is as it was prepared, after a refusal and once what was made is dropped.
+    fn is_unchanged<R: Machine>(&self, rt: &R) -> bool;
+}
+
+/// Calls that need nothing.
+impl Given for () {
+    fn prepare<R: Machine>(_rt: &R) -> Result<(), Stop> {
+        Ok(())
     }
 
-    /// Compares what a call made, if it was not refused, and drops it.
-    pub(crate) fn compared<T: Made, E: Into<Stop>>(
-        self,
-        made: Result<T, E>,
-        wanted: &str,
-    ) -> Result<(), Stop> {
-        match made {
-            Ok(value) => {
-                value.check(wanted)?;
-                self.drop(value);
-                Ok(())
-            }
-            Err(fault) => Err(fault.into()),
-        }
-    }
-
-    /// Makes a call whose allocations are counted.
-    pub(crate) fn counted<T, F: FnOnce() -> T>(self, call: F) -> T
-        requires { F.IsAlwaysCallable call }
-    {
-        self.mark();
-        let result = call();
-        self.mark();
-        result
-    }
-
-    /// Drops a value as a counted call of its own.
-    pub(crate) fn drop<T: Drop>(self, value: T) {
-        self.mark();
-        drop(value);
-        self.mark();
-    }
-
-    fn mark(mut self) {
-        let _ = self.0.write(b"");
+    fn is_unchanged<R: Machine>(&self, _rt: &R) -> bool {
+        true
     }
 }
 
-/// Does something until it is not refused, and returns how it ended.
-pub(crate) fn retry<T: Drop, F: FnMut() -> Result<T, Stop>>(mut once: F) -> Result<T, Stop>
-    requires { F.IsAlwaysCallable once }
-{
+/// What a call makes.
+pub(crate) trait Made: Drop {
+    /// Whether it is this text, and its block has this many handles.
+    fn is(&self, wanted: &str, handles: usize) -> bool;
+}
+
+/// Calls that make one type of another.
+pub(crate) trait Calls<G>: Made {
+    /// Makes the call of this number.
+    fn call<R: Machine>(rt: &R, given: &mut G, number: usize) -> Result<Self, Stop>;
+}
+
+/// Makes the call of this number until it is not refused, compares and drops what it made, and prints its line.
+pub(crate) fn again<G: Given, T: Calls<G>, R: Machine>(
+    rt: &R,
+    line: &str,
+    number: usize,
+    wanted: &str,
+    handles: usize,
+) -> io::Result<()> {
     for _ in 0..TRIES {
-        let ended = once();
-        if !matches!(ended, Err(Stop::Refused)) {
-            return ended;
+        match prepare_and_call::<G, T, R>(rt, number, wanted, handles) {
+            Err(Stop::Refused) => {}
+            ended => return print(rt, line, ended),
+        }
+    }
+    print(rt, line, Err(Stop::Refused))
+}
+
+/// As `again`, for calls with functions of their own: those with nothing to drop, and those in threads.
+pub(crate) fn again_whole<R: Machine>(rt: &R, line: &str, number: usize) -> io::Result<()> {
+    for _ in 0..TRIES {
+        match call_whole(rt, number) {
+            Err(Stop::Refused) => {}
+            ended => return print(rt, line, ended),
+        }
+    }
+    print(rt, line, Err(Stop::Refused))
+}
+
+fn call_whole<R: Machine>(rt: &R, number: usize) -> Result<(), Stop> {
+    match number {
+        0 => without_memory::leak(rt),
+        1 => without_memory::compare_texts(rt),
+        2 => without_memory::hash(rt),
+        3 => without_memory::ends(rt),
+        4 => histories::steps_of_a_world(rt),
+        5 => histories::copy_of_a_script(rt),
+        6 => sharing::callers_in_threads(rt),
+        7 => sharing::words_in_threads(rt),
+        _ => sharing::words_behind_a_gate(rt),
+    }
+}
+
+fn print<R: Machine>(rt: &R, line: &str, ended: Result<(), Stop>) -> io::Result<()> {
+    let stop = match ended {
+        Ok(()) => return eprintln!(rt; "{line}"),
+        Err(Stop::Refused) => "refused each time",
+        Err(Stop::Fault) => "a fault",
+        Err(Stop::Differs) => "what it made, or what it was given",
+    };
+    println!(rt; "{line}: not so: {stop}")
+}
+
+fn prepare_and_call<G: Given, T: Calls<G>, R: Machine>(
+    rt: &R,
+    number: usize,
+    wanted: &str,
+    handles: usize,
+) -> Result<(), Stop> {
+    let mut given = G::prepare(rt)?;
+    for _ in 0..TRIES {
+        mark(rt);
+        let made = T::call(rt, &mut given, number);
+        mark(rt);
+        match compare(rt, &given, made, wanted, handles) {
+            Err(Stop::Refused) => {}
+            ended => return ended,
         }
     }
     Err(Stop::Refused)
 }
 
-/// What a call makes of a text.
-pub(crate) trait Made: Drop {
-    /// Compares it with this text, and the count of its block, if it has one, with one handle.
-    fn check(&self, wanted: &str) -> Result<(), Stop>;
+/// Compares what a call made, if it was not refused, drops it as a counted call of its own, and compares what the call was given.
+pub(crate) fn compare<G: Given, T: Made, R: Machine>(
+    rt: &R,
+    given: &G,
+    made: Result<T, Stop>,
+    wanted: &str,
+    handles: usize,
+) -> Result<(), Stop> {
+    let ended = match made {
+        Ok(made) => {
+            let is_right = made.is(wanted, handles);
+            mark(rt);
+            drop(made);
+            mark(rt);
+            check(is_right)
+        }
+        Err(stop) => Err(stop),
+    };
+    check(given.is_unchanged(rt))?;
+    ended
 }
 
-/// Why a call was not completed and compared: it ran out of memory and reported that, or this part is not as it should be.
+/// Shows the script `refusals` where a counted call begins or ends, by a write of zero bytes to standard output. The library that the script loads below the
+/// program sees the write; nothing else changes.
+pub(crate) fn mark<R: Print>(rt: &R) {
+    let _ = io::writer(rt).write(b"");
+}
+
+/// Why a call was not completed and compared.
 #[derive(Clone, Copy)]
 pub(crate) enum Stop {
+    /// It ran out of memory and reported that.
     Refused,
-    Text,
-    Range,
-    Count,
-    Copy,
-    Value,
-    Closure,
-    Length,
-    Order,
-    Hash,
-    Reply,
-    Given,
-    Answer,
-    Gate,
+    /// It reported another fault.
     Fault,
+    /// What it made, or what it was given, is not as it should be.
+    Differs,
 }
 
-impl fmt::Display for Stop {
-    fn fmt<W: fmt::Write>(&self, f: &mut fmt::Formatter<W>) -> fmt::Result {
-        f.write_str(match self {
-            Stop::Refused => "refused each time",
-            Stop::Text => "a text",
-            Stop::Range => "a range",
-            Stop::Count => "a count",
-            Stop::Copy => "a copy",
-            Stop::Value => "a JSON value",
-            Stop::Closure => "the run of a closure",
-            Stop::Length => "the length of a list",
-            Stop::Order => "an order",
-            Stop::Hash => "a hash",
-            Stop::Reply => "a reply",
-            Stop::Given => "how often a block was freed",
-            Stop::Answer => "an answer",
-            Stop::Gate => "how often a worker passed its gate",
-            Stop::Fault => "a fault",
-        })
-    }
+/// Stops if something is not as it should be.
+pub(crate) fn check(is_so: bool) -> Result<(), Stop> {
+    if is_so { Ok(()) } else { Err(Stop::Differs) }
 }
 
-impl Stop {
-    /// Why a call stopped that reported a fault.
-    fn of_fault(is_memory: bool) -> Stop {
-        if is_memory {
-            Stop::Refused
-        } else {
-            Stop::Fault
-        }
-    }
+/// Why a call stopped that reported a fault.
+fn of_fault(memory: bool) -> Stop {
+    if memory { Stop::Refused } else { Stop::Fault }
 }
 
-/// Stops if this part is not as it should be.
-pub(crate) fn check(part: Stop, as_it_should_be: bool) -> Result<(), Stop>
-    ensures { IsOk result ↔ IsTrue as_it_should_be }
-{
-    if as_it_should_be { Ok(()) } else { Err(part) }
+/// Whether a text is this one, and its block has this many handles.
+pub(crate) fn is_text(text: &ArcStr, wanted: &str, handles: usize) -> bool {
+    text.as_str() == wanted && count(text) == handles
 }
 
-/// Compares a text with this text, and its count with this number of handles.
-pub(crate) fn check_text(text: &ArcStr, wanted: &str, handles: usize) -> Result<(), Stop> {
-    check(Stop::Text, text.as_str() == wanted)?;
-    check_count(text, handles)
-}
-
-/// Compares the count of a text with this number of handles.
-pub(crate) fn check_count(text: &ArcStr, handles: usize) -> Result<(), Stop> {
-    check(Stop::Count, ArcStr::strong_count(text) == Some(handles))
+/// The number of handles on a text's block, and 0 if it has none.
+pub(crate) fn count(text: &ArcStr) -> usize {
+    ArcStr::strong_count(text).unwrap_or(0)
 }
 
 impl From<AllocError> for Stop {
@@ -165,45 +188,43 @@ impl From<AllocError> for Stop {
 
 impl From<TextFault> for Stop {
     fn from(fault: TextFault) -> Stop {
-        Stop::of_fault(fault == TextFault::Memory)
+        of_fault(fault == TextFault::Memory)
     }
 }
 
 impl From<JsonFault> for Stop {
     fn from(fault: JsonFault) -> Stop {
-        Stop::of_fault(fault == JsonFault::Memory)
+        of_fault(fault == JsonFault::Memory)
     }
 }
 
 impl From<serde_json::Error> for Stop {
     fn from(fault: serde_json::Error) -> Stop {
-        Stop::of_fault(fault.is_memory())
+        of_fault(fault.is_memory())
     }
 }
 
 impl From<InternFault> for Stop {
     fn from(fault: InternFault) -> Stop {
-        Stop::of_fault(fault == InternFault::Memory)
+        of_fault(fault == InternFault::Memory)
     }
 }
 
 impl From<RunFault> for Stop {
     fn from(fault: RunFault) -> Stop {
-        Stop::of_fault(fault == RunFault::Memory)
+        of_fault(fault == RunFault::Memory)
     }
 }
 
 impl From<CopyFault> for Stop {
     fn from(fault: CopyFault) -> Stop {
-        Stop::of_fault(fault == CopyFault::Memory)
+        of_fault(fault == CopyFault::Memory)
     }
 }
 
 impl From<PoolFault> for Stop {
     /// A thread that could not be started is a refusal too: its start takes memory.
-    fn from(fault: PoolFault) -> Stop {
-        match fault {
-            PoolFault::Memory | PoolFault::NoThread => Stop::Refused,
-        }
+    fn from(_: PoolFault) -> Stop {
+        Stop::Refused
     }
 }

@@ -1,5 +1,5 @@
 //! Calls on histories of steps, and on scripts of them.
-use crate::calls::{Meter, Stop, check, retry};
+use crate::calls::{Calls, Machine, Made, Stop, TRIES, again, again_whole, check, mark};
 use arcbench_core::port::Port;
 use arcbench_core::script::{answer, copy};
 use arcstr::count;
@@ -46,78 +46,95 @@ const REPLIES: [Reply; 14] = [
 
 const SCRIPT: &[u8] = b"limit 5\nmake\nclone 0\nlook 1\nback\n";
 
-const ANSWER: &[u8] = b"made 0\nhandle 1\ncount 2\nbad\n";
+const ANSWER: &str = "made 0\nhandle 1\ncount 2\nbad\n";
 
-pub(crate) fn run(meter: Meter, alloc: Global) -> io::Result<()> {
-    meter.again("run", || {
-        let replies = meter.counted(|| count::run(alloc, LIMIT, &STEPS))?;
-        check(Stop::Reply, replies.as_slice() == REPLIES.as_slice())?;
-        meter.drop(replies);
-        Ok(())
-    })?;
-    meter.again("World::step", || steps_of_a_world(meter, alloc))?;
-    meter.again("script::answer", || {
-        let answered = meter.counted(|| answer(alloc, SCRIPT))?;
-        check(Stop::Answer, answered.as_slice() == ANSWER)?;
-        meter.drop(answered);
-        Ok(())
-    })?;
-    meter.again("script::copy", || copy_of_a_script(meter, alloc))
+pub(crate) fn run<R: Machine>(rt: &R) -> io::Result<()> {
+    again::<(), Vec<Reply>, R>(rt, "run", 0, "", 0)?;
+    again_whole(rt, "World::step", 4)?;
+    again::<(), Vec<u8>, R>(rt, "script::answer", 0, ANSWER, 0)?;
+    again_whole(rt, "script::copy", 5)
+}
+
+impl Made for Vec<Reply> {
+    fn is(&self, _wanted: &str, _handles: usize) -> bool {
+        self.as_slice() == REPLIES.as_slice()
+    }
+}
+
+impl Calls<()> for Vec<Reply> {
+    fn call<R: Machine>(rt: &R, _: &mut (), _: usize) -> Result<Vec<Reply>, Stop> {
+        Ok(count::run(rt.alloc(), LIMIT, &STEPS)?)
+    }
+}
+
+impl Made for Vec<u8> {
+    fn is(&self, wanted: &str, _handles: usize) -> bool {
+        self.as_slice() == wanted.as_bytes()
+    }
+}
+
+impl Calls<()> for Vec<u8> {
+    fn call<R: Machine>(rt: &R, _: &mut (), _: usize) -> Result<Vec<u8>, Stop> {
+        Ok(answer(rt.alloc(), SCRIPT)?)
+    }
 }
 
 /// Takes each step, and repeats it while it is refused.
-fn steps_of_a_world(meter: Meter, alloc: Global) -> Result<(), Stop> {
-    let mut world = World::new(alloc, LIMIT)?;
+pub(crate) fn steps_of_a_world<R: AllocGlobal + Print>(rt: &R) -> Result<(), Stop> {
+    let mut world = World::new(rt.alloc(), LIMIT)?;
+    let ended = take_steps(rt, &mut world);
+    mark(rt);
+    drop(world);
+    mark(rt);
+    ended
+}
+
+fn take_steps<R: Print>(rt: &R, world: &mut World<Global>) -> Result<(), Stop> {
     for (step, wanted) in STEPS.iter().zip(REPLIES) {
-        let reply = reply_to(meter, &mut world, *step)?;
-        check(Stop::Reply, reply == wanted)?;
+        check(reply_to(rt, world, *step)? == wanted)?;
     }
-    meter.drop(world);
     Ok(())
 }
 
 /// The reply to a step. After each refusal the world shows the same as before.
-fn reply_to(meter: Meter, world: &mut World<Global>, step: Step) -> Result<Reply, Stop> {
-    let counts = count_of_each(world)?;
-    let given = given_of_each(world);
-    retry(|| {
-        let reply = meter.counted(|| world.step(step));
-        if reply.is_err() {
-            check(Stop::Count, count_of_each(world)? == counts)?;
-            check(Stop::Given, given_of_each(world) == given)?;
+fn reply_to<R: Print>(rt: &R, world: &mut World<Global>, step: Step) -> Result<Reply, Stop> {
+    let before = shown(world)?;
+    for _ in 0..TRIES {
+        mark(rt);
+        let reply = world.step(step);
+        mark(rt);
+        if let Ok(reply) = reply {
+            return Ok(reply);
         }
-        Ok(reply?)
-    })
+        check(shown(world)? == before)?;
+    }
+    Err(Stop::Refused)
 }
 
-/// The replies to a look through each handle that is made. These looks change nothing.
-fn count_of_each(world: &mut World<Global>) -> Result<[Reply; 9], Stop> {
-    let mut counts = [Reply::Left; 9];
+/// The replies to a look through each handle that is made, which change nothing, and how often each block that is made was freed.
+fn shown(world: &mut World<Global>) -> Result<([Reply; 9], [u64; 6]), Stop> {
+    let (mut counts, mut given) = ([Reply::Left; 9], [0; 6]);
     for (handle, count) in (0..9).zip(counts.iter_mut()) {
         *count = world.step(Step::Look(handle))?;
     }
-    Ok(counts)
-}
-
-/// How often each block that is made was freed.
-fn given_of_each(world: &World<Global>) -> [u64; 6] {
-    let mut given = [0; 6];
     for (block, times) in (0..6).zip(given.iter_mut()) {
         *times = world.given(block);
     }
-    given
+    Ok((counts, given))
 }
 
 /// Calls `copy` with a buffer of the answer's length as output. Nothing is written there if the call is refused.
-fn copy_of_a_script(meter: Meter, alloc: Global) -> Result<(), Stop> {
+pub(crate) fn copy_of_a_script<R: AllocGlobal + Print>(rt: &R) -> Result<(), Stop> {
     let mut room = [0; 28];
     let mut input = Port::new(SCRIPT);
     let mut output = Port::new(room.as_mut_slice());
-    let copied = meter.counted(|| copy(alloc, &mut input, &mut output));
+    mark(rt);
+    let copied = copy(rt.alloc(), &mut input, &mut output);
+    mark(rt);
     match copied {
-        Ok(()) => check(Stop::Answer, room.as_slice() == ANSWER),
+        Ok(()) => check(room.as_slice() == ANSWER.as_bytes()),
         Err(fault) => {
-            check(Stop::Answer, room == [0; 28])?;
+            check(room == [0; 28])?;
             Err(fault.into())
         }
     }

@@ -3,7 +3,6 @@
 //! The script `refusals` refuses each allocation in turn, and counts those of each call.
 #![tactic(auto)]
 
-use calls::Meter;
 use std::io;
 
 mod calls;
@@ -15,11 +14,10 @@ mod sharing;
 mod without_memory;
 
 fn main(rt: HostRuntime) -> io::Result<()> {
-    let (alloc, meter) = (rt.alloc(), Meter(rt.stdout(), rt.stderr()));
-    making::run(meter, alloc)?;
-    copies::run(&rt, meter, alloc)?;
-    interning::run(&rt, meter, alloc)?;
-    without_memory::run(&rt, meter, alloc)?;
-    histories::run(meter, alloc)?;
-    sharing::run(&rt, meter, alloc)
+    making::run(&rt)?;
+    copies::run(&rt)?;
+    interning::run(&rt)?;
+    without_memory::run(&rt)?;
+    histories::run(&rt)?;
+    sharing::run(&rt)
 }

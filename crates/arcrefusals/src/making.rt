@@ -1,124 +1,108 @@
 //! Calls that make a text in a block of its own.
-use crate::calls::{Made, Meter, Stop, check, check_text};
+use crate::calls::{Calls, Machine, Made, Stop, again, check, is_text};
 use arcstr::block::Shared;
-use arcstr::{ArcStr, Substr, format_arcstr};
+use arcstr::{ArcStr, Substr, format_arcstr, literal};
 use std::alloc::Global;
 use std::io;
 
 /// A block that a clone marks while more than five handles on it live.
 type Block = Shared<5, Global>;
 
+pub(crate) fn run<R: Machine>(rt: &R) -> io::Result<()> {
+    again::<(), ArcStr, R>(rt, "ArcStr::from_str", 0, "foobar", 1)?;
+    again::<(), ArcStr, R>(rt, "ArcStr::try_alloc", 1, "foo bar.", 1)?;
+    again::<(), ArcStr, R>(rt, "ArcStr::from_utf8", 2, "foo, bar.", 1)?;
+    let four_times = "0123456789abcdef0123456789abcdef0123456789abcdef0123456789abcdef";
+    again::<(), ArcStr, R>(rt, "ArcStr::try_repeat", 3, four_times, 1)?;
+    again::<(), ArcStr, R>(rt, "ArcStr::repeat", 4, "ababab", 1)?;
+    again::<(), ArcStr, R>(rt, "ArcStr::join", 5, "foo, , bar", 1)?;
+    again::<(), ArcStr, R>(rt, "ArcStr::init_with", 6, "abc", 1)?;
+    again::<(), Substr, R>(rt, "Substr::from_str", 0, "foobar", 1)?;
+    again::<(), ArcStr, R>(rt, "format_arcstr!", 7, "cool 123 and 456", 1)?;
+    again::<(), ArcStr, R>(rt, "ArcStr::deserialize", 8, "foobar", 1)?;
+    again::<(), Substr, R>(rt, "Substr::deserialize", 1, "foobar", 1)?;
+    again::<(), Block, R>(rt, "Shared::from_text", 0, "foobar", 1)?;
+    again::<(), Block, R>(rt, "Shared::init", 1, "aaaaaaaaa", 1)?;
+    again::<(), Block, R>(rt, "Shared::repeat", 2, "ababab", 1)
+}
+
 impl Made for ArcStr {
-    fn check(&self, wanted: &str) -> Result<(), Stop> {
-        check_text(self, wanted, 1)
+    fn is(&self, wanted: &str, handles: usize) -> bool {
+        is_text(self, wanted, handles)
     }
 }
 
+impl Calls<()> for ArcStr {
+    fn call<R: Machine>(rt: &R, _: &mut (), number: usize) -> Result<ArcStr, Stop> {
+        let alloc = rt.alloc();
+        Ok(match number {
+            0 => ArcStr::from_str(alloc, "foobar"),
+            1 => ArcStr::try_alloc(alloc, "foo bar."),
+            2 => ArcStr::from_utf8(alloc, b"foo, bar."),
+            3 => ArcStr::try_repeat(alloc, "0123456789abcdef", 4),
+            4 => ArcStr::repeat(alloc, "ab", 3),
+            5 => ArcStr::join(alloc, &["foo", "", "bar"], ", "),
+            6 => return filled_text(alloc),
+            // What is formatted is longer than the room that it first has.
+            7 => format_arcstr!(alloc; "cool {} and {}", 123, 456),
+            8 => return Ok(serde_json::from_str::<ArcStr>(alloc, "\"foobar\"")?),
+            9 => ArcStr::from_str(alloc, ""),
+            _ => return Ok(literal!("foobar")),
+        }?)
+    }
+}
+
+/// Fills a text with a closure, which runs exactly if the call is not refused.
+fn filled_text(alloc: Global) -> Result<ArcStr, Stop> {
+    let mut ran = false;
+    let made = ArcStr::init_with(alloc, 3, |bytes| {
+        ran = true;
+        bytes.copy_from_slice(b"abc");
+    });
+    check(ran == made.is_ok())?;
+    Ok(made?)
+}
+
+/// A slice of a text `foobar`.
 impl Made for Substr {
-    fn check(&self, wanted: &str) -> Result<(), Stop> {
-        check(Stop::Range, self.range() == (0..wanted.len()))?;
-        check_text(self.parent(), wanted, 1)
+    fn is(&self, wanted: &str, handles: usize) -> bool {
+        self.as_str() == wanted
+            && "foobar".get(self.range()) == Some(wanted)
+            && is_text(self.parent(), "foobar", handles)
+    }
+}
+
+impl Calls<()> for Substr {
+    fn call<R: Machine>(rt: &R, _: &mut (), number: usize) -> Result<Substr, Stop> {
+        match number {
+            0 => Ok(Substr::from_str(rt.alloc(), "foobar")?),
+            _ => Ok(serde_json::from_str::<Substr>(rt.alloc(), "\"foobar\"")?),
+        }
     }
 }
 
 impl Made for Block {
-    fn check(&self, wanted: &str) -> Result<(), Stop> {
-        check(Stop::Text, self.as_str() == wanted)?;
-        check(Stop::Count, self.look().0 == Some(1))
+    fn is(&self, wanted: &str, handles: usize) -> bool {
+        self.as_str() == wanted && self.look().0 == Some(handles as u64)
     }
 }
 
-pub(crate) fn run(meter: Meter, alloc: Global) -> io::Result<()> {
-    texts(meter, alloc)?;
-    filled_text(meter, alloc)?;
-    read_texts(meter, alloc)?;
-    blocks(meter, alloc)
+impl Calls<()> for Block {
+    fn call<R: Machine>(rt: &R, _: &mut (), number: usize) -> Result<Block, Stop> {
+        match number {
+            0 => Ok(Block::from_text(rt.alloc(), "foobar")?),
+            1 => filled_block(rt.alloc()),
+            _ => Ok(Block::repeat(rt.alloc(), "ab", 3)?),
+        }
+    }
 }
 
-/// Makes a text, compares it, and drops it.
-fn make<T: Made, E: Into<Stop>, F: Fn() -> Result<T, E>>(
-    meter: Meter,
-    line: &str,
-    wanted: &str,
-    call: F,
-) -> io::Result<()>
-    requires { F.IsAlwaysCallable call }
-{
-    let once = ||
-        requires { F.IsAlwaysCallable call }
-    { meter.compared(meter.counted(&call), wanted) };
-    meter.again(line, once)
-}
-
-fn texts(meter: Meter, alloc: Global) -> io::Result<()> {
-    make(meter, "ArcStr::from_str", "foobar", || {
-        ArcStr::from_str(alloc, "foobar")
-    })?;
-    make(meter, "ArcStr::try_alloc", "foo bar.", || {
-        ArcStr::try_alloc(alloc, "foo bar.")
-    })?;
-    make(meter, "ArcStr::from_utf8", "foo, bar.", || {
-        ArcStr::from_utf8(alloc, b"foo, bar.")
-    })?;
-    let four_times = "0123456789abcdef0123456789abcdef0123456789abcdef0123456789abcdef";
-    make(meter, "ArcStr::try_repeat", four_times, || {
-        ArcStr::try_repeat(alloc, "0123456789abcdef", 4)
-    })?;
-    make(meter, "ArcStr::repeat", "ababab", || {
-        ArcStr::repeat(alloc, "ab", 3)
-    })?;
-    make(meter, "ArcStr::join", "foo, , bar", || {
-        ArcStr::join(alloc, &["foo", "", "bar"], ", ")
-    })
-}
-
-/// Fills a text with a closure, which runs exactly if the call is not refused.
-fn filled_text(meter: Meter, alloc: Global) -> io::Result<()> {
-    meter.again("ArcStr::init_with", || {
-        let mut ran = false;
-        let made = meter.counted(|| {
-            ArcStr::init_with(alloc, 3, |bytes| {
-                ran = true;
-                bytes.copy_from_slice(b"abc");
-            })
-        });
-        check(Stop::Closure, ran == made.is_ok())?;
-        meter.compared(made, "abc")
-    })
-}
-
-/// Reads texts from other forms. What is formatted is longer than the room that it first has.
-fn read_texts(meter: Meter, alloc: Global) -> io::Result<()> {
-    make(meter, "Substr::from_str", "foobar", || {
-        Substr::from_str(alloc, "foobar")
-    })?;
-    make(meter, "format_arcstr!", "cool 123 and 456", || {
-        format_arcstr!(alloc; "cool {} and {}", 123, 456)
-    })?;
-    make(meter, "ArcStr::deserialize", "foobar", || {
-        serde_json::from_str::<ArcStr>(alloc, "\"foobar\"")
-    })?;
-    make(meter, "Substr::deserialize", "foobar", || {
-        serde_json::from_str::<Substr>(alloc, "\"foobar\"")
-    })
-}
-
-fn blocks(meter: Meter, alloc: Global) -> io::Result<()> {
-    make(meter, "Shared::from_text", "foobar", || {
-        Block::from_text(alloc, "foobar")
-    })?;
-    meter.again("Shared::init", || {
-        let mut ran = false;
-        let made = meter.counted(|| {
-            Block::init(alloc, 9, |bytes| {
-                ran = true;
-                bytes.fill(b'a');
-            })
-        });
-        check(Stop::Closure, ran == made.is_ok())?;
-        meter.compared(made, "aaaaaaaaa")
-    })?;
-    make(meter, "Shared::repeat", "ababab", || {
-        Block::repeat(alloc, "ab", 3)
-    })
+fn filled_block(alloc: Global) -> Result<Block, Stop> {
+    let mut ran = false;
+    let made = Block::init(alloc, 9, |bytes| {
+        ran = true;
+        bytes.fill(b'a');
+    });
+    check(ran == made.is_ok())?;
+    Ok(made?)
 }

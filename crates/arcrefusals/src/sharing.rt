@@ -1,14 +1,13 @@
 //! Calls that return handles on texts: callers in threads, and the words of texts. After each refusal, and once everything that was returned is dropped, each
 //! text has only the handle of its owner.
-use crate::calls::{Made, Meter, Stop, check, check_count, check_text, retry};
+use crate::calls::{
+    Calls, Given, Machine, Made, Stop, again, again_whole, check, compare, count, is_text, mark,
+};
 use arcbench_core::pool::{Gate, callers};
 use arcstr::{ArcStr, Substr};
 use arctokens::{tokens, tokens_all, tokens_all_with};
-use std::alloc::Global;
 use std::io;
-use std::sync::Wait;
 use std::sync::atomic::{AtomicU64, Ordering};
-use std::thread::Threads;
 
 /// A gate that every worker passes at once.
 struct OpenGate;
@@ -44,91 +43,96 @@ impl Passes {
     }
 }
 
-pub(crate) fn run<R: Sync + Threads + Wait>(rt: &R, meter: Meter, alloc: Global) -> io::Result<()> {
-    // The words are more than a list first has room for.
-    meter.again("tokens", || {
-        let text = ArcStr::from_str(alloc, "a b c d e")?;
-        retry(|| {
-            let words = meter.counted(|| tokens(rt, alloc, &text));
-            let ended = meter.compared(words, "abcde");
-            check_count(&text, 1)?;
-            ended
-        })
-    })?;
-    meter.again("callers", || {
-        let text = ArcStr::from_str(alloc, "foobar")?;
-        retry(|| {
-            let handles = meter.counted(|| callers(rt, alloc, &text, 2, &OpenGate));
-            let ended = meter.compared(handles, "foobar");
-            check_count(&text, 1)?;
-            ended
-        })
-    })?;
-    meter.again("tokens_all", || {
-        let texts = two_texts(alloc)?;
-        retry(|| {
-            let lists = meter.counted(|| tokens_all(rt, alloc, &texts, 2));
-            let ended = meter.compared(lists, "abcde");
-            check_count(&texts[0], 1)?;
-            check_count(&texts[1], 1)?;
-            ended
-        })
-    })?;
-    meter.again("tokens_all_with", || words_behind_a_gate(rt, meter, alloc))
+pub(crate) fn run<R: Machine>(rt: &R) -> io::Result<()> {
+    again::<Letters, Vec<Substr>, R>(rt, "tokens", 0, "abcde", 6)?;
+    again_whole(rt, "callers", 6)?;
+    again_whole(rt, "tokens_all", 7)?;
+    again_whole(rt, "tokens_all_with", 8)
 }
 
-fn two_texts(alloc: Global) -> Result<[ArcStr; 2], Stop> {
-    let one = ArcStr::from_str(alloc, "a b")?;
-    Ok([one, ArcStr::from_str(alloc, "a b c d e")?])
-}
+/// A text of more words than a list first has room for.
+#[derive(Drop)]
+struct Letters(ArcStr);
 
-/// Finds the words of two texts with three workers. If memory is refused, either all workers have passed the gate or none has.
-fn words_behind_a_gate<R: Sync + Threads + Wait>(
-    rt: &R,
-    meter: Meter,
-    alloc: Global,
-) -> Result<(), Stop> {
-    let texts = two_texts(alloc)?;
-    retry(|| {
-        let gate = Passes::none();
-        let lists = meter.counted(|| tokens_all_with(rt, alloc, &texts, 3, &gate));
-        check(Stop::Gate, gate.are(1) || lists.is_err() && gate.are(0))?;
-        let ended = meter.compared(lists, "abcde");
-        check_count(&texts[0], 1)?;
-        check_count(&texts[1], 1)?;
-        ended
-    })
-}
+impl Given for Letters {
+    fn prepare<R: Machine>(rt: &R) -> Result<Letters, Stop> {
+        Ok(Letters(ArcStr::from_str(rt.alloc(), "a b c d e")?))
+    }
 
-/// Two handles on a text that its owner has too.
-impl Made for Vec<ArcStr> {
-    fn check(&self, wanted: &str) -> Result<(), Stop> {
-        check(Stop::Length, self.len() == 2)?;
-        for handle in self {
-            check_text(handle, wanted, 3)?;
-        }
-        Ok(())
+    fn is_unchanged<R: Machine>(&self, _rt: &R) -> bool {
+        count(&self.0) == 1
     }
 }
 
-/// The words of a text: these letters, each at an even byte offset. The text has one handle for its owner and one for each word.
+impl Given for [ArcStr; 2] {
+    fn prepare<R: Machine>(rt: &R) -> Result<[ArcStr; 2], Stop> {
+        let one = ArcStr::from_str(rt.alloc(), "a b")?;
+        Ok([one, ArcStr::from_str(rt.alloc(), "a b c d e")?])
+    }
+
+    fn is_unchanged<R: Machine>(&self, _rt: &R) -> bool {
+        count(&self[0]) == 1 && count(&self[1]) == 1
+    }
+}
+
+impl Calls<Letters> for Vec<Substr> {
+    fn call<R: Machine>(rt: &R, text: &mut Letters, _: usize) -> Result<Vec<Substr>, Stop> {
+        Ok(tokens(rt, rt.alloc(), &text.0)?)
+    }
+}
+
+pub(crate) fn callers_in_threads<R: Machine>(rt: &R) -> Result<(), Stop> {
+    let text = ArcStr::prepare(rt)?;
+    mark(rt);
+    let handles = callers(rt, rt.alloc(), &text, 2, &OpenGate);
+    mark(rt);
+    compare(rt, &text, handles.map_err(Stop::from), "foobar", 3)
+}
+
+pub(crate) fn words_in_threads<R: Machine>(rt: &R) -> Result<(), Stop> {
+    let texts = <[ArcStr; 2]>::prepare(rt)?;
+    mark(rt);
+    let lists = tokens_all(rt, rt.alloc(), texts.as_slice(), 2);
+    mark(rt);
+    compare(rt, &texts, lists.map_err(Stop::from), "abcde", 6)
+}
+
+/// Finds the words of two texts with three workers. If memory is refused, either all workers have passed the gate or none has.
+pub(crate) fn words_behind_a_gate<R: Machine>(rt: &R) -> Result<(), Stop> {
+    let texts = <[ArcStr; 2]>::prepare(rt)?;
+    let gate = Passes::none();
+    mark(rt);
+    let lists = tokens_all_with(rt, rt.alloc(), texts.as_slice(), 3, &gate);
+    mark(rt);
+    check(gate.are(1) || lists.is_err() && gate.are(0))?;
+    compare(rt, &texts, lists.map_err(Stop::from), "abcde", 6)
+}
+
+/// Two handles on a text.
+impl Made for Vec<ArcStr> {
+    fn is(&self, wanted: &str, handles: usize) -> bool {
+        self.len() == 2 && self.iter().all(|handle| is_text(handle, wanted, handles))
+    }
+}
+
+/// The words of a text: these letters, each at an even byte offset.
 impl Made for Vec<Substr> {
-    fn check(&self, wanted: &str) -> Result<(), Stop> {
-        check(Stop::Length, self.len() == wanted.len())?;
+    fn is(&self, wanted: &str, handles: usize) -> bool {
         for (at, (word, letter)) in self.iter().zip(wanted.bytes()).enumerate() {
-            check(Stop::Text, word.as_bytes() == [letter].as_slice())?;
-            check(Stop::Range, word.range() == (2 * at..2 * at + 1))?;
-            check_count(word.parent(), self.len() + 1)?;
+            if word.as_bytes() != [letter].as_slice()
+                || word.range() != (2 * at..2 * at + 1)
+                || count(word.parent()) != handles
+            {
+                return false;
+            }
         }
-        Ok(())
+        self.len() == wanted.len()
     }
 }
 
 /// The words of a text with the first two letters, and of one with all.
 impl Made for Vec<Vec<Substr>> {
-    fn check(&self, wanted: &str) -> Result<(), Stop> {
-        check(Stop::Length, self.len() == 2)?;
-        self[0].check("ab")?;
-        self[1].check(wanted)
+    fn is(&self, wanted: &str, handles: usize) -> bool {
+        self.len() == 2 && self[0].is("ab", 3) && self[1].is(wanted, handles)
     }
 }

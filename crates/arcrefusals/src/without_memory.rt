@@ -1,144 +1,139 @@
 //! Calls that do not allocate, and so succeed whatever is refused.
-use crate::calls::{Meter, Stop, check, check_count, check_text};
+use crate::calls::{Calls, Machine, Made, Stop, again, again_whole, check, count, mark};
 use arcstr::count::World;
-use arcstr::{ArcStr, StrRange, StrView, Substr, literal};
+use arcstr::{ArcStr, RangeFault, StrRange, StrView, Substr};
 use std::alloc::Global;
 use std::cmp::Ordering;
 use std::hash::{DefaultHasher, Hash, Hasher};
 use std::io;
-use std::sync::Wait;
 
-pub(crate) fn run(rt: &impl Wait, meter: Meter, alloc: Global) -> io::Result<()> {
-    meter.again("ArcStr::from_str of an empty text", || {
-        let text = meter.counted(|| ArcStr::from_str(alloc, ""))?;
-        check(Stop::Text, text.as_str() == "")?;
-        meter.drop(text);
-        Ok(())
-    })?;
-    meter.again("literal!", || {
-        let text = meter.counted(|| literal!("foobar"));
-        check(Stop::Text, text.as_str() == "foobar")?;
-        meter.drop(text);
-        Ok(())
-    })?;
-    handles(rt, meter, alloc)?;
-    meter.again(
-        "ArcStr::substr_split_at, substr_split_once, substr_rsplit_once, substr_strip_prefix, substr_strip_suffix",
-        || parts(rt, meter, alloc),
-    )?;
-    meter.again(
-        "Substr::substr_split_at, substr_split_once, substr_rsplit_once, substr_strip_prefix, substr_strip_suffix",
-        || parts_of_slice(rt, meter, alloc),
-    )?;
-    meter.again("ArcStr::leak", || leak(meter, alloc))?;
-    meter.again("==, cmp", || comparison(meter, alloc))?;
-    meter.again("hash", || hash(meter, alloc))?;
-    meter.again("StrRange::ends, StrView::trim", || {
-        let view = StrView::whole(" foo ");
-        let (ends, part) = meter.counted(|| (StrRange::from(1..).ends(6), view.trim()));
-        check(Stop::Range, ends == Ok((1, 6)))?;
-        check(Stop::Range, part.range() == (1..4))
-    })?;
-    meter.again("World::new", || {
-        let world = meter.counted(|| World::new(alloc, 5))?;
-        check(Stop::Given, world.given(0) == 0)?;
-        meter.drop(world);
-        Ok(())
-    })
+pub(crate) fn run<R: Machine>(rt: &R) -> io::Result<()> {
+    again::<(), ArcStr, R>(rt, "ArcStr::from_str of an empty text", 9, "", 0)?;
+    again::<(), ArcStr, R>(rt, "literal!", 10, "foobar", 0)?;
+    again::<ArcStr, ArcStr, R>(rt, "ArcStr::clone", 0, "foobar", 2)?;
+    again::<ArcStr, Substr, R>(rt, "ArcStr::substr", 0, "bar", 2)?;
+    again::<Substr, Substr, R>(rt, "Substr::substr", 0, "ar", 2)?;
+    let parts =
+        "ArcStr::substr_split_at, substr_split_once, substr_rsplit_once, substr_strip_prefix, substr_strip_suffix";
+    again::<ArcStr, Parts, R>(rt, parts, 0, "bar", 9)?;
+    let parts =
+        "Substr::substr_split_at, substr_split_once, substr_rsplit_once, substr_strip_prefix, substr_strip_suffix";
+    again::<Substr, Parts, R>(rt, parts, 0, "r", 9)?;
+    again_whole(rt, "ArcStr::leak", 0)?;
+    again_whole(rt, "==, cmp", 1)?;
+    again_whole(rt, "hash", 2)?;
+    again_whole(rt, "StrRange::ends, StrView::trim", 3)?;
+    again::<(), World<Global>, R>(rt, "World::new", 0, "", 0)
 }
 
-fn handles(rt: &impl Wait, meter: Meter, alloc: Global) -> io::Result<()> {
-    meter.again("ArcStr::clone", || {
-        let text = ArcStr::from_str(alloc, "foobar")?;
-        let other = meter.counted(|| text.clone(rt));
-        check_text(&other, "foobar", 2)?;
-        meter.drop(other);
-        check_text(&text, "foobar", 1)
-    })?;
-    meter.again("ArcStr::substr", || {
-        let text = ArcStr::from_str(alloc, "foobar")?;
-        let made = meter.counted(|| text.substr(rt, 3..6));
-        check_slice(meter, made.ok(), "bar", 2)?;
-        check_text(&text, "foobar", 1)
-    })?;
-    meter.again("Substr::substr", || {
-        let text = ArcStr::from_str(alloc, "foobar")?;
-        let bar = Substr::from_parts_unchecked(text.clone(rt), 3..6);
-        let made = meter.counted(|| bar.substr(rt, 1..));
-        check_slice(meter, made.ok(), "ar", 3)?;
-        check_count(&text, 2)
-    })
+impl Calls<ArcStr> for ArcStr {
+    fn call<R: Machine>(rt: &R, text: &mut ArcStr, _: usize) -> Result<ArcStr, Stop> {
+        Ok(text.clone(rt))
+    }
 }
 
-fn parts(rt: &impl Wait, meter: Meter, alloc: Global) -> Result<(), Stop> {
-    let text = ArcStr::from_str(alloc, "foobar")?;
-    let parts = meter.counted(|| {
-        (
+impl Calls<ArcStr> for Substr {
+    fn call<R: Machine>(rt: &R, text: &mut ArcStr, _: usize) -> Result<Substr, Stop> {
+        text.substr(rt, 3..6).map_err(|_| Stop::Fault)
+    }
+}
+
+impl Calls<Substr> for Substr {
+    fn call<R: Machine>(rt: &R, slice: &mut Substr, _: usize) -> Result<Substr, Stop> {
+        slice.substr(rt, 1..).map_err(|_| Stop::Fault)
+    }
+}
+
+/// The slices that the calls of the line return.
+type Parts = (
+    Result<(Substr, Substr), RangeFault>,
+    Option<(Substr, Substr)>,
+    Option<(Substr, Substr)>,
+    Option<Substr>,
+    Option<Substr>,
+);
+
+impl Made for Parts {
+    fn is(&self, wanted: &str, handles: usize) -> bool {
+        match &self.3 {
+            Some(rest) => rest.as_str() == wanted && count(rest.parent()) == handles,
+            None => false,
+        }
+    }
+}
+
+impl Calls<ArcStr> for Parts {
+    fn call<R: Machine>(rt: &R, text: &mut ArcStr, _: usize) -> Result<Parts, Stop> {
+        Ok((
             text.substr_split_at(rt, 3),
             text.substr_split_once(rt, 'o'),
             text.substr_rsplit_once(rt, "ob"),
             text.substr_strip_prefix(rt, "foo"),
             text.substr_strip_suffix(rt, "bar"),
-        )
-    });
-    check_text(&text, "foobar", 9)?;
-    meter.drop(parts);
-    check_text(&text, "foobar", 1)
+        ))
+    }
 }
 
-fn parts_of_slice(rt: &impl Wait, meter: Meter, alloc: Global) -> Result<(), Stop> {
-    let text = ArcStr::from_str(alloc, "a foobar b")?;
-    let foobar = Substr::from_parts_unchecked(text, 2..8);
-    let parts = meter.counted(|| {
-        (
-            foobar.substr_split_at(rt, 3),
-            foobar.substr_split_once(rt, 'o'),
-            foobar.substr_rsplit_once(rt, "ob"),
-            foobar.substr_strip_prefix(rt, "foo"),
-            foobar.substr_strip_suffix(rt, "bar"),
-        )
-    });
-    check_count(foobar.parent(), 9)?;
-    meter.drop(parts);
-    check_count(foobar.parent(), 1)
+impl Calls<Substr> for Parts {
+    fn call<R: Machine>(rt: &R, slice: &mut Substr, _: usize) -> Result<Parts, Stop> {
+        Ok((
+            slice.substr_split_at(rt, 2),
+            slice.substr_split_once(rt, 'a'),
+            slice.substr_rsplit_once(rt, "a"),
+            slice.substr_strip_prefix(rt, "ba"),
+            slice.substr_strip_suffix(rt, "ar"),
+        ))
+    }
 }
 
-/// Compares the text of a slice, and the count of its parent with this number of handles, and drops the slice.
-fn check_slice(
-    meter: Meter,
-    made: Option<Substr>,
-    wanted: &str,
-    handles: usize,
-) -> Result<(), Stop> {
-    let slice = made.ok_or(Stop::Fault)?;
-    check(Stop::Text, slice.as_str() == wanted)?;
-    check_count(slice.parent(), handles)?;
-    meter.drop(slice);
-    Ok(())
+impl Made for World<Global> {
+    fn is(&self, _wanted: &str, _handles: usize) -> bool {
+        self.given(0) == 0
+    }
+}
+
+impl Calls<()> for World<Global> {
+    fn call<R: Machine>(rt: &R, _: &mut (), _: usize) -> Result<World<Global>, Stop> {
+        Ok(World::new(rt.alloc(), 5)?)
+    }
 }
 
 /// Marks a text static, permanently.
-fn leak(meter: Meter, alloc: Global) -> Result<(), Stop> {
-    let text = ArcStr::from_str(alloc, "foobar")?;
-    let kept = meter.counted(|| text.leak());
-    check(Stop::Text, kept.as_str() == "foobar")?;
-    check(Stop::Count, ArcStr::strong_count(&text).is_none())?;
-    meter.drop(text);
-    check(Stop::Text, kept.as_str() == "foobar")
+pub(crate) fn leak<R: AllocGlobal + Print>(rt: &R) -> Result<(), Stop> {
+    let text = ArcStr::from_str(rt.alloc(), "foobar")?;
+    mark(rt);
+    let kept = text.leak();
+    mark(rt);
+    let is_marked = kept.as_str() == "foobar" && count(&text) == 0;
+    mark(rt);
+    drop(text);
+    mark(rt);
+    check(is_marked && kept.as_str() == "foobar")
 }
 
-fn comparison(meter: Meter, alloc: Global) -> Result<(), Stop> {
-    let one = ArcStr::from_str(alloc, "foobar")?;
-    let other = ArcStr::from_str(alloc, "foobaz")?;
-    let (same, order) = meter.counted(|| (one == other, one.cmp(&other)));
-    check(Stop::Order, !same)?;
-    check(Stop::Order, order == Ordering::Less)
+pub(crate) fn compare_texts<R: AllocGlobal + Print>(rt: &R) -> Result<(), Stop> {
+    let one = ArcStr::from_str(rt.alloc(), "foobar")?;
+    let other = ArcStr::from_str(rt.alloc(), "foobaz")?;
+    mark(rt);
+    let (same, order) = (one == other, one.cmp(&other));
+    mark(rt);
+    check(!same && order == Ordering::Less)
 }
 
-fn hash(meter: Meter, alloc: Global) -> Result<(), Stop> {
-    let text = ArcStr::from_str(alloc, "foobar")?;
+pub(crate) fn hash<R: AllocGlobal + Print>(rt: &R) -> Result<(), Stop> {
+    let text = ArcStr::from_str(rt.alloc(), "foobar")?;
     let (mut one, mut other) = (DefaultHasher::new(), DefaultHasher::new());
-    meter.counted(|| text.hash(&mut one));
+    mark(rt);
+    text.hash(&mut one);
+    mark(rt);
     "foobar".hash(&mut other);
-    check(Stop::Hash, one.finish() == other.finish())
+    check(one.finish() == other.finish())
+}
+
+pub(crate) fn ends<R: Print>(rt: &R) -> Result<(), Stop> {
+    let view = StrView::whole(" foo ");
+    mark(rt);
+    let (ends, part) = (StrRange::from(1..).ends(6), view.trim());
+    mark(rt);
+    check(ends == Ok((1, 6)) && part.range() == (1..4))
 }
