@@ -32,6 +32,16 @@ fn a_refused_fill_gives_its_memory_back(rt: HostRuntime) {
     check_eq!(rt; heap.used(), 0);
 }
 
+#[test]
+fn one_byte_is_filled_and_a_text_is_copied_twice(rt: HostRuntime) {
+    let filled = Shared::<5, _>::init(rt.alloc(), 1, |bytes| bytes[0] = b'a').expect(
+        &rt, "refused",
+    );
+    check_eq!(rt; filled.as_str(), "a");
+    let copies = Shared::<5, _>::repeat(rt.alloc(), "ab", 2).expect(&rt, "refused");
+    check_eq!(rt; copies.as_str(), "abab");
+}
+
 /// A text of 64 bytes. Its block has 80, to which a heap adds nothing: a heap rounds sizes up to a multiple of 16.
 const TEXT: &str = "0123456789abcdef0123456789abcdef0123456789abcdef0123456789abcdef";
 
