@@ -31,7 +31,7 @@ pub(crate) fn run(rt: &impl Wait, meter: Meter, alloc: Global) -> io::Result<()>
     })?;
     meter.again("SharedInterner::new", || {
         let interner = meter.counted(|| SharedInterner::new(alloc, 2))?;
-        check(Stop::Length, interner.is_empty(rt))?;
+        check(Stop::Length, interner.is_empty())?;
         meter.drop(interner);
         Ok(())
     })?;
@@ -71,7 +71,7 @@ fn intern_shared(rt: &impl Wait, meter: Meter, alloc: Global) -> Result<(), Stop
     let symbol = retry(|| {
         let interned = meter.counted(|| interner.intern(rt, "foobar"));
         if interned.is_err() {
-            check(Stop::Length, interner.is_empty(rt))?;
+            check(Stop::Length, interner.is_empty())?;
             check(Stop::Text, interner.get(rt, "foobar").is_none())?;
         }
         Ok(interned?)
@@ -87,7 +87,7 @@ fn check_shared(
     interner: &SharedInterner,
     symbol: SharedSymbol,
 ) -> Result<(), Stop> {
-    check(Stop::Length, interner.len(rt) == 1)?;
+    check(Stop::Length, interner.len() == 1)?;
     let found = interner.get(rt, "foobar").ok_or(Stop::Order)?;
     check(Stop::Order, found.number() == symbol.number())?;
     let there = interner.symbol_at(symbol.number()).ok_or(Stop::Text)?;

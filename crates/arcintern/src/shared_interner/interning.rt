@@ -8,17 +8,16 @@ use crate::fault::InternFault;
 use crate::interner::{MOST_TEXTS, copy_of, is_whole};
 use crate::shared_interner::SharedInterner;
 use crate::shared_interner::shared_symbol::SharedSymbol;
-use crate::symbol::Symbol;
 use arcstr::{ArcStr, Substr};
 use std::alloc::Global;
 use std::hash::BuildHasher;
 use std::sync::Wait;
 
 impl<S: BuildHasher> SharedInterner<S> {
-    /// Returns the symbol of the text that spells this word. If there is none, a copy of the word becomes a text: that allocates the
-    /// copy, which an empty word does not need, and room where a table or the list is full. A word that is there is never refused.
-    /// Another one is refused, in this order: where its shard has no number left (`Full`), if it has `2^63 - 25` bytes or more
-    /// (`Length`), and out of memory (`Memory`). A refused call adds no text.
+    /// Returns the symbol of the text that spells this word. If there is none, a copy of the word becomes a text, with the next number:
+    /// that allocates the copy, which an empty word does not need, and room where a table or the list is full. A word that is there
+    /// is never refused. Another one is refused, in this order: where `MOST_TEXTS` numbers are taken (`Full`), if it has
+    /// `2^63 - 25` bytes or more (`Length`), and out of memory (`Memory`). No call finds the text of a refused word.
     ///
     /// ```
     /// let interner = SharedInterner::new(rt.alloc(), 8)?;
@@ -90,6 +89,13 @@ impl<S: BuildHasher> SharedInterner<S> {
         ensures { IfSome result (λ symbol. IsSymbolOfWord self.now symbol word.now) }
     {
         let hash = self.hash_builder.hash_one(word);
+        self.find(rt, hash, word)
+    }
+
+    /// The symbol of the word with this hash.
+    fn find(&self, rt: &impl Wait, hash: u64, word: &str) -> Option<SharedSymbol>
+        ensures { IfSome result (λ symbol. IsSymbolOfWord self.now symbol word.now) }
+    {
         let shard = shard_of(hash, self.shards.len());
         let numbers = self.shards[shard].read(rt);
         match numbers.find(&self.texts, hash, word) {
@@ -98,7 +104,8 @@ impl<S: BuildHasher> SharedInterner<S> {
         }
     }
 
-    /// The symbol of the word. If there is none, the text becomes `whole` or, without one, a copy of the word.
+    /// The symbol of the word. If there is none, the text becomes `whole` or, without one, a copy of the word. That text is made before
+    /// the lock is taken alone, and dropped if another thread has added the word meanwhile.
     fn find_or_add(
         &self,
         rt: &impl Wait,
@@ -109,48 +116,31 @@ impl<S: BuildHasher> SharedInterner<S> {
         ensures word { IfOk result (λ symbol. IsSymbolOfWord self.now symbol word.now) }
         ensures too_long { IsErrOf result InternFault.Length → IsNone whole.entry × IsTooLong (length word.now) }
     {
-        if let Some(symbol) = self.get(rt, word) {
+        let hash = self.hash_builder.hash_one(word);
+        if let Some(symbol) = self.find(rt, hash, word) {
             return Ok(symbol);
         }
-        let hash = self.hash_builder.hash_one(word);
+        if self.len() >= MOST_TEXTS {
+            return Err(InternFault::Full);
+        }
+        let text = text_to_keep(rt, self.alloc, word, whole)?;
         let shard = shard_of(hash, self.shards.len());
-        let mut guard = self.shards[shard].write(rt);
-        let numbers = &mut *guard;
+        let mut numbers = self.shards[shard].write(rt);
         match numbers.find(&self.texts, hash, word) {
             Ok(symbol) => Ok(symbol),
-            Err(Some(key)) => {
-                let number = number_of(numbers.len(), self.shards.len(), shard)?;
-                let text = text_to_keep(rt, self.alloc, word, whole)?;
-                numbers.add(rt, &self.texts, key, number, text)
-            }
+            Err(Some(key)) => numbers.add(rt, &self.texts, key, text),
             Err(None) => Err(InternFault::Full),
         }
     }
 }
 
-/// The shard of the words with this hash.
+/// The shard of the words with this hash: its upper half as a fraction of `2^32`, of the number of shards.
 fn shard_of(hash: u64, shards: usize) -> usize
-    requires { 1 ≤ shards }
+    requires some { 1 ≤ shards }
+    requires most { shards ≤ 64 }
     ensures { result < shards }
 {
-    (hash % shards as u64) as usize
-}
-
-/// The number of a shard's text at this index. The shard is the remainder of the number by the number of shards.
-fn number_of(index: usize, shards: usize, shard: usize) -> Result<Symbol, InternFault>
-    requires shard { shard < shards }
-    requires shards { shards ≤ 64 }
-    ensures number { IfOk result (λ number. number ≡ index * shards + shard) }
-    ensures full { IfErr result (λ fault. (fault ≡ InternFault.Full) × (MOST_TEXTS ≤ index * shards + shard)) }
-{
-    if index >= MOST_TEXTS {
-        return Err(InternFault::Full);
-    }
-    let number = index * shards + shard;
-    if number >= MOST_TEXTS {
-        return Err(InternFault::Full);
-    }
-    Ok(Symbol::at(number))
+    (((hash >> 32) * shards as u64) >> 32) as usize
 }
 
 /// A clone of `whole` or, without one, a copy of the word.

@@ -1,12 +1,13 @@
 //! The numbers of one shard's texts, by the hashes of the texts.
-ghost use Rattle.std.specs.Prelude.{◌≡◌, IfErr, IfOk, IfSome, OnErr};
+ghost use Rattle.std.specs.Prelude.{◌≡◌, IfOk, IfSome, IsErrOf, OnErr};
 ghost use Rattle.arcintern.specs.Texts.{IsSymbolOf, IsSymbolOfWord};
 
 use crate::fault::InternFault;
+use crate::interner::MOST_TEXTS;
 use crate::shared_interner::shared_symbol::SharedSymbol;
-use crate::shared_interner::text_list::TextList;
 use crate::symbol::Symbol;
 use arcstr::ArcStr;
+use boxcar::Pushed;
 use std::alloc::Global;
 use std::collections::HashMap;
 use std::marker::Model;
@@ -37,18 +38,11 @@ impl Numbers {
         }
     }
 
-    /// How many texts there are.
-    pub(crate) fn len(&self) -> usize
-        ensures { result ≡ self.now }
-    {
-        self.by_key.len()
-    }
-
     /// The symbol of the text that spells the word with this hash. Without one, the error is the first free key, or `None` where each
     /// key is taken.
     pub(crate) fn find(
         &self,
-        texts: &TextList,
+        texts: &boxcar::Vec<ArcStr>,
         hash: u64,
         word: &str,
     ) -> Result<SharedSymbol, Option<u64>>
@@ -67,35 +61,40 @@ impl Numbers {
         Err(None)
     }
 
-    /// Adds a text under a free key. A refused call adds none.
+    /// Adds a text, with the next number, under a free key. A refused call adds none here. A text beyond the last number stays in the
+    /// list, where no call finds it.
     pub(crate) fn add(
         &mut self,
         rt: &impl Wait,
-        texts: &TextList,
+        texts: &boxcar::Vec<ArcStr>,
         key: u64,
-        number: Symbol,
         text: ArcStr,
     ) -> Result<SharedSymbol, InternFault>
         ensures of { IfOk result (λ symbol. IsSymbolOf texts.now symbol) }
-        ensures number { IfOk result (λ symbol. symbol.number ≡ number) }
         ensures text { IfOk result (λ symbol. symbol.text ≡ text) }
         ensures refused { OnErr result (self.new ≡ self.old) }
-        ensures fault { IfErr result (λ fault. fault ≡ InternFault.Memory) }
+        ensures never_too_long { ¬ (IsErrOf result InternFault.Length) }
     {
         self.by_key.reserve(1)?;
-        let symbol = texts.set(rt, number, text)?;
-        self.by_key.insert(key, number)?;
+        let Ok(text) = texts.push_shown(rt, text) else {
+            return Err(InternFault::Memory);
+        };
+        if text.index() >= MOST_TEXTS {
+            return Err(InternFault::Full);
+        }
+        let symbol = SharedSymbol { text };
+        self.by_key.insert(key, symbol.number())?;
         Ok(symbol)
     }
 }
 
 /// The symbol of this number, if its text spells the word.
-fn symbol_if_word(texts: &TextList, number: Symbol, word: &str) -> Option<SharedSymbol>
+fn symbol_if_word(texts: &boxcar::Vec<ArcStr>, number: Symbol, word: &str) -> Option<SharedSymbol>
     ensures { IfSome result (λ symbol. IsSymbolOfWord texts.now symbol word.now) }
 {
-    let symbol = texts.at(number)?;
-    if texts.text(&symbol).eq_str(word) {
-        Some(symbol)
+    let text = texts.witness(number.index())?;
+    if texts.value(&text).eq_str(word) {
+        Some(SharedSymbol { text })
     } else {
         None
     }
