@@ -5,7 +5,7 @@ ghost use Rattle.std.specs.Prelude.{◌≡◌, ◌≤◌, IfErr, IfOk, IfSome, l
 ghost use Rattle.arcintern.specs.Texts.{IsSymbolOf};
 
 use crate::fault::InternFault;
-use crate::shared_interner::numbers::Numbers;
+use crate::slots::Slots;
 use crate::symbol::Symbol;
 use arcstr::ArcStr;
 use std::alloc::Global;
@@ -14,7 +14,6 @@ use std::marker::Model;
 use std::sync::{RwLock, Wait};
 
 mod interning;
-mod numbers;
 mod shared_symbol;
 
 pub use shared_symbol::SharedSymbol;
@@ -39,7 +38,7 @@ pub use shared_symbol::SharedSymbol;
 /// ```
 #[derive(Drop)]
 pub struct SharedInterner<S: BuildHasher = BuildHasherDefault<FoldHasher>> {
-    shards: Vec<RwLock<Numbers>>,
+    shards: Vec<RwLock<Slots>>,
     texts: boxcar::Vec<ArcStr>,
     alloc: Global,
     hash_builder: S,
@@ -189,15 +188,15 @@ impl<S: BuildHasher> SharedInterner<S> {
 }
 
 /// Shards without texts.
-fn empty_shards(alloc: Global, shards: usize) -> Result<Vec<RwLock<Numbers>>, InternFault>
-    ensures len { IfOk result (λ numbers. length numbers.items ≡ shards) }
+fn empty_shards(alloc: Global, shards: usize) -> Result<Vec<RwLock<Slots>>, InternFault>
+    ensures len { IfOk result (λ tables. length tables.items ≡ shards) }
     ensures fault { IfErr result (λ fault. fault ≡ InternFault.Memory) }
 {
-    let mut numbers = Vec::with_capacity(alloc, shards)?;
+    let mut tables = Vec::with_capacity(alloc, shards)?;
     let mut count = 0;
     while count < shards {
-        numbers.push_reserved(RwLock::new(Numbers::new(alloc)));
+        tables.push_reserved(RwLock::new(Slots::new(alloc)));
         count += 1;
     }
-    Ok(numbers)
+    Ok(tables)
 }

@@ -1,28 +1,35 @@
-//! Calls of an interner. A refusal leaves it without texts, and the same call then succeeds.
+//! Calls of an interner, with and without texts. A refusal leaves its texts as they were, and the same call then succeeds.
 use crate::calls::{Meter, Stop, check, check_count, check_text, retry};
 use arcintern::{InternFault, Interner, SharedInterner, SharedSymbol, Symbol};
 use arcstr::{ArcStr, Substr};
-use std::alloc::Global;
+use std::alloc::{AllocError, Global};
 use std::io;
 use std::sync::Wait;
 
+/// An interner with this many texts has a longer table after the next one.
+const FULL: usize = 12;
+
 pub(crate) fn run(rt: &impl Wait, meter: Meter, alloc: Global) -> io::Result<()> {
     meter.again("Interner::with_capacity", || {
-        let interner = meter.counted(|| Interner::with_capacity(alloc, 100))?;
+        let mut texts = Vec::with_capacity(alloc, 100)?;
+        for number in 0..100 {
+            let word = format!(in alloc; "{number}")?;
+            texts
+                .push(ArcStr::from_str(alloc, &word)?)
+                .map_err(AllocError::from)?;
+        }
+        let mut interner = meter.counted(|| Interner::with_capacity(alloc, 100))?;
         check(Stop::Length, interner.is_empty())?;
+        meter.counted(|| intern_each(rt, &mut interner, &texts))?;
+        check(Stop::Length, interner.len() == 100)?;
         meter.drop(interner);
         Ok(())
     })?;
-    meter.again("Interner::intern", || {
-        let mut interner = Interner::new(alloc);
-        let symbol = retry(|| {
-            let interned = meter.counted(|| interner.intern("foobar"));
-            check_unchanged(&interner, interned)
-        })?;
-        check_interned(&interner, symbol, "foobar", 1)?;
-        meter.drop(interner);
-        Ok(())
-    })?;
+    meter.again("Interner::intern", || intern_word(meter, alloc, 0))?;
+    meter.again(
+        "Interner::intern with a full table",
+        || intern_word(meter, alloc, FULL),
+    )?;
     meter.again("Interner::intern_arc", || intern_arc(rt, meter, alloc))?;
     meter.again("Interner::intern_substr", || {
         let text = ArcStr::from_str(alloc, "foobar")?;
@@ -35,7 +42,41 @@ pub(crate) fn run(rt: &impl Wait, meter: Meter, alloc: Global) -> io::Result<()>
         meter.drop(interner);
         Ok(())
     })?;
-    meter.again("SharedInterner::intern", || intern_shared(rt, meter, alloc))
+    meter.again(
+        "SharedInterner::intern",
+        || intern_shared(rt, meter, alloc, 0),
+    )?;
+    meter.again(
+        "SharedInterner::intern with a full table",
+        || intern_shared(rt, meter, alloc, FULL),
+    )
+}
+
+fn intern_each(
+    rt: &impl Wait,
+    interner: &mut Interner,
+    texts: &[ArcStr],
+) -> Result<(), InternFault> {
+    for text in texts {
+        interner.intern_arc(rt, text)?;
+    }
+    Ok(())
+}
+
+/// Interns a word after this many texts.
+fn intern_word(meter: Meter, alloc: Global, texts: usize) -> Result<(), Stop> {
+    let mut interner = Interner::new(alloc);
+    for number in 0..texts {
+        interner.intern(&format!(in alloc; "{number}")?)?;
+    }
+    let symbol = retry(|| {
+        let interned = meter.counted(|| interner.intern("foobar"));
+        check_unchanged(&interner, texts, interned)
+    })?;
+    check(Stop::Order, symbol.index() == texts)?;
+    check_interned(&interner, symbol, "foobar", 1)?;
+    meter.drop(interner);
+    Ok(())
 }
 
 fn intern_arc(rt: &impl Wait, meter: Meter, alloc: Global) -> Result<(), Stop> {
@@ -46,7 +87,7 @@ fn intern_arc(rt: &impl Wait, meter: Meter, alloc: Global) -> Result<(), Stop> {
         if interned.is_err() {
             check_count(&text, 1)?;
         }
-        check_unchanged(&interner, interned)
+        check_unchanged(&interner, 0, interned)
     })?;
     check_interned(&interner, symbol, "foobar", 2)?;
     meter.drop(interner);
@@ -59,61 +100,70 @@ fn intern_slice(rt: &impl Wait, meter: Meter, alloc: Global, slice: &Substr) -> 
     let symbol = retry(|| {
         let interned = meter.counted(|| interner.intern_substr(rt, slice));
         check_count(slice.parent(), 2)?;
-        check_unchanged(&interner, interned)
+        check_unchanged(&interner, 0, interned)
     })?;
     check_interned(&interner, symbol, "foo", 1)?;
     meter.drop(interner);
     check_count(slice.parent(), 2)
 }
 
-fn intern_shared(rt: &impl Wait, meter: Meter, alloc: Global) -> Result<(), Stop> {
-    let interner = SharedInterner::new(alloc, 2)?;
+/// Interns a word after this many texts.
+fn intern_shared(rt: &impl Wait, meter: Meter, alloc: Global, texts: usize) -> Result<(), Stop> {
+    let interner = SharedInterner::new(alloc, 1)?;
+    for number in 0..texts {
+        interner.intern(rt, &format!(in alloc; "{number}")?)?;
+    }
     let symbol = retry(|| {
         let interned = meter.counted(|| interner.intern(rt, "foobar"));
         if interned.is_err() {
-            check(Stop::Length, interner.is_empty())?;
+            check(Stop::Length, interner.len() == texts)?;
             check(Stop::Text, interner.get(rt, "foobar").is_none())?;
         }
         Ok(interned?)
     })?;
+    check(Stop::Order, symbol.number().index() == texts)?;
+    check(Stop::Length, interner.len() == texts.saturating_add(1))?;
     check_shared(rt, &interner, symbol)?;
     meter.drop(interner);
     Ok(())
 }
 
-/// Compares the one text of a shared interner, and its number, with the word in a block of one handle.
+/// Compares the text of a symbol, and its number, with the word in a block of one handle.
 fn check_shared(
     rt: &impl Wait,
     interner: &SharedInterner,
     symbol: SharedSymbol,
 ) -> Result<(), Stop> {
-    check(Stop::Length, interner.len() == 1)?;
     let found = interner.get(rt, "foobar").ok_or(Stop::Order)?;
     check(Stop::Order, found.number() == symbol.number())?;
     let there = interner.symbol_at(symbol.number()).ok_or(Stop::Text)?;
     check_text(interner.text(&there), "foobar", 1)
 }
 
-/// Compares the one text of an interner, and its symbol, with this text, whose block has `handles` handles.
+/// Compares the last text of an interner, and its symbol, with this text, whose block has `handles` handles.
 fn check_interned(
     interner: &Interner,
     symbol: Symbol,
     wanted: &str,
     handles: usize,
 ) -> Result<(), Stop> {
-    check(Stop::Length, interner.len() == 1)?;
+    check(
+        Stop::Length,
+        interner.len() == symbol.index().saturating_add(1),
+    )?;
     check(Stop::Order, interner.get(wanted) == Some(symbol))?;
     let text = interner.resolve(symbol).ok_or(Stop::Text)?;
     check_text(text, wanted, handles)
 }
 
-/// Checks that a refused call left no text behind.
+/// Checks that a refused call left this many texts, as before it.
 fn check_unchanged(
     interner: &Interner,
+    texts: usize,
     interned: Result<Symbol, InternFault>,
 ) -> Result<Symbol, Stop> {
     if interned.is_err() {
-        check(Stop::Length, interner.is_empty())?;
+        check(Stop::Length, interner.len() == texts)?;
     }
     Ok(interned?)
 }

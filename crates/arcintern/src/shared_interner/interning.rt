@@ -2,12 +2,13 @@
 ghost use Rattle.std.specs.Prelude.{◌≡◌, ◌+◌, ◌*◌, ◌<◌, ◌≤◌, IfErr, IfOk, IfSome, IsErrOf, IsNone, length};
 ghost use Rattle.arcstr.specs.Making.{IsTooLong};
 ghost use Rattle.arcstr.specs.Substr.{text_of};
-ghost use Rattle.arcintern.specs.Texts.{IsSymbolOfWord, IsWhole};
+ghost use Rattle.arcintern.specs.Texts.{IsSymbolOf, IsSymbolOfWord, IsWhole};
 
 use crate::fault::InternFault;
 use crate::interner::{MOST_TEXTS, copy_of, is_whole};
 use crate::shared_interner::SharedInterner;
 use crate::shared_interner::shared_symbol::SharedSymbol;
+use crate::slots::{Slots, half_of};
 use arcstr::{ArcStr, Substr};
 use std::alloc::Global;
 use std::hash::BuildHasher;
@@ -97,10 +98,26 @@ impl<S: BuildHasher> SharedInterner<S> {
         ensures { IfSome result (λ symbol. IsSymbolOfWord self.now symbol word.now) }
     {
         let shard = shard_of(hash, self.shards.len());
-        let numbers = self.shards[shard].read(rt);
-        match numbers.find(&self.texts, hash, word) {
-            Ok(symbol) => Some(symbol),
-            Err(_) => None,
+        let slots = self.shards[shard].read(rt);
+        self.find_in(&slots, hash, word)
+    }
+
+    /// The symbol of the word with this hash, in the table of its shard.
+    fn find_in(&self, slots: &Slots, hash: u64, word: &str) -> Option<SharedSymbol>
+        ensures { IfSome result (λ symbol. IsSymbolOfWord self.now symbol word.now) }
+    {
+        slots.find(half_of(hash), |number| self.symbol_if_word(number, word))
+    }
+
+    /// The symbol of this number, if its text spells the word.
+    fn symbol_if_word(&self, number: u32, word: &str) -> Option<SharedSymbol>
+        ensures { IfSome result (λ symbol. IsSymbolOfWord self.now symbol word.now) }
+    {
+        let text = self.texts.witness(number as usize)?;
+        if self.texts.value(&text).eq_str(word) {
+            Some(SharedSymbol { text })
+        } else {
+            None
         }
     }
 
@@ -125,12 +142,35 @@ impl<S: BuildHasher> SharedInterner<S> {
         }
         let text = text_to_keep(rt, self.alloc, word, whole)?;
         let shard = shard_of(hash, self.shards.len());
-        let mut numbers = self.shards[shard].write(rt);
-        match numbers.find(&self.texts, hash, word) {
-            Ok(symbol) => Ok(symbol),
-            Err(Some(key)) => numbers.add(rt, &self.texts, key, text),
-            Err(None) => Err(InternFault::Full),
+        let mut slots = self.shards[shard].write(rt);
+        match self.find_in(&slots, hash, word) {
+            Some(symbol) => Ok(symbol),
+            None => self.add(rt, &mut slots, hash, text),
         }
+    }
+
+    /// Adds a text, with the next number, to the table of its shard. A text beyond the last number stays in the list, where no call
+    /// finds it.
+    fn add(
+        &self,
+        rt: &impl Wait,
+        slots: &mut Slots,
+        hash: u64,
+        text: ArcStr,
+    ) -> Result<SharedSymbol, InternFault>
+        ensures of { IfOk result (λ symbol. IsSymbolOf self.now symbol) }
+        ensures text { IfOk result (λ symbol. symbol.text ≡ text) }
+        ensures never_too_long { ¬ (IsErrOf result InternFault.Length) }
+    {
+        slots.make_room()?;
+        let Ok(text) = self.texts.push_shown(rt, text) else {
+            return Err(InternFault::Memory);
+        };
+        if text.index() >= MOST_TEXTS {
+            return Err(InternFault::Full);
+        }
+        slots.put(half_of(hash), text.index() as u32);
+        Ok(SharedSymbol { text })
     }
 }
 
