@@ -1,51 +1,32 @@
--- What a look-up in the table says of the texts, and what a new text does to them.
-use Rattle.std.proofs.Common.{◌≡◌, ℕ, zero, suc, ◌↔◌, Bool, true, false, if◌then◌else◌, List, [], ◌∷◌, ◌++◌, length, get_or, position, Option, Some, is_some}
-use Rattle.std.proofs.Common.{refl, sym, ap, subst, ◌∙◌, arith}
-use Rattle.std.specs.Prelude.{bytes_eq, IsSome, IsSomeAnd}
-use Rattle.std.specs.Cmp.Lexicographic.{bytes_decides}
-use Rattle.std.specs.List.{list_any}
-use Rattle.std.proofs.lemmas.List.{get_or_default}
-use Rattle.std.proofs.lemmas.List.Folds.{Any-from_list_any, list_any-from_Any}
-use Rattle.std.proofs.lemmas.List.Quantifiers.{position-Some, all_pairs_push}
-use Rattle.std.proofs.lemmas.Option.{slice_get-get_or}
-use Rattle.indexmap.specs.IndexSet.{insert_key}
+-- What a new text does to the texts, and to the table of their numbers.
+use Rattle.std.proofs.Common.{◌≡◌, ℕ, ◌<◌, zero, suc, List, [], ◌∷◌, ◌++◌, length, get_or, refl, sym, subst, arith, ◌⊎◌, inl, inr}
+use Rattle.std.proofs.lemmas.Bool.{cases_eq}
+use Rattle.std.proofs.lemmas.List.{get_or_append_left, get_or_at, get_or_default, length_push}
+use Rattle.std.proofs.lemmas.List.Quantifiers.{all_pairs_push}
 use Rattle.arcstr.specs.TextView.{TextView, literal_of}
+use Rattle.arcintern.specs.Slots.{ArePlaced, IsPlaced, slot_of}
 use Rattle.arcintern.specs.Texts.{HasEachOnce, HasWord, IsWordAt, KeepsTexts}
 
-module _ (texts : List TextView) (word : List ℕ) where
-  -- an index that the search answers is that of the word's text
-  pub word_at_position : (index : ℕ) → position (λ text. bytes_eq word text.text) texts ≡ Some index → IsWordAt texts index word
-  word_at_position index found =
-      let text = get_or texts index (literal_of []) in
-      let passes = position-Some (λ (other : TextView). bytes_eq word other.text) texts index (literal_of []) found in
-      subst (λ answer. IsSomeAnd answer (λ other. other.text ≡ word)) (sym (slice_get-get_or texts index (literal_of []) passes.0))
-      (sym ((bytes_decides word text.text).0 passes.1))
+-- no two of the texts spell the same word, if the new one's word is new
+pub once-push : (texts : List TextView) (text : TextView) → ¬ HasWord texts text.text → HasEachOnce texts → HasEachOnce (texts ++ text ∷ [])
+once-push texts text absent once =
+    all_pairs_push (λ one other. one.text ≡ other.text → ⊥) texts text once
+    (λ k d within same. absent (k, get_or texts k d, within, get_or_default texts k _ d within, same))
 
-  -- the search answers an index exactly where one of the texts spells the word
-  pub found_exactly : (found : Option ℕ) → is_some found ≡ list_any (λ text. bytes_eq word text.text) texts → IsSome found ↔ HasWord texts word
-  found_exactly found answers = (
-    λ some.
-        let one = Any-from_list_any (λ (text : TextView). bytes_eq word text.text) texts (sym answers ∙ some) in
-        (one.0, one.1, one.2, one.3, sym ((bytes_decides word one.1.text).0 one.4)),
-    λ one. answers ∙ list_any-from_Any (λ (text : TextView). bytes_eq word text.text) texts
-        (one.0, one.1, one.2, one.3, (bytes_decides word one.1.text).1 (sym one.4)),
-  )
-
-module _ (texts : List TextView) (text : TextView) (absent : ¬ HasWord texts text.text) where
-  -- a text whose word is new goes last
-  pub insert_key-new : insert_key (λ one other. bytes_eq one.text other.text) texts text ≡ texts ++ text ∷ []
-  insert_key-new = by (list_any (λ other. bytes_eq text.text other.text) texts) refl
-    where
-      by : (found : Bool) → list_any (λ other. bytes_eq text.text other.text) texts ≡ found
-          → insert_key (λ one other. bytes_eq one.text other.text) texts text ≡ texts ++ text ∷ []
-      by true same = absurd (absent ((found_exactly texts text.text (Some 0) (sym same)).0 refl))
-      by false same = ap (λ found. if found then texts else texts ++ text ∷ []) same
-
-  -- and no two of the texts spell the same word
-  pub once-push : HasEachOnce texts → HasEachOnce (texts ++ text ∷ [])
-  once-push once =
-      all_pairs_push (λ one other. one.text ≡ other.text → ⊥) texts text once
-      (λ k d within same. absent (k, get_or texts k d, within, get_or_default texts k _ d within, same))
+-- each number is placed, if the old ones stay and the new one is placed
+pub ArePlaced-push : (old new : List ℕ) (old_mask new_mask : ℕ) (half : List ℕ → ℕ) (texts : List TextView) (text : TextView)
+    → ((slot : ℕ) → 0 < slot → IsPlaced old old_mask slot → IsPlaced new new_mask slot)
+    → IsPlaced new new_mask (slot_of (half text.text) (length texts))
+    → ArePlaced old old_mask half texts → ArePlaced new new_mask half (texts ++ text ∷ [])
+ArePlaced-push old new old_mask new_mask half texts text kept placed all = λ number less. by number less (cases_eq number (length texts))
+  where
+    by : (number : ℕ) → number < length (texts ++ text ∷ []) → (number ≡ length texts) ⊎ (number ≡ length texts → ⊥)
+        → IsPlaced new new_mask (slot_of (half (get_or (texts ++ text ∷ []) number (literal_of [])).text) number)
+    by number less (inl last) =
+        rw (get_or_at texts text [] (literal_of []) number (sym last)) (subst (λ index. IsPlaced new new_mask (slot_of (half text.text) index)) (sym last) placed)
+    by number less (inr other) =
+        let within : number < length texts = omega (arith, less, other, length_push texts text) in
+        rw (get_or_append_left texts (text ∷ []) (literal_of []) number within) (kept _ (omega arith) (all number within))
 
 -- each old text is still at its index
 pub KeepsTexts-push : (texts : List TextView) (text : TextView) → KeepsTexts texts (texts ++ text ∷ [])

@@ -4,8 +4,7 @@ use Rattle.std.specs.declared.io.ErrorKind.{ErrorKind}
 use Rattle.std.specs.declared.io.ErrorKind.TheVariants.{InvalidInput, OutOfMemory}
 use Rattle.arcstr.specs.Substr.{SubstrView}
 use Rattle.arcstr.specs.TextView.{TextView}
-use Rattle.boxcar.specs.Slot.{Named}
-use Rattle.boxcar.specs.Table.{IsAt, id_at}
+use Rattle.boxcar.specs.Table.{Shelves, id_at}
 use Rattle.arcintern.specs.declared.fault.InternFault.{InternFault}
 use Rattle.arcintern.specs.declared.fault.InternFault.TheVariants.{Full, Length, Memory}
 
@@ -31,19 +30,20 @@ IsWhole slice = (slice.start ≡ 0) × (slice.end ≡ length slice.parent.text)
 
 -- ---- a shared interner, and its symbols
 
--- what clauses see of a symbol: its number, the text that it stands for, and the name of the row that holds the text
+-- what clauses see of a symbol: its number, the text that it stands for, and the bucket of texts that holds it, with the bucket's name
 pub record SymbolView : Type 0 where
   pub number : ℕ
   pub text : TextView
+  pub bucket : ℕ
   pub row : ℕ
 
--- the symbol is of the interner with these rows
-unfoldable pub IsSymbolOf : List Named → SymbolView → Type 0
-IsSymbolOf rows symbol = (row slot : ℕ) → IsAt symbol.number row slot → symbol.row ≡ id_at rows row
+-- the symbol is of the interner with these buckets
+abbrev pub IsSymbolOf : Shelves → SymbolView → Type 0
+IsSymbolOf texts symbol = symbol.row ≡ id_at texts.buckets symbol.bucket
 
--- the symbol is of the interner with these rows, and its text spells this word
-abbrev pub IsSymbolOfWord : List Named → SymbolView → List ℕ → Type 0
-IsSymbolOfWord rows symbol word = IsSymbolOf rows symbol × (symbol.text.text ≡ word)
+-- the symbol is of the interner with these buckets, and its text spells this word
+abbrev pub IsSymbolOfWord : Shelves → SymbolView → List ℕ → Type 0
+IsSymbolOfWord texts symbol word = IsSymbolOf texts symbol × (symbol.text.text ≡ word)
 
 -- ---- the faults of an interner: their texts, and their kinds as faults of reading and writing
 

@@ -2,17 +2,18 @@
 //!
 //! No call here allocates, clones a handle or takes an atomic step unless it says so.
 ghost use Rattle.std.specs.Prelude.{◌≡◌, ◌^◌, ◌<◌, ◌≤◌, ◌↔◌, [], length, IfErr, IfOk, IsTrue};
-ghost use Rattle.std.specs.Map.Iter.{ShowsInOrder, ShowsInReverse, deref};
+ghost use Rattle.std.specs.Iterator.Adapters.{IterYieldsInOrder, IterYieldsInReverse};
+ghost use Rattle.std.specs.Slice.Iter.{iter_rest};
 ghost use Rattle.arcstr.specs.TextView.{TextView};
 ghost use Rattle.arcintern.specs.Texts.{HasEachOnce};
 
 use crate::fault::InternFault;
+use crate::slots::Slots;
 use arcstr::ArcStr;
-use indexmap::IndexSet;
-use indexmap::set::Iter;
 use std::alloc::Global;
 use std::hash::{BuildHasher, BuildHasherDefault, FoldHasher};
 use std::marker::Model;
+use std::slice::Iter;
 
 mod interning;
 mod lookup;
@@ -40,7 +41,9 @@ pub const MOST_TEXTS: usize = (1 << 32) - 1;
 /// ```
 #[derive(Drop)]
 pub struct Interner<S: BuildHasher = BuildHasherDefault<FoldHasher>> {
-    texts: IndexSet<ArcStr, S>,
+    texts: Vec<ArcStr>,
+    slots: Slots,
+    hash_builder: S,
 }
 
 impl<S: BuildHasher> Model for Interner<S> {
@@ -48,12 +51,14 @@ impl<S: BuildHasher> Model for Interner<S> {
     ghost use Rattle.arcintern.specs.declared.interner.TheConstants.{MOST_TEXTS};
     ghost use Rattle.arcstr.specs.TextView.{TextView};
     ghost use Rattle.arcintern.specs.Texts.{HasEachOnce};
+    ghost use Rattle.arcintern.specs.Slots.{ArePlaced, half_of_word};
 
     ghost Value = { List TextView };
 
-    ghost view = { λ interner. interner.texts.keys };
+    ghost view = { λ interner. interner.texts.items };
 
-    ghost invariant = { λ interner. HasEachOnce interner.texts.keys × (length interner.texts.keys ≤ MOST_TEXTS) };
+    ghost invariant = { λ interner. HasEachOnce interner.texts.items × (length interner.texts.items ≤ MOST_TEXTS)
+        × ArePlaced interner.slots.slots.items interner.slots.mask (half_of_word S.BuildHasher S.Hasher.Hasher interner.hash_builder) interner.texts.items };
 }
 
 impl Interner<BuildHasherDefault<FoldHasher>> {
@@ -69,8 +74,8 @@ impl Interner<BuildHasherDefault<FoldHasher>> {
         Interner::with_hasher(alloc, BuildHasherDefault::new())
     }
 
-    /// Makes an interner without texts, whose table has room for this many. It is allocated here, and none is for no texts. `Memory`
-    /// is the only fault.
+    /// Makes an interner without texts, with room for this many. It is allocated here, and none is for no texts. `Memory` is the only
+    /// fault.
     ///
     /// ```
     /// let interner = Interner::with_capacity(rt.alloc(), 100)?;
@@ -81,8 +86,13 @@ impl Interner<BuildHasherDefault<FoldHasher>> {
         // Promise: It fails only with `Memory`.
         ensures refused { IfErr result (λ fault. fault ≡ InternFault.Memory) }
     {
-        let texts = IndexSet::with_capacity(alloc, texts)?;
-        Ok(Interner { texts })
+        let slots = Slots::with_capacity(alloc, texts)?;
+        let texts = Vec::with_capacity(alloc, texts)?;
+        Ok(Interner {
+            texts,
+            slots,
+            hash_builder: BuildHasherDefault::new(),
+        })
     }
 }
 
@@ -99,7 +109,9 @@ impl<S: BuildHasher> Interner<S> {
         ensures { result ≡ [] }
     {
         Interner {
-            texts: IndexSet::with_hasher(alloc, hash_builder),
+            texts: Vec::new(alloc),
+            slots: Slots::new(alloc),
+            hash_builder,
         }
     }
 
@@ -142,11 +154,11 @@ impl<S: BuildHasher> Interner<S> {
     /// assert!(rt; texts.next().is_some_and(|text| text.eq_str("foo")));
     /// ```
     pub fn iter(&self) -> Iter<'_, ArcStr>
-        ensures rest { result ≡ self.now }
-        ensures len { length result ≡ length self.now }
+        ensures rest { iter_rest result ≡ self.now }
+        ensures len { length (iter_rest result) ≡ length self.now }
         ensures once { HasEachOnce self.now }
-        ensures runs { ShowsInOrder (deref {X = TextView}) }
-        ensures runs_back { ShowsInReverse (deref {X = TextView}) }
+        ensures runs { IterYieldsInOrder TextView }
+        ensures runs_back { IterYieldsInReverse TextView }
         ensures fits { length self.now < 2 ^ 63 }
     {
         self.texts.iter()

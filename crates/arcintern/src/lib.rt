@@ -9,4 +9,5 @@ pub use symbol::Symbol;
 mod fault;
 mod interner;
 mod shared_interner;
+mod slots;
 mod symbol;

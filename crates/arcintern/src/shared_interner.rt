@@ -1,12 +1,11 @@
 //! `SharedInterner`: each distinct text once, for threads.
 //!
-//! Each call with a handle `rt` can wait: for a thread that is adding a text to the same shard.
+//! Each call with a handle `rt` can wait: for a thread that is adding a text to the same shard or the list.
 ghost use Rattle.std.specs.Prelude.{◌≡◌, ◌≤◌, IfErr, IfOk, IfSome, length};
 ghost use Rattle.arcintern.specs.Texts.{IsSymbolOf};
 
 use crate::fault::InternFault;
-use crate::shared_interner::numbers::Numbers;
-use crate::shared_interner::text_list::TextList;
+use crate::slots::Slots;
 use crate::symbol::Symbol;
 use arcstr::ArcStr;
 use std::alloc::Global;
@@ -15,9 +14,7 @@ use std::marker::Model;
 use std::sync::{RwLock, Wait};
 
 mod interning;
-mod numbers;
 mod shared_symbol;
-mod text_list;
 
 pub use shared_symbol::SharedSymbol;
 
@@ -25,10 +22,11 @@ pub use shared_symbol::SharedSymbol;
 ///
 /// The hash of a word picks one of 1 to 64 shards. A shard has a lock, under which it finds the numbers of its texts. Calls for words
 /// that are there share the lock. The texts themselves lie in one list that only grows, and are read without a lock. So a symbol stands
-/// for one text as long as the interner lives, whatever other threads do.
+/// for one text as long as the interner lives, whatever other threads do. The numbers are 0, 1, 2 and so on, in the order in which the
+/// texts were added. Only a call that runs out of memory while other threads add texts can leave a number without a text.
 ///
-/// The contracts do not say that a call succeeds, that a word has one number, or what `len` and `resolve` answer: the tests
-/// `threads_agree_on_eight_shards` and `words_are_told_apart` check that, and `words_go_to_each_shard` that all shards serve.
+/// The contracts do not say that a call succeeds, that a word has one number, which number is next, or what `len` and `resolve` answer:
+/// the tests `threads_agree_on_eight_shards` and `words_are_told_apart` check that.
 ///
 /// The default hasher has a fixed seed. Where an attacker picks the texts, make the interner by `with_hasher`.
 ///
@@ -40,20 +38,19 @@ pub use shared_symbol::SharedSymbol;
 /// ```
 #[derive(Drop)]
 pub struct SharedInterner<S: BuildHasher = BuildHasherDefault<FoldHasher>> {
-    shards: Vec<RwLock<Numbers>>,
-    texts: TextList,
+    shards: Vec<RwLock<Slots>>,
+    texts: boxcar::Vec<ArcStr>,
     alloc: Global,
     hash_builder: S,
 }
 
 impl<S: BuildHasher> Model for SharedInterner<S> {
-    ghost use Rattle.std.specs.Prelude.{List, ◌≤◌, length};
-    ghost use Rattle.std.specs.Coded.{coded_list};
-    ghost use Rattle.boxcar.specs.Slot.{Named, named_coded};
+    ghost use Rattle.std.specs.Prelude.{◌≤◌, length};
+    ghost use Rattle.boxcar.specs.Table.{Shelves, shelves_coded};
 
-    ghost Value = { List Named };
+    ghost Value = { Shelves };
 
-    ghost coded = { coded_list named_coded };
+    ghost coded = { shelves_coded };
 
     ghost view = { λ interner. interner.texts };
 
@@ -66,7 +63,7 @@ impl SharedInterner<BuildHasherDefault<FoldHasher>> {
     ///
     /// ```
     /// let interner = SharedInterner::new(rt.alloc(), 1)?;
-    /// assert!(rt; interner.is_empty(&rt));
+    /// assert!(rt; interner.is_empty());
     /// ```
     pub fn new(alloc: Global, shards: usize) -> Result<SharedInterner, InternFault>
         requires { (1 ≤ shards) × (shards ≤ 64) }
@@ -93,7 +90,7 @@ impl<S: BuildHasher + Drop> SharedInterner<S> {
         requires { (1 ≤ shards) × (shards ≤ 64) }
         ensures { IfErr result (λ fault. fault ≡ InternFault.Memory) }
     {
-        let texts = TextList::new(alloc)?;
+        let texts = boxcar::Vec::new(alloc)?;
         let shards = empty_shards(alloc, shards)?;
         Ok(SharedInterner {
             shards,
@@ -116,7 +113,7 @@ impl<S: BuildHasher> SharedInterner<S> {
         requires { IsSymbolOf self.now symbol.now }
         ensures { result.now ≡ symbol.now.text }
     {
-        self.texts.text(symbol)
+        self.texts.value(&symbol.text)
     }
 
     /// Two symbols of this interner with one number have one text. It does nothing when it runs.
@@ -132,7 +129,7 @@ impl<S: BuildHasher> SharedInterner<S> {
         requires same { one.now.number ≡ other.now.number }
         ensures { one.now.text ≡ other.now.text }
     {
-        self.texts.agrees(one, other);
+        self.texts.agrees(&one.text, &other.text);
     }
 
     /// Returns the symbol with this number, or `None` if no text has it: the number is another interner's. Takes no lock, and never
@@ -149,7 +146,8 @@ impl<S: BuildHasher> SharedInterner<S> {
         ensures of { IfSome result (λ symbol. IsSymbolOf self.now symbol) }
         ensures number { IfSome result (λ symbol. symbol.number ≡ number) }
     {
-        self.texts.at(number)
+        let text = self.texts.witness(number.index())?;
+        Some(SharedSymbol { text })
     }
 
     /// Returns a clone of the text with this number, or `None` if no text has it. Takes the steps of `ArcStr::clone`.
@@ -165,20 +163,16 @@ impl<S: BuildHasher> SharedInterner<S> {
         Some(self.text(&symbol).clone(rt))
     }
 
-    /// Returns the number of texts. It may miss texts that other threads are adding.
+    /// Returns the number of texts. It may miss texts that other threads are adding. Takes no lock.
     ///
     /// ```
     /// let interner = SharedInterner::new(rt.alloc(), 8)?;
     /// interner.intern(&rt, "foo")?;
     /// interner.intern(&rt, "foo")?;
-    /// assert_eq!(rt; interner.len(&rt), 1);
+    /// assert_eq!(rt; interner.len(), 1);
     /// ```
-    pub fn len(&self, rt: &impl Wait) -> usize {
-        let mut len: usize = 0;
-        for shard in &self.shards {
-            len = len.saturating_add(shard.read(rt).len());
-        }
-        len
+    pub fn len(&self) -> usize {
+        self.texts.count()
     }
 
     /// Returns whether there are no texts.
@@ -186,23 +180,23 @@ impl<S: BuildHasher> SharedInterner<S> {
     /// ```
     /// let interner = SharedInterner::new(rt.alloc(), 8)?;
     /// interner.intern(&rt, "")?;
-    /// assert!(rt; !interner.is_empty(&rt));
+    /// assert!(rt; !interner.is_empty());
     /// ```
-    pub fn is_empty(&self, rt: &impl Wait) -> bool {
-        self.len(rt) == 0
+    pub fn is_empty(&self) -> bool {
+        self.len() == 0
     }
 }
 
 /// Shards without texts.
-fn empty_shards(alloc: Global, shards: usize) -> Result<Vec<RwLock<Numbers>>, InternFault>
-    ensures len { IfOk result (λ numbers. length numbers.items ≡ shards) }
+fn empty_shards(alloc: Global, shards: usize) -> Result<Vec<RwLock<Slots>>, InternFault>
+    ensures len { IfOk result (λ tables. length tables.items ≡ shards) }
     ensures fault { IfErr result (λ fault. fault ≡ InternFault.Memory) }
 {
-    let mut numbers = Vec::with_capacity(alloc, shards)?;
+    let mut tables = Vec::with_capacity(alloc, shards)?;
     let mut count = 0;
     while count < shards {
-        numbers.push_reserved(RwLock::new(Numbers::new(alloc)));
+        tables.push_reserved(RwLock::new(Slots::new(alloc)));
         count += 1;
     }
-    Ok(numbers)
+    Ok(tables)
 }

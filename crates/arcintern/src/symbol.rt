@@ -40,13 +40,6 @@ impl Symbol {
         self.0 as usize
     }
 
-    /// The index as the 4 bytes of the symbol.
-    pub(crate) fn bits(self) -> u32
-        ensures { result ≡ self }
-    {
-        self.0
-    }
-
     /// The symbol of the text at this index.
     pub(crate) fn at(index: usize) -> Symbol
         requires { index < 2 ^ 32 }

@@ -1,4 +1,5 @@
 mod checks;
+mod collisions;
 mod interner;
 mod shared_interner;
 

@@ -1,25 +1,33 @@
-//! Calls of an interner. A refusal leaves it without texts, and the same call then succeeds.
+//! Calls of an interner, with and without texts. A refusal leaves its texts as they were, and the same call then succeeds.
 use crate::calls::{Calls, Given, Machine, Made, Stop, again, check, count, is_text};
 use arcintern::{Interner, SharedInterner, SharedSymbol};
 use arcstr::{ArcStr, Substr};
+use std::alloc::AllocError;
 use std::sync::Wait;
 use std::{io, mem};
 
+/// An interner with this many texts has a longer table after the next one.
+const FULL: usize = 12;
+
 pub(crate) fn run<R: Machine>(rt: &R) -> io::Result<()> {
     again::<(), Interner, R>(rt, "Interner::with_capacity", 0, "", 0)?;
-    again::<Interner, Interner, R>(rt, "Interner::intern", 0, "foobar", 1)?;
+    again::<Room, Interner, R>(rt, "Interner::intern_arc where there is room", 0, "99", 2)?;
+    again::<Words<0>, Interner, R>(rt, "Interner::intern", 0, "foobar", 1)?;
+    again::<Words<FULL>, Interner, R>(rt, "Interner::intern with a full table", 0, "foobar", 1)?;
     again::<Handles, Interner, R>(rt, "Interner::intern_arc", 0, "foobar", 3)?;
     again::<Handles, Interner, R>(rt, "Interner::intern_substr", 1, "foo", 1)?;
     again::<(), SharedInterner, R>(rt, "SharedInterner::new", 0, "", 0)?;
-    again::<Option<SharedInterner>, SharedInterner, R>(rt, "SharedInterner::intern", 0, "", 0)
+    again::<SharedWords<0>, SharedInterner, R>(rt, "SharedInterner::intern", 0, "", 0)?;
+    let line = "SharedInterner::intern with a full table";
+    again::<SharedWords<FULL>, SharedInterner, R>(rt, line, 0, "", 0)
 }
 
-/// An interner with only this text, or an empty one if the text is empty.
+/// An interner whose last text is this one, or which has none if the text is empty.
 impl Made for Interner {
     fn is(&self, wanted: &str, handles: usize) -> bool {
-        match self.iter().next() {
+        match self.iter().last() {
             None => wanted.is_empty(),
-            Some(text) => self.len() == 1 && is_text(text, wanted, handles),
+            Some(text) => is_text(text, wanted, handles),
         }
     }
 }
@@ -30,21 +38,67 @@ impl Calls<()> for Interner {
     }
 }
 
-impl Given for Interner {
-    fn prepare<R: Machine>(rt: &R) -> Result<Interner, Stop> {
-        Ok(Interner::new(rt.alloc()))
+/// Texts, and an interner with room for them.
+#[derive(Drop)]
+struct Room {
+    texts: Vec<ArcStr>,
+    interner: Interner,
+}
+
+impl Given for Room {
+    fn prepare<R: Machine>(rt: &R) -> Result<Room, Stop> {
+        let mut texts = Vec::with_capacity(rt.alloc(), 100)?;
+        for number in 0..100 {
+            let word = format!(in rt.alloc(); "{number}")?;
+            let text = ArcStr::from_str(rt.alloc(), &word)?;
+            texts.push(text).map_err(AllocError::from)?;
+        }
+        let interner = Interner::with_capacity(rt.alloc(), 100)?;
+        Ok(Room { texts, interner })
     }
 
     fn is_unchanged<R: Machine>(&self, _rt: &R) -> bool {
-        self.is_empty()
+        self.interner.is_empty()
     }
 }
 
-impl Calls<Interner> for Interner {
-    fn call<R: Machine>(rt: &R, interner: &mut Interner, _: usize) -> Result<Interner, Stop> {
-        let symbol = interner.intern("foobar")?;
-        check(interner.get("foobar") == Some(symbol))?;
-        Ok(mem::replace(interner, Interner::new(rt.alloc())))
+impl Calls<Room> for Interner {
+    fn call<R: Machine>(rt: &R, room: &mut Room, _: usize) -> Result<Interner, Stop> {
+        for text in &room.texts {
+            room.interner.intern_arc(rt, text)?;
+        }
+        Ok(mem::replace(&mut room.interner, Interner::new(rt.alloc())))
+    }
+}
+
+/// An interner with so many texts. A call that succeeds takes it.
+#[derive(Drop)]
+struct Words<const TEXTS: usize>(Option<Interner>);
+
+impl<const TEXTS: usize> Given for Words<TEXTS> {
+    fn prepare<R: Machine>(rt: &R) -> Result<Words<TEXTS>, Stop> {
+        let mut interner = Interner::new(rt.alloc());
+        for number in 0..TEXTS {
+            interner.intern(&format!(in rt.alloc(); "{number}")?)?;
+        }
+        Ok(Words(Some(interner)))
+    }
+
+    fn is_unchanged<R: Machine>(&self, _rt: &R) -> bool {
+        match &self.0 {
+            None => true,
+            Some(interner) => interner.len() == TEXTS && interner.get("foobar").is_none(),
+        }
+    }
+}
+
+impl<const TEXTS: usize> Calls<Words<TEXTS>> for Interner {
+    fn call<R: Machine>(_rt: &R, words: &mut Words<TEXTS>, _: usize) -> Result<Interner, Stop> {
+        if let Some(interner) = words.0.as_mut() {
+            let symbol = interner.intern("foobar")?;
+            check(symbol.index() == TEXTS && interner.get("foobar") == Some(symbol))?;
+        }
+        words.0.take().ok_or(Stop::Differs)
     }
 }
 
@@ -95,49 +149,56 @@ impl Made for SharedInterner {
 impl Calls<()> for SharedInterner {
     fn call<R: Machine>(rt: &R, _: &mut (), _: usize) -> Result<SharedInterner, Stop> {
         let interner = SharedInterner::new(rt.alloc(), 2)?;
-        check(interner.is_empty(rt))?;
+        check(interner.is_empty())?;
         Ok(interner)
     }
 }
 
-/// It is taken when a call succeeds.
-impl Given for Option<SharedInterner> {
-    fn prepare<R: Machine>(rt: &R) -> Result<Option<SharedInterner>, Stop> {
-        Ok(Some(SharedInterner::new(rt.alloc(), 2)?))
+/// As `Words`, for an interner of one shard.
+#[derive(Drop)]
+struct SharedWords<const TEXTS: usize>(Option<SharedInterner>);
+
+impl<const TEXTS: usize> Given for SharedWords<TEXTS> {
+    fn prepare<R: Machine>(rt: &R) -> Result<SharedWords<TEXTS>, Stop> {
+        let interner = SharedInterner::new(rt.alloc(), 1)?;
+        for number in 0..TEXTS {
+            interner.intern(rt, &format!(in rt.alloc(); "{number}")?)?;
+        }
+        Ok(SharedWords(Some(interner)))
     }
 
     fn is_unchanged<R: Machine>(&self, rt: &R) -> bool {
-        match self {
+        match &self.0 {
             None => true,
-            Some(interner) => interner.is_empty(rt) && interner.get(rt, "foobar").is_none(),
+            Some(interner) => interner.len() == TEXTS && interner.get(rt, "foobar").is_none(),
         }
     }
 }
 
-impl Calls<Option<SharedInterner>> for SharedInterner {
+impl<const TEXTS: usize> Calls<SharedWords<TEXTS>> for SharedInterner {
     fn call<R: Machine>(
         rt: &R,
-        given: &mut Option<SharedInterner>,
+        words: &mut SharedWords<TEXTS>,
         _: usize,
     ) -> Result<SharedInterner, Stop> {
-        if let Some(interner) = given.as_ref() {
+        if let Some(interner) = words.0.as_ref() {
             let symbol = interner.intern(rt, "foobar")?;
-            check(has_only(rt, interner, &symbol))?;
+            check(interner.len() == TEXTS.saturating_add(1))?;
+            check(symbol.number().index() == TEXTS)?;
+            check(is_found(rt, interner, &symbol))?;
         }
-        given.take().ok_or(Stop::Differs)
+        words.0.take().ok_or(Stop::Differs)
     }
 }
 
-/// Whether a shared interner has this one text `foobar`, in a block of one handle.
-fn has_only(rt: &impl Wait, interner: &SharedInterner, symbol: &SharedSymbol) -> bool {
+/// Whether the symbol is that of the text `foobar`, in a block of one handle.
+fn is_found(rt: &impl Wait, interner: &SharedInterner, symbol: &SharedSymbol) -> bool {
     match (
         interner.get(rt, "foobar"),
         interner.symbol_at(symbol.number()),
     ) {
         (Some(found), Some(there)) => {
-            interner.len(rt) == 1
-                && found.number() == symbol.number()
-                && is_text(interner.text(&there), "foobar", 1)
+            found.number() == symbol.number() && is_text(interner.text(&there), "foobar", 1)
         }
         _ => false,
     }

@@ -7,6 +7,7 @@ ghost use Rattle.arcintern.specs.Texts.{HasEachOnce, HasWord, IsWhole, IsWordAt,
 
 use crate::fault::InternFault;
 use crate::interner::{Interner, MOST_TEXTS};
+use crate::slots::half_of_word;
 use crate::symbol::Symbol;
 use arcstr::{ArcStr, Substr, TextFault};
 use std::alloc::Global;
@@ -152,9 +153,12 @@ impl<S: BuildHasher> Interner<S> {
         ensures refused { OnErr result (self.new ≡ self.old) }
         ensures fault { IfErr result (λ fault. fault ≡ InternFault.Memory) }
     {
-        let symbol = Symbol::at(self.texts.len());
-        self.texts.insert(text)?;
-        Ok(symbol)
+        let number = self.texts.len();
+        let half = half_of_word(&self.hash_builder, text.as_str());
+        self.slots.make_room()?;
+        self.texts.push(text)?;
+        self.slots.put(half, number as u32);
+        Ok(Symbol::at(number))
     }
 }
 

@@ -1,8 +1,9 @@
 //! Texts by their words, and by their symbols.
-ghost use Rattle.std.specs.Prelude.{◌≡◌, ◌<◌, ◌↔◌, length, option_copied, slice_get, IfSome, Some, IsSome};
+ghost use Rattle.std.specs.Prelude.{◌≡◌, ◌<◌, ◌↔◌, length, option_copied, slice_get, IfNone, IfSome, Some, IsSome};
 ghost use Rattle.arcintern.specs.Texts.{HasEachOnce, HasWord, IsWordAt};
 
 use crate::interner::Interner;
+use crate::slots::half_of_word;
 use crate::symbol::Symbol;
 use arcstr::ArcStr;
 use std::hash::BuildHasher;
@@ -23,8 +24,40 @@ impl<S: BuildHasher> Interner<S> {
         ensures word { IfSome result (λ symbol. IsWordAt self.now symbol word.now) }
         ensures once { HasEachOnce self.now }
     {
-        let index = self.texts.get_index_of(word)?;
-        Some(Symbol::at(index))
+        let half = half_of_word(&self.hash_builder, word);
+        self.slots
+            .find(half, |number| self.symbol_if_word(number, word))
+    }
+
+    /// The symbol of this number, if its text spells the word.
+    fn symbol_if_word(&self, number: u32, word: &str) -> Option<Symbol>
+        ensures is { IfSome result (λ symbol. (symbol ≡ number) × IsWordAt self.now number word.now) }
+        ensures not { IfNone result (¬ IsWordAt self.now number word.now) }
+    {
+        match self.texts.get(number as usize) {
+            Some(text) if text.eq_str(word) => Some(Symbol::at(number as usize)),
+            _ => None,
+        }
+    }
+
+    /// Returns the symbol with this index, or `None` if the interner has fewer texts.
+    ///
+    /// ```
+    /// let mut interner = Interner::new(rt.alloc());
+    /// let symbol = interner.intern("foo")?;
+    /// assert!(rt; interner.symbol_at(0) == Some(symbol));
+    /// assert!(rt; interner.symbol_at(1).is_none());
+    /// ```
+    pub fn symbol_at(&self, index: usize) -> Option<Symbol>
+        // Promise: It finds exactly the indices that are there.
+        ensures found { IsSome result ↔ (index < length self.now) }
+        ensures symbol { IfSome result (λ symbol. symbol ≡ index) }
+    {
+        if index < self.texts.len() {
+            Some(Symbol::at(index))
+        } else {
+            None
+        }
     }
 
     /// Returns the text of the symbol, or `None` if the interner has fewer texts: the symbol is another
@@ -42,7 +75,7 @@ impl<S: BuildHasher> Interner<S> {
         ensures found { IsSome result ↔ (symbol < length self.now) }
         ensures text { option_copied result ≡ slice_get self.now symbol }
     {
-        self.texts.get_index(symbol.index())
+        self.texts.get(symbol.index())
     }
 }
 

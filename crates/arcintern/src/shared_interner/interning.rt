@@ -2,23 +2,23 @@
 ghost use Rattle.std.specs.Prelude.{◌≡◌, ◌+◌, ◌*◌, ◌<◌, ◌≤◌, IfErr, IfOk, IfSome, IsErrOf, IsNone, length};
 ghost use Rattle.arcstr.specs.Making.{IsTooLong};
 ghost use Rattle.arcstr.specs.Substr.{text_of};
-ghost use Rattle.arcintern.specs.Texts.{IsSymbolOfWord, IsWhole};
+ghost use Rattle.arcintern.specs.Texts.{IsSymbolOf, IsSymbolOfWord, IsWhole};
 
 use crate::fault::InternFault;
 use crate::interner::{MOST_TEXTS, copy_of, is_whole};
 use crate::shared_interner::SharedInterner;
 use crate::shared_interner::shared_symbol::SharedSymbol;
-use crate::symbol::Symbol;
+use crate::slots::{Slots, half_of};
 use arcstr::{ArcStr, Substr};
 use std::alloc::Global;
 use std::hash::BuildHasher;
 use std::sync::Wait;
 
 impl<S: BuildHasher> SharedInterner<S> {
-    /// Returns the symbol of the text that spells this word. If there is none, a copy of the word becomes a text: that allocates the
-    /// copy, which an empty word does not need, and room where a table or the list is full. A word that is there is never refused.
-    /// Another one is refused, in this order: where its shard has no number left (`Full`), if it has `2^63 - 25` bytes or more
-    /// (`Length`), and out of memory (`Memory`). A refused call adds no text.
+    /// Returns the symbol of the text that spells this word. If there is none, a copy of the word becomes a text, with the next number:
+    /// that allocates the copy, which an empty word does not need, and room where a table or the list is full. A word that is there
+    /// is never refused. Another one is refused, in this order: where `MOST_TEXTS` numbers are taken (`Full`), if it has
+    /// `2^63 - 25` bytes or more (`Length`), and out of memory (`Memory`). No call finds the text of a refused word.
     ///
     /// ```
     /// let interner = SharedInterner::new(rt.alloc(), 8)?;
@@ -90,15 +90,39 @@ impl<S: BuildHasher> SharedInterner<S> {
         ensures { IfSome result (λ symbol. IsSymbolOfWord self.now symbol word.now) }
     {
         let hash = self.hash_builder.hash_one(word);
+        self.find(rt, hash, word)
+    }
+
+    /// The symbol of the word with this hash.
+    fn find(&self, rt: &impl Wait, hash: u64, word: &str) -> Option<SharedSymbol>
+        ensures { IfSome result (λ symbol. IsSymbolOfWord self.now symbol word.now) }
+    {
         let shard = shard_of(hash, self.shards.len());
-        let numbers = self.shards[shard].read(rt);
-        match numbers.find(&self.texts, hash, word) {
-            Ok(symbol) => Some(symbol),
-            Err(_) => None,
+        let slots = self.shards[shard].read(rt);
+        self.find_in(&slots, hash, word)
+    }
+
+    /// The symbol of the word with this hash, in the table of its shard.
+    fn find_in(&self, slots: &Slots, hash: u64, word: &str) -> Option<SharedSymbol>
+        ensures { IfSome result (λ symbol. IsSymbolOfWord self.now symbol word.now) }
+    {
+        slots.find(half_of(hash), |number| self.symbol_if_word(number, word))
+    }
+
+    /// The symbol of this number, if its text spells the word.
+    fn symbol_if_word(&self, number: u32, word: &str) -> Option<SharedSymbol>
+        ensures { IfSome result (λ symbol. IsSymbolOfWord self.now symbol word.now) }
+    {
+        let text = self.texts.witness(number as usize)?;
+        if self.texts.value(&text).eq_str(word) {
+            Some(SharedSymbol { text })
+        } else {
+            None
         }
     }
 
-    /// The symbol of the word. If there is none, the text becomes `whole` or, without one, a copy of the word.
+    /// The symbol of the word. If there is none, the text becomes `whole` or, without one, a copy of the word. That text is made before
+    /// the lock is taken alone, and dropped if another thread has added the word meanwhile.
     fn find_or_add(
         &self,
         rt: &impl Wait,
@@ -109,48 +133,54 @@ impl<S: BuildHasher> SharedInterner<S> {
         ensures word { IfOk result (λ symbol. IsSymbolOfWord self.now symbol word.now) }
         ensures too_long { IsErrOf result InternFault.Length → IsNone whole.entry × IsTooLong (length word.now) }
     {
-        if let Some(symbol) = self.get(rt, word) {
+        let hash = self.hash_builder.hash_one(word);
+        if let Some(symbol) = self.find(rt, hash, word) {
             return Ok(symbol);
         }
-        let hash = self.hash_builder.hash_one(word);
+        if self.len() >= MOST_TEXTS {
+            return Err(InternFault::Full);
+        }
+        let text = text_to_keep(rt, self.alloc, word, whole)?;
         let shard = shard_of(hash, self.shards.len());
-        let mut guard = self.shards[shard].write(rt);
-        let numbers = &mut *guard;
-        match numbers.find(&self.texts, hash, word) {
-            Ok(symbol) => Ok(symbol),
-            Err(Some(key)) => {
-                let number = number_of(numbers.len(), self.shards.len(), shard)?;
-                let text = text_to_keep(rt, self.alloc, word, whole)?;
-                numbers.add(rt, &self.texts, key, number, text)
-            }
-            Err(None) => Err(InternFault::Full),
+        let mut slots = self.shards[shard].write(rt);
+        match self.find_in(&slots, hash, word) {
+            Some(symbol) => Ok(symbol),
+            None => self.add(rt, &mut slots, hash, text),
         }
     }
+
+    /// Adds a text, with the next number, to the table of its shard. A text beyond the last number stays in the list, where no call
+    /// finds it.
+    fn add(
+        &self,
+        rt: &impl Wait,
+        slots: &mut Slots,
+        hash: u64,
+        text: ArcStr,
+    ) -> Result<SharedSymbol, InternFault>
+        ensures of { IfOk result (λ symbol. IsSymbolOf self.now symbol) }
+        ensures text { IfOk result (λ symbol. symbol.text ≡ text) }
+        ensures never_too_long { ¬ (IsErrOf result InternFault.Length) }
+    {
+        slots.make_room()?;
+        let Ok(text) = self.texts.push_shown(rt, text) else {
+            return Err(InternFault::Memory);
+        };
+        if text.index() >= MOST_TEXTS {
+            return Err(InternFault::Full);
+        }
+        slots.put(half_of(hash), text.index() as u32);
+        Ok(SharedSymbol { text })
+    }
 }
 
-/// The shard of the words with this hash.
+/// The shard of the words with this hash: its upper half as a fraction of `2^32`, of the number of shards.
 fn shard_of(hash: u64, shards: usize) -> usize
-    requires { 1 ≤ shards }
+    requires some { 1 ≤ shards }
+    requires most { shards ≤ 64 }
     ensures { result < shards }
 {
-    (hash % shards as u64) as usize
-}
-
-/// The number of a shard's text at this index. The shard is the remainder of the number by the number of shards.
-fn number_of(index: usize, shards: usize, shard: usize) -> Result<Symbol, InternFault>
-    requires shard { shard < shards }
-    requires shards { shards ≤ 64 }
-    ensures number { IfOk result (λ number. number ≡ index * shards + shard) }
-    ensures full { IfErr result (λ fault. (fault ≡ InternFault.Full) × (MOST_TEXTS ≤ index * shards + shard)) }
-{
-    if index >= MOST_TEXTS {
-        return Err(InternFault::Full);
-    }
-    let number = index * shards + shard;
-    if number >= MOST_TEXTS {
-        return Err(InternFault::Full);
-    }
-    Ok(Symbol::at(number))
+    (((hash >> 32) * shards as u64) >> 32) as usize
 }
 
 /// A clone of `whole` or, without one, a copy of the word.

@@ -3,8 +3,10 @@ use super::made;
 use crate::tests::checks::{check, check_eq};
 use arcintern::{InternFault, Interner, Symbol};
 use arcstr::{ArcStr, literal};
-use std::alloc::AllocGlobal;
+use std::alloc::{AllocFailed, AllocGlobal};
+use std::io;
 use std::process::Abort;
+use std::sync::Wait;
 
 /// How many words the large interner has.
 const WORDS: usize = 100_000;
@@ -146,4 +148,30 @@ fn symbols_and_faults_are_printed(rt: HostRuntime) {
         printed.as_str(),
         "Symbol(0) text is too long, out of memory"
     );
+}
+
+/// Returns the error for a handle to the text that could not be stored.
+fn not_stored(rt: &impl Wait, text: &ArcStr) -> AllocFailed<ArcStr> {
+    AllocFailed {
+        value: text.clone(rt),
+    }
+}
+
+#[test]
+fn what_was_not_stored_is_dropped(rt: HostRuntime) {
+    let text = made(&rt, "foo");
+    check_eq!(rt; InternFault::from(not_stored(&rt, &text)), InternFault::Memory);
+    check_eq!(rt; ArcStr::strong_count(&text), Some(1));
+}
+
+#[test]
+fn faults_are_errors_of_reading_and_writing(rt: HostRuntime) {
+    let printed = format!(in rt.alloc();
+        "{}, {}, {}",
+        io::Error::from(InternFault::Full),
+        io::Error::from(InternFault::Length),
+        io::Error::from(InternFault::Memory)
+    )
+    .expect(&rt, "refused");
+    check_eq!(rt; printed.as_str(), "interner is full, text is too long, out of memory");
 }

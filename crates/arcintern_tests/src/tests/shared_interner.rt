@@ -9,6 +9,7 @@ use std::alloc::{AllocError, AllocGlobal, Global};
 use std::mem::size_of;
 use std::process::Abort;
 use std::sync::Wait;
+use std::sync::atomic::{AtomicU64, Ordering};
 use std::thread;
 use std::thread::Threads;
 
@@ -17,6 +18,9 @@ const THREADS: usize = 8;
 
 /// How many words each thread interns.
 const WORDS: usize = 2_000;
+
+/// How many words the threads intern in the same order.
+const TOGETHER: usize = 40;
 
 /// The word of a number.
 fn word_of(alloc: Global, number: usize) -> Result<String, AllocError> {
@@ -74,10 +78,11 @@ fn check_symbols<R: Abort + AllocGlobal + Wait>(
     }
     check_eq!(rt; wanted.len(), WORDS);
     for (number, symbol) in wanted.iter().enumerate() {
+        check!(rt; symbol.index() < WORDS);
         let word = word_of(rt.alloc(), number).expect(rt, "no memory");
         check_alone(rt, interner, *symbol, &word);
     }
-    check_eq!(rt; interner.len(rt), WORDS);
+    check_eq!(rt; interner.len(), WORDS);
 }
 
 /// Interns the same words by all threads at once, each from another word on.
@@ -127,16 +132,72 @@ fn words_are_told_apart(rt: HostRuntime) {
                 .is_some_and(|text| text.eq_str(word))
         );
     }
-    check_eq!(rt; interner.len(&rt), 7);
+    check_eq!(rt; interner.len(), 7);
+}
+
+/// Waits until all threads have arrived, and then interns the same words in the same order.
+fn intern_together(
+    rt: &impl Wait,
+    alloc: Global,
+    interner: &SharedInterner,
+    arrived: &AtomicU64,
+) -> Result<Vec<Symbol>, InternFault> {
+    arrived.fetch_add(1, Ordering::SeqCst);
+    for _ in 0..10_000_000_000_u64 {
+        if arrived.load(Ordering::SeqCst) == THREADS as u64 {
+            break;
+        }
+    }
+    let mut symbols = Vec::new(alloc);
+    for number in 0..TOGETHER {
+        let symbol = interner.intern(rt, &word_of(alloc, number)?)?;
+        symbols.push(symbol.number())?;
+    }
+    Ok(symbols)
+}
+
+/// Asserts that eight threads which intern one word at the same time get one number.
+fn check_one_number<R: Abort + AllocGlobal + Threads + Wait + Sync>(rt: &R) {
+    let alloc = rt.alloc();
+    let interner = SharedInterner::new(alloc, 2).expect(rt, "refused");
+    let arrived = AtomicU64::new(0);
+    let (shared, gate) = (&interner, &arrived);
+    let work = |_: usize| intern_together(rt, alloc, shared, gate);
+    let lists = thread::map_indices(rt, alloc, THREADS, &work).expect(rt, "refused");
+    let mut wanted = Vec::new(alloc);
+    for list in lists {
+        let symbols = list.expect(rt, "refused");
+        check!(*rt; wanted.is_empty() || symbols == wanted);
+        wanted = symbols;
+    }
+    check_eq!(*rt; wanted.len(), TOGETHER);
+    check_eq!(*rt; interner.len(), TOGETHER);
 }
 
 #[test]
-fn numbers_of_one_shard_come_in_order(rt: HostRuntime) {
-    let interner = SharedInterner::new(rt.alloc(), 1).expect(&rt, "refused");
-    for number in 0..WORDS {
-        let word = word_of(rt.alloc(), number).expect(&rt, "refused");
-        check_eq!(rt; interned(&rt, &interner, &word).index(), number);
+fn threads_at_one_word_agree(rt: HostRuntime) {
+    for _ in 0..200 {
+        check_one_number(&rt);
     }
+}
+
+/// Interns more words than the first rows of the list have, and asserts that the numbers are 0, 1, 2 and so on.
+fn check_order<R: Abort + AllocGlobal + Wait>(rt: &R, shards: usize)
+    requires { (1 ≤ shards) × (shards ≤ 64) }
+{
+    let interner = SharedInterner::new(rt.alloc(), shards).expect(rt, "refused");
+    for number in 0..5 * WORDS {
+        let word = word_of(rt.alloc(), number).expect(rt, "refused");
+        check_eq!(*rt; interned(rt, &interner, &word).index(), number);
+    }
+    check_eq!(*rt; interner.len(), 5 * WORDS);
+}
+
+#[test]
+fn words_are_numbered_as_they_come(rt: HostRuntime) {
+    check_order(&rt, 1);
+    check_order(&rt, 37);
+    check_order(&rt, 64);
 }
 
 #[test]
@@ -180,17 +241,6 @@ fn a_literal_stays_a_literal(rt: HostRuntime) {
 }
 
 #[test]
-fn words_go_to_each_shard(rt: HostRuntime) {
-    let interner = SharedInterner::new(rt.alloc(), 8).expect(&rt, "refused");
-    let mut served = [false; 8];
-    for number in 0..WORDS {
-        let word = word_of(rt.alloc(), number).expect(&rt, "refused");
-        served[interned(&rt, &interner, &word).index() % 8] = true;
-    }
-    check_eq!(rt; served, [true; 8]);
-}
-
-#[test]
-fn symbols_have_four_bytes(rt: HostRuntime) {
-    check_eq!(rt; (size_of::<Symbol>(), size_of::<SharedSymbol>()), (4, 4));
+fn symbols_are_small(rt: HostRuntime) {
+    check_eq!(rt; (size_of::<Symbol>(), size_of::<SharedSymbol>()), (4, 24));
 }

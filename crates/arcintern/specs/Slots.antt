@@ -1,0 +1,34 @@
+-- Where a table finds the number of a text by half of the hash of its word.
+use Rattle.std.specs.Prelude.{◌≡◌, ◌≢◌, ℕ, ◌+◌, ◌*◌, ◌/◌, ◌%◌, ◌<◌, ◌≤◌, List, [], length, slice_index, slice_index_or, bit_and, bit_xor}
+use Rattle.std.specs.List.{fold}
+use Rattle.std.specs.Hash.{str}
+use Rattle.std.specs.declared.hash.BuildHasher as builder
+use Rattle.std.specs.declared.hash.Hasher as hasher
+use Rattle.arcstr.specs.TextView.{TextView, literal_of}
+
+-- the two halves of a word's hash, joined by xor
+unfoldable pub half_of_word : {S H : Type 0} → builder.Ghosts S H → hasher.Ghosts H → S → List ℕ → ℕ
+half_of_word build hash state word =
+    let whole = hash.finish (fold hash.write (build.build_hasher state) (str word)) in
+    bit_xor whole (whole / 4294967296) % 4294967296
+
+-- the slot of a number, under half of a hash; an empty slot is 0
+abbrev pub slot_of : ℕ → ℕ → ℕ
+slot_of half number = half * 4294967296 + number + 1
+
+-- where a search for the slot begins
+abbrev pub home : ℕ → ℕ → ℕ
+home mask slot = bit_and (slot / 4294967296) mask
+
+-- a search that begins at the slot's home and ends at the first empty slot finds the slot
+pub record IsPlaced (slots : List ℕ) (mask slot : ℕ) : Type 0 where
+  pub place : ℕ
+  pub from_home : home mask slot ≤ place
+  pub within : place < length slots
+  pub here : slice_index slots place ≡ slot
+  pub before : (other : ℕ) → home mask slot ≤ other → other < place → slice_index slots other ≢ 0
+
+-- the number of each text is placed under the half of its word
+abbrev pub ArePlaced : List ℕ → ℕ → (List ℕ → ℕ) → List TextView → Type 0
+ArePlaced slots mask half texts = (number : ℕ) → number < length texts
+    → IsPlaced slots mask (slot_of (half (slice_index_or texts number (literal_of [])).text) number)

@@ -1,0 +1,157 @@
+//! A table that finds the number of a text by half of the hash of its word.
+ghost use Rattle.std.specs.Prelude.{◌≡◌, ◌+◌, ◌/◌, ◌%◌, ◌<◌, ◌≤◌, ℕ, [], IfNone, IfSome, None, OnOk, Some, bit_xor, vec_len, vec_capacity};
+ghost use Rattle.arcintern.specs.Slots.{IsPlaced, half_of_word, slot_of};
+
+use std::alloc::{AllocError, Global};
+use std::hash::BuildHasher;
+
+/// Half as many bits as the hash of the word has.
+#[tactic(auto, unfolding(crate::specs::Slots::half_of_word))]
+pub(crate) fn half_of_word<S: BuildHasher>(hash_builder: &S, word: &str) -> u32
+    ensures { result ≡ half_of_word S.BuildHasher S.Hasher.Hasher hash_builder.now word.now }
+{
+    half_of(hash_builder.hash_one(word))
+}
+
+/// The two halves of a hash, joined by xor: a hasher may leave one of them alike for many words.
+pub(crate) fn half_of(hash: u64) -> u32
+    ensures { result ≡ bit_xor hash (hash / 4294967296) % 4294967296 }
+{
+    ((hash ^ (hash >> 32)) % 4294967296) as u32
+}
+
+/// An empty slot is 0, and another has half of a hash above a number and 1. A search begins where the half says, and goes on to an empty
+/// slot or the end, so a text whose half leads to a full place stands further on.
+#[derive(Drop)]
+pub(crate) struct Slots {
+    pub(crate) slots: Vec<u64>,
+    pub(crate) mask: usize,
+    used: usize,
+    ghost within: { mask ≤ vec_len slots },
+}
+
+impl Slots {
+    /// A table without slots.
+    pub(crate) fn new(alloc: Global) -> Slots
+        ensures { result.slots.items ≡ [] }
+    {
+        Slots {
+            slots: Vec::new(alloc),
+            mask: 0,
+            used: 0,
+        }
+    }
+
+    /// A table that does not grow for this many slots.
+    pub(crate) fn with_capacity(alloc: Global, slots: usize) -> Result<Slots, AllocError> {
+        if slots == 0 {
+            return Ok(Slots::new(alloc));
+        }
+        let Some(len) = slots.saturating_add(slots / 2).checked_next_power_of_two() else {
+            return Err(AllocError);
+        };
+        Slots::with_len(alloc, len.max(16))
+    }
+
+    /// A table of empty slots, with some room behind the last.
+    fn with_len(alloc: Global, len: usize) -> Result<Slots, AllocError>
+        requires { 0 < len }
+    {
+        let mut slots = Vec::with_capacity(alloc, len.saturating_add((len / 4).min(32)))?;
+        slots.resize(len, 0)?;
+        Ok(Slots {
+            slots,
+            mask: len - 1,
+            used: 0,
+        })
+    }
+
+    /// What `look` answers for the first number under this half of a hash for which it is `Some`.
+    #[inline(always)]
+    pub(crate) fn find<T, F: Fn(u32) -> Option<T>>(&self, half: u32, look: F) -> Option<T>
+        requires { F.IsAlwaysCallable look }
+        ensures found { IfSome result (λ found. (number : ℕ) × (number < 4294967296) × F.post look number (Some found)) }
+        ensures absent { IfNone result ((number : ℕ) → number + 1 < 4294967296
+            → IsPlaced self.now.slots.items self.now.mask (slot_of half number) → F.post look number None) }
+    {
+        let mut place = half as usize & self.mask;
+        while place < self.slots.len() {
+            let slot = self.slots[place];
+            if slot == 0 {
+                return None;
+            }
+            if slot >> 32 == half as u64 {
+                if let Some(found) = look(((slot % 4294967296) as u32).wrapping_sub(1)) {
+                    return Some(found);
+                }
+            }
+            place += 1;
+        }
+        None
+    }
+
+    /// Makes room for one more slot.
+    pub(crate) fn make_room(&mut self) -> Result<(), AllocError>
+        ensures kept { (slot : ℕ) → 0 < slot → IsPlaced self.old.slots.items self.old.mask slot → IsPlaced self.new.slots.items self.new.mask slot }
+        ensures room { OnOk result (vec_len self.new.slots < vec_capacity self.new.slots) }
+    {
+        if self.used >= self.mask - self.mask / 4 {
+            self.grow()?;
+        }
+        self.slots.reserve(1)
+    }
+
+    /// Moves the slots to a table that is twice as long.
+    fn grow(&mut self) -> Result<(), AllocError>
+        ensures kept { (slot : ℕ) → 0 < slot → IsPlaced self.old.slots.items self.old.mask slot → IsPlaced self.new.slots.items self.new.mask slot }
+    {
+        let len = self.mask.saturating_add(1).saturating_mul(2).max(16);
+        let mut longer = Slots::with_len(*self.slots.allocator(), len)?;
+        for slot in &self.slots {
+            longer.take_over(*slot)?;
+        }
+        *self = longer;
+        Ok(())
+    }
+
+    /// Puts in a slot of another table, unless it is empty.
+    fn take_over(&mut self, slot: u64) -> Result<(), AllocError>
+        ensures placed { OnOk result (0 < slot → IsPlaced self.new.slots.items self.new.mask slot) }
+        ensures kept { (other : ℕ) → 0 < other → IsPlaced self.old.slots.items self.old.mask other → IsPlaced self.new.slots.items self.new.mask other }
+    {
+        if slot != 0 {
+            self.slots.reserve(1)?;
+            self.put_slot(slot);
+        }
+        Ok(())
+    }
+
+    /// Puts a number into the table, under half of a hash.
+    pub(crate) fn put(&mut self, half: u32, number: u32)
+        requires number { number + 1 < 4294967296 }
+        requires room { vec_len self.old.slots < vec_capacity self.old.slots }
+        ensures placed { IsPlaced self.new.slots.items self.new.mask (slot_of half number) }
+        ensures kept { (slot : ℕ) → 0 < slot → IsPlaced self.old.slots.items self.old.mask slot → IsPlaced self.new.slots.items self.new.mask slot }
+    {
+        self.put_slot(half as u64 * 4294967296 + number as u64 + 1);
+    }
+
+    /// Puts a slot at the first empty place from its home on.
+    fn put_slot(&mut self, slot: u64)
+        requires slot { 0 < slot }
+        requires room { vec_len self.old.slots < vec_capacity self.old.slots }
+        ensures placed { IsPlaced self.new.slots.items self.new.mask slot }
+        ensures kept { (other : ℕ) → 0 < other → IsPlaced self.old.slots.items self.old.mask other → IsPlaced self.new.slots.items self.new.mask other }
+    {
+        let mut place = (slot >> 32) as usize & self.mask;
+        while place < self.slots.len() && self.slots[place] != 0 {
+            place += 1;
+        }
+        self.used = self.used.saturating_add(1);
+        if place < self.slots.len() {
+            self.slots[place] = slot;
+        } else {
+            self.slots.push_reserved(slot);
+        }
+    }
+}

@@ -1,0 +1,84 @@
+//! Words of one hash.
+use crate::tests::checks::{check, check_eq};
+use arcintern::{Interner, SharedInterner};
+use std::alloc::AllocGlobal;
+use std::hash::{BuildHasher, Hasher};
+use std::process::Abort;
+
+/// Gives each word the hash 7.
+#[derive(Clone, Copy)]
+struct Collides;
+
+impl Hasher for Collides {
+    ghost write = { λ h _. h };
+
+    ghost finish = { λ _. 7 };
+
+    fn finish(&self) -> u64 {
+        7
+    }
+
+    fn write(&mut self, _bytes: &[u8]) {}
+}
+
+impl BuildHasher for Collides {
+    type Hasher = Collides;
+
+    ghost build_hasher = { λ s. s };
+
+    fn build_hasher(&self) -> Collides {
+        *self
+    }
+}
+
+const WORDS: [&str; 5] = ["foo", "bar", "", "bar ", "é"];
+
+#[test]
+fn an_interner_tells_words_of_one_hash_apart(rt: HostRuntime) {
+    let mut interner = Interner::with_hasher(rt.alloc(), Collides);
+    for _ in 0..2 {
+        for (index, word) in WORDS.iter().enumerate() {
+            check_eq!(rt; interner.intern(*word).expect(&rt, "refused").index(), index);
+        }
+    }
+    for (index, word) in WORDS.iter().enumerate() {
+        check_eq!(rt; interner.get(*word).expect(&rt, "not found").index(), index);
+    }
+    check!(rt; interner.get("fo").is_none());
+}
+
+#[test]
+fn a_shared_interner_tells_words_of_one_hash_apart(rt: HostRuntime) {
+    let interner = SharedInterner::with_hasher(rt.alloc(), 3, Collides).expect(&rt, "refused");
+    for _ in 0..2 {
+        for (index, word) in WORDS.iter().enumerate() {
+            let symbol = interner.intern(&rt, *word).expect(&rt, "refused");
+            check_eq!(rt; symbol.number().index(), index);
+            check_eq!(rt; interner.text(&symbol).as_str(), *word);
+        }
+    }
+    for (index, word) in WORDS.iter().enumerate() {
+        let found = interner.get(&rt, *word).expect(&rt, "not found");
+        check_eq!(rt; found.number().index(), index);
+    }
+    check!(rt; interner.get(&rt, "fo").is_none());
+    check_eq!(rt; interner.len(), WORDS.len());
+}
+
+/// Asserts that the table grows for words of one hash.
+fn check_growth(rt: &(impl Abort + AllocGlobal)) {
+    let mut interner = Interner::with_hasher(rt.alloc(), Collides);
+    for number in 0..100 {
+        let word = format!(in rt.alloc(); "{number}").expect(rt, "no memory");
+        check_eq!(*rt; interner.intern(&word).expect(rt, "refused").index(), number);
+    }
+    for number in 0..100 {
+        let word = format!(in rt.alloc(); "{number}").expect(rt, "no memory");
+        check_eq!(*rt; interner.get(&word).expect(rt, "not found").index(), number);
+    }
+}
+
+#[test]
+fn a_hundred_words_have_one_hash(rt: HostRuntime) {
+    check_growth(&rt);
+}
