@@ -1,8 +1,7 @@
 //! Texts, slices and faults by the traits `From`, `AsStr`, `AsSlice` and `Deref`, and copies of slices.
 use crate::tests::checks::{check, check_eq};
 use crate::tests::steps::{
-    check_bytes, check_count, check_empty, check_made, check_nothing, check_slice, check_text,
-    made, part,
+    check_bytes, check_count, check_empty, check_slice, check_text, made, part,
 };
 use arcstr::{ArcStr, JsonFault, Substr, TextFault, literal};
 use serde_json::Value;
@@ -128,12 +127,6 @@ fn a_str_of_the_program_becomes_a_literal(rt: HostRuntime) {
 }
 
 #[test]
-fn a_str_is_taken_where_a_text_is_asked_for(rt: HostRuntime) {
-    let text: ArcStr = "foo".into();
-    check_text(&rt, text.as_str(), "foo");
-}
-
-#[test]
 fn a_text_becomes_the_slice_of_all_of_it(rt: HostRuntime) {
     let text = made(&rt, "aé");
     let slice = Substr::from(text.clone(&rt));
@@ -141,15 +134,6 @@ fn a_text_becomes_the_slice_of_all_of_it(rt: HostRuntime) {
     check_count(&rt, &text, Some(2));
     drop(slice);
     check_count(&rt, &text, Some(1));
-}
-
-#[test]
-fn a_literal_and_a_permanent_text_become_slices(rt: HostRuntime) {
-    check_nothing(&rt, &Substr::from(ArcStr::new()));
-    let kept = made(&rt, "é").leak().to_arc_str();
-    let slice: Substr = kept.into();
-    check_slice(&rt, &slice, "é", 0..2);
-    check_count(&rt, slice.parent(), None);
 }
 
 #[test]
@@ -161,28 +145,5 @@ fn a_copied_slice_lets_its_parent_go(rt: HostRuntime) {
     check_count(&rt, &copy, Some(1));
     check_count(&rt, &text, Some(2));
     drop(slice);
-    check_count(&rt, &text, Some(1));
-}
-
-#[test]
-fn a_slice_of_a_literal_is_copied_into_a_block(rt: HostRuntime) {
-    let copy = part(&rt, &literal!("foobar"), 3..).to_arc_str(rt.alloc());
-    let copy = copy.expect(&rt, "no memory");
-    check_text(&rt, copy.as_str(), "bar");
-    check_count(&rt, &copy, Some(1));
-}
-
-#[test]
-fn a_slice_of_a_permanent_text_is_copied(rt: HostRuntime) {
-    let kept = made(&rt, "aé").leak().to_arc_str();
-    check_made(&rt, part(&rt, &kept, 1..).to_arc_str(rt.alloc()), "é");
-    check_made(&rt, Substr::full(kept).to_arc_str(rt.alloc()), "aé");
-}
-
-#[test]
-fn the_copy_of_an_empty_slice_is_the_empty_literal(rt: HostRuntime) {
-    let text = made(&rt, "foo");
-    let copy: Result<ArcStr, _> = part(&rt, &text, 1..1).to_arc_str(rt.alloc());
-    check_empty(&rt, &copy.expect(&rt, "no memory"));
     check_count(&rt, &text, Some(1));
 }

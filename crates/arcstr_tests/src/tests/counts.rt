@@ -68,13 +68,15 @@ fn the_slice_of_nothing_holds_no_text(rt: HostRuntime) {
 }
 
 #[test]
-fn reading_leaves_the_count(rt: HostRuntime) {
+fn reading_and_hashing_leave_the_count(rt: HostRuntime) {
     let text = made(&rt, "foo");
     check_dropped(&rt, &text, text.as_str() == "foo");
     check_dropped(&rt, &text, text.as_bytes().len() == text.len());
     check_dropped(&rt, &text, !text.is_empty());
     check_dropped(&rt, &text, text.get(1..) == Some("oo"));
     check_dropped(&rt, &text, text.view().text() == "foo");
+    text.hash(&mut DefaultHasher::new());
+    check_count(&rt, &text, Some(1));
 }
 
 #[test]
@@ -92,13 +94,6 @@ fn comparing_leaves_the_counts(rt: HostRuntime) {
     check_dropped(&rt, &one, one.cmp(&other) == Ordering::Greater);
     check_dropped(&rt, &one, other.partial_cmp(&one) == Some(Ordering::Less));
     check_count(&rt, &other, Some(1));
-}
-
-#[test]
-fn hashing_leaves_the_count(rt: HostRuntime) {
-    let text = made(&rt, "foo");
-    text.hash(&mut DefaultHasher::new());
-    check_count(&rt, &text, Some(1));
 }
 
 #[test]
@@ -221,7 +216,7 @@ fn the_slice_of_nothing_of_a_slice_holds_no_parent(rt: HostRuntime) {
 }
 
 #[test]
-fn reading_a_slice_leaves_the_count(rt: HostRuntime) {
+fn reading_and_hashing_a_slice_leave_the_count(rt: HostRuntime) {
     let slice = bar(&rt);
     check_dropped(&rt, slice.parent(), slice.as_str() == "bar");
     check_dropped(&rt, slice.parent(), slice.as_bytes().len() == slice.len());
@@ -229,6 +224,8 @@ fn reading_a_slice_leaves_the_count(rt: HostRuntime) {
     check_dropped(&rt, slice.parent(), slice.get(1..) == Some("ar"));
     check_dropped(&rt, slice.parent(), slice.view().text() == "bar");
     check_dropped(&rt, slice.parent(), slice.range() == (3..6));
+    slice.hash(&mut DefaultHasher::new());
+    check_count(&rt, slice.parent(), Some(1));
 }
 
 #[test]
@@ -242,13 +239,6 @@ fn comparing_slices_leaves_the_counts(rt: HostRuntime) {
         other.partial_cmp(&one) == Some(Ordering::Equal),
     );
     check_count(&rt, other.parent(), Some(1));
-}
-
-#[test]
-fn hashing_a_slice_leaves_the_count(rt: HostRuntime) {
-    let slice = bar(&rt);
-    slice.hash(&mut DefaultHasher::new());
-    check_count(&rt, slice.parent(), Some(1));
 }
 
 #[test]

@@ -1,7 +1,7 @@
 //! Splits of texts and of slices. The tables have the examples in Rust's documentation of `str`, and the cases that it leaves out.
-use crate::tests::checks::{check, check_eq};
-use crate::tests::steps::{check_count, check_slice, made, middle, part};
-use arcstr::{ArcStr, RangeFault, Substr, literal};
+use crate::tests::checks::check_eq;
+use crate::tests::steps::{check_count, made, middle};
+use arcstr::{ArcStr, RangeFault, Substr};
 use std::process::Abort;
 use std::sync::Wait;
 
@@ -215,29 +215,4 @@ fn a_character_is_taken_off(rt: HostRuntime) {
         Some("éa"),
     );
     check_rest(&rt, &text, 0, text.substr_strip_suffix(&rt, 'a'), None);
-}
-
-#[test]
-fn a_slice_inside_a_slice_is_split_in_the_parent(rt: HostRuntime) {
-    let outer = part(&rt, &literal!("<a, b, c>"), 1..8);
-    let inner = outer.substr(&rt, 3..).expect(&rt, "no slice");
-    let (first, second) = inner.substr_split_once(&rt, ", ").expect(&rt, "not split");
-    check_slice(&rt, &first, "b", 4..5);
-    check_slice(&rt, &second, "c", 7..8);
-}
-
-/// Asserts that both slices of the text `a=b` have a static text as parent.
-fn check_static(rt: &impl Abort, pair: Option<(Substr, Substr)>) {
-    let (first, second) = pair.expect(rt, "not split");
-    check_slice(rt, &first, "a", 0..1);
-    check_slice(rt, &second, "b", 2..3);
-    check!(rt; ArcStr::is_static(first.parent()) && ArcStr::is_static(second.parent()));
-}
-
-#[test]
-fn parts_of_static_texts_are_static(rt: HostRuntime) {
-    check_static(&rt, literal!("a=b").substr_split_once(&rt, "="));
-    let permanent = made(&rt, "a=b").leak().to_arc_str();
-    check_static(&rt, permanent.substr_rsplit_once(&rt, "="));
-    check!(rt; literal!("").substr_split_once(&rt, '=').is_none());
 }
