@@ -2,7 +2,7 @@
 use super::made;
 use crate::tests::checks::{check, check_eq};
 use arcintern::{InternFault, Interner, Symbol};
-use arcstr::{ArcStr, literal};
+use arcstr::ArcStr;
 use std::alloc::{AllocFailed, AllocGlobal};
 use std::io;
 use std::process::Abort;
@@ -21,32 +21,6 @@ fn check_alone(rt: &impl Abort, interner: &Interner, symbol: Symbol, wanted: &st
     let text = interner.resolve(symbol).expect(rt, "no text");
     check_eq!(rt; text.as_str(), wanted);
     check_eq!(rt; ArcStr::strong_count(text), Some(1));
-}
-
-/// Asserts that an interner tells the two words apart, and finds each again.
-fn check_apart(rt: &(impl Abort + AllocGlobal), one: &str, other: &str) {
-    let mut interner = Interner::new(rt.alloc());
-    let first = interned(rt, &mut interner, one);
-    let second = interned(rt, &mut interner, other);
-    check!(rt; first != second);
-    check!(rt; interned(rt, &mut interner, one) == first);
-    check!(rt; interner.get(other) == Some(second));
-    check_eq!(rt; interner.len(), 2);
-    check_alone(rt, &interner, first, one);
-    check_alone(rt, &interner, second, other);
-}
-
-#[test]
-fn words_are_told_apart(rt: HostRuntime) {
-    check_apart(&rt, "foo", "fop");
-    check_apart(&rt, "foo", "foo ");
-    check_apart(&rt, "é", "è");
-    check_apart(&rt, "\u{1f980}", "\u{1f981}");
-    check_apart(
-        &rt,
-        "0123456789abcdef0123456789abcdef0123456789abcdef0123456789abcdee",
-        "0123456789abcdef0123456789abcdef0123456789abcdef0123456789abcdef",
-    );
 }
 
 #[test]
@@ -124,15 +98,6 @@ fn another_slice_is_copied(rt: HostRuntime) {
     check_eq!(rt; ArcStr::strong_count(&text), Some(1));
     check_eq!(rt; interner.len(), 2);
     check_alone(&rt, &interner, symbol, "foo");
-}
-
-#[test]
-fn a_literal_stays_a_literal(rt: HostRuntime) {
-    let mut interner = Interner::with_capacity(rt.alloc(), 1).expect(&rt, "refused");
-    let symbol = interner
-        .intern_arc(&rt, &literal!("foo"))
-        .expect(&rt, "refused");
-    check!(rt; ArcStr::is_static(&interner[symbol]));
 }
 
 #[test]
