@@ -74,8 +74,8 @@ impl Interner<BuildHasherDefault<FoldHasher>> {
         Interner::with_hasher(alloc, BuildHasherDefault::new())
     }
 
-    /// Makes an interner without texts, with room for this many. It is allocated here, and none is for no texts. `Memory` is the only
-    /// fault.
+    /// Makes an interner without texts, with room for this many, which is allocated here. For no texts nothing is allocated. `Memory` is
+    /// the only fault.
     ///
     /// ```
     /// let interner = Interner::with_capacity(rt.alloc(), 100)?;

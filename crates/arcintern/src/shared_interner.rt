@@ -26,7 +26,7 @@ pub use shared_symbol::SharedSymbol;
 /// texts were added. Only a call that runs out of memory while other threads add texts can leave a number without a text.
 ///
 /// The contracts do not say that a call succeeds, that a word has one number, which number is next, or what `len` and `resolve` answer:
-/// the tests `threads_agree_on_eight_shards` and `words_are_told_apart` check that.
+/// the tests `threads_agree_on_eight_shards`, `words_are_numbered_as_they_come` and `words_are_told_apart` check that.
 ///
 /// The default hasher has a fixed seed. Where an attacker picks the texts, make the interner by `with_hasher`.
 ///

@@ -20,8 +20,8 @@ pub(crate) fn half_of(hash: u64) -> u32
     ((hash ^ (hash >> 32)) % 4294967296) as u32
 }
 
-/// An empty slot is 0, and another has half of a hash above a number and 1. A search begins where the half says, and goes on to an empty
-/// slot or the end, so a text whose half leads to a full place stands further on.
+/// An empty slot is 0. Any other has half of a hash in its upper 32 bits, and a number plus 1 in its lower ones. A search begins where the
+/// half says, and goes on to an empty slot or the end, so a text whose half leads to a full place stands further on.
 #[derive(Drop)]
 pub(crate) struct Slots {
     pub(crate) slots: Vec<u64>,
@@ -42,7 +42,7 @@ impl Slots {
         }
     }
 
-    /// A table that does not grow for this many slots.
+    /// A table that does not grow for this many slots, which `tools/refusals` checks.
     pub(crate) fn with_capacity(alloc: Global, slots: usize) -> Result<Slots, AllocError> {
         if slots == 0 {
             return Ok(Slots::new(alloc));
