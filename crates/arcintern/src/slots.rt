@@ -47,10 +47,14 @@ impl Slots {
         if slots == 0 {
             return Ok(Slots::new(alloc));
         }
-        let Some(len) = slots.saturating_add(slots / 2).checked_next_power_of_two() else {
-            return Err(AllocError);
-        };
-        Slots::with_len(alloc, len.max(16))
+        match slots
+            .saturating_add(1)
+            .saturating_mul(2)
+            .checked_next_power_of_two()
+        {
+            Some(len) => Slots::with_len(alloc, len.max(16)),
+            None => Err(AllocError),
+        }
     }
 
     /// A table of empty slots, with some room behind the last.
@@ -90,12 +94,12 @@ impl Slots {
         None
     }
 
-    /// Makes room for one more slot.
+    /// Makes room for one more slot. At most half of the places are taken, so a search for an absent word meets two or three slots.
     pub(crate) fn make_room(&mut self) -> Result<(), AllocError>
         ensures kept { (slot : ℕ) → 0 < slot → IsPlaced self.old.slots.items self.old.mask slot → IsPlaced self.new.slots.items self.new.mask slot }
         ensures room { OnOk result (vec_len self.new.slots < vec_capacity self.new.slots) }
     {
-        if self.used >= self.mask - self.mask / 4 {
+        if self.used >= self.mask / 2 {
             self.grow()?;
         }
         self.slots.reserve(1)

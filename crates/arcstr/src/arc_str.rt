@@ -10,7 +10,7 @@ use std::marker::Model;
 use std::sync::Wait;
 
 /// The number of compare-exchanges that a clone tries if it must not wait.
-const TRIES: u32 = 1_000;
+pub(crate) const TRIES: u32 = 1_000;
 
 /// A reference-counted immutable text that threads share. It is `Send` and `Sync`, and its size is 24 bytes. In a contract it has a text and a kind: a
 /// literal, a handle to a counted block, or a permanent block.
@@ -125,6 +125,27 @@ impl ArcStr {
             Form::Fixed(fixed) => Form::Fixed(fixed.again()),
         };
         ArcStr { form }
+    }
+
+    /// Makes another handle as `clone` does, with at most this many compare-exchanges, so the call never waits. `None` means that other threads changed the
+    /// count word each time. Nothing has changed then.
+    ///
+    /// ```
+    /// let text = ArcStr::from_str(rt.alloc(), "foo")?;
+    /// assert!(rt; text.try_clone(0).is_none());
+    /// assert!(rt; text.try_clone(1).is_some_and(|other| other == text));
+    /// ```
+    pub fn try_clone(&self, tries: u32) -> Option<ArcStr>
+        ensures same { IfSome result (λ copy. copy ≡ self.now) }
+        // Promise: It never fails for a static text.
+        ensures always { IsStatic self.now.kind → IsSome result }
+    {
+        let form = match &self.form {
+            Form::Counted(shared) => Form::Counted(shared.try_up(tries)?),
+            Form::Literal(text) => Form::Literal(text),
+            Form::Fixed(fixed) => Form::Fixed(fixed.again()),
+        };
+        Some(ArcStr { form })
     }
 
     /// Returns the text.
@@ -353,23 +374,12 @@ impl Clone for ArcStr {
 
     ghost is_infallible = { λ text. IsStatic text.kind };
 
-    /// Makes another handle to the same text, as the inherent `clone` does, but never waits.
-    ///
-    /// For a block, it tries the compare-exchange at most 1,000 times. Here `AllocError` means that other threads changed the count word each time; nothing
-    /// has changed then. For a literal or a permanent block, the clone takes no atomic step and never fails.
+    /// Makes another handle as `try_clone` does, with at most 1,000 tries. Here `AllocError` means that other threads changed the count word each time.
     fn clone(&self) -> Result<ArcStr, AllocError>
         // Promise: It never fails for a static text.
         ensures cases { MatchResult result (λ copy. copy ≡ self.now) (λ _. ¬ (IsStatic self.now.kind)) }
     {
-        let form = match &self.form {
-            Form::Counted(shared) => match shared.try_up(TRIES) {
-                Some(shared) => Form::Counted(shared),
-                None => return Err(AllocError),
-            },
-            Form::Literal(text) => Form::Literal(text),
-            Form::Fixed(fixed) => Form::Fixed(fixed.again()),
-        };
-        Ok(ArcStr { form })
+        self.try_clone(TRIES).ok_or(AllocError)
     }
 }
 

@@ -1,11 +1,11 @@
 //! `Substr`: a slice of a shared text, which keeps its parent alive.
-ghost use Rattle.std.specs.Prelude.{◌≡◌, ◌↔◌, [], length, IsTrue, MatchResult};
+ghost use Rattle.std.specs.Prelude.{◌≡◌, ◌↔◌, [], length, IsTrue, IsSome, IfSome, MatchResult};
 ghost use Rattle.arcstr_range.specs.Ends.{IsLawful};
 ghost use Rattle.arcstr_range.specs.Text.{SpellsBetween};
 ghost use Rattle.arcstr.specs.TextView.{IsStatic, literal_of};
 ghost use Rattle.arcstr.specs.Substr.{IsSoundSlice, empty_slice, slice_of, text_of, whole_of};
 
-use crate::arc_str::ArcStr;
+use crate::arc_str::{ArcStr, TRIES};
 use std::alloc::{AllocError, Global};
 use std::marker::Model;
 use std::ops::Range;
@@ -145,6 +145,19 @@ impl Substr {
         }
     }
 
+    /// As `ArcStr::try_clone`, for the parent and the same byte range.
+    pub fn try_clone(&self, tries: u32) -> Option<Substr>
+        ensures same { IfSome result (λ copy. copy ≡ self.now) }
+        // Promise: It never fails for a static text.
+        ensures always { IsStatic self.now.parent.kind → IsSome result }
+    {
+        Some(Substr {
+            parent: self.parent.try_clone(tries)?,
+            start: self.start,
+            end: self.end,
+        })
+    }
+
     /// Returns the slice's own text: the parent's text between the two byte offsets.
     ///
     /// ```
@@ -198,16 +211,12 @@ impl Clone for Substr {
 
     ghost is_infallible = { λ slice. IsStatic slice.parent.kind };
 
-    /// Makes another slice with the same byte range of the same parent. Clones the parent as `Clone` of `ArcStr` does, and so never waits.
+    /// As `Clone` of `ArcStr`, for the parent.
     fn clone(&self) -> Result<Substr, AllocError>
         // Promise: It never fails for a static text.
         ensures cases { MatchResult result (λ copy. copy ≡ self.now) (λ _. ¬ (IsStatic self.now.parent.kind)) }
     {
-        Ok(Substr {
-            parent: Clone::clone(&self.parent)?,
-            start: self.start,
-            end: self.end,
-        })
+        self.try_clone(TRIES).ok_or(AllocError)
     }
 }
 

@@ -17,7 +17,6 @@ pub(crate) enum Family {
     Json,
     Scripts,
     Comparisons,
-    Looks,
     Reads,
     Words,
     Parts,
@@ -27,7 +26,7 @@ pub(crate) enum Family {
 }
 
 /// The name of each figure, with its family.
-const FIGURES: [(&str, Family); 41] = [
+const FIGURES: [(&str, Family); 36] = [
     ("clone_drop", Family::Clones),
     ("clone_drop_bare", Family::Clones),
     ("clone_drop_slice", Family::Clones),
@@ -36,10 +35,6 @@ const FIGURES: [(&str, Family); 41] = [
     ("clone_drop_fixed", Family::Handles),
     ("clone_drop_marked", Family::Handles),
     ("make_drop", Family::Makings),
-    ("from_utf8", Family::Makings),
-    ("repeat", Family::Makings),
-    ("strong_count", Family::Looks),
-    ("is_static", Family::Looks),
     ("eq", Family::Comparisons),
     ("cmp", Family::Comparisons),
     ("hash", Family::Comparisons),
@@ -56,7 +51,6 @@ const FIGURES: [(&str, Family); 41] = [
     ("split_of_str", Family::Parts),
     ("intern", Family::Interner),
     ("intern_get", Family::Interner),
-    ("intern_resolve", Family::Interner),
     ("intern_shared", Family::Interner),
     ("substr", Family::Slices),
     ("substr_of_substr", Family::Slices),
@@ -101,7 +95,6 @@ fn run<M: Machine>(rt: &M, request: &Request) -> Result<()> {
         Family::Json => makings::run_json(rt, request),
         Family::Scripts => makings::run_script(rt, request),
         Family::Comparisons => reads::run_comparisons(rt, request),
-        Family::Looks => reads::run_looks(rt, request),
         Family::Reads => reads::run(rt, request),
         Family::Words => words::run(rt, request),
         Family::Parts => parts::run(rt, request),

@@ -1,10 +1,10 @@
-//! An interner of the words on standard input: the symbol of each word in their order, and the text of each symbol; and one that threads share.
+//! An interner of the words on standard input: the symbol of each word in their order; and one that threads share.
 
 use crate::figures::no_figure;
 use crate::requests::{Machine, Request};
 use crate::words;
 use anyhow::Result;
-use arcintern::{InternFault, Interner, SharedInterner, Symbol};
+use arcintern::{InternFault, Interner, SharedInterner};
 use std::alloc::{AllocError, Global};
 use std::sync::Wait;
 use std::thread;
@@ -23,7 +23,7 @@ pub(crate) fn run<M: Machine>(rt: &M, request: &Request) -> Result<()> {
     };
     match request.figure {
         "intern" => time_interning(rt, &request, &words),
-        "intern_get" | "intern_resolve" => time_looking_up(rt, &request, &words),
+        "intern_get" => time_looking_up(rt, &request, &words),
         "intern_shared" => time_sharing(rt, &request, &words),
         _ => no_figure(),
     }
@@ -32,13 +32,15 @@ pub(crate) fn run<M: Machine>(rt: &M, request: &Request) -> Result<()> {
 /// Times look-ups in an interner that has all the words.
 fn time_looking_up<M: Machine>(rt: &M, request: &Request, words: &[&str]) -> Result<()> {
     let mut interner = Interner::new(rt.alloc());
-    let symbols = symbols_of(rt.alloc(), &mut interner, words)?;
-    if request.figure == "intern_get" {
-        let index_of = |word: &&str| interner.get(word).map_or(0, |symbol| symbol.index());
-        request.time_each(rt, words, words.len(), index_of)
-    } else {
-        let len_of = |symbol: &Symbol| interner.resolve(*symbol).map_or(0, |text| text.len());
-        request.time_each(rt, &symbols, words.len(), len_of)
+    intern_all(&mut interner, words)?;
+    request.time_each(rt, words, words.len(), |word| index_of(&interner, word))
+}
+
+/// Returns the index of a word, or 0 if the interner does not have it.
+fn index_of(interner: &Interner, word: &str) -> usize {
+    match interner.get(word) {
+        Some(symbol) => symbol.index(),
+        None => 0,
     }
 }
 
@@ -104,17 +106,4 @@ fn intern_all(interner: &mut Interner, words: &[&str]) -> Result<usize, InternFa
         sum = sum.wrapping_add(interner.intern(word)?.index());
     }
     Ok(sum)
-}
-
-/// Returns the symbol of each word.
-fn symbols_of(
-    alloc: Global,
-    interner: &mut Interner,
-    words: &[&str],
-) -> Result<Vec<Symbol>, InternFault> {
-    let mut symbols = Vec::with_capacity(alloc, words.len())?;
-    for word in words {
-        symbols.push(interner.intern(word)?)?;
-    }
-    Ok(symbols)
 }

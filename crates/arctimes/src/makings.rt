@@ -5,7 +5,7 @@ use crate::requests::{Machine, Request};
 use crate::texts::{eight, letters, text};
 use anyhow::Result;
 use arcbench_core::script;
-use arcstr::{ArcStr, RangeFault, Substr, TextFault};
+use arcstr::{ArcStr, RangeFault, Substr};
 use serde_json::Value;
 use std::alloc::{AllocError, Global};
 
@@ -13,22 +13,17 @@ pub(crate) fn run<M: Machine>(rt: &M, request: &Request) -> Result<()> {
     let alloc = rt.alloc();
     let text = letters(alloc, request.size, request.size)?;
     match request.figure {
-        "make_drop" => request.time_operations(rt, || {
-            len_of(ArcStr::from_str(alloc, text.as_str()))
-        }),
-        "from_utf8" => request.time_operations(rt, || {
-            len_of(ArcStr::from_utf8(alloc, text.as_bytes()))
-        }),
-        "repeat" => request.time_operations(rt, || {
-            len_of(ArcStr::repeat(alloc, "x", request.size))
-        }),
+        "make_drop" => request.time_operations(rt, || made_len(alloc, text.as_str())),
         _ => no_figure(),
     }
 }
 
-/// Returns the length of a text that was made, and drops it.
-fn len_of(made: Result<ArcStr, TextFault>) -> usize {
-    made.map_or(0, |text| text.len())
+/// Makes a text, and returns its length.
+fn made_len(alloc: Global, text: &str) -> usize {
+    match ArcStr::from_str(alloc, text) {
+        Ok(text) => text.len(),
+        Err(_) => 0,
+    }
 }
 
 pub(crate) fn run_slices<M: Machine>(rt: &M, request: &Request) -> Result<()> {
@@ -45,22 +40,20 @@ pub(crate) fn run_slices<M: Machine>(rt: &M, request: &Request) -> Result<()> {
 
 /// Returns the length of a slice, and drops it.
 fn slice_len(made: Result<Substr, RangeFault>) -> usize {
-    made.map_or(0, |slice| slice.len())
+    match made {
+        Ok(slice) => slice.len(),
+        Err(_) => 0,
+    }
 }
 
 pub(crate) fn run_json<M: Machine>(rt: &M, request: &Request) -> Result<()> {
     let alloc = rt.alloc();
     let texts = eight(alloc, request, request.place)?;
     match request.figure {
-        "to_json" => request.time_each(rt, &texts, 8, |text| {
-            let value = text.to_json(alloc);
-            value.map_or(0, |value| value.as_str().map_or(0, |text| text.len()))
-        }),
+        "to_json" => request.time_each(rt, &texts, 8, |text| json_len(alloc, text)),
         "from_json" => {
             let values = values_of(alloc, &texts)?;
-            request.time_each(rt, &values, 8, |value| {
-                ArcStr::from_json(alloc, value).map_or(0, |text| text.len())
-            })
+            request.time_each(rt, &values, 8, |value| read_len(alloc, value))
         }
         _ => no_figure(),
     }
@@ -68,9 +61,26 @@ pub(crate) fn run_json<M: Machine>(rt: &M, request: &Request) -> Result<()> {
 
 pub(crate) fn run_script<M: Machine>(rt: &M, request: &Request) -> Result<()> {
     let lines = script_of(rt.alloc(), request.operations)?;
-    request.time(rt, || {
-        Ok(script::answer(rt.alloc(), lines.as_bytes()).map_or(0, |answer| answer.len()))
-    })
+    request.time(
+        rt,
+        || Ok(script::answer(rt.alloc(), lines.as_bytes())?.len()),
+    )
+}
+
+/// Returns the length of a text as a JSON string.
+fn json_len(alloc: Global, text: &ArcStr) -> usize {
+    match text.to_json(alloc) {
+        Ok(Value::String(string)) => string.len(),
+        _ => 0,
+    }
+}
+
+/// Returns the length of the text that is made from a JSON string.
+fn read_len(alloc: Global, value: &Value) -> usize {
+    match ArcStr::from_json(alloc, value) {
+        Ok(text) => text.len(),
+        Err(_) => 0,
+    }
 }
 
 fn values_of(alloc: Global, texts: &[ArcStr]) -> Result<Vec<Value>, AllocError> {

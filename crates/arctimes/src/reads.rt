@@ -1,4 +1,4 @@
-//! Equality, order and hash; reads of the count word of a block; and reads of many short texts.
+//! Equality, order and hash, and reads of many short texts.
 
 use crate::figures::no_figure;
 use crate::requests::{Machine, Request};
@@ -16,14 +16,18 @@ pub(crate) fn run_comparisons<M: Machine>(rt: &M, request: &Request) -> Result<(
     let one = text(rt.alloc(), request)?;
     let all = eight(rt.alloc(), request, request.place)?;
     match request.figure {
-        "eq" => request.time_each(rt, &all, 8, |text| if *text == one { 1 } else { 0 }),
-        "cmp" => request.time_each(rt, &all, 8, |text| match text.cmp(&one) {
-            Ordering::Less => 1,
-            Ordering::Equal => 2,
-            Ordering::Greater => 3,
-        }),
+        "eq" => request.time_each(rt, &all, 8, |text| (*text == one) as usize),
+        "cmp" => request.time_each(rt, &all, 8, |text| rank(text.cmp(&one))),
         "hash" => request.time_each(rt, &all, 8, hash_of),
         _ => no_figure(),
+    }
+}
+
+fn rank(order: Ordering) -> usize {
+    match order {
+        Ordering::Less => 1,
+        Ordering::Equal => 2,
+        Ordering::Greater => 3,
     }
 }
 
@@ -31,25 +35,6 @@ fn hash_of(text: &ArcStr) -> usize {
     let mut hasher = DefaultHasher::new();
     text.hash(&mut hasher);
     hasher.finish() as usize
-}
-
-/// Reads the count words of eight texts.
-pub(crate) fn run_looks<M: Machine>(rt: &M, request: &Request) -> Result<()> {
-    let all = eight(rt.alloc(), request, request.size)?;
-    match request.figure {
-        "strong_count" => {
-            request.time_each(rt, &all, 8, |text| ArcStr::strong_count(text).unwrap_or(0))
-        }
-        "is_static" => {
-            request.time_each(
-                rt,
-                &all,
-                8,
-                |text| if ArcStr::is_static(text) { 0 } else { 1 },
-            )
-        }
-        _ => no_figure(),
-    }
 }
 
 pub(crate) fn run<M: Machine>(rt: &M, request: &Request) -> Result<()> {
@@ -66,7 +51,10 @@ pub(crate) fn run<M: Machine>(rt: &M, request: &Request) -> Result<()> {
 }
 
 fn last_byte(bytes: &[u8]) -> usize {
-    bytes.last().map_or(0, |byte| *byte as usize)
+    match bytes.last() {
+        Some(byte) => *byte as usize,
+        None => 0,
+    }
 }
 
 /// Returns as many texts as the request asks for, in steps of 7919, so that neighbours in the list are not neighbours in memory.

@@ -2,7 +2,7 @@
 
 use crate::figures::Family;
 use crate::texts::{add_each, add_times};
-use anyhow::{Context, Result};
+use anyhow::Result;
 use std::rt::{Clock, Env};
 use std::sync::Wait;
 use std::thread::Threads;
@@ -184,8 +184,6 @@ impl<'a> Request<'a> {
 fn number(arguments: &[String], index: usize, usual: usize) -> Result<usize> {
     match arguments.get(index) {
         None => Ok(usual),
-        Some(argument) => argument
-            .parse::<usize>()
-            .context(format_args!("reading the number {argument:?}")),
+        Some(argument) => Ok(argument.parse()?),
     }
 }

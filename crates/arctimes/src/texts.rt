@@ -2,7 +2,7 @@
 
 use crate::requests::Request;
 use anyhow::Result;
-use arcstr::{ArcStr, TextFault};
+use arcstr::ArcStr;
 use std::alloc::{AllocError, Global};
 use std::sync::Wait;
 
@@ -48,16 +48,14 @@ pub(crate) fn text(alloc: Global, request: &Request) -> Result<ArcStr> {
 /// Returns eight texts of the request's size, each in its own block, with a `y` at `place`.
 pub(crate) fn eight(alloc: Global, request: &Request, place: usize) -> Result<Vec<ArcStr>> {
     let letters = letters(alloc, request.size, place)?;
-    Ok(many(alloc, letters.as_str(), 8)?)
+    many(alloc, letters.as_str(), 8)
 }
 
 /// Returns this many equal texts, each in its own block.
-pub(crate) fn many(alloc: Global, text: &str, count: usize) -> Result<Vec<ArcStr>, TextFault> {
+pub(crate) fn many(alloc: Global, text: &str, count: usize) -> Result<Vec<ArcStr>> {
     let mut texts = Vec::new(alloc);
     for _ in 0..count {
-        texts
-            .push(ArcStr::from_str(alloc, text)?)
-            .map_err(|_| TextFault::Memory)?;
+        texts.push(ArcStr::from_str(alloc, text)?)?;
     }
     Ok(texts)
 }

@@ -40,20 +40,20 @@ impl Gate for Meeting {
 
 #[test]
 fn each_worker_hands_its_clone_back(rt: HostRuntime) {
-    let text = ArcStr::from_str(rt.alloc(), "foobar").expect(&rt, "refused");
-    let handles = callers(&rt, rt.alloc(), &text, 3, &OpenGate).expect(&rt, "refused");
+    let text = &ArcStr::from_str(rt.alloc(), "foobar").expect(&rt, "refused");
+    let handles = callers(&rt, rt.alloc(), text, 3, &OpenGate).expect(&rt, "refused");
     check_eq!(rt; handles.len(), 3);
     check_eq!(rt; handles[2].as_str(), "foobar");
-    check_eq!(rt; ArcStr::strong_count(&text), Some(4));
+    check_eq!(rt; ArcStr::strong_count(text), Some(4));
     drop(handles);
-    check_eq!(rt; ArcStr::strong_count(&text), Some(1));
+    check_eq!(rt; ArcStr::strong_count(text), Some(1));
 }
 
 /// If a body starts fewer threads than there are workers, the first worker waits in vain. A worker that
 /// passes before it clones misses its own clone.
 #[test]
 fn all_workers_meet_with_their_clones(rt: HostRuntime) {
-    let text = ArcStr::from_str(rt.alloc(), "foobar").expect(&rt, "refused");
+    let text = &ArcStr::from_str(rt.alloc(), "foobar").expect(&rt, "refused");
     for (count, handles, workers) in [(1, 3, 1), (2, 4, 2), (3, 5, 3), (16, 18, 16)] {
         let gate = Meeting {
             text: text.clone(&rt),
@@ -62,7 +62,7 @@ fn all_workers_meet_with_their_clones(rt: HostRuntime) {
             arrived: AtomicU64::new(0),
             met: AtomicU64::new(0),
         };
-        check_eq!(rt; callers(&rt, rt.alloc(), &text, count, &gate).expect(&rt, "refused").len(), count);
+        check_eq!(rt; callers(&rt, rt.alloc(), text, count, &gate).expect(&rt, "refused").len(), count);
         check_eq!(rt; gate.met.load(Ordering::SeqCst), workers);
     }
 }
@@ -90,9 +90,9 @@ fn each_worker_passes_once_with_its_number(rt: HostRuntime) {
             passes.push(AtomicU64::new(0)).expect(&rt, "refused");
         }
         let gate = Counted { passes };
-        let handles = callers(&rt, rt.alloc(), &text, workers, &gate).expect(&rt, "refused");
+        let handles = &callers(&rt, rt.alloc(), &text, workers, &gate).expect(&rt, "refused");
         check_eq!(rt; handles.len(), workers);
-        for (passes, handle) in gate.passes.iter().zip(&handles) {
+        for (passes, handle) in gate.passes.iter().zip(handles) {
             check_eq!(rt; passes.load(Ordering::SeqCst), 1);
             check_eq!(rt; handle.as_str(), "foobar");
         }

@@ -119,7 +119,7 @@ fn fails_at_each_read_and_write(rt: HostRuntime) {
                 write,
                 error: NEVER,
             };
-            let found = run_program(&rt, &["script"], FIRST_SCRIPT, at).expect(&rt, "refused");
+            let found = &run_program(&rt, &["script"], FIRST_SCRIPT, at).expect(&rt, "refused");
             let taken = if read < 18 { 0 } else { write.min(22) as usize };
             let prefix = FIRST_ANSWER.get(..2 * taken).expect(&rt, "short");
             let (status, line) = if read < 18 || write < 22 {
@@ -128,7 +128,7 @@ fn fails_at_each_read_and_write(rt: HostRuntime) {
                 (0, "")
             };
             assert_eq!(rt; found.status, status, "{read} {write}");
-            expect(&rt, &found, status, prefix, line);
+            expect(&rt, found, status, prefix, line);
         }
     }
 }
@@ -137,7 +137,7 @@ fn fails_at_each_read_and_write(rt: HostRuntime) {
 fn keeps_its_status_where_no_error_can_be_printed(rt: HostRuntime) {
     for error in 0..4 {
         let at = FailsAt { error, ..NO_FAULT };
-        let found = run_program(&rt, &[], FIRST_SCRIPT, at).expect(&rt, "refused");
+        let found = &run_program(&rt, &[], FIRST_SCRIPT, at).expect(&rt, "refused");
         check_eq!(rt; found.status, 1);
         check_eq!(rt; found.output.len(), 0);
     }
@@ -198,7 +198,7 @@ fn a_fault_of_writing_ends_the_callers_too(rt: HostRuntime) {
         write: 3,
         ..NO_FAULT
     };
-    let found = run_program(&rt, &["threads", "1"], "", at).expect(&rt, "refused");
+    let found = &run_program(&rt, &["threads", "1"], "", at).expect(&rt, "refused");
     check_eq!(rt; found.status, 4);
     check_eq!(rt; found.output.as_slice(), b"worker".as_slice());
 }
@@ -262,7 +262,7 @@ fn tokens_fail_at_each_read(rt: HostRuntime) {
 fn tokens_fail_at_each_write(rt: HostRuntime) {
     for write in 0..21 {
         let at = FailsAt { write, ..NO_FAULT };
-        let found = run_program(&rt, &["tokens", "2"], LINES, at).expect(&rt, "refused");
+        let found = &run_program(&rt, &["tokens", "2"], LINES, at).expect(&rt, "refused");
         let prefix = WORDS_OF_LINES.as_bytes().get(..2 * write as usize);
         check_eq!(rt; found.status, 4);
         check_eq!(rt; found.output.as_slice(), prefix.expect(&rt, "short"));

@@ -137,7 +137,7 @@ fn run_first_script<A: Allocator + Copy>(
 
 #[test]
 fn writes_the_answer_to_a_script(rt: HostRuntime) {
-    let found = run_first_script(rt.alloc(), rt.alloc(), NEVER, NEVER);
+    let found = &run_first_script(rt.alloc(), rt.alloc(), NEVER, NEVER);
     check_eq!(rt; found.result, Ok(()));
     check_eq!(rt; found.written.as_slice(), FIRST_ANSWER.as_bytes());
 }
@@ -146,7 +146,7 @@ fn writes_the_answer_to_a_script(rt: HostRuntime) {
 #[test]
 fn writes_nothing_after_a_fault_of_reading(rt: HostRuntime) {
     for read in 0..18 {
-        let found = run_first_script(rt.alloc(), rt.alloc(), read, NEVER);
+        let found = &run_first_script(rt.alloc(), rt.alloc(), read, NEVER);
         assert_eq!(rt; found.result, Err(CopyFault::Io), "{read}");
         assert_eq!(rt; found.written.len(), 0, "{read}");
     }
@@ -156,7 +156,7 @@ fn writes_nothing_after_a_fault_of_reading(rt: HostRuntime) {
 #[test]
 fn writes_a_prefix_before_a_fault_of_writing(rt: HostRuntime) {
     for write in 0..22 {
-        let found = run_first_script(rt.alloc(), rt.alloc(), NEVER, write);
+        let found = &run_first_script(rt.alloc(), rt.alloc(), NEVER, write);
         let prefix = FIRST_ANSWER.get(..2 * write as usize).expect(&rt, "short");
         assert_eq!(rt; found.result, Err(CopyFault::Io), "{write}");
         assert_eq!(rt; found.written.as_slice(), prefix.as_bytes(), "{write}");
@@ -173,7 +173,7 @@ fn the_first_of_reading_and_memory_is_answered(rt: HostRuntime) {
     let mut refused = false;
     for read in 0..18 {
         let heap = LocalHeap::new(rt.alloc(), GRAIN).expect(&rt, "refused");
-        let found = run_first_script(&heap, rt.alloc(), read, NEVER);
+        let found = &run_first_script(&heap, rt.alloc(), read, NEVER);
         refused = refused || found.result == Err(CopyFault::Memory);
         let fault = if refused {
             CopyFault::Memory
@@ -212,8 +212,8 @@ fn long_answer(alloc: Global) -> Result<String, AllocError> {
 
 #[test]
 fn answers_and_runs_a_long_script(rt: HostRuntime) {
-    let script = long_script(rt.alloc()).expect(&rt, "refused");
-    let wanted = long_answer(rt.alloc()).expect(&rt, "refused");
+    let script = &long_script(rt.alloc()).expect(&rt, "refused");
+    let wanted = &long_answer(rt.alloc()).expect(&rt, "refused");
     check_eq!(rt; script.len(), 130_025);
     let out = answer(rt.alloc(), script.as_bytes()).expect(&rt, "refused");
     check_eq!(rt; out.as_slice(), wanted.as_bytes());

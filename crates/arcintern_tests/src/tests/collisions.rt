@@ -49,7 +49,7 @@ fn an_interner_tells_words_of_one_hash_apart(rt: HostRuntime) {
 
 #[test]
 fn a_shared_interner_tells_words_of_one_hash_apart(rt: HostRuntime) {
-    let interner = SharedInterner::with_hasher(rt.alloc(), 3, Collides).expect(&rt, "refused");
+    let interner = &SharedInterner::with_hasher(rt.alloc(), 3, Collides).expect(&rt, "refused");
     for _ in 0..2 {
         for (index, word) in WORDS.iter().enumerate() {
             let symbol = interner.intern(&rt, *word).expect(&rt, "refused");

@@ -58,36 +58,36 @@ fn many_words_are_numbered_as_they_come(rt: HostRuntime) {
 
 #[test]
 fn a_text_is_kept_as_a_clone(rt: HostRuntime) {
-    let text = made(&rt, "foobar");
+    let text = &made(&rt, "foobar");
     let mut interner = Interner::new(rt.alloc());
-    let symbol = interner.intern_arc(&rt, &text).expect(&rt, "refused");
-    check!(rt; interner.intern_arc(&rt, &text).expect(&rt, "refused") == symbol);
-    check_eq!(rt; ArcStr::strong_count(&text), Some(2));
+    let symbol = interner.intern_arc(&rt, text).expect(&rt, "refused");
+    check!(rt; interner.intern_arc(&rt, text).expect(&rt, "refused") == symbol);
+    check_eq!(rt; ArcStr::strong_count(text), Some(2));
     drop(interner);
-    check_eq!(rt; ArcStr::strong_count(&text), Some(1));
+    check_eq!(rt; ArcStr::strong_count(text), Some(1));
 }
 
 #[test]
 fn a_text_is_not_kept_twice(rt: HostRuntime) {
-    let text = made(&rt, "foobar");
+    let text = &made(&rt, "foobar");
     let mut interner = Interner::new(rt.alloc());
     let symbol = interner.intern("foobar").expect(&rt, "refused");
-    check!(rt; interner.intern_arc(&rt, &text).expect(&rt, "refused") == symbol);
-    check_eq!(rt; ArcStr::strong_count(&text), Some(1));
+    check!(rt; interner.intern_arc(&rt, text).expect(&rt, "refused") == symbol);
+    check_eq!(rt; ArcStr::strong_count(text), Some(1));
 }
 
 #[test]
 fn a_slice_of_all_of_a_text_is_kept_as_a_clone(rt: HostRuntime) {
-    let text = made(&rt, "foobar");
+    let text = &made(&rt, "foobar");
     let slice = text.substr(&rt, ..).expect(&rt, "refused");
     let mut interner = Interner::new(rt.alloc());
     interner.intern_substr(&rt, &slice).expect(&rt, "refused");
-    check_eq!(rt; ArcStr::strong_count(&text), Some(3));
+    check_eq!(rt; ArcStr::strong_count(text), Some(3));
 }
 
 #[test]
 fn another_slice_is_copied(rt: HostRuntime) {
-    let text = made(&rt, "foobar");
+    let text = &made(&rt, "foobar");
     let mut interner = Interner::new(rt.alloc());
     let symbol = interner
         .intern_substr(&rt, &text.substr(&rt, ..3).expect(&rt, "refused"))
@@ -95,7 +95,7 @@ fn another_slice_is_copied(rt: HostRuntime) {
     interner
         .intern_substr(&rt, &text.substr(&rt, 1..).expect(&rt, "refused"))
         .expect(&rt, "refused");
-    check_eq!(rt; ArcStr::strong_count(&text), Some(1));
+    check_eq!(rt; ArcStr::strong_count(text), Some(1));
     check_eq!(rt; interner.len(), 2);
     check_alone(&rt, &interner, symbol, "foo");
 }
@@ -124,9 +124,9 @@ fn not_stored(rt: &impl Wait, text: &ArcStr) -> AllocFailed<ArcStr> {
 
 #[test]
 fn what_was_not_stored_is_dropped(rt: HostRuntime) {
-    let text = made(&rt, "foo");
-    check_eq!(rt; InternFault::from(not_stored(&rt, &text)), InternFault::Memory);
-    check_eq!(rt; ArcStr::strong_count(&text), Some(1));
+    let text = &made(&rt, "foo");
+    check_eq!(rt; InternFault::from(not_stored(&rt, text)), InternFault::Memory);
+    check_eq!(rt; ArcStr::strong_count(text), Some(1));
 }
 
 #[test]

@@ -89,17 +89,13 @@ fn check_symbols<R: Abort + AllocGlobal + Wait>(
 fn check_threads<R: Abort + AllocGlobal + Threads + Wait + Sync>(rt: &R, shards: usize)
     requires { (1 ≤ shards) × (shards ≤ 64) }
 {
-    let interner = SharedInterner::new(rt.alloc(), shards).expect(rt, "refused");
+    let interner = &SharedInterner::new(rt.alloc(), shards).expect(rt, "refused");
     let alloc = rt.alloc();
-    let shared = &interner;
-    let lists = thread::map_indices(
-        rt,
-        alloc,
-        THREADS,
-        &|index| { intern_words(rt, alloc, shared, index.saturating_mul(WORDS / THREADS)) },
-    )
-    .expect(rt, "refused");
-    check_symbols(rt, &interner, lists);
+    let work = |index: usize| {
+        intern_words(rt, alloc, interner, index.saturating_mul(WORDS / THREADS))
+    };
+    let lists = thread::map_indices(rt, alloc, THREADS, &work).expect(rt, "refused");
+    check_symbols(rt, interner, lists);
 }
 
 #[test]
@@ -159,10 +155,9 @@ fn intern_together(
 /// Asserts that eight threads which intern one word at the same time get one number.
 fn check_one_number<R: Abort + AllocGlobal + Threads + Wait + Sync>(rt: &R) {
     let alloc = rt.alloc();
-    let interner = SharedInterner::new(alloc, 2).expect(rt, "refused");
-    let arrived = AtomicU64::new(0);
-    let (shared, gate) = (&interner, &arrived);
-    let work = |_: usize| intern_together(rt, alloc, shared, gate);
+    let interner = &SharedInterner::new(alloc, 2).expect(rt, "refused");
+    let gate = &AtomicU64::new(0);
+    let work = |_: usize| intern_together(rt, alloc, interner, gate);
     let lists = thread::map_indices(rt, alloc, THREADS, &work).expect(rt, "refused");
     let mut wanted = Vec::new(alloc);
     for list in lists {
@@ -185,10 +180,10 @@ fn threads_at_one_word_agree(rt: HostRuntime) {
 fn check_order<R: Abort + AllocGlobal + Wait>(rt: &R, shards: usize)
     requires { (1 ≤ shards) × (shards ≤ 64) }
 {
-    let interner = SharedInterner::new(rt.alloc(), shards).expect(rt, "refused");
+    let interner = &SharedInterner::new(rt.alloc(), shards).expect(rt, "refused");
     for number in 0..5 * WORDS {
         let word = word_of(rt.alloc(), number).expect(rt, "refused");
-        check_eq!(*rt; interned(rt, &interner, &word).index(), number);
+        check_eq!(*rt; interned(rt, interner, &word).index(), number);
     }
     check_eq!(*rt; interner.len(), 5 * WORDS);
 }
@@ -202,38 +197,38 @@ fn words_are_numbered_as_they_come(rt: HostRuntime) {
 
 #[test]
 fn a_text_is_kept_as_a_clone(rt: HostRuntime) {
-    let text = made(&rt, "foobar");
+    let text = &made(&rt, "foobar");
     let interner = SharedInterner::new(rt.alloc(), 2).expect(&rt, "refused");
-    let symbol = interner.intern_arc(&rt, &text).expect(&rt, "refused");
-    check!(rt; interner.intern_arc(&rt, &text).expect(&rt, "refused").number() == symbol.number());
-    check_eq!(rt; ArcStr::strong_count(&text), Some(2));
+    let symbol = interner.intern_arc(&rt, text).expect(&rt, "refused");
+    check!(rt; interner.intern_arc(&rt, text).expect(&rt, "refused").number() == symbol.number());
+    check_eq!(rt; ArcStr::strong_count(text), Some(2));
     drop(interner);
-    check_eq!(rt; ArcStr::strong_count(&text), Some(1));
+    check_eq!(rt; ArcStr::strong_count(text), Some(1));
 }
 
 #[test]
 fn a_slice_of_all_of_a_text_is_kept_as_a_clone(rt: HostRuntime) {
-    let text = made(&rt, "foobar");
+    let text = &made(&rt, "foobar");
     let slice = text.substr(&rt, ..).expect(&rt, "refused");
     let interner = SharedInterner::new(rt.alloc(), 2).expect(&rt, "refused");
     interner.intern_substr(&rt, &slice).expect(&rt, "refused");
-    check_eq!(rt; ArcStr::strong_count(&text), Some(3));
+    check_eq!(rt; ArcStr::strong_count(text), Some(3));
 }
 
 #[test]
 fn another_slice_is_copied(rt: HostRuntime) {
-    let text = made(&rt, "foobar");
-    let interner = SharedInterner::new(rt.alloc(), 2).expect(&rt, "refused");
+    let text = &made(&rt, "foobar");
+    let interner = &SharedInterner::new(rt.alloc(), 2).expect(&rt, "refused");
     let symbol = interner
         .intern_substr(&rt, &text.substr(&rt, ..3).expect(&rt, "refused"))
         .expect(&rt, "refused");
-    check_eq!(rt; ArcStr::strong_count(&text), Some(1));
-    check_alone(&rt, &interner, symbol.number(), "foo");
+    check_eq!(rt; ArcStr::strong_count(text), Some(1));
+    check_alone(&rt, interner, symbol.number(), "foo");
 }
 
 #[test]
 fn a_literal_stays_a_literal(rt: HostRuntime) {
-    let interner = SharedInterner::new(rt.alloc(), 2).expect(&rt, "refused");
+    let interner = &SharedInterner::new(rt.alloc(), 2).expect(&rt, "refused");
     let symbol = interner
         .intern_arc(&rt, &literal!("foo"))
         .expect(&rt, "refused");

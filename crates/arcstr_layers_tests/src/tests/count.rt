@@ -71,7 +71,7 @@ fn a_dropped_block_is_given_back_once(rt: HostRuntime) {
         Reply::Given,
         Reply::Refused(StepFault::NotOwing),
     ];
-    let world = check_replies(&rt, 0, &steps, &wanted);
+    let world = &check_replies(&rt, 0, &steps, &wanted);
     check_eq!(rt; (world.given(0), world.given(1), world.given(7)), (0, 1, 0));
 }
 

@@ -30,13 +30,22 @@ fn a_derived_clone_is_another_handle(rt: HostRuntime) {
 
 #[test]
 fn a_vec_of_texts_is_cloned(rt: HostRuntime) {
-    let text = made(&rt, "foo");
+    let text = &made(&rt, "foo");
     let mut texts = Vec::new(rt.alloc());
     texts.push(text.clone(&rt)).expect(&rt, "no memory");
     texts.push(literal!("bar")).expect(&rt, "no memory");
     let copies = texts.clone().expect(&rt, "no memory");
     check!(rt; copies == texts);
-    check_count(&rt, &text, Some(3));
+    check_count(&rt, text, Some(3));
+}
+
+#[test]
+fn a_clone_that_gives_up_leaves_the_count(rt: HostRuntime) {
+    let slice = &part(&rt, &made(&rt, "foobar"), 3..);
+    check!(rt; slice.try_clone(0).is_none() && slice.parent().try_clone(0).is_none());
+    check_count(&rt, slice.parent(), Some(1));
+    check!(rt; slice.try_clone(1).is_some_and(|copy| copy == *slice));
+    check!(rt; literal!("foo").try_clone(0).is_some_and(|copy| copy.eq_str("foo")));
 }
 
 /// Clones the value by the trait `Clone`.
@@ -49,7 +58,7 @@ fn a_leaked_text_is_cloned_by_generic_code(rt: HostRuntime) {
     let text = made(&rt, "foo");
     check_count(&rt, &cloned(&text).expect(&rt, "changed"), Some(2));
     text.leak();
-    let copy = cloned(&text).expect(&rt, "changed");
+    let copy = &cloned(&text).expect(&rt, "changed");
     check_text(&rt, copy.as_str(), "foo");
-    check!(rt; ArcStr::is_static(&copy));
+    check!(rt; ArcStr::is_static(copy));
 }

@@ -19,9 +19,9 @@ fn check_lent<T: AsStr + AsSlice<u8>>(rt: &impl Abort, value: &T, wanted: &str) 
 
 #[test]
 fn a_text_lends_its_text(rt: HostRuntime) {
-    let text = made(&rt, "foobar");
-    check_lent(&rt, &text, "foobar");
-    check_count(&rt, &text, Some(1));
+    let text = &made(&rt, "foobar");
+    check_lent(&rt, text, "foobar");
+    check_count(&rt, text, Some(1));
 }
 
 #[test]
@@ -31,8 +31,8 @@ fn a_static_text_lends_its_text(rt: HostRuntime) {
 
 #[test]
 fn a_slice_lends_its_own_text(rt: HostRuntime) {
-    let slice = part(&rt, &made(&rt, "foobar"), 3..);
-    check_lent(&rt, &slice, "bar");
+    let slice = &part(&rt, &made(&rt, "foobar"), 3..);
+    check_lent(&rt, slice, "bar");
     check_count(&rt, slice.parent(), Some(1));
 }
 
@@ -79,9 +79,9 @@ fn not_stored(rt: &impl Wait, text: &ArcStr) -> AllocFailed<ArcStr> {
 
 #[test]
 fn what_was_not_stored_is_dropped(rt: HostRuntime) {
-    let text = made(&rt, "foo");
-    check_eq!(rt; JsonFault::from(not_stored(&rt, &text)), JsonFault::Memory);
-    check_count(&rt, &text, Some(1));
+    let text = &made(&rt, "foo");
+    check_eq!(rt; JsonFault::from(not_stored(&rt, text)), JsonFault::Memory);
+    check_count(&rt, text, Some(1));
 }
 
 /// Returns the kind of the fault as an `io::Error`.
@@ -120,30 +120,30 @@ fn texts_have_the_methods_of_a_str(rt: HostRuntime) {
 
 #[test]
 fn a_str_of_the_program_becomes_a_literal(rt: HostRuntime) {
-    let text = ArcStr::from("aé");
+    let text = &ArcStr::from("aé");
     check_text(&rt, text.as_str(), "aé");
-    check_count(&rt, &text, None);
+    check_count(&rt, text, None);
     check_empty(&rt, &ArcStr::from(""));
 }
 
 #[test]
 fn a_text_becomes_the_slice_of_all_of_it(rt: HostRuntime) {
-    let text = made(&rt, "aé");
+    let text = &made(&rt, "aé");
     let slice = Substr::from(text.clone(&rt));
     check_slice(&rt, &slice, "aé", 0..3);
-    check_count(&rt, &text, Some(2));
+    check_count(&rt, text, Some(2));
     drop(slice);
-    check_count(&rt, &text, Some(1));
+    check_count(&rt, text, Some(1));
 }
 
 #[test]
 fn a_copied_slice_lets_its_parent_go(rt: HostRuntime) {
-    let text = made(&rt, "foo é");
-    let slice = part(&rt, &text, 4..);
-    let copy = slice.to_arc_str(rt.alloc()).expect(&rt, "no memory");
+    let text = &made(&rt, "foo é");
+    let slice = part(&rt, text, 4..);
+    let copy = &slice.to_arc_str(rt.alloc()).expect(&rt, "no memory");
     check_text(&rt, copy.as_str(), "é");
-    check_count(&rt, &copy, Some(1));
-    check_count(&rt, &text, Some(2));
+    check_count(&rt, copy, Some(1));
+    check_count(&rt, text, Some(2));
     drop(slice);
-    check_count(&rt, &text, Some(1));
+    check_count(&rt, text, Some(1));
 }

@@ -26,20 +26,20 @@ fn check_held_once(rt: &impl Abort, text: &ArcStr, slice: Option<Substr>) {
 
 #[test]
 fn a_slice_holds_its_text_once(rt: HostRuntime) {
-    let text = made(&rt, "foobar");
-    check_held_once(&rt, &text, text.substr(&rt, 1..3).ok());
-    check_held_once(&rt, &text, text.substr_using(&rt, |_| 1..3).ok());
-    check_held_once(&rt, &text, text.try_substr_using(&rt, |_| 1..3).ok());
+    let text = &made(&rt, "foobar");
+    check_held_once(&rt, text, text.substr(&rt, 1..3).ok());
+    check_held_once(&rt, text, text.substr_using(&rt, |_| 1..3).ok());
+    check_held_once(&rt, text, text.try_substr_using(&rt, |_| 1..3).ok());
 }
 
 #[test]
 fn a_found_slice_holds_its_text_once(rt: HostRuntime) {
-    let text = made(&rt, "foobar");
+    let text = &made(&rt, "foobar");
     let whole = StrView::whole(text.as_str());
-    check_held_once(&rt, &text, text.try_substr_from(&rt, whole));
+    check_held_once(&rt, text, text.try_substr_from(&rt, whole));
     let whole = StrView::whole(text.as_str());
     check!(rt; whole.is_found_in(text.as_str()));
-    check_held_once(&rt, &text, Some(text.substr_from(&rt, whole)));
+    check_held_once(&rt, text, Some(text.substr_from(&rt, whole)));
 }
 
 /// Asserts that the call gave the expected result, and that the text has only its own handle afterwards.
@@ -50,41 +50,41 @@ fn check_dropped(rt: &impl Abort, text: &ArcStr, answers: bool) {
 
 #[test]
 fn a_refused_slice_holds_nothing(rt: HostRuntime) {
-    let text = made(&rt, "aé");
-    check_dropped(&rt, &text, text.substr(&rt, 0..2).is_err());
-    check_dropped(&rt, &text, text.substr_using(&rt, |_| 0..9).is_err());
+    let text = &made(&rt, "aé");
+    check_dropped(&rt, text, text.substr(&rt, 0..2).is_err());
+    check_dropped(&rt, text, text.substr_using(&rt, |_| 0..9).is_err());
     let view = StrView::at("b", 0).expect(&rt, "no view");
-    check_dropped(&rt, &text, text.try_substr_from(&rt, view).is_none());
+    check_dropped(&rt, text, text.try_substr_from(&rt, view).is_none());
 }
 
 #[test]
 fn the_slice_of_nothing_holds_no_text(rt: HostRuntime) {
-    let text = made(&rt, "foo");
+    let text = &made(&rt, "foo");
     let nothing = text.substr_using(&rt, |_| 2..2).expect(&rt, "no slice");
-    check_dropped(&rt, &text, nothing.is_empty());
+    check_dropped(&rt, text, nothing.is_empty());
     let view = StrView::at("", 1).expect(&rt, "no view");
     let nothing = text.substr_from(&rt, view);
-    check_dropped(&rt, &text, nothing.is_empty());
+    check_dropped(&rt, text, nothing.is_empty());
 }
 
 #[test]
 fn reading_and_hashing_leave_the_count(rt: HostRuntime) {
-    let text = made(&rt, "foo");
-    check_dropped(&rt, &text, text.as_str() == "foo");
-    check_dropped(&rt, &text, text.as_bytes().len() == text.len());
-    check_dropped(&rt, &text, !text.is_empty());
-    check_dropped(&rt, &text, text.get(1..) == Some("oo"));
-    check_dropped(&rt, &text, text.view().text() == "foo");
+    let text = &made(&rt, "foo");
+    check_dropped(&rt, text, text.as_str() == "foo");
+    check_dropped(&rt, text, text.as_bytes().len() == text.len());
+    check_dropped(&rt, text, !text.is_empty());
+    check_dropped(&rt, text, text.get(1..) == Some("oo"));
+    check_dropped(&rt, text, text.view().text() == "foo");
     text.hash(&mut DefaultHasher::new());
-    check_count(&rt, &text, Some(1));
+    check_count(&rt, text, Some(1));
 }
 
 #[test]
 fn asking_for_a_mark_leaves_the_count(rt: HostRuntime) {
-    let text = made(&rt, "foo");
-    check_dropped(&rt, &text, !ArcStr::is_static(&text));
-    check_dropped(&rt, &text, ArcStr::as_static(&text).is_none());
-    check_dropped(&rt, &text, ArcStr::strong_count(&text) == Some(1));
+    let text = &made(&rt, "foo");
+    check_dropped(&rt, text, !ArcStr::is_static(text));
+    check_dropped(&rt, text, ArcStr::as_static(text).is_none());
+    check_dropped(&rt, text, ArcStr::strong_count(text) == Some(1));
 }
 
 #[test]
@@ -98,46 +98,46 @@ fn comparing_leaves_the_counts(rt: HostRuntime) {
 
 #[test]
 fn printing_leaves_the_count(rt: HostRuntime) {
-    let text = made(&rt, "foo");
-    check_dropped(&rt, &text, gave(text.to_string(rt.alloc())));
-    check_dropped(&rt, &text, gave(format!(in rt.alloc(); "{text}")));
-    check_dropped(&rt, &text, gave(format!(in rt.alloc(); "{text:>5}")));
-    check_dropped(&rt, &text, gave(format!(in rt.alloc(); "{text:?}")));
+    let text = &made(&rt, "foo");
+    check_dropped(&rt, text, gave(text.to_string(rt.alloc())));
+    check_dropped(&rt, text, gave(format!(in rt.alloc(); "{text}")));
+    check_dropped(&rt, text, gave(format!(in rt.alloc(); "{text:>5}")));
+    check_dropped(&rt, text, gave(format!(in rt.alloc(); "{text:?}")));
 }
 
 #[test]
 fn a_json_value_holds_no_text(rt: HostRuntime) {
-    let text = made(&rt, "foo");
+    let text = &made(&rt, "foo");
     let value = text.to_json(rt.alloc()).expect(&rt, "no memory");
-    check_count(&rt, &text, Some(1));
+    check_count(&rt, text, Some(1));
     let read = ArcStr::from_json(rt.alloc(), &value).expect(&rt, "no text");
-    check_count(&rt, &text, Some(1));
+    check_count(&rt, text, Some(1));
     check_count(&rt, &read, Some(1));
 }
 
 #[test]
 fn a_borrowed_text_is_counted_once(rt: HostRuntime) {
-    let text = made(&rt, "foo");
+    let text = &made(&rt, "foo");
     let cow = text.to_cow();
-    check_dropped(&rt, &text, cow.as_str() == "foo");
+    check_dropped(&rt, text, cow.as_str() == "foo");
 }
 
 #[test]
 fn a_copied_text_gives_its_handle_back(rt: HostRuntime) {
-    let text = made(&rt, "foo");
+    let text = &made(&rt, "foo");
     let cow = text.clone(&rt).into_cow(rt.alloc());
-    check_dropped(&rt, &text, cow.is_ok());
+    check_dropped(&rt, text, cow.is_ok());
 }
 
 #[test]
 fn a_raw_handle_is_counted(rt: HostRuntime) {
-    let text = made(&rt, "foo");
+    let text = &made(&rt, "foo");
     let raw = ArcStr::into_raw(text.clone(&rt));
-    check_count(&rt, &text, Some(2));
+    check_count(&rt, text, Some(2));
     let back = ArcStr::from_raw(raw);
-    check_count(&rt, &text, Some(2));
+    check_count(&rt, text, Some(2));
     drop(back);
-    check_count(&rt, &text, Some(1));
+    check_count(&rt, text, Some(1));
 }
 
 /// Asserts that the text was made and has one handle.
@@ -162,7 +162,7 @@ fn bar(rt: &(impl Abort + AllocGlobal + Wait)) -> Substr {
 
 #[test]
 fn a_slice_of_a_slice_holds_the_parent_once(rt: HostRuntime) {
-    let slice = bar(&rt);
+    let slice = &bar(&rt);
     check_held_once(&rt, slice.parent(), slice.substr(&rt, 1..2).ok());
     check_held_once(&rt, slice.parent(), slice.substr_using(&rt, |_| 1..2).ok());
     check_held_once(
@@ -174,7 +174,7 @@ fn a_slice_of_a_slice_holds_the_parent_once(rt: HostRuntime) {
 
 #[test]
 fn a_found_slice_of_a_slice_holds_the_parent_once(rt: HostRuntime) {
-    let slice = bar(&rt);
+    let slice = &bar(&rt);
     let whole = StrView::whole(slice.as_str());
     check_held_once(&rt, slice.parent(), slice.try_substr_from(&rt, whole));
     let whole = StrView::whole(slice.as_str());
@@ -184,13 +184,13 @@ fn a_found_slice_of_a_slice_holds_the_parent_once(rt: HostRuntime) {
 
 #[test]
 fn a_clone_of_a_slice_holds_the_parent_once(rt: HostRuntime) {
-    let slice = bar(&rt);
+    let slice = &bar(&rt);
     check_held_once(&rt, slice.parent(), Some(slice.clone(&rt)));
 }
 
 #[test]
 fn a_refused_slice_of_a_slice_holds_nothing(rt: HostRuntime) {
-    let slice = bar(&rt);
+    let slice = &bar(&rt);
     check_dropped(&rt, slice.parent(), slice.substr(&rt, 0..5).is_err());
     check_dropped(
         &rt,
@@ -207,7 +207,7 @@ fn a_refused_slice_of_a_slice_holds_nothing(rt: HostRuntime) {
 
 #[test]
 fn the_slice_of_nothing_of_a_slice_holds_no_parent(rt: HostRuntime) {
-    let slice = bar(&rt);
+    let slice = &bar(&rt);
     let nothing = slice.substr_using(&rt, |_| 2..2).expect(&rt, "no slice");
     check_dropped(&rt, slice.parent(), nothing.is_empty());
     let view = StrView::at("", 1).expect(&rt, "no view");
@@ -217,7 +217,7 @@ fn the_slice_of_nothing_of_a_slice_holds_no_parent(rt: HostRuntime) {
 
 #[test]
 fn reading_and_hashing_a_slice_leave_the_count(rt: HostRuntime) {
-    let slice = bar(&rt);
+    let slice = &bar(&rt);
     check_dropped(&rt, slice.parent(), slice.as_str() == "bar");
     check_dropped(&rt, slice.parent(), slice.as_bytes().len() == slice.len());
     check_dropped(&rt, slice.parent(), !slice.is_empty());
@@ -243,7 +243,7 @@ fn comparing_slices_leaves_the_counts(rt: HostRuntime) {
 
 #[test]
 fn printing_a_slice_leaves_the_count(rt: HostRuntime) {
-    let slice = bar(&rt);
+    let slice = &bar(&rt);
     check_dropped(&rt, slice.parent(), gave(slice.to_string(rt.alloc())));
     check_dropped(&rt, slice.parent(), gave(format!(in rt.alloc(); "{slice}")));
     check_dropped(
@@ -260,7 +260,7 @@ fn printing_a_slice_leaves_the_count(rt: HostRuntime) {
 
 #[test]
 fn a_json_value_holds_no_parent(rt: HostRuntime) {
-    let slice = bar(&rt);
+    let slice = &bar(&rt);
     let value = slice.to_json(rt.alloc()).expect(&rt, "no memory");
     check_count(&rt, slice.parent(), Some(1));
     let read = Substr::from_json(rt.alloc(), &value).expect(&rt, "no slice");
@@ -270,14 +270,14 @@ fn a_json_value_holds_no_parent(rt: HostRuntime) {
 
 #[test]
 fn a_borrowed_slice_is_counted_once(rt: HostRuntime) {
-    let slice = bar(&rt);
+    let slice = &bar(&rt);
     let cow = slice.to_cow();
     check_dropped(&rt, slice.parent(), cow.as_str() == "bar");
 }
 
 #[test]
 fn a_copied_slice_gives_its_handle_back(rt: HostRuntime) {
-    let slice = bar(&rt);
+    let slice = &bar(&rt);
     let cow = slice.clone(&rt).into_cow(rt.alloc());
     check_dropped(&rt, slice.parent(), cow.is_ok());
 }

@@ -51,7 +51,7 @@ fn the_slice_of_a_block_is_copied(rt: HostRuntime) {
 
 #[test]
 fn a_million_bytes_are_copied(rt: HostRuntime) {
-    let digits = many_digits(&rt);
+    let digits = &many_digits(&rt);
     let text = made(&rt, digits.as_str());
     let slice = part(&rt, &text, 13..);
     check_owned(&rt, text.into_cow(rt.alloc()), digits.as_str());

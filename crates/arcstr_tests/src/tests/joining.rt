@@ -29,10 +29,10 @@ fn nothing_joined_is_the_empty_literal(rt: HostRuntime) {
 
 #[test]
 fn slices_are_joined_and_stay_counted(rt: HostRuntime) {
-    let text = made(&rt, "foo bar");
-    let slices: [Substr; 2] = [part(&rt, &text, 4..), part(&rt, &text, ..3)];
-    let joined = ArcStr::join(rt.alloc(), &slices, " ").expect(&rt, "refused");
+    let text = &made(&rt, "foo bar");
+    let slices: [Substr; 2] = [part(&rt, text, 4..), part(&rt, text, ..3)];
+    let joined = &ArcStr::join(rt.alloc(), &slices, " ").expect(&rt, "refused");
     check_eq!(rt; joined.as_str(), "bar foo");
-    check_count(&rt, &joined, Some(1));
-    check_count(&rt, &text, Some(3));
+    check_count(&rt, joined, Some(1));
+    check_count(&rt, text, Some(3));
 }

@@ -28,22 +28,22 @@ fn check_read(rt: &(impl Abort + AllocGlobal), value: &Value, wanted: &str) {
 #[test]
 fn a_slice_is_written_and_read_back(rt: HostRuntime) {
     let slice = part(&rt, &literal!("aé"), 1..);
-    let value = slice.to_json(rt.alloc()).expect(&rt, "no memory");
-    check_read(&rt, &value, "é");
-    let read = Substr::from_json(rt.alloc(), &value).expect(&rt, "no slice");
+    let value = &slice.to_json(rt.alloc()).expect(&rt, "no memory");
+    check_read(&rt, value, "é");
+    let read = Substr::from_json(rt.alloc(), value).expect(&rt, "no slice");
     check!(rt; read == slice);
 }
 
 #[test]
 fn a_million_bytes_are_read(rt: HostRuntime) {
-    let digits = many_digits(&rt);
-    let text = made(&rt, digits.as_str());
+    let digits = &many_digits(&rt);
+    let text = &made(&rt, digits.as_str());
     let value = text.to_json(rt.alloc()).expect(&rt, "no memory");
     check_read(&rt, &value, digits.as_str());
-    let json = serde_json::to_string(rt.alloc(), &text).expect(&rt, "not written");
+    let json = serde_json::to_string(rt.alloc(), text).expect(&rt, "not written");
     let read: Substr = serde_json::from_str(rt.alloc(), json.as_str()).expect(&rt, "not read");
     check_text(&rt, read.as_str(), digits.as_str());
-    let slice = part(&rt, &text, 1..);
+    let slice = &part(&rt, text, 1..);
     let value = slice.to_json(rt.alloc()).expect(&rt, "no memory");
     check_text(&rt, value.as_str().expect(&rt, "no string"), slice.as_str());
 }
@@ -65,31 +65,31 @@ fn a_written_text_is_parsed_back(rt: HostRuntime) {
 #[test]
 fn other_values_are_no_texts(rt: HostRuntime) {
     for json in ["null", "true", "[]", "12"] {
-        let value = Value::from_str(rt.alloc(), json).expect(&rt, "not parsed");
-        check_eq!(rt; ArcStr::from_json(rt.alloc(), &value).err(), Some(JsonFault::NotText));
-        check_eq!(rt; Substr::from_json(rt.alloc(), &value).err(), Some(JsonFault::NotText));
+        let value = &Value::from_str(rt.alloc(), json).expect(&rt, "not parsed");
+        check_eq!(rt; ArcStr::from_json(rt.alloc(), value).err(), Some(JsonFault::NotText));
+        check_eq!(rt; Substr::from_json(rt.alloc(), value).err(), Some(JsonFault::NotText));
     }
 }
 
 #[test]
 fn an_empty_string_is_the_empty_text(rt: HostRuntime) {
-    let value = string(&rt, "");
+    let value = &string(&rt, "");
     check_empty(
         &rt,
-        &ArcStr::from_json(rt.alloc(), &value).expect(&rt, "refused"),
+        &ArcStr::from_json(rt.alloc(), value).expect(&rt, "refused"),
     );
     check_nothing(
         &rt,
-        &Substr::from_json(rt.alloc(), &value).expect(&rt, "refused"),
+        &Substr::from_json(rt.alloc(), value).expect(&rt, "refused"),
     );
 }
 
 #[test]
 fn a_text_is_written_and_read_back(rt: HostRuntime) {
     let text = made(&rt, "hi");
-    let value = text.to_json(rt.alloc()).expect(&rt, "no memory");
-    check_read(&rt, &value, "hi");
-    let read = ArcStr::from_json(rt.alloc(), &value).expect(&rt, "refused");
+    let value = &text.to_json(rt.alloc()).expect(&rt, "no memory");
+    check_read(&rt, value, "hi");
+    let read = ArcStr::from_json(rt.alloc(), value).expect(&rt, "refused");
     check!(rt; read == text);
 }
 
@@ -115,19 +115,19 @@ struct Entry {
 
 #[test]
 fn a_struct_of_texts_is_written_as_json(rt: HostRuntime) {
-    let text = made(&rt, "key=\"é\"");
+    let text = &made(&rt, "key=\"é\"");
     let mut tags = Vec::new(rt.alloc());
     tags.push(literal!("a\nb")).expect(&rt, "no memory");
     tags.push(ArcStr::new()).expect(&rt, "no memory");
     let entry = Entry {
         name: text.clone(&rt),
-        value: part(&rt, &text, 4..),
+        value: part(&rt, text, 4..),
         tags,
     };
     let json = serde_json::to_string(rt.alloc(), &entry).expect(&rt, "not written");
     let wanted = "{\"name\":\"key=\\\"é\\\"\",\"value\":\"\\\"é\\\"\",\"tags\":[\"a\\nb\",\"\"]}";
     check_text(&rt, json.as_str(), wanted);
-    check_count(&rt, &text, Some(3));
+    check_count(&rt, text, Some(3));
 }
 
 #[test]

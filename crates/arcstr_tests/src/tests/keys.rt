@@ -36,23 +36,23 @@ fn a_hash_map_of_texts_is_read_by_a_str(rt: HostRuntime) {
 
 #[test]
 fn a_key_that_a_str_removes_is_dropped(rt: HostRuntime) {
-    let text = made(&rt, "é");
+    let text = &made(&rt, "é");
     let mut map = map_of(&rt, text.clone(&rt));
-    check_count(&rt, &text, Some(2));
+    check_count(&rt, text, Some(2));
     check_eq!(rt; map.remove("é"), Some(1));
-    check_count(&rt, &text, Some(1));
+    check_count(&rt, text, Some(1));
     check!(rt; !map.contains_key("é"));
 }
 
 #[test]
 fn a_hash_set_of_slices_is_read_by_a_str(rt: HostRuntime) {
-    let text = made(&rt, "é foo");
+    let text = &made(&rt, "é foo");
     let mut set = HashSet::new(rt.alloc());
-    set.insert(part(&rt, &text, 3..)).expect(&rt, "no memory");
+    set.insert(part(&rt, text, 3..)).expect(&rt, "no memory");
     check!(rt; set.contains("foo"));
     check!(rt; !set.contains("é foo"));
     check!(rt; set.remove("foo"));
-    check_count(&rt, &text, Some(1));
+    check_count(&rt, text, Some(1));
 }
 
 /// Inserts the key. Aborts if out of memory.
@@ -63,26 +63,26 @@ fn insert_sorted(rt: &impl Abort, map: &mut BTreeMap<Substr, u8>, key: Substr, v
 
 #[test]
 fn a_sorted_map_of_slices_is_read_by_a_str(rt: HostRuntime) {
-    let text = made(&rt, "é foo");
+    let text = &made(&rt, "é foo");
     let mut map = BTreeMap::new(rt.alloc());
-    insert_sorted(&rt, &mut map, part(&rt, &text, 3..), 1);
+    insert_sorted(&rt, &mut map, part(&rt, text, 3..), 1);
     insert_sorted(&rt, &mut map, Substr::new(), 2);
     check_eq!(rt; map.get("é foo"), None);
     assert!(rt; map.contains_key(""));
     check_eq!(rt; map[""], 2);
     check_eq!(rt; map.remove("foo"), Some(1));
-    check_count(&rt, &text, Some(1));
+    check_count(&rt, text, Some(1));
 }
 
 #[test]
 fn a_sorted_set_of_texts_is_read_by_a_str(rt: HostRuntime) {
-    let text = made(&rt, "é");
+    let text = &made(&rt, "é");
     let mut set = BTreeSet::new(rt.alloc());
     set.insert(text.clone(&rt)).expect(&rt, "no memory");
     check!(rt; set.contains("é"));
     check!(rt; !set.contains("e"));
     check!(rt; set.remove("é"));
-    check_count(&rt, &text, Some(1));
+    check_count(&rt, text, Some(1));
 }
 
 #[test]
@@ -110,25 +110,25 @@ fn index_map_of(rt: &(impl Abort + AllocGlobal), text: ArcStr) -> IndexMap<ArcSt
 
 #[test]
 fn an_index_map_of_texts_is_read_by_a_str(rt: HostRuntime) {
-    let text = made(&rt, "é");
+    let text = &made(&rt, "é");
     let mut map = index_map_of(&rt, text.clone(&rt));
     check_eq!(rt; map.get("é"), Some(&1));
     check_eq!(rt; map.get("bar"), None);
     check_eq!(rt; map.get_index_of(""), Some(2));
     check!(rt; map.contains_key("foo"));
     check_eq!(rt; map.swap_remove("é"), Some(1));
-    check_count(&rt, &text, Some(1));
+    check_count(&rt, text, Some(1));
     check_eq!(rt; map.get_index_of(""), Some(0));
 }
 
 #[test]
 fn an_index_set_of_slices_is_read_by_a_str(rt: HostRuntime) {
-    let text = made(&rt, "é foo");
+    let text = &made(&rt, "é foo");
     let mut set: IndexSet<Substr> = IndexSet::new(rt.alloc());
-    set.insert(part(&rt, &text, 3..)).expect(&rt, "no memory");
+    set.insert(part(&rt, text, 3..)).expect(&rt, "no memory");
     check!(rt; set.contains("foo"));
     check!(rt; !set.contains("é foo"));
     check_eq!(rt; set.get_index_of("foo"), Some(0));
     check!(rt; set.swap_remove("foo"));
-    check_count(&rt, &text, Some(1));
+    check_count(&rt, text, Some(1));
 }

@@ -17,8 +17,8 @@ fn copies_of_a_text(rt: HostRuntime) {
 
 #[test]
 fn a_made_slice_is_all_of_its_text(rt: HostRuntime) {
-    let slice = Substr::from_str(rt.alloc(), "foo").expect(&rt, "no memory");
-    check_slice(&rt, &slice, "foo", 0..3);
+    let slice = &Substr::from_str(rt.alloc(), "foo").expect(&rt, "no memory");
+    check_slice(&rt, slice, "foo", 0..3);
     check_bytes(&rt, slice.as_bytes(), b"foo");
     check_count(&rt, slice.parent(), Some(1));
     check!(rt; slice.len() == 3);
@@ -109,9 +109,9 @@ fn copies_of_a_million_bytes_are_read_back(rt: HostRuntime) {
 
 #[test]
 fn a_made_slice_of_a_million_bytes_is_read_back(rt: HostRuntime) {
-    let digits = many_digits(&rt);
-    let slice = Substr::from_str(rt.alloc(), digits.as_str()).expect(&rt, "no memory");
-    check_slice(&rt, &slice, digits.as_str(), 0..1_000_000);
+    let digits = &many_digits(&rt);
+    let slice = &Substr::from_str(rt.alloc(), digits.as_str()).expect(&rt, "no memory");
+    check_slice(&rt, slice, digits.as_str(), 0..1_000_000);
     check_made(&rt, slice.to_arc_str(rt.alloc()), digits.as_str());
 }
 

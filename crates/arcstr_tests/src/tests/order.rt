@@ -22,15 +22,15 @@ fn are_one_key<T: Eq + Hash>(one: &T, other: &T, text: &str) -> bool {
 
 #[test]
 fn a_literal_and_a_block_of_one_text_are_one_key(rt: HostRuntime) {
-    let text = made(&rt, "bar");
-    check!(rt; are_one_key(&text, &literal!("bar"), "bar"));
+    let text = &made(&rt, "bar");
+    check!(rt; are_one_key(text, &literal!("bar"), "bar"));
     check!(rt; text.eq_str("bar") && !text.eq_str("ba"));
 }
 
 #[test]
 fn slices_of_one_text_are_equal_whatever_their_parents(rt: HostRuntime) {
-    let slice = part(&rt, &made(&rt, "foobar"), 3..6);
-    check!(rt; are_one_key(&slice, &Substr::from_static("bar"), "bar"));
+    let slice = &part(&rt, &made(&rt, "foobar"), 3..6);
+    check!(rt; are_one_key(slice, &Substr::from_static("bar"), "bar"));
     check!(rt; slice.eq_str("bar") && !slice.eq_str("ba") && !slice.eq_str("foobar"));
 }
 
@@ -62,12 +62,12 @@ fn check_order<T: Ord>(rt: &impl Abort, one: &T, other: &T, wanted: Ordering) {
 
 /// Asserts the order of texts of this many letters that differ only in the letter at `place`, and of texts whose lengths differ by one letter.
 fn differ_at(rt: &(impl Abort + AllocGlobal), length: usize, place: usize) {
-    let text = letters(rt, length, place, 'a');
-    check_order(rt, &text, &letters(rt, length, place, 'a'), Ordering::Equal);
-    check_order(rt, &text, &letters(rt, length, place, 'c'), Ordering::Less);
-    check_order(rt, &text, &letters(rt, length, place, 'é'), Ordering::Less);
+    let text = &letters(rt, length, place, 'a');
+    check_order(rt, text, &letters(rt, length, place, 'a'), Ordering::Equal);
+    check_order(rt, text, &letters(rt, length, place, 'c'), Ordering::Less);
+    check_order(rt, text, &letters(rt, length, place, 'é'), Ordering::Less);
     let longer = letters(rt, length.saturating_add(1), place, 'a');
-    check_order(rt, &text, &longer, Ordering::Less);
+    check_order(rt, text, &longer, Ordering::Less);
 }
 
 /// Depending on their length, texts are compared by bytes, by machine words or by vectors.
@@ -82,11 +82,11 @@ fn texts_of_any_length_differ_at_any_place(rt: HostRuntime) {
 
 /// Asserts the order of slices of texts of this many letters that differ only in the letter at `place`.
 fn slices_differ_at<R: Abort + AllocGlobal + Wait>(rt: &R, length: usize, place: usize) {
-    let slice = behind_one(rt, length, place, 'a');
+    let slice = &behind_one(rt, length, place, 'a');
     let same = behind_one(rt, length, place, 'a');
-    check_order(rt, &slice, &same, Ordering::Equal);
+    check_order(rt, slice, &same, Ordering::Equal);
     let greater = behind_one(rt, length, place, 'é');
-    check_order(rt, &slice, &greater, Ordering::Less);
+    check_order(rt, slice, &greater, Ordering::Less);
 }
 
 /// The bytes of a slice can start at any address.

@@ -12,13 +12,13 @@ const MAX: usize = usize::MAX;
 
 #[test]
 fn slices_keep_their_parent(rt: HostRuntime) {
-    let text = made(&rt, "abcde");
-    let tail = part(&rt, &text, 2..);
-    check_slice(&rt, &tail, "cde", 2..5);
+    let text = &made(&rt, "abcde");
+    let tail = &part(&rt, text, 2..);
+    check_slice(&rt, tail, "cde", 2..5);
     check_text(&rt, tail.parent().as_str(), "abcde");
-    check_count(&rt, &text, Some(2));
-    let end = part(&rt, &text, 5..);
-    check_slice(&rt, &end, "", 5..5);
+    check_count(&rt, text, Some(2));
+    let end = &part(&rt, text, 5..);
+    check_slice(&rt, end, "", 5..5);
     check_text(&rt, end.parent().as_str(), "abcde");
     check_no_slice(&rt, text.substr(&rt, 6..), RangeFault::OutOfOrder);
     check_sliced(&rt, literal!("12345").substr(&rt, 1..4), "234", 1..4);
@@ -86,13 +86,13 @@ fn bar(rt: &(impl Abort + Wait)) -> Substr {
 
 #[test]
 fn a_slice_of_a_slice_keeps_the_parent(rt: HostRuntime) {
-    let inner = bar(&rt).substr(&rt, 1..3).expect(&rt, "no slice");
-    check_slice(&rt, &inner, "ar", 4..6);
+    let inner = &bar(&rt).substr(&rt, 1..3).expect(&rt, "no slice");
+    check_slice(&rt, inner, "ar", 4..6);
     check_text(&rt, inner.parent().as_str(), "foobarbaz");
     check_no_slice(&rt, bar(&rt).substr(&rt, 0..5), RangeFault::PastEnd);
     check_part(&rt, bar(&rt).get(0..5), None);
-    let nothing = bar(&rt).substr(&rt, 2..2).expect(&rt, "no slice");
-    check_slice(&rt, &nothing, "", 5..5);
+    let nothing = &bar(&rt).substr(&rt, 2..2).expect(&rt, "no slice");
+    check_slice(&rt, nothing, "", 5..5);
     check_text(&rt, nothing.parent().as_str(), "foobarbaz");
     let tail = part(&rt, &literal!("foobarbaz"), 3..);
     check_sliced(&rt, tail.substr(&rt, 1..5), "arba", 4..8);
@@ -135,7 +135,7 @@ fn a_view_is_found_where_its_text_stands(rt: HostRuntime) {
 
 #[test]
 fn a_trimmed_view_gives_its_slice(rt: HostRuntime) {
-    let text = made(&rt, "   abc");
+    let text = &made(&rt, "   abc");
     let view = StrView::whole(text.as_str()).trim();
     let slice = text.try_substr_from(&rt, view).expect(&rt, "not found");
     check_slice(&rt, &slice, "abc", 3..6);
@@ -143,7 +143,7 @@ fn a_trimmed_view_gives_its_slice(rt: HostRuntime) {
 
 #[test]
 fn a_trimmed_view_of_a_slice_gives_its_slice(rt: HostRuntime) {
-    let slice = part(&rt, &made(&rt, "foo   bar"), StrRange::From(3));
+    let slice = &part(&rt, &made(&rt, "foo   bar"), StrRange::From(3));
     check_text(&rt, slice.as_str(), "   bar");
     let view = StrView::whole(slice.as_str()).trim();
     let trimmed = slice.try_substr_from(&rt, view).expect(&rt, "not found");
@@ -175,7 +175,7 @@ fn places_of_the_own_text_give_all_of_it(rt: HostRuntime) {
 fn a_closure_gives_its_range_or_is_refused(rt: HostRuntime) {
     let padded = made(&rt, "   abc");
     check_sliced(&rt, padded.substr_using(&rt, |_| 3..6), "abc", 3..6);
-    let text = made(&rt, "abc");
+    let text = &made(&rt, "abc");
     check_sliced(&rt, text.try_substr_using(&rt, |_| 1..3), "bc", 1..3);
     let reversed = text.try_substr_using(&rt, |_| 2..1);
     check_no_slice(&rt, reversed, RangeFault::OutOfOrder);
@@ -190,7 +190,7 @@ fn check_found_nothing(rt: &impl Abort, answer: Result<Substr, RangeFault>) {
 
 #[test]
 fn equal_places_of_a_closure_give_the_slice_of_nothing(rt: HostRuntime) {
-    let text = made(&rt, "aé");
+    let text = &made(&rt, "aé");
     check_found_nothing(&rt, text.substr_using(&rt, |_| 2..2));
     check_found_nothing(&rt, text.substr_using(&rt, |_| MAX..MAX));
     check_found_nothing(&rt, text.try_substr_using(&rt, |_| 7..7));
@@ -212,8 +212,8 @@ fn a_closure_is_called_once_before_any_test(rt: HostRuntime) {
 
 #[test]
 fn trimmed_views_of_a_text_are_found(rt: HostRuntime) {
-    let text = made(&rt, "  abc ");
-    let whole = text.view();
+    let text = &made(&rt, "  abc ");
+    let whole = &text.view();
     check_slice(&rt, &text.substr_from(&rt, whole.trim()), "abc", 2..5);
     let tail = text.substr_from(&rt, whole.trim_start());
     check_slice(&rt, &tail, "abc ", 2..6);
@@ -222,7 +222,7 @@ fn trimmed_views_of_a_text_are_found(rt: HostRuntime) {
 
 #[test]
 fn a_cut_of_a_view_of_a_text_is_found(rt: HostRuntime) {
-    let text = made(&rt, "  abc ");
+    let text = &made(&rt, "  abc ");
     let view = StrView::whole(text.as_str()).trim();
     let cut = view.cut(1..3).expect(&rt, "no part");
     check_slice(&rt, &text.substr_from(&rt, cut), "bc", 3..5);
@@ -230,7 +230,7 @@ fn a_cut_of_a_view_of_a_text_is_found(rt: HostRuntime) {
 
 #[test]
 fn views_of_the_own_text_of_a_slice_are_found(rt: HostRuntime) {
-    let slice = part(&rt, &made(&rt, "key: value"), 4..);
+    let slice = &part(&rt, &made(&rt, "key: value"), 4..);
     let view = slice.view().trim();
     let cut = view.cut(0..3).expect(&rt, "no part");
     check_slice(&rt, &slice.substr_from(&rt, cut), "val", 5..8);

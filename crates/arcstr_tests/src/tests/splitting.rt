@@ -99,11 +99,11 @@ fn texts_are_split_as_str_is(rt: HostRuntime) {
 #[test]
 fn texts_are_split_at_a_character(rt: HostRuntime) {
     let wanted = Some(("a", "b", 5));
-    let text = made(&rt, "a😀b");
-    check_pair(&rt, &text, 0, text.substr_split_once(&rt, '😀'), wanted);
-    check_pair(&rt, &text, 0, text.substr_rsplit_once(&rt, '😀'), wanted);
-    check_pair(&rt, &text, 0, text.substr_split_once(&rt, '='), None);
-    let slice = middle(&rt, "a😀b");
+    let text = &made(&rt, "a😀b");
+    check_pair(&rt, text, 0, text.substr_split_once(&rt, '😀'), wanted);
+    check_pair(&rt, text, 0, text.substr_rsplit_once(&rt, '😀'), wanted);
+    check_pair(&rt, text, 0, text.substr_split_once(&rt, '='), None);
+    let slice = &middle(&rt, "a😀b");
     let parent = slice.parent();
     check_pair(&rt, parent, 6, slice.substr_split_once(&rt, '😀'), wanted);
     check_pair(&rt, parent, 6, slice.substr_rsplit_once(&rt, '😀'), wanted);
@@ -176,18 +176,18 @@ fn check_rest(
 #[test]
 fn texts_are_stripped_as_str_is(rt: HostRuntime) {
     for (text, affix, after, before) in STRIP {
-        let text = made(&rt, text);
+        let text = &made(&rt, text);
         let rest = text.substr_strip_prefix(&rt, affix);
-        check_rest(&rt, &text, affix.len(), rest, after);
+        check_rest(&rt, text, affix.len(), rest, after);
         let rest = text.substr_strip_suffix(&rt, affix);
-        check_rest(&rt, &text, 0, rest, before);
+        check_rest(&rt, text, 0, rest, before);
     }
 }
 
 #[test]
 fn slices_are_stripped_as_str_is(rt: HostRuntime) {
     for (text, affix, after, before) in STRIP {
-        let slice = middle(&rt, text);
+        let slice = &middle(&rt, text);
         let start = slice.range().start;
         let rest = slice.substr_strip_prefix(&rt, affix);
         let after_affix = start.saturating_add(affix.len());
@@ -199,20 +199,8 @@ fn slices_are_stripped_as_str_is(rt: HostRuntime) {
 
 #[test]
 fn a_character_is_taken_off(rt: HostRuntime) {
-    let text = made(&rt, "éaé");
-    check_rest(
-        &rt,
-        &text,
-        2,
-        text.substr_strip_prefix(&rt, 'é'),
-        Some("aé"),
-    );
-    check_rest(
-        &rt,
-        &text,
-        0,
-        text.substr_strip_suffix(&rt, 'é'),
-        Some("éa"),
-    );
-    check_rest(&rt, &text, 0, text.substr_strip_suffix(&rt, 'a'), None);
+    let text = &made(&rt, "éaé");
+    check_rest(&rt, text, 2, text.substr_strip_prefix(&rt, 'é'), Some("aé"));
+    check_rest(&rt, text, 0, text.substr_strip_suffix(&rt, 'é'), Some("éa"));
+    check_rest(&rt, text, 0, text.substr_strip_suffix(&rt, 'a'), None);
 }

@@ -29,15 +29,11 @@ fn a_text_and_a_static_text_move_to_a_thread(rt: HostRuntime) {
 
 #[test]
 fn two_threads_clone_and_drop_one_text(rt: HostRuntime) {
-    let text = made(&rt, "foobar");
-    let lengths = thread::join(
-        &rt,
-        || cloned_often(&rt, &text),
-        || cloned_often(&rt, &text),
-    );
+    let text = &made(&rt, "foobar");
+    let lengths = thread::join(&rt, || cloned_often(&rt, text), || cloned_often(&rt, text));
     check!(rt; lengths == (6, 6));
     check_text(&rt, text.as_str(), "foobar");
-    check_count(&rt, &text, Some(1));
+    check_count(&rt, text, Some(1));
 }
 
 /// Returns the value, whose type must be `Send` and `Sync`.
@@ -66,7 +62,7 @@ fn a_slice_is_read_where_its_parents_handle_is_not(rt: HostRuntime) {
 
 #[test]
 fn two_threads_read_one_slice(rt: HostRuntime) {
-    let slice = Substr::from_str(rt.alloc(), "foobar").expect(&rt, "no memory");
+    let slice = &Substr::from_str(rt.alloc(), "foobar").expect(&rt, "no memory");
     let read = thread::join(
         &rt,
         || slice.as_str() == "foobar",

@@ -99,12 +99,12 @@ fn check_workers<R: Abort + AllocGlobal + Threads + Wait + Sync>(
 
 #[test]
 fn each_number_of_workers_finds_the_tokens_of_one_thread(rt: HostRuntime) {
-    let texts = seven_texts(&rt).expect(&rt, "refused");
-    check_workers(&rt, &texts, 1).expect(&rt, "refused");
-    check_workers(&rt, &texts, 2).expect(&rt, "refused");
-    check_workers(&rt, &texts, 3).expect(&rt, "refused");
-    check_workers(&rt, &texts, 7).expect(&rt, "refused");
-    check_workers(&rt, &texts, 64).expect(&rt, "refused");
+    let texts = &seven_texts(&rt).expect(&rt, "refused");
+    check_workers(&rt, texts, 1).expect(&rt, "refused");
+    check_workers(&rt, texts, 2).expect(&rt, "refused");
+    check_workers(&rt, texts, 3).expect(&rt, "refused");
+    check_workers(&rt, texts, 7).expect(&rt, "refused");
+    check_workers(&rt, texts, 64).expect(&rt, "refused");
 }
 
 #[test]

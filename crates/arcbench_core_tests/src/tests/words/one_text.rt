@@ -9,13 +9,13 @@ use std::sync::Wait;
 
 /// Asserts the words of a text in a block of its own. Also asserts the text's count while the words live and after they are dropped.
 fn check_words<R: Abort + AllocGlobal + Wait>(rt: &R, text: &str, wanted: &[Wanted]) {
-    let text = made(rt, text);
-    let before = ArcStr::strong_count(&text);
-    let words = tokens(rt, rt.alloc(), &text).expect(rt, "no memory");
+    let text = &made(rt, text);
+    let before = ArcStr::strong_count(text);
+    let words = tokens(rt, rt.alloc(), text).expect(rt, "no memory");
     check_tokens(rt, &words, wanted);
-    check_count(rt, &text, before.map(|count| count + wanted.len()));
+    check_count(rt, text, before.map(|count| count + wanted.len()));
     drop(words);
-    check_count(rt, &text, before);
+    check_count(rt, text, before);
 }
 
 #[test]
@@ -39,7 +39,7 @@ fn words_of_characters_of_several_bytes(rt: HostRuntime) {
 #[test]
 fn a_text_of_one_word(rt: HostRuntime) {
     check_words(&rt, "foobar", &[(0, 6, "foobar")]);
-    let long = ArcStr::repeat(rt.alloc(), "foobar", 100_000).expect(&rt, "no memory");
+    let long = &ArcStr::repeat(rt.alloc(), "foobar", 100_000).expect(&rt, "no memory");
     check_words(&rt, long.as_str(), &[(0, 600_000, long.as_str())]);
     check_words(&rt, "é", &[(0, 2, "é")]);
 }
@@ -55,7 +55,7 @@ fn a_text_of_20_000_words(rt: HostRuntime) {
     for _ in 0..20_000 {
         text.push_str("ab ").expect(&rt, "refused");
     }
-    let words = tokens(&rt, rt.alloc(), &made(&rt, text.as_str())).expect(&rt, "refused");
+    let words = &tokens(&rt, rt.alloc(), &made(&rt, text.as_str())).expect(&rt, "refused");
     check_eq!(rt; words.len(), 20_000);
     let last = words.last().expect(&rt, "no token");
     check_eq!(rt; last.range(), 59_997..59_999);
@@ -139,8 +139,8 @@ fn other_characters_at_each_place_of_a_long_word(rt: HostRuntime) {
 
 #[test]
 fn tokens_of_a_literal_are_slices_of_the_literal(rt: HostRuntime) {
-    let words = tokens(&rt, rt.alloc(), &ArcStr::from_static("a b")).expect(&rt, "refused");
-    check_tokens(&rt, &words, &[(0, 1, "a"), (2, 3, "b")]);
+    let words = &tokens(&rt, rt.alloc(), &ArcStr::from_static("a b")).expect(&rt, "refused");
+    check_tokens(&rt, words, &[(0, 1, "a"), (2, 3, "b")]);
     let last = words.last().expect(&rt, "no token");
     check!(rt; ArcStr::is_static(last.parent()));
 }
@@ -148,9 +148,9 @@ fn tokens_of_a_literal_are_slices_of_the_literal(rt: HostRuntime) {
 #[test]
 fn tokens_keep_their_text(rt: HostRuntime) {
     let text = made(&rt, "foo   bar");
-    let words = tokens(&rt, rt.alloc(), &text).expect(&rt, "refused");
+    let words = &tokens(&rt, rt.alloc(), &text).expect(&rt, "refused");
     drop(text);
-    check_tokens(&rt, &words, &[(0, 3, "foo"), (6, 9, "bar")]);
+    check_tokens(&rt, words, &[(0, 3, "foo"), (6, 9, "bar")]);
     let first = words.first().expect(&rt, "no token");
     check_count(&rt, first.parent(), Some(2));
 }

@@ -44,9 +44,9 @@ fn looked_twice(handle: &Shared<5, Global>) -> (Seen, Seen)
 
 #[test]
 fn two_looks_agree(rt: HostRuntime) {
-    let first = made(&rt, "foobar");
+    let first = &made(&rt, "foobar");
     let second = first.up(&rt);
-    let (seen, again) = looked_twice(&first);
+    let (seen, again) = looked_twice(first);
     let (_, other) = second.look();
     again.a_block_has_one_history(&seen);
     other.a_block_has_one_history(&seen);
@@ -96,9 +96,9 @@ fn owes_beside_lent(handle: Shared<5, Global>, lent: &Shared<5, Global>) -> bool
 fn no_lent_handle_is_on_what_is_owed(rt: HostRuntime) {
     let first = made(&rt, "foobar");
     let second = first.up(&rt);
-    let other = made(&rt, "foo");
+    let other = &made(&rt, "foo");
     check_eq!(rt; owes_beside_lent(first, &second), false);
-    check_eq!(rt; owes_beside_lent(second, &other), true);
+    check_eq!(rt; owes_beside_lent(second, other), true);
     check_eq!(rt; other.look().0, Some(1));
 }
 

@@ -12,7 +12,7 @@ fn a_closure_fills_no_bytes(rt: HostRuntime) {
 /// There may be `usize::MAX` copies of an empty text. They are not made one by one.
 #[test]
 fn copies_of_nothing_are_made_at_once(rt: HostRuntime) {
-    let made = Shared::<5, _>::repeat(rt.alloc(), "", usize::MAX).expect(&rt, "refused");
+    let made = &Shared::<5, _>::repeat(rt.alloc(), "", usize::MAX).expect(&rt, "refused");
     check_eq!(rt; (made.len(), made.look().0), (0, Some(1)));
 }
 
@@ -27,8 +27,8 @@ fn is_refused(heap: &LocalHeap) -> bool {
 
 #[test]
 fn a_refused_fill_gives_its_memory_back(rt: HostRuntime) {
-    let heap = LocalHeap::new(rt.alloc(), 4096).expect(&rt, "refused");
-    check!(rt; is_refused(&heap));
+    let heap = &LocalHeap::new(rt.alloc(), 4096).expect(&rt, "refused");
+    check!(rt; is_refused(heap));
     check_eq!(rt; heap.used(), 0);
 }
 
@@ -52,8 +52,8 @@ const TOO_SMALL: usize = 64;
 
 #[test]
 fn a_text_takes_exactly_its_block(rt: HostRuntime) {
-    let heap = LocalHeap::new(rt.alloc(), BLOCK).expect(&rt, "refused");
-    let made = Shared::<5, _>::from_text(&heap, TEXT).expect(&rt, "refused");
+    let heap = &LocalHeap::new(rt.alloc(), BLOCK).expect(&rt, "refused");
+    let made = Shared::<5, _>::from_text(heap, TEXT).expect(&rt, "refused");
     check_eq!(rt; (made.as_str(), heap.used(), heap.free()), (TEXT, BLOCK, 0));
     drop(made);
     check_eq!(rt; heap.used(), 0);
@@ -61,8 +61,8 @@ fn a_text_takes_exactly_its_block(rt: HostRuntime) {
 
 #[test]
 fn copies_take_exactly_one_block(rt: HostRuntime) {
-    let heap = LocalHeap::new(rt.alloc(), BLOCK).expect(&rt, "refused");
-    let made = Shared::<5, _>::repeat(&heap, "0123456789abcdef", 4).expect(&rt, "refused");
+    let heap = &LocalHeap::new(rt.alloc(), BLOCK).expect(&rt, "refused");
+    let made = Shared::<5, _>::repeat(heap, "0123456789abcdef", 4).expect(&rt, "refused");
     check_eq!(rt; (made.as_str(), heap.used(), heap.free()), (TEXT, BLOCK, 0));
     drop(made);
     check_eq!(rt; heap.used(), 0);
@@ -70,10 +70,10 @@ fn copies_take_exactly_one_block(rt: HostRuntime) {
 
 #[test]
 fn joined_texts_take_exactly_one_block(rt: HostRuntime) {
-    let heap = LocalHeap::new(rt.alloc(), BLOCK).expect(&rt, "refused");
+    let heap = &LocalHeap::new(rt.alloc(), BLOCK).expect(&rt, "refused");
     let parts = ["0123456789abcde", "0123456789abcde", "", "23456789abcdef"];
     check_eq!(rt; joined_len(&parts, "f01"), Some(53));
-    let made = Shared::<5, _>::join(&heap, &parts, "f01", 53).expect(&rt, "refused");
+    let made = Shared::<5, _>::join(heap, &parts, "f01", 53).expect(&rt, "refused");
     let joined = "0123456789abcdef010123456789abcdef01f0123456789abcdef";
     check_eq!(rt; (made.as_str(), heap.used()), (joined, BLOCK));
     drop(made);
@@ -82,9 +82,9 @@ fn joined_texts_take_exactly_one_block(rt: HostRuntime) {
 
 #[test]
 fn a_fill_has_exactly_its_block_before_its_closure(rt: HostRuntime) {
-    let heap = LocalHeap::new(rt.alloc(), BLOCK).expect(&rt, "refused");
+    let heap = &LocalHeap::new(rt.alloc(), BLOCK).expect(&rt, "refused");
     let mut used = 0;
-    let made = Shared::<5, _>::init(&heap, 64, |bytes| {
+    let made = Shared::<5, _>::init(heap, 64, |bytes| {
         used = heap.used();
         bytes.copy_from_slice(TEXT.as_bytes());
     })
@@ -96,22 +96,22 @@ fn a_fill_has_exactly_its_block_before_its_closure(rt: HostRuntime) {
 
 #[test]
 fn a_heap_that_is_too_small_refuses_each_making(rt: HostRuntime) {
-    let heap = LocalHeap::new(rt.alloc(), TOO_SMALL).expect(&rt, "refused");
+    let heap = &LocalHeap::new(rt.alloc(), TOO_SMALL).expect(&rt, "refused");
     check!(rt;
         matches!(
-            Shared::<5, _>::from_text(&heap, TEXT),
+            Shared::<5, _>::from_text(heap, TEXT),
             Err(TextFault::Memory)
         )
     );
     check!(rt;
         matches!(
-            Shared::<5, _>::repeat(&heap, TEXT, 1),
+            Shared::<5, _>::repeat(heap, TEXT, 1),
             Err(TextFault::Memory)
         )
     );
     check!(rt;
         matches!(
-            Shared::<5, _>::join(&heap, &[TEXT], "", 64),
+            Shared::<5, _>::join(heap, &[TEXT], "", 64),
             Err(TextFault::Memory)
         )
     );
@@ -121,9 +121,9 @@ fn a_heap_that_is_too_small_refuses_each_making(rt: HostRuntime) {
 /// An allocation failure is reported before bytes that are not UTF-8: the closure that leaves such bytes does not run.
 #[test]
 fn a_fill_without_memory_does_not_run_its_closure(rt: HostRuntime) {
-    let heap = LocalHeap::new(rt.alloc(), TOO_SMALL).expect(&rt, "refused");
+    let heap = &LocalHeap::new(rt.alloc(), TOO_SMALL).expect(&rt, "refused");
     let mut ran = false;
-    let made = Shared::<5, _>::init(&heap, 64, |bytes| {
+    let made = Shared::<5, _>::init(heap, 64, |bytes| {
         ran = true;
         bytes.fill(255);
     });
@@ -136,7 +136,7 @@ fn is_read_back(alloc: Global, long: &str, len: usize) -> Result<bool, TextFault
     let Some(text) = long.get(..len) else {
         return Ok(false);
     };
-    let made = Shared::<5, _>::from_text(alloc, text)?;
+    let made = &Shared::<5, _>::from_text(alloc, text)?;
     Ok(made.len() == len && made.as_str() == text)
 }
 

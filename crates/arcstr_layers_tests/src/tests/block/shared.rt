@@ -52,7 +52,7 @@ fn crossing<T: Send + Sync>(value: T) -> T {
 
 #[test]
 fn handles_may_cross_threads(rt: HostRuntime) {
-    let text = crossing(made(&rt, "foobar"));
+    let text = &crossing(made(&rt, "foobar"));
     let (fixed, _) = crossing((text.mark(), text.look().1));
     check_eq!(rt; fixed.as_str(), text.as_str());
 }
@@ -108,7 +108,7 @@ fn a_limit_marks_the_block(rt: HostRuntime) {
 
 #[test]
 fn a_clone_of_few_tries_counts_marks_and_gives_up(rt: HostRuntime) {
-    let text = Shared::<1, _>::from_text(rt.alloc(), "aé").expect(&rt, "refused");
+    let text = &Shared::<1, _>::from_text(rt.alloc(), "aé").expect(&rt, "refused");
     check!(rt; text.try_up(0).is_none());
     check_eq!(rt; text.look().0, Some(1));
     let second = text.try_up(1);
@@ -155,13 +155,12 @@ fn look_after_two<const LIMIT: u64, R: Threads + Wait + Sync>(
 ) -> Result<(Option<u64>, bool, bool), TextFault>
     requires { LIMIT ≤ RC_MAX }
 {
-    let first = Shared::<LIMIT, Global>::from_text(alloc, "foobar")?;
-    let arrived = AtomicU64::new(0);
-    let (lent, gate) = (&first, &arrived);
+    let first = &Shared::<LIMIT, Global>::from_text(alloc, "foobar")?;
+    let gate = &AtomicU64::new(0);
     let ((second, met), (third, also_met)) = thread::join(
         rt,
-        || up_together(rt, lent, gate),
-        || up_together(rt, lent, gate),
+        || up_together(rt, first, gate),
+        || up_together(rt, first, gate),
     );
     let read = second.as_str() == "foobar" && third.as_str() == "foobar";
     Ok((first.look().0, read, met && also_met))
@@ -209,7 +208,7 @@ fn faults_of_reading_print_their_texts(rt: HostRuntime) {
 #[test]
 fn what_could_not_be_stored_is_dropped(rt: HostRuntime) {
     let heap = LocalHeap::new(rt.alloc(), 16).expect(&rt, "refused");
-    let text = made(&rt, "foobar");
+    let text = &made(&rt, "foobar");
     let Err(refused) = Box::new(&heap, (text.up(&rt), text.up(&rt))) else {
         panic!(rt; "the heap has room for two handles");
     };
@@ -259,10 +258,9 @@ fn clones<R: Abort + Wait>(
 /// A compare-exchange that fails because of another thread's step is repeated with the count that it found, and does not mark the block.
 #[test]
 fn four_threads_leave_one(rt: HostRuntime) {
-    let text = Shared::from_text(rt.alloc(), "foobar").expect(&rt, "refused");
-    let arrived = AtomicU64::new(0);
-    let (lent, gate, alloc) = (&text, &arrived, rt.alloc());
-    let kept = thread::map_indices(&rt, alloc, 4, &|_| clones(&rt, alloc, lent, gate));
+    let text = &Shared::from_text(rt.alloc(), "foobar").expect(&rt, "refused");
+    let (gate, alloc) = (&AtomicU64::new(0), rt.alloc());
+    let kept = thread::map_indices(&rt, alloc, 4, &|_| clones(&rt, alloc, text, gate));
     let kept = kept.expect(&rt, "no thread");
     check_eq!(rt; text.look().0, Some(400_001));
     drop(kept);

@@ -9,7 +9,7 @@ const NEAR_MAX: usize = usize::MAX - 50;
 
 /// Asserts that a part of a view at `start` has the text, and stands at this offset of the view.
 fn check_part(rt: &impl Abort, part: Option<StrView<'_>>, text: &str, offset: usize, start: usize) {
-    let part = part.expect(rt, "too few parts");
+    let part = &part.expect(rt, "too few parts");
     let place = start.saturating_add(offset);
     check_eq!(rt; part.text(), text);
     check_eq!(rt; part.range(), place..place.saturating_add(text.len()));
@@ -148,7 +148,7 @@ const PATTERNS: [(&str, &str, Option<usize>); 12] = [
 #[test]
 fn finds_as_a_str(rt: HostRuntime) {
     for (text, pattern, wanted) in PATTERNS {
-        let view = view_at(&rt, text, 7);
+        let view = &view_at(&rt, text, 7);
         check_eq!(rt; view.find(pattern), wanted);
         if let Some(character) = pattern.chars().next() {
             check_eq!(rt; view.find(character), text.find(character));

@@ -18,7 +18,7 @@ fn views_end_within_usize(rt: HostRuntime) {
 
 #[test]
 fn trims_of_a_word(rt: HostRuntime) {
-    let word = view_at(&rt, "  a ", 4);
+    let word = &view_at(&rt, "  a ", 4);
     check_view(&rt, word.trim_start(), "a ", 6);
     check_view(&rt, word.trim_end(), "  a", 4);
     check_view(&rt, word.trim(), "a", 6);
@@ -26,7 +26,7 @@ fn trims_of_a_word(rt: HostRuntime) {
 
 #[test]
 fn trims_of_white_space(rt: HostRuntime) {
-    let white = view_at(&rt, "  ", 4);
+    let white = &view_at(&rt, "  ", 4);
     check_view(&rt, white.trim_start(), "", 6);
     check_view(&rt, white.trim_end(), "", 4);
     check_view(&rt, white.trim(), "", 6);
@@ -39,7 +39,7 @@ fn trims_white_space_of_two_bytes(rt: HostRuntime) {
 
 #[test]
 fn cuts_at_boundaries(rt: HostRuntime) {
-    let text = view_at(&rt, "aé", 5);
+    let text = &view_at(&rt, "aé", 5);
     check_view(&rt, text.cut(1..3).expect(&rt, "no part"), "é", 6);
     check!(rt; text.cut(0..2).is_none());
     check!(rt; text.cut(2..1).is_none());
@@ -110,7 +110,7 @@ fn splits_at_the_first_and_the_last_separator(rt: HostRuntime) {
 
 /// Asserts the parts of a text with one separator.
 fn check_split(rt: &impl Abort, text: &str, separator: &str, parts: (&str, &str), place: usize) {
-    let whole = view(rt, text);
+    let whole = &view(rt, text);
     check_both(rt, whole.split_once(separator), parts.0, parts.1, place);
     check_both(rt, whole.rsplit_once(separator), parts.0, parts.1, place);
 }
