@@ -1,7 +1,7 @@
 //! `Interner`: each distinct text once.
 //!
 //! No call here allocates, clones a handle or takes an atomic step unless it says so.
-ghost use Rattle.std.specs.Prelude.{◌≡◌, ◌^◌, ◌<◌, ◌≤◌, ◌↔◌, [], length, IfErr, IfOk, IsTrue};
+ghost use Rattle.std.specs.Prelude.{◌≡◌, ◌^◌, ◌<◌, ◌≤◌, ◌↔◌, [], length, IfErr, IfOk, IsOk, IsTrue};
 ghost use Rattle.std.specs.Iterator.Adapters.{IterYieldsInOrder, IterYieldsInReverse};
 ghost use Rattle.std.specs.Slice.Iter.{iter_rest};
 ghost use Rattle.arcstr.specs.TextView.{TextView};
@@ -83,7 +83,8 @@ impl Interner<BuildHasherDefault<FoldHasher>> {
     /// ```
     pub fn with_capacity(alloc: Global, texts: usize) -> Result<Interner, InternFault>
         ensures empty { IfOk result (λ interner. interner ≡ []) }
-        // Promise: It fails only with `Memory`.
+        // Promise: It fails only with `Memory`, and never for no texts.
+        ensures none { texts ≡ 0 → IsOk result }
         ensures refused { IfErr result (λ fault. fault ≡ InternFault.Memory) }
     {
         let slots = Slots::with_capacity(alloc, texts)?;

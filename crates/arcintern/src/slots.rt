@@ -1,5 +1,5 @@
 //! A table that finds the number of a text by half of the hash of its word.
-ghost use Rattle.std.specs.Prelude.{◌≡◌, ◌+◌, ◌/◌, ◌%◌, ◌<◌, ◌≤◌, ℕ, [], IfNone, IfSome, None, OnOk, Some, bit_xor, vec_len, vec_capacity};
+ghost use Rattle.std.specs.Prelude.{◌≡◌, ◌+◌, ◌/◌, ◌%◌, ◌<◌, ◌≤◌, ℕ, [], IfNone, IfSome, IsOk, None, OnOk, Some, bit_xor, vec_len, vec_capacity};
 ghost use Rattle.arcintern.specs.Slots.{IsPlaced, half_of_word, slot_of};
 
 use std::alloc::{AllocError, Global};
@@ -43,7 +43,9 @@ impl Slots {
     }
 
     /// A table that does not grow for this many slots, which `tools/refusals` checks.
-    pub(crate) fn with_capacity(alloc: Global, slots: usize) -> Result<Slots, AllocError> {
+    pub(crate) fn with_capacity(alloc: Global, slots: usize) -> Result<Slots, AllocError>
+        ensures none { slots ≡ 0 → IsOk result }
+    {
         if slots == 0 {
             return Ok(Slots::new(alloc));
         }

@@ -222,6 +222,25 @@ impl ArcStr {
         }
     }
 
+    /// Returns the handle on the text's counted block, or `None` for a literal or a permanent block. It serves proofs: the handle's `look` returns the count
+    /// with the history of the block so far.
+    ///
+    /// ```
+    /// let text = ArcStr::from_str(rt.alloc(), "foo")?;
+    /// assert!(rt; text.counted().is_some_and(|handle| handle.look().0 == Some(1)));
+    /// assert!(rt; ArcStr::new().counted().is_none());
+    /// ```
+    pub fn counted(&self) -> Option<&Shared<RC_MAX, Global>>
+        ensures text { IfSome result (λ handle. handle.now.text ≡ self.now.text) }
+        // Promise: Exactly a literal or a permanent block has none.
+        ensures none { IsNone result ↔ IsStatic self.now.kind }
+    {
+        match &self.form {
+            Form::Counted(shared) => Some(shared),
+            _ => None,
+        }
+    }
+
     /// Returns `true` if the text is never freed. That is always so for a literal or a permanent block, and takes no atomic step. For another block, one load
     /// of the count word tests the static flag.
     ///

@@ -33,6 +33,8 @@ impl<const LIMIT: u64, A: Allocator + Copy> Shared<LIMIT, A> {
         requires length { len ≡ length (join_by S.text separator.now texts.now) }
         ensures made { IfOk result (λ made. made.text ≡ join_by S.text separator.now texts.now) }
         ensures limit { IfOk result (λ made. made.limit ≡ LIMIT) }
+        // Promise: The handle is the first of its block.
+        ensures first { IfOk result (λ made. made.seat ≡ 0) }
         // Promise: It fails with `Length` exactly if the text is too long, and otherwise only with `Memory`.
         ensures too_long { IsErrOf result TextFault.Length ↔ IsTooLong len }
         ensures refused { IfErr result (IsFaultOfMaking len) }

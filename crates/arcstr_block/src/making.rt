@@ -28,6 +28,8 @@ impl<const LIMIT: u64, A: Allocator + Copy> Shared<LIMIT, A> {
         requires limit { LIMIT ≤ RC_MAX }
         ensures made { IfOk result (λ made. made.text ≡ text.now) }
         ensures limit { IfOk result (λ made. made.limit ≡ LIMIT) }
+        // Promise: The handle is the first of its block.
+        ensures first { IfOk result (λ made. made.seat ≡ 0) }
         // Promise: It fails with `Length` exactly if the text is too long, and otherwise only with `Memory`.
         ensures too_long { IsErrOf result TextFault.Length ↔ IsTooLong (length text.now) }
         ensures refused { IfErr result (IsFaultOfMaking (length text.now)) }
@@ -63,6 +65,8 @@ impl<const LIMIT: u64, A: Allocator + Copy> Shared<LIMIT, A> {
         requires callable { (¬ IsTooLong n) → FnOnceTakesAtMut F.FnOnce fill (replicate n 0) }
         ensures made { IfOk result (λ made. FnOnceReturnsAtMut F.FnOnce fill (replicate n 0) tt made.text) }
         ensures limit { IfOk result (λ made. made.limit ≡ LIMIT) }
+        // Promise: The handle is the first of its block.
+        ensures first { IfOk result (λ made. made.seat ≡ 0) }
         // Promise: The text is UTF-8 and has the length that was asked for.
         ensures as_long { IfOk result (λ made. length made.text ≡ n) }
         ensures text { IfOk result (λ made. IsUtf8 made.text) }
@@ -97,6 +101,8 @@ impl<const LIMIT: u64, A: Allocator + Copy> Shared<LIMIT, A> {
         requires { LIMIT ≤ RC_MAX }
         ensures made { IfOk result (λ made. made.text ≡ repeat n text.now) }
         ensures limit { IfOk result (λ made. made.limit ≡ LIMIT) }
+        // Promise: The handle is the first of its block.
+        ensures first { IfOk result (λ made. made.seat ≡ 0) }
         // Promise: It fails with `Length` exactly if the text is too long, and otherwise only with `Memory`.
         ensures too_long { IsErrOf result TextFault.Length ↔ IsTooLong (n * length text.now) }
         ensures refused { IfErr result (IsFaultOfMaking (n * length text.now)) }

@@ -60,6 +60,7 @@ impl<A: Allocator> Pointer<A> {
         ensures text { result.text ≡ block.text }
         ensures limit { result.limit ≡ limit }
         ensures right { result.right ≡ counted }
+        ensures first { result.seat ≡ 0 }
     {
         let Sole { at, marker } = block;
         Pointer { at, marker }

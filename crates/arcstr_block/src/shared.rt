@@ -68,6 +68,7 @@ impl<const LIMIT: u64, A: Allocator + Copy> Shared<LIMIT, A> {
         requires fits { Fits len }
         ensures text { result.text ≡ block.text }
         ensures limit { result.limit ≡ LIMIT }
+        ensures first { result.seat ≡ 0 }
     {
         let pointer = Pointer::make(block);
         Shared {

@@ -29,6 +29,10 @@ pub record IsWord (text : List ℕ) (start end : ℕ) : Type 0 where
   pub white_before : (start ≡ 0) ⊎ IsLastBefore text start true
   pub white_after : (end ≡ length text) ⊎ IsFirstAfter text end true
 
+-- a word lies in the text
+abbrev pub HasWord : List ℕ → Type 0
+HasWord text = (start : ℕ) × (end : ℕ) × IsWord text start end
+
 -- one pair of byte offsets starts before another
 abbrev pub StartsBefore : ℕ × ℕ → ℕ × ℕ → Type 0
 StartsBefore one other = one.0 < other.0

@@ -1,6 +1,7 @@
 //! The tokens of one shared text.
-ghost use Rattle.std.specs.Prelude.{◌≡◌, IfOk};
+ghost use Rattle.std.specs.Prelude.{◌≡◌, IfOk, IsErr};
 ghost use Rattle.arctokens.specs.Tokens.{AreTokens};
+ghost use Rattle.arctokens.specs.Words.{HasWord};
 
 use crate::words::next_word;
 use arcstr::{ArcStr, Substr};
@@ -20,7 +21,9 @@ use std::sync::Wait;
 /// assert_eq!(rt; words[1].range(), 6..9);
 /// ```
 pub fn tokens<R: Wait>(rt: &R, alloc: Global, text: &ArcStr) -> Result<Vec<Substr>, AllocError>
-    ensures { IfOk result (λ tokens. AreTokens text.now tokens.items) }
+    ensures tokens { IfOk result (λ tokens. AreTokens text.now tokens.items) }
+    // Promise: A text without words is never refused.
+    ensures refused { IsErr result → HasWord text.now.text }
 {
     let whole = text.as_str();
     let mut tokens = Vec::new(alloc);

@@ -89,11 +89,11 @@ fn asking_for_a_mark_leaves_the_count(rt: HostRuntime) {
 
 #[test]
 fn comparing_leaves_the_counts(rt: HostRuntime) {
-    let (one, other) = (made(&rt, "foo"), made(&rt, "bar"));
-    check_dropped(&rt, &one, one != other && other.eq_str("bar"));
-    check_dropped(&rt, &one, one.cmp(&other) == Ordering::Greater);
-    check_dropped(&rt, &one, other.partial_cmp(&one) == Some(Ordering::Less));
-    check_count(&rt, &other, Some(1));
+    let (one, other) = (&made(&rt, "foo"), &made(&rt, "bar"));
+    check_dropped(&rt, one, one != other && other.eq_str("bar"));
+    check_dropped(&rt, one, one.cmp(other) == Ordering::Greater);
+    check_dropped(&rt, one, other.partial_cmp(one) == Some(Ordering::Less));
+    check_count(&rt, other, Some(1));
 }
 
 #[test]
@@ -116,17 +116,10 @@ fn a_json_value_holds_no_text(rt: HostRuntime) {
 }
 
 #[test]
-fn a_borrowed_text_is_counted_once(rt: HostRuntime) {
+fn a_cow_of_a_text_leaves_the_count(rt: HostRuntime) {
     let text = &made(&rt, "foo");
-    let cow = text.to_cow();
-    check_dropped(&rt, text, cow.as_str() == "foo");
-}
-
-#[test]
-fn a_copied_text_gives_its_handle_back(rt: HostRuntime) {
-    let text = &made(&rt, "foo");
-    let cow = text.clone(&rt).into_cow(rt.alloc());
-    check_dropped(&rt, text, cow.is_ok());
+    check_dropped(&rt, text, text.to_cow().as_str() == "foo");
+    check_dropped(&rt, text, text.clone(&rt).into_cow(rt.alloc()).is_ok());
 }
 
 #[test]
@@ -163,23 +156,21 @@ fn bar(rt: &(impl Abort + AllocGlobal + Wait)) -> Substr {
 #[test]
 fn a_slice_of_a_slice_holds_the_parent_once(rt: HostRuntime) {
     let slice = &bar(&rt);
-    check_held_once(&rt, slice.parent(), slice.substr(&rt, 1..2).ok());
-    check_held_once(&rt, slice.parent(), slice.substr_using(&rt, |_| 1..2).ok());
-    check_held_once(
-        &rt,
-        slice.parent(),
-        slice.try_substr_using(&rt, |_| 1..2).ok(),
-    );
+    let parent = slice.parent();
+    check_held_once(&rt, parent, slice.substr(&rt, 1..2).ok());
+    check_held_once(&rt, parent, slice.substr_using(&rt, |_| 1..2).ok());
+    check_held_once(&rt, parent, slice.try_substr_using(&rt, |_| 1..2).ok());
 }
 
 #[test]
 fn a_found_slice_of_a_slice_holds_the_parent_once(rt: HostRuntime) {
     let slice = &bar(&rt);
+    let parent = slice.parent();
     let whole = StrView::whole(slice.as_str());
-    check_held_once(&rt, slice.parent(), slice.try_substr_from(&rt, whole));
+    check_held_once(&rt, parent, slice.try_substr_from(&rt, whole));
     let whole = StrView::whole(slice.as_str());
     check!(rt; whole.is_found_in(slice.as_str()));
-    check_held_once(&rt, slice.parent(), Some(slice.substr_from(&rt, whole)));
+    check_held_once(&rt, parent, Some(slice.substr_from(&rt, whole)));
 }
 
 #[test]
@@ -191,93 +182,73 @@ fn a_clone_of_a_slice_holds_the_parent_once(rt: HostRuntime) {
 #[test]
 fn a_refused_slice_of_a_slice_holds_nothing(rt: HostRuntime) {
     let slice = &bar(&rt);
-    check_dropped(&rt, slice.parent(), slice.substr(&rt, 0..5).is_err());
-    check_dropped(
-        &rt,
-        slice.parent(),
-        slice.substr_using(&rt, |_| 0..9).is_err(),
-    );
+    let parent = slice.parent();
+    check_dropped(&rt, parent, slice.substr(&rt, 0..5).is_err());
+    check_dropped(&rt, parent, slice.substr_using(&rt, |_| 0..9).is_err());
     let view = StrView::at("b", 3).expect(&rt, "no view");
-    check_dropped(
-        &rt,
-        slice.parent(),
-        slice.try_substr_from(&rt, view).is_none(),
-    );
+    check_dropped(&rt, parent, slice.try_substr_from(&rt, view).is_none());
 }
 
 #[test]
 fn the_slice_of_nothing_of_a_slice_holds_no_parent(rt: HostRuntime) {
     let slice = &bar(&rt);
+    let parent = slice.parent();
     let nothing = slice.substr_using(&rt, |_| 2..2).expect(&rt, "no slice");
-    check_dropped(&rt, slice.parent(), nothing.is_empty());
+    check_dropped(&rt, parent, nothing.is_empty());
     let view = StrView::at("", 1).expect(&rt, "no view");
     let nothing = slice.substr_from(&rt, view);
-    check_dropped(&rt, slice.parent(), nothing.is_empty());
+    check_dropped(&rt, parent, nothing.is_empty());
 }
 
 #[test]
 fn reading_and_hashing_a_slice_leave_the_count(rt: HostRuntime) {
     let slice = &bar(&rt);
-    check_dropped(&rt, slice.parent(), slice.as_str() == "bar");
-    check_dropped(&rt, slice.parent(), slice.as_bytes().len() == slice.len());
-    check_dropped(&rt, slice.parent(), !slice.is_empty());
-    check_dropped(&rt, slice.parent(), slice.get(1..) == Some("ar"));
-    check_dropped(&rt, slice.parent(), slice.view().text() == "bar");
-    check_dropped(&rt, slice.parent(), slice.range() == (3..6));
+    let parent = slice.parent();
+    check_dropped(&rt, parent, slice.as_str() == "bar");
+    check_dropped(&rt, parent, slice.as_bytes().len() == slice.len());
+    check_dropped(&rt, parent, !slice.is_empty());
+    check_dropped(&rt, parent, slice.get(1..) == Some("ar"));
+    check_dropped(&rt, parent, slice.view().text() == "bar");
+    check_dropped(&rt, parent, slice.range() == (3..6));
     slice.hash(&mut DefaultHasher::new());
-    check_count(&rt, slice.parent(), Some(1));
+    check_count(&rt, parent, Some(1));
 }
 
 #[test]
 fn comparing_slices_leaves_the_counts(rt: HostRuntime) {
-    let (one, other) = (bar(&rt), bar(&rt));
-    check_dropped(&rt, one.parent(), one == other && other.eq_str("bar"));
-    check_dropped(&rt, one.parent(), one.cmp(&other) == Ordering::Equal);
-    check_dropped(
-        &rt,
-        one.parent(),
-        other.partial_cmp(&one) == Some(Ordering::Equal),
-    );
+    let (one, other) = (&bar(&rt), &bar(&rt));
+    let parent = one.parent();
+    check_dropped(&rt, parent, one == other && other.eq_str("bar"));
+    check_dropped(&rt, parent, one.cmp(other) == Ordering::Equal);
+    check_dropped(&rt, parent, other.partial_cmp(one) == Some(Ordering::Equal));
     check_count(&rt, other.parent(), Some(1));
 }
 
 #[test]
 fn printing_a_slice_leaves_the_count(rt: HostRuntime) {
     let slice = &bar(&rt);
-    check_dropped(&rt, slice.parent(), gave(slice.to_string(rt.alloc())));
-    check_dropped(&rt, slice.parent(), gave(format!(in rt.alloc(); "{slice}")));
-    check_dropped(
-        &rt,
-        slice.parent(),
-        gave(format!(in rt.alloc(); "{slice:>5}")),
-    );
-    check_dropped(
-        &rt,
-        slice.parent(),
-        gave(format!(in rt.alloc(); "{slice:?}")),
-    );
+    let parent = slice.parent();
+    check_dropped(&rt, parent, gave(slice.to_string(rt.alloc())));
+    check_dropped(&rt, parent, gave(format!(in rt.alloc(); "{slice}")));
+    check_dropped(&rt, parent, gave(format!(in rt.alloc(); "{slice:>5}")));
+    check_dropped(&rt, parent, gave(format!(in rt.alloc(); "{slice:?}")));
 }
 
 #[test]
 fn a_json_value_holds_no_parent(rt: HostRuntime) {
     let slice = &bar(&rt);
+    let parent = slice.parent();
     let value = slice.to_json(rt.alloc()).expect(&rt, "no memory");
-    check_count(&rt, slice.parent(), Some(1));
+    check_count(&rt, parent, Some(1));
     let read = Substr::from_json(rt.alloc(), &value).expect(&rt, "no slice");
-    check_count(&rt, slice.parent(), Some(1));
+    check_count(&rt, parent, Some(1));
     check_count(&rt, read.parent(), Some(1));
 }
 
 #[test]
-fn a_borrowed_slice_is_counted_once(rt: HostRuntime) {
+fn a_cow_of_a_slice_leaves_the_count(rt: HostRuntime) {
     let slice = &bar(&rt);
-    let cow = slice.to_cow();
-    check_dropped(&rt, slice.parent(), cow.as_str() == "bar");
-}
-
-#[test]
-fn a_copied_slice_gives_its_handle_back(rt: HostRuntime) {
-    let slice = &bar(&rt);
-    let cow = slice.clone(&rt).into_cow(rt.alloc());
-    check_dropped(&rt, slice.parent(), cow.is_ok());
+    let parent = slice.parent();
+    check_dropped(&rt, parent, slice.to_cow().as_str() == "bar");
+    check_dropped(&rt, parent, slice.clone(&rt).into_cow(rt.alloc()).is_ok());
 }

@@ -94,27 +94,17 @@ fn a_fill_has_exactly_its_block_before_its_closure(rt: HostRuntime) {
     check_eq!(rt; heap.used(), 0);
 }
 
+/// Whether the making was refused with `Memory`.
+fn lacks_memory<T: Drop>(made: Result<T, TextFault>) -> bool {
+    matches!(made, Err(TextFault::Memory))
+}
+
 #[test]
 fn a_heap_that_is_too_small_refuses_each_making(rt: HostRuntime) {
     let heap = &LocalHeap::new(rt.alloc(), TOO_SMALL).expect(&rt, "refused");
-    check!(rt;
-        matches!(
-            Shared::<5, _>::from_text(heap, TEXT),
-            Err(TextFault::Memory)
-        )
-    );
-    check!(rt;
-        matches!(
-            Shared::<5, _>::repeat(heap, TEXT, 1),
-            Err(TextFault::Memory)
-        )
-    );
-    check!(rt;
-        matches!(
-            Shared::<5, _>::join(heap, &[TEXT], "", 64),
-            Err(TextFault::Memory)
-        )
-    );
+    check!(rt; lacks_memory(Shared::<5, _>::from_text(heap, TEXT)));
+    check!(rt; lacks_memory(Shared::<5, _>::repeat(heap, TEXT, 1)));
+    check!(rt; lacks_memory(Shared::<5, _>::join(heap, &[TEXT], "", 64)));
     check_eq!(rt; heap.used(), 0);
 }
 

@@ -1,4 +1,5 @@
 use crate::tests::checks::{check, check_eq};
+use arcstr_range::range::StrRange::Between;
 use arcstr_range::range::{RangeFault, StrRange, checked_ends, inner_ends, is_boundary, slice};
 use std::io;
 
@@ -22,11 +23,7 @@ fn ends_have_the_width_of_usize_and_do_not_wrap(rt: HostRuntime) {
         (StrRange::From(WIDE), WIDE, Ok((WIDE, WIDE))),
         (StrRange::To(10), 10, Ok((0, 10))),
         (StrRange::To(MAX), MAX, Ok((0, MAX))),
-        (
-            StrRange::Between(WIDE + 1, WIDE),
-            WIDE,
-            Err(RangeFault::OutOfOrder),
-        ),
+        (Between(WIDE + 1, WIDE), WIDE, Err(RangeFault::OutOfOrder)),
         (StrRange::To(WIDE), 10, Err(RangeFault::PastEnd)),
         (StrRange::ToInclusive(MAX), 10, Err(RangeFault::PastEnd)),
         (StrRange::ToInclusive(MAX), MAX, Err(RangeFault::PastEnd)),
@@ -96,15 +93,15 @@ fn up_to_a_last_place(rt: HostRuntime) {
 fn a_spent_inclusive_range_is_empty(rt: HostRuntime) {
     let mut range = 1..=1;
     check_eq!(rt; range.next(), Some(1));
-    check_eq!(rt; StrRange::from(range), StrRange::Between(1, 1));
+    check_eq!(rt; StrRange::from(range), Between(1, 1));
     check_eq!(rt; StrRange::from(1..=1), StrRange::Inclusive(1, 1));
 }
 
 #[test]
 fn slices_are_those_of_str(rt: HostRuntime) {
-    check_eq!(rt; slice("aé", StrRange::Between(1, 3)), Some("é"));
-    check_eq!(rt; slice("aé", StrRange::Between(0, 2)), None);
-    check_eq!(rt; slice("aé", StrRange::Between(2, 2)), None);
+    check_eq!(rt; slice("aé", Between(1, 3)), Some("é"));
+    check_eq!(rt; slice("aé", Between(0, 2)), None);
+    check_eq!(rt; slice("aé", Between(2, 2)), None);
     check_eq!(rt; slice("aé", StrRange::ToInclusive(MAX)), None);
 }
 
@@ -119,22 +116,11 @@ fn boundaries_are_between_characters(rt: HostRuntime) {
 
 #[test]
 fn inner_ends_are_measured_in_the_substring(rt: HostRuntime) {
-    check_eq!(rt;
-        inner_ends("foobarbaz", 3..6, StrRange::Between(1, 3)),
-        Ok((4, 6))
-    );
-    check_eq!(rt;
-        inner_ends("foobarbaz", 3..6, StrRange::Between(2, 2)),
-        Ok((5, 5))
-    );
-    check_eq!(rt;
-        inner_ends("foobarbaz", 3..6, StrRange::Between(0, 5)),
-        Err(RangeFault::PastEnd)
-    );
-    check_eq!(rt;
-        inner_ends("foobarbaz", 3..9, StrRange::Between(1, 5)),
-        Ok((4, 8))
-    );
+    check_eq!(rt; inner_ends("foobarbaz", 3..6, Between(1, 3)), Ok((4, 6)));
+    check_eq!(rt; inner_ends("foobarbaz", 3..6, Between(2, 2)), Ok((5, 5)));
+    let past = Err(RangeFault::PastEnd);
+    check_eq!(rt; inner_ends("foobarbaz", 3..6, Between(0, 5)), past);
+    check_eq!(rt; inner_ends("foobarbaz", 3..9, Between(1, 5)), Ok((4, 8)));
 }
 
 #[test]

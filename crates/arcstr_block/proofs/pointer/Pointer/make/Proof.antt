@@ -60,7 +60,8 @@ make_spec 𝓤 𝓛 𝓜 𝓡 wired Y K g d dd met md =
     sets ! (is ! (of_opd ! (get_in ! (fld ! refl (stop !)) (sub ! 0 refl (whole !)))) (ap ptr_val at)) refl (tt, tt) $
     sets ! (of_opd ! (get_in ! (fld ! refl (stop !)) (sub ! 1 refl (whole !)))) refl (tt, tt) $
     sets ! (is ! (agg ! (and_then ! (get ! refl) (and_then ! (get ! refl) (no_more !)))) (ap pointer_val (sym at))) refl (typed p) $
-    use0 𝓛 (raw (fact 𝓤 (counted ≡ counted))) (fact_i 𝓤 (counted ≡ counted) (emp 𝓤) refl) $
+    use0 𝓛 (raw (fact 𝓤 (0 ≡ 0))) (fact_i 𝓤 (0 ≡ 0) (emp 𝓤) refl) $
+    use0 𝓛 (raw (fact 𝓤 (counted ≡ counted))) (fact_i 𝓤 (counted ≡ counted) (emp 𝓤) refl) $ join ! $
     use0 𝓛 (raw (fact 𝓤 (lim ≡ lim))) (fact_i 𝓤 (lim ≡ lim) (emp 𝓤) refl) $ join ! $
     use0 𝓛 (raw (fact 𝓤 (xs ≡ xs))) (fact_i 𝓤 (xs ≡ xs) (emp 𝓤) refl) $ join ! $
     use0 𝓛 (raw (fact 𝓤 (v.home ≡ v.home))) (fact_i 𝓤 (v.home ≡ v.home) (emp 𝓤) refl) $ join ! $ nothing ! $ nothing ! $ fjoin ! $
