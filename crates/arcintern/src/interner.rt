@@ -83,7 +83,7 @@ impl Interner<BuildHasherDefault<FoldHasher>> {
     /// ```
     pub fn with_capacity(alloc: Global, texts: usize) -> Result<Interner, InternFault>
         ensures empty { IfOk result (λ interner. interner ≡ []) }
-        // Promise: It fails only with `Memory`, and never for no texts.
+        // Promise: It fails only with `Memory`, and with room for no texts it never fails.
         ensures none { texts ≡ 0 → IsOk result }
         ensures refused { IfErr result (λ fault. fault ≡ InternFault.Memory) }
     {

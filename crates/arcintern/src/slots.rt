@@ -96,7 +96,7 @@ impl Slots {
         None
     }
 
-    /// Makes room for one more slot. At most half of the places are taken, so a search for an absent word meets two or three slots.
+    /// Makes room for one more slot. At most half of the places are taken, so a search for an absent word passes about two.
     pub(crate) fn make_room(&mut self) -> Result<(), AllocError>
         ensures kept { (slot : ℕ) → 0 < slot → IsPlaced self.old.slots.items self.old.mask slot → IsPlaced self.new.slots.items self.new.mask slot }
         ensures room { OnOk result (vec_len self.new.slots < vec_capacity self.new.slots) }

@@ -128,7 +128,7 @@ impl ArcStr {
     }
 
     /// Makes another handle as `clone` does, with at most this many compare-exchanges, so the call never waits. `None` means that other threads changed the
-    /// count word each time. Nothing has changed then.
+    /// count word each time. Nothing has changed then. The test `a_clone_that_gives_up_leaves_the_count` detects a body that always gives up.
     ///
     /// ```
     /// let text = ArcStr::from_str(rt.alloc(), "foo")?;
