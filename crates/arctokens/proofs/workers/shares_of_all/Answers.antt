@@ -11,11 +11,13 @@ loop-thread-preserved g c =
     let count : ℕ = length c.loop-thread.yielded in
     let grown = length_push c.loop-thread.yielded c.in-Some.thread in
     let number : c.len-worker.result ≡ count = omega (arith, c.len-worker.ensures, c.loop-thread.shares.ok.0, before.shares.one_each) in
-    let share = subst (λ n. IsShare c.args.texts.now c.args.workers n c.share_of.result) number c.share_of.ensures in
+    let passed = g.G.Gate.passed in
+    let gate = c.args.gate.now in
+    let share = subst (λ n. IsShare passed c.args.texts.now c.args.workers n gate c.share_of.result) number c.share_of.ensures in
     record {
       shares =
-          subst (λ n. AreSharesOfFirst c.args.texts.now c.args.workers n c.push_reserved.new.self.items) (sym grown)
-          (AreSharesOfFirst-more c.args.texts.now c.args.workers count c.loop-thread.shares.items c.push_reserved.new.self.items
+          subst (λ n. AreSharesOfFirst passed c.args.texts.now c.args.workers n gate c.push_reserved.new.self.items) (sym grown)
+          (AreSharesOfFirst-more passed c.args.texts.now c.args.workers count gate c.loop-thread.shares.items c.push_reserved.new.self.items
           c.share_of.result before.shares share c.push_reserved.ensures.items);
       room = omega (arith, c.push_reserved.ensures.capacity, before.room);
     }

@@ -8,6 +8,6 @@ invariant-loop-worker g l =
     record {
       one_each : vec_len l.threads ≡ l.worker;
       promised : (k : ℕ) (d : _) → k < l.worker
-          → IfSome (slice_index_or l.threads.items k d) (λ thread. IsPromiseOf l.texts.now l.workers k thread.promise);
+          → IfSome (slice_index_or l.threads.items k d) (λ thread. IsPromiseOf l.texts.now l.workers k l.gate.now thread.promise);
       room : l.workers ≤ vec_capacity l.threads;
     }
