@@ -110,19 +110,16 @@ pub(crate) fn pieces_of_all<R: Threads + Wait + Sync, G: Gate + Sync>(
             let mut threads: Vec<Option<PieceThread<G>>> = Vec::with_capacity(alloc, workers)?;
             let shares: Vec<Share<G>> = Vec::with_capacity(alloc, workers)?;
             let pieces: Vec<Vec<Vec<Substr>>> = Vec::with_capacity(alloc, workers)?;
-            for worker in 0..workers {
-                if worker + 1 < workers {
-                    let started = scope.spawn_with(
-                        PieceOf::new(texts, workers, worker, gate),
-                        move || -> Piece
-                            requires { (worker < workers) × (workers ≤ 64) }
-                        { piece_of(rt, alloc, texts, workers, worker, gate) },
-                    );
-                    threads.push_reserved(started.ok());
-                } else {
-                    threads.push_reserved(None);
-                }
+            for worker in 0..workers - 1 {
+                let started = scope.spawn_with(
+                    PieceOf::new(texts, workers, worker, gate),
+                    move || -> Piece
+                        requires { (worker < workers) × (workers ≤ 64) }
+                    { piece_of(rt, alloc, texts, workers, worker, gate) },
+                );
+                threads.push_reserved(started.ok());
             }
+            threads.push_reserved(None);
             let shares = shares_of_all(rt, alloc, texts, workers, gate, threads, shares);
             pieces_of_shares(rt, texts, workers, gate, shares, pieces)
         },

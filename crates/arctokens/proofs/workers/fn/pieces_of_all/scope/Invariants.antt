@@ -1,4 +1,4 @@
--- So far, the code tried to start each worker's thread, each started thread promises its worker's piece, and there is capacity for the rest.
+-- So far, the code tried to start each worker's thread, each started thread has the promise of its worker, and there is capacity for the rest.
 use Rattle.std.proofs.Common.{◌≡◌, ◌<◌, ◌≤◌, ℕ, IfSome, vec_len, vec_capacity, slice_index_or}
 use Rattle.arctokens.specs.Shares.{IsPromiseOf}
 use Rattle.arctokens.proofs.workers.fn.pieces_of_all.scope.Given as goal
