@@ -19,6 +19,7 @@ IsShare passed texts workers worker gate (Thread thread) = IsPromiseOf texts wor
 IsShare passed texts workers worker gate (Own piece) = IsPieceOf texts workers worker piece × passed gate worker
 
 -- the shares of the first `count` workers, in the order of their numbers
-pub record AreSharesOfFirst {G : Type 0} (passed : G → ℕ → Type 0) (texts : List TextView) (workers count : ℕ) (gate : G) (shares : List (Share G)) : Type 0 where
+pub record AreSharesOfFirst {G : Type 0} (passed : G → ℕ → Type 0) (texts : List TextView) (workers count : ℕ) (gate : G)
+    (shares : List (Share G)) : Type 0 where
   pub one_each : length shares ≡ count
   pub share : (worker : ℕ) (d : Share G) → worker < count → IsShare passed texts workers worker gate (slice_index_or shares worker d)

@@ -12,9 +12,8 @@ use std::sync::Wait;
 use std::thread;
 use std::thread::{Promise, PromisedHandle, Threads};
 
-/// A gate that each worker passes once, before its first text.
-///
-/// The contract of `tokens_all_with` says that each worker passes. Tests check that it passes only once, and before its first text.
+/// A gate that each worker passes once, before its first text. The contract of `tokens_all_with` says that each worker passes. Tests check that it passes
+/// only once, and before its first text.
 ///
 /// ```
 /// struct Open;
