@@ -1,7 +1,7 @@
 -- The pieces of the workers: which texts belong to a worker, how its piece grows by one text, and how the lists of all pieces are put into the order of the
 -- texts.
 use Rattle.std.proofs.Common.{◌≡◌, ◌⊎◌, inl, inr, ℕ, ◌+◌, ◌*◌, ◌/◌, ◌%◌, ◌<◌, ◌≤◌, sym, ap, ◌∙◌, arith, List, [], ◌∷◌, ◌++◌, length, get_or, refl, subst, ◌≢◌}
-use Rattle.std.proofs.Common.{set, take}
+use Rattle.std.proofs.Common.{set, take, ⊎_elim}
 use Rattle.std.proofs.Math.Nat.{mul-le-mul_right, add-div_right, add-mod_right, mod-eq_of_lt, div-eq_of_lt}
 use Rattle.std.proofs.lemmas.Bool.{cases_order, cases_lt, cases_eq}
 use Rattle.std.proofs.lemmas.List.{get_or_append_left, get_or_push, length_push, length-set, get_or-set_same, get_or-set_other, take_more}
@@ -10,10 +10,8 @@ use Rattle.std.proofs.lemmas.Slice.Zip.{all_zipped_more}
 use Rattle.std.specs.Prelude.{Vec}
 use Rattle.std.specs.declared.alloc.Global.{Global}
 use Rattle.arcstr.specs.TextView.{TextView, literal_of}
-use Rattle.arctokens.specs.Pieces.{HasTokensOf, IsPiece, ArePiecesOfFirst, ArePieces}
-use Rattle.arctokens.specs.Shares.{IsShare, AreSharesOfFirst}
+use Rattle.arctokens.specs.Pieces.{HasTokensOf, IsPiece, ArePieces}
 use Rattle.arctokens.specs.Tokens.{AreTokens, TokenList, AreTokensOfEach}
-use Rattle.arctokens.specs.declared.workers.Share.{Share}
 
 -- ---- which texts belong to a worker: one in each row
 
@@ -117,46 +115,16 @@ pub IsPiece-before : (texts : List TextView) (workers worker number : ℕ) (list
     → length texts ≤ number → IsPiece texts workers worker lists
 IsPiece-before texts workers worker number lists piece all other within turn = piece.before other (omega arith) turn
 
--- the piece of one more worker
-pub ArePiecesOfFirst-more : (texts : List TextView) (workers count : ℕ) (pieces pushed : List (Vec TokenList Global)) (piece : Vec TokenList Global)
-    → ArePiecesOfFirst texts workers count pieces → IsPiece texts workers count piece.items → pushed ≡ pieces ++ piece ∷ []
-    → ArePiecesOfFirst texts workers (count + 1) pushed
-ArePiecesOfFirst-more texts workers count pieces pushed piece are next grown =
-    subst (ArePiecesOfFirst texts workers (count + 1)) (sym grown) (record {
-      one_each = omega (arith, length_push pieces piece, are.one_each);
-      piece = λ worker d below. by_place worker d (cases_lt worker count) below;
-    })
+-- what holds of each of the first `count` elements, and of the next one, holds of all of them
+pub one_more : {X : Type 0} (Holds : ℕ → X → Type 0) (count : ℕ) (xs : List X) (x : X) → length xs ≡ count
+    → ((k : ℕ) (d : X) → k < count → Holds k (get_or xs k d)) → Holds count x → (k : ℕ) (d : X) → k < count + 1 → Holds k (get_or (xs ++ x ∷ []) k d)
+one_more Holds count xs x as_many before next k d below =
+    ⊎_elim (λ early. subst (Holds k) (sym (get_or_append_left xs (x ∷ []) d k (omega (arith, as_many)))) (before k d early)) late (cases_lt k count)
   where
-    by_place : (worker : ℕ) (d : Vec TokenList Global) → (worker < count) ⊎ (count ≤ worker) → worker < count + 1
-        → IsPiece texts workers worker (get_or (pieces ++ piece ∷ []) worker d).items
-    by_place worker d (inl early) below =
-        let within : worker < length pieces = omega (arith, are.one_each) in
-        subst (λ (v : Vec TokenList Global). IsPiece texts workers worker v.items) (sym (get_or_append_left pieces (piece ∷ []) d worker within))
-        (are.piece worker d early)
-    by_place worker d (inr late) below =
-        let here : worker ≡ count = omega arith in
-        subst (λ (v : Vec TokenList Global). IsPiece texts workers worker v.items) (sym (get_or_push pieces piece d worker (are.one_each ∙ sym here)))
-        (subst (λ n. IsPiece texts workers n piece.items) (sym here) next)
-
--- the share of one more worker
-pub AreSharesOfFirst-more : (texts : List TextView) (workers count : ℕ) (shares pushed : List Share) (share : Share)
-    → AreSharesOfFirst texts workers count shares → IsShare texts workers count share → pushed ≡ shares ++ share ∷ []
-    → AreSharesOfFirst texts workers (count + 1) pushed
-AreSharesOfFirst-more texts workers count shares pushed share are next grown =
-    subst (AreSharesOfFirst texts workers (count + 1)) (sym grown) (record {
-      one_each = omega (arith, length_push shares share, are.one_each);
-      share = λ worker d below. by_place worker d (cases_lt worker count) below;
-    })
-  where
-    by_place : (worker : ℕ) (d : Share) → (worker < count) ⊎ (count ≤ worker) → worker < count + 1
-        → IsShare texts workers worker (get_or (shares ++ share ∷ []) worker d)
-    by_place worker d (inl early) below =
-        let within : worker < length shares = omega (arith, are.one_each) in
-        subst (λ (s : Share). IsShare texts workers worker s) (sym (get_or_append_left shares (share ∷ []) d worker within)) (are.share worker d early)
-    by_place worker d (inr late) below =
-        let here : worker ≡ count = omega arith in
-        subst (λ (s : Share). IsShare texts workers worker s) (sym (get_or_push shares share d worker (are.one_each ∙ sym here)))
-        (subst (λ n. IsShare texts workers n share) (sym here) next)
+    late : count ≤ k → Holds k (get_or (xs ++ x ∷ []) k d)
+    late here =
+        let same : count ≡ k = omega arith in
+        subst (Holds k) (sym (get_or_push xs x d k (as_many ∙ same))) (subst (λ n. Holds n x) same next)
 
 -- ---- the lists of all pieces, in the order of the texts
 

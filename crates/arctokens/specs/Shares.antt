@@ -6,18 +6,20 @@ use Rattle.arctokens.specs.declared.workers.PieceOf.{PieceOf}
 use Rattle.arctokens.specs.declared.workers.Share.{Share}
 use Rattle.arctokens.specs.declared.workers.Share.TheVariants.{Thread, Own}
 
--- the promise is for the worker's piece
-pub record IsPromiseOf (texts : List TextView) (workers worker : ℕ) (promise : PieceOf) : Type 0 where
+-- the promise is that the worker passes the gate and returns its piece
+pub record IsPromiseOf {G : Type 0} (texts : List TextView) (workers worker : ℕ) (gate : G) (promise : PieceOf G) : Type 0 where
   pub same_texts : promise.texts.now ≡ texts
   pub same_workers : promise.workers ≡ workers
   pub same_worker : promise.worker ≡ worker
+  pub same_gate : promise.gate.now ≡ gate
 
--- the share belongs to the worker: it is a thread that promises the worker's piece, or the piece itself
-abbrev pub IsShare : List TextView → ℕ → ℕ → Share → Type 0
-IsShare texts workers worker (Thread thread) = IsPromiseOf texts workers worker thread.promise
-IsShare texts workers worker (Own piece) = IsPieceOf texts workers worker piece
+-- the share belongs to the worker: it is a thread with the worker's promise, or the worker has passed the gate and the share is its piece
+abbrev pub IsShare : {G : Type 0} → (G → ℕ → Type 0) → List TextView → ℕ → ℕ → G → Share G → Type 0
+IsShare passed texts workers worker gate (Thread thread) = IsPromiseOf texts workers worker gate thread.promise
+IsShare passed texts workers worker gate (Own piece) = IsPieceOf texts workers worker piece × passed gate worker
 
 -- the shares of the first `count` workers, in the order of their numbers
-pub record AreSharesOfFirst (texts : List TextView) (workers count : ℕ) (shares : List Share) : Type 0 where
+pub record AreSharesOfFirst {G : Type 0} (passed : G → ℕ → Type 0) (texts : List TextView) (workers count : ℕ) (gate : G)
+    (shares : List (Share G)) : Type 0 where
   pub one_each : length shares ≡ count
-  pub share : (worker : ℕ) (d : Share) → worker < count → IsShare texts workers worker (slice_index_or shares worker d)
+  pub share : (worker : ℕ) (d : Share G) → worker < count → IsShare passed texts workers worker gate (slice_index_or shares worker d)

@@ -1,5 +1,5 @@
 //! The tokens of many texts, found by 1 to 64 workers.
-ghost use Rattle.std.specs.Prelude.{◌≤◌, IfOk};
+ghost use Rattle.std.specs.Prelude.{ℕ, ◌<◌, ◌≤◌, IfOk, OnOk};
 ghost use Rattle.arctokens.specs.Pieces.{ArePieces};
 ghost use Rattle.arctokens.specs.Tokens.{AreTokensOfEach};
 
@@ -50,7 +50,7 @@ pub fn tokens_all<R: Threads + Wait + Sync>(
 /// cannot be started is not an error.
 ///
 /// After an error, every started thread has been joined, and no slice is left. Tests check what the contract does not say: that the threads run at once, that
-/// each passes the gate once, and that a call succeeds if memory is available.
+/// a worker passes the gate only once, and before its first text, and that a call succeeds if memory is available.
 ///
 /// ```
 /// struct Open;
@@ -67,7 +67,9 @@ pub fn tokens_all_with<R: Threads + Wait + Sync, G: Gate + Sync>(
     gate: &G,
 ) -> Result<Vec<Vec<Substr>>, AllocError>
     requires { (1 ≤ workers) × (workers ≤ 64) }
-    ensures { IfOk result (λ lists. AreTokensOfEach texts.now lists.items) }
+    ensures tokens { IfOk result (λ lists. AreTokensOfEach texts.now lists.items) }
+    // Promise: Each worker passes the gate with its number.
+    ensures all_passed { OnOk result ((worker : ℕ) → worker < workers → G.passed gate.now worker) }
 {
     let pieces = pieces_of_all(rt, alloc, texts, workers, gate)?;
     in_order_of_texts(alloc, texts, workers, pieces)

@@ -1,5 +1,5 @@
 //! Workers that find the tokens of many texts: the calling thread, and each other in a thread of its own.
-ghost use Rattle.std.specs.Prelude.{◌≡◌, ◌≤◌, ◌<◌, ℕ, List, length, IfOk, IfSome, vec_len, vec_capacity, slice_index_or};
+ghost use Rattle.std.specs.Prelude.{◌≡◌, ◌≤◌, ◌<◌, ℕ, List, length, IfOk, OnOk, IfSome, vec_len, vec_capacity, slice_index_or};
 ghost use Rattle.arcstr.specs.TextView.{TextView};
 ghost use Rattle.arctokens.specs.Pieces.{ArePieces, IsPieceOf};
 ghost use Rattle.arctokens.specs.Tokens.{AreTokens};
@@ -12,7 +12,8 @@ use std::sync::Wait;
 use std::thread;
 use std::thread::{Promise, PromisedHandle, Threads};
 
-/// A gate that each worker passes once, before its first text.
+/// A gate that each worker passes once, before its first text. The contract of `tokens_all_with` says that each worker passes. Tests check that it passes
+/// only once, and before its first text.
 ///
 /// ```
 /// struct Open;
@@ -22,52 +23,60 @@ use std::thread::{Promise, PromisedHandle, Threads};
 /// tokens_all_with(&rt, rt.alloc(), &[literal!("a b")], 2, &Open)?;
 /// ```
 pub trait Gate {
+    /// What is known once the worker with this number has passed; by default nothing.
+    ghost passed: { Self → ℕ → Type 0 } = { λ _ _. Unit {0} };
+
     /// Called once for each worker, with its number, even if the worker has no text.
-    fn pass(&self, worker: usize);
+    fn pass(&self, worker: usize)
+        ensures { passed self.now worker };
 }
 
 /// The lists of one worker's texts, or an allocation failure.
 type Piece = Result<Vec<Vec<Substr>>, AllocError>;
 
-/// Promises one worker's piece when there are `workers` of them.
-#[derive(Clone, Copy)]
-struct PieceOf<'a> {
+/// Promises that one worker passes the gate, and its piece when there are `workers` of them.
+#[derive(Drop)]
+struct PieceOf<'a, G: Gate> {
     texts: &'a [ArcStr],
     workers: usize,
     worker: usize,
+    gate: &'a G,
 }
 
-impl<'a> PieceOf<'a> {
-    fn new(texts: &'a [ArcStr], workers: usize, worker: usize) -> PieceOf<'a>
-        ensures { IsPromiseOf texts.now workers worker result }
+impl<'a, G: Gate> PieceOf<'a, G> {
+    fn new(texts: &'a [ArcStr], workers: usize, worker: usize, gate: &'a G) -> PieceOf<'a, G>
+        ensures { IsPromiseOf texts.now workers worker gate.now result }
     {
         PieceOf {
             texts,
             workers,
             worker,
+            gate,
         }
     }
 }
 
-impl<'a> Promise<Piece> for PieceOf<'a> {
-    ghost kept_by = { λ promise piece. IsPieceOf promise.texts.now promise.workers promise.worker piece };
+impl<'a, G: Gate> Promise<Piece> for PieceOf<'a, G> {
+    ghost kept_by = { λ promise piece.
+        IsPieceOf promise.texts.now promise.workers promise.worker piece × G.passed promise.gate.now promise.worker };
 }
 
-type PieceThread<'a> = PromisedHandle<Piece, PieceOf<'a>>;
+type PieceThread<'a, G> = PromisedHandle<Piece, PieceOf<'a, G>>;
 
 /// Where a worker's piece comes from.
 #[derive(Drop)]
-enum Share<'a> {
+enum Share<'a, G: Gate> {
     /// A thread that is not yet joined.
-    Thread(PieceThread<'a>),
+    Thread(PieceThread<'a, G>),
     /// A piece from the calling thread: its own, or that of a worker whose thread could not be started.
     Own(Piece),
 }
 
-impl<'a> Share<'a> {
+impl<'a, G: Gate> Share<'a, G> {
     /// Returns the piece, after joining the thread that finds it.
     fn into_piece<R: Threads>(self, rt: &R) -> Piece
-        ensures { (texts : List TextView) (workers worker : ℕ) → IsShare texts workers worker self.entry → IsPieceOf texts workers worker result }
+        ensures { (texts : List TextView) (workers worker : ℕ) (gate : _) → IsShare G.passed texts workers worker gate self.entry
+            → IsPieceOf texts workers worker result × G.passed gate worker }
     {
         match self {
             Share::Thread(thread) => thread.join(rt),
@@ -86,33 +95,32 @@ pub(crate) fn pieces_of_all<R: Threads + Wait + Sync, G: Gate + Sync>(
     gate: &G,
 ) -> Result<Vec<Vec<Vec<Substr>>>, AllocError>
     requires { (1 ≤ workers) × (workers ≤ 64) }
-    ensures { IfOk result (λ pieces. ArePieces texts.now workers pieces.items) }
+    ensures pieces { IfOk result (λ pieces. ArePieces texts.now workers pieces.items) }
+    ensures all_passed { OnOk result ((worker : ℕ) → worker < workers → G.passed gate.now worker) }
 {
     thread::scope(
         thread::scope_env(),
         rt,
         |scope| -> Result<Vec<Vec<Vec<Substr>>>, AllocError>
             requires { (1 ≤ workers) × (workers ≤ 64) }
-            ensures { IfOk result (λ pieces. ArePieces texts.entry.now workers pieces.items) }
+            ensures pieces { IfOk result (λ pieces. ArePieces texts.entry.now workers pieces.items) }
+            ensures all_passed { OnOk result ((worker : ℕ) → worker < workers → G.passed gate.entry.now worker) }
         {
-            let mut threads: Vec<Option<PieceThread>> = Vec::with_capacity(alloc, workers)?;
-            let shares: Vec<Share> = Vec::with_capacity(alloc, workers)?;
+            let mut threads: Vec<Option<PieceThread<G>>> = Vec::with_capacity(alloc, workers)?;
+            let shares: Vec<Share<G>> = Vec::with_capacity(alloc, workers)?;
             let pieces: Vec<Vec<Vec<Substr>>> = Vec::with_capacity(alloc, workers)?;
-            for worker in 0..workers {
-                if worker + 1 < workers {
-                    let started = scope.spawn_with(
-                        PieceOf::new(texts, workers, worker),
-                        move || -> Piece
-                            requires { (worker < workers) × (workers ≤ 64) }
-                        { piece_of(rt, alloc, texts, workers, worker, gate) },
-                    );
-                    threads.push_reserved(started.ok());
-                } else {
-                    threads.push_reserved(None);
-                }
+            for worker in 0..workers - 1 {
+                let started = scope.spawn_with(
+                    PieceOf::new(texts, workers, worker, gate),
+                    move || -> Piece
+                        requires { (worker < workers) × (workers ≤ 64) }
+                    { piece_of(rt, alloc, texts, workers, worker, gate) },
+                );
+                threads.push_reserved(started.ok());
             }
+            threads.push_reserved(None);
             let shares = shares_of_all(rt, alloc, texts, workers, gate, threads, shares);
-            pieces_of_shares(rt, texts, workers, shares, pieces)
+            pieces_of_shares(rt, texts, workers, gate, shares, pieces)
         },
     )
 }
@@ -124,16 +132,16 @@ fn shares_of_all<'a, R: Wait, G: Gate>(
     texts: &[ArcStr],
     workers: usize,
     gate: &G,
-    threads: Vec<Option<PieceThread<'a>>>,
-    mut shares: Vec<Share<'a>>,
-) -> Vec<Share<'a>>
+    threads: Vec<Option<PieceThread<'a, G>>>,
+    mut shares: Vec<Share<'a, G>>,
+) -> Vec<Share<'a, G>>
     requires workers { workers ≤ 64 }
     requires one_each { vec_len threads ≡ workers }
     requires promised { (worker : ℕ) (d : _) → worker < workers
-        → IfSome (slice_index_or threads.items worker d) (λ thread. IsPromiseOf texts.now workers worker thread.promise) }
+        → IfSome (slice_index_or threads.items worker d) (λ thread. IsPromiseOf texts.now workers worker gate.now thread.promise) }
     requires empty { vec_len shares ≡ 0 }
     requires room { workers ≤ vec_capacity shares }
-    ensures { AreSharesOfFirst texts.now workers workers result.items }
+    ensures { AreSharesOfFirst G.passed texts.now workers workers gate.now result.items }
 {
     for thread in threads {
         let worker = shares.len();
@@ -150,12 +158,12 @@ fn share_of<'a, R: Wait, G: Gate>(
     workers: usize,
     worker: usize,
     gate: &G,
-    thread: Option<PieceThread<'a>>,
-) -> Share<'a>
+    thread: Option<PieceThread<'a, G>>,
+) -> Share<'a, G>
     requires worker { worker < workers }
     requires workers { workers ≤ 64 }
-    requires promised { IfSome thread (λ thread. IsPromiseOf texts.now workers worker thread.promise) }
-    ensures { IsShare texts.now workers worker result }
+    requires promised { IfSome thread (λ thread. IsPromiseOf texts.now workers worker gate.now thread.promise) }
+    ensures { IsShare G.passed texts.now workers worker gate.now result }
 {
     match thread {
         Some(thread) => Share::Thread(thread),
@@ -174,7 +182,8 @@ fn piece_of<R: Wait, G: Gate>(
 ) -> Piece
     requires worker { worker < workers }
     requires workers { workers ≤ 64 }
-    ensures { IsPieceOf texts.now workers worker result }
+    ensures piece { IsPieceOf texts.now workers worker result }
+    ensures passed { G.passed gate.now worker }
 {
     gate.pass(worker);
     let mut lists = Vec::new(alloc);
@@ -200,17 +209,19 @@ fn tokens_of_one<R: Wait>(
 }
 
 /// Returns the pieces of all shares. Joins every thread first, and then returns an error if an allocation of any worker failed.
-fn pieces_of_shares<'a, R: Threads>(
+fn pieces_of_shares<'a, R: Threads, G: Gate>(
     rt: &R,
     texts: &[ArcStr],
     workers: usize,
-    shares: Vec<Share<'a>>,
+    gate: &G,
+    shares: Vec<Share<'a, G>>,
     mut pieces: Vec<Vec<Vec<Substr>>>,
 ) -> Result<Vec<Vec<Vec<Substr>>>, AllocError>
-    requires shares { AreSharesOfFirst texts.now workers workers shares.items }
+    requires shares { AreSharesOfFirst G.passed texts.now workers workers gate.now shares.items }
     requires empty { vec_len pieces ≡ 0 }
     requires room { workers ≤ vec_capacity pieces }
-    ensures { IfOk result (λ pieces. ArePieces texts.now workers pieces.items) }
+    ensures pieces { IfOk result (λ pieces. ArePieces texts.now workers pieces.items) }
+    ensures all_passed { OnOk result ((worker : ℕ) → worker < workers → G.passed gate.now worker) }
 {
     for share in shares {
         if let Ok(lists) = share.into_piece(rt) {

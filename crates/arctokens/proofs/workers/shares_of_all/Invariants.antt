@@ -6,6 +6,6 @@ use Rattle.arctokens.proofs.workers.shares_of_all.Given as goal
 abbrev pub invariant-loop-thread : goal.invariant-loop-thread
 invariant-loop-thread g l =
     record {
-      shares : AreSharesOfFirst l.texts l.workers (length l.yielded) l.shares.items;
+      shares : AreSharesOfFirst g.G.Gate.passed l.texts l.workers (length l.yielded) l.gate l.shares.items;
       room : l.workers ≤ vec_capacity l.shares;
     }
