@@ -1,5 +1,6 @@
 """Reads the crates' sources, for the checks: the list of crates, the files of each, and the functions in a file with their contracts."""
 import re
+import shutil
 from dataclasses import dataclass, field
 from functools import cache
 from pathlib import Path
@@ -73,6 +74,29 @@ def uses_of(crate):
 def libraries():
     """The libraries of crates.txt, lowest first, with what each uses. A crate of tests is none."""
     return {crate: uses_of(crate) for crate in listed_crates() if is_library(crate) and not crate.endswith(TESTS)}
+
+
+@cache
+def below(crate):
+    """The libraries of the repository that a crate uses, and those that they use."""
+    own = {*uses_of(crate)} & {*libraries()}
+    return sorted(own.union(*map(below, own)))
+
+
+def write_repository(folder, crate, uses, files):
+    """Writes a repository that has these libraries and those below them, and a crate that uses them, with these files of sources."""
+    own = [name for name in libraries() if name in {*uses}.union(*map(below, {*uses} & {*libraries()}))]
+    lines = [f"{name}: {' '.join(libraries()[name])}\n" for name in own]
+    for name in [*own, crate]:
+        for part in ("src", "specs", "proofs"):
+            shutil.rmtree(folder / "crates" / name / part, ignore_errors=True)
+            if (CRATES / name / part).is_dir():
+                shutil.copytree(CRATES / name / part, folder / "crates" / name / part)
+    (folder / "crates" / crate / "src").mkdir(parents=True)
+    (folder / "crates.txt").write_text("".join([*lines, f"{crate} tests_may=Threads+Wait: {' '.join({*uses, *own})}\n"]))
+    shutil.copy(ROOT / "HANDLES", folder)
+    for name, text in files.items():
+        (folder / "crates" / crate / "src" / name).write_text(text)
 
 
 def with_test_crates(crate):

@@ -76,9 +76,8 @@ impl From<InputFault> for Fault {
     }
 }
 
-/// Runs the program, and returns its status: 0 if it is done, 1 for arguments that mean no command, 2 for a
-/// limit that is too large, 3 for out of memory, 4 for a fault of reading or writing, 5 if a thread could
-/// not be started, 6 if the input of `tokens` is not UTF-8.
+/// Runs the program, and returns its status: 0 if it is done, 1 for arguments that mean no command, 2 for a limit that is too large, 3 for out of memory, 4 for
+/// a fault of reading or writing, 5 if a thread could not be started, 6 if the input of `tokens` is not UTF-8.
 ///
 /// A status above 0 has a line, which goes to `errors`; a fault in writing it does not change the status.
 /// `rt` permits it to start threads and to wait, and provides the machine's allocator for the texts of threads.
@@ -149,8 +148,7 @@ where
     status_after(errors, done)
 }
 
-/// Returns the status if the program's own arguments could not be read: out of memory, or an argument that is not a
-/// text, which counts as no command.
+/// Returns the status if the program's own arguments could not be read: out of memory, or an argument that is not a text, which counts as no command.
 ///
 /// ```
 /// use std::io::{self, ErrorKind};
@@ -198,8 +196,7 @@ fn worker_count(argument: &[u8]) -> Option<usize>
     }
 }
 
-/// Writes the lines of callers once all lines are there. If there are no callers, returns the fault of the
-/// pool.
+/// Writes the lines of callers once all lines are there. If there are no callers, returns the fault of the pool.
 pub(crate) fn tell_threads<W: Write>(
     alloc: Global,
     handles: Result<Vec<ArcStr>, PoolFault>,
@@ -226,8 +223,7 @@ pub(crate) fn tell_threads<W: Write>(
     }
 }
 
-/// Reads the input to its end, and writes the lines of its words once all lines are there. `rt` provides
-/// the machine's allocator for the texts and their words.
+/// Reads the input to its end, and writes the lines of its words once all lines are there. `rt` provides the machine's allocator for the texts and their words.
 fn tell_tokens<H, A: Allocator + Copy, R: Read, W: Write>(
     rt: &H,
     alloc: A,

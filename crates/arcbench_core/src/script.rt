@@ -101,9 +101,8 @@ impl From<InputFault> for CopyFault {
 
 /// Reads a script to its end and writes its answer.
 ///
-/// Errors, in this order: while reading, `Io` or `Memory`, whichever comes first; then the faults of
-/// `answer`; while writing, `Io`. All allocations come before the first write, so only a fault of writing
-/// can leave a part of the answer written.
+/// Errors, in this order: while reading, `Io` or `Memory`, whichever comes first; then the faults of `answer`; while writing, `Io`. All allocations come before
+/// the first write, so only a fault of writing can leave a part of the answer written.
 ///
 /// The test `writes_the_answer_to_a_script` catches a body that always answers `Memory`.
 ///

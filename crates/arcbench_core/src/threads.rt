@@ -17,8 +17,7 @@ impl Gate for OpenGate {
     fn pass(&self, _worker: usize) {}
 }
 
-/// Starts callers of one text, and returns their handles. The test `two_workers_print_their_texts` catches a
-/// body that always refuses.
+/// Starts callers of one text, and returns their handles. The test `two_workers_print_their_texts` catches a body that always refuses.
 ///
 /// ```
 /// let handles = threads::start(&rt, rt.alloc(), 2)?;

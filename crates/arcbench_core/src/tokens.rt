@@ -37,9 +37,8 @@ impl From<AllocError> for TokensFault {
     }
 }
 
-/// Returns the lines for the words of an input. Each line of the input, cut at newlines, is a text. Each word of
-/// a text is a line `I A..B TEXT`, with the number of the text from 0, the byte offsets of the word, and its
-/// bytes. `workers` workers find the words.
+/// Returns the lines for the words of an input. Each line of the input, cut at newlines, is a text. Each word of a text is a line `I A..B TEXT`, with the
+/// number of the text from 0, the byte offsets of the word, and its bytes. `workers` workers find the words.
 ///
 /// The call first checks that the input is UTF-8. A line that is too long for a text counts as out of memory.
 ///

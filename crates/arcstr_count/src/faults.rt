@@ -100,8 +100,7 @@ pub enum RunFault {
 }
 
 impl RunFault {
-    /// Returns the number of the fault, counted from 1, for callers that pass faults on as numbers. In this
-    /// repository only tests read it.
+    /// Returns the number of the fault, counted from 1, for callers that pass faults on as numbers. In this repository only tests read it.
     ///
     /// ```
     /// assert_eq!(rt; RunFault::LimitTooLarge.number(), 1);

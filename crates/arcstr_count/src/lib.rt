@@ -1,8 +1,7 @@
 //! Reference counts as histories: what steps on counted blocks mean, and the world that answers them.
 //!
-//! Handles are numbered in order of birth, blocks in order of making. `specs/` defines what a history of steps
-//! means, in terms of handles and sets of handles. `World` answers one step at a time by that definition,
-//! and `run` answers a whole list. In the examples, `count` is this crate.
+//! Handles are numbered in order of birth, blocks in order of making. `specs/` defines what a history of steps means, in terms of handles and sets of handles.
+//! `World` answers one step at a time by that definition, and `run` answers a whole list. In the examples, `count` is this crate.
 #![tactic(auto)]
 
 pub use faults::{RunFault, StepFault};

@@ -12,8 +12,7 @@ use crate::words::RC_MAX;
 use crate::worlds::World;
 use std::alloc::Allocator;
 
-/// Returns the reply to each step of a list, starting from the empty history. The limit is the greatest count,
-/// in handles, at which a clone still counts.
+/// Returns the reply to each step of a list, starting from the empty history. The limit is the greatest count, in handles, at which a clone still counts.
 ///
 /// The call allocates the replies and a world, and frees the world. It first checks for `LimitTooLarge`, a limit
 /// above `RC_MAX`; then it fails with `Memory` if an allocation fails.

@@ -1,8 +1,7 @@
 //! What the definitions on histories mean, each as a sentence about the prefixes of a history.
 //!
-//! A history is the list of its steps in their natural order. A prefix of it has its first n steps, for some n.
-//! Each function here does nothing: its contract is the law that a definition and its sentence are equal,
-//! for each limit and history. No function here has a precondition.
+//! A history is the list of its steps in their natural order. A prefix of it has its first n steps, for some n. Each function here does nothing: its contract
+//! is the law that a definition and its sentence are equal, for each limit and history. No function here has a precondition.
 
 ghost use Rattle.std.specs.Prelude.{◌≡◌, ◌≢◌, ◌↔◌, ◌<◌, ◌⊎◌, IsTrue, Some, Contains, []};
 ghost use Rattle.std.specs.List.Sorted.{IsStrictlyIncreasing};
@@ -15,9 +14,8 @@ ghost use Rattle.arcstr_count.specs.Sentences.{StateSentence, OwesSentence, Livi
 
 use crate::steps::{HandleState, Reply, Step};
 
-/// Which steps are accepted: `Make` always, and any other step whose handle's state has 'ok' in the table
-/// of refusals. `Look`, `Clone`, `Begin`, `Leak` and `IntoRaw` need a free handle, `Sub` a dropping one,
-/// `Back` an owing one and `FromRaw` a raw one.
+/// Which steps are accepted: `Make` always, and any other step whose handle's state has 'ok' in the table of refusals. `Look`, `Clone`, `Begin`, `Leak` and
+/// `IntoRaw` need a free handle, `Sub` a dropping one, `Back` an owing one and `FromRaw` a raw one.
 ///
 /// ```
 /// sentences::accepted_is(2, &[Step::Make], Step::Look(0));
@@ -27,8 +25,7 @@ pub fn accepted_is(limit: u64, history: &[Step], step: Step)
     ensures { IsTrue (accepted_after limit history.now step) ↔ AcceptedSentence limit history.now step }
 {}
 
-/// How many handles were born and how many blocks were made: one handle for each accepted `Make` or
-/// `Clone`, and one block for each accepted `Make`.
+/// How many handles were born and how many blocks were made: one handle for each accepted `Make` or `Clone`, and one block for each accepted `Make`.
 ///
 /// ```
 /// sentences::births_are(2, &[Step::Make, Step::Clone(0)]);
@@ -39,9 +36,8 @@ pub fn births_are(limit: u64, history: &[Step])
     ensures blocks { makes_after limit history.now ≡ accepted_count limit history.now (λ prefix s. is_make s) }
 {}
 
-/// Where a handle is born, and on which block. Handle h is born at the accepted `Make` or `Clone` with h
-/// births before it. The handle of a `Make` stands on a new block, numbered by the `Make`s before it. The
-/// handle of a `Clone` stands on the block of the handle that the step names.
+/// Where a handle is born, and on which block. Handle h is born at the accepted `Make` or `Clone` with h births before it. The handle of a `Make` stands on a
+/// new block, numbered by the `Make`s before it. The handle of a `Clone` stands on the block of the handle that the step names.
 ///
 /// ```
 /// let (handle, block) = (1, 0);
@@ -64,9 +60,8 @@ pub fn marked_is(limit: u64, history: &[Step], block: u64)
     ensures { IsTrue (marked_after limit history.now block) ↔ MarkedSentence limit history.now block }
 {}
 
-/// The state of a handle that was born: raw, if the last accepted step among its `IntoRaw` and `FromRaw`
-/// is `IntoRaw`; else free, if it has no accepted `Begin`; else dropping, if that `Begin` came while its
-/// block was unmarked and it has no accepted `Sub`; else owing, if it owes; else gone.
+/// The state of a handle that was born: raw, if the last accepted step among its `IntoRaw` and `FromRaw` is `IntoRaw`; else free, if it has no accepted
+/// `Begin`; else dropping, if that `Begin` came while its block was unmarked and it has no accepted `Sub`; else owing, if it owes; else gone.
 ///
 /// ```
 /// let handle = 0;
@@ -104,8 +99,7 @@ pub fn living_is(limit: u64, history: &[Step], block: u64, handle: u64)
     ensures once { IsStrictlyIncreasing (living_after limit history.now block) }
 {}
 
-/// When a drop is under way on a block: when some handle on it is dropping or owing. The two lists contain
-/// exactly these handles.
+/// When a drop is under way on a block: when some handle on it is dropping or owing. The two lists contain exactly these handles.
 ///
 /// ```
 /// let (block, handle) = (0, 1);
@@ -133,10 +127,9 @@ pub fn given_is(limit: u64, history: &[Step], block: u64)
     ensures { given_after limit history.now block ≡ given_count limit history.now block }
 {}
 
-/// What a step answers. A refused step answers the fault that the table of refusals has for the state of its
-/// handle. `Make` and `Clone` answer the number of births before them. `Look` answers `Static` at a marked
-/// block, else how many handles live on it. `Begin` answers `Ended` on a marked block, else `Looked`. `Sub`
-/// answers `Owes` if its block is unmarked and no other handle lives on it, else `Left`. Any other step has one reply.
+/// What a step answers. A refused step answers the fault that the table of refusals has for the state of its handle. `Make` and `Clone` answer the number of
+/// births before them. `Look` answers `Static` at a marked block, else how many handles live on it. `Begin` answers `Ended` on a marked block, else `Looked`.
+/// `Sub` answers `Owes` if its block is unmarked and no other handle lives on it, else `Left`. Any other step has one reply.
 ///
 /// ```
 /// sentences::answer_is(2, &[Step::Make], Step::Look(0), Reply::Count(1));

@@ -53,8 +53,7 @@ impl Word {
         Word { bits: 2 }
     }
 
-    /// Returns the count word that a number stands for: its lowest bit is the flag, and the other 63 bits are
-    /// the count.
+    /// Returns the count word that a number stands for: its lowest bit is the flag, and the other 63 bits are the count.
     ///
     /// ```
     /// let word = Word::from_bits(7);
@@ -142,9 +141,8 @@ impl Word {
         }
     }
 
-    /// Returns the count word after a subtraction, with a count one lower, and whether the subtraction was the
-    /// last one: the count word was unmarked with count 1. The count word has to count a handle: its count is
-    /// above 0.
+    /// Returns the count word after a subtraction, with a count one lower, and whether the subtraction was the last one: the count word was unmarked with count
+    /// 1. The count word has to count a handle: its count is above 0.
     ///
     /// ```
     /// let (word, last) = Word::one().dropped();

@@ -18,10 +18,9 @@ use std::marker::Model;
 
 /// Counted blocks and their handles, which answer one step at a time.
 ///
-/// A world keeps a table of states by the number of the handle, a table of count words by the number of the
-/// block, and the limit on the count of a block. A step takes constant time, except when a table grows. The
-/// tables take memory from the allocator, and the drop of the world frees it. A world can be sent and shared
-/// where its allocator can, and has 56 bytes where the allocator has none.
+/// A world keeps a table of states by the number of the handle, a table of count words by the number of the block, and the limit on the count of a block. A
+/// step takes constant time, except when a table grows. The tables take memory from the allocator, and the drop of the world frees it. A world can be sent and
+/// shared where its allocator can, and has 56 bytes where the allocator has none.
 ///
 /// ```
 /// let mut world = World::new(rt.alloc(), 2)?;
@@ -82,8 +81,7 @@ impl<A: Allocator + Copy> World<A> {
 
     /// Answers a step, and takes it if it is accepted. A refused step has an answer too, and changes nothing.
     ///
-    /// Only an accepted `Make` or `Clone` allocates. If that fails, the call fails with `Memory`, its only fault,
-    /// and the world is unchanged.
+    /// Only an accepted `Make` or `Clone` allocates. If that fails, the call fails with `Memory`, its only fault, and the world is unchanged.
     ///
     /// ```
     /// let mut world = World::new(rt.alloc(), 2)?;
@@ -118,8 +116,7 @@ impl<A: Allocator + Copy> World<A> {
         }
     }
 
-    /// Returns how often the block with this number was freed: 0 or 1 times, and 0 for a block that was never
-    /// made. The call does not allocate.
+    /// Returns how often the block with this number was freed: 0 or 1 times, and 0 for a block that was never made. The call does not allocate.
     ///
     /// ```
     /// let mut world = World::new(rt.alloc(), 2)?;
@@ -136,9 +133,8 @@ impl<A: Allocator + Copy> World<A> {
         given_by_entry(entry_at(&self.blocks, block))
     }
 
-    /// The law that each world stands for at least one history, and the laws of every interleaving for
-    /// each history that it stands for: what holds after every prefix of it, for every block made in it.
-    /// It does nothing when it runs: its clauses are its purpose.
+    /// The law that each world stands for at least one history, and the laws of every interleaving for each history that it stands for: what holds after every
+    /// prefix of it, for every block made in it. It does nothing when it runs: its clauses are its purpose.
     ///
     /// ```
     /// let mut world = World::new(rt.alloc(), 2)?;
@@ -150,8 +146,7 @@ impl<A: Allocator + Copy> World<A> {
         ensures laws { (history : List Step) → StandsFor self.now history
             → HoldsInEveryInterleaving self.now.summary.limit history }
     {
-        // A clause knows the invariant of a value behind a `&` once the body reads the value. Without this read
-        // nothing is known of the world.
+        // A clause knows the invariant of a value behind a `&` once the body reads the value. Without this read nothing is known of the world.
         let _limit = self.limit;
     }
 
@@ -327,8 +322,7 @@ fn given_by_entry(entry: Option<BlockEntry>) -> u64
     }
 }
 
-/// The next state of a free handle whose drop looks at this count word, and the reply. At a marked count word it
-/// ends.
+/// The next state of a free handle whose drop looks at this count word, and the reply. At a marked count word it ends.
 fn after_begin(word: Word) -> (HandleState, Reply)
     ensures state { result.0 ≡ (if word.flag then HandleState.Gone else HandleState.Dropping) }
     ensures reply { result.1 ≡ (if word.flag then Reply.Ended else Reply.Looked) }
@@ -340,8 +334,7 @@ fn after_begin(word: Word) -> (HandleState, Reply)
     }
 }
 
-/// The next state of a dropping handle that subtracts, and the reply. The handle owes its block if its
-/// subtraction was the last one.
+/// The next state of a dropping handle that subtracts, and the reply. The handle owes its block if its subtraction was the last one.
 fn after_sub(last: bool) -> (HandleState, Reply)
     ensures state { result.0 ≡ (if last then HandleState.Owing else HandleState.Gone) }
     ensures reply { result.1 ≡ (if last then Reply.Owes else Reply.Left) }

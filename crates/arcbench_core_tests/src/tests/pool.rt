@@ -49,8 +49,7 @@ fn each_worker_hands_its_clone_back(rt: HostRuntime) {
     check_eq!(rt; ArcStr::strong_count(text), Some(1));
 }
 
-/// If a body starts fewer threads than there are workers, the first worker waits in vain. A worker that
-/// passes before it clones misses its own clone.
+/// If a body starts fewer threads than there are workers, the first worker waits in vain. A worker that passes before it clones misses its own clone.
 #[test]
 fn all_workers_meet_with_their_clones(rt: HostRuntime) {
     let text = &ArcStr::from_str(rt.alloc(), "foobar").expect(&rt, "refused");

@@ -166,8 +166,7 @@ fn writes_a_prefix_before_a_fault_of_writing(rt: HostRuntime) {
 /// The smallest block that a heap hands out, in bytes.
 const GRAIN: usize = 16;
 
-/// With room for one grain, an allocation fails while the script is read. A fault of a read before that is
-/// `Io`; a fault of a read after it is not reached.
+/// With room for one grain, an allocation fails while the script is read. A fault of a read before that is `Io`; a fault of a read after it is not reached.
 #[test]
 fn the_first_of_reading_and_memory_is_answered(rt: HostRuntime) {
     let mut refused = false;
