@@ -3,6 +3,7 @@
 
 use arcintern::Interner;
 use arcstr::ArcStr;
+use std::hash::RandomState;
 use std::io;
 
 /// How many words are printed.
@@ -11,7 +12,8 @@ const PRINTED: usize = 10;
 fn main(rt: HostRuntime) -> io::Result<()> {
     let alloc = rt.alloc();
     let input = io::read_to_string(alloc, rt.stdin())?;
-    let mut interner = Interner::new(alloc);
+    // A random seed, since whoever writes the input could pick words of one hash.
+    let mut interner = Interner::with_hasher(alloc, RandomState::new(&rt)?);
     let mut counts: Vec<u64> = Vec::new(alloc);
     for word in input.split_whitespace() {
         let symbol = interner.intern(word)?;
