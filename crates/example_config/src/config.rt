@@ -3,8 +3,8 @@ ghost use Rattle.std.specs.Prelude.{◌≡◌};
 ghost use Rattle.std.specs.Option.{option_copied};
 ghost use Rattle.example_config.specs.Entries.{value_at};
 
-use crate::fault::{Fault, Refusal};
-use crate::line::Line;
+use crate::fault::Fault;
+use crate::line::{Entry, Line};
 use arcstr::{ArcStr, Substr};
 use std::alloc::{AllocError, Global};
 use std::collections::BTreeMap;
@@ -21,8 +21,10 @@ pub struct Config {
 impl Config {
     /// Reads the configuration in the text. Copies no part of the text.
     pub fn read(rt: &impl Wait, alloc: Global, text: &ArcStr) -> Result<Config, AllocError> {
-        let mut sections = BTreeMap::new(alloc);
-        let mut faults = Vec::new(alloc);
+        let mut config = Config {
+            sections: BTreeMap::new(alloc),
+            faults: Vec::new(alloc),
+        };
         let mut section = Substr::new();
         let mut number: usize = 0;
         for line in text.view().lines() {
@@ -31,20 +33,19 @@ impl Config {
             match Line::read(rt, &text.substr_from(rt, line.trim())) {
                 Ok(Line::Blank) => {}
                 Ok(Line::Section(name)) => section = name,
-                Ok(Line::Pair(entry)) => {
-                    let entries = sections
-                        .entry(section.clone(rt))?
-                        .or_insert(BTreeMap::new(alloc));
-                    entries.insert(entry.key, entry.value)?;
-                }
-                Err(Refusal { reason, place }) => faults.push(Fault {
-                    line: number,
-                    column: text.get(start..place).unwrap_or("").chars().count() + 1,
-                    reason,
-                })?,
+                Ok(Line::Pair(entry)) => config.insert(alloc, section.clone(rt), entry)?,
+                Err(refusal) => config.faults.push(refusal.in_line(text, number, start))?,
             }
         }
-        Ok(Config { sections, faults })
+        Ok(config)
+    }
+
+    /// Adds the entry to the section.
+    fn insert(&mut self, alloc: Global, section: Substr, entry: Entry) -> Result<(), AllocError> {
+        let section = self.sections.entry(section)?;
+        let entries = section.or_insert(BTreeMap::new(alloc));
+        entries.insert(entry.key, entry.value)?;
+        Ok(())
     }
 
     /// Returns the value of the key in the section. Allocates nothing and takes no atomic step.

@@ -1,7 +1,7 @@
 //! Why a line of a configuration cannot be read, and where.
 ghost use Rattle.std.specs.Prelude.{◌≡◌};
 
-use arcstr::Substr;
+use arcstr::{ArcStr, Substr};
 use thiserror::Error;
 
 /// Why a line cannot be read.
@@ -41,5 +41,15 @@ impl Refusal {
     {
         let place = part.range().start;
         Refusal { reason, place }
+    }
+
+    /// The refusal as the fault of the line with this number, which starts at this byte of the text.
+    pub fn in_line(&self, text: &ArcStr, line: usize, start: usize) -> Fault {
+        let before = text.get(start..self.place).unwrap_or("");
+        Fault {
+            line,
+            column: before.chars().count() + 1,
+            reason: self.reason,
+        }
     }
 }

@@ -110,36 +110,38 @@ fn faults_have_numbers_and_texts(rt: HostRuntime) {
 struct Entry {
     name: ArcStr,
     value: Substr,
-    tags: Vec<ArcStr>,
 }
 
 #[test]
-fn a_struct_of_texts_is_written_as_json(rt: HostRuntime) {
-    let text = &made(&rt, "key=\"é\"");
-    let mut tags = Vec::new(rt.alloc());
-    tags.push(literal!("a\nb")).expect(&rt, "no memory");
-    tags.push(ArcStr::new()).expect(&rt, "no memory");
-    let entry = Entry {
-        name: text.clone(&rt),
-        value: part(&rt, text, 4..),
-        tags,
-    };
-    let json = serde_json::to_string(rt.alloc(), &entry).expect(&rt, "not written");
-    let wanted = "{\"name\":\"key=\\\"é\\\"\",\"value\":\"\\\"é\\\"\",\"tags\":[\"a\\nb\",\"\"]}";
-    check_text(&rt, json.as_str(), wanted);
-    check_count(&rt, text, Some(3));
+fn a_struct_of_texts_is_written_as_json(ref rt: HostRuntime) {
+    let text = made(rt, "key=\"é\"");
+    let value = part(rt, &text, 4..);
+    let entry = &Entry { name: text, value };
+    let json = serde_json::to_string(rt.alloc(), entry).expect(rt, "not written");
+    let wanted = "{\"name\":\"key=\\\"é\\\"\",\"value\":\"\\\"é\\\"\"}";
+    check_text(rt, json.as_str(), wanted);
+    check_count(rt, &entry.name, Some(2));
+}
+
+/// Asserts that the texts of the entry are of blocks of their own, and `ab` and all of `é b`.
+fn check_entry(rt: &impl Abort, entry: &Entry) {
+    check_text(rt, entry.name.as_str(), "ab");
+    check_count(rt, &entry.name, Some(1));
+    check_slice(rt, &entry.value, "é b", 0..4);
+    check_count(rt, entry.value.parent(), Some(1));
 }
 
 #[test]
-fn a_struct_of_texts_is_read_from_json(rt: HostRuntime) {
-    let json = "{\"value\":\"\\u00e9 b\",\"tags\":[\"x\",\"\"],\"name\":\"plain\"}";
-    let entry: Entry = serde_json::from_str(rt.alloc(), json).expect(&rt, "not read");
-    check_text(&rt, entry.name.as_str(), "plain");
-    check_count(&rt, &entry.name, Some(1));
-    check_slice(&rt, &entry.value, "é b", 0..4);
-    check_count(&rt, entry.value.parent(), Some(1));
-    assert!(rt; entry.tags.len() == 2);
-    check!(rt; ArcStr::is_static(&entry.tags[1]));
+fn a_struct_of_texts_is_read_from_json(ref rt: HostRuntime) {
+    let json = "{\"value\":\"\\u00e9 b\",\"name\":\"ab\"}";
+    let entry: Entry = serde_json::from_str(rt.alloc(), json).expect(rt, "not read");
+    check_entry(rt, &entry);
+}
+
+#[test]
+fn an_empty_string_is_read_as_the_empty_text(ref rt: HostRuntime) {
+    let text: ArcStr = serde_json::from_str(rt.alloc(), "\"\"").expect(rt, "not read");
+    check_empty(rt, &text);
 }
 
 #[test]

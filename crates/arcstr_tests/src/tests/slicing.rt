@@ -84,18 +84,28 @@ fn bar(rt: &(impl Abort + Wait)) -> Substr {
     part(rt, &literal!("foobarbaz"), 3..6)
 }
 
+/// Asserts the slice of `foobarbaz` that is a slice of one of its slices.
+fn check_inner(rt: &impl Abort, inner: &Substr, text: &str, places: Range<usize>) {
+    check_slice(rt, inner, text, places);
+    check_text(rt, inner.parent().as_str(), "foobarbaz");
+}
+
 #[test]
-fn a_slice_of_a_slice_keeps_the_parent(rt: HostRuntime) {
-    let inner = &bar(&rt).substr(&rt, 1..3).expect(&rt, "no slice");
-    check_slice(&rt, inner, "ar", 4..6);
-    check_text(&rt, inner.parent().as_str(), "foobarbaz");
-    check_no_slice(&rt, bar(&rt).substr(&rt, 0..5), RangeFault::PastEnd);
-    check_part(&rt, bar(&rt).get(0..5), None);
-    let nothing = &bar(&rt).substr(&rt, 2..2).expect(&rt, "no slice");
-    check_slice(&rt, nothing, "", 5..5);
-    check_text(&rt, nothing.parent().as_str(), "foobarbaz");
-    let tail = part(&rt, &literal!("foobarbaz"), 3..);
-    check_sliced(&rt, tail.substr(&rt, 1..5), "arba", 4..8);
+fn a_slice_of_a_slice_keeps_the_parent(ref rt: HostRuntime) {
+    let slice = &bar(rt);
+    let inner = &slice.substr(rt, 1..3).expect(rt, "no slice");
+    check_inner(rt, inner, "ar", 4..6);
+    let nothing = &slice.substr(rt, 2..2).expect(rt, "no slice");
+    check_inner(rt, nothing, "", 5..5);
+    let tail = &part(rt, &literal!("foobarbaz"), 3..);
+    check_sliced(rt, tail.substr(rt, 1..5), "arba", 4..8);
+}
+
+#[test]
+fn a_slice_has_no_part_past_its_own_end(ref rt: HostRuntime) {
+    let slice = &bar(rt);
+    check_no_slice(rt, slice.substr(rt, 0..5), RangeFault::PastEnd);
+    check_part(rt, slice.get(0..5), None);
 }
 
 /// Returns the slice of the text that a view of `shown` at `place` shows, if there is one.
@@ -150,14 +160,18 @@ fn a_trimmed_view_of_a_slice_gives_its_slice(rt: HostRuntime) {
     check_slice(&rt, &trimmed, "bar", 6..9);
 }
 
+/// Returns the slice of `bar` that a view of `shown` at `place` shows, if there is one.
+fn found_in_bar(rt: &(impl Abort + Wait), shown: &str, place: usize) -> Option<Substr> {
+    let view = StrView::at(shown, place).expect(rt, "no view");
+    bar(rt).try_substr_from(rt, view)
+}
+
 #[test]
-fn a_view_is_not_found_past_the_own_text(rt: HostRuntime) {
-    for (shown, place) in [("bar", 3), ("foo", 0)] {
-        let view = StrView::at(shown, place).expect(&rt, "no view");
-        check!(rt; bar(&rt).try_substr_from(&rt, view).is_none());
-    }
-    let own = bar(&rt).try_substr_from(&rt, StrView::whole("bar"));
-    check_slice(&rt, &own.expect(&rt, "not found"), "bar", 3..6);
+fn a_view_is_not_found_past_the_own_text(ref rt: HostRuntime) {
+    check!(rt; found_in_bar(rt, "bar", 3).is_none());
+    check!(rt; found_in_bar(rt, "foo", 0).is_none());
+    let own = &found_in_bar(rt, "bar", 0).expect(rt, "not found");
+    check_slice(rt, own, "bar", 3..6);
 }
 
 #[test]
@@ -172,15 +186,19 @@ fn places_of_the_own_text_give_all_of_it(rt: HostRuntime) {
 }
 
 #[test]
-fn a_closure_gives_its_range_or_is_refused(rt: HostRuntime) {
-    let padded = made(&rt, "   abc");
-    check_sliced(&rt, padded.substr_using(&rt, |_| 3..6), "abc", 3..6);
-    let text = &made(&rt, "abc");
-    check_sliced(&rt, text.try_substr_using(&rt, |_| 1..3), "bc", 1..3);
-    let reversed = text.try_substr_using(&rt, |_| 2..1);
-    check_no_slice(&rt, reversed, RangeFault::OutOfOrder);
-    let inside = literal!("aé").substr_using(&rt, |_| 1..2);
-    check_no_slice(&rt, inside, RangeFault::OffBoundary);
+fn a_closure_gives_the_range_of_a_slice(ref rt: HostRuntime) {
+    let text = &made(rt, "   abc");
+    check_sliced(rt, text.substr_using(rt, |_| 3..6), "abc", 3..6);
+    check_sliced(rt, text.try_substr_using(rt, |_| 4..6), "bc", 4..6);
+}
+
+#[test]
+fn a_range_of_a_closure_is_refused(ref rt: HostRuntime) {
+    let text = &made(rt, "aé");
+    let reversed = text.try_substr_using(rt, |_| 2..1);
+    check_no_slice(rt, reversed, RangeFault::OutOfOrder);
+    let inside = text.substr_using(rt, |_| 1..2);
+    check_no_slice(rt, inside, RangeFault::OffBoundary);
 }
 
 /// Asserts that the answer is `Substr::new()`.
@@ -238,18 +256,23 @@ fn views_of_the_own_text_of_a_slice_are_found(rt: HostRuntime) {
 }
 
 #[test]
-fn parts_of_a_view_of_a_text_are_found(rt: HostRuntime) {
-    let text = made(&rt, "a: --b=c;");
-    let (name, rest) = text.view().split_once(": ").expect(&rt, "no `: `");
-    check_slice(&rt, &text.substr_from(&rt, name), "a", 0..1);
-    let pair = rest.strip_prefix("--").expect(&rt, "no `--`");
-    check_slice(&rt, &text.substr_from(&rt, rest), "--b=c;", 3..9);
-    let pair = pair.strip_suffix(';').expect(&rt, "no `;`");
-    let (_, value) = pair.rsplit_once('=').expect(&rt, "no `=`");
-    check_slice(&rt, &text.substr_from(&rt, value), "c", 7..8);
-    let (_, end) = pair.split_at(1).expect(&rt, "no place");
-    check_slice(&rt, &text.substr_from(&rt, end), "=c", 6..8);
-    check_slice(&rt, &text.substr_from(&rt, pair), "b=c", 5..8);
+fn parts_of_a_view_of_a_text_are_found(ref rt: HostRuntime) {
+    let text = &made(rt, "a: --b=c;");
+    let (name, rest) = text.view().split_once(": ").expect(rt, "no `: `");
+    check_slice(rt, &text.substr_from(rt, name), "a", 0..1);
+    let (_, value) = rest.rsplit_once('=').expect(rt, "no `=`");
+    check_slice(rt, &text.substr_from(rt, value), "c;", 7..9);
+    let (_, end) = rest.split_at(3).expect(rt, "no place");
+    check_slice(rt, &text.substr_from(rt, end), "=c;", 6..9);
+}
+
+#[test]
+fn a_stripped_view_of_a_text_is_found(ref rt: HostRuntime) {
+    let text = &made(rt, "--b=c;");
+    let pair = text.view().strip_prefix("--").expect(rt, "no `--`");
+    let inner = pair.strip_suffix(';').expect(rt, "no `;`");
+    check_slice(rt, &text.substr_from(rt, pair), "b=c;", 2..6);
+    check_slice(rt, &text.substr_from(rt, inner), "b=c", 2..5);
 }
 
 /// Returns the slices of the last line and of the last word, each found in a loop without a test. As in user code, the proof that the text has them is

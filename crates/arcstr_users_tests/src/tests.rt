@@ -1,7 +1,11 @@
 mod checks;
-mod collisions;
-mod interner;
-mod shared_interner;
+mod fixtures;
+mod interning;
+mod pool;
+mod ports;
+mod program;
+mod scripts;
+mod words;
 
 use arcstr::ArcStr;
 use std::alloc::AllocGlobal;

@@ -5,17 +5,11 @@ mod one_text;
 use crate::tests::checks::check_eq;
 use arcstr::{ArcStr, Substr, literal};
 use arctokens::{tokens, tokens_all};
-use std::alloc::AllocGlobal;
 use std::process::Abort;
 use std::test::Fail;
 
 /// A word that a test expects: its start, its end and its text.
 type Wanted<'a> = (usize, usize, &'a str);
-
-/// Copies the text into a new `ArcStr`. Aborts if out of memory.
-fn made(rt: &(impl Abort + AllocGlobal), text: &str) -> ArcStr {
-    ArcStr::from_str(rt.alloc(), text).expect(rt, "no memory")
-}
 
 fn check_count(rt: &impl Abort, text: &ArcStr, wanted: Option<usize>) {
     check_eq!(rt; ArcStr::strong_count(text), wanted);

@@ -1,8 +1,9 @@
 //! Tests of many texts.
 ghost use Rattle.std.specs.Prelude.{◌≤◌};
 
-use super::{check_count, check_tokens, made};
+use super::{check_count, check_tokens};
 use crate::tests::checks::{check, check_eq};
+use crate::tests::made;
 use arcstr::{ArcStr, Substr};
 use arctokens::{Gate, tokens, tokens_all, tokens_all_with};
 use std::alloc::{AllocError, AllocGlobal};

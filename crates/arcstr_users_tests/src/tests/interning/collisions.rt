@@ -4,6 +4,7 @@ use arcintern::{Interner, SharedInterner};
 use std::alloc::AllocGlobal;
 use std::hash::{BuildHasher, Hasher};
 use std::process::Abort;
+use std::sync::Wait;
 
 /// Gives each word the hash 7.
 #[derive(Clone, Copy)]
@@ -47,21 +48,29 @@ fn an_interner_tells_words_of_one_hash_apart(rt: HostRuntime) {
     check!(rt; interner.get("fo").is_none());
 }
 
+/// Asserts that interning the word gives this number, whose text is the word, and that the word is then found.
+fn check_shared(
+    rt: &(impl Abort + Wait),
+    interner: &SharedInterner<Collides>,
+    word: &str,
+    index: usize,
+) {
+    let symbol = &interner.intern(rt, word).expect(rt, "refused");
+    check_eq!(rt; symbol.number().index(), index);
+    check_eq!(rt; interner.text(symbol).as_str(), word);
+    let found = &interner.get(rt, word).expect(rt, "not found");
+    check_eq!(rt; found.number().index(), index);
+}
+
 #[test]
-fn a_shared_interner_tells_words_of_one_hash_apart(rt: HostRuntime) {
-    let interner = &SharedInterner::with_hasher(rt.alloc(), 3, Collides).expect(&rt, "refused");
+fn a_shared_interner_tells_words_of_one_hash_apart(ref rt: HostRuntime) {
+    let interner = SharedInterner::with_hasher(rt.alloc(), 3, Collides).expect(rt, "refused");
     for _ in 0..2 {
         for (index, word) in WORDS.iter().enumerate() {
-            let symbol = interner.intern(&rt, *word).expect(&rt, "refused");
-            check_eq!(rt; symbol.number().index(), index);
-            check_eq!(rt; interner.text(&symbol).as_str(), *word);
+            check_shared(rt, &interner, word, index);
         }
     }
-    for (index, word) in WORDS.iter().enumerate() {
-        let found = interner.get(&rt, *word).expect(&rt, "not found");
-        check_eq!(rt; found.number().index(), index);
-    }
-    check!(rt; interner.get(&rt, "fo").is_none());
+    check!(rt; interner.get(rt, "fo").is_none());
     check_eq!(rt; interner.len(), WORDS.len());
 }
 

@@ -1,8 +1,8 @@
 //! Tests of a shared interner, by one thread and by eight.
 ghost use Rattle.std.specs.Prelude.{◌≤◌};
 
-use super::made;
 use crate::tests::checks::{check, check_eq};
+use crate::tests::made;
 use arcintern::{InternFault, SharedInterner, SharedSymbol, Symbol};
 use arcstr::{ArcStr, literal};
 use std::alloc::{AllocError, AllocGlobal, Global};
@@ -38,11 +38,8 @@ fn check_alone(rt: &(impl Abort + Wait), interner: &SharedInterner, number: Symb
     let text = interner.text(&symbol);
     check_eq!(rt; text.as_str(), wanted);
     check_eq!(rt; ArcStr::strong_count(text), Some(1));
-    check!(rt;
-        interner
-            .resolve(rt, number)
-            .is_some_and(|text| text.eq_str(wanted))
-    );
+    let copy = &interner.resolve(rt, number).expect(rt, "no text");
+    check_eq!(rt; copy.as_str(), wanted);
 }
 
 /// Interns the words from the number `first` on and then those before it, and answers their symbols in the order of the words.
@@ -113,20 +110,22 @@ fn threads_agree_on_sixty_four_shards(rt: HostRuntime) {
     check_threads(&rt, 64);
 }
 
+/// Asserts that the word is new, and then found with its text.
+fn check_new(rt: &(impl Abort + Wait), interner: &SharedInterner, word: &str) {
+    check!(rt; interner.get(rt, word).is_none());
+    let number = interned(rt, interner, word);
+    check!(rt; interned(rt, interner, word) == number);
+    let found = &interner.get(rt, word).expect(rt, "not found");
+    check!(rt; found.number() == number);
+    let text = &interner.resolve(rt, number).expect(rt, "no text");
+    check_eq!(rt; text.as_str(), word);
+}
+
 #[test]
-fn words_are_told_apart(rt: HostRuntime) {
-    let interner = SharedInterner::new(rt.alloc(), 3).expect(&rt, "refused");
+fn words_are_told_apart(ref rt: HostRuntime) {
+    let interner = SharedInterner::new(rt.alloc(), 3).expect(rt, "refused");
     for word in ["foo", "fop", "foo ", "", "é", "è", "\u{1f980}"] {
-        check!(rt; interner.get(&rt, word).is_none());
-        let number = interned(&rt, &interner, word);
-        check!(rt; interned(&rt, &interner, word) == number);
-        let found = interner.get(&rt, word);
-        check!(rt; found.is_some_and(|found| found.number() == number));
-        check!(rt;
-            interner
-                .resolve(&rt, number)
-                .is_some_and(|text| text.eq_str(word))
-        );
+        check_new(rt, &interner, word);
     }
     check_eq!(rt; interner.len(), 7);
 }

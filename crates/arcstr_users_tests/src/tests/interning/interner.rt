@@ -1,6 +1,6 @@
 //! Interners of a few words and of many, and the counts of the texts that they keep.
-use super::made;
 use crate::tests::checks::{check, check_eq};
+use crate::tests::made;
 use arcintern::{InternFault, Interner, Symbol};
 use arcstr::ArcStr;
 use std::alloc::{AllocFailed, AllocGlobal};

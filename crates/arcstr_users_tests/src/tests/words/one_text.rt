@@ -1,5 +1,6 @@
-use super::{Wanted, check_count, check_tokens, made};
+use super::{Wanted, check_count, check_tokens};
 use crate::tests::checks::{check, check_eq};
+use crate::tests::made;
 use arcstr::ArcStr;
 use arctokens::tokens;
 use std::alloc::AllocGlobal;

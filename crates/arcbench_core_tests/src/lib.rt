@@ -1,5 +1,0 @@
-//! The tests of `arctokens` and `arcbench_core`, in a crate of their own: the libraries are not proved again with them.
-#![tactic(auto)]
-
-#[cfg(test)]
-mod tests;

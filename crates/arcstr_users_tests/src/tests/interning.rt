@@ -1,0 +1,4 @@
+//! Tests of `arcintern`.
+mod collisions;
+mod interner;
+mod shared_interner;
