@@ -187,17 +187,17 @@ fn places_of_the_own_text_give_all_of_it(rt: HostRuntime) {
 
 #[test]
 fn a_closure_gives_the_range_of_a_slice(ref rt: HostRuntime) {
-    let text = &made(rt, "   abc");
-    check_sliced(rt, text.substr_using(rt, |_| 3..6), "abc", 3..6);
-    check_sliced(rt, text.try_substr_using(rt, |_| 4..6), "bc", 4..6);
+    let padded = &made(rt, "   abc");
+    check_sliced(rt, padded.substr_using(rt, |_| 3..6), "abc", 3..6);
+    let text = &made(rt, "abc");
+    check_sliced(rt, text.try_substr_using(rt, |_| 1..3), "bc", 1..3);
 }
 
 #[test]
 fn a_range_of_a_closure_is_refused(ref rt: HostRuntime) {
-    let text = &made(rt, "aé");
-    let reversed = text.try_substr_using(rt, |_| 2..1);
+    let reversed = made(rt, "abc").try_substr_using(rt, |_| 2..1);
     check_no_slice(rt, reversed, RangeFault::OutOfOrder);
-    let inside = text.substr_using(rt, |_| 1..2);
+    let inside = literal!("aé").substr_using(rt, |_| 1..2);
     check_no_slice(rt, inside, RangeFault::OffBoundary);
 }
 
@@ -211,7 +211,7 @@ fn equal_places_of_a_closure_give_the_slice_of_nothing(rt: HostRuntime) {
     let text = &made(&rt, "aé");
     check_found_nothing(&rt, text.substr_using(&rt, |_| 2..2));
     check_found_nothing(&rt, text.substr_using(&rt, |_| MAX..MAX));
-    check_found_nothing(&rt, text.try_substr_using(&rt, |_| 7..7));
+    check_found_nothing(&rt, made(&rt, "abc").try_substr_using(&rt, |_| 7..7));
     check_found_nothing(&rt, bar(&rt).substr_using(&rt, |_| 9..9));
 }
 
