@@ -119,8 +119,12 @@ impl ArcStr {
         // Promise: The clone is the same value.
         ensures { result ≡ self.now }
     {
+        // What a clone seldom does is a call of its own, so that the usual one makes no call that can wait.
         let form = match &self.form {
-            Form::Counted(shared) => Form::Counted(shared.up(rt)),
+            Form::Counted(shared) => match shared.up_once() {
+                Ok(clone) => Form::Counted(clone),
+                Err(found) => Form::Counted(shared.up_from(rt, found)),
+            },
             Form::Literal(text) => Form::Literal(text),
             Form::Fixed(fixed) => Form::Fixed(fixed.again()),
         };

@@ -194,15 +194,61 @@ impl<const LIMIT: u64, A: Allocator + Copy> Shared<LIMIT, A> {
         ensures block { result.block ≡ self.now.block }
         ensures limit { result.limit ≡ LIMIT }
     {
+        match self.up_once() {
+            Ok(clone) => clone,
+            Err(found) => self.up_from(rt, found),
+        }
+    }
+
+    /// Returns another handle, as `up` makes it, with at most one compare-exchange. Where that finds that the count word changed after the load, returns the
+    /// unmarked count word that it found, and nothing has changed. The call never waits: `up_from` takes the rest of `up`.
+    ///
+    /// ```
+    /// let text = Shared::<5, _>::from_text(rt.alloc(), "aé")?;
+    /// let clone = text.up_once();
+    /// assert_eq!(rt; text.look().0, Some(2));
+    /// assert!(rt; clone.is_ok_and(|clone| clone.as_str() == "aé"));
+    /// ```
+    pub fn up_once(&self) -> Result<Shared<LIMIT, A>, u64>
+        // Promise: The clone has the same text, block and limit.
+        ensures text { IfOk result (λ clone. clone.text ≡ self.now.text) }
+        ensures block { IfOk result (λ clone. clone.block ≡ self.now.block) }
+        ensures limit { IfOk result (λ clone. clone.limit ≡ LIMIT) }
+        // Promise: What it found is an unmarked count word.
+        ensures unmarked { IfErr result IsUnmarked }
+        ensures word { IfErr result (IsCountWord LIMIT) }
+    {
         let old = match self.handle.clone_if_marked() {
-            Ok(handle) => return Shared { handle },
+            Ok(handle) => return Ok(Shared { handle }),
             Err(found) => found,
         };
-        let handle = match self.handle.exchange(old) {
-            Ok(handle) => handle,
-            Err(found) => self.handle.exchange_until(rt, found),
-        };
-        Shared { handle }
+        match self.handle.exchange(old) {
+            Ok(handle) => Ok(Shared { handle }),
+            Err(found) => Err(found),
+        }
+    }
+
+    /// Returns another handle, as `up` makes it after its load found this unmarked count word.
+    ///
+    /// ```
+    /// let text = Shared::<5, _>::from_text(rt.alloc(), "aé")?;
+    /// let clone = match text.up_once() {
+    ///     Ok(clone) => clone,
+    ///     Err(found) => text.up_from(&rt, found),
+    /// };
+    /// assert_eq!(rt; clone.look().0, Some(2));
+    /// ```
+    pub fn up_from<R: Wait>(&self, rt: &R, found: u64) -> Shared<LIMIT, A>
+        requires unmarked { IsUnmarked found }
+        requires word { IsCountWord LIMIT found }
+        // Promise: The clone has the same text, block and limit.
+        ensures text { result.text ≡ self.now.text }
+        ensures block { result.block ≡ self.now.block }
+        ensures limit { result.limit ≡ LIMIT }
+    {
+        Shared {
+            handle: self.handle.exchange_until(rt, found),
+        }
     }
 
     /// Returns another handle, as `up` makes it, with at most `tries` compare-exchanges, so the call never waits. Returns `None`, and changes
@@ -294,9 +340,10 @@ impl<const LIMIT: u64, A: Allocator + Copy> Counted<LIMIT, A> {
         ensures unmarked { IfErr result IsUnmarked }
         ensures word { IfErr result (IsCountWord LIMIT) }
     {
-        let (found, gained) = self.pointer.load(offset_of_word(self.len));
+        let len = self.len;
+        let (found, gained) = self.pointer.load(offset_of_word(len));
         if is_marked(found) {
-            Ok(self.with_pointer(gained))
+            Ok(self.with_pointer(gained, len))
         } else {
             gained.forget();
             Err(found)
@@ -310,13 +357,13 @@ impl<const LIMIT: u64, A: Allocator + Copy> Counted<LIMIT, A> {
         ensures clone { IfOk result (λ clone. IsCloneOf clone.pointer self.now.pointer) }
         ensures found { IfErr result (IsOtherWord LIMIT old) }
     {
-        let (found, gained) = self.pointer.clone_exchange(
-            offset_of_word(self.len),
-            old,
-            word_after_clone(LIMIT, old),
-        );
+        let len = self.len;
+        let next = word_after_clone(LIMIT, old);
+        let (found, gained) = self
+            .pointer
+            .clone_exchange(offset_of_word(len), old, next);
         if found == old || is_marked(found) {
-            Ok(self.with_pointer(gained))
+            Ok(self.with_pointer(gained, len))
         } else {
             gained.forget();
             Err(found)
@@ -342,15 +389,16 @@ impl<const LIMIT: u64, A: Allocator + Copy> Counted<LIMIT, A> {
         unreachable!()
     }
 
-    /// Another handle on this block, with this pointer to it.
-    fn with_pointer(&self, pointer: Pointer<A>) -> Counted<LIMIT, A>
+    /// Another handle on this block, with this pointer to it. The length is passed, since the machine would read it again after an atomic step.
+    fn with_pointer(&self, pointer: Pointer<A>, len: usize) -> Counted<LIMIT, A>
         requires same { IsSameBlock pointer self.now.pointer }
         requires free { IsFree pointer.right }
+        requires len { len ≡ length self.now.pointer.text }
         ensures { result.pointer ≡ pointer }
     {
         Counted {
             pointer,
-            len: self.len,
+            len,
             alloc: self.alloc,
         }
     }
