@@ -17,5 +17,5 @@ fn main(rt: HostRuntime) -> io::Result<()> {
         Ok(part) => println!(rt; "{part}")?,
         Err(fault) => println!(rt; "no slice 7..12: {fault}")?,
     }
-    println!(rt; "{} bytes", counting.join(&rt))
+    println!(rt; "length: {}", counting.join(&rt))
 }
