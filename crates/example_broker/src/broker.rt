@@ -1,0 +1,83 @@
+//! The topics, and the threads that send.
+use crate::script::Message;
+use arcstr::Substr;
+use crossbeam_channel::{Receiver, Sender};
+use std::alloc::{AllocError, Global};
+use std::collections::HashMap;
+use std::sync::{Arc, RwLock, Wait};
+use std::thread;
+use std::thread::{JoinHandle, Threads};
+
+/// The number of threads that send.
+const SENDERS: usize = 4;
+
+/// The channels of each topic's readers, which threads share.
+#[derive(Drop)]
+pub struct Broker {
+    topics: RwLock<HashMap<Substr, Vec<Sender<Message>>>>,
+}
+
+impl Broker {
+    pub fn new(alloc: Global) -> Broker {
+        Broker {
+            topics: RwLock::new(HashMap::new(alloc)),
+        }
+    }
+
+    /// From now on the messages under the topic go to this channel too.
+    pub fn subscribe(
+        &self,
+        rt: &impl Wait,
+        alloc: Global,
+        topic: Substr,
+        reader: Sender<Message>,
+    ) -> Result<(), AllocError> {
+        let mut topics = self.topics.write(rt);
+        let readers = topics.entry(topic)?.or_insert(Vec::new(alloc));
+        readers.push(reader)?;
+        Ok(())
+    }
+
+    /// Sends a clone of the message to each reader of its topic, and returns the number of those that took one.
+    fn publish(&self, rt: &impl Wait, message: &Message) -> usize {
+        let topics = self.topics.read(rt);
+        let mut sent: usize = 0;
+        if let Some(readers) = topics.get(message.topic.as_str()) {
+            for reader in readers {
+                if reader.send(rt, message.clone(rt)).is_ok() {
+                    sent = sent.saturating_add(1);
+                }
+            }
+        }
+        sent
+    }
+
+    /// Publishes the messages of the queue until it is empty and closed, and returns the number of copies that were sent.
+    fn publish_all(&self, rt: &impl Wait, queue: &Receiver<Message>) -> usize {
+        let mut sent: usize = 0;
+        for message in queue.iter(rt) {
+            sent = sent.saturating_add(self.publish(rt, &message));
+        }
+        sent
+    }
+}
+
+/// Starts the threads that publish the messages. Each returns the number of copies that it sent.
+pub fn start_senders<R: Threads + Wait + Copy + Send + 'static>(
+    rt: R,
+    alloc: Global,
+    broker: Arc<Broker>,
+    messages: Vec<Message>,
+) -> std::io::Result<Vec<JoinHandle<usize>>> {
+    let (taken, queue) = crossbeam_channel::unbounded(alloc)?;
+    let mut threads = Vec::new(alloc);
+    for _ in 0..SENDERS {
+        let queue = queue.clone()?;
+        let broker = Arc::try_clone(&broker)?;
+        threads.push(thread::spawn(&rt, move || broker.publish_all(&rt, &queue))?)?;
+    }
+    for message in messages {
+        taken.send(&rt, message)?;
+    }
+    Ok(threads)
+}

@@ -1,0 +1,83 @@
+//! The input: who reads which topics, and the messages.
+use arcstr::{ArcStr, Substr};
+use std::alloc::{AllocError, Global};
+use std::sync::Wait;
+use thiserror::Error;
+
+/// A text under a topic.
+#[derive(Drop)]
+pub struct Message {
+    pub topic: Substr,
+    pub text: Substr,
+}
+
+/// The line `name < topic topic ..`.
+#[derive(Drop)]
+pub struct ReaderLine {
+    pub name: Substr,
+    pub topics: Substr,
+}
+
+/// A line that is neither a reader nor a message. Lines are counted from 1.
+#[derive(Debug, Drop, Error)]
+#[error("line {number}, byte {place}: no `<` and no `:`")]
+pub struct Fault {
+    pub number: usize,
+    pub place: usize,
+}
+
+/// The lines of the input. All texts are slices of it.
+#[derive(Drop)]
+pub struct Script {
+    pub readers: Vec<ReaderLine>,
+    pub messages: Vec<Message>,
+    pub faults: Vec<Fault>,
+}
+
+impl Script {
+    /// Reads the input. Copies no part of it.
+    pub fn read(rt: &impl Wait, alloc: Global, text: &ArcStr) -> Result<Script, AllocError> {
+        let mut script = Script {
+            readers: Vec::new(alloc),
+            messages: Vec::new(alloc),
+            faults: Vec::new(alloc),
+        };
+        let mut number: usize = 0;
+        for line in text.view().lines() {
+            number = number.saturating_add(1);
+            let line = text.substr_from(rt, line.trim());
+            script.read_line(rt, number, &line)?;
+        }
+        Ok(script)
+    }
+
+    fn read_line(
+        &mut self,
+        rt: &impl Wait,
+        number: usize,
+        line: &Substr,
+    ) -> Result<(), AllocError> {
+        if line.is_empty() {
+            return Ok(());
+        }
+        let place = line.range().start;
+        if let Some((name, topics)) = line.substr_split_once(rt, " < ") {
+            self.readers.push(ReaderLine { name, topics })?;
+        } else if let Some((topic, text)) = line.substr_split_once(rt, ": ") {
+            self.messages.push(Message { topic, text })?;
+        } else {
+            self.faults.push(Fault { number, place })?;
+        }
+        Ok(())
+    }
+}
+
+impl Message {
+    /// Another pair of handles on the two texts. Copies no text.
+    pub fn clone(&self, rt: &impl Wait) -> Message {
+        Message {
+            topic: self.topic.clone(rt),
+            text: self.text.clone(rt),
+        }
+    }
+}

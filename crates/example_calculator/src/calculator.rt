@@ -1,0 +1,97 @@
+//! Answers lines, and remembers the values of names.
+ghost use Rattle.std.specs.Prelude.{◌≡◌};
+
+use crate::fault::{Fault, Reason};
+use crate::lexer::{Kind, Token, tokens_of};
+use crate::tree::{Node, tree_of};
+use arcintern::Interner;
+use arcstr::view::StrView;
+use std::alloc::Global;
+use std::io;
+
+/// The names, and at the index of each name's symbol its value.
+#[derive(Drop)]
+pub struct Calculator {
+    names: Interner,
+    values: Vec<Option<i64>>,
+}
+
+impl Calculator {
+    pub fn new(alloc: Global) -> Calculator {
+        Calculator {
+            names: Interner::new(alloc),
+            values: Vec::new(alloc),
+        }
+    }
+
+    /// Reads a line: nothing if it has no token, a new value of a name if it begins with a name and `=`, and otherwise an expression, whose value it returns.
+    pub fn answer(&mut self, alloc: Global, line: &StrView<'_>) -> Result<Option<i64>, Fault> {
+        let tokens = tokens_of(alloc, &mut self.names, line)?;
+        let end = line.trim_end().range().end;
+        match tokens.as_slice() {
+            [] => Ok(None),
+            [
+                Token {
+                    kind: Kind::Name(name),
+                    ..
+                },
+                Token {
+                    kind: Kind::Equals,
+                    ..
+                },
+                rest @ ..,
+            ] => {
+                let value = self.value_of(alloc, rest, end)?;
+                self.set(*name, value)?;
+                Ok(None)
+            }
+            tokens => Ok(Some(self.value_of(alloc, tokens, end)?)),
+        }
+    }
+
+    /// The value of an expression, which ends at this byte offset.
+    fn value_of(&self, alloc: Global, tokens: &[Token], end: usize) -> Result<i64, Fault> {
+        let tree = tree_of(alloc, tokens, end)?;
+        let mut values = Vec::new(alloc);
+        for (node, place) in &tree {
+            let missing = match node {
+                Node::Name(_) => Reason::NoValue,
+                Node::Number(_) | Node::Operation(..) => Reason::NoResult,
+            };
+            let value = self.value_at(node, &values);
+            values.push(value.ok_or(Fault::at(*place, missing))?)?;
+        }
+        values.pop().ok_or(Fault::at(end, Reason::NoOperand))
+    }
+
+    /// The value of a node, if it has one. `before` has the values of the nodes before it.
+    fn value_at(&self, node: &Node, before: &[i64]) -> Option<i64> {
+        match *node {
+            Node::Number(number) => Some(number),
+            Node::Name(name) => *self.values.get(name)?,
+            Node::Operation(operator, left, right) => {
+                operator.apply(*before.get(left)?, *before.get(right)?)
+            }
+        }
+    }
+
+    fn set(&mut self, name: usize, value: i64) -> Result<(), Fault> {
+        for _ in self.values.len()..=name {
+            self.values.push(None)?;
+        }
+        if let Some(place) = self.values.get_mut(name) {
+            *place = Some(value);
+        }
+        Ok(())
+    }
+
+    pub fn print_values(&self, rt: &impl Print) -> io::Result<()> {
+        for (name, value) in self.names.iter().zip(&self.values) {
+            match value {
+                Some(value) => println!(rt; "{name} = {value}")?,
+                None => println!(rt; "{name} has no value")?,
+            }
+        }
+        Ok(())
+    }
+}

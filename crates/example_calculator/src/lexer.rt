@@ -1,0 +1,78 @@
+//! Cuts a line into tokens.
+ghost use Rattle.std.specs.Prelude.{◌≡◌};
+
+use crate::fault::{Fault, Reason};
+use crate::tree::Operator;
+use arcintern::Interner;
+use arcstr::view::StrView;
+use std::alloc::Global;
+
+/// What a token is.
+#[derive(Clone, Copy, Debug, PartialEq, Eq)]
+pub enum Kind {
+    Number(i64),
+    Name(usize),
+    Operator(Operator),
+    Open,
+    Close,
+    Equals,
+}
+
+/// A token, and its byte offset in the text.
+#[derive(Clone, Copy, Debug)]
+pub struct Token {
+    pub kind: Kind,
+    pub place: usize,
+}
+
+/// The tokens of a line. Names become symbols.
+pub fn tokens_of(
+    alloc: Global,
+    names: &mut Interner,
+    line: &StrView<'_>,
+) -> Result<Vec<Token>, Fault> {
+    let mut tokens = Vec::new(alloc);
+    let mut rest = line.trim();
+    for _ in 0..line.text().len() {
+        if rest.text().is_empty() {
+            break;
+        }
+        let unknown = Fault::at(rest.place(), Reason::UnknownCharacter);
+        let (word, after) = first_word(&rest).ok_or(unknown)?;
+        tokens.push(token_of(names, &word)?)?;
+        rest = after.trim_start();
+    }
+    Ok(tokens)
+}
+
+/// The longest run of letters and digits at the start of the view, or its first character, and the rest of the view.
+fn first_word<'a>(view: &StrView<'a>) -> Option<(StrView<'a>, StrView<'a>)> {
+    let text = view.text();
+    let first = text.chars().next().map_or(0, char::len_utf8);
+    let run = text.find(|c: char| !c.is_alphanumeric());
+    view.split_at(run.unwrap_or(text.len()).max(first))
+}
+
+/// The token of a word.
+fn token_of(names: &mut Interner, word: &StrView<'_>) -> Result<Token, Fault> {
+    let place = word.place();
+    let text = word.text();
+    let kind = match text {
+        "+" => Kind::Operator(Operator::Plus),
+        "-" => Kind::Operator(Operator::Minus),
+        "*" => Kind::Operator(Operator::Times),
+        "/" => Kind::Operator(Operator::Over),
+        "(" => Kind::Open,
+        ")" => Kind::Close,
+        "=" => Kind::Equals,
+        _ if text.starts_with(|c: char| c.is_ascii_digit()) => {
+            let number = text.parse();
+            Kind::Number(number.map_err(|_| Fault::at(place, Reason::LargeNumber))?)
+        }
+        _ if text.starts_with(|c: char| c.is_alphabetic()) => Kind::Name(
+            names.intern(text)?.index(),
+        ),
+        _ => return Err(Fault::at(place, Reason::UnknownCharacter)),
+    };
+    Ok(Token { kind, place })
+}
