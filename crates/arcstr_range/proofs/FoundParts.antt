@@ -63,6 +63,36 @@ pub found_part : (parent text : List ℕ) (place start end : ℕ) → IsLawful t
 found_part parent text place start end sliced (inl empty) = inl (ap (λ bytes. cut bytes start end) empty ∙ cut-nil start end)
 found_part parent text place start end sliced (inr at) = inr (stands_part parent text place start end sliced at)
 
+-- a text that stands in a parent starts at a boundary
+starts_at_boundary : (parent text : List ℕ) (place : ℕ) → StandsAt parent text place → IsCharBoundary text 0
+starts_at_boundary parent text place at = (
+  omega arith,
+  λ below lead.
+      let ends : place + length text - place ≡ length text = omega arith in
+      let read = get_or-take (place + length text - place) (drop place parent) 0 0 (omega (arith, below)) in
+      let read_whole = get_or-drop place parent 0 0 in
+      let same : get_or (cut parent place (place + length text)) 0 0 ≡ get_or text 0 0 = ap (λ (l : List ℕ). get_or l 0 0) at.same in
+      let zero_more : get_or parent (place + 0) 0 ≡ get_or parent place 0 = ap (λ (n : ℕ). get_or parent n 0) (omega arith) in
+      let first : 192 ≤ get_or parent place 0 =
+      at.lawful.at_boundaries.0.1 (omega (arith, at.lawful.within)) (omega (arith, read, read_whole, same, zero_more, lead)) in
+      omega (arith, read, read_whole, same, zero_more, first),
+)
+
+-- what holds of a text at a place holds of each part of it at its place, and the text starts at a boundary
+pub record PassesToParts (P : List ℕ → ℕ → Type 0) : Type 0 where
+  pub part : (text : List ℕ) (place start end : ℕ) → IsLawful text start end → P text place → P (cut text start end) (place + start)
+  pub start : (text : List ℕ) (place : ℕ) → P text place → IsCharBoundary text 0
+
+pub stands_passes : (parent : List ℕ) → PassesToParts (StandsAt parent)
+stands_passes parent = record { part = stands_part parent; start = starts_at_boundary parent }
+
+start_of_found : (parent text : List ℕ) (place : ℕ) → IsFoundAt parent text place → IsCharBoundary text 0
+start_of_found parent text place (inl empty) = (omega arith, λ below lead. absurd (omega (arith, ap length empty)))
+start_of_found parent text place (inr at) = starts_at_boundary parent text place at
+
+pub found_passes : (parent : List ℕ) → PassesToParts (IsFoundAt parent)
+found_passes parent = record { part = found_part parent; start = start_of_found parent }
+
 -- the new view is the part of the old one between two byte offsets of its text
 record IsPart (old new : View) : Type 0 where
   pub start : ℕ
@@ -121,7 +151,7 @@ IsPart-trim_end old new utf8 trims =
       place = omega (arith, trims.place);
     }
 
-stands_whole : (text : List ℕ) → IsUtf8 text → StandsAt text text 0
+pub stands_whole : (text : List ℕ) → IsUtf8 text → StandsAt text text 0
 stands_whole text utf8 =
     let ends : 0 + length text ≡ length text = omega arith in
     record {

@@ -1,25 +1,26 @@
 -- The lines of a view, one after another; their texts are those of std, and they are found where the view is found.
 use borrow.Author.Tests.{ne_eqb, eqb-true}
 use Rattle.std.proofs.Common.{◌≡◌, ℕ, ◌+◌, ◌-◌, ◌<◌, Option, None, Some, IfNone, IfSome, take, drop, ◌==◌, false, cond, List, [], ◌∷◌, ◌++◌, map, length, All}
-use Rattle.std.proofs.Common.{refl, sym, ap, ◌∙◌, arith, ◌≤◌, inl, inr, Bool, true, get_or, subst}
+use Rattle.std.proofs.Common.{refl, sym, ap, ◌∙◌, arith, ◌≤◌, Bool, true, get_or, subst}
 use Rattle.std.specs.Prelude.{MatchOption, encode_utf8, encode_utf8_all}
 use Rattle.std.specs.Char.{is_newline}
 use Rattle.std.specs.List.{slice_split, zip, onto_first}
-use Rattle.std.specs.Str.{IsUtf8, NoCharPasses, IsCharBoundary, chars}
+use Rattle.std.specs.Str.{IsUtf8, NoCharPasses, chars}
 use Rattle.std.specs.Str.Lines.{lines, lines_of_parts, strip_carriage_return}
 use Rattle.std.specs.Str.Pattern.{FindsChar, MatchBeginsAt}
-use Rattle.std.proofs.lemmas.List.{nil_from_length, take-append-drop, take_all, length-drop, append-nil, get_or-drop, get_or-take, length-map}
+use Rattle.std.proofs.lemmas.List.{nil_from_length, take-append-drop, take_all, length-drop, append-nil, length-map}
 use Rattle.std.proofs.lemmas.List.Elements.{All-from_get_or, All-nil, All-cons, All-head, All-tail}
 use Rattle.std.proofs.lemmas.List.Splits.{length-slice_split, slice_split_at, slice_split_none, slice_split-cons_no, slice_split-cons_yes}
 use Rattle.std.proofs.lemmas.Slice.{between_is}
+use Rattle.std.proofs.lemmas.Slice.Zip.{length-zip}
 use Rattle.std.proofs.lemmas.Str.{encode_ascii, IsCharBoundary-before_ascii, encodes-chars}
 use Rattle.std.proofs.lemmas.Str.Pattern.{NoCharPasses-char}
 use Rattle.arcstr_range.specs.Pieces.{lines_of, parts_at, parts_between, AreFoundWith, texts_between}
 use Rattle.arcstr_range.specs.Text.{cut}
 use Rattle.arcstr_range.specs.View.{View, part_of, view_at, IsFoundAt, StandsAt}
-use Rattle.arcstr_range.proofs.Pieces.{before_place, parts_last, IsViewOf, found_parts, texts_of_parts}
+use Rattle.arcstr_range.proofs.Pieces.{HoldsOf, before_place, few_parts, of_parts, parts_last, texts_of_parts}
 use Rattle.arcstr_range.specs.Ends.{IsLawful}
-use Rattle.arcstr_range.proofs.FoundParts.{found_part}
+use Rattle.arcstr_range.proofs.FoundParts.{PassesToParts, found_passes, stands_passes}
 
 abbrev newline : ℕ
 newline = 10
@@ -173,64 +174,63 @@ texts_of_lines_of view utf8 =
     let size : length parts ≡ length (parts_of_bytes view.text) = sym (length-map parts (λ (part : View). part.text)) ∙ ap length (texts_by_bytes view utf8) in
     texts_of_views_at (lines view.text) parts (omega (arith, size, lines_of_parts-le (parts_of_bytes view.text)))
 
--- ---- the lines are found
+-- ---- the lines are found and stand
 
--- a text that stands in a parent starts at a boundary
-starts_at_boundary : (parent text : List ℕ) (place : ℕ) → StandsAt parent text place → IsCharBoundary text 0
-starts_at_boundary parent text place at = (
-  omega arith,
-  λ below lead.
-      let ends : place + length text - place ≡ length text = omega arith in
-      let read = get_or-take (place + length text - place) (drop place parent) 0 0 (omega (arith, below)) in
-      let read_whole = get_or-drop place parent 0 0 in
-      let same : get_or (cut parent place (place + length text)) 0 0 ≡ get_or text 0 0 = ap (λ (l : List ℕ). get_or l 0 0) at.same in
-      let zero_more : get_or parent (place + 0) 0 ≡ get_or parent place 0 = ap (λ (n : ℕ). get_or parent n 0) (omega arith) in
-      let first : 192 ≤ get_or parent place 0 =
-      at.lawful.at_boundaries.0.1 (omega (arith, at.lawful.within)) (omega (arith, read, read_whole, same, zero_more, lead)) in
-      omega (arith, read, read_whole, same, zero_more, first),
-)
+module _ (P : List ℕ → ℕ → Type 0) (passes : PassesToParts P) where
+  of_prefix : (text : List ℕ) (place n : ℕ) → n < length text → get_or text n 0 < 128 → P text place → P (take n text) place
+  of_prefix text place n below ascii holds =
+      let boundary = IsCharBoundary-before_ascii text n below ascii in
+      let sliced : IsLawful text 0 n = record { in_order = omega arith; within = omega arith; at_boundaries = (passes.start text place holds, boundary) } in
+      subst (λ (l : List ℕ). P l place) (between_is text 0 n)
+      (subst (λ (m : ℕ). P (cut text 0 n) m) (omega arith) (passes.part text place 0 n sliced holds))
 
-found_prefix_of : (parent text : List ℕ) (place n : ℕ) → n < length text → get_or text n 0 < 128 → IsFoundAt parent text place → IsFoundAt parent (take n text) place
-found_prefix_of parent text place n below ascii (inl empty) = absurd (omega (arith, ap length empty))
-found_prefix_of parent text place n below ascii (inr at) =
-    let boundary = IsCharBoundary-before_ascii text n below ascii in
-    let sliced : IsLawful text 0 n = record { in_order = omega arith; within = omega arith; at_boundaries = (starts_at_boundary parent text place at, boundary) } in
-    subst (λ (l : List ℕ). IsFoundAt parent l place) (between_is text 0 n)
-    (subst (λ (m : ℕ). IsFoundAt parent (cut text 0 n) m) (omega arith) (found_part parent text place 0 n sliced (inr at)))
+  of_stripped_by : (text : List ℕ) (place : ℕ) (ends : Bool) → (get_or text (length text - 1) 0 == carriage_return) ≡ ends → P text place
+      → P (cond ends (take (length text - 1) text) text) place
+  of_stripped_by [] place true is holds = absurd (cc)
+  of_stripped_by (x ∷ xs) place true is holds =
+      let text = x ∷ xs in
+      of_prefix text place (length text - 1) (omega arith) (omega (arith, eqb-true _ carriage_return is)) holds
+  of_stripped_by text place false is holds = holds
 
-found_stripped_by : (parent text : List ℕ) (place : ℕ) (ends : Bool) → (get_or text (length text - 1) 0 == carriage_return) ≡ ends → IsFoundAt parent text place
-    → IsFoundAt parent (cond ends (take (length text - 1) text) text) place
-found_stripped_by parent [] place true is found = absurd (cc)
-found_stripped_by parent (x ∷ xs) place true is found =
-    let text = x ∷ xs in
-    found_prefix_of parent text place (length text - 1) (omega arith) (omega (arith, eqb-true _ carriage_return is)) found
-found_stripped_by parent text place false is found = found
+  of_view_at_one : (part : View) (empty : Bool) → HoldsOf P part → All (HoldsOf P) (views_at (cond empty [] (part.text ∷ [])) (part ∷ []))
+  of_view_at_one part true holds = All-nil (HoldsOf P)
+  of_view_at_one part false holds = All-cons (HoldsOf P) part [] holds (All-nil (HoldsOf P))
 
-found_view_at_one : (parent : List ℕ) (part : View) (empty : Bool) → IsViewOf parent part → All (IsViewOf parent) (views_at (cond empty [] (part.text ∷ [])) (part ∷ []))
-found_view_at_one parent part true found = All-nil (IsViewOf parent)
-found_view_at_one parent part false found = All-cons (IsViewOf parent) part [] found (All-nil (IsViewOf parent))
+  of_views_at : (parts : List View) → All (HoldsOf P) parts → All (HoldsOf P) (views_at (lines_of_parts (map (λ part. part.text) parts)) parts)
+  of_views_at [] holds = All-nil (HoldsOf P)
+  of_views_at (part ∷ []) holds = of_view_at_one part (length part.text == 0) (All-head (HoldsOf P) part [] holds)
+  of_views_at (part ∷ next ∷ parts) holds =
+      All-cons (HoldsOf P) (view_at (strip_carriage_return part.text) part.place) _
+      (of_stripped_by part.text part.place (get_or part.text (length part.text - 1) 0 == carriage_return) refl (All-head (HoldsOf P) part (next ∷ parts) holds))
+      (of_views_at (next ∷ parts) (All-tail (HoldsOf P) part (next ∷ parts) holds))
 
-found_views_at : (parent : List ℕ) (parts : List View) → All (IsViewOf parent) parts → All (IsViewOf parent) (views_at (lines_of_parts (map (λ part. part.text) parts)) parts)
-found_views_at parent [] found = All-nil (IsViewOf parent)
-found_views_at parent (part ∷ []) found = found_view_at_one parent part (length part.text == 0) (All-head (IsViewOf parent) part [] found)
-found_views_at parent (part ∷ next ∷ parts) found =
-    All-cons (IsViewOf parent) (view_at (strip_carriage_return part.text) part.place) _
-    (found_stripped_by parent part.text part.place (get_or part.text (length part.text - 1) 0 == carriage_return) refl (All-head (IsViewOf parent) part (next ∷ parts) found))
-    (found_views_at parent (next ∷ parts) (All-tail (IsViewOf parent) part (next ∷ parts) found))
+  of_lines : (view : View) → IsUtf8 view.text → HoldsOf P view → All (HoldsOf P) (lines_of view)
+  unfolding lines_of
+  of_lines view utf8 holds =
+      let parts = parts_between is_newline view in
+      subst (λ (l : List (List ℕ)). All (HoldsOf P) (views_at (lines_of_parts l) parts)) (texts_by_bytes view utf8)
+      (of_views_at parts (of_parts P passes is_newline view utf8 holds))
 
 pub found_lines : (view : View) → IsUtf8 view.text → AreFoundWith view (lines_of view)
+found_lines view utf8 = record {
+  each = λ parent. of_lines (IsFoundAt parent) (found_passes parent) view utf8;
+  standing = λ parent. of_lines (StandsAt parent) (stands_passes parent) view utf8;
+}
+
+pub few_lines : (view : View) → IsUtf8 view.text → length (lines_of view) ≤ length view.text + 1
 unfolding lines_of
-found_lines view utf8 =
+few_lines view utf8 =
     let parts = parts_between is_newline view in
-    record {
-      each = λ parent found.
-          subst (λ (l : List (List ℕ)). All (IsViewOf parent) (views_at (lines_of_parts l) parts)) (texts_by_bytes view utf8)
-          (found_views_at parent parts (found_parts is_newline view utf8 parent found));
-    }
+    omega (
+      arith,
+      few_parts is_newline view utf8,
+      length-zip (lines view.text) parts,
+      length-map (zip (lines view.text) parts) (λ (line : List ℕ × View). view_at line.0 line.1.place),
+    )
 
 -- the functions whose proofs use these rulesets name them
 pub ruleset first_newlines = (first_line_none, first_line_some)
 
 pub ruleset empty_views = (no_lines, no_lines_at_end)
 
-pub ruleset facts_of_lines = (texts_of_lines_of, found_lines)
+pub ruleset facts_of_lines = (texts_of_lines_of, found_lines, few_lines)

@@ -1,5 +1,5 @@
 -- The parts of a view, one after another.
-use Rattle.std.proofs.Common.{◌≡◌, ℕ, ◌+◌, ◌-◌, ◌<◌, Bool, true, false, cond, ◌==◌, Option, None, Some, IfNone, IfSome, take, drop, eq-eqb, List, [], ◌∷◌, ◌++◌, map, length, All, refl, sym, ap, subst, ◌∙◌, arith}
+use Rattle.std.proofs.Common.{◌≡◌, ℕ, ◌+◌, ◌-◌, ◌<◌, ◌≤◌, Bool, true, false, cond, ◌==◌, Option, None, Some, IfNone, IfSome, take, drop, eq-eqb, List, [], ◌∷◌, ◌++◌, map, length, All, refl, sym, ap, subst, ◌∙◌, arith}
 use Rattle.std.specs.Prelude.{MatchOption, encode_utf8, encode_utf8_all}
 use Rattle.std.specs.Char.{len_utf8}
 use Rattle.std.specs.List.{filter, onto_first, slice_split}
@@ -7,15 +7,16 @@ use Rattle.std.specs.Str.{IsCharBoundary, IsUtf8, all_scalars, NoCharPasses, Non
 use Rattle.std.specs.Str.Pattern.{FindsChar, MatchBeginsAt}
 use Rattle.std.proofs.lemmas.List.Elements.{All-nil, All-cons, All-head, All-tail}
 use Rattle.std.proofs.lemmas.List.Splits.{length-slice_split, slice_split_at, slice_split_none}
-use Rattle.std.proofs.lemmas.Str.{chars-append, chars_past_char, chars_from_encodes, encodes-chars, length-encode, encodes-append, scalars-chars, IsCharBoundary-at_seam, IsCharBoundary-end, IsCharBoundary-start, IsUtf8-drop, IsUtf8-take}
-use Rattle.std.proofs.lemmas.List.{append-nil, drop_at, length-append, length-drop, length-take-le, take-append-drop, take_all, take_at}
+use Rattle.std.proofs.lemmas.List.Sums.{count_by-le-length}
+use Rattle.std.proofs.lemmas.Str.{chars-append, chars_past_char, chars_from_encodes, encodes-chars, length-encode, length-le-encodes, encodes-append, scalars-chars, IsCharBoundary-at_seam, IsCharBoundary-end, IsCharBoundary-start, IsUtf8-drop, IsUtf8-take}
+use Rattle.std.proofs.lemmas.List.{append-nil, drop_at, length-append, length-drop, length-map, length-take-le, take-append-drop, take_all, take_at}
 use Rattle.std.proofs.lemmas.Slice.{between_is}
 use Rattle.arcstr_range.specs.Pieces.{AreFoundWith, laid_out, parts_at, parts_between, separators_of, texts_between}
 use Rattle.arcstr_range.specs.Ends.{IsLawful}
 use Rattle.arcstr_range.specs.Text.{cut}
-use Rattle.arcstr_range.specs.View.{IsFoundAt, View, part_of, view_at}
+use Rattle.arcstr_range.specs.View.{IsFoundAt, StandsAt, View, part_of, view_at}
 use Rattle.arcstr_range.proofs.Boundaries.{scalars-rest}
-use Rattle.arcstr_range.proofs.FoundParts.{found_part}
+use Rattle.arcstr_range.proofs.FoundParts.{PassesToParts, found_passes, stands_passes}
 
 module _ (test : ℕ → Bool) where
   abbrev Fails : ℕ → Type 0
@@ -93,6 +94,22 @@ pub texts_of_parts : (test : ℕ → Bool) (view : View) → map (λ part. part.
 unfolding parts_between
 texts_of_parts test view = texts_laid_out view.place (texts_between test view.text) (separators_of test view.text)
 
+-- there are at most as many separators as bytes
+pub few_parts : (test : ℕ → Bool) (view : View) → IsUtf8 view.text → length (parts_between test view) ≤ length view.text + 1
+unfolding texts_between
+few_parts test view utf8 =
+    let texts = ap length (texts_of_parts test view) in
+    omega (
+      arith,
+      texts,
+      length-map (parts_between test view) (λ (part : View). part.text),
+      length-map (slice_split test (chars view.text)) encode_utf8_all,
+      length-slice_split test (chars view.text),
+      count_by-le-length test (chars view.text),
+      length-le-encodes (chars view.text),
+      ap length (encodes-chars view.text utf8),
+    )
+
 -- the characters of the parts, with the separators between them
 abbrev joined : List (List ℕ) → List ℕ → List ℕ
 joined [] separators = []
@@ -115,65 +132,64 @@ module _ (test : ℕ → Bool) where
   joined_parts [] = refl
   joined_parts (c ∷ cs) = joined_one c cs (test c) (joined_parts cs)
 
-abbrev pub IsViewOf : List ℕ → View → Type 0
-IsViewOf parent view = IsFoundAt parent view.text view.place
+abbrev pub HoldsOf : (List ℕ → ℕ → Type 0) → View → Type 0
+HoldsOf P view = P view.text view.place
 
--- the two halves of a text are found where the text is
-module _ (parent prefix rest : List ℕ) (place : ℕ) (whole_utf8 : IsUtf8 (prefix ++ rest)) (rest_utf8 : IsUtf8 rest) (found : IsFoundAt parent (prefix ++ rest) place) where
-  at_seam : IsCharBoundary (prefix ++ rest) (length prefix)
-  at_seam = IsCharBoundary-at_seam (prefix ++ rest) prefix rest refl rest_utf8
+-- what holds of a view and passes to its parts holds of the parts between characters
+module _ (P : List ℕ → ℕ → Type 0) (passes : PassesToParts P) where
+  -- the two halves of a text
+  module _ (prefix rest : List ℕ) (place : ℕ) (whole_utf8 : IsUtf8 (prefix ++ rest)) (rest_utf8 : IsUtf8 rest) (holds : P (prefix ++ rest) place) where
+    at_seam : IsCharBoundary (prefix ++ rest) (length prefix)
+    at_seam = IsCharBoundary-at_seam (prefix ++ rest) prefix rest refl rest_utf8
 
-  prefix_is_found : IsFoundAt parent prefix place
-  prefix_is_found =
-      let sliced : IsLawful (prefix ++ rest) 0 (length prefix) = record { in_order = omega arith; within = at_seam.0; at_boundaries = (IsCharBoundary-start (prefix ++ rest) whole_utf8, at_seam) } in
-      subst (λ (l : List ℕ). IsFoundAt parent l place) (between_is (prefix ++ rest) 0 (length prefix) ∙ take_at prefix rest (length prefix) refl)
-      (subst (λ (n : ℕ). IsFoundAt parent (cut (prefix ++ rest) 0 (length prefix)) n) (omega arith) (found_part parent (prefix ++ rest) place 0 (length prefix) sliced found))
+    of_prefix : P prefix place
+    of_prefix =
+        let sliced : IsLawful (prefix ++ rest) 0 (length prefix) = record { in_order = omega arith; within = at_seam.0; at_boundaries = (IsCharBoundary-start (prefix ++ rest) whole_utf8, at_seam) } in
+        subst (λ (l : List ℕ). P l place) (between_is (prefix ++ rest) 0 (length prefix) ∙ take_at prefix rest (length prefix) refl)
+        (subst (λ (n : ℕ). P (cut (prefix ++ rest) 0 (length prefix)) n) (omega arith) (passes.part (prefix ++ rest) place 0 (length prefix) sliced holds))
 
-  found_rest : IsFoundAt parent rest (place + length prefix)
-  found_rest =
-      let size = length-append prefix rest in
-      let sliced : IsLawful (prefix ++ rest) (length prefix) (length (prefix ++ rest)) = record { in_order = at_seam.0; within = omega arith; at_boundaries = (at_seam, IsCharBoundary-end (prefix ++ rest)) } in
-      subst (λ (l : List ℕ). IsFoundAt parent l (place + length prefix))
-      (ap (take (length (prefix ++ rest) - length prefix)) (drop_at prefix rest (length prefix) refl) ∙ take_all (length (prefix ++ rest) - length prefix) rest (omega (arith, size)))
-      (found_part parent (prefix ++ rest) place (length prefix) (length (prefix ++ rest)) sliced found)
+    of_rest : P rest (place + length prefix)
+    of_rest =
+        let size = length-append prefix rest in
+        let sliced : IsLawful (prefix ++ rest) (length prefix) (length (prefix ++ rest)) = record { in_order = at_seam.0; within = omega arith; at_boundaries = (at_seam, IsCharBoundary-end (prefix ++ rest)) } in
+        subst (λ (l : List ℕ). P l (place + length prefix))
+        (ap (take (length (prefix ++ rest) - length prefix)) (drop_at prefix rest (length prefix) refl) ∙ take_all (length (prefix ++ rest) - length prefix) rest (omega (arith, size)))
+        (passes.part (prefix ++ rest) place (length prefix) (length (prefix ++ rest)) sliced holds)
 
--- the text of a list of characters is found in its two halves
-module _ (parent prefix rest : List ℕ) (place : ℕ) (scalars : all_scalars (prefix ++ rest) ≡ true) (found : IsFoundAt parent (encode_utf8_all (prefix ++ rest)) place) where
-  rest_scalars : all_scalars rest ≡ true
-  rest_scalars = scalars-rest prefix rest scalars
-
-  found_halves : IsFoundAt parent (encode_utf8_all prefix) place × IsFoundAt parent (encode_utf8_all rest) (place + length (encode_utf8_all prefix))
-  found_halves =
-      let whole = subst (λ (l : List ℕ). IsFoundAt parent l place) (encodes-append prefix rest) found in
+  -- the text of a list of characters, and its two halves
+  of_halves : (prefix rest : List ℕ) (place : ℕ) → all_scalars (prefix ++ rest) ≡ true → P (encode_utf8_all (prefix ++ rest)) place
+      → P (encode_utf8_all prefix) place × P (encode_utf8_all rest) (place + length (encode_utf8_all prefix))
+  of_halves prefix rest place scalars holds =
+      let whole = subst (λ (l : List ℕ). P l place) (encodes-append prefix rest) holds in
       let whole_utf8 : IsUtf8 (encode_utf8_all prefix ++ encode_utf8_all rest) = (prefix ++ rest, (scalars, encodes-append prefix rest)) in
-      let rest_utf8 : IsUtf8 (encode_utf8_all rest) = (rest, (rest_scalars, refl)) in (
-        prefix_is_found parent (encode_utf8_all prefix) (encode_utf8_all rest) place whole_utf8 rest_utf8 whole,
-        found_rest parent (encode_utf8_all prefix) (encode_utf8_all rest) place whole_utf8 rest_utf8 whole,
+      let rest_utf8 : IsUtf8 (encode_utf8_all rest) = (rest, (scalars-rest prefix rest scalars, refl)) in (
+        of_prefix (encode_utf8_all prefix) (encode_utf8_all rest) place whole_utf8 rest_utf8 whole,
+        of_rest (encode_utf8_all prefix) (encode_utf8_all rest) place whole_utf8 rest_utf8 whole,
       )
 
-found_laid_out : (parent : List ℕ) (parts : List (List ℕ)) (separators : List ℕ) (place : ℕ) → all_scalars (joined parts separators) ≡ true
-    → IsFoundAt parent (encode_utf8_all (joined parts separators)) place → All (IsViewOf parent) (laid_out place (map encode_utf8_all parts) (map encode_utf8 separators))
-found_laid_out parent [] separators place scalars found = All-nil (IsViewOf parent)
-found_laid_out parent (part ∷ parts) [] place scalars found =
-    let halves = found_halves parent part (joined parts []) place scalars found in
-    All-cons (IsViewOf parent) (view_at (encode_utf8_all part) place) _ halves.0
-    (found_laid_out parent parts [] (place + length (encode_utf8_all part)) (rest_scalars parent part (joined parts []) place scalars found) halves.1)
-found_laid_out parent (part ∷ parts) (separator ∷ separators) place scalars found =
-    let behind = separator ∷ joined parts separators in
-    let halves = found_halves parent part behind place scalars found in
-    let behind_scalars = rest_scalars parent part behind place scalars found in
-    let next = place + length (encode_utf8_all part) in
-    let both = found_halves parent (separator ∷ []) (joined parts separators) next behind_scalars halves.1 in
-    All-cons (IsViewOf parent) (view_at (encode_utf8_all part) place) _ halves.0
-    (found_laid_out parent parts separators (next + length (encode_utf8 separator)) (rest_scalars parent (separator ∷ []) (joined parts separators) next behind_scalars halves.1)
-    (subst (λ (l : List ℕ). IsFoundAt parent (encode_utf8_all (joined parts separators)) (next + length l)) (append-nil (encode_utf8 separator)) both.1))
+  of_laid_out : (parts : List (List ℕ)) (separators : List ℕ) (place : ℕ) → all_scalars (joined parts separators) ≡ true
+      → P (encode_utf8_all (joined parts separators)) place → All (HoldsOf P) (laid_out place (map encode_utf8_all parts) (map encode_utf8 separators))
+  of_laid_out [] separators place scalars holds = All-nil (HoldsOf P)
+  of_laid_out (part ∷ parts) [] place scalars holds =
+      let halves = of_halves part (joined parts []) place scalars holds in
+      All-cons (HoldsOf P) (view_at (encode_utf8_all part) place) _ halves.0
+      (of_laid_out parts [] (place + length (encode_utf8_all part)) (scalars-rest part (joined parts []) scalars) halves.1)
+  of_laid_out (part ∷ parts) (separator ∷ separators) place scalars holds =
+      let behind = separator ∷ joined parts separators in
+      let halves = of_halves part behind place scalars holds in
+      let behind_scalars = scalars-rest part behind scalars in
+      let next = place + length (encode_utf8_all part) in
+      let both = of_halves (separator ∷ []) (joined parts separators) next behind_scalars halves.1 in
+      All-cons (HoldsOf P) (view_at (encode_utf8_all part) place) _ halves.0
+      (of_laid_out parts separators (next + length (encode_utf8 separator)) (scalars-rest (separator ∷ []) (joined parts separators) behind_scalars)
+      (subst (λ (l : List ℕ). P (encode_utf8_all (joined parts separators)) (next + length l)) (append-nil (encode_utf8 separator)) both.1))
 
-pub found_parts : (test : ℕ → Bool) (view : View) → IsUtf8 view.text → (parent : List ℕ) → IsFoundAt parent view.text view.place → All (IsViewOf parent) (parts_between test view)
-unfolding parts_between texts_between separators_of
-found_parts test view utf8 parent found =
-    let same = joined_parts test (chars view.text) in
-    found_laid_out parent (slice_split test (chars view.text)) (filter test (chars view.text)) view.place (ap all_scalars same ∙ scalars-chars view.text utf8)
-    (subst (λ (l : List ℕ). IsFoundAt parent l view.place) (sym (ap encode_utf8_all same ∙ encodes-chars view.text utf8)) found)
+  pub of_parts : (test : ℕ → Bool) (view : View) → IsUtf8 view.text → HoldsOf P view → All (HoldsOf P) (parts_between test view)
+  unfolding parts_between texts_between separators_of
+  of_parts test view utf8 holds =
+      let same = joined_parts test (chars view.text) in
+      of_laid_out (slice_split test (chars view.text)) (filter test (chars view.text)) view.place (ap all_scalars same ∙ scalars-chars view.text utf8)
+      (subst (λ (l : List ℕ). P l view.place) (sym (ap encode_utf8_all same ∙ encodes-chars view.text utf8)) holds)
 
 -- ---- parts at a character, from the results of std's `find`
 
@@ -232,11 +248,18 @@ texts_of_parts_at c view = texts_of_parts (λ d. d == c) view
 
 pub found_parts_at : (c : ℕ) (view : View) → IsUtf8 view.text → AreFoundWith view (parts_at c view)
 unfolding parts_at
-found_parts_at c view utf8 = record { each = found_parts (λ d. d == c) view utf8 }
+found_parts_at c view utf8 = record {
+  each = λ parent. of_parts (IsFoundAt parent) (found_passes parent) (λ d. d == c) view utf8;
+  standing = λ parent. of_parts (StandsAt parent) (stands_passes parent) (λ d. d == c) view utf8;
+}
+
+pub few_parts_at : (c : ℕ) (view : View) → IsUtf8 view.text → length (parts_at c view) ≤ length view.text + 1
+unfolding parts_at
+few_parts_at c view utf8 = few_parts (λ d. d == c) view utf8
 
 -- the functions whose proofs use these rulesets name them
 pub ruleset first_places = (first_none, first_some)
 
 pub ruleset lawful_places = (lawful_before, lawful_behind)
 
-pub ruleset parts_at_facts = (texts_of_parts_at, found_parts_at)
+pub ruleset parts_at_facts = (texts_of_parts_at, found_parts_at, few_parts_at)

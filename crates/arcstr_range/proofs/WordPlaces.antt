@@ -1,6 +1,6 @@
 -- The words of a view, one after another.
 use borrow.Author.Tests.{lt-ltb}
-use Rattle.std.proofs.Common.{◌≡◌, ℕ, ◌+◌, ◌-◌, ◌<◌, Bool, true, false, cond, None, Some, Bor, List, [], ◌∷◌, ◌++◌, map, length, All, take, drop, refl, sym, ap, subst, ◌∙◌, append_assoc, arith}
+use Rattle.std.proofs.Common.{◌≡◌, ℕ, ◌+◌, ◌-◌, ◌<◌, ◌≤◌, Bool, true, false, cond, None, Some, Bor, List, [], ◌∷◌, ◌++◌, map, length, All, take, drop, refl, sym, ap, subst, ◌∙◌, append_assoc, arith}
 use Rattle.std.specs.Prelude.{encode_utf8, encode_utf8_all, nat_lt}
 use Rattle.std.specs.Char.{IsScalar, is_not_whitespace, is_whitespace}
 use Rattle.std.specs.List.{filter, slice_split}
@@ -10,12 +10,14 @@ use Rattle.std.specs.declared.str.SplitWhitespace.{SplitWhitespace}
 use Rattle.std.proofs.lemmas.List.{append-nil, drop_at, length-append, take_all, take_at}
 use Rattle.std.proofs.lemmas.List.Elements.{All-nil, All-cons, All-filter, All-head, All-tail}
 use Rattle.std.proofs.lemmas.List.Splits.{slice_split-cons_yes, slice_split_at, slice_split_none}
+use Rattle.std.proofs.lemmas.List.Sums.{count_by-le-length, length-filter}
 use Rattle.std.proofs.lemmas.Str.{IsCharBoundary-at_seam, IsCharBoundary-end, chars-encodes, chars_from_encodes, encode_same, encodes-chars, scalars-chars, len_utf8_bounds, length-encode}
 use Rattle.arcstr_range.specs.Text.{cut}
 use Rattle.arcstr_range.specs.Pieces.{AreFoundWith, IsFirstWordAt, has_text, is_not_empty, laid_out, parts_between, separators_of, texts_between, words_of}
-use Rattle.arcstr_range.specs.View.{View, part_of, view_at}
+use Rattle.arcstr_range.specs.View.{IsFoundAt, StandsAt, View, part_of, view_at}
 use Rattle.arcstr_range.proofs.Boundaries.{scalars-rest}
-use Rattle.arcstr_range.proofs.Pieces.{IsViewOf, filter_before, filter_none, filter_one, found_parts, texts_of_parts}
+use Rattle.arcstr_range.proofs.FoundParts.{found_passes, stands_passes}
+use Rattle.arcstr_range.proofs.Pieces.{HoldsOf, few_parts, filter_before, filter_none, filter_one, of_parts, texts_of_parts}
 
 abbrev IsBlack : ℕ → Type 0
 IsBlack c = is_whitespace c ≡ false
@@ -233,7 +235,17 @@ texts_of_words view = texts_with_text (parts_between is_whitespace view) ∙ ap 
 pub found_words : (view : View) → IsUtf8 view.text → AreFoundWith view (words_of view)
 unfolding words_of
 found_words view utf8 =
-    record { each = λ parent found. All-filter has_text (IsViewOf parent) (parts_between is_whitespace view) (found_parts is_whitespace view utf8 parent found) }
+    let parts = parts_between is_whitespace view in
+    record {
+      each = λ parent found. All-filter has_text (HoldsOf (IsFoundAt parent)) parts (of_parts (IsFoundAt parent) (found_passes parent) is_whitespace view utf8 found);
+      standing = λ parent at. All-filter has_text (HoldsOf (StandsAt parent)) parts (of_parts (StandsAt parent) (stands_passes parent) is_whitespace view utf8 at);
+    }
+
+pub few_words : (view : View) → IsUtf8 view.text → length (words_of view) ≤ length view.text + 1
+unfolding words_of
+few_words view utf8 =
+    let parts = parts_between is_whitespace view in
+    omega (arith, few_parts is_whitespace view utf8, length-filter has_text parts, count_by-le-length has_text parts)
 
 -- the function whose proof uses these rulesets names them
-pub ruleset facts_of_words = (texts_of_words, found_words)
+pub ruleset facts_of_words = (texts_of_words, found_words, few_words)

@@ -5,7 +5,7 @@ use Rattle.std.specs.List.{filter, slice_split, zip}
 use Rattle.std.specs.Str.{chars}
 use Rattle.std.specs.Str.Lines.{lines}
 use Rattle.arcstr_range.specs.Ends.{IsLawful}
-use Rattle.arcstr_range.specs.View.{IsFoundAt, View, part_of, view_at}
+use Rattle.arcstr_range.specs.View.{IsFoundAt, StandsAt, View, part_of, view_at}
 
 -- texts one after another from a place on, with a separator after each as long as there are separators
 abbrev pub laid_out : ℕ → List (List ℕ) → List (List ℕ) → List View
@@ -49,6 +49,7 @@ pub record IsFirstWordAt (view : View) (start end : ℕ) : Type 0 where
   pub word : IsLawful view.text start end
   pub behind : IsLawful view.text end (length view.text)
 
--- each of the views is found wherever the whole view is found
+-- each of the views is found wherever the whole view is found, and stands, even if it is empty, wherever the whole view stands
 pub record AreFoundWith (whole : View) (views : List View) : Type 0 where
   pub each : (parent : List ℕ) → IsFoundAt parent whole.text whole.place → All (λ view. IsFoundAt parent view.text view.place) views
+  pub standing : (parent : List ℕ) → StandsAt parent whole.text whole.place → All (λ view. StandsAt parent view.text view.place) views

@@ -1,5 +1,8 @@
 //! Views of a text that remember their place in a parent.
-ghost use Rattle.std.specs.Prelude.{◌≡◌, ◌↔◌, ◌+◌, ◌≤◌, length, IsTrue, IsSome, IfSome};
+ghost use Rattle.std.specs.Prelude.{◌≡◌, ◌↔◌, ◌+◌, ◌≤◌, length, IsTrue, IsSome, IfSome, Some, bytes_eq, ⊤};
+ghost use Rattle.std.specs.Cmp.{on_equiv, on_per, partial_equiv_from_equiv};
+ghost use Rattle.std.specs.Cmp.Lexicographic.{nat_list_eq_equiv};
+ghost use Rattle.std.specs.Fmt.{styled_text};
 ghost use Rattle.std.specs.Str.{trim, trim_end, trim_start};
 ghost use Rattle.arcstr_range.specs.Ends.{IsLawful};
 ghost use Rattle.arcstr_range.specs.Trim.{Trims, TrimsEnd, TrimsStart};
@@ -11,6 +14,8 @@ pub mod split;
 pub mod words;
 
 use crate::range::{StrRange, checked_ends, slice};
+use std::alloc::AllocError;
+use std::fmt;
 use std::marker::Model;
 use std::ops::Range;
 
@@ -100,6 +105,22 @@ impl<'a> StrView<'a> {
         ensures fits { end_of self.now ≤ usize.MAX }
     {
         self.place
+    }
+
+    /// Returns a copy of the view. A view is not `Copy`, and `clone` of the trait `Clone` returns a `Result`, which for a view is always `Ok`.
+    ///
+    /// ```
+    /// let view = StrView::at("abc", 4).ok_or("no view")?;
+    /// let again = view.copied();
+    /// assert_eq!(rt; (again.text(), again.range()), ("abc", 4..7));
+    /// ```
+    pub fn copied(&self) -> StrView<'a>
+        ensures { result ≡ self.now }
+    {
+        StrView {
+            text: self.text,
+            place: self.place,
+        }
     }
 
     /// Returns the byte range of the view: from its place on, as long as its text.
@@ -216,5 +237,45 @@ impl<'a> StrView<'a> {
             Ok((start, end)) => &parent[start..end] == self.text,
             Err(_) => false,
         }
+    }
+}
+
+impl<'a> Clone for StrView<'a> {
+    ghost is_clone = { λ view copy. copy ≡ view };
+
+    ghost is_infallible = { λ _. ⊤ };
+
+    /// Returns a copy of the view, as `copied` does. Never fails.
+    fn clone(&self) -> Result<StrView<'a>, AllocError> {
+        Ok(self.copied())
+    }
+}
+
+impl PartialEq for StrView<'_> {
+    ghost eq = { λ one other. bytes_eq one.text other.text };
+
+    ghost laws = { on_per (λ view. view.text) (partial_equiv_from_equiv nat_list_eq_equiv) };
+
+    /// Tests whether the two texts are equal, as `==` of two `&str` does, whatever their places.
+    fn eq(&self, other: &StrView<'_>) -> bool
+        ensures value { result ≡ bytes_eq self.now.text other.now.text }
+        ensures same { IsTrue result ↔ (self.now.text ≡ other.now.text) }
+    {
+        self.text == other.text
+    }
+}
+
+impl Eq for StrView<'_> {
+    ghost laws = { on_equiv (λ view. view.text) nat_list_eq_equiv };
+}
+
+impl fmt::Display for StrView<'_> {
+    ghost output = { λ view. Some view.text };
+
+    ghost styled_output = { λ view spec. Some (styled_text spec view.text) };
+
+    /// Writes the text with padding and precision, as for a `str`. Fails if the writer fails. Allocates nothing itself.
+    fn fmt<W: fmt::Write>(&self, f: &mut fmt::Formatter<W>) -> fmt::Result {
+        f.pad(self.text)
     }
 }

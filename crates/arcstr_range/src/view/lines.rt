@@ -1,5 +1,5 @@
 //! The lines of a view. No call here allocates.
-ghost use Rattle.std.specs.Prelude.{◌≡◌, ◌+◌, ◌<◌, ◌≤◌, [], ◌∷◌, length, map, IfNone, IfSome};
+ghost use Rattle.std.specs.Prelude.{◌≡◌, ◌+◌, ◌^◌, ◌<◌, ◌≤◌, [], ◌∷◌, length, map, IfNone, IfSome};
 ghost use Rattle.std.specs.Iterator.{YieldsFirst, item_count};
 ghost use Rattle.std.specs.Str.Lines.{lines, strip_carriage_return};
 ghost use Rattle.arcstr_range.specs.Ends.{IsLawful};
@@ -51,6 +51,8 @@ impl<'a> StrView<'a> {
         ensures texts { map (λ line. line.text) result ≡ lines self.now.text }
         // Promise: Each part is found wherever the view is found.
         ensures found { AreFoundWith self.now result }
+        // Promise: Their numbers fit a `usize`.
+        ensures fits { length result < 2 ^ 64 }
     {
         Lines {
             rest: self.copied(),

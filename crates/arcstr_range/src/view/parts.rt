@@ -1,4 +1,4 @@
-//! The first match of a pattern in a view, and parts of a view on either side of a byte offset or of a match. A pattern is a `char`, a `&str` or another of
+//! The first and the last match of a pattern in a view, and parts of a view on either side of a byte offset or of a match. A pattern is a `char`, a `&str` or another of
 //! std's patterns. The caller must ensure that the pattern can search, as it must ensure that a closure can be called.
 ghost use Rattle.std.specs.Prelude.{◌≡◌, ◌↔◌, ◌-◌, ◌≤◌, length, take, drop, IsSome, IfSome, MatchOption, None};
 ghost use Rattle.std.specs.Str.{IsCharBoundary};
@@ -28,6 +28,25 @@ impl<'a> StrView<'a> {
         ensures boundary { IfSome result (IsCharBoundary self.now.text) }
     {
         self.text.find(pattern)
+    }
+
+    /// Returns the byte offset, within the view's text, of the last match of the pattern, as `str::rfind` does. Otherwise as `find`.
+    ///
+    /// ```
+    /// let line = StrView::at("a=b=é", 10).ok_or("no view")?;
+    /// assert_eq!(rt; line.rfind('='), Some(3));
+    /// assert_eq!(rt; line.rfind("=b"), Some(1));
+    /// assert_eq!(rt; line.rfind(':'), None);
+    /// ```
+    pub fn rfind<P: Pattern>(&self, pattern: P) -> Option<usize>
+    where
+        P: Drop,
+        requires { P.can_search pattern }
+        ensures cases { MatchOption result (P.rfind_in_gives pattern self.now.text None) (MatchBeginsAt (P.rfind_in_gives pattern) self.now.text) }
+        // Promise: The offset is a character boundary.
+        ensures boundary { IfSome result (IsCharBoundary self.now.text) }
+    {
+        self.text.rfind(pattern)
     }
 
     /// Splits the view at a byte offset of its own text, as `str::split_at_checked` does. Returns `None` exactly if the offset is past the text or inside a
@@ -176,16 +195,6 @@ impl<'a> StrView<'a> {
         StrView {
             text: suffix,
             place: self.place + (self.text.len() - suffix.len()),
-        }
-    }
-
-    /// Returns a copy of the view.
-    pub(super) fn copied(&self) -> StrView<'a>
-        ensures { result ≡ self.now }
-    {
-        StrView {
-            text: self.text,
-            place: self.place,
         }
     }
 

@@ -1,5 +1,5 @@
 //! The parts of a view between the occurrences of a character. No call here allocates.
-ghost use Rattle.std.specs.Prelude.{◌≡◌, ◌+◌, ◌==◌, List, [], ◌∷◌, length, map, IfNone, IfSome};
+ghost use Rattle.std.specs.Prelude.{◌≡◌, ◌+◌, ◌^◌, ◌<◌, ◌==◌, List, [], ◌∷◌, length, map, IfNone, IfSome};
 ghost use Rattle.std.specs.Iterator.{YieldsFirst, item_count};
 ghost use Rattle.std.specs.Char.{len_utf8};
 ghost use Rattle.std.specs.Option.{option_map_or};
@@ -53,6 +53,8 @@ impl<'a> StrView<'a> {
         ensures texts { map (λ part. part.text) result ≡ texts_between (λ c. c == separator) self.now.text }
         // Promise: Each part is found wherever the view is found.
         ensures found { AreFoundWith self.now result }
+        // Promise: Their numbers fit a `usize`.
+        ensures fits { length result < 2 ^ 64 }
     {
         Split {
             rest: Some(self.copied()),

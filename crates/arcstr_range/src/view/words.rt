@@ -1,5 +1,5 @@
 //! The words of a view. No call here allocates.
-ghost use Rattle.std.specs.Prelude.{◌≡◌, [], map, IfNone, IfSome};
+ghost use Rattle.std.specs.Prelude.{◌≡◌, ◌^◌, ◌<◌, [], length, map, IfNone, IfSome};
 ghost use Rattle.std.specs.Char.{is_whitespace};
 ghost use Rattle.std.specs.List.{filter};
 ghost use Rattle.std.specs.Iterator.{YieldsFirst, item_count};
@@ -50,6 +50,8 @@ impl<'a> StrView<'a> {
         ensures texts { map (λ word. word.text) result ≡ filter is_not_empty (texts_between is_whitespace self.now.text) }
         // Promise: Each part is found wherever the view is found.
         ensures found { AreFoundWith self.now result }
+        // Promise: Their numbers fit a `usize`.
+        ensures fits { length result < 2 ^ 64 }
     {
         SplitWhitespace {
             rest: self.copied(),

@@ -129,29 +129,30 @@ fn splits_as_a_str(rt: HostRuntime) {
     }
 }
 
-/// Texts, patterns to find in them, and the byte offsets of the first matches.
-const PATTERNS: [(&str, &str, Option<usize>); 12] = [
-    ("", "", Some(0)),
-    ("", "a", None),
-    ("abc", "", Some(0)),
-    ("abab", "b", Some(1)),
-    ("xaab", "aab", Some(1)),
-    ("aéa", "é", Some(1)),
-    ("a😀é", "é", Some(5)),
-    ("ab", "abc", None),
-    ("Löwe 老虎 Léopard Gepardi", "L", Some(0)),
-    ("Löwe 老虎 Léopard Gepardi", "é", Some(14)),
-    ("Löwe 老虎 Léopard Gepardi", "pard", Some(17)),
-    ("Löwe 老虎 Léopard Gepardi", "x", None),
+/// Texts, patterns to find in them, and the byte offsets of the first and the last matches.
+const PATTERNS: [(&str, &str, Option<usize>, Option<usize>); 12] = [
+    ("", "", Some(0), Some(0)),
+    ("", "a", None, None),
+    ("abc", "", Some(0), Some(3)),
+    ("abab", "b", Some(1), Some(3)),
+    ("xaab", "aab", Some(1), Some(1)),
+    ("aéa", "é", Some(1), Some(1)),
+    ("é😀é", "é", Some(0), Some(6)),
+    ("ab", "abc", None, None),
+    ("Löwe 老虎 Léopard Gepardi", "L", Some(0), Some(13)),
+    ("Löwe 老虎 Léopard Gepardi", "é", Some(14), Some(14)),
+    ("Löwe 老虎 Léopard Gepardi", "pard", Some(17), Some(24)),
+    ("Löwe 老虎 Léopard Gepardi", "x", None, None),
 ];
 
 #[test]
 fn finds_as_a_str(rt: HostRuntime) {
-    for (text, pattern, wanted) in PATTERNS {
+    for (text, pattern, first, last) in PATTERNS {
         let view = &view_at(&rt, text, 7);
-        check_eq!(rt; view.find(pattern), wanted);
+        check_eq!(rt; (view.find(pattern), view.rfind(pattern)), (first, last));
         if let Some(character) = pattern.chars().next() {
             check_eq!(rt; view.find(character), text.find(character));
+            check_eq!(rt; view.rfind(character), text.rfind(character));
         }
     }
 }

@@ -70,6 +70,28 @@ fn found_after_a_trim(rt: HostRuntime) {
 }
 
 #[test]
+fn views_of_one_text_are_equal_wherever_they_stand(rt: HostRuntime) {
+    check_eq!(rt; view_at(&rt, "ab", 4), StrView::whole("ab"));
+    check!(rt; view_at(&rt, "ab", 4) != view_at(&rt, "a", 4));
+    check!(rt; view_at(&rt, "", 4) == StrView::whole(""));
+}
+
+#[test]
+fn a_copied_view_is_the_same(rt: HostRuntime) {
+    let view = &view_at(&rt, "ab", 4);
+    check_view(&rt, view.copied(), "ab", 4);
+    check_view(&rt, view.clone().expect(&rt, "no copy"), "ab", 4);
+}
+
+#[test]
+fn a_view_is_printed_as_its_text(rt: HostRuntime) {
+    let alloc = rt.alloc();
+    let view = &view_at(&rt, "é", 4);
+    let line = format!(in alloc; "[{view}] [{view:>3}] [{view:?}]").expect(&rt, "no memory");
+    check_eq!(rt; line.as_str(), "[é] [  é] [StrView { text: \"é\", place: 4 }]");
+}
+
+#[test]
 fn types_have_their_sizes(rt: HostRuntime) {
     check_eq!(rt; size_of::<StrView<'_>>(), 24);
     check_eq!(rt; (size_of::<StrRange>(), size_of::<RangeFault>()), (24, 1));
