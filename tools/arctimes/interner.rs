@@ -25,6 +25,9 @@ pub(crate) fn run<M: Machine>(rt: &M, request: &Request) -> Result<()> {
         "intern" => time_interning(rt, &request, &words),
         "intern_get" => time_looking_up(rt, &request, &words),
         "intern_shared" => time_sharing(rt, &request, &words),
+        "intern_shared_new" => time_sharing_anew(rt, &request, &words),
+        "intern_local" => time_sharing_locally(rt, &request, &words),
+        "get_frozen" => time_frozen(rt, &request, &words),
         _ => no_figure(),
     }
 }

@@ -3,7 +3,9 @@
 
 pub use fault::InternFault;
 pub use interner::{Interner, MOST_TEXTS};
-pub use shared_interner::{SharedInterner, SharedSymbol};
+pub use shared_interner::{
+    FrozenInterner, LocalInterner, SharedInterner, SharedSymbol, SharedTexts,
+};
 pub use symbol::Symbol;
 
 mod fault;

@@ -11,12 +11,18 @@ use arcstr::ArcStr;
 use std::alloc::Global;
 use std::hash::{BuildHasher, BuildHasherDefault, FoldHasher};
 use std::marker::Model;
-use std::sync::{RwLock, Wait};
+use std::sync::RwLock;
 
+mod frozen_interner;
 mod interning;
+mod local_interner;
 mod shared_symbol;
+mod shared_texts;
 
+pub use frozen_interner::FrozenInterner;
+pub use local_interner::LocalInterner;
 pub use shared_symbol::SharedSymbol;
+pub use shared_texts::SharedTexts;
 
 /// Keeps each distinct text once, as an `ArcStr`, for any number of threads.
 ///
@@ -25,8 +31,8 @@ pub use shared_symbol::SharedSymbol;
 /// for one text as long as the interner lives, whatever other threads do. The numbers are 0, 1, 2 and so on, in the order in which the
 /// texts were added. Only a call that runs out of memory while other threads add texts can leave a number without a text.
 ///
-/// The contracts do not say that a call succeeds, that a word has one number, which number is next, or what `len` and `resolve` answer:
-/// the tests `threads_agree_on_eight_shards`, `words_are_numbered_as_they_come` and `words_are_told_apart` check that.
+/// The contracts do not say that a call succeeds, that a word has one number, which number is next, or what `len` answers: the tests
+/// `threads_agree_on_eight_shards`, `words_are_numbered_as_they_come` and `words_are_told_apart` check that.
 ///
 /// The default hasher has a fixed seed. Where an attacker picks the texts, make the interner by `with_hasher`.
 ///
@@ -71,6 +77,24 @@ impl SharedInterner<BuildHasherDefault<FoldHasher>> {
     {
         SharedInterner::with_hasher(alloc, shards, BuildHasherDefault::new())
     }
+
+    /// As `new`, with room for this many texts, which is allocated here: in the list, and in each shard for its part of them. A shard
+    /// that gets more than its part grows.
+    ///
+    /// ```
+    /// let interner = SharedInterner::with_capacity(rt.alloc(), 8, 1_000)?;
+    /// assert!(rt; interner.is_empty());
+    /// ```
+    pub fn with_capacity(
+        alloc: Global,
+        shards: usize,
+        texts: usize,
+    ) -> Result<SharedInterner, InternFault>
+        requires { (1 ≤ shards) × (shards ≤ 64) }
+        ensures { IfErr result (λ fault. fault ≡ InternFault.Memory) }
+    {
+        SharedInterner::with_room(alloc, shards, texts, BuildHasherDefault::new())
+    }
 }
 
 impl<S: BuildHasher + Drop> SharedInterner<S> {
@@ -90,8 +114,21 @@ impl<S: BuildHasher + Drop> SharedInterner<S> {
         requires { (1 ≤ shards) × (shards ≤ 64) }
         ensures { IfErr result (λ fault. fault ≡ InternFault.Memory) }
     {
-        let texts = boxcar::Vec::new(alloc)?;
-        let shards = empty_shards(alloc, shards)?;
+        SharedInterner::with_room(alloc, shards, 0, hash_builder)
+    }
+
+    /// An interner without texts, with room for this many.
+    fn with_room(
+        alloc: Global,
+        shards: usize,
+        room: usize,
+        hash_builder: S,
+    ) -> Result<SharedInterner<S>, InternFault>
+        requires { (1 ≤ shards) × (shards ≤ 64) }
+        ensures { IfErr result (λ fault. fault ≡ InternFault.Memory) }
+    {
+        let texts = boxcar::Vec::with_capacity(alloc, room)?;
+        let shards = empty_shards(alloc, shards, room.div_ceil(shards))?;
         Ok(SharedInterner {
             shards,
             texts,
@@ -150,19 +187,6 @@ impl<S: BuildHasher> SharedInterner<S> {
         Some(SharedSymbol { text })
     }
 
-    /// Returns a clone of the text with this number, or `None` if no text has it. Takes the steps of `ArcStr::clone`.
-    ///
-    /// ```
-    /// let interner = SharedInterner::new(rt.alloc(), 8)?;
-    /// let number = interner.intern(&rt, "foo")?.number();
-    /// let text = interner.resolve(&rt, number);
-    /// assert!(rt; text.is_some_and(|text| text.eq_str("foo")));
-    /// ```
-    pub fn resolve(&self, rt: &impl Wait, number: Symbol) -> Option<ArcStr> {
-        let symbol = self.symbol_at(number)?;
-        Some(self.text(&symbol).clone(rt))
-    }
-
     /// Returns the number of texts. It may miss texts that other threads are adding. Takes no lock.
     ///
     /// ```
@@ -185,17 +209,39 @@ impl<S: BuildHasher> SharedInterner<S> {
     pub fn is_empty(&self) -> bool {
         self.len() == 0
     }
+
+    /// Returns the symbols with their texts, in the order of their numbers. It may miss texts that other threads are adding. Takes no
+    /// lock.
+    ///
+    /// ```
+    /// let interner = SharedInterner::new(rt.alloc(), 8)?;
+    /// interner.intern(&rt, "foo")?;
+    /// for (symbol, text) in interner.iter() {
+    ///     assert_eq!(rt; symbol.number().index(), 0);
+    ///     assert_eq!(rt; text.as_str(), "foo");
+    /// }
+    /// ```
+    pub fn iter(&self) -> SharedTexts<'_>
+        ensures texts { result.texts.now ≡ self.now }
+        ensures first { result.index ≡ 0 }
+    {
+        SharedTexts::of(&self.texts)
+    }
 }
 
-/// Shards without texts.
-fn empty_shards(alloc: Global, shards: usize) -> Result<Vec<RwLock<Slots>>, InternFault>
+/// Shards without texts, each with room for this many.
+fn empty_shards(
+    alloc: Global,
+    shards: usize,
+    room: usize,
+) -> Result<Vec<RwLock<Slots>>, InternFault>
     ensures len { IfOk result (λ tables. length tables.items ≡ shards) }
     ensures fault { IfErr result (λ fault. fault ≡ InternFault.Memory) }
 {
     let mut tables = Vec::with_capacity(alloc, shards)?;
     let mut count = 0;
     while count < shards {
-        tables.push_reserved(RwLock::new(Slots::new(alloc)));
+        tables.push_reserved(RwLock::new(Slots::with_capacity(alloc, room)?));
         count += 1;
     }
     Ok(tables)

@@ -16,9 +16,12 @@ use std::sync::Wait;
 
 impl<S: BuildHasher> SharedInterner<S> {
     /// Returns the symbol of the text that spells this word. If there is none, a copy of the word becomes a text, with the next number:
-    /// that allocates the copy, which an empty word does not need, and room where a table or the list is full. A word that is there
-    /// is never refused. Another one is refused, in this order: where `MOST_TEXTS` numbers are taken (`Full`), if it has
-    /// `2^63 - 25` bytes or more (`Length`), and out of memory (`Memory`). No call finds the text of a refused word.
+    /// that allocates the copy, which an empty word does not need, and room where a table or the list is full. A new word is refused,
+    /// in this order: where `MOST_TEXTS` numbers are taken (`Full`), if it has `2^63 - 25` bytes or more (`Length`), and out of memory
+    /// (`Memory`).
+    ///
+    /// Tests check the rest: a known word is never refused (`threads_agree_on_eight_shards`), and a refused word is not found
+    /// (`tools/refusals`).
     ///
     /// ```
     /// let interner = SharedInterner::new(rt.alloc(), 8)?;
@@ -31,7 +34,7 @@ impl<S: BuildHasher> SharedInterner<S> {
         // Promise: `Length` comes only for a copy that is too long.
         ensures too_long { IsErrOf result InternFault.Length → IsTooLong (length word.now) }
     {
-        self.find_or_add(rt, word, None)
+        self.find_or_add(rt, self.hash_of(word), word, None)
     }
 
     /// Returns the symbol of the text that spells the same as this one. If there is none, a clone of this text becomes a text: that
@@ -50,7 +53,27 @@ impl<S: BuildHasher> SharedInterner<S> {
         // Promise: `Length` never comes.
         ensures never_too_long { ¬ (IsErrOf result InternFault.Length) }
     {
-        self.find_or_add(rt, text.as_str(), Some(text))
+        self.find_or_add(rt, self.hash_of(text.as_str()), text.as_str(), Some(text))
+    }
+
+    /// As `intern`, for a text that the program holds: it is not copied, and never too long.
+    ///
+    /// ```
+    /// let interner = SharedInterner::new(rt.alloc(), 8)?;
+    /// let symbol = interner.intern_static(&rt, "foo")?;
+    /// assert!(rt; interner.text(&symbol).eq_str("foo"));
+    /// assert!(rt; ArcStr::is_static(interner.text(&symbol)));
+    /// ```
+    pub fn intern_static(
+        &self,
+        rt: &impl Wait,
+        word: &'static str,
+    ) -> Result<SharedSymbol, InternFault>
+        ensures word { IfOk result (λ symbol. IsSymbolOfWord self.now symbol word.now) }
+        // Promise: `Length` never comes.
+        ensures never_too_long { ¬ (IsErrOf result InternFault.Length) }
+    {
+        self.intern_arc(rt, &ArcStr::from_static(word))
     }
 
     /// Returns the symbol of the text that spells the same as this slice. If there is none, a clone of the slice's parent becomes a text
@@ -89,43 +112,29 @@ impl<S: BuildHasher> SharedInterner<S> {
     pub fn get(&self, rt: &impl Wait, word: &str) -> Option<SharedSymbol>
         ensures { IfSome result (λ symbol. IsSymbolOfWord self.now symbol word.now) }
     {
-        let hash = self.hash_builder.hash_one(word);
-        self.find(rt, hash, word)
+        self.find(rt, self.hash_of(word), word)
+    }
+
+    /// The hash of the word.
+    pub(crate) fn hash_of(&self, word: &str) -> u64 {
+        self.hash_builder.hash_one(word)
     }
 
     /// The symbol of the word with this hash.
-    fn find(&self, rt: &impl Wait, hash: u64, word: &str) -> Option<SharedSymbol>
+    pub(crate) fn find(&self, rt: &impl Wait, hash: u64, word: &str) -> Option<SharedSymbol>
         ensures { IfSome result (λ symbol. IsSymbolOfWord self.now symbol word.now) }
     {
         let shard = shard_of(hash, self.shards.len());
         let slots = self.shards[shard].read(rt);
-        self.find_in(&slots, hash, word)
+        find_in(&self.texts, &slots, hash, word)
     }
 
-    /// The symbol of the word with this hash, in the table of its shard.
-    fn find_in(&self, slots: &Slots, hash: u64, word: &str) -> Option<SharedSymbol>
-        ensures { IfSome result (λ symbol. IsSymbolOfWord self.now symbol word.now) }
-    {
-        slots.find(half_of(hash), |number| self.symbol_if_word(number, word))
-    }
-
-    /// The symbol of this number, if its text spells the word.
-    fn symbol_if_word(&self, number: u32, word: &str) -> Option<SharedSymbol>
-        ensures { IfSome result (λ symbol. IsSymbolOfWord self.now symbol word.now) }
-    {
-        let text = self.texts.witness(number as usize)?;
-        if self.texts.value(&text).eq_str(word) {
-            Some(SharedSymbol { text })
-        } else {
-            None
-        }
-    }
-
-    /// The symbol of the word. If there is none, the text becomes `whole` or, without one, a copy of the word. That text is made before
+    /// The symbol of the word with this hash. If there is none, the text becomes `whole` or, without one, a copy of the word. That text is made before
     /// the lock is taken alone, and dropped if another thread has added the word meanwhile.
-    fn find_or_add(
+    pub(crate) fn find_or_add(
         &self,
         rt: &impl Wait,
+        hash: u64,
         word: &str,
         whole: Option<&ArcStr>,
     ) -> Result<SharedSymbol, InternFault>
@@ -133,7 +142,6 @@ impl<S: BuildHasher> SharedInterner<S> {
         ensures word { IfOk result (λ symbol. IsSymbolOfWord self.now symbol word.now) }
         ensures too_long { IsErrOf result InternFault.Length → IsNone whole.entry × IsTooLong (length word.now) }
     {
-        let hash = self.hash_builder.hash_one(word);
         if let Some(symbol) = self.find(rt, hash, word) {
             return Ok(symbol);
         }
@@ -143,7 +151,7 @@ impl<S: BuildHasher> SharedInterner<S> {
         let text = text_to_keep(rt, self.alloc, word, whole)?;
         let shard = shard_of(hash, self.shards.len());
         let mut slots = self.shards[shard].write(rt);
-        match self.find_in(&slots, hash, word) {
+        match find_in(&self.texts, &slots, hash, word) {
             Some(symbol) => Ok(symbol),
             None => self.add(rt, &mut slots, hash, text),
         }
@@ -174,8 +182,32 @@ impl<S: BuildHasher> SharedInterner<S> {
     }
 }
 
+/// The symbol of the word with this hash, in the table of its shard.
+pub(crate) fn find_in(
+    texts: &boxcar::Vec<ArcStr>,
+    slots: &Slots,
+    hash: u64,
+    word: &str,
+) -> Option<SharedSymbol>
+    ensures { IfSome result (λ symbol. IsSymbolOfWord texts.now symbol word.now) }
+{
+    slots.find(half_of(hash), |number| symbol_if_word(texts, number, word))
+}
+
+/// The symbol of this number, if its text spells the word.
+fn symbol_if_word(texts: &boxcar::Vec<ArcStr>, number: u32, word: &str) -> Option<SharedSymbol>
+    ensures { IfSome result (λ symbol. IsSymbolOfWord texts.now symbol word.now) }
+{
+    let text = texts.witness(number as usize)?;
+    if texts.value(&text).eq_str(word) {
+        Some(SharedSymbol { text })
+    } else {
+        None
+    }
+}
+
 /// The shard of the words with this hash: its upper half as a fraction of `2^32`, of the number of shards.
-fn shard_of(hash: u64, shards: usize) -> usize
+pub(crate) fn shard_of(hash: u64, shards: usize) -> usize
     requires some { 1 ≤ shards }
     requires most { shards ≤ 64 }
     ensures { result < shards }

@@ -38,8 +38,6 @@ fn check_alone(rt: &(impl Abort + Wait), interner: &SharedInterner, number: Symb
     let text = interner.text(&symbol);
     check_eq!(rt; text.as_str(), wanted);
     check_eq!(rt; ArcStr::strong_count(text), Some(1));
-    let copy = &interner.resolve(rt, number).expect(rt, "no text");
-    check_eq!(rt; copy.as_str(), wanted);
 }
 
 /// Interns the words from the number `first` on and then those before it, and answers their symbols in the order of the words.
@@ -80,6 +78,17 @@ fn check_symbols<R: Abort + AllocGlobal + Wait>(
         check_alone(rt, interner, *symbol, &word);
     }
     check_eq!(rt; interner.len(), WORDS);
+    check_dense(rt, interner);
+}
+
+/// Asserts that the numbers of the texts are 0, 1, 2 and so on, so a list by these indexes has a place for each text.
+fn check_dense(rt: &impl Abort, interner: &SharedInterner) {
+    let mut count = 0_usize;
+    for (symbol, _) in interner.iter() {
+        check_eq!(*rt; symbol.number().index(), count);
+        count = count.wrapping_add(1);
+    }
+    check_eq!(*rt; interner.len(), count);
 }
 
 /// Interns the same words by all threads at once, each from another word on.
@@ -117,8 +126,7 @@ fn check_new(rt: &(impl Abort + Wait), interner: &SharedInterner, word: &str) {
     check!(rt; interned(rt, interner, word) == number);
     let found = &interner.get(rt, word).expect(rt, "not found");
     check!(rt; found.number() == number);
-    let text = &interner.resolve(rt, number).expect(rt, "no text");
-    check_eq!(rt; text.as_str(), word);
+    check_eq!(rt; interner.text(found).as_str(), word);
 }
 
 #[test]
@@ -166,6 +174,7 @@ fn check_one_number<R: Abort + AllocGlobal + Threads + Wait + Sync>(rt: &R) {
     }
     check_eq!(*rt; wanted.len(), TOGETHER);
     check_eq!(*rt; interner.len(), TOGETHER);
+    check_dense(rt, interner);
 }
 
 #[test]
@@ -185,11 +194,13 @@ fn check_order<R: Abort + AllocGlobal + Wait>(rt: &R, shards: usize)
         check_eq!(*rt; interned(rt, interner, &word).index(), number);
     }
     check_eq!(*rt; interner.len(), 5 * WORDS);
+    check_dense(rt, interner);
 }
 
 #[test]
 fn words_are_numbered_as_they_come(rt: HostRuntime) {
     check_order(&rt, 1);
+    check_order(&rt, 8);
     check_order(&rt, 37);
     check_order(&rt, 64);
 }
@@ -232,6 +243,20 @@ fn a_literal_stays_a_literal(rt: HostRuntime) {
         .intern_arc(&rt, &literal!("foo"))
         .expect(&rt, "refused");
     check!(rt; ArcStr::is_static(interner.text(&symbol)));
+    let symbol = interner.intern_static(&rt, "bar").expect(&rt, "refused");
+    check!(rt; ArcStr::is_static(interner.text(&symbol)));
+    check_eq!(rt; interner.len(), 2);
+}
+
+#[test]
+fn an_interner_with_room_numbers_words_as_another(ref rt: HostRuntime) {
+    let interner = &SharedInterner::with_capacity(rt.alloc(), 8, WORDS).expect(rt, "refused");
+    check!(rt; interner.is_empty());
+    for number in 0..2 * WORDS {
+        let word = word_of(rt.alloc(), number).expect(rt, "no memory");
+        check_eq!(rt; interned(rt, interner, &word).index(), number);
+    }
+    check_dense(rt, interner);
 }
 
 #[test]
