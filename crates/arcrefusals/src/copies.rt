@@ -1,7 +1,7 @@
 //! Calls that copy a shared text or a JSON value. A refusal leaves what they copy unchanged, and they then copy it again.
 use crate::calls::{Calls, Given, Machine, Made, Stop, again, check, is_text};
 use arcstr::{ArcStr, Substr};
-use serde_json::Value;
+use serde_json::{ToValue, Value};
 use std::borrow::CowStr;
 use std::io;
 
@@ -14,7 +14,13 @@ pub(crate) fn run<R: Machine>(rt: &R) -> io::Result<()> {
     again::<Substr, Value, R>(rt, "Substr::to_json", 0, "bar", 1)?;
     again::<Substr, String, R>(rt, "Substr::into_cow", 1, "bar", 1)?;
     again::<Value, Substr, R>(rt, "Substr::from_json", 0, "foobar", 1)?;
-    again::<Substr, ArcStr, R>(rt, "Substr::to_arc_str", 0, "bar", 1)
+    again::<Substr, ArcStr, R>(rt, "Substr::to_arc_str", 0, "bar", 1)?;
+    again::<ArcStr, ArcStr, R>(rt, "ArcStr::from_iter of texts", 1, "foobarfoobar", 1)?;
+    again::<Substr, ArcStr, R>(rt, "ArcStr::from_iter of slices", 1, "barbar", 1)?;
+    again::<ArcStr, String, R>(rt, "String::from_iter of texts", 2, "foobarfoobar", 1)?;
+    again::<Substr, String, R>(rt, "String::extend by slices", 2, "barbar", 1)?;
+    again::<ArcStr, Value, R>(rt, "ArcStr::to_value", 1, "foobar", 1)?;
+    again::<Substr, Value, R>(rt, "Substr::to_value", 1, "bar", 1)
 }
 
 impl Given for ArcStr {
@@ -63,8 +69,14 @@ impl Made for Value {
 
 impl Calls<ArcStr> for String {
     fn call<R: Machine>(rt: &R, text: &mut ArcStr, number: usize) -> Result<String, Stop> {
-        if number == 0 {
-            return Ok(ArcStr::to_string(text, rt.alloc())?);
+        match number {
+            0 => return Ok(ArcStr::to_string(text, rt.alloc())?),
+            2 => return Ok(
+                [text.clone(rt), text.clone(rt)]
+                    .into_iter()
+                    .collect::<String>(rt.alloc())?,
+            ),
+            _ => {}
         }
         match text.clone(rt).into_cow(rt.alloc()) {
             Ok(CowStr::Owned(copy)) => Ok(copy),
@@ -76,8 +88,14 @@ impl Calls<ArcStr> for String {
 
 impl Calls<Substr> for String {
     fn call<R: Machine>(rt: &R, slice: &mut Substr, number: usize) -> Result<String, Stop> {
-        if number == 0 {
-            return Ok(Substr::to_string(slice, rt.alloc())?);
+        match number {
+            0 => return Ok(Substr::to_string(slice, rt.alloc())?),
+            2 => {
+                let mut all = String::new(rt.alloc());
+                all.extend([slice.clone(rt), slice.clone(rt)])?;
+                return Ok(all);
+            }
+            _ => {}
         }
         match slice.clone(rt).into_cow(rt.alloc()) {
             Ok(CowStr::Owned(copy)) => Ok(copy),
@@ -94,14 +112,22 @@ fn refused_if(is_unchanged: bool) -> Result<String, Stop> {
 }
 
 impl Calls<ArcStr> for Value {
-    fn call<R: Machine>(rt: &R, text: &mut ArcStr, _: usize) -> Result<Value, Stop> {
-        Ok(text.to_json(rt.alloc())?)
+    fn call<R: Machine>(rt: &R, text: &mut ArcStr, number: usize) -> Result<Value, Stop> {
+        if number == 0 {
+            return Ok(text.to_json(rt.alloc())?);
+        }
+        let text: &ArcStr = text;
+        Ok(text.to_value(rt.alloc())?)
     }
 }
 
 impl Calls<Substr> for Value {
-    fn call<R: Machine>(rt: &R, slice: &mut Substr, _: usize) -> Result<Value, Stop> {
-        Ok(slice.to_json(rt.alloc())?)
+    fn call<R: Machine>(rt: &R, slice: &mut Substr, number: usize) -> Result<Value, Stop> {
+        if number == 0 {
+            return Ok(slice.to_json(rt.alloc())?);
+        }
+        let slice: &Substr = slice;
+        Ok(slice.to_value(rt.alloc())?)
     }
 }
 
@@ -118,7 +144,14 @@ impl Calls<Value> for Substr {
 }
 
 impl Calls<Substr> for ArcStr {
-    fn call<R: Machine>(rt: &R, slice: &mut Substr, _: usize) -> Result<ArcStr, Stop> {
-        Ok(slice.to_arc_str(rt.alloc())?)
+    fn call<R: Machine>(rt: &R, slice: &mut Substr, number: usize) -> Result<ArcStr, Stop> {
+        if number == 0 {
+            return Ok(slice.to_arc_str(rt.alloc())?);
+        }
+        Ok(
+            [slice.clone(rt), slice.clone(rt)]
+                .into_iter()
+                .collect::<ArcStr>(rt.alloc())?,
+        )
     }
 }

@@ -17,7 +17,13 @@ pub(crate) fn run<R: Machine>(rt: &R) -> io::Result<()> {
     again::<(), ArcStr, R>(rt, "ArcStr::repeat", 4, "ababab", 1)?;
     again::<(), ArcStr, R>(rt, "ArcStr::join", 5, "foo, , bar", 1)?;
     again::<(), ArcStr, R>(rt, "ArcStr::init_with", 6, "abc", 1)?;
+    again::<(), ArcStr, R>(rt, "ArcStr::try_from of a String", 11, "foobar", 1)?;
+    again::<(), ArcStr, R>(rt, "ArcStr::try_from of a Vec", 12, "foobar", 1)?;
+    again::<(), ArcStr, R>(rt, "ArcStr::from_iter of characters", 13, "foobar", 1)?;
+    again::<(), ArcStr, R>(rt, "ArcStr::from_iter of strings", 14, "foobar", 1)?;
     again::<(), Substr, R>(rt, "Substr::from_str", 0, "foobar", 1)?;
+    again::<(), Substr, R>(rt, "Substr::try_from of a String", 2, "foobar", 1)?;
+    again::<(), Substr, R>(rt, "Substr::try_from of a Vec", 3, "foobar", 1)?;
     again::<(), ArcStr, R>(rt, "format_arcstr!", 7, "cool 123 and 456", 1)?;
     again::<(), ArcStr, R>(rt, "ArcStr::deserialize", 8, "foobar", 1)?;
     again::<(), Substr, R>(rt, "Substr::deserialize", 1, "foobar", 1)?;
@@ -47,9 +53,21 @@ impl Calls<()> for ArcStr {
             7 => format_arcstr!(alloc; "cool {} and {}", 123, 456),
             8 => return Ok(serde_json::from_str::<ArcStr>(alloc, "\"foobar\"")?),
             9 => ArcStr::from_str(alloc, ""),
-            _ => return Ok(literal!("foobar")),
+            10 => return Ok(literal!("foobar")),
+            11 => ArcStr::try_from(String::from_str(alloc, "foobar")?),
+            12 => ArcStr::try_from(String::from_str(alloc, "foobar")?.into_bytes()),
+            13 => return Ok("foobar".chars().collect::<ArcStr>(alloc)?),
+            _ => return joined_strings(alloc),
         }?)
     }
+}
+
+fn joined_strings(alloc: Global) -> Result<ArcStr, Stop> {
+    let strings = [
+        String::from_str(alloc, "foo")?,
+        String::from_str(alloc, "bar")?,
+    ];
+    Ok(strings.into_iter().collect::<ArcStr>(alloc)?)
 }
 
 /// Fills a text with a closure, which runs exactly if the call is not refused.
@@ -76,7 +94,9 @@ impl Calls<()> for Substr {
     fn call<R: Machine>(rt: &R, _: &mut (), number: usize) -> Result<Substr, Stop> {
         match number {
             0 => Ok(Substr::from_str(rt.alloc(), "foobar")?),
-            _ => Ok(serde_json::from_str::<Substr>(rt.alloc(), "\"foobar\"")?),
+            1 => Ok(serde_json::from_str::<Substr>(rt.alloc(), "\"foobar\"")?),
+            2 => Ok(Substr::try_from(String::from_str(rt.alloc(), "foobar")?)?),
+            _ => Ok(Substr::try_from(String::from_str(rt.alloc(), "foobar")?.into_bytes())?),
         }
     }
 }

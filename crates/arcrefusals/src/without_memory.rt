@@ -26,9 +26,17 @@ pub(crate) fn run<R: Machine>(rt: &R) -> io::Result<()> {
     again::<(), World<Global>, R>(rt, "World::new", 0, "", 0)
 }
 
+/// A clone, or a text that is joined of two.
 impl Calls<ArcStr> for ArcStr {
-    fn call<R: Machine>(rt: &R, text: &mut ArcStr, _: usize) -> Result<ArcStr, Stop> {
-        Ok(text.clone(rt))
+    fn call<R: Machine>(rt: &R, text: &mut ArcStr, number: usize) -> Result<ArcStr, Stop> {
+        if number == 0 {
+            return Ok(text.clone(rt));
+        }
+        Ok(
+            [text.clone(rt), text.clone(rt)]
+                .into_iter()
+                .collect::<ArcStr>(rt.alloc())?,
+        )
     }
 }
 

@@ -1,5 +1,7 @@
 -- Results of reading a text from a JSON value, and the faults.
 use Rattle.std.specs.Prelude.{◌≡◌, ◌↔◌, ℕ, List, [], length, Option, Some, None, Result, Ok, IsErrOf, IsSomeAnd, IfOk, codes}
+use Rattle.std.specs.declared.io.ErrorKind.{ErrorKind}
+use Rattle.std.specs.declared.io.ErrorKind.TheVariants.{InvalidData, InvalidInput, OutOfMemory}
 use Rattle.serde_json.specs.Find.{as_str}
 use Rattle.serde_json.specs.View.{view}
 use Rattle.serde_json.specs.declared.value.Value.{Value}
@@ -42,3 +44,9 @@ abbrev pub json_fault_text : JsonFault → List ℕ
 json_fault_text NotText = codes "value is not a text"
 json_fault_text Length = codes "text is too long"
 json_fault_text Memory = codes "out of memory"
+
+-- the kind of a fault as an `io::Error`
+abbrev pub json_fault_kind : JsonFault → ErrorKind
+json_fault_kind NotText = InvalidData
+json_fault_kind Length = InvalidInput
+json_fault_kind Memory = OutOfMemory

@@ -1,8 +1,9 @@
 -- Results and errors of the calls that make texts, and of formatting into one.
 use Rattle.std.specs.Prelude.{◌≡◌, ◌*◌, ◌⊎◌, ◌↔◌, ℕ, List, [], length, Result, Ok, IsUtf8, IfOk, IfErr, IsErrOf, OnOk}
 use Rattle.std.specs.List.{repeat}
+use Rattle.std.specs.Str.Lossy.{utf8_valid_len}
 use Rattle.arcstr_block.specs.declared.fault.TextFault.{TextFault}
-use Rattle.arcstr_block.specs.declared.fault.TextFault.TheVariants.{Length}
+use Rattle.arcstr_block.specs.declared.fault.TextFault.TheVariants.{Length, Utf8}
 pub use Rattle.arcstr_block.specs.Making.{IsTooLong, IsFaultOfMaking, IsFaultOfBytes, IsFaultOfFilling}
 use Rattle.arcstr.specs.TextView.{TextView, literal_of, made_of}
 
@@ -21,6 +22,16 @@ pub record AnswersMaking {T : Type 0} (text : List ℕ) (copy nothing : T) (answ
 -- the result of copying this text, which is the empty literal if it is empty
 abbrev pub AnswersCopy : List ℕ → Result TextView TextFault → Type 0
 AnswersCopy text answer = AnswersMaking text (made_of text) (literal_of []) answer
+
+-- the result of making a handle on a copy of these bytes if they are UTF-8: the handle on the copy, or the one on nothing if there are no bytes; an error if they
+-- are not UTF-8, with the length of their longest prefix that is, if they are too many, or if the allocation fails
+pub record AnswersUtf8 {T : Type 0} (bytes : List ℕ) (copy nothing : T) (answer : Result T TextFault) : Type 0 where
+  pub made : IfOk answer (λ made. made ≡ copy)
+  pub empty : bytes ≡ [] → answer ≡ Ok nothing
+  pub text : OnOk answer (IsUtf8 bytes)
+  pub no_text : ¬ (IsUtf8 bytes) → IsErrOf answer (Utf8 (utf8_valid_len bytes))
+  pub too_long : IsUtf8 bytes → (IsErrOf answer Length ↔ IsTooLong (length bytes))
+  pub refused : IfErr answer (IsFaultOfCopying bytes)
 
 -- the result of joining n copies of this text: the joined text, which is the empty literal if n is 0 or the text is empty; an error if it is too long, or if
 -- the allocation fails

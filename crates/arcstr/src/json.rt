@@ -1,15 +1,19 @@
-//! Texts as JSON values, and the errors of reading a text from a JSON value.
+//! Texts as JSON values, as names of members, and the errors of reading a text from a JSON value.
 ghost use Rattle.std.specs.Prelude.{◌≡◌, Some, IfOk};
+ghost use Rattle.serde_json.specs.Data.{string};
+ghost use Rattle.serde_json.specs.Find.{get};
+ghost use Rattle.serde_json.specs.View.{view};
 ghost use Rattle.arcstr.specs.Json.{ReadsArcStr, ReadsSubstr, text_in};
 ghost use Rattle.arcstr.specs.Substr.{text_of};
 
 use crate::arc_str::ArcStr;
 use crate::substr::Substr;
 use arcstr_block::TextFault;
-use serde_json::Value;
+use serde_json::{Index, ToValue, Value};
 use std::alloc::{AllocError, AllocFailed, Global};
 use std::error::Error;
-use std::fmt;
+use std::io::ErrorKind;
+use std::{fmt, io};
 
 /// Why a JSON value cannot be read as a text. The variants are in the order of the tests. It can be copied, sent to a thread and shared between threads. Its
 /// size is one byte, and its drop does nothing.
@@ -92,6 +96,30 @@ impl<T: Drop> From<AllocFailed<T>> for JsonFault {
     }
 }
 
+impl From<JsonFault> for io::Error {
+    ghost use Rattle.std.specs.Prelude.{◌≡◌};
+    ghost use Rattle.std.specs.IoError.{error_kind};
+    ghost use Rattle.arcstr.specs.Json.{json_fault_kind};
+
+    ghost from_gives = { λ fault error. error_kind error ≡ json_fault_kind fault };
+
+    /// Returns an error of kind `InvalidData` for a value that is not a string, `InvalidInput` for a text that is too long, and `OutOfMemory`. Allocates
+    /// nothing.
+    ///
+    /// ```
+    /// use std::io;
+    /// let error = io::Error::from(JsonFault::NotText);
+    /// assert_eq!(rt; error.kind(), io::ErrorKind::InvalidData);
+    /// ```
+    fn from(fault: JsonFault) -> io::Error {
+        match fault {
+            JsonFault::NotText => io::Error::new(ErrorKind::InvalidData, "value is not a text"),
+            JsonFault::Length => io::Error::new(ErrorKind::InvalidInput, "text is too long"),
+            JsonFault::Memory => io::Error::from(ErrorKind::OutOfMemory),
+        }
+    }
+}
+
 impl ArcStr {
     /// Copies the text into a JSON string. Makes one allocation, or none if the text is empty. Fails only if the allocation fails.
     ///
@@ -147,5 +175,65 @@ impl Substr {
         ensures { ReadsSubstr value.now result }
     {
         Ok(Substr::full(ArcStr::from_json(alloc, value)?))
+    }
+}
+
+impl ToValue for &ArcStr {
+    ghost gives = { λ shared value. view value ≡ string shared.now.text };
+
+    /// Copies the text into a JSON string as `to_json` does, for `json!`.
+    ///
+    /// ```
+    /// use serde_json::json;
+    /// let name = literal!("foo");
+    /// let value = json!(in rt.alloc(); {"name": &name})?;
+    /// assert_eq!(rt; value.to_string(rt.alloc())?.as_str(), "{\"name\":\"foo\"}");
+    /// ```
+    fn to_value(self, alloc: Global) -> Result<Value, AllocError> {
+        self.to_json(alloc)
+    }
+}
+
+impl Index for &ArcStr {
+    ghost finds = { λ shared. get shared.now.text };
+
+    /// Returns the member that has the text as its name, as for a `&str`.
+    ///
+    /// ```
+    /// use serde_json::json;
+    /// let value = json!(in rt.alloc(); {"foo": 1})?;
+    /// assert!(rt; value.get(&literal!("foo")).is_some());
+    /// assert!(rt; value.get(&literal!("bar")).is_none());
+    /// ```
+    fn index_into<'v>(&self, value: &'v Value) -> Option<&'v Value> {
+        ArcStr::as_str(*self).index_into(value)
+    }
+
+    /// As `index_into`, for a change of the member.
+    fn index_into_mut<'v>(&self, value: &'v mut Value) -> Option<&'v mut Value> {
+        ArcStr::as_str(*self).index_into_mut(value)
+    }
+}
+
+impl ToValue for &Substr {
+    ghost gives = { λ slice value. view value ≡ string (text_of slice.now) };
+
+    /// As `to_value` of `&ArcStr`, for the slice's own text.
+    fn to_value(self, alloc: Global) -> Result<Value, AllocError> {
+        self.to_json(alloc)
+    }
+}
+
+impl Index for &Substr {
+    ghost finds = { λ slice. get (text_of slice.now) };
+
+    /// As `index_into` of `&ArcStr`, for the slice's own text.
+    fn index_into<'v>(&self, value: &'v Value) -> Option<&'v Value> {
+        Substr::as_str(*self).index_into(value)
+    }
+
+    /// As `index_into`, for a change of the member.
+    fn index_into_mut<'v>(&self, value: &'v mut Value) -> Option<&'v mut Value> {
+        Substr::as_str(*self).index_into_mut(value)
     }
 }

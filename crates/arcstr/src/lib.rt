@@ -13,12 +13,14 @@ pub use static_str::StaticStr;
 pub use substr::Substr;
 
 mod arc_str;
+mod collecting;
 mod cow;
 mod json;
 mod keys;
 mod macros;
 mod making;
 mod order;
+mod pattern;
 mod printing;
 mod serde_impls;
 mod slicing;

@@ -1,9 +1,9 @@
 //! Calls that make a text. Each makes one allocation, or none if the text is empty: that is then the empty literal. None takes an atomic step.
-ghost use Rattle.std.specs.Prelude.{◌≡◌, ◌↔◌, [], length, replicate, Ok, IsUtf8, OnOk, IfOk, IfErr, IsErrOf};
+ghost use Rattle.std.specs.Prelude.{◌≡◌, ◌↔◌, [], length, replicate, string_bytes, Ok, IsUtf8, OnOk, IfOk, IfErr, IsErrOf};
 ghost use Rattle.std.specs.Fn.{FnOnceReturnsAtMut, FnOnceTakesAtMut};
 ghost use Rattle.std.specs.Str.Lossy.{utf8_valid_len};
 ghost use Rattle.arcstr.specs.TextView.{literal_of, made_of};
-ghost use Rattle.arcstr.specs.Making.{AnswersCopies, AnswersCopy, AnswersMaking, IsFaultOfCopying, IsFaultOfFilling, IsTooLong};
+ghost use Rattle.arcstr.specs.Making.{AnswersCopies, AnswersCopy, AnswersMaking, AnswersUtf8, IsFaultOfCopying, IsFaultOfFilling, IsTooLong};
 ghost use Rattle.std.specs.List.{join_by};
 ghost use Rattle.arcstr.specs.Substr.{empty_slice, text_of, whole_of};
 
@@ -198,6 +198,61 @@ impl Substr {
         ensures { AnswersCopy (text_of self.now) result }
     {
         ArcStr::from_str(alloc, self.as_str())
+    }
+}
+
+impl TryFrom<String> for ArcStr {
+    type Error = TextFault;
+
+    ghost try_from_gives = { λ text answer. AnswersCopy (string_bytes text) answer };
+
+    /// Copies the string into a new `ArcStr` by its own allocator, as `ArcStr::from_str` does, and drops the string.
+    ///
+    /// ```
+    /// let string = String::from_str(rt.alloc(), "foo")?;
+    /// let text = ArcStr::try_from(string)?;
+    /// assert_eq!(rt; text.as_str(), "foo");
+    /// ```
+    fn try_from(text: String) -> Result<ArcStr, TextFault> {
+        ArcStr::from_str(*text.allocator(), text.as_str())
+    }
+}
+
+impl TryFrom<Vec<u8>> for ArcStr {
+    type Error = TextFault;
+
+    ghost try_from_gives = { λ bytes answer. AnswersUtf8 bytes.items (made_of bytes.items) (literal_of []) answer };
+
+    /// Converts the bytes to an `ArcStr` by their own allocator, as `ArcStr::from_utf8` does, and drops the bytes.
+    ///
+    /// ```
+    /// let bytes = vec![in rt.alloc(); b'a', 255]?;
+    /// assert_eq!(rt; ArcStr::try_from(bytes).err(), Some(TextFault::Utf8(1)));
+    /// ```
+    fn try_from(bytes: Vec<u8>) -> Result<ArcStr, TextFault> {
+        ArcStr::from_utf8(*bytes.allocator(), bytes.as_slice())
+    }
+}
+
+impl TryFrom<String> for Substr {
+    type Error = TextFault;
+
+    ghost try_from_gives = { λ text answer. AnswersMaking (string_bytes text) (whole_of (made_of (string_bytes text))) empty_slice answer };
+
+    /// As for `ArcStr`. Returns the slice of all of the new text.
+    fn try_from(text: String) -> Result<Substr, TextFault> {
+        Ok(Substr::full(ArcStr::try_from(text)?))
+    }
+}
+
+impl TryFrom<Vec<u8>> for Substr {
+    type Error = TextFault;
+
+    ghost try_from_gives = { λ bytes answer. AnswersUtf8 bytes.items (whole_of (made_of bytes.items)) empty_slice answer };
+
+    /// As for `ArcStr`. Returns the slice of all of the new text.
+    fn try_from(bytes: Vec<u8>) -> Result<Substr, TextFault> {
+        Ok(Substr::full(ArcStr::try_from(bytes)?))
     }
 }
 

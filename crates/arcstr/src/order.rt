@@ -1,4 +1,5 @@
-//! Equality, order and hash of texts. They depend only on the text, not on its kind, and those of `Substr` only on the slice's own text.
+//! Equality, order and hash of texts. They depend only on the text, not on its kind, and those of `Substr` only on the slice's own text. Those of `StaticStr` are
+//! those of `ArcStr`.
 //!
 //! The functions at the end compare two texts by vectors of bytes: 16 at a time, or 32 or 64 whose differences are combined before one test.
 ghost use Rattle.std.specs.Prelude.{◌≡◌, ◌↔◌, ◌+◌, ◌≤◌, ◌<◌, ◌==◌, ℕ, Some, IsTrue, bytes_eq, drop, length, not, refl, take};
@@ -13,6 +14,7 @@ ghost use Rattle.arcstr.specs.Substr.{text_of};
 ghost use Rattle.std.specs.Simd.Lanes.{mask_l, zip2};
 
 use crate::arc_str::ArcStr;
+use crate::static_str::StaticStr;
 use crate::substr::Substr;
 use std::cmp::Ordering;
 use std::hash::{Hash, Hasher};
@@ -158,6 +160,71 @@ impl Hash for Substr {
     /// Feeds the slice's own text to the hasher as a `str` does, so equal slices have equal hashes.
     fn hash<H: Hasher>(&self, state: &mut H) {
         Substr::as_str(self).hash(state);
+    }
+}
+
+impl PartialEq for StaticStr {
+    ghost eq = { λ one other. bytes_eq one.text other.text };
+
+    ghost laws = { on_per (λ kept. kept.text) (partial_equiv_from_equiv nat_list_eq_equiv) };
+
+    /// Tests whether the two texts are equal, byte by byte, whatever their kinds.
+    ///
+    /// ```
+    /// let block = ArcStr::from_str(rt.alloc(), "foo")?.leak();
+    /// assert!(rt; block == literal!("foo").leak());
+    /// assert!(rt; literal!("bar").leak() < block);
+    /// ```
+    fn eq(&self, other: &StaticStr) -> bool
+        ensures value { result ≡ bytes_eq self.now.text other.now.text }
+        ensures same { IsTrue result ↔ (self.now.text ≡ other.now.text) }
+    {
+        is_equal(StaticStr::as_str(self), StaticStr::as_str(other))
+    }
+}
+
+impl Eq for StaticStr {
+    ghost laws = { on_equiv (λ kept. kept.text) nat_list_eq_equiv };
+}
+
+impl PartialOrd for StaticStr {
+    ghost partial_cmp = { λ one other. Some (slice_cmp nat_cmp one.text other.text) };
+
+    ghost laws = { on_po (λ kept. kept.text) texts_po };
+
+    /// Compares the two texts as `cmp` does. Always returns `Some`.
+    fn partial_cmp(&self, other: &StaticStr) -> Option<Ordering> {
+        Some(self.cmp(other))
+    }
+}
+
+impl Ord for StaticStr {
+    ghost cmp = { λ one other. slice_cmp nat_cmp one.text other.text };
+
+    ghost total = { on_total (λ kept. kept.text) nat_list_cmp_total };
+
+    ghost matches_partial_cmp = { λ one other. refl };
+
+    ghost matches_eq = { λ one other. texts_ties one.text other.text };
+
+    /// Compares the two texts as `Ord` of `ArcStr` does.
+    #[tactic(auto, using(crate::proofs::Orders::text_orders))]
+    fn cmp(&self, other: &StaticStr) -> Ordering
+        ensures value { result ≡ slice_cmp nat_cmp self.now.text other.now.text }
+        ensures order { IsTextOrder self.now.text other.now.text result }
+    {
+        compare(StaticStr::as_str(self), StaticStr::as_str(other))
+    }
+}
+
+impl Hash for StaticStr {
+    ghost hash_input = { λ kept. fed.str kept.text };
+
+    ghost respects_eq = { Prim.search (hashing, rules) };
+
+    /// Feeds the text to the hasher as a `str` does, whatever its kind.
+    fn hash<H: Hasher>(&self, state: &mut H) {
+        StaticStr::as_str(self).hash(state);
     }
 }
 

@@ -1,9 +1,10 @@
-//! The output of a text, formatted as a `str` is. The output of a `Substr` is that of its own text.
+//! The output of a text, formatted as a `str` is. The output of a `Substr` is that of its own text, and that of a `StaticStr` is that of its text.
 ghost use Rattle.std.specs.Prelude.{◌≡◌, Some, IfOk, string_bytes};
 ghost use Rattle.std.specs.Fmt.{debug_str, styled_text};
 ghost use Rattle.arcstr.specs.Substr.{text_of};
 
 use crate::arc_str::ArcStr;
+use crate::static_str::StaticStr;
 use crate::substr::Substr;
 use std::alloc::{AllocError, Global};
 use std::fmt;
@@ -69,6 +70,33 @@ impl fmt::Debug for Substr {
     /// Writes the slice's own text as `Debug` of `ArcStr` does.
     fn fmt<W: fmt::Write>(&self, f: &mut fmt::Formatter<W>) -> fmt::Result {
         let text = Substr::as_str(self);
+        fmt::Debug::fmt(&text, f)
+    }
+}
+
+impl fmt::Display for StaticStr {
+    ghost output = { λ kept. Some kept.text };
+
+    ghost styled_output = { λ kept spec. Some (styled_text spec kept.text) };
+
+    /// Writes the text as `Display` of `ArcStr` does.
+    ///
+    /// ```
+    /// let kept = literal!("foo").leak();
+    /// let shown = format!(in rt.alloc(); "{kept:>5} {kept:?}")?;
+    /// assert_eq!(rt; shown.as_str(), "  foo \"foo\"");
+    /// ```
+    fn fmt<W: fmt::Write>(&self, f: &mut fmt::Formatter<W>) -> fmt::Result {
+        f.pad(StaticStr::as_str(self))
+    }
+}
+
+impl fmt::Debug for StaticStr {
+    ghost debug_output = { λ kept. debug_str kept.text };
+
+    /// Writes the text as `Debug` of `ArcStr` does.
+    fn fmt<W: fmt::Write>(&self, f: &mut fmt::Formatter<W>) -> fmt::Result {
+        let text = StaticStr::as_str(self);
         fmt::Debug::fmt(&text, f)
     }
 }

@@ -1,5 +1,7 @@
 -- Which steps are accepted, what each step answers after a history, and the numbers and the texts of the faults.
 use Rattle.std.specs.Prelude.{ℕ, Bool, not, ◌&&◌, nat_lt, if◌then◌else◌, is_none, Option, None, Some, List, length, codes}
+use Rattle.std.specs.declared.io.ErrorKind.{ErrorKind}
+use Rattle.std.specs.declared.io.ErrorKind.TheVariants.{InvalidInput, OutOfMemory}
 use Rattle.arcstr_count.specs.declared.steps.Step.{Step}
 use Rattle.arcstr_count.specs.declared.steps.Step.TheVariants.{Make, Look, Clone, Begin, Sub, Back, Leak, IntoRaw, FromRaw}
 use Rattle.arcstr_count.specs.declared.steps.HandleState.{HandleState}
@@ -116,3 +118,8 @@ run_fault_number Memory = 2
 abbrev pub run_fault_text : RunFault → List ℕ
 run_fault_text LimitTooLarge = codes "limit too large"
 run_fault_text Memory = codes "out of memory"
+
+-- the kind of a fault as an `io::Error`
+abbrev pub run_fault_kind : RunFault → ErrorKind
+run_fault_kind LimitTooLarge = InvalidInput
+run_fault_kind Memory = OutOfMemory

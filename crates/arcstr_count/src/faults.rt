@@ -5,7 +5,8 @@ ghost use Rattle.std.specs.Prelude.{◌≡◌, Some};
 ghost use Rattle.arcstr_count.specs.Answer.{step_fault_number, run_fault_number, step_fault_text, run_fault_text};
 
 use std::error::Error;
-use std::fmt;
+use std::io::ErrorKind;
+use std::{fmt, io};
 
 /// Why a step is refused. The state of the handle that the step names decides the fault. A handle has one
 /// state, so at most one fault applies. A fault is displayed as its name.
@@ -139,3 +140,26 @@ impl fmt::Display for RunFault {
 }
 
 impl Error for RunFault {}
+
+/// Lets `?` work in a function that also does I/O.
+impl From<RunFault> for io::Error {
+    ghost use Rattle.std.specs.Prelude.{◌≡◌};
+    ghost use Rattle.std.specs.IoError.{error_kind};
+    ghost use Rattle.arcstr_count.specs.Answer.{run_fault_kind};
+
+    ghost from_gives = { λ fault error. error_kind error ≡ run_fault_kind fault };
+
+    /// Returns an error of kind `InvalidInput` for a limit that is too large, and `OutOfMemory`. Allocates nothing.
+    ///
+    /// ```
+    /// use std::io;
+    /// let error = io::Error::from(RunFault::LimitTooLarge);
+    /// assert_eq!(rt; error.kind(), io::ErrorKind::InvalidInput);
+    /// ```
+    fn from(fault: RunFault) -> io::Error {
+        match fault {
+            RunFault::LimitTooLarge => io::Error::new(ErrorKind::InvalidInput, "limit too large"),
+            RunFault::Memory => io::Error::from(ErrorKind::OutOfMemory),
+        }
+    }
+}

@@ -1,5 +1,6 @@
 mod checks;
 mod cloning;
+mod collecting;
 mod conversions;
 mod counts;
 mod cow;
@@ -10,6 +11,7 @@ mod keys;
 mod macros;
 mod making;
 mod order;
+mod pattern;
 mod printing;
 mod slicing;
 mod splitting;

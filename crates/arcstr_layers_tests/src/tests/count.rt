@@ -4,6 +4,7 @@ use arcstr_count::{
     HandleState, HandleSummary, RC_MAX, Reply, RunFault, Step, StepFault, Word, World, run,
 };
 use std::alloc::{AllocGlobal, Global};
+use std::io;
 use std::mem::size_of;
 use std::process::Abort;
 
@@ -136,6 +137,14 @@ fn run_faults_have_numbers_and_texts(rt: HostRuntime) {
         let printed = format!(in rt.alloc(); "{number} {fault}").expect(&rt, "refused");
         check_eq!(rt; printed.as_str(), wanted);
     }
+}
+
+#[test]
+fn run_faults_have_kinds(rt: HostRuntime) {
+    let kind = io::Error::from(RunFault::LimitTooLarge).kind();
+    check_eq!(rt; kind, io::ErrorKind::InvalidInput);
+    let kind = io::Error::from(RunFault::Memory).kind();
+    check_eq!(rt; kind, io::ErrorKind::OutOfMemory);
 }
 
 #[test]

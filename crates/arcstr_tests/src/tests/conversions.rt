@@ -1,13 +1,16 @@
-//! Texts, slices and faults by the traits `From`, `AsStr`, `AsSlice` and `Deref`, and copies of slices.
+//! Texts, slices and faults by the traits `From`, `AsStr`, `AsSlice`, `AsBytes`, `AsPath`, `AsDeref` and `DerefStr`, and copies of slices.
 use crate::tests::checks::{check, check_eq};
 use crate::tests::steps::{
-    check_bytes, check_count, check_empty, check_slice, check_text, made, part,
+    check_bytes, check_count, check_empty, check_part, check_slice, check_text, made, part,
 };
 use arcstr::{ArcStr, JsonFault, Substr, TextFault, literal};
 use serde_json::Value;
 use std::alloc::{AllocFailed, AllocGlobal, Global};
 use std::convert::{AsSlice, AsStr};
 use std::io;
+use std::io::AsBytes;
+use std::ops::AsDeref;
+use std::path::AsPath;
 use std::process::Abort;
 use std::sync::Wait;
 
@@ -34,6 +37,62 @@ fn a_slice_lends_its_own_text(rt: HostRuntime) {
     let slice = &part(&rt, &made(&rt, "foobar"), 3..);
     check_lent(&rt, slice, "bar");
     check_count(&rt, slice.parent(), Some(1));
+}
+
+/// Takes a path and bytes, as `fs::write` does, and asserts both.
+fn check_file<P: AsPath, B: AsBytes + Drop>(
+    rt: &impl Abort,
+    path: P,
+    bytes: B,
+    wanted: (&str, &[u8]),
+) {
+    check_text(rt, path.path_text(), wanted.0);
+    check_bytes(rt, bytes.as_byte_slice(), wanted.1);
+}
+
+#[test]
+fn texts_are_paths_and_bytes_of_files(rt: HostRuntime) {
+    let text = &made(&rt, "é.txt");
+    let slice = &part(&rt, text, 3..);
+    check_file(&rt, text, slice, ("é.txt", b"txt"));
+    check_file(&rt, slice, text, ("txt", b"\xc3\xa9.txt"));
+    check_count(&rt, text, Some(2));
+}
+
+#[test]
+fn paths_and_bytes_of_files_are_dropped(rt: HostRuntime) {
+    let text = &made(&rt, "a.txt");
+    check_file(
+        &rt,
+        text.clone(&rt),
+        part(&rt, text, 2..),
+        ("a.txt", b"txt"),
+    );
+    check_file(
+        &rt,
+        part(&rt, text, 2..),
+        text.clone(&rt),
+        ("txt", b"a.txt"),
+    );
+    check_count(&rt, text, Some(1));
+}
+
+/// Asserts the text of a value that may be absent.
+fn check_optional<'a, T: AsDeref<'a, Shown = &'a str>>(
+    rt: &impl Abort,
+    value: &'a Option<T>,
+    wanted: Option<&str>,
+) {
+    check_part(rt, value.as_deref(), wanted);
+}
+
+#[test]
+fn a_text_that_may_be_absent_is_read(rt: HostRuntime) {
+    let text = &Some(made(&rt, "foobar"));
+    check_optional(&rt, text, Some("foobar"));
+    let slice = Some(part(&rt, &made(&rt, "foobar"), 3..));
+    check_optional(&rt, &slice, Some("bar"));
+    check_optional::<ArcStr>(&rt, &None, None);
 }
 
 /// Returns a list of the two texts. Both the list and the texts allocate.

@@ -6,8 +6,9 @@ use crate::tests::steps::{
 };
 use arcstr::{ArcStr, JsonFault, Substr, literal};
 use serde::{Deserialize, Serialize};
-use serde_json::Value;
+use serde_json::{Value, json};
 use std::alloc::AllocGlobal;
+use std::io;
 use std::mem::size_of;
 use std::process::Abort;
 
@@ -150,4 +151,43 @@ fn a_number_is_not_read_as_a_text(rt: HostRuntime) {
     check!(rt; read.is_err());
     let read: Result<Substr, _> = serde_json::from_str(rt.alloc(), "null");
     check!(rt; read.is_err());
+}
+
+#[test]
+fn texts_are_values_and_names_of_members(rt: HostRuntime) {
+    let text = &made(&rt, "a\"b");
+    let slice = &part(&rt, text, 2..);
+    let value = json!(in rt.alloc(); {"a": text, "b": [slice, 1]}).expect(&rt, "no memory");
+    let written = value.to_string(rt.alloc()).expect(&rt, "no memory");
+    check_text(&rt, written.as_str(), "{\"a\":\"a\\\"b\",\"b\":[\"b\",1]}");
+    check!(rt; value.get(slice).is_some_and(|list| list.is_array()));
+    check!(rt; value.get(&literal!("a")).is_some_and(|member| member.is_string()));
+    check!(rt; value.get(text).is_none());
+    check_count(&rt, text, Some(2));
+}
+
+#[test]
+fn a_member_that_a_text_names_is_changed(rt: HostRuntime) {
+    let mut value = json!(in rt.alloc(); {"a": 1, "b": 2}).expect(&rt, "no memory");
+    for name in [literal!("a"), literal!("c")] {
+        if let Some(member) = value.get_mut(&name) {
+            *member = Value::Null;
+        }
+    }
+    if let Some(member) = value.get_mut(&Substr::from_static("b")) {
+        *member = Value::from(3u8);
+    }
+    let written = value.to_string(rt.alloc()).expect(&rt, "no memory");
+    check_text(&rt, written.as_str(), "{\"a\":null,\"b\":3}");
+}
+
+#[test]
+fn faults_have_kinds(rt: HostRuntime) {
+    for (fault, wanted) in [
+        (JsonFault::NotText, io::ErrorKind::InvalidData),
+        (JsonFault::Length, io::ErrorKind::InvalidInput),
+        (JsonFault::Memory, io::ErrorKind::OutOfMemory),
+    ] {
+        check_eq!(rt; io::Error::from(fault).kind(), wanted);
+    }
 }

@@ -1,4 +1,4 @@
-//! Maps and sets of std and of `indexmap` with texts or slices as keys, looked up by a `&str`, and the counts of their keys.
+//! Maps and sets of std and of `indexmap` with texts or slices as keys, looked up by a `&str` or by the other type, and the counts of their keys.
 use crate::tests::checks::{check, check_eq};
 use crate::tests::steps::{check_count, made, part};
 use arcstr::{ArcStr, Substr, literal};
@@ -131,4 +131,54 @@ fn an_index_set_of_slices_is_read_by_a_str(rt: HostRuntime) {
     check_eq!(rt; set.get_index_of("foo"), Some(0));
     check!(rt; set.swap_remove("foo"));
     check_count(&rt, text, Some(1));
+}
+
+#[test]
+fn maps_of_texts_are_read_by_a_slice(rt: HostRuntime) {
+    let slice = &part(&rt, &made(&rt, "é foo"), 3..);
+    let map = map_of(&rt, made(&rt, "é"));
+    check_eq!(rt; map.get(slice), Some(&2));
+    check_eq!(rt; map.get(&part(&rt, slice.parent(), ..)), None);
+    let map = index_map_of(&rt, made(&rt, "é"));
+    check_eq!(rt; map.get_index_of(slice), Some(1));
+    check_eq!(rt; map.get(&part(&rt, slice.parent(), ..)), None);
+    check_count(&rt, slice.parent(), Some(1));
+}
+
+#[test]
+fn a_sorted_set_of_texts_is_read_by_a_slice(rt: HostRuntime) {
+    let mut set = BTreeSet::new(rt.alloc());
+    for text in ["a", "b", "é"] {
+        set.insert(made(&rt, text)).expect(&rt, "no memory");
+    }
+    let text = &made(&rt, "abéc");
+    check!(rt; set.contains(&part(&rt, text, 1..2)));
+    check!(rt; set.remove(&part(&rt, text, 2..4)));
+    check!(rt; !set.contains(&part(&rt, text, 4..)));
+    check_eq!(rt; set.len(), 2);
+}
+
+#[test]
+fn a_sorted_map_of_slices_is_read_by_a_text(rt: HostRuntime) {
+    let mut map = BTreeMap::new(rt.alloc());
+    for (place, text) in ["b", "é", "a"].into_iter().enumerate() {
+        insert_sorted(&rt, &mut map, Substr::full(made(&rt, text)), place as u8);
+    }
+    check_eq!(rt; map.get(&literal!("a")), Some(&2));
+    check_eq!(rt; map.get(&literal!("")), None);
+    check_eq!(rt; map.remove(&literal!("é")), Some(1));
+}
+
+#[test]
+fn sets_of_slices_are_read_by_a_text(rt: HostRuntime) {
+    let (text, foo) = (&made(&rt, "é foo"), &made(&rt, "foo"));
+    let mut set = HashSet::new(rt.alloc());
+    set.insert(part(&rt, text, 3..)).expect(&rt, "no memory");
+    check!(rt; set.contains(foo));
+    check!(rt; !set.contains(text));
+    let mut set: IndexSet<Substr> = IndexSet::new(rt.alloc());
+    set.insert(part(&rt, text, 3..)).expect(&rt, "no memory");
+    check_eq!(rt; set.get_index_of(foo), Some(0));
+    check!(rt; !set.contains(text));
+    check_count(&rt, foo, Some(1));
 }

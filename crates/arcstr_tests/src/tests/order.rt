@@ -98,3 +98,12 @@ fn slices_of_any_length_differ_at_any_place(rt: HostRuntime) {
         }
     }
 }
+
+#[test]
+fn a_static_literal_and_a_static_block_are_one_key(rt: HostRuntime) {
+    let kept = &made(&rt, "bar").leak();
+    check!(rt; are_one_key(kept, &literal!("bar").leak(), "bar"));
+    check_order(&rt, kept, &literal!("bar").leak(), Ordering::Equal);
+    check_order(&rt, kept, &literal!("bar ").leak(), Ordering::Less);
+    check_order(&rt, kept, &made(&rt, "baq").leak(), Ordering::Greater);
+}

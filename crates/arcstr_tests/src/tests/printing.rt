@@ -38,3 +38,13 @@ fn debug_of_a_slice_escapes_its_own_text(rt: HostRuntime) {
     let slice = part(&rt, &made(&rt, "\"a\"b\"é\"\n→\r"), 5..13);
     check_copied(&rt, format!(in rt.alloc(); "{slice:?}"), "\"é\\\"\\n→\\r\"");
 }
+
+#[test]
+fn a_static_text_is_printed_as_a_str_is(rt: HostRuntime) {
+    let kept = made(&rt, "f\"é").leak();
+    check_copied(
+        &rt,
+        format!(in rt.alloc(); "{kept:-^7} {kept:?}"),
+        "--f\"é-- \"f\\\"é\"",
+    );
+}
