@@ -99,16 +99,6 @@ def write_repository(folder, crate, uses, files):
         (folder / "crates" / crate / "src" / name).write_text(text)
 
 
-def pages_with_examples():
-    """The pages whose examples `tools/examples` runs, each with the library that it sees: the page of each library, and the guide."""
-    return {ROOT / "docs" / "GUIDE.md": "arcstr"} | {CRATES / crate / "README.md": crate for crate in libraries()}
-
-
-def is_example(block):
-    """Whether a block of such a page is run. One that declares a function stands in a source of a crate, where the gate proves it."""
-    return not re.search(r"^(pub )?fn ", block, re.M)
-
-
 def with_test_crates(crate):
     """The crate, and the crates of tests that use it."""
     return [crate, *(other for other in listed_crates() if other.endswith(TESTS) and crate in uses_of(other))]
@@ -116,6 +106,11 @@ def with_test_crates(crate):
 
 def is_library(crate):
     return (CRATES / crate / "src" / "lib.rt").exists()
+
+
+# The pages whose blocks `tools/examples` runs, but for those that declare a function, each with the library that it sees.
+EXAMPLE_PAGES = {ROOT / "docs" / "GUIDE.md": "arcstr"} | {CRATES / crate / "README.md": crate for crate in libraries()}
+DECLARES_FUNCTION = re.compile(r"^(pub )?fn ", re.M)
 
 
 @cache
