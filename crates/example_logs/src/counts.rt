@@ -1,0 +1,106 @@
+//! How often each path of a log was asked for.
+ghost use Rattle.std.specs.Prelude.{IfSome};
+ghost use Rattle.arcstr_range.specs.View.{IsFoundWith};
+
+use anyhow::Result;
+use arcstr::view::StrView;
+use arcstr::{ArcStr, Substr};
+use regex::Matcher;
+use std::alloc::{AllocError, Global};
+use std::collections::HashMap;
+use std::sync::Wait;
+use thiserror::Error;
+
+/// The number of lines between two lines of progress.
+const PROGRESS: usize = 100_000;
+
+/// A line that is no request, by its number from 1 and the byte offset at which it starts.
+#[derive(Debug, Drop, Error)]
+#[error("line {line}, byte {start}: no request")]
+pub struct Fault {
+    pub line: usize,
+    pub start: usize,
+}
+
+/// A path, and how often it was asked for.
+#[derive(Drop)]
+pub struct Requests {
+    pub path: ArcStr,
+    pub count: u64,
+}
+
+/// The number of requests for each path, and the lines that are no requests. Each key is a slice, which keeps the whole log alive.
+#[derive(Drop)]
+pub struct Counts {
+    by_path: HashMap<Substr, u64>,
+    pub faults: Vec<Fault>,
+}
+
+impl Counts {
+    /// Counts the requests of a log. For a large log, prints the progress to standard error.
+    pub fn read(
+        rt: &(impl Wait + Eprint),
+        alloc: Global,
+        log: &ArcStr,
+        matcher: &mut Matcher<'_>,
+    ) -> Result<Counts> {
+        let mut counts = Counts {
+            by_path: HashMap::new(alloc),
+            faults: Vec::new(alloc),
+        };
+        let mut number: usize = 0;
+        for line in log.view().lines() {
+            number = number.saturating_add(1);
+            match path_of(matcher, &line) {
+                Some(path) => counts.add(rt, log, path)?,
+                None => counts.faults.push(Fault {
+                    line: number,
+                    start: line.place(),
+                })?,
+            }
+            if number % PROGRESS == 0 {
+                eprintln!(rt; "{number} lines")?;
+            }
+        }
+        Ok(counts)
+    }
+
+    /// Counts a request for a path of the log. The map finds a path by its `&str`, so only a new path becomes a slice.
+    fn add(&mut self, rt: &impl Wait, log: &ArcStr, path: StrView<'_>) -> Result<(), AllocError>
+    {
+        match self.by_path.get_mut(path.text()) {
+            Some(count) => *count = count.saturating_add(1),
+            None => {
+                if let Some(slice) = log.try_substr_from(rt, path) {
+                    self.by_path.insert(slice, 1)?;
+                }
+            }
+        }
+        Ok(())
+    }
+
+    /// Returns the most frequent paths, at most `most` of them, and paths with equal counts in their order. Each is copied, so that it does not keep the log
+    /// alive.
+    pub fn most_frequent(&self, alloc: Global, most: usize) -> Result<Vec<Requests>> {
+        let mut counts: Vec<(&Substr, &u64)> = self.by_path.iter().collect(alloc)?;
+        counts.sort_by(|one, other| other.1.cmp(one.1).then(one.0.cmp(other.0)))?;
+        counts.truncate(most);
+        let mut copies = Vec::new(alloc);
+        for (path, count) in counts {
+            let path = path.to_arc_str(alloc)?;
+            copies.push(Requests {
+                path,
+                count: *count,
+            })?;
+        }
+        Ok(copies)
+    }
+}
+
+/// Returns the path of a request. It is found wherever its line is found, as `substr_from` requires.
+fn path_of<'a>(matcher: &mut Matcher<'_>, line: &StrView<'a>) -> Option<StrView<'a>>
+    ensures found { IfSome result (IsFoundWith line.now) }
+{
+    let path = matcher.captures(line.text())?.get(1)?;
+    line.cut(path.range())
+}

@@ -1,0 +1,81 @@
+//! The table of sales.
+
+use crate::column::Column;
+use crate::fault::{Fault, Reason};
+use anyhow::Result;
+use arcstr::ArcStr;
+use csv::{ErrorKind, Reader, StringRecord};
+use std::alloc::Global;
+use std::io::Read;
+
+/// The columns of a table of sales with the fields region, product and cents, and the rows that cannot be read.
+#[derive(Drop)]
+pub struct Table {
+    pub regions: Column,
+    pub products: Column,
+    pub cents: Vec<u64>,
+    pub faults: Vec<Fault>,
+}
+
+impl Table {
+    /// Reads a table, whose first row has the names of the fields.
+    pub fn read(alloc: Global, input: impl Read + Drop) -> Result<Table> {
+        let mut table = Table {
+            regions: Column::new(alloc),
+            products: Column::new(alloc),
+            cents: Vec::new(alloc),
+            faults: Vec::new(alloc),
+        };
+        let mut reader = Reader::from_reader(alloc, input);
+        for row in reader.records() {
+            match row {
+                Ok(row) => table.add(alloc, &row)?,
+                Err(error) => table.faults.push(fault_of(error)?)?,
+            }
+        }
+        Ok(table)
+    }
+
+    /// Adds a row, or its fault.
+    fn add(&mut self, alloc: Global, row: &StringRecord) -> Result<()> {
+        let region = row.get(0).unwrap_or("");
+        let product = row.get(1).unwrap_or("");
+        let cents = row.get(2).unwrap_or("");
+        match cents.parse::<u64>() {
+            Ok(number) => {
+                self.regions.push(region)?;
+                self.products.push(product)?;
+                self.cents.push(number)?;
+            }
+            Err(_) => {
+                let reason = Reason::Cents(ArcStr::from_str(alloc, cents)?);
+                self.faults.push(Fault::at(row.position(), reason))?;
+            }
+        }
+        Ok(())
+    }
+}
+
+/// Returns the fault of a row that is no record. Any other error ends the reading.
+fn fault_of(error: csv::Error) -> Result<Fault> {
+    match error.kind() {
+        ErrorKind::UnequalLengths {
+            pos,
+            expected_len: wanted,
+            len: found,
+        } => Ok(Fault::at(
+            *pos,
+            Reason::Fields {
+                found: *found,
+                wanted: *wanted,
+            },
+        )),
+        ErrorKind::Utf8 { pos, err } => {
+            Ok(Fault::at(*pos, Reason::Encoding(err.field().saturating_add(1))))
+        }
+        ErrorKind::Io(_)
+        | ErrorKind::Serialize(_)
+        | ErrorKind::Deserialize { .. }
+        | ErrorKind::OutOfMemory => Err(error.into()),
+    }
+}
