@@ -26,7 +26,7 @@ pub(crate) enum Family {
 }
 
 /// The name of each figure, with its family.
-const FIGURES: [(&str, Family); 36] = [
+const FIGURES: [(&str, Family); 39] = [
     ("clone_drop", Family::Clones),
     ("clone_drop_bare", Family::Clones),
     ("clone_drop_slice", Family::Clones),
@@ -52,6 +52,9 @@ const FIGURES: [(&str, Family); 36] = [
     ("intern", Family::Interner),
     ("intern_get", Family::Interner),
     ("intern_shared", Family::Interner),
+    ("intern_shared_new", Family::Interner),
+    ("intern_local", Family::Interner),
+    ("get_frozen", Family::Interner),
     ("substr", Family::Slices),
     ("substr_of_substr", Family::Slices),
     ("clone_drop_contended", Family::Contended),

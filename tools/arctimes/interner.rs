@@ -4,7 +4,7 @@ use crate::figures::no_figure;
 use crate::requests::{Machine, Request};
 use crate::words;
 use anyhow::Result;
-use arcintern::{InternFault, Interner, SharedInterner};
+use arcintern::{FrozenInterner, InternFault, Interner, SharedInterner};
 use std::alloc::{AllocError, Global};
 use std::sync::Wait;
 use std::thread;
@@ -25,8 +25,8 @@ pub(crate) fn run<M: Machine>(rt: &M, request: &Request) -> Result<()> {
         "intern" => time_interning(rt, &request, &words),
         "intern_get" => time_looking_up(rt, &request, &words),
         "intern_shared" => time_sharing(rt, &request, &words),
-        "intern_shared_new" => time_sharing_anew(rt, &request, &words),
-        "intern_local" => time_sharing_locally(rt, &request, &words),
+        "intern_shared_new" => time_sharing_new_words(rt, &request, &words),
+        "intern_local" => time_caches(rt, &request, &words),
         "get_frozen" => time_frozen(rt, &request, &words),
         _ => no_figure(),
     }
@@ -58,18 +58,58 @@ fn time_interning<M: Machine>(rt: &M, request: &Request, words: &[&str]) -> Resu
     Ok(())
 }
 
+/// Times look-ups in a frozen interner that has all the words.
+fn time_frozen<M: Machine>(rt: &M, request: &Request, words: &[&str]) -> Result<()> {
+    let interner = SharedInterner::new(rt.alloc(), SHARDS)?;
+    intern_share(rt, &interner, words, 0, 1)?;
+    let frozen = interner.freeze()?;
+    request.time_each(rt, words, words.len(), |word| index_in(&frozen, word))
+}
+
+/// Returns the index of a word, or 0 if the interner does not have it.
+fn index_in(frozen: &FrozenInterner, word: &str) -> usize {
+    match frozen.get(word) {
+        Some(symbol) => symbol.number().index(),
+        None => 0,
+    }
+}
+
 /// Times how long the threads of the request take for the words, in an interner that has them all.
 fn time_sharing<M: Machine>(rt: &M, request: &Request, words: &[&str]) -> Result<()> {
     let interner = SharedInterner::new(rt.alloc(), SHARDS)?;
     intern_share(rt, &interner, words, 0, 1)?;
     let work = |worker: usize| intern_share(rt, &interner, words, worker, request.threads);
-    request.time(rt, || {
-        let mut sum = 0usize;
-        for of_share in thread::map_indices(rt, rt.alloc(), request.threads, &work)? {
-            sum = sum.wrapping_add(of_share?);
-        }
-        Ok(sum)
-    })
+    request.time(rt, || sum_of(thread::map_indices(rt, rt.alloc(), request.threads, &work)?))
+}
+
+/// As `time_sharing`, in a fresh interner, whose drop is not timed.
+fn time_sharing_new_words<M: Machine>(rt: &M, request: &Request, words: &[&str]) -> Result<()> {
+    for _ in 0..request.rounds {
+        let interner = SharedInterner::new(rt.alloc(), SHARDS)?;
+        let work = |worker: usize| intern_share(rt, &interner, words, worker, request.threads);
+        let start = Instant::now(rt)?;
+        let sum = sum_of(thread::map_indices(rt, rt.alloc(), request.threads, &work)?)?;
+        request.finish(rt, start, sum)?;
+    }
+    Ok(())
+}
+
+/// As `time_sharing`, where each thread makes a cache of its own in each round.
+fn time_caches<M: Machine>(rt: &M, request: &Request, words: &[&str]) -> Result<()> {
+    let (alloc, workers) = (rt.alloc(), request.threads);
+    let interner = SharedInterner::new(alloc, SHARDS)?;
+    intern_share(rt, &interner, words, 0, 1)?;
+    let work = |worker: usize| intern_locally(rt, alloc, &interner, words, worker, workers);
+    request.time(rt, || sum_of(thread::map_indices(rt, alloc, workers, &work)?))
+}
+
+/// Returns the sum of what the workers return.
+fn sum_of(shares: Vec<Result<usize, InternFault>>) -> Result<usize> {
+    let mut sum = 0usize;
+    for of_share in shares {
+        sum = sum.wrapping_add(of_share?);
+    }
+    Ok(sum)
 }
 
 /// Interns one worker's share of the words, and returns the sum of the lengths of their texts.
@@ -81,14 +121,37 @@ fn intern_share<R: Wait>(
     workers: usize,
 ) -> Result<usize, InternFault> {
     let mut sum = 0usize;
-    let len = (words.len() / workers.max(1)).saturating_add(1);
-    let start = worker.saturating_mul(len).min(words.len());
-    let end = start.saturating_add(len).min(words.len());
-    for word in words.get(start..end).unwrap_or(&[]) {
+    for word in share_of(words, worker, workers) {
         let symbol = interner.intern(rt, word)?;
         sum = sum.wrapping_add(interner.text(&symbol).len());
     }
     Ok(sum)
+}
+
+/// As `intern_share`, through a cache.
+fn intern_locally<R: Wait>(
+    rt: &R,
+    alloc: Global,
+    interner: &SharedInterner,
+    words: &[&str],
+    worker: usize,
+    workers: usize,
+) -> Result<usize, InternFault> {
+    let mut local = interner.local(alloc)?;
+    let mut sum = 0usize;
+    for word in share_of(words, worker, workers) {
+        let symbol = local.intern(rt, word)?;
+        sum = sum.wrapping_add(interner.text(&symbol).len());
+    }
+    Ok(sum)
+}
+
+/// Returns one worker's share of the words.
+fn share_of<'a, 'b>(words: &'b [&'a str], worker: usize, workers: usize) -> &'b [&'a str] {
+    let len = (words.len() / workers.max(1)).saturating_add(1);
+    let start = worker.saturating_mul(len).min(words.len());
+    let end = start.saturating_add(len).min(words.len());
+    words.get(start..end).unwrap_or(&[])
 }
 
 /// Returns the words of all texts.

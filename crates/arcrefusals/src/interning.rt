@@ -1,6 +1,6 @@
 //! Calls of an interner, with and without texts. A refusal leaves its texts as they were, and the same call then succeeds.
 use crate::calls::{Calls, Given, Machine, Made, Stop, again, check, count, is_text};
-use arcintern::{Interner, SharedInterner, SharedSymbol};
+use arcintern::{FrozenInterner, Interner, SharedInterner, SharedSymbol};
 use arcstr::{ArcStr, Substr};
 use std::alloc::AllocError;
 use std::sync::Wait;
@@ -17,9 +17,15 @@ pub(crate) fn run<R: Machine>(rt: &R) -> io::Result<()> {
     again::<Handles, Interner, R>(rt, "Interner::intern_arc", 0, "foobar", 3)?;
     again::<Handles, Interner, R>(rt, "Interner::intern_substr", 1, "foo", 1)?;
     again::<(), SharedInterner, R>(rt, "SharedInterner::new", 0, "", 0)?;
+    again::<(), SharedInterner, R>(rt, "SharedInterner::with_capacity", 1, "", 0)?;
     again::<SharedWords<0>, SharedInterner, R>(rt, "SharedInterner::intern", 0, "", 0)?;
     let line = "SharedInterner::intern with a full table";
-    again::<SharedWords<FULL>, SharedInterner, R>(rt, line, 0, "", 0)
+    again::<SharedWords<FULL>, SharedInterner, R>(rt, line, 0, "", 0)?;
+    again::<SharedWords<FULL>, SharedInterner, R>(rt, "SharedInterner::intern_static", 1, "", 0)?;
+    again::<SharedWords<FULL>, SharedInterner, R>(rt, "LocalInterner::intern", 2, "", 0)?;
+    let line = "SharedInterner::intern of a known word";
+    again::<SharedWords<FULL>, SharedInterner, R>(rt, line, 3, "", 0)?;
+    again::<SharedWords<FULL>, FrozenInterner, R>(rt, "SharedInterner::freeze", 0, "", 0)
 }
 
 /// An interner whose last text is this one, or which has none if the text is empty.
@@ -147,8 +153,11 @@ impl Made for SharedInterner {
 }
 
 impl Calls<()> for SharedInterner {
-    fn call<R: Machine>(rt: &R, _: &mut (), _: usize) -> Result<SharedInterner, Stop> {
-        let interner = SharedInterner::new(rt.alloc(), 2)?;
+    fn call<R: Machine>(rt: &R, _: &mut (), number: usize) -> Result<SharedInterner, Stop> {
+        let interner = match number {
+            0 => SharedInterner::new(rt.alloc(), 2)?,
+            _ => SharedInterner::with_capacity(rt.alloc(), 2, 100)?,
+        };
         check(interner.is_empty())?;
         Ok(interner)
     }
@@ -179,27 +188,77 @@ impl<const TEXTS: usize> Calls<SharedWords<TEXTS>> for SharedInterner {
     fn call<R: Machine>(
         rt: &R,
         words: &mut SharedWords<TEXTS>,
-        _: usize,
+        number: usize,
     ) -> Result<SharedInterner, Stop> {
         if let Some(interner) = words.0.as_ref() {
-            let symbol = interner.intern(rt, "foobar")?;
-            check(interner.len() == TEXTS.saturating_add(1))?;
-            check(symbol.number().index() == TEXTS)?;
-            check(is_found(rt, interner, &symbol))?;
+            match number {
+                3 => intern_known(rt, interner)?,
+                _ => intern_new(rt, interner, number)?,
+            }
         }
         words.0.take().ok_or(Stop::Differs)
     }
 }
 
-/// Whether the symbol is that of the text `foobar`, in a block of one handle.
-fn is_found(rt: &impl Wait, interner: &SharedInterner, symbol: &SharedSymbol) -> bool {
+/// Interns the text `foobar`, by the call of this number.
+fn intern_new<R: Machine>(rt: &R, interner: &SharedInterner, number: usize) -> Result<(), Stop> {
+    let texts = interner.len();
+    let symbol = match number {
+        0 => interner.intern(rt, "foobar")?,
+        1 => interner.intern_static(rt, "foobar")?,
+        _ => interner.local(rt.alloc())?.intern(rt, "foobar")?,
+    };
+    check(interner.len() == texts.saturating_add(1))?;
+    check(symbol.number().index() == texts)?;
+    let handles = if number == 1 { 0 } else { 1 };
+    check(is_found(rt, interner, &symbol, handles))
+}
+
+/// Interns a word that is there.
+fn intern_known<R: Machine>(rt: &R, interner: &SharedInterner) -> Result<(), Stop> {
+    let symbol = interner.intern(rt, "0")?;
+    check(symbol.number().index() == 0)
+}
+
+/// Whether the symbol is that of the text `foobar`, whose block has this many handles.
+fn is_found(
+    rt: &impl Wait,
+    interner: &SharedInterner,
+    symbol: &SharedSymbol,
+    handles: usize,
+) -> bool {
     match (
         interner.get(rt, "foobar"),
         interner.symbol_at(symbol.number()),
     ) {
         (Some(found), Some(there)) => {
-            found.number() == symbol.number() && is_text(interner.text(&there), "foobar", 1)
+            found.number() == symbol.number() && is_text(interner.text(&there), "foobar", handles)
         }
         _ => false,
+    }
+}
+
+impl Made for FrozenInterner {
+    fn is(&self, _wanted: &str, _handles: usize) -> bool {
+        self.len() == FULL && self.get("0").is_some() && self.get("foobar").is_none()
+    }
+}
+
+impl Calls<SharedWords<FULL>> for FrozenInterner {
+    fn call<R: Machine>(
+        _rt: &R,
+        words: &mut SharedWords<FULL>,
+        _: usize,
+    ) -> Result<FrozenInterner, Stop> {
+        let Some(interner) = words.0.take() else {
+            return Err(Stop::Differs);
+        };
+        match interner.freeze() {
+            Ok(frozen) => Ok(frozen),
+            Err(failed) => {
+                words.0 = Some(failed.value);
+                Err(Stop::Refused)
+            }
+        }
     }
 }

@@ -20,8 +20,7 @@ impl<S: BuildHasher> SharedInterner<S> {
     /// in this order: where `MOST_TEXTS` numbers are taken (`Full`), if it has `2^63 - 25` bytes or more (`Length`), and out of memory
     /// (`Memory`).
     ///
-    /// Tests check the rest: a known word is never refused (`threads_agree_on_eight_shards`), and a refused word is not found
-    /// (`tools/refusals`).
+    /// `tools/refusals` tests that a known word is never refused where memory is out, and that no call finds a refused word.
     ///
     /// ```
     /// let interner = SharedInterner::new(rt.alloc(), 8)?;
