@@ -209,7 +209,7 @@ impl Index for &ArcStr {
         ArcStr::as_str(*self).index_into(value)
     }
 
-    /// As `index_into`, for a change of the member.
+    /// As `index_into`, with a reference by which the member can be changed.
     fn index_into_mut<'v>(&self, value: &'v mut Value) -> Option<&'v mut Value> {
         ArcStr::as_str(*self).index_into_mut(value)
     }
@@ -232,7 +232,7 @@ impl Index for &Substr {
         Substr::as_str(*self).index_into(value)
     }
 
-    /// As `index_into`, for a change of the member.
+    /// As `index_into`, with a reference by which the member can be changed.
     fn index_into_mut<'v>(&self, value: &'v mut Value) -> Option<&'v mut Value> {
         Substr::as_str(*self).index_into_mut(value)
     }

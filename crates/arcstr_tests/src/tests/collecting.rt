@@ -1,11 +1,7 @@
 //! Texts collected from iterators, `String`s collected from texts, and the counts of the handles that were collected.
-use crate::tests::checks::check;
-use crate::tests::steps::{
-    check_copied, check_count, check_empty, check_made, check_refused, check_slice, check_text,
-    made, part,
-};
-use arcstr::{ArcStr, Substr, TextFault, literal};
-use std::alloc::{AllocError, AllocGlobal};
+use crate::tests::steps::{check_copied, check_count, check_empty, check_text, made, owned, part};
+use arcstr::{ArcStr, Substr, literal};
+use std::alloc::AllocError;
 use std::process::Abort;
 use std::sync::Wait;
 
@@ -27,11 +23,6 @@ fn characters_are_collected(rt: HostRuntime) {
 fn strings_are_collected(rt: HostRuntime) {
     let strings = [owned(&rt, "fo"), owned(&rt, ""), owned(&rt, "é")];
     check_collected(&rt, strings.into_iter().collect(rt.alloc()), "foé");
-}
-
-/// Returns a `String` with this text.
-fn owned(rt: &(impl Abort + AllocGlobal), text: &str) -> String {
-    String::from_str(rt.alloc(), text).expect(rt, "no memory")
 }
 
 /// Returns two handles to the text, with a literal between them.
@@ -71,24 +62,4 @@ fn a_string_is_extended_by_texts(rt: HostRuntime) {
         .expect(&rt, "no memory");
     check_text(&rt, all.as_str(), "éfoobar, foobarbar");
     check_count(&rt, text, Some(1));
-}
-
-#[test]
-fn a_string_becomes_a_text(rt: HostRuntime) {
-    check_made(&rt, ArcStr::try_from(owned(&rt, "é")), "é");
-    let slice = Substr::try_from(owned(&rt, "é")).expect(&rt, "no memory");
-    check_slice(&rt, &slice, "é", 0..2);
-    check_count(&rt, slice.parent(), Some(1));
-}
-
-#[test]
-fn bytes_become_a_text(rt: HostRuntime) {
-    let bytes = owned(&rt, "é").into_bytes();
-    check_made(&rt, ArcStr::try_from(bytes), "é");
-    let wrong = vec![in rt.alloc(); 255].expect(&rt, "no memory");
-    check_refused(&rt, ArcStr::try_from(wrong), TextFault::Utf8(0));
-    let slice = Substr::try_from(owned(&rt, "é").into_bytes()).expect(&rt, "no memory");
-    check_slice(&rt, &slice, "é", 0..2);
-    let wrong = vec![in rt.alloc(); b'a', 255].expect(&rt, "no memory");
-    check!(rt; Substr::try_from(wrong).is_err_and(|fault| fault == TextFault::Utf8(1)));
 }

@@ -1,6 +1,7 @@
 use crate::tests::checks::check;
 use crate::tests::steps::{
     check_bytes, check_count, check_empty, check_made, check_refused, check_slice, many_digits,
+    owned,
 };
 use arcstr::{ArcStr, Substr, TextFault, format_arcstr};
 use std::alloc::AllocGlobal;
@@ -188,4 +189,24 @@ fn other_bytes_are_refused_after_the_text_before_them(rt: HostRuntime) {
         let made = ArcStr::from_utf8(rt.alloc(), bytes);
         check_refused(&rt, made, TextFault::Utf8(place));
     }
+}
+
+#[test]
+fn a_string_becomes_a_text(rt: HostRuntime) {
+    check_made(&rt, ArcStr::try_from(owned(&rt, "é")), "é");
+    let slice = Substr::try_from(owned(&rt, "é")).expect(&rt, "no memory");
+    check_slice(&rt, &slice, "é", 0..2);
+    check_count(&rt, slice.parent(), Some(1));
+}
+
+#[test]
+fn bytes_become_a_text(rt: HostRuntime) {
+    let bytes = owned(&rt, "é").into_bytes();
+    check_made(&rt, ArcStr::try_from(bytes), "é");
+    let wrong = vec![in rt.alloc(); 255].expect(&rt, "no memory");
+    check_refused(&rt, ArcStr::try_from(wrong), TextFault::Utf8(0));
+    let slice = Substr::try_from(owned(&rt, "é").into_bytes()).expect(&rt, "no memory");
+    check_slice(&rt, &slice, "é", 0..2);
+    let wrong = vec![in rt.alloc(); b'a', 255].expect(&rt, "no memory");
+    check!(rt; Substr::try_from(wrong).is_err_and(|fault| fault == TextFault::Utf8(1)));
 }

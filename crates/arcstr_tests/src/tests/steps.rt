@@ -12,6 +12,11 @@ pub(crate) fn made(rt: &(impl Abort + AllocGlobal), text: &str) -> ArcStr {
     ArcStr::from_str(rt.alloc(), text).expect(rt, "no memory")
 }
 
+/// Copies the text into a `String`. Aborts if out of memory.
+pub(crate) fn owned(rt: &(impl Abort + AllocGlobal), text: &str) -> String {
+    String::from_str(rt.alloc(), text).expect(rt, "no memory")
+}
+
 /// Returns the slice in the range, which is valid.
 pub(crate) fn part<R: Into<StrRange>>(rt: &(impl Abort + Wait), text: &ArcStr, range: R) -> Substr {
     text.substr(rt, range).expect(rt, "no slice")
