@@ -7,9 +7,13 @@ pub use shared_interner::{
     FrozenInterner, LocalInterner, SharedInterner, SharedSymbol, SharedTexts,
 };
 pub use symbol::Symbol;
+pub use symbol_map::{SymbolMap, SymbolMapIter};
+pub use word_list::{MOST_BYTES, WordList, WordListIter};
 
 mod fault;
 mod interner;
 mod shared_interner;
 mod slots;
 mod symbol;
+mod symbol_map;
+mod word_list;
