@@ -19,6 +19,7 @@ mod keys;
 mod macros;
 mod making;
 mod order;
+mod parts;
 mod printing;
 mod serde_impls;
 mod slicing;

@@ -10,6 +10,7 @@ mod keys;
 mod macros;
 mod making;
 mod order;
+mod parts;
 mod printing;
 mod slicing;
 mod splitting;
