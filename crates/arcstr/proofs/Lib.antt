@@ -1,3 +1,4 @@
 pub mod FirstMatches
 pub mod Orders
+pub mod SliceLists
 pub mod Texts

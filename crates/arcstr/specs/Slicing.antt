@@ -1,6 +1,6 @@
 -- Results of the slicing calls. Each definition takes the receiver's own text, and the slice between two byte offsets of that text: `slice_of` for a shared
 -- text, `slice_within` for a shared slice.
-use Rattle.std.specs.Prelude.{◌≡◌, ◌≢◌, ◌↔◌, ℕ, List, [], Option, Result, Ok, IsOk, IsErrOf, IsSome, IfOk, IfSome, ◌+◌, length}
+use Rattle.std.specs.Prelude.{◌≡◌, ◌≢◌, ◌↔◌, ℕ, List, [], map, Option, Result, Ok, IsOk, IsErrOf, IsSome, IfOk, IfSome, ◌+◌, length}
 use Rattle.std.specs.declared.ops.Range.{Range}
 use Rattle.arcstr_range.specs.declared.range.StrRange.{StrRange}
 use Rattle.arcstr_range.specs.declared.range.StrRange.TheVariants.{Between}
@@ -27,6 +27,10 @@ pub record IsSliceOfView (between : ℕ → ℕ → SubstrView) (view : View) (s
   pub empty : view.text ≡ [] → slice ≡ empty_slice
   pub there : view.text ≢ [] → slice ≡ between view.place (end_of view)
   pub same_text : text_of slice ≡ view.text
+
+-- the slices that views show, one after another, even of empty ones
+abbrev pub slices_of : (ℕ → ℕ → SubstrView) → List View → List SubstrView
+slices_of between views = map (λ view. between view.place (end_of view)) views
 
 -- the bytes that `get` returns for a range: those between its ends, exactly if Rust's `str` has a slice there
 pub record AnswersGet (text : List ℕ) (range : StrRange) (answer : Option (List ℕ)) : Type 0 where

@@ -20,6 +20,7 @@ mod keys;
 mod macros;
 mod making;
 mod order;
+mod parts;
 mod pattern;
 mod printing;
 mod serde_impls;

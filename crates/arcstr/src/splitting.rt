@@ -74,7 +74,10 @@ impl ArcStr {
             → AnswersSplit self.now.text (slice_of self.now) character result) }
     {
         let (before, after) = self.as_str().split_once(separator)?;
-        Some((self.clone_prefix(rt, before), self.clone_suffix(rt, after)))
+        Some((
+            self.substr_of_prefix(rt, before),
+            self.substr_of_suffix(rt, after),
+        ))
     }
 
     /// Splits this text around the last match of the separator, as `str::rsplit_once` does. The separator is part of neither slice. Returns `None` exactly if
@@ -101,7 +104,10 @@ impl ArcStr {
         ensures after { IfSome result (λ parts. LiesAtEnd self.now.text (slice_of self.now) parts.1) }
     {
         let (before, after) = self.as_str().rsplit_once(separator)?;
-        Some((self.clone_prefix(rt, before), self.clone_suffix(rt, after)))
+        Some((
+            self.substr_of_prefix(rt, before),
+            self.substr_of_suffix(rt, after),
+        ))
     }
 
     /// Returns the slice of this text with the prefix removed, as `str::strip_prefix` does. Returns `None` exactly if the text does not start with it.
@@ -122,7 +128,7 @@ impl ArcStr {
         ensures slice { IfSome result (LiesAtEnd self.now.text (slice_of self.now)) }
     {
         let rest = self.as_str().strip_prefix(prefix)?;
-        Some(self.clone_suffix(rt, rest))
+        Some(self.substr_of_suffix(rt, rest))
     }
 
     /// Returns the slice of this text with the suffix removed, as `str::strip_suffix` does. Returns `None` exactly if the text does not end with it.
@@ -143,11 +149,19 @@ impl ArcStr {
         ensures slice { IfSome result (LiesAtStart (slice_of self.now)) }
     {
         let rest = self.as_str().strip_suffix(suffix)?;
-        Some(self.clone_prefix(rt, rest))
+        Some(self.substr_of_prefix(rt, rest))
     }
 
-    /// Returns the slice of this text that holds the prefix.
-    fn clone_prefix(&self, rt: &impl Wait, prefix: &str) -> Substr
+    /// Returns the slice of this text that holds a prefix of it. The caller must ensure that the text starts with the prefix. A part that a call of `str` leaves
+    /// at the start of the text, as `trim_end_matches` and `split_once` do, satisfies this.
+    ///
+    /// ```
+    /// let text = ArcStr::from_static("run();;");
+    /// let slice = text.substr_of_prefix(&rt, text.trim_end_matches(';'));
+    /// assert_eq!(rt; slice.as_str(), "run()");
+    /// assert_eq!(rt; slice.range(), 0..5);
+    /// ```
+    pub fn substr_of_prefix(&self, rt: &impl Wait, prefix: &str) -> Substr
         requires within { length prefix.now ≤ length self.now.text }
         requires prefix { prefix.now ≡ take (length prefix.now) self.now.text }
         ensures slice { result ≡ slice_of self.now 0 (length prefix.now) }
@@ -157,8 +171,18 @@ impl ArcStr {
         self.clone_between(rt, prefix_range(self.as_str(), prefix))
     }
 
-    /// Returns the slice of this text that holds the suffix.
-    fn clone_suffix(&self, rt: &impl Wait, suffix: &str) -> Substr
+    /// Returns the slice of this text that holds a suffix of it. The caller must ensure that the text ends with the suffix. A part that a call of `str` leaves
+    /// at the end of the text, as `trim_start_matches` and `split_once` do, satisfies this. For a part in the middle, take the suffix that starts with it, and
+    /// then a prefix of that slice.
+    ///
+    /// ```
+    /// let text = ArcStr::from_static("--name--");
+    /// let rest = text.substr_of_suffix(&rt, text.trim_start_matches('-'));
+    /// assert_eq!(rt; rest.range(), 2..8);
+    /// let name = rest.substr_of_prefix(&rt, rest.trim_end_matches('-'));
+    /// assert_eq!(rt; name.range(), 2..6);
+    /// ```
+    pub fn substr_of_suffix(&self, rt: &impl Wait, suffix: &str) -> Substr
         requires within { length suffix.now ≤ length self.now.text }
         requires suffix { suffix.now ≡ drop (length self.now.text - length suffix.now) self.now.text }
         ensures slice { result ≡ slice_of self.now (length self.now.text - length suffix.now) (length self.now.text) }
@@ -203,7 +227,10 @@ impl Substr {
             → AnswersSplit (text_of self.now) (slice_within self.now) character result) }
     {
         let (before, after) = self.as_str().split_once(separator)?;
-        Some((self.clone_prefix(rt, before), self.clone_suffix(rt, after)))
+        Some((
+            self.substr_of_prefix(rt, before),
+            self.substr_of_suffix(rt, after),
+        ))
     }
 
     /// As `ArcStr::substr_rsplit_once`, for the slice's own text.
@@ -221,7 +248,10 @@ impl Substr {
         ensures after { IfSome result (λ parts. LiesAtEnd (text_of self.now) (slice_within self.now) parts.1) }
     {
         let (before, after) = self.as_str().rsplit_once(separator)?;
-        Some((self.clone_prefix(rt, before), self.clone_suffix(rt, after)))
+        Some((
+            self.substr_of_prefix(rt, before),
+            self.substr_of_suffix(rt, after),
+        ))
     }
 
     /// As `ArcStr::substr_strip_prefix`, for the slice's own text.
@@ -234,7 +264,7 @@ impl Substr {
         ensures slice { IfSome result (LiesAtEnd (text_of self.now) (slice_within self.now)) }
     {
         let rest = self.as_str().strip_prefix(prefix)?;
-        Some(self.clone_suffix(rt, rest))
+        Some(self.substr_of_suffix(rt, rest))
     }
 
     /// As `ArcStr::substr_strip_suffix`, for the slice's own text.
@@ -247,11 +277,11 @@ impl Substr {
         ensures slice { IfSome result (LiesAtStart (slice_within self.now)) }
     {
         let rest = self.as_str().strip_suffix(suffix)?;
-        Some(self.clone_prefix(rt, rest))
+        Some(self.substr_of_prefix(rt, rest))
     }
 
-    /// Returns the slice of the same parent that holds the prefix of the slice's own text.
-    fn clone_prefix(&self, rt: &impl Wait, prefix: &str) -> Substr
+    /// As `ArcStr::substr_of_prefix`, for the slice's own text.
+    pub fn substr_of_prefix(&self, rt: &impl Wait, prefix: &str) -> Substr
         requires within { length prefix.now ≤ length (text_of self.now) }
         requires prefix { prefix.now ≡ take (length prefix.now) (text_of self.now) }
         ensures slice { result ≡ slice_within self.now 0 (length prefix.now) }
@@ -261,8 +291,8 @@ impl Substr {
         self.clone_between(rt, prefix_range(self.as_str(), prefix))
     }
 
-    /// Returns the slice of the same parent that holds the suffix of the slice's own text.
-    fn clone_suffix(&self, rt: &impl Wait, suffix: &str) -> Substr
+    /// As `ArcStr::substr_of_suffix`, for the slice's own text.
+    pub fn substr_of_suffix(&self, rt: &impl Wait, suffix: &str) -> Substr
         requires within { length suffix.now ≤ length (text_of self.now) }
         requires suffix { suffix.now ≡ drop (length (text_of self.now) - length suffix.now) (text_of self.now) }
         ensures slice { result ≡ slice_within self.now (length (text_of self.now) - length suffix.now) (length (text_of self.now)) }

@@ -11,6 +11,7 @@ mod keys;
 mod macros;
 mod making;
 mod order;
+mod parts;
 mod pattern;
 mod printing;
 mod slicing;

@@ -6,6 +6,6 @@ use Rattle.arcstr.proofs.arc_str.ArcStr.substr_split_once.Goals as goal
 pub returns-clause-at_a_character : goal.returns-clause-at_a_character
 returns-clause-at_a_character g c =
     split_around_single (g.P.Pattern.find_in_gives c.args.separator) c.args.self.now.text c.as_str.result.now c.in_ok-before.before.now c.in_ok-before.after.now
-    (slice_of c.args.self.now) c.clone_prefix.result c.clone_suffix.result
-    (g.P.Pattern.single_char c.args.separator) c.in_ok-before.ensures.cases c.as_str.ensures c.as_str.utf8 c.clone_prefix.ensures.boundary c.clone_suffix.ensures.boundary
-    c.clone_prefix.ensures.text c.clone_suffix.ensures.text c.clone_prefix.ensures.slice c.clone_suffix.ensures.slice
+    (slice_of c.args.self.now) c.substr_of_prefix.result c.substr_of_suffix.result
+    (g.P.Pattern.single_char c.args.separator) c.in_ok-before.ensures.cases c.as_str.ensures c.as_str.utf8 c.substr_of_prefix.ensures.boundary c.substr_of_suffix.ensures.boundary
+    c.substr_of_prefix.ensures.text c.substr_of_suffix.ensures.text c.substr_of_prefix.ensures.slice c.substr_of_suffix.ensures.slice

@@ -1,0 +1,98 @@
+//! Lists of slices: each has its text and its place, and keeps the parent until it is dropped.
+use crate::tests::checks::check_eq;
+use crate::tests::steps::{check_count, made, middle};
+use arcstr::{ArcStr, Substr};
+use std::alloc::{AllocError, AllocGlobal};
+use std::process::Abort;
+use std::sync::Wait;
+
+/// The texts of slices, and the byte offsets at which they start in the own text of what they are taken from.
+type Wanted = &'static [(&'static str, usize)];
+
+/// Texts, their parts between commas, their lines and their words.
+const LISTS: [(&str, Wanted, Wanted, Wanted); 5] = [
+    (",", &[("", 0), ("", 1)], &[(",", 0)], &[(",", 0)]),
+    ("\n", &[("\n", 0)], &[("", 0)], &[]),
+    (
+        "a,,é,",
+        &[("a", 0), ("", 2), ("é", 3), ("", 6)],
+        &[("a,,é,", 0)],
+        &[("a,,é,", 0)],
+    ),
+    (
+        "é\r\n\nb",
+        &[("é\r\n\nb", 0)],
+        &[("é", 0), ("", 4), ("b", 5)],
+        &[("é", 0), ("b", 5)],
+    ),
+    (
+        " a\u{3000}é 1 2 3 ",
+        &[(" a\u{3000}é 1 2 3 ", 0)],
+        &[(" a\u{3000}é 1 2 3 ", 0)],
+        &[("a", 1), ("é", 5), ("1", 8), ("2", 10), ("3", 12)],
+    ),
+];
+
+/// Asserts the slices of a text that starts at `start` of its parent. Each is a handle of the parent, which has one other.
+fn check_list(
+    rt: &impl Abort,
+    parent: &ArcStr,
+    start: usize,
+    list: Result<Vec<Substr>, AllocError>,
+    wanted: Wanted,
+) {
+    let list = list.expect(rt, "no memory");
+    check_eq!(rt; list.len(), wanted.len());
+    for (slice, (text, place)) in list.iter().zip(wanted) {
+        check_eq!(rt; slice.as_str(), *text);
+        check_eq!(rt; slice.range().start.saturating_sub(start), *place);
+    }
+    check_count(rt, parent, Some(wanted.len().saturating_add(1)));
+    drop(list);
+    check_count(rt, parent, Some(1));
+}
+
+fn check_lists_of_text(
+    rt: &(impl Abort + AllocGlobal + Wait),
+    text: &ArcStr,
+    parts: Wanted,
+    lines: Wanted,
+    words: Wanted,
+) {
+    let alloc = rt.alloc();
+    check_list(rt, text, 0, text.substr_split(rt, alloc, ','), parts);
+    check_list(rt, text, 0, text.substr_lines(rt, alloc), lines);
+    check_list(rt, text, 0, text.substr_split_whitespace(rt, alloc), words);
+}
+
+fn check_lists_of_slice(
+    rt: &(impl Abort + AllocGlobal + Wait),
+    slice: &Substr,
+    parts: Wanted,
+    lines: Wanted,
+    words: Wanted,
+) {
+    let (alloc, parent) = (rt.alloc(), slice.parent());
+    let start = slice.range().start;
+    check_list(rt, parent, start, slice.substr_split(rt, alloc, ','), parts);
+    check_list(rt, parent, start, slice.substr_lines(rt, alloc), lines);
+    let list = slice.substr_split_whitespace(rt, alloc);
+    check_list(rt, parent, start, list, words);
+}
+
+#[test]
+fn texts_are_listed_as_str_lists_them(rt: HostRuntime) {
+    for (text, parts, lines, words) in LISTS {
+        check_lists_of_text(&rt, &made(&rt, text), parts, lines, words);
+        check_lists_of_slice(&rt, &middle(&rt, text), parts, lines, words);
+    }
+}
+
+#[test]
+fn an_empty_text_has_one_part(rt: HostRuntime) {
+    let (text, alloc) = (ArcStr::new(), rt.alloc());
+    let parts = text.substr_split(&rt, alloc, ',').expect(&rt, "no memory");
+    check_eq!(rt; parts.len(), 1);
+    let lines = text.substr_lines(&rt, alloc).expect(&rt, "no memory");
+    check_eq!(rt; lines.len(), 0);
+}
