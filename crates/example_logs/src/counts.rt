@@ -1,6 +1,6 @@
 //! How often each path of a log was asked for.
 ghost use Rattle.std.specs.Prelude.{IfSome};
-ghost use Rattle.arcstr_range.specs.View.{IsFoundWith};
+ghost use Rattle.arcstr_range.specs.View.{IsFoundAt};
 
 use anyhow::Result;
 use arcstr::view::StrView;
@@ -51,7 +51,7 @@ impl Counts {
         let mut number: usize = 0;
         for line in log.view().lines() {
             number = number.saturating_add(1);
-            match path_of(matcher, &line) {
+            match path_of(matcher, log, &line) {
                 Some(path) => counts.add(rt, log, path)?,
                 None => counts.faults.push(Fault {
                     line: number,
@@ -67,13 +67,12 @@ impl Counts {
 
     /// Counts a request for a path of the log. The map finds a path by its `&str`, so only a new path becomes a slice.
     fn add(&mut self, rt: &impl Wait, log: &ArcStr, path: StrView<'_>) -> Result<(), AllocError>
+        requires { IsFoundAt log.now.text path.text path.place }
     {
         match self.by_path.get_mut(path.text()) {
             Some(count) => *count = count.saturating_add(1),
             None => {
-                if let Some(slice) = log.try_substr_from(rt, path) {
-                    self.by_path.insert(slice, 1)?;
-                }
+                self.by_path.insert(log.substr_from(rt, path), 1)?;
             }
         }
         Ok(())
@@ -97,9 +96,10 @@ impl Counts {
     }
 }
 
-/// Returns the path of a request. It is found wherever its line is found, as `substr_from` requires.
-fn path_of<'a>(matcher: &mut Matcher<'_>, line: &StrView<'a>) -> Option<StrView<'a>>
-    ensures found { IfSome result (IsFoundWith line.now) }
+/// Returns the path of the request in a line of the log. The path is found in the log too, as `substr_from` requires.
+fn path_of<'a>(matcher: &mut Matcher<'_>, log: &ArcStr, line: &StrView<'a>) -> Option<StrView<'a>>
+    requires { IsFoundAt log.now.text line.now.text line.now.place }
+    ensures found { IfSome result (λ path. IsFoundAt log.now.text path.text path.place) }
 {
     let path = matcher.captures(line.text())?.get(1)?;
     line.cut(path.range())
