@@ -74,12 +74,12 @@ class Progress:
         with self.lock:
             self.now[part] = note
 
-    def end(self, part, what="done"):
-        """Counts a part that is done. A pipe gets a line for it."""
+    def end(self, part, what=""):
+        """Counts a part that is done. A pipe gets a line for it if there is more to say."""
         with self.lock:
             self.now.pop(part, None)
             self.done += 1
-            if not self.shows:
+            if what and not self.shows:
                 self.say(f"{part} {what} ({self.so_far()})")
 
     def follow(self, part, words, folder):
