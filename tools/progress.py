@@ -9,8 +9,9 @@ import threading
 import time
 
 PROCESSORS = len(os.sched_getaffinity(0))
-# What rt says while it proves a crate.
+# What rt says while it proves a crate, and what it and other scripts say of a part of their work.
 SO_FAR = re.compile(r"(?:so far: |checked .*, )(\d+) of (\d+)\b")
+NEWS = re.compile(r"rt: (.* (?:proved|NOT PROVED))$|(?:wrong-bodies|refusals): (.*)")
 
 
 def span(seconds):
@@ -19,8 +20,8 @@ def span(seconds):
 
 
 class Progress:
-    """What `with Progress(..)` tells of its block. The work has `total` parts, such as crates, and takes `seconds` of processor time. After an interrupt it says
-    what is `kept`. The block calls `begin` and `end` for each part, and `note` for what it learns of one."""
+    """What `with Progress(..)` tells of its block. The work has `total` parts, such as crates, and takes `seconds` of processor time. After an interrupt it
+    says what is `kept`. The block calls `begin` and `end` for each part, and `note` for what it learns of one."""
 
     def __init__(self, name, total, parts, seconds, kept):
         self.name, self.total, self.parts, self.kept = name, total, parts, kept
@@ -51,7 +52,8 @@ class Progress:
         while not self.ended.wait(1):
             if self.shows:
                 with self.lock:
-                    self.line = f"{self.name}: {self.so_far()} of about {self.expected}; " + ", ".join(f"{part} {note}".strip() for part, note in self.now.items())
+                    now = ", ".join(f"{part} {note}".strip() for part, note in self.now.items())
+                    self.line = f"{self.name}: {self.so_far()} of about {self.expected}; {now}"
                     print(f"\r\033[K{self.line[:shutil.get_terminal_size().columns - 1]}", end="", file=sys.stderr, flush=True)
         self.clear()
 
@@ -74,24 +76,26 @@ class Progress:
         with self.lock:
             self.now[part] = note
 
-    def end(self, part, what="done"):
-        """Counts a part that is done. A pipe gets a line for it."""
+    def end(self, part, what=""):
+        """Counts a part that is done. A pipe gets a line for it if there is more to say."""
         with self.lock:
             self.now.pop(part, None)
             self.done += 1
-            if not self.shows:
+            if what and not self.shows:
                 self.say(f"{part} {what} ({self.so_far()})")
 
     def follow(self, part, words, folder):
-        """Runs a command of rt in a folder, which is a part, and tells of the functions that it proves. Returns its status and all that it says."""
-        said, most = [], 0
+        """Runs a command in a folder, which is a part, and tells what it tells. Returns its status and all that it says."""
+        said, most, streams = [], 0, {"stdin": subprocess.DEVNULL, "stdout": subprocess.PIPE, "stderr": subprocess.STDOUT}
         self.begin(part)
-        with subprocess.Popen(words, cwd=folder, stdin=subprocess.DEVNULL, stdout=subprocess.PIPE, stderr=subprocess.STDOUT, text=True, errors="replace") as ran:
+        with subprocess.Popen(words, cwd=folder, text=True, errors="replace", **streams) as ran:
             self.running.add(ran)
             for line in ran.stdout:
                 said.append(line)
                 if found := SO_FAR.match(line):
                     most = max(most, int(found[1]))
                     self.note(part, f"{most} of {found[2]} functions")
+                elif found := NEWS.match(line):
+                    self.note(part, found[1] or found[2])
         self.running.remove(ran)
         return ran.returncode, "".join(said)
