@@ -5,8 +5,8 @@ use crossbeam_channel::{Receiver, Sender};
 use std::alloc::{AllocError, Global};
 use std::collections::HashMap;
 use std::sync::{Arc, RwLock, Wait};
-use std::thread;
 use std::thread::{JoinHandle, Threads};
+use std::{io, thread};
 
 /// The number of threads that send.
 const SENDERS: usize = 4;
@@ -14,37 +14,34 @@ const SENDERS: usize = 4;
 /// The channels of each topic's readers, which threads share.
 #[derive(Drop)]
 pub struct Broker {
-    topics: RwLock<HashMap<Substr, Vec<Sender<Message>>>>,
+    topics: RwLock<HashMap<Substr, Vec<Sender<Substr>>>>,
 }
 
 impl Broker {
     pub fn new(alloc: Global) -> Broker {
-        Broker {
-            topics: RwLock::new(HashMap::new(alloc)),
-        }
+        let topics = RwLock::new(HashMap::new(alloc));
+        Broker { topics }
     }
 
-    /// From now on the messages under the topic go to this channel too.
+    /// From now on the texts under the topic go to this channel too.
     pub fn subscribe(
         &self,
         rt: &impl Wait,
-        alloc: Global,
         topic: Substr,
-        reader: Sender<Message>,
+        reader: Sender<Substr>,
     ) -> Result<(), AllocError> {
         let mut topics = self.topics.write(rt);
-        let readers = topics.entry(topic)?.or_insert(Vec::new(alloc));
-        readers.push(reader)?;
+        topics.entry(topic)?.or_default().push(reader)?;
         Ok(())
     }
 
-    /// Sends a clone of the message to each reader of its topic, and returns the number of those that took one.
+    /// Sends a clone of the text to each reader of its topic, and returns the number of those that took one.
     fn publish(&self, rt: &impl Wait, message: &Message) -> usize {
         let topics = self.topics.read(rt);
         let mut sent: usize = 0;
         if let Some(readers) = topics.get(message.topic.as_str()) {
             for reader in readers {
-                if reader.send(rt, message.clone(rt)).is_ok() {
+                if reader.send(rt, message.text.clone(rt)).is_ok() {
                     sent = sent.saturating_add(1);
                 }
             }
@@ -68,16 +65,15 @@ pub fn start_senders<R: Threads + Wait + Copy + Send + 'static>(
     alloc: Global,
     broker: Arc<Broker>,
     messages: Vec<Message>,
-) -> std::io::Result<Vec<JoinHandle<usize>>> {
-    let (taken, queue) = crossbeam_channel::unbounded(alloc)?;
+) -> io::Result<Vec<JoinHandle<usize>>> {
+    let (to_senders, queue) = crossbeam_channel::unbounded(alloc)?;
     let mut threads = Vec::new(alloc);
     for _ in 0..SENDERS {
-        let queue = queue.clone()?;
-        let broker = Arc::try_clone(&broker)?;
+        let (broker, queue) = (Arc::try_clone(&broker)?, queue.clone()?);
         threads.push(thread::spawn(&rt, move || broker.publish_all(&rt, &queue))?)?;
     }
     for message in messages {
-        taken.send(&rt, message)?;
+        to_senders.send(&rt, message)?;
     }
     Ok(threads)
 }

@@ -1,5 +1,5 @@
 //! A broker. Its input says who reads which topics, and has messages under topics. Four threads send each message to the readers of its topic, and each reader
-//! has a thread of its own. Then it prints what each reader got, the lines it cannot read, and how often messages were taken, sent and read.
+//! has a thread of its own. Then it prints what each reader got, the lines it cannot read, and how many copies were sent and read.
 #![tactic(auto)]
 
 mod broker;
@@ -38,16 +38,16 @@ fn sum_of(rt: &impl Threads, senders: Vec<JoinHandle<usize>>) -> usize {
     sum
 }
 
-/// Waits for the readers and prints their messages. Returns the number of all messages.
-fn print_mailboxes(
-    rt: &(impl Threads + Print),
+/// Waits for the readers and prints what they got. Returns the number of all texts.
+fn print_mailboxes<R: Threads + Print>(
+    rt: &R,
     readers: Vec<JoinHandle<io::Result<Mailbox>>>,
 ) -> io::Result<usize> {
     let mut read: usize = 0;
     for reader in readers {
         let mailbox = reader.join(rt)?;
         println!(rt; "{mailbox}")?;
-        read = read.saturating_add(mailbox.messages.len());
+        read = read.saturating_add(mailbox.texts.len());
     }
     Ok(read)
 }

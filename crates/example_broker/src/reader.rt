@@ -1,6 +1,6 @@
 //! The threads that read.
 use crate::broker::Broker;
-use crate::script::{Message, ReaderLine};
+use crate::script::ReaderLine;
 use arcstr::Substr;
 use crossbeam_channel::{Receiver, Sender};
 use std::alloc::{AllocError, Global};
@@ -12,7 +12,7 @@ use std::{fmt, io, thread};
 #[derive(Drop)]
 pub struct Mailbox {
     pub reader: Substr,
-    pub messages: Vec<Message>,
+    pub texts: Vec<Substr>,
 }
 
 impl Mailbox {
@@ -21,22 +21,22 @@ impl Mailbox {
         rt: &impl Wait,
         alloc: Global,
         reader: Substr,
-        channel: &Receiver<Message>,
+        channel: &Receiver<Substr>,
     ) -> io::Result<Mailbox> {
-        let mut messages = Vec::new(alloc);
-        for message in channel.iter(rt) {
-            messages.push(message)?;
+        let mut texts = Vec::new(alloc);
+        for text in channel.iter(rt) {
+            texts.push(text)?;
         }
-        messages.sort_unstable_by_key(|message: &Message| message.text.range().start);
-        Ok(Mailbox { reader, messages })
+        texts.sort_unstable_by_key(|text: &Substr| text.range().start);
+        Ok(Mailbox { reader, texts })
     }
 }
 
 impl fmt::Display for Mailbox {
     fn fmt<W: fmt::Write>(&self, f: &mut fmt::Formatter<W>) -> fmt::Result {
         write!(f, "{}:", self.reader)?;
-        for message in &self.messages {
-            write!(f, "\n  [{}] {}", message.topic, message.text)?;
+        for text in &self.texts {
+            write!(f, "\n    {text}")?;
         }
         Ok(())
     }
@@ -45,13 +45,12 @@ impl fmt::Display for Mailbox {
 /// Subscribes the channel to each topic.
 fn subscribe_all(
     rt: &impl Wait,
-    alloc: Global,
     broker: &Broker,
     topics: &Substr,
-    channel: &Sender<Message>,
+    channel: &Sender<Substr>,
 ) -> Result<(), AllocError> {
     for topic in topics.view().split_whitespace() {
-        broker.subscribe(rt, alloc, topics.substr_from(rt, topic), channel.clone()?)?;
+        broker.subscribe(rt, topics.substr_from(rt, topic), channel.clone()?)?;
     }
     Ok(())
 }
@@ -66,7 +65,7 @@ pub fn start_readers<R: Threads + Wait + Copy + Send + 'static>(
     let mut threads = Vec::new(alloc);
     for ReaderLine { name, topics } in lines {
         let (to_reader, channel) = crossbeam_channel::unbounded(alloc)?;
-        subscribe_all(&rt, alloc, broker, &topics, &to_reader)?;
+        subscribe_all(&rt, broker, &topics, &to_reader)?;
         threads.push(thread::spawn(&rt, move || Mailbox::read(&rt, alloc, name, &channel))?)?;
     }
     Ok(threads)

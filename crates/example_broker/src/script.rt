@@ -4,7 +4,7 @@ use std::alloc::{AllocError, Global};
 use std::sync::Wait;
 use thiserror::Error;
 
-/// A text under a topic.
+/// The line `topic: text`.
 #[derive(Drop)]
 pub struct Message {
     pub topic: Substr,
@@ -18,9 +18,9 @@ pub struct ReaderLine {
     pub topics: Substr,
 }
 
-/// A line that is neither a reader nor a message. Lines are counted from 1.
+/// A line that is neither of these. Lines are counted from 1.
 #[derive(Debug, Drop, Error)]
-#[error("line {number}, byte {place}: no `<` and no `:`")]
+#[error("line {number}, byte {place}: no ` < ` and no `: `")]
 pub struct Fault {
     pub number: usize,
     pub place: usize,
@@ -45,39 +45,21 @@ impl Script {
         let mut number: usize = 0;
         for line in text.view().lines() {
             number = number.saturating_add(1);
-            let line = text.substr_from(rt, line.trim());
-            script.read_line(rt, number, &line)?;
+            script.add(rt, number, &text.substr_from(rt, line.trim()))?;
         }
         Ok(script)
     }
 
-    fn read_line(
-        &mut self,
-        rt: &impl Wait,
-        number: usize,
-        line: &Substr,
-    ) -> Result<(), AllocError> {
-        if line.is_empty() {
-            return Ok(());
-        }
-        let place = line.range().start;
+    /// Adds the line with this number.
+    fn add(&mut self, rt: &impl Wait, number: usize, line: &Substr) -> Result<(), AllocError> {
         if let Some((name, topics)) = line.substr_split_once(rt, " < ") {
             self.readers.push(ReaderLine { name, topics })?;
         } else if let Some((topic, text)) = line.substr_split_once(rt, ": ") {
             self.messages.push(Message { topic, text })?;
-        } else {
+        } else if !line.is_empty() {
+            let place = line.range().start;
             self.faults.push(Fault { number, place })?;
         }
         Ok(())
-    }
-}
-
-impl Message {
-    /// Another pair of handles on the two texts. Copies no text.
-    pub fn clone(&self, rt: &impl Wait) -> Message {
-        Message {
-            topic: self.topic.clone(rt),
-            text: self.text.clone(rt),
-        }
     }
 }

@@ -1,6 +1,4 @@
 //! Answers lines, and remembers the values of names.
-ghost use Rattle.std.specs.Prelude.{◌≡◌};
-
 use crate::fault::{Fault, Reason};
 use crate::lexer::{Kind, Token, tokens_of};
 use crate::tree::{Node, tree_of};

@@ -1,5 +1,6 @@
 //! Cuts a line into tokens.
-ghost use Rattle.std.specs.Prelude.{◌≡◌};
+ghost use Rattle.std.specs.Prelude.{◌≡◌, IfOk, IfSome};
+ghost use Rattle.arcstr_range.specs.View.{IsFoundWith};
 
 use crate::fault::{Fault, Reason};
 use crate::tree::Operator;
@@ -45,16 +46,21 @@ pub fn tokens_of(
     Ok(tokens)
 }
 
-/// The longest run of letters and digits at the start of the view, or its first character, and the rest of the view.
-fn first_word<'a>(view: &StrView<'a>) -> Option<(StrView<'a>, StrView<'a>)> {
+/// The longest run of letters and digits at the start of the view, or its first character, and the rest of the view. Both are found in each text in which the
+/// view is found.
+fn first_word<'a>(view: &StrView<'a>) -> Option<(StrView<'a>, StrView<'a>)>
+    ensures found { IfSome result (λ parts. IsFoundWith view.now parts.0 × IsFoundWith view.now parts.1) }
+{
     let text = view.text();
     let first = text.chars().next().map_or(0, char::len_utf8);
     let run = text.find(|c: char| !c.is_alphanumeric());
     view.split_at(run.unwrap_or(text.len()).max(first))
 }
 
-/// The token of a word.
-fn token_of(names: &mut Interner, word: &StrView<'_>) -> Result<Token, Fault> {
+/// The token of a word, where the word is.
+fn token_of(names: &mut Interner, word: &StrView<'_>) -> Result<Token, Fault>
+    ensures place { IfOk result (λ token. token.place ≡ word.now.place) }
+{
     let place = word.place();
     let text = word.text();
     let kind = match text {

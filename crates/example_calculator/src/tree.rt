@@ -1,6 +1,4 @@
 //! The tree of an expression. It is a list in which each node stands after its parts, so no call recurses, however deep the brackets are.
-ghost use Rattle.std.specs.Prelude.{◌≡◌};
-
 use crate::fault::{Fault, Reason};
 use crate::lexer::{Kind, Token};
 use std::alloc::Global;
