@@ -26,15 +26,15 @@ impl Config {
             faults: Vec::new(alloc),
         };
         let mut section = Substr::new();
-        let mut number: usize = 0;
-        for line in text.view().lines() {
-            number = number.saturating_add(1);
+        for (number, line) in text.view().lines().enumerate() {
             let start = line.place();
             match Line::read(rt, &text.substr_from(rt, line.trim())) {
                 Ok(Line::Blank) => {}
                 Ok(Line::Section(name)) => section = name,
                 Ok(Line::Pair(entry)) => config.insert(alloc, section.clone(rt), entry)?,
-                Err(refusal) => config.faults.push(refusal.in_line(text, number, start))?,
+                Err(refusal) => config
+                    .faults
+                    .push(refusal.in_line(text, number + 1, start))?,
             }
         }
         Ok(config)
