@@ -1,0 +1,78 @@
+//! Settings that change while threads use them.
+
+use crate::settings::Settings;
+use std::alloc::{AllocError, Global};
+use std::sync::atomic::{AtomicU64, Ordering};
+use std::sync::{RwLock, Wait};
+use std::thread::Threads;
+use std::{mem, thread};
+
+/// The settings that all threads share.
+#[derive(Drop)]
+pub struct Live {
+    settings: RwLock<Settings>,
+    changes: AtomicU64,
+}
+
+/// The settings that a worker greeted with before and after a change.
+#[derive(Drop)]
+pub struct Greetings {
+    pub before: Settings,
+    pub after: Settings,
+}
+
+impl Live {
+    /// Makes live settings of these.
+    pub fn new(settings: Settings) -> Live {
+        Live {
+            settings: RwLock::new(settings),
+            changes: AtomicU64::new(0),
+        }
+    }
+
+    /// Returns the current settings, all of the same change. The handles keep their texts alive when the settings are replaced.
+    pub fn current(&self, rt: &impl Wait) -> Settings {
+        self.settings.read(rt).clone(rt)
+    }
+
+    /// Replaces the settings.
+    pub fn replace(&self, rt: &impl Wait, settings: Settings) {
+        let old = mem::replace(&mut *self.settings.write(rt), settings);
+        drop(old);
+        self.changes.fetch_add(1, Ordering::SeqCst);
+    }
+
+    /// Runs the workers of the current settings and replaces these meanwhile. Returns what each worker greeted with.
+    pub fn change<R: Threads + Wait + Sync>(
+        &self,
+        rt: &R,
+        alloc: Global,
+        settings: Settings,
+    ) -> Result<Vec<Greetings>, AllocError> {
+        let first = self.current(rt);
+        let changes = self.changes.load(Ordering::SeqCst);
+        let (greetings, ()) = thread::join(
+            rt,
+            || thread::map_indices(
+                rt,
+                alloc,
+                first.workers,
+                &|_| self.greet(rt, &first, changes),
+            ),
+            || self.replace(rt, settings),
+        );
+        greetings
+    }
+
+    /// A worker: greets with the first settings until there was another change, and then with the new ones.
+    fn greet(&self, rt: &impl Wait, first: &Settings, changes: u64) -> Greetings {
+        let before = first.clone(rt);
+        for _ in rt.forever() {
+            if self.changes.load(Ordering::SeqCst) != changes {
+                break;
+            }
+        }
+        let after = self.current(rt);
+        Greetings { before, after }
+    }
+}
