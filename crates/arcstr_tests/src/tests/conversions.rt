@@ -9,7 +9,6 @@ use std::alloc::{AllocFailed, AllocGlobal, Global};
 use std::convert::{AsSlice, AsStr};
 use std::io;
 use std::io::AsBytes;
-use std::ops::AsDeref;
 use std::path::AsPath;
 use std::process::Abort;
 use std::sync::Wait;
@@ -44,55 +43,40 @@ fn check_file<P: AsPath, B: AsBytes + Drop>(
     rt: &impl Abort,
     path: P,
     bytes: B,
-    wanted: (&str, &[u8]),
+    wanted_path: &str,
+    wanted_bytes: &[u8],
 ) {
-    check_text(rt, path.path_text(), wanted.0);
-    check_bytes(rt, bytes.as_byte_slice(), wanted.1);
+    check_text(rt, path.path_text(), wanted_path);
+    check_bytes(rt, bytes.as_byte_slice(), wanted_bytes);
 }
 
 #[test]
 fn texts_are_paths_and_bytes_of_files(rt: HostRuntime) {
     let text = &made(&rt, "é.txt");
     let slice = &part(&rt, text, 3..);
-    check_file(&rt, text, slice, ("é.txt", b"txt"));
-    check_file(&rt, slice, text, ("txt", b"\xc3\xa9.txt"));
+    check_file(&rt, text, slice, "é.txt", b"txt");
+    check_file(&rt, slice, text, "txt", "é.txt".as_bytes());
     check_count(&rt, text, Some(2));
 }
 
 #[test]
 fn paths_and_bytes_of_files_are_dropped(rt: HostRuntime) {
     let text = &made(&rt, "a.txt");
-    check_file(
-        &rt,
-        text.clone(&rt),
-        part(&rt, text, 2..),
-        ("a.txt", b"txt"),
-    );
-    check_file(
-        &rt,
-        part(&rt, text, 2..),
-        text.clone(&rt),
-        ("txt", b"a.txt"),
-    );
+    let slice = part(&rt, text, 2..);
+    check_file(&rt, text.clone(&rt), slice, "a.txt", b"txt");
+    let slice = part(&rt, text, 2..);
+    check_file(&rt, slice, text.clone(&rt), "txt", b"a.txt");
     check_count(&rt, text, Some(1));
-}
-
-/// Asserts the text of a value that may be absent.
-fn check_optional<'a, T: AsDeref<'a, Shown = &'a str>>(
-    rt: &impl Abort,
-    value: &'a Option<T>,
-    wanted: Option<&str>,
-) {
-    check_part(rt, value.as_deref(), wanted);
 }
 
 #[test]
 fn a_text_that_may_be_absent_is_read(rt: HostRuntime) {
-    let text = &Some(made(&rt, "foobar"));
-    check_optional(&rt, text, Some("foobar"));
-    let slice = Some(part(&rt, &made(&rt, "foobar"), 3..));
-    check_optional(&rt, &slice, Some("bar"));
-    check_optional::<ArcStr>(&rt, &None, None);
+    let text = Some(made(&rt, "foobar"));
+    check_part(&rt, text.as_deref(), Some("foobar"));
+    let slice = Some(part(&rt, &literal!("foobar"), 3..));
+    check_part(&rt, slice.as_deref(), Some("bar"));
+    let none: Option<ArcStr> = None;
+    check_part(&rt, none.as_deref(), None);
 }
 
 /// Returns a list of the two texts. Both the list and the texts allocate.

@@ -161,8 +161,8 @@ fn a_sorted_set_of_texts_is_read_by_a_slice(rt: HostRuntime) {
 #[test]
 fn a_sorted_map_of_slices_is_read_by_a_text(rt: HostRuntime) {
     let mut map = BTreeMap::new(rt.alloc());
-    for (place, text) in ["b", "é", "a"].into_iter().enumerate() {
-        insert_sorted(&rt, &mut map, Substr::full(made(&rt, text)), place as u8);
+    for (text, value) in [("b", 0), ("é", 1), ("a", 2)] {
+        insert_sorted(&rt, &mut map, Substr::full(made(&rt, text)), value);
     }
     check_eq!(rt; map.get(&literal!("a")), Some(&2));
     check_eq!(rt; map.get(&literal!("")), None);

@@ -203,10 +203,10 @@ fn a_string_becomes_a_text(rt: HostRuntime) {
 fn bytes_become_a_text(rt: HostRuntime) {
     let bytes = owned(&rt, "é").into_bytes();
     check_made(&rt, ArcStr::try_from(bytes), "é");
-    let wrong = vec![in rt.alloc(); 255].expect(&rt, "no memory");
+    let wrong: Vec<u8> = vec![in rt.alloc(); 255].expect(&rt, "no memory");
     check_refused(&rt, ArcStr::try_from(wrong), TextFault::Utf8(0));
     let slice = Substr::try_from(owned(&rt, "é").into_bytes()).expect(&rt, "no memory");
     check_slice(&rt, &slice, "é", 0..2);
-    let wrong = vec![in rt.alloc(); b'a', 255].expect(&rt, "no memory");
+    let wrong: Vec<u8> = vec![in rt.alloc(); b'a', 255].expect(&rt, "no memory");
     check!(rt; Substr::try_from(wrong).is_err_and(|fault| fault == TextFault::Utf8(1)));
 }
