@@ -13,7 +13,7 @@ use std::marker::Model;
 ///
 /// ```
 /// let mut words = WordList::new(rt.alloc());
-/// let mut lens = SymbolMap::new(rt.alloc());
+/// let mut lens: SymbolMap<u64> = SymbolMap::new(rt.alloc());
 /// let foo = words.intern("foo")?;
 /// let bar = words.intern("bar")?;
 /// lens.insert(bar, 3)?;
@@ -54,7 +54,7 @@ impl<V> SymbolMap<V> {
     ///
     /// ```
     /// let symbol = Interner::new(rt.alloc()).intern("foo")?;
-    /// let mut map = SymbolMap::new(rt.alloc());
+    /// let mut map: SymbolMap<u64> = SymbolMap::new(rt.alloc());
     /// assert!(rt; map.get(symbol).is_none());
     /// map.insert(symbol, 7)?;
     /// assert!(rt; map.get(symbol) == Some(&7));
@@ -72,7 +72,7 @@ impl<V> SymbolMap<V> {
     ///
     /// ```
     /// let symbol = Interner::new(rt.alloc()).intern("foo")?;
-    /// let mut map = SymbolMap::new(rt.alloc());
+    /// let mut map: SymbolMap<u64> = SymbolMap::new(rt.alloc());
     /// map.insert(symbol, 7)?;
     /// if let Some(value) = map.get_mut(symbol) {
     ///     *value = 8;
@@ -93,7 +93,7 @@ impl<V> SymbolMap<V> {
     ///
     /// ```
     /// let symbol = Interner::new(rt.alloc()).intern("foo")?;
-    /// let mut map = SymbolMap::new(rt.alloc());
+    /// let mut map: SymbolMap<u64> = SymbolMap::new(rt.alloc());
     /// assert!(rt; map.insert(symbol, 7)?.is_none());
     /// assert!(rt; map.insert(symbol, 8)? == Some(7));
     /// ```
@@ -109,7 +109,8 @@ impl<V> SymbolMap<V> {
         if reach(&mut self.values, symbol.index()).is_err() {
             return Err(AllocFailed { value });
         }
-        Ok(self.values[symbol.index()].replace(value))
+        let place = &mut self.values[symbol.index()];
+        Ok(place.replace(value))
     }
 
     /// Returns the value of the symbol for writing. If it has none, stores this one first. Allocates and fails as `insert` does.
@@ -142,7 +143,7 @@ impl<V> SymbolMap<V> {
     ///
     /// ```
     /// let mut words = WordList::new(rt.alloc());
-    /// let mut map = SymbolMap::new(rt.alloc());
+    /// let mut map: SymbolMap<u64> = SymbolMap::new(rt.alloc());
     /// let foo = words.intern("foo")?;
     /// map.insert(words.intern("bar")?, 1)?;
     /// map.insert(foo, 2)?;
@@ -163,7 +164,7 @@ impl<V> SymbolMap<V> {
 ///
 /// ```
 /// let symbol = Interner::new(rt.alloc()).intern("foo")?;
-/// let mut map = SymbolMap::new(rt.alloc());
+/// let mut map: SymbolMap<u64> = SymbolMap::new(rt.alloc());
 /// map.insert(symbol, 7)?;
 /// let printed = format!(in rt.alloc(); "{map:?}")?;
 /// assert_eq!(rt; printed.as_str(), "{Symbol(0): 7}");
@@ -195,7 +196,7 @@ fn reach<V>(values: &mut Vec<Option<V>>, index: usize) -> Result<(), AllocError>
 ///
 /// ```
 /// let symbol = Interner::new(rt.alloc()).intern("foo")?;
-/// let mut map = SymbolMap::new(rt.alloc());
+/// let mut map: SymbolMap<u64> = SymbolMap::new(rt.alloc());
 /// map.insert(symbol, 7)?;
 /// let mut pairs: SymbolMapIter<u64> = map.iter();
 /// assert!(rt; pairs.next() == Some((symbol, &7)));

@@ -209,8 +209,10 @@ impl<S: BuildHasher> WordList<S> {
         requires { symbol < length self.now }
         ensures { slice_get self.now symbol ≡ Some result.now }
     {
-        let text = self.table.text(symbol.index());
-        text.unwrap_or("")
+        match self.table.text(symbol.index()) {
+            Some(text) => text,
+            None => "",
+        }
     }
 
     /// Returns the number of texts.

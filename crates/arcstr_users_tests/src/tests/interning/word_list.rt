@@ -76,7 +76,7 @@ fn symbol_of(rt: &(impl Abort + AllocGlobal), number: usize) -> Symbol {
 
 #[test]
 fn a_symbol_map_grows_where_a_value_is_stored(rt: HostRuntime) {
-    let mut map = SymbolMap::new(rt.alloc());
+    let mut map: SymbolMap<u64> = SymbolMap::new(rt.alloc());
     let tenth = symbol_of(&rt, 9);
     let third = symbol_of(&rt, 2);
     check!(rt; map.insert(tenth, 10).expect(&rt, "refused").is_none());
