@@ -204,3 +204,17 @@ fn a_character_is_taken_off(rt: HostRuntime) {
     check_rest(&rt, text, 0, text.substr_strip_suffix(&rt, 'é'), Some("éa"));
     check_rest(&rt, text, 0, text.substr_strip_suffix(&rt, 'a'), None);
 }
+
+#[test]
+fn parts_at_either_end_become_slices(rt: HostRuntime) {
+    let text = &made(&rt, "--é--");
+    let rest = text.substr_of_suffix(&rt, text.trim_start_matches('-'));
+    check_rest(&rt, text, 2, Some(rest), Some("é--"));
+    let rest = text.substr_of_prefix(&rt, text.trim_end_matches('-'));
+    check_rest(&rt, text, 0, Some(rest), Some("--é"));
+    let slice = &middle(&rt, "--é--");
+    let rest = slice.substr_of_suffix(&rt, slice.trim_start_matches('-'));
+    check_rest(&rt, slice.parent(), 8, Some(rest), Some("é--"));
+    let rest = slice.substr_of_prefix(&rt, slice.trim_end_matches('-'));
+    check_rest(&rt, slice.parent(), 6, Some(rest), Some("--é"));
+}
