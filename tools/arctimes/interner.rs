@@ -79,7 +79,10 @@ fn time_sharing<M: Machine>(rt: &M, request: &Request, words: &[&str]) -> Result
     let interner = SharedInterner::new(rt.alloc(), SHARDS)?;
     intern_share(rt, &interner, words, 0, 1)?;
     let work = |worker: usize| intern_share(rt, &interner, words, worker, request.threads);
-    request.time(rt, || sum_of(thread::map_indices(rt, rt.alloc(), request.threads, &work)?))
+    request.time(
+        rt,
+        || sum_of(thread::map_indices(rt, rt.alloc(), request.threads, &work)?),
+    )
 }
 
 /// As `time_sharing`, in a fresh interner, whose drop is not timed.
@@ -100,7 +103,10 @@ fn time_caches<M: Machine>(rt: &M, request: &Request, words: &[&str]) -> Result<
     let interner = SharedInterner::new(alloc, SHARDS)?;
     intern_share(rt, &interner, words, 0, 1)?;
     let work = |worker: usize| intern_locally(rt, alloc, &interner, words, worker, workers);
-    request.time(rt, || sum_of(thread::map_indices(rt, alloc, workers, &work)?))
+    request.time(
+        rt,
+        || sum_of(thread::map_indices(rt, alloc, workers, &work)?),
+    )
 }
 
 /// Returns the sum of what the workers return.
