@@ -23,8 +23,8 @@ pub record AnswersMaking {T : Type 0} (text : List ℕ) (copy nothing : T) (answ
 abbrev pub AnswersCopy : List ℕ → Result TextView TextFault → Type 0
 AnswersCopy text answer = AnswersMaking text (made_of text) (literal_of []) answer
 
--- the result of making a handle on a copy of these bytes if they are UTF-8: the handle on the copy, or the one on nothing if there are no bytes; an error if they
--- are not UTF-8, with the length of their longest prefix that is, if they are too many, or if the allocation fails
+-- the result of making a handle on a copy of these bytes if they are UTF-8: the handle on the copy, or the one on nothing if there are no bytes; an error if
+-- they are not UTF-8, with the length of their longest prefix that is, if they are too many, or if the allocation fails
 pub record AnswersUtf8 {T : Type 0} (bytes : List ℕ) (copy nothing : T) (answer : Result T TextFault) : Type 0 where
   pub made : IfOk answer (λ made. made ≡ copy)
   pub empty : bytes ≡ [] → answer ≡ Ok nothing

@@ -1,5 +1,5 @@
-//! Equality, order and hash of texts. They depend only on the text, not on its kind, and those of `Substr` only on the slice's own text. Those of `StaticStr` are
-//! those of `ArcStr`.
+//! Equality, order and hash of texts. They depend only on the text, not on its kind, and those of `Substr` only on the slice's own text. Those of `StaticStr`
+//! are those of `ArcStr`.
 //!
 //! The functions at the end compare two texts by vectors of bytes: 16 at a time, or 32 or 64 whose differences are combined before one test.
 ghost use Rattle.std.specs.Prelude.{◌≡◌, ◌↔◌, ◌+◌, ◌≤◌, ◌<◌, ◌==◌, ℕ, Some, IsTrue, bytes_eq, drop, length, not, refl, take};

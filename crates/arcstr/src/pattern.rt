@@ -1,5 +1,5 @@
-//! Texts as patterns: `text.contains(&other)`, `text.split(&separator)`, `text.substr_split_once(rt, &separator)`. Each call of `str`, `ArcStr`, `Substr` or `StrView`
-//! that takes a `&str` as its pattern takes a reference to a text too, with the same result.
+//! Texts as patterns: `text.contains(&other)`, `text.split(&separator)`, `text.substr_split_once(rt, &separator)`. Each call of `str`, `ArcStr`, `Substr` or
+//! `StrView` that takes a `&str` as its pattern takes a reference to a text too, with the same result.
 ghost use Rattle.std.specs.Prelude.{◌≡◌};
 ghost use Rattle.std.specs.Str.Pattern.{FindsText, FindsTextPrefix, FindsTextSuffix, RFindsText};
 ghost use Rattle.arcstr.specs.Substr.{text_of};

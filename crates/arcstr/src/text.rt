@@ -1,5 +1,5 @@
-//! The texts as `&str` and `&[u8]`, by std's traits `DerefStr`, `AsStr`, `AsSlice`, `AsBytes`, `AsPath` and `AsDeref`. By `DerefStr`, every method of `str` can be
-//! called on them; a method of the type itself takes precedence. No call here allocates or takes an atomic step.
+//! The texts as `&str` and `&[u8]`, by std's traits `DerefStr`, `AsStr`, `AsSlice`, `AsBytes`, `AsPath` and `AsDeref`. By `DerefStr`, every method of `str` can
+//! be called on them; a method of the type itself takes precedence. No call here allocates or takes an atomic step.
 ghost use Rattle.std.specs.Prelude.{◌≡◌, ℕ, List, Some};
 ghost use Rattle.arcstr.specs.Substr.{text_of};
 
