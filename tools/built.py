@@ -55,7 +55,7 @@ def prove(name, crates):
             print(said, end="", file=sys.stderr)
         return status == 0
 
-    with Progress(name, len(crates), "crates proved", seconds_for(left), KEPT) as progress, Lanes(len(crates), progress) as pool:
+    with Progress(name, len(crates), "crates", seconds_for(left), KEPT) as progress, Lanes(len(crates), progress) as pool:
         # Those that use no other do not wait for each other. Each of the others waits for most of the rest.
         lowest = [crate for crate in crates if not below(crate)]
         return all([*pool.map(build, lowest)]) and all(map(build, [crate for crate in crates if crate not in lowest]))
