@@ -5,13 +5,11 @@ For the other scripts it also lays the built forms of libraries, `out/rlib`, bes
 """
 import hashlib
 import shutil
-import signal
 import subprocess
 import sys
-from concurrent.futures import ThreadPoolExecutor
 from pathlib import Path
 
-from progress import Progress
+from progress import Lanes, Progress
 from sources import CRATES, ROOT, below, files_of, is_current, is_library, listed_crates
 
 # The processor time of a proof from nothing for each line of a crate's sources, and for each crate.
@@ -57,8 +55,7 @@ def prove(name, crates):
             print(said, end="", file=sys.stderr)
         return status == 0
 
-    signal.signal(signal.SIGTERM, lambda *_: sys.exit(1))
-    with ThreadPoolExecutor(len(crates)) as pool, Progress(name, len(crates), "crates proved", seconds_for(left), KEPT) as progress:
+    with Progress(name, len(crates), "crates", seconds_for(left), KEPT) as progress, Lanes(len(crates), progress) as pool:
         # Those that use no other do not wait for each other. Each of the others waits for most of the rest.
         lowest = [crate for crate in crates if not below(crate)]
         return all([*pool.map(build, lowest)]) and all(map(build, [crate for crate in crates if crate not in lowest]))

@@ -3,15 +3,18 @@ for each part that is done."""
 import os
 import re
 import shutil
+import signal
 import subprocess
 import sys
 import threading
 import time
+from concurrent.futures import ThreadPoolExecutor
 
 PROCESSORS = len(os.sched_getaffinity(0))
 # What rt says while it proves a crate, and what it and other scripts say of a part of their work.
 SO_FAR = re.compile(r"(?:so far: |checked .*, )(\d+) of (\d+)\b")
 NEWS = re.compile(r"rt: (.* (?:proved|NOT PROVED))$|(?:wrong-bodies|refusals): (.*)")
+STREAMS = {"stdin": subprocess.DEVNULL, "stdout": subprocess.PIPE, "stderr": subprocess.STDOUT, "text": True, "errors": "replace"}
 
 
 def span(seconds):
@@ -21,58 +24,51 @@ def span(seconds):
 
 class Progress:
     """What `with Progress(..)` tells of its block. The work has `total` parts, such as crates, and takes `seconds` of processor time. After an interrupt it
-    says what is `kept`. The block calls `begin` and `end` for each part, and `note` for what it learns of one."""
+    says what is `kept`. The block calls `note` for what it learns of a part, and `end` once the part is done."""
 
     def __init__(self, name, total, parts, seconds, kept):
-        self.name, self.total, self.parts, self.kept = name, total, parts, kept
-        self.expected, self.done, self.now, self.line = span(seconds / PROCESSORS), 0, {}, ""
-        self.lock, self.ended, self.begun = threading.RLock(), threading.Event(), time.monotonic()
-        self.shows, self.running = sys.stderr.isatty(), set()
+        self.name, self.total, self.parts, self.kept, self.expected = name, total, parts, kept, span(seconds / PROCESSORS)
+        self.done, self.now, self.running, self.shows, self.begun = 0, {}, set(), sys.stderr.isatty(), time.monotonic()
+        self.lock, self.ended, self.thread = threading.RLock(), threading.Event(), threading.Thread(target=self.renew, daemon=True)
 
     def __enter__(self):
+        signal.signal(signal.SIGTERM, signal.default_int_handler)
         self.say(f"{self.total} {self.parts}, about {self.expected} on {PROCESSORS} processor{'s' * (PROCESSORS > 1)}")
-        self.thread = threading.Thread(target=self.renew, daemon=True)
         self.thread.start()
         return self
 
     def __exit__(self, kind, *_):
-        self.ended.set()
+        self.stop()
         self.thread.join()
+        self.say(*[f"interrupted after {self.so_far()}: {self.kept}"] * (kind is KeyboardInterrupt))
+        if kind is KeyboardInterrupt:
+            sys.exit(130)
+
+    def stop(self):
+        """Ends what runs."""
+        self.ended.set()
         for ran in [*self.running]:
             ran.terminate()
-        if kind in (KeyboardInterrupt, SystemExit):
-            self.say(f"interrupted after {self.so_far()}: {self.kept}")
-            sys.exit(130)
 
     def so_far(self):
         spent = int(time.monotonic() - self.begun)
         return f"{self.done} of {self.total} {self.parts}, {spent // 60}:{spent % 60:02}"
 
     def renew(self):
-        while not self.ended.wait(1):
-            if self.shows:
-                with self.lock:
-                    now = ", ".join(f"{part} {note}".strip() for part, note in self.now.items())
-                    self.line = f"{self.name}: {self.so_far()} of about {self.expected}; {now}"
-                    print(f"\r\033[K{self.line[:shutil.get_terminal_size().columns - 1]}", end="", file=sys.stderr, flush=True)
-        self.clear()
-
-    def clear(self):
-        if self.line:
-            print("\r\033[K", end="", file=sys.stderr, flush=True)
-            self.line = ""
+        while self.shows and not self.ended.wait(1):
+            with self.lock:
+                now = ", ".join(f"{part} {note}".strip() for part, note in self.now.items())
+                line = f"{self.name}: {self.so_far()} of about {self.expected}; {now}"[:shutil.get_terminal_size().columns - 1]
+                print(f"\r\033[K{line}", end="", file=sys.stderr, flush=True)
 
     def say(self, *lines, file=None):
         """Prints lines above the one that is renewed."""
         with self.lock:
-            self.clear()
-            print(*(lines if file else [f"{self.name}: {line}" for line in lines]), sep="\n", file=file or sys.stderr, flush=True)
+            print("\r\033[K" * self.shows, end="", file=sys.stderr, flush=True)
+            for line in lines:
+                print(line if file else f"{self.name}: {line}", file=file or sys.stderr, flush=True)
 
-    def begin(self, part):
-        with self.lock:
-            self.now[part] = ""
-
-    def note(self, part, note):
+    def note(self, part, note=""):
         with self.lock:
             self.now[part] = note
 
@@ -86,9 +82,9 @@ class Progress:
 
     def follow(self, part, words, folder):
         """Runs a command in a folder, which is a part, and tells what it tells. Returns its status and all that it says."""
-        said, most, streams = [], 0, {"stdin": subprocess.DEVNULL, "stdout": subprocess.PIPE, "stderr": subprocess.STDOUT}
-        self.begin(part)
-        with subprocess.Popen(words, cwd=folder, text=True, errors="replace", **streams) as ran:
+        said, most = [], 0
+        self.note(part)
+        with subprocess.Popen(words, cwd=folder, **STREAMS) as ran:
             self.running.add(ran)
             for line in ran.stdout:
                 said.append(line)
@@ -99,3 +95,17 @@ class Progress:
                     self.note(part, found[1] or found[2])
         self.running.remove(ran)
         return ran.returncode, "".join(said)
+
+
+class Lanes(ThreadPoolExecutor):
+    """Lanes for the parts of a progress. After an interrupt no part begins, and what runs is ended."""
+
+    def __init__(self, number, progress):
+        super().__init__(number)
+        self.progress = progress
+
+    def __exit__(self, kind, *rest):
+        if kind:
+            self.shutdown(wait=False, cancel_futures=True)
+            self.progress.stop()
+        return super().__exit__(kind, *rest)
