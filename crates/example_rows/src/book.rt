@@ -1,0 +1,82 @@
+//! A book, and the line that names one.
+ghost use Rattle.std.specs.Prelude.{◌≡◌, IfErr, IfOk};
+
+use arcstr::{ArcStr, Substr};
+use std::fmt;
+use std::sync::Wait;
+use thiserror::Error;
+
+/// Why a line is no book.
+#[derive(Clone, Copy, Debug, PartialEq, Eq, Error)]
+pub enum Reason {
+    #[error("no title after the author")]
+    NoTitle,
+    #[error("no year after the title")]
+    NoYear,
+    #[error("the year is no number")]
+    BadYear,
+}
+
+/// A line that is no book, and the byte offset of the part that shows it. Lines are counted from 1.
+#[derive(Debug, Drop, Error)]
+#[error("line {line}, byte {place}: {reason}")]
+pub struct Fault {
+    pub line: usize,
+    pub place: usize,
+    pub reason: Reason,
+}
+
+impl Fault {
+    fn at(line: usize, part: &Substr, reason: Reason) -> Fault
+        ensures line { result.line ≡ line }
+        ensures place { result.place ≡ part.now.start }
+    {
+        let place = part.range().start;
+        Fault {
+            line,
+            place,
+            reason,
+        }
+    }
+}
+
+/// The fields of a line.
+#[derive(Drop)]
+pub struct Entry {
+    pub author: Substr,
+    pub title: Substr,
+    pub year: i64,
+}
+
+impl Entry {
+    /// Reads the line with this number. Its fields are slices of the same text as the line, so nothing is copied.
+    pub fn read(rt: &impl Wait, number: usize, line: &Substr) -> Result<Entry, Fault>
+        ensures kept { IfOk result (λ entry. (entry.author.parent ≡ line.now.parent) × (entry.title.parent ≡ line.now.parent)) }
+        ensures line { IfErr result (λ fault. fault.line ≡ number) }
+    {
+        let no_title = Fault::at(number, line, Reason::NoTitle);
+        let (author, rest) = line.substr_split_once(rt, ';').ok_or(no_title)?;
+        let no_year = Fault::at(number, &rest, Reason::NoYear);
+        let (title, year) = rest.substr_split_once(rt, ';').ok_or(no_year)?;
+        let bad_year = Fault::at(number, &year, Reason::BadYear);
+        Ok(Entry {
+            author: author.substr_trim(rt),
+            title: title.substr_trim(rt),
+            year: year.trim().parse::<i64>().ok().ok_or(bad_year)?,
+        })
+    }
+}
+
+/// A book of the library.
+#[derive(Drop)]
+pub struct Book {
+    pub author: ArcStr,
+    pub title: ArcStr,
+    pub year: i64,
+}
+
+impl fmt::Display for Book {
+    fn fmt<W: fmt::Write>(&self, f: &mut fmt::Formatter<W>) -> fmt::Result {
+        write!(f, "{}: {} ({})", self.author, self.title, self.year)
+    }
+}
