@@ -1,1 +1,3 @@
+pub mod EmptyPlaces
 pub mod Lookups
+pub mod Words

@@ -3,7 +3,7 @@ use Rattle.std.proofs.Common.{◌≡◌, ℕ, ◌<◌, zero, suc, List, [], ◌�
 use Rattle.std.proofs.lemmas.Bool.{cases_eq}
 use Rattle.std.proofs.lemmas.List.{get_or_append_left, get_or_at, get_or_default, length_push}
 use Rattle.std.proofs.lemmas.List.Quantifiers.{all_pairs_push}
-use Rattle.arcstr.specs.TextView.{TextView, literal_of}
+use Rattle.arcstr.specs.TextView.{TextView}
 use Rattle.arcintern.specs.Slots.{ArePlaced, IsPlaced, slot_of}
 use Rattle.arcintern.specs.Texts.{HasEachOnce, HasWord, IsWordAt, KeepsTexts}
 
@@ -14,22 +14,22 @@ once-push texts text absent once =
     (λ k d within same. absent (k, get_or texts k d, within, get_or_default texts k _ d within, same))
 
 -- each number is placed, if the old ones stay and the new one is placed
-pub ArePlaced-push : (old new : List ℕ) (old_mask new_mask : ℕ) (half : List ℕ → ℕ) (texts : List TextView) (text : TextView)
+pub ArePlaced-push : {X : Type 0} (old new : List ℕ) (old_mask new_mask : ℕ) (half : X → ℕ) (empty : X) (texts : List X) (text : X)
     → ((slot : ℕ) → 0 < slot → IsPlaced old old_mask slot → IsPlaced new new_mask slot)
-    → IsPlaced new new_mask (slot_of (half text.text) (length texts))
-    → ArePlaced old old_mask half texts → ArePlaced new new_mask half (texts ++ text ∷ [])
-ArePlaced-push old new old_mask new_mask half texts text kept placed all = λ number less. by number less (cases_eq number (length texts))
+    → IsPlaced new new_mask (slot_of (half text) (length texts))
+    → ArePlaced old old_mask half empty texts → ArePlaced new new_mask half empty (texts ++ text ∷ [])
+ArePlaced-push {X} old new old_mask new_mask half empty texts text kept placed all = λ number less. by number less (cases_eq number (length texts))
   where
     by : (number : ℕ) → number < length (texts ++ text ∷ []) → (number ≡ length texts) ⊎ (number ≡ length texts → ⊥)
-        → IsPlaced new new_mask (slot_of (half (get_or (texts ++ text ∷ []) number (literal_of [])).text) number)
+        → IsPlaced new new_mask (slot_of (half (get_or (texts ++ text ∷ []) number empty)) number)
     by number less (inl last) =
-        rw (get_or_at texts text [] (literal_of []) number (sym last)) (subst (λ index. IsPlaced new new_mask (slot_of (half text.text) index)) (sym last) placed)
+        rw (get_or_at texts text [] empty number (sym last)) (subst (λ index. IsPlaced new new_mask (slot_of (half text) index)) (sym last) placed)
     by number less (inr other) =
         let within : number < length texts = omega (arith, less, other, length_push texts text) in
-        rw (get_or_append_left texts (text ∷ []) (literal_of []) number within) (kept _ (omega arith) (all number within))
+        rw (get_or_append_left texts (text ∷ []) empty number within) (kept _ (omega arith) (all number within))
 
 -- each old text is still at its index
-pub KeepsTexts-push : (texts : List TextView) (text : TextView) → KeepsTexts texts (texts ++ text ∷ [])
+pub KeepsTexts-push : {X : Type 0} (texts : List X) (text : X) → KeepsTexts texts (texts ++ text ∷ [])
 KeepsTexts-push [] text index within = absurd (omega (arith, within))
 KeepsTexts-push (first ∷ texts) text zero within = refl
 KeepsTexts-push (first ∷ texts) text (suc index) within = KeepsTexts-push texts text index (omega (arith, within))

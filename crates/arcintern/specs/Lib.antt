@@ -1,2 +1,4 @@
 pub mod Slots
 pub mod Texts
+pub mod Values
+pub mod Words

@@ -1,10 +1,9 @@
 -- Where a table finds the number of a text by half of the hash of its word.
-use Rattle.std.specs.Prelude.{◌≡◌, ◌≢◌, ℕ, ◌+◌, ◌*◌, ◌/◌, ◌%◌, ◌<◌, ◌≤◌, List, [], length, slice_index, slice_index_or, bit_and, bit_xor}
+use Rattle.std.specs.Prelude.{◌≡◌, ◌≢◌, ℕ, ◌+◌, ◌*◌, ◌/◌, ◌%◌, ◌<◌, ◌≤◌, List, length, slice_index, slice_index_or, bit_and, bit_xor}
 use Rattle.std.specs.List.{fold}
 use Rattle.std.specs.Hash.{str}
 use Rattle.std.specs.declared.hash.BuildHasher as builder
 use Rattle.std.specs.declared.hash.Hasher as hasher
-use Rattle.arcstr.specs.TextView.{TextView, literal_of}
 
 -- the two halves of a word's hash, joined by xor
 unfoldable pub half_of_word : {S H : Type 0} → builder.Ghosts S H → hasher.Ghosts H → S → List ℕ → ℕ
@@ -28,7 +27,6 @@ pub record IsPlaced (slots : List ℕ) (mask slot : ℕ) : Type 0 where
   pub here : slice_index slots place ≡ slot
   pub before : (other : ℕ) → home mask slot ≤ other → other < place → slice_index slots other ≢ 0
 
--- the number of each text is placed under the half of its word
-abbrev pub ArePlaced : List ℕ → ℕ → (List ℕ → ℕ) → List TextView → Type 0
-ArePlaced slots mask half texts = (number : ℕ) → number < length texts
-    → IsPlaced slots mask (slot_of (half (slice_index_or texts number (literal_of [])).text) number)
+-- the number of each text is placed under the half of its word, which is `half` of the text
+abbrev pub ArePlaced : {X : Type 0} → List ℕ → ℕ → (X → ℕ) → X → List X → Type 0
+ArePlaced slots mask half empty texts = (number : ℕ) → number < length texts → IsPlaced slots mask (slot_of (half (slice_index_or texts number empty)) number)

@@ -21,7 +21,7 @@ abbrev pub HasEachOnce : List TextView → Type 0
 HasEachOnce texts = AllPairs (λ one other. one.text ≢ other.text) texts
 
 -- each of the old texts is still at its index
-abbrev pub KeepsTexts : List TextView → List TextView → Type 0
+abbrev pub KeepsTexts : {X : Type 0} → List X → List X → Type 0
 KeepsTexts old new = (index : ℕ) → index < length old → slice_get new index ≡ slice_get old index
 
 -- the slice is all of its parent

@@ -11,6 +11,7 @@ use crate::fault::InternFault;
 use crate::slots::Slots;
 use arcstr::ArcStr;
 use std::alloc::Global;
+use std::fmt;
 use std::hash::{BuildHasher, BuildHasherDefault, FoldHasher};
 use std::marker::Model;
 use std::slice::Iter;
@@ -47,9 +48,9 @@ pub struct Interner<S: BuildHasher = BuildHasherDefault<FoldHasher>> {
 }
 
 impl<S: BuildHasher> Model for Interner<S> {
-    ghost use Rattle.std.specs.Prelude.{List, ◌≤◌, length};
+    ghost use Rattle.std.specs.Prelude.{List, [], ◌≤◌, length};
     ghost use Rattle.arcintern.specs.declared.interner.TheConstants.{MOST_TEXTS};
-    ghost use Rattle.arcstr.specs.TextView.{TextView};
+    ghost use Rattle.arcstr.specs.TextView.{TextView, literal_of};
     ghost use Rattle.arcintern.specs.Texts.{HasEachOnce};
     ghost use Rattle.arcintern.specs.Slots.{ArePlaced, half_of_word};
 
@@ -58,7 +59,8 @@ impl<S: BuildHasher> Model for Interner<S> {
     ghost view = { λ interner. interner.texts.items };
 
     ghost invariant = { λ interner. HasEachOnce interner.texts.items × (length interner.texts.items ≤ MOST_TEXTS)
-        × ArePlaced interner.slots.slots.items interner.slots.mask (half_of_word S.BuildHasher S.Hasher.Hasher interner.hash_builder) interner.texts.items };
+        × ArePlaced interner.slots.slots.items interner.slots.mask (λ text. half_of_word S.BuildHasher S.Hasher.Hasher interner.hash_builder text.text)
+        (literal_of []) interner.texts.items };
 }
 
 impl Interner<BuildHasherDefault<FoldHasher>> {
@@ -163,5 +165,19 @@ impl<S: BuildHasher> Interner<S> {
         ensures fits { length self.now < 2 ^ 63 }
     {
         self.texts.iter()
+    }
+}
+
+/// Prints the texts as a list, in the order of their symbols.
+///
+/// ```
+/// let mut interner = Interner::new(rt.alloc());
+/// interner.intern("foo")?;
+/// let printed = format!(in rt.alloc(); "{interner:?}")?;
+/// assert_eq!(rt; printed.as_str(), "[\"foo\"]");
+/// ```
+impl<S: BuildHasher> fmt::Debug for Interner<S> {
+    fn fmt<W: fmt::Write>(&self, f: &mut fmt::Formatter<W>) -> fmt::Result {
+        f.debug_list().entries(self.iter()).finish()
     }
 }

@@ -5,9 +5,13 @@ pub use fault::InternFault;
 pub use interner::{Interner, MOST_TEXTS};
 pub use shared_interner::{SharedInterner, SharedSymbol};
 pub use symbol::Symbol;
+pub use symbol_map::{SymbolMap, SymbolMapIter};
+pub use word_list::{MOST_BYTES, WordList, WordListIter};
 
 mod fault;
 mod interner;
 mod shared_interner;
 mod slots;
 mod symbol;
+mod symbol_map;
+mod word_list;

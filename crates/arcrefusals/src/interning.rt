@@ -1,6 +1,6 @@
 //! Calls of an interner, with and without texts. A refusal leaves its texts as they were, and the same call then succeeds.
 use crate::calls::{Calls, Given, Machine, Made, Stop, again, check, count, is_text};
-use arcintern::{Interner, SharedInterner, SharedSymbol};
+use arcintern::{Interner, SharedInterner, SharedSymbol, Symbol, SymbolMap, WordList};
 use arcstr::{ArcStr, Substr};
 use std::alloc::AllocError;
 use std::sync::Wait;
@@ -16,6 +16,11 @@ pub(crate) fn run<R: Machine>(rt: &R) -> io::Result<()> {
     again::<Words<FULL>, Interner, R>(rt, "Interner::intern with a full table", 0, "foobar", 1)?;
     again::<Handles, Interner, R>(rt, "Interner::intern_arc", 0, "foobar", 3)?;
     again::<Handles, Interner, R>(rt, "Interner::intern_substr", 1, "foo", 1)?;
+    again::<Listed<0>, WordList, R>(rt, "WordList::intern", 0, "foobar", 0)?;
+    let line = "WordList::intern with a full table";
+    again::<Listed<FULL>, WordList, R>(rt, line, 0, "foobar", 0)?;
+    again::<Mapped, SymbolMap<u64>, R>(rt, "SymbolMap::insert", 0, "", 0)?;
+    again::<Mapped, SymbolMap<u64>, R>(rt, "SymbolMap::or_insert", 1, "", 0)?;
     again::<(), SharedInterner, R>(rt, "SharedInterner::new", 0, "", 0)?;
     again::<SharedWords<0>, SharedInterner, R>(rt, "SharedInterner::intern", 0, "", 0)?;
     let line = "SharedInterner::intern with a full table";
@@ -136,6 +141,99 @@ impl Calls<Handles> for Interner {
         let wanted = if number == 0 { "foobar" } else { "foo" };
         check(given.interner.get(wanted) == Some(symbol))?;
         Ok(mem::replace(&mut given.interner, Interner::new(rt.alloc())))
+    }
+}
+
+/// A list whose last text is this one.
+impl Made for WordList {
+    fn is(&self, wanted: &str, _handles: usize) -> bool {
+        match self.symbol_at(self.len().saturating_sub(1)) {
+            None => wanted.is_empty(),
+            Some(last) => self.resolve(last) == Some(wanted),
+        }
+    }
+}
+
+/// A list with so many texts. A call that succeeds takes it.
+#[derive(Drop)]
+struct Listed<const TEXTS: usize>(Option<WordList>);
+
+impl<const TEXTS: usize> Given for Listed<TEXTS> {
+    fn prepare<R: Machine>(rt: &R) -> Result<Listed<TEXTS>, Stop> {
+        let mut words = WordList::new(rt.alloc());
+        for number in 0..TEXTS {
+            words.intern(&format!(in rt.alloc(); "{number}")?)?;
+        }
+        Ok(Listed(Some(words)))
+    }
+
+    fn is_unchanged<R: Machine>(&self, _rt: &R) -> bool {
+        match &self.0 {
+            None => true,
+            Some(words) => words.len() == TEXTS && words.get("foobar").is_none(),
+        }
+    }
+}
+
+impl<const TEXTS: usize> Calls<Listed<TEXTS>> for WordList {
+    fn call<R: Machine>(_rt: &R, words: &mut Listed<TEXTS>, _: usize) -> Result<WordList, Stop> {
+        if let Some(words) = words.0.as_mut() {
+            let symbol = words.intern("foobar")?;
+            check(symbol.index() == TEXTS && words.get("foobar") == Some(symbol))?;
+        }
+        words.0.take().ok_or(Stop::Differs)
+    }
+}
+
+/// Two symbols, and a map with a value for the first.
+#[derive(Drop)]
+struct Mapped {
+    first: Symbol,
+    last: Symbol,
+    map: SymbolMap<u64>,
+}
+
+impl Given for Mapped {
+    fn prepare<R: Machine>(rt: &R) -> Result<Mapped, Stop> {
+        let mut words = WordList::new(rt.alloc());
+        let first = words.intern("foo")?;
+        let mut last = first;
+        for number in 0..FULL {
+            last = words.intern(&format!(in rt.alloc(); "{number}")?)?;
+        }
+        let mut map = SymbolMap::new(rt.alloc());
+        map.insert(first, 1).map_err(AllocError::from)?;
+        Ok(Mapped { first, last, map })
+    }
+
+    fn is_unchanged<R: Machine>(&self, _rt: &R) -> bool {
+        self.map.iter().next().is_none()
+            || self.map.get(self.first) == Some(&1) && self.map.get(self.last).is_none()
+    }
+}
+
+impl Made for SymbolMap<u64> {
+    fn is(&self, _wanted: &str, _handles: usize) -> bool {
+        self.iter().map(|pair| *pair.1).eq([1, 2])
+    }
+}
+
+impl Calls<Mapped> for SymbolMap<u64> {
+    fn call<R: Machine>(rt: &R, given: &mut Mapped, number: usize) -> Result<SymbolMap<u64>, Stop> {
+        match number {
+            0 => {
+                let before = given.map.insert(given.last, 2).map_err(AllocError::from)?;
+                check(before.is_none())?;
+            }
+            _ => check(
+                *given
+                    .map
+                    .or_insert(given.last, 2)
+                    .map_err(AllocError::from)?
+                    == 2,
+            )?,
+        }
+        Ok(mem::replace(&mut given.map, SymbolMap::new(rt.alloc())))
     }
 }
 

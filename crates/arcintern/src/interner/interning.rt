@@ -2,7 +2,7 @@
 ghost use Rattle.std.specs.Prelude.{◌≡◌, ◌<◌, ◌≤◌, ◌↔◌, ◌++◌, [], ◌∷◌, length, IfErr, IfOk, IfSome, IsErrOf, IsNone, IsOk, IsSome, IsTrue, OnErr, OnOk};
 ghost use Rattle.arcstr.specs.Making.{IsTooLong};
 ghost use Rattle.arcstr.specs.Substr.{text_of};
-ghost use Rattle.arcstr.specs.TextView.{made_of};
+ghost use Rattle.arcstr.specs.TextView.{literal_of, made_of};
 ghost use Rattle.arcintern.specs.Texts.{HasEachOnce, HasWord, IsWhole, IsWordAt, KeepsTexts};
 
 use crate::fault::InternFault;
@@ -84,6 +84,39 @@ impl<S: BuildHasher> Interner<S> {
         match self.find_or_room(text.as_str())? {
             Some(symbol) => Ok(symbol),
             None => self.push(text.clone(rt)),
+        }
+    }
+
+    /// Returns the symbol of the text that spells this word. If there is none, the last text becomes a literal of the word, whose bytes
+    /// lie in the program: nothing is copied, and the text takes no allocation of its own. Refused as `intern_arc` is.
+    ///
+    /// ```
+    /// let mut interner = Interner::new(rt.alloc());
+    /// let symbol = interner.intern_static("foo")?;
+    /// assert!(rt; interner.get("foo") == Some(symbol));
+    /// assert!(rt; ArcStr::is_static(&interner[symbol]));
+    /// ```
+    pub fn intern_static(&mut self, word: &'static str) -> Result<Symbol, InternFault>
+        ensures word { IfOk result (λ symbol. IsWordAt self.new symbol word.now) }
+        // Promise: A known word is never refused, and changes nothing.
+        ensures known { HasWord self.old word.now → IsOk result }
+        ensures same { HasWord self.old word.now → self.new ≡ self.old }
+        // Promise: A new word adds a literal at the end.
+        ensures added { (¬ HasWord self.old word.now) → OnOk result (self.new ≡ self.old ++ literal_of word.now ∷ []) }
+        // Promise: Each text keeps its symbol, and stands once.
+        ensures kept { KeepsTexts self.old self.new }
+        ensures once { HasEachOnce self.new }
+        // Promise: A refused call changes nothing.
+        ensures refused { OnErr result (self.new ≡ self.old) }
+        // Promise: `Full` comes exactly for a new word in an interner with `MOST_TEXTS` texts.
+        ensures full { IsErrOf result InternFault.Full ↔ ((¬ HasWord self.old word.now) × (MOST_TEXTS ≤ length self.old)) }
+        // Promise: `Length` never comes.
+        ensures never_too_long { ¬ (IsErrOf result InternFault.Length) }
+    {
+        let found = self.find_or_room(word)?;
+        match found {
+            Some(symbol) => Ok(symbol),
+            None => self.push(ArcStr::from_static(word)),
         }
     }
 

@@ -2,3 +2,4 @@
 mod collisions;
 mod interner;
 mod shared_interner;
+mod word_list;

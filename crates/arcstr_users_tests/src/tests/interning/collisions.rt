@@ -8,7 +8,7 @@ use std::sync::Wait;
 
 /// Gives each word the hash 7.
 #[derive(Clone, Copy)]
-struct Collides;
+pub(crate) struct Collides;
 
 impl Hasher for Collides {
     ghost write = { λ h _. h };

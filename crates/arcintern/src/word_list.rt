@@ -1,0 +1,275 @@
+//! `WordList`: each distinct text once, all in one allocation.
+//!
+//! No call here allocates unless it says so, and none takes an atomic step.
+ghost use Rattle.std.specs.Prelude.{◌≡◌, ◌<◌, ◌≤◌, ◌↔◌, ◌++◌, [], ◌∷◌, length, slice_get, Contains, IfErr, IfOk, IfSome, IsErrOf, IsOk, IsSome, IsTrue, OnErr, OnOk, Some};
+ghost use Rattle.arcintern.specs.Texts.{KeepsTexts};
+ghost use Rattle.arcintern.specs.Words.{AreDistinct, IsFullFor};
+
+use crate::fault::InternFault;
+use crate::interner::MOST_TEXTS;
+use crate::slots::half_of_word;
+use crate::symbol::Symbol;
+use std::alloc::Global;
+use std::fmt;
+use std::hash::{BuildHasher, BuildHasherDefault, FoldHasher};
+use std::marker::Model;
+
+mod iter;
+mod table;
+
+pub use iter::WordListIter;
+use table::WordTable;
+
+/// The number of bytes that the texts of a word list can have together.
+///
+/// ```
+/// assert_eq!(rt; MOST_BYTES, 4_294_967_295);
+/// ```
+pub const MOST_BYTES: usize = (1 << 32) - 1;
+
+/// Keeps each distinct text once, in the order in which the texts came, as an `Interner` does. The bytes of all texts stand one after
+/// another in one allocation, so a text takes less memory, and is lent as a `&str`. A contract sees the list of the texts.
+///
+/// The default hasher has a fixed seed. Where an attacker picks the texts, make the list by `with_hasher`.
+///
+/// ```
+/// let mut words = WordList::new(rt.alloc());
+/// let symbol = words.intern("foo")?;
+/// assert_eq!(rt; words.text(symbol), "foo");
+/// assert!(rt; words.intern("foo")? == symbol);
+/// assert!(rt; words.get("foo") == Some(symbol));
+/// ```
+#[derive(Drop)]
+pub struct WordList<S: BuildHasher = BuildHasherDefault<FoldHasher>> {
+    table: WordTable,
+    hash_builder: S,
+}
+
+impl<S: BuildHasher> Model for WordList<S> {
+    ghost use Rattle.std.specs.Prelude.{ℕ, List, []};
+    ghost use Rattle.arcintern.specs.Slots.{ArePlaced, half_of_word};
+
+    ghost Value = { List (List ℕ) };
+
+    ghost view = { λ list. list.table.texts };
+
+    ghost invariant = { λ list. ArePlaced list.table.slots list.table.mask (half_of_word S.BuildHasher S.Hasher.Hasher list.hash_builder) [] list.table.texts };
+}
+
+impl WordList<BuildHasherDefault<FoldHasher>> {
+    /// Makes a list without texts.
+    ///
+    /// ```
+    /// let words = WordList::new(rt.alloc());
+    /// assert!(rt; words.is_empty());
+    /// ```
+    pub fn new(alloc: Global) -> WordList
+        ensures { result ≡ [] }
+    {
+        WordList::with_hasher(alloc, BuildHasherDefault::new())
+    }
+
+    /// Makes a list without texts, with room for this many texts that have so many bytes together, which is allocated here. For none,
+    /// nothing is allocated. `Memory` is the only fault.
+    ///
+    /// ```
+    /// let words = WordList::with_capacity(rt.alloc(), 100, 1_000)?;
+    /// assert_eq!(rt; words.len(), 0);
+    /// ```
+    pub fn with_capacity(alloc: Global, texts: usize, bytes: usize) -> Result<WordList, InternFault>
+        ensures empty { IfOk result (λ list. list ≡ []) }
+        // Promise: It fails only with `Memory`, and with room for nothing it never fails.
+        ensures none { texts ≡ 0 → bytes ≡ 0 → IsOk result }
+        ensures refused { IfErr result (λ fault. fault ≡ InternFault.Memory) }
+    {
+        let table = WordTable::with_capacity(alloc, texts, bytes)?;
+        Ok(WordList {
+            table,
+            hash_builder: BuildHasherDefault::new(),
+        })
+    }
+}
+
+impl<S: BuildHasher> WordList<S> {
+    /// Makes a list without texts, which hashes by `hash_builder`.
+    ///
+    /// ```
+    /// use std::hash::RandomState;
+    /// let mut words = WordList::with_hasher(rt.alloc(), RandomState::new(&rt)?);
+    /// let symbol = words.intern("foo")?;
+    /// assert!(rt; words.get("foo") == Some(symbol));
+    /// ```
+    pub fn with_hasher(alloc: Global, hash_builder: S) -> WordList<S>
+        ensures { result ≡ [] }
+    {
+        WordList {
+            table: WordTable::new(alloc),
+            hash_builder,
+        }
+    }
+
+    /// Returns the symbol of the text that spells this word. If there is none, a copy of the word becomes the last text: that allocates
+    /// where the bytes, the list of their ends or the table is full. A word that is there is never refused. Another one is refused, in
+    /// this order: by a list that has `MOST_TEXTS` texts, or would have more than `MOST_BYTES` bytes (`Full`), and out of memory
+    /// (`Memory`). A refused call leaves the texts as they were.
+    ///
+    /// ```
+    /// let mut words = WordList::new(rt.alloc());
+    /// let symbol = words.intern("foo")?;
+    /// assert!(rt; words.intern("foo")? == symbol);
+    /// assert!(rt; words.intern("bar")? != symbol);
+    /// ```
+    pub fn intern(&mut self, word: &str) -> Result<Symbol, InternFault>
+        ensures word { IfOk result (λ symbol. slice_get self.new symbol ≡ Some word.now) }
+        // Promise: A known word is never refused, and changes nothing.
+        ensures known { Contains self.old word.now → IsOk result }
+        ensures same { Contains self.old word.now → self.new ≡ self.old }
+        // Promise: A new word adds a copy at the end.
+        ensures added { (¬ Contains self.old word.now) → OnOk result (self.new ≡ self.old ++ word.now ∷ []) }
+        // Promise: Each text keeps its symbol, and stands once.
+        ensures kept { KeepsTexts self.old self.new }
+        ensures once { AreDistinct self.new }
+        // Promise: A refused call changes nothing.
+        ensures refused { OnErr result (self.new ≡ self.old) }
+        // Promise: `Full` comes exactly for a new word where the numbers or the bytes no longer fit.
+        ensures full { IsErrOf result InternFault.Full ↔ ((¬ Contains self.old word.now) × IsFullFor self.old word.now) }
+        // Promise: `Length` never comes.
+        ensures never_too_long { ¬ (IsErrOf result InternFault.Length) }
+    {
+        let half = half_of_word(&self.hash_builder, word);
+        match self.table.find(half, word) {
+            Some(symbol) => Ok(symbol),
+            None if self.table.is_full_for(word) => Err(InternFault::Full),
+            None => self.table.push(half, word),
+        }
+    }
+
+    /// Returns the symbol of the text that spells this word, or `None` if there is none.
+    ///
+    /// ```
+    /// let mut words = WordList::new(rt.alloc());
+    /// let symbol = words.intern("foo")?;
+    /// assert!(rt; words.get("foo") == Some(symbol));
+    /// assert!(rt; words.get("fo").is_none());
+    /// ```
+    pub fn get(&self, word: &str) -> Option<Symbol>
+        // Promise: It finds exactly the words that are there, each of which stands once.
+        ensures found { IsSome result ↔ Contains self.now word.now }
+        ensures word { IfSome result (λ symbol. slice_get self.now symbol ≡ Some word.now) }
+        ensures once { AreDistinct self.now }
+    {
+        let half = half_of_word(&self.hash_builder, word);
+        self.table.find(half, word)
+    }
+
+    /// Returns the symbol with this index, or `None` if the list has fewer texts.
+    ///
+    /// ```
+    /// let mut words = WordList::new(rt.alloc());
+    /// let symbol = words.intern("foo")?;
+    /// assert!(rt; words.symbol_at(0) == Some(symbol));
+    /// assert!(rt; words.symbol_at(1).is_none());
+    /// ```
+    pub fn symbol_at(&self, index: usize) -> Option<Symbol>
+        // Promise: It finds exactly the indices that are there.
+        ensures found { IsSome result ↔ (index < length self.now) }
+        ensures symbol { IfSome result (λ symbol. symbol ≡ index) }
+    {
+        if index < self.table.len() {
+            Some(Symbol::at(index))
+        } else {
+            None
+        }
+    }
+
+    /// Returns the text of the symbol, or `None` if the list has fewer texts: the symbol is another list's.
+    ///
+    /// ```
+    /// let mut words = WordList::new(rt.alloc());
+    /// let symbol = words.intern("foo")?;
+    /// assert!(rt; words.resolve(symbol) == Some("foo"));
+    /// assert!(rt; WordList::new(rt.alloc()).resolve(symbol).is_none());
+    /// ```
+    pub fn resolve(&self, symbol: Symbol) -> Option<&str>
+        // Promise: It finds exactly the symbols that are there.
+        ensures found { IsSome result ↔ (symbol < length self.now) }
+        ensures text { IfSome result (λ text. slice_get self.now symbol ≡ Some text.now) }
+    {
+        self.table.text(symbol.index())
+    }
+
+    /// Returns the text of the symbol, which is one of this list. The caller must ensure that.
+    ///
+    /// ```
+    /// let mut words = WordList::new(rt.alloc());
+    /// let symbol = words.intern("foo")?;
+    /// assert_eq!(rt; words.text(symbol), "foo");
+    /// ```
+    pub fn text(&self, symbol: Symbol) -> &str
+        requires { symbol < length self.now }
+        ensures { slice_get self.now symbol ≡ Some result.now }
+    {
+        match self.table.text(symbol.index()) {
+            Some(text) => text,
+            None => "",
+        }
+    }
+
+    /// Returns the number of texts.
+    ///
+    /// ```
+    /// let mut words = WordList::new(rt.alloc());
+    /// words.intern("foo")?;
+    /// words.intern("foo")?;
+    /// assert_eq!(rt; words.len(), 1);
+    /// ```
+    pub fn len(&self) -> usize
+        ensures len { result ≡ length self.now }
+        ensures most { result ≤ MOST_TEXTS }
+        ensures once { AreDistinct self.now }
+    {
+        self.table.len()
+    }
+
+    /// Returns whether there are no texts.
+    ///
+    /// ```
+    /// let mut words = WordList::new(rt.alloc());
+    /// words.intern("")?;
+    /// assert!(rt; !words.is_empty());
+    /// ```
+    pub fn is_empty(&self) -> bool
+        ensures { IsTrue result ↔ (self.now ≡ []) }
+    {
+        self.table.len() == 0
+    }
+
+    /// Returns the texts, in the order of their symbols.
+    ///
+    /// ```
+    /// let mut words = WordList::new(rt.alloc());
+    /// words.intern("foo")?;
+    /// words.intern("bar")?;
+    /// let mut texts = words.iter();
+    /// assert!(rt; texts.next() == Some("foo"));
+    /// ```
+    pub fn iter(&self) -> WordListIter<'_>
+        ensures { result ≡ self.now }
+    {
+        self.table.iter()
+    }
+}
+
+/// Prints the texts as a list, in the order of their symbols.
+///
+/// ```
+/// let mut words = WordList::new(rt.alloc());
+/// words.intern("foo")?;
+/// let printed = format!(in rt.alloc(); "{words:?}")?;
+/// assert_eq!(rt; printed.as_str(), "[\"foo\"]");
+/// ```
+impl<S: BuildHasher> fmt::Debug for WordList<S> {
+    fn fmt<W: fmt::Write>(&self, f: &mut fmt::Formatter<W>) -> fmt::Result {
+        f.debug_list().entries(self.iter()).finish()
+    }
+}
