@@ -1,3 +1,2 @@
-pub mod EmptyPlaces
 pub mod Lookups
 pub mod Words

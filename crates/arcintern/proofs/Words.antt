@@ -1,5 +1,5 @@
 -- What a new text does to the bytes of a word list.
-use Rattle.std.proofs.Common.{◌≡◌, ℕ, ◌+◌, ◌-◌, ◌<◌, ◌≤◌, zero, suc, subst, List, [], ◌∷◌, ◌++◌, length, take, drop, get_or, refl, ap, arith, ◌⊎◌, inl, inr, length-append}
+use Rattle.std.proofs.Common.{◌≡◌, ℕ, ◌+◌, ◌-◌, ◌<◌, ◌≤◌, zero, suc, subst, List, [], ◌∷◌, ◌++◌, length, drop, get_or, refl, ap, arith, ◌⊎◌, inl, inr, length-append}
 use Rattle.std.proofs.lemmas.Bool.{cases_eq}
 use Rattle.std.proofs.lemmas.List.{drop-append-le, get_or_append_left, get_or_default, length-drop, length-take-le, take-append-le, take_all}
 use Rattle.std.proofs.lemmas.Str.{IsCharBoundary-at_seam, IsCharBoundary-end}

@@ -1,5 +1,5 @@
 -- What a contract sees of a symbol map: a value or nothing for each number from 0 on, and nothing for the numbers after these.
-use Rattle.std.specs.Prelude.{◌≡◌, ◌≢◌, ℕ, ◌+◌, ◌<◌, List, [], ◌∷◌, Option, None, Some, slice_index_or}
+use Rattle.std.specs.Prelude.{◌≡◌, ◌≢◌, ℕ, ◌+◌, List, [], ◌∷◌, Option, None, Some, slice_index_or}
 
 module _ {V : Type 0} where
   -- the value of the symbol with this number

@@ -30,8 +30,8 @@ pub const MOST_BYTES: usize = (1 << 32) - 1;
 /// Keeps each distinct text once, in the order in which the texts came, as an `Interner` does. The bytes of all texts stand one after
 /// another in one allocation, so a text takes less memory, and is lent as a `&str`. A contract sees the list of the texts.
 ///
-/// The default hasher has a fixed seed, and words that collide are easy to find. Each look-up then passes all of them: 100,000 such words
-/// took 37 seconds of processor time, where 100,000 others took 0.1. Where an attacker picks the texts, make the list by `with_hasher`.
+/// The default hasher has a fixed seed, and words that collide are easy to find, as `Interner` says. Where an attacker picks the texts,
+/// make the list by `with_hasher`.
 ///
 /// ```
 /// let mut words = WordList::new(rt.alloc());

@@ -1,5 +1,4 @@
-use Rattle.std.proofs.Common.{rules, ◌≡◌, ℕ, ◌+◌, ◌<◌, ap, arith, length, subst, sym}
-use Rattle.std.specs.Prelude.{◌≢◌, Some, slice_get}
+use Rattle.std.proofs.Common.{rules, ◌+◌, ◌<◌, ap, arith, subst, sym}
 use Rattle.std.specs.String.{string_bytes}
 use Rattle.arcintern.specs.Slots.{IsPlaced, slot_of}
 use Rattle.arcintern.specs.Words.{WordTableView}

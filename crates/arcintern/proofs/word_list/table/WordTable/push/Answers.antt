@@ -1,14 +1,12 @@
-use Rattle.std.proofs.Common.{rules, ◌≡◌, ℕ, ◌+◌, ◌<◌, ◌≤◌, ◌++◌, List, [], ◌∷◌, ap, arith, length, length-append, subst, sym}
+use Rattle.std.proofs.Common.{rules, ◌≡◌, ℕ, ◌+◌, ◌<◌, ◌≤◌, ◌++◌, [], ◌∷◌, ap, arith, length, subst, sym}
 use Rattle.std.proofs.lemmas.List.{length_push}
 use Rattle.std.specs.String.{string_bytes}
-use Rattle.std.specs.Prelude.{slice_get}
 use Rattle.arcintern.specs.declared.interner.TheConstants.{MOST_TEXTS}
-use Rattle.arcintern.specs.declared.word_list.TheConstants.{MOST_BYTES}
 use Rattle.arcintern.specs.Slots.{ArePlaced, IsPlaced, slot_of}
 use Rattle.arcintern.specs.Texts.{KeepsTexts}
-use Rattle.arcintern.specs.Words.{AreDistinct, AreEnds, WordTableView, pieces}
+use Rattle.arcintern.specs.Words.{AreDistinct, AreEnds, WordTableView}
 use Rattle.arcintern.proofs.Lookups.{ArePlaced-push, KeepsTexts-push}
-use Rattle.arcintern.proofs.Words.{ends_with_one_more, pieces_with_one_more, room_of_texts, sizes_of_texts, texts_stay_distinct, texts_stay_placed, word_has_last_number}
+use Rattle.arcintern.proofs.Words.{ends_with_one_more, pieces_with_one_more, room_of_texts, sizes_of_texts, texts_stay_distinct, word_has_last_number}
 use Rattle.arcintern.proofs.word_list.table.WordTable.push.Goals as goal
 
 pub overflow_cast-end : goal.overflow_cast-end
