@@ -36,7 +36,9 @@ fn print_sums(rt: &impl Print, alloc: Global, column: &Column, cents: &[u64]) ->
 
 /// Prints a text and its cents.
 fn print_line(rt: &impl Print, text: &str, cents: u64) -> io::Result<()> {
-    println!(rt; "{text:<16} {:>8}.{:02}", cents / 100, cents % 100)
+    let whole = cents / 100;
+    let rest = cents % 100;
+    println!(rt; "{text:<16} {whole:>8}.{rest:02}")
 }
 
 /// Returns the sum of the numbers, or `u64::MAX` if it is above. Many numbers are added in as many threads as there are processors.

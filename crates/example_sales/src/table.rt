@@ -41,17 +41,14 @@ impl Table {
         let region = row.get(0).unwrap_or("");
         let product = row.get(1).unwrap_or("");
         let cents = row.get(2).unwrap_or("");
-        match cents.parse::<u64>() {
-            Ok(number) => {
-                self.regions.push(region)?;
-                self.products.push(product)?;
-                self.cents.push(number)?;
-            }
-            Err(_) => {
-                let reason = Reason::Cents(ArcStr::from_str(alloc, cents)?);
-                self.faults.push(Fault::at(row.position(), reason))?;
-            }
-        }
+        let Ok(number) = cents.parse::<u64>() else {
+            let reason = Reason::Cents(ArcStr::from_str(alloc, cents)?);
+            self.faults.push(Fault::at(row.position(), reason))?;
+            return Ok(());
+        };
+        self.regions.push(region)?;
+        self.products.push(product)?;
+        self.cents.push(number)?;
         Ok(())
     }
 }
