@@ -10,12 +10,14 @@ mod copies;
 mod histories;
 mod interning;
 mod making;
+mod parts;
 mod sharing;
 mod without_memory;
 
 fn main(rt: HostRuntime) -> io::Result<()> {
     making::run(&rt)?;
     copies::run(&rt)?;
+    parts::run(&rt)?;
     interning::run(&rt)?;
     without_memory::run(&rt)?;
     histories::run(&rt)?;
