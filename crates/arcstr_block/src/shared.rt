@@ -359,9 +359,7 @@ impl<const LIMIT: u64, A: Allocator + Copy> Counted<LIMIT, A> {
     {
         let len = self.len;
         let next = word_after_clone(LIMIT, old);
-        let (found, gained) = self
-            .pointer
-            .clone_exchange(offset_of_word(len), old, next);
+        let (found, gained) = self.pointer.clone_exchange(offset_of_word(len), old, next);
         if found == old || is_marked(found) {
             Ok(self.with_pointer(gained, len))
         } else {
