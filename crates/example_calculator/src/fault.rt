@@ -38,6 +38,7 @@ pub struct Fault {
 }
 
 impl Fault {
+    /// The fault at this byte offset, for this reason.
     pub fn at(place: usize, reason: Reason) -> Fault
         ensures place { result.place ≡ place }
         ensures reason { result.reason ≡ reason }
