@@ -36,10 +36,8 @@ fn add_lines(
     text: &ArcStr,
 ) -> Result<Vec<Fault>> {
     let mut faults = Vec::new(alloc);
-    let mut number: usize = 0;
-    for line in text.view().lines() {
-        number = number.saturating_add(1);
-        match Entry::read(rt, number, &text.substr_from(rt, line)) {
+    for (before, line) in text.substr_lines(rt, alloc)?.iter().enumerate() {
+        match Entry::read(rt, before.saturating_add(1), line) {
             Ok(entry) => library.add(alloc, &entry)?,
             Err(fault) => faults.push(fault)?,
         }
