@@ -4,7 +4,7 @@ use crate::figures::no_figure;
 use crate::requests::{Machine, Request};
 use crate::words;
 use anyhow::Result;
-use arcintern::{FrozenInterner, InternFault, Interner, SharedInterner};
+use arcintern::{FrozenInterner, InternFault, Interner, SharedInterner, WordList};
 use std::alloc::{AllocError, Global};
 use std::sync::Wait;
 use std::thread;
@@ -24,6 +24,8 @@ pub(crate) fn run<M: Machine>(rt: &M, request: &Request) -> Result<()> {
     match request.figure {
         "intern" => time_interning(rt, &request, &words),
         "intern_get" => time_looking_up(rt, &request, &words),
+        "intern_list" => time_listing(rt, &request, &words),
+        "list_get" => time_finding(rt, &request, &words),
         "intern_shared" => time_sharing(rt, &request, &words),
         "intern_shared_new" => time_sharing_new_words(rt, &request, &words),
         "intern_local" => time_caches(rt, &request, &words),
@@ -56,6 +58,41 @@ fn time_interning<M: Machine>(rt: &M, request: &Request, words: &[&str]) -> Resu
         request.finish(rt, start, sum)?;
     }
     Ok(())
+}
+
+/// As `time_interning`, by a `WordList`.
+fn time_listing<M: Machine>(rt: &M, request: &Request, words: &[&str]) -> Result<()> {
+    for _ in 0..request.rounds {
+        let mut list = WordList::new(rt.alloc());
+        let start = Instant::now(rt)?;
+        let sum = list_all(&mut list, words)?;
+        request.finish(rt, start, sum)?;
+    }
+    Ok(())
+}
+
+/// As `time_looking_up`, by a `WordList`.
+fn time_finding<M: Machine>(rt: &M, request: &Request, words: &[&str]) -> Result<()> {
+    let mut list = WordList::new(rt.alloc());
+    list_all(&mut list, words)?;
+    request.time_each(rt, words, words.len(), |word| place_of(&list, word))
+}
+
+/// Returns the index of a word, or 0 if the list does not have it.
+fn place_of(list: &WordList, word: &str) -> usize {
+    match list.get(word) {
+        Some(symbol) => symbol.index(),
+        None => 0,
+    }
+}
+
+/// Returns the sum of the words' symbols.
+fn list_all(list: &mut WordList, words: &[&str]) -> Result<usize, InternFault> {
+    let mut sum = 0usize;
+    for word in words {
+        sum = sum.wrapping_add(list.intern(word)?.index());
+    }
+    Ok(sum)
 }
 
 /// Times look-ups in a frozen interner that has all the words.
