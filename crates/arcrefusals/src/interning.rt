@@ -4,7 +4,7 @@ use arcintern::{
     FrozenInterner, Interner, SharedInterner, SharedSymbol, Symbol, SymbolMap, WordList,
 };
 use arcstr::{ArcStr, Substr};
-use std::alloc::AllocError;
+use std::alloc::{AllocError, Global};
 use std::sync::Wait;
 use std::{io, mem};
 
@@ -222,7 +222,14 @@ impl Given for Mapped {
 
 impl Made for SymbolMap<u64> {
     fn is(&self, _wanted: &str, _handles: usize) -> bool {
-        self.iter().map(|pair| *pair.1).eq([1, 2])
+        let mut wanted: u64 = 1;
+        for (_, value) in self.iter() {
+            if *value != wanted {
+                return false;
+            }
+            wanted = wanted.saturating_add(1);
+        }
+        wanted == 3
     }
 }
 
@@ -293,7 +300,7 @@ impl<const TEXTS: usize> Calls<SharedWords<TEXTS>> for SharedInterner {
         if let Some(interner) = words.0.as_ref() {
             match number {
                 3 => intern_known(rt, interner)?,
-                _ => intern_new(rt, interner, number)?,
+                _ => intern_new(rt, rt.alloc(), interner, number)?,
             }
         }
         words.0.take().ok_or(Stop::Differs)
@@ -301,12 +308,17 @@ impl<const TEXTS: usize> Calls<SharedWords<TEXTS>> for SharedInterner {
 }
 
 /// Interns the text `foobar`, by the call of this number.
-fn intern_new<R: Machine>(rt: &R, interner: &SharedInterner, number: usize) -> Result<(), Stop> {
+fn intern_new(
+    rt: &impl Wait,
+    alloc: Global,
+    interner: &SharedInterner,
+    number: usize,
+) -> Result<(), Stop> {
     let texts = interner.len();
     let symbol = match number {
         0 => interner.intern(rt, "foobar")?,
         1 => interner.intern_static(rt, "foobar")?,
-        _ => interner.local(rt.alloc())?.intern(rt, "foobar")?,
+        _ => interner.local(alloc)?.intern(rt, "foobar")?,
     };
     check(interner.len() == texts.saturating_add(1))?;
     check(symbol.number().index() == texts)?;
@@ -315,7 +327,7 @@ fn intern_new<R: Machine>(rt: &R, interner: &SharedInterner, number: usize) -> R
 }
 
 /// Interns a word that is there.
-fn intern_known<R: Machine>(rt: &R, interner: &SharedInterner) -> Result<(), Stop> {
+fn intern_known(rt: &impl Wait, interner: &SharedInterner) -> Result<(), Stop> {
     let symbol = interner.intern(rt, "0")?;
     check(symbol.number().index() == 0)
 }
