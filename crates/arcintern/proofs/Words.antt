@@ -22,7 +22,7 @@ piece_stays bytes word start end ordered within =
     rw (drop-append-le start bytes word (omega (arith, ordered, within)))
     (take-append-le (end - start) (drop start bytes) word (omega (arith, ordered, within, length-drop start bytes)))
 
--- a character begins where one begins in the bytes in front of a text
+-- a character begins where one begins in the bytes before a text
 boundary_stays : (bytes word : List ℕ) (at : ℕ) → IsUtf8 word → IsCharBoundary bytes at → IsCharBoundary (bytes ++ word) at
 boundary_stays bytes word at text boundary = by (cases_eq at (length bytes))
   where

@@ -1,7 +1,8 @@
 //! `WordList`: each distinct text once, all in one allocation.
 //!
 //! No call here allocates unless it says so, and none takes an atomic step.
-ghost use Rattle.std.specs.Prelude.{◌≡◌, ◌<◌, ◌≤◌, ◌↔◌, ◌++◌, [], ◌∷◌, length, slice_get, Contains, IfErr, IfOk, IfSome, IsErrOf, IsOk, IsSome, IsTrue, OnErr, OnOk, Some};
+ghost use Rattle.std.specs.Prelude.{◌≡◌, ◌<◌, ◌≤◌, ◌↔◌, ◌++◌, [], ◌∷◌, length, slice_get, Contains};
+ghost use Rattle.std.specs.Prelude.{IfErr, IfOk, IfSome, IsErrOf, IsOk, IsSome, IsTrue, OnErr, OnOk, Some};
 ghost use Rattle.arcintern.specs.Texts.{KeepsTexts};
 ghost use Rattle.arcintern.specs.Words.{AreDistinct, IsFullFor};
 
@@ -70,7 +71,7 @@ impl WordList<BuildHasherDefault<FoldHasher>> {
         WordList::with_hasher(alloc, BuildHasherDefault::new())
     }
 
-    /// Makes a list without texts, with room for this many texts that have so many bytes together, which is allocated here. For none,
+    /// Makes a list without texts, with room for this many texts, which have this many bytes together. It is allocated here. For none,
     /// nothing is allocated. `Memory` is the only fault.
     ///
     /// ```

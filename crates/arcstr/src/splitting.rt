@@ -152,8 +152,8 @@ impl ArcStr {
         Some(self.substr_of_prefix(rt, rest))
     }
 
-    /// Returns the slice of this text that holds a prefix of it. The caller must ensure that the text starts with the prefix. A part that a call of `str` leaves
-    /// at the start of the text, as `trim_end_matches` and `split_once` do, satisfies this.
+    /// Returns the slice of this text that holds a prefix of it. The caller must ensure that the text starts with the prefix. A part that a call of `str`
+    /// leaves at the start of the text, as `trim_end_matches` and `split_once` do, satisfies this.
     ///
     /// ```
     /// let text = ArcStr::from_static("run();;");

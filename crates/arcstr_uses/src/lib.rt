@@ -95,7 +95,7 @@ pub struct Message {
 }
 
 impl Message {
-    /// Reads the message of a packet, whose payload starts behind a head of so many bytes. Copies neither text.
+    /// Reads the message of a packet, whose payload starts behind a head of this many bytes. Copies neither text.
     ///
     /// ```
     /// let packet = ArcStr::from_static("01 ready");

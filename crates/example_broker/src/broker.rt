@@ -18,6 +18,7 @@ pub struct Broker {
 }
 
 impl Broker {
+    /// A broker without topics.
     pub fn new(alloc: Global) -> Broker {
         let topics = RwLock::new(HashMap::new(alloc));
         Broker { topics }

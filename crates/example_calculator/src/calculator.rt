@@ -15,6 +15,7 @@ pub struct Calculator {
 }
 
 impl Calculator {
+    /// A calculator without names.
     pub fn new(alloc: Global) -> Calculator {
         Calculator {
             names: Interner::new(alloc),
@@ -83,6 +84,7 @@ impl Calculator {
         Ok(())
     }
 
+    /// Prints each name with its value, in the order in which the names came.
     pub fn print_values(&self, rt: &impl Print) -> io::Result<()> {
         for (name, value) in self.names.iter().zip(&self.values) {
             match value {

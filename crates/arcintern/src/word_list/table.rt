@@ -1,5 +1,6 @@
 //! The texts of a word list, and the table of their numbers, without the hasher.
-ghost use Rattle.std.specs.Prelude.{◌≡◌, ◌≢◌, ℕ, List, Contains, ◌<◌, ◌≤◌, ◌↔◌, ◌++◌, [], ◌∷◌, length, slice_get, slice_index, IfErr, IfNone, IfOk, IfSome, IsOk, IsSome, IsTrue, OnErr, OnOk, Some};
+ghost use Rattle.std.specs.Prelude.{◌≡◌, ◌≢◌, ℕ, List, Contains, ◌<◌, ◌≤◌, ◌↔◌, ◌++◌, [], ◌∷◌, length, slice_get, slice_index};
+ghost use Rattle.std.specs.Prelude.{IfErr, IfNone, IfOk, IfSome, IsOk, IsSome, IsTrue, OnErr, OnOk, Some};
 ghost use Rattle.arcintern.specs.Slots.{ArePlaced};
 ghost use Rattle.arcintern.specs.Texts.{KeepsTexts};
 ghost use Rattle.arcintern.specs.Words.{AreDistinct, IsFullFor};
@@ -48,7 +49,7 @@ impl WordTable {
         }
     }
 
-    /// A table without texts, with room for this many texts of so many bytes together.
+    /// A table without texts, with room for this many texts, which have this many bytes together.
     pub(crate) fn with_capacity(
         alloc: Global,
         texts: usize,

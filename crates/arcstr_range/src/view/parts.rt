@@ -1,5 +1,5 @@
-//! The first and the last match of a pattern in a view, and parts of a view on either side of a byte offset or of a match. A pattern is a `char`, a `&str` or another of
-//! std's patterns. The caller must ensure that the pattern can search, as it must ensure that a closure can be called.
+//! The first and the last match of a pattern in a view, and parts of a view on either side of a byte offset or of a match. A pattern is a `char`, a `&str` or
+//! another of std's patterns. The caller must ensure that the pattern can search, as it must ensure that a closure can be called.
 ghost use Rattle.std.specs.Prelude.{◌≡◌, ◌↔◌, ◌-◌, ◌≤◌, length, take, drop, IsSome, IfSome, MatchOption, None};
 ghost use Rattle.std.specs.Str.{IsCharBoundary};
 ghost use Rattle.std.specs.Str.Pattern.{MatchBeginsAt, SplitsAroundMatch, StripsPrefix, StripsSuffix};
