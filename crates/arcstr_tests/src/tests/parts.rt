@@ -1,5 +1,5 @@
 //! Lists of slices: each has its text and its place, and keeps the parent until it is dropped.
-use crate::tests::checks::check_eq;
+use crate::tests::checks::{check, check_eq};
 use crate::tests::steps::{check_count, made, middle};
 use arcstr::{ArcStr, Substr};
 use std::alloc::{AllocError, AllocGlobal};
@@ -43,9 +43,10 @@ fn check_list(
 ) {
     let list = list.expect(rt, "no memory");
     check_eq!(rt; list.len(), wanted.len());
-    for (slice, (text, place)) in list.iter().zip(wanted) {
-        check_eq!(rt; slice.as_str(), *text);
-        check_eq!(rt; slice.range().start.saturating_sub(start), *place);
+    for (number, slice) in list.iter().enumerate() {
+        let (text, place) = wanted.get(number).copied().expect(rt, "a part more");
+        check!(rt; slice.eq_str(text));
+        check_eq!(rt; slice.range().start.saturating_sub(start), place);
     }
     check_count(rt, parent, Some(wanted.len().saturating_add(1)));
     drop(list);

@@ -1,7 +1,7 @@
 //! Texts and slices as the patterns of searches and splits.
 use crate::tests::checks::{check, check_eq};
-use crate::tests::steps::{check_count, check_part, check_slice, made, part};
-use arcstr::{ArcStr, Substr, literal};
+use crate::tests::steps::{check_count, check_part, made, part};
+use arcstr::literal;
 use std::process::Abort;
 use std::str::pattern::Pattern;
 
@@ -36,21 +36,4 @@ fn a_text_is_searched_for_a_slice_of_it(rt: HostRuntime) {
     check_part(&rt, text.strip_suffix(&part(&rt, text, 4..)), Some("a-é"));
     check_part(&rt, text.strip_prefix(&part(&rt, text, 0..2)), Some("é-b"));
     check_count(&rt, text, Some(2));
-}
-
-/// Asserts the two slices, of which one has another handle on `text`.
-fn check_around(rt: &impl Abort, around: Option<(Substr, Substr)>) {
-    let (before, after) = around.expect(rt, "no match");
-    check_slice(rt, &before, "a", 0..1);
-    check_slice(rt, &after, "é-b", 2..6);
-}
-
-#[test]
-fn a_text_is_split_at_a_text(rt: HostRuntime) {
-    let text = &made(&rt, "a-é-b");
-    check_around(&rt, text.substr_split_once(&rt, &literal!("-")));
-    check_around(&rt, text.substr_split_once(&rt, &part(&rt, text, 1..2)));
-    let absent = text.substr_strip_prefix(&rt, &ArcStr::from_static("b"));
-    check!(rt; absent.is_none());
-    check_count(&rt, text, Some(1));
 }
