@@ -6,6 +6,7 @@ use crate::words;
 use anyhow::Result;
 use arcintern::{FrozenInterner, InternFault, Interner, SharedInterner, WordList};
 use std::alloc::{AllocError, Global};
+use std::ops::Range;
 use std::sync::Wait;
 use std::thread;
 use std::time::Instant;
@@ -164,7 +165,10 @@ fn intern_share<R: Wait>(
     workers: usize,
 ) -> Result<usize, InternFault> {
     let mut sum = 0usize;
-    for word in share_of(words, worker, workers) {
+    for word in words
+        .get(share_of(words.len(), worker, workers))
+        .unwrap_or(&[])
+    {
         let symbol = interner.intern(rt, word)?;
         sum = sum.wrapping_add(interner.text(&symbol).len());
     }
@@ -182,19 +186,21 @@ fn intern_locally<R: Wait>(
 ) -> Result<usize, InternFault> {
     let mut local = interner.local(alloc)?;
     let mut sum = 0usize;
-    for word in share_of(words, worker, workers) {
+    for word in words
+        .get(share_of(words.len(), worker, workers))
+        .unwrap_or(&[])
+    {
         let symbol = local.intern(rt, word)?;
         sum = sum.wrapping_add(interner.text(&symbol).len());
     }
     Ok(sum)
 }
 
-/// Returns one worker's share of the words.
-fn share_of<'a, 'b>(words: &'b [&'a str], worker: usize, workers: usize) -> &'b [&'a str] {
-    let len = (words.len() / workers.max(1)).saturating_add(1);
-    let start = worker.saturating_mul(len).min(words.len());
-    let end = start.saturating_add(len).min(words.len());
-    words.get(start..end).unwrap_or(&[])
+/// Returns the range of one worker's share of this many words.
+fn share_of(words: usize, worker: usize, workers: usize) -> Range<usize> {
+    let len = (words / workers.max(1)).saturating_add(1);
+    let start = worker.saturating_mul(len).min(words);
+    start..start.saturating_add(len).min(words)
 }
 
 /// Returns the words of all texts.
