@@ -191,7 +191,7 @@ fn intern_locally<R: Wait>(
         .unwrap_or(&[])
     {
         let symbol = local.intern(rt, word)?;
-        sum = sum.wrapping_add(interner.text(&symbol).len());
+        sum = sum.wrapping_add(local.interner().text(&symbol).len());
     }
     Ok(sum)
 }
