@@ -9,7 +9,7 @@ from pathlib import Path
 from sources import functions
 
 functions_in = cache(lambda file, text: list(functions(file, text)))
-key_of = lambda file, it: (file, it.owner, it.trait, it.name)
+key_of = lambda file, it: (file, it.owner, it.trait or it.lent, it.name)
 
 
 @dataclass
@@ -91,8 +91,9 @@ def path_of(key):
     file, owner, trait, name = key
     if owner is None:
         return f"{module_of(file)}::{name}".removeprefix("::")
-    # An implementation for `&str` has its trait as its owner.
-    words = re.findall(r"\w+|&", re.sub(r"\bfmt::|'\w+|\bDrop\b", "", f"{'&str' if '<' in owner else ''} {owner} {trait or ''}"))
+    # An implementation for a reference has its trait as its owner, and the reference in its place.
+    named = f"{trait} {owner}" if (trait or "").startswith("&") else f"{owner} {trait or ''}"
+    words = re.findall(r"\w+|&", re.sub(r"\bfmt::|'\w+|\bDrop\b", "", named))
     return "".join("Ref" if word == "&" else word[0].upper() + word[1:] for word in words) + "::" + name
 
 

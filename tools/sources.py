@@ -14,7 +14,7 @@ MODULE = re.compile(ATTRIBUTES + r"(?:pub(?:\([a-z]+\))? )?mod (?P<name>\w+);", 
 FUNCTION = re.compile(
     ATTRIBUTES + r"(?P<public>pub )?(?:pub\([a-z]+\) )?(?:(?:const|unsafe|extern|async) )*fn (?P<name>\w+)", re.M)
 OWNER = re.compile(
-    r"^(?:unsafe )?(?:impl\b(?:<[^{]*?>)? (?:(?P<own>[^{;\n]*?) for &|(?:(?P<trait>[^{;\n]*?) for )?(?P<type>\w+(?:::\w+)*))"
+    r"^(?:unsafe )?(?:impl\b(?:<[^{]*?>)? (?:(?P<own>[^{;\n]*?) for (?P<lent>&(?:'\w+ )?\w+)|(?:(?P<trait>[^{;\n]*?) for )?(?P<type>\w+(?:::\w+)*))"
     r"|(?:pub )?trait (?P<new>\w+))[^;{]*\{", re.M)
 CLAUSE = re.compile(r"\b(?P<kind>ensures|requires|invariant|decreases)(?: (?P<name>\w+))?\s*$")
 HIDING = re.compile(r"#!?\[(?:cfg|path|ignore).*?\]$", re.M)
@@ -140,7 +140,8 @@ def files_of(crate):
 @dataclass(eq=False)
 class Function:
     """A function: its type or trait where it has one, the trait that it implements, where it stands in its file, its `ensures` clauses by name (`None` for
-    a clause without one), and its body. A function of a trait for a reference, as `impl Equivalent<ArcStr> for &str`, has the trait as its type."""
+    a clause without one), and its body. A function of a trait for a reference, as `impl Equivalent<ArcStr> for &str`, has the trait as its type, and the
+    reference as `lent`."""
 
     name: str
     owner: str | None
@@ -150,6 +151,7 @@ class Function:
     start: int = 0
     end: int = 0
     trait: str | None = None
+    lent: str | None = None
     ensures: dict = field(default_factory=dict)
     body: str = ""
     raw_body: str = ""
@@ -193,7 +195,7 @@ def functions(file, source=None):
         is_public = bool(found["public"] or owner and (owner["trait"] or owner["own"] or owner["new"]))
         attributes = re.findall(r"#\[(.*)\]", found["attributes"])
         owned_by = owner and (owner["type"] or owner["own"] or owner["new"])
-        function = Function(found["name"], owned_by, is_public, attributes, file, found.start(), trait=owner and owner["trait"])
+        function = Function(found["name"], owned_by, is_public, attributes, file, found.start(), trait=owner and owner["trait"], lent=owner and owner["lent"])
         read_contract(function, text, shown, source, end_of_group(text, text.index("(", found.end())))
         yield function
 
