@@ -42,10 +42,8 @@ impl Script {
             messages: Vec::new(alloc),
             faults: Vec::new(alloc),
         };
-        let mut number: usize = 0;
-        for line in text.view().lines() {
-            number = number.saturating_add(1);
-            script.add(rt, number, &text.substr_from(rt, line.trim()))?;
+        for (before, line) in text.view().lines().enumerate() {
+            script.add(rt, before + 1, &text.substr_from(rt, line.trim()))?;
         }
         Ok(script)
     }
