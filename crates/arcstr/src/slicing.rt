@@ -15,7 +15,7 @@ ghost use Rattle.arcstr.specs.Substr.{slice_of, slice_within, text_of};
 
 use crate::arc_str::ArcStr;
 use crate::substr::Substr;
-use arcstr_range::range::{RangeFault, StrRange, checked_ends, inner_ends, slice};
+use arcstr_range::range::{RangeFault, StrRange, checked_ends, slice};
 use arcstr_range::view::StrView;
 use std::ops::Range;
 use std::sync::Wait;
@@ -70,8 +70,10 @@ impl ArcStr {
         ensures { (given : StrRange) × R.converts range given
             × AnswersRange self.now.text (slice_of self.now) given result }
     {
-        let (start, end) = checked_ends(self.as_str(), range.into())?;
-        Ok(Substr::from_parts_unchecked(self.clone(rt), start..end))
+        match checked_ends(self.as_str(), range.into()) {
+            Ok((start, end)) => Ok(self.clone_between(rt, start..end)),
+            Err(fault) => Err(fault),
+        }
     }
 
     /// Returns the slice of this text that a view shows, or `None` exactly if the text does not have the view's text at the view's place. An empty view is
@@ -178,7 +180,7 @@ impl Substr {
         ensures { (given : StrRange) × R.converts range given
             × AnswersGet (text_of self.now) given (option_copied result) }
     {
-        slice(self.as_str(), range.into())
+        slice(self.own_text(), range.into())
     }
 
     /// As `ArcStr::view`, for the slice's own text.
@@ -186,7 +188,7 @@ impl Substr {
         ensures value { result ≡ view_at (text_of self.now) 0 }
         ensures found { IsFoundAt (text_of self.now) result.text result.place }
     {
-        StrView::whole(self.as_str())
+        StrView::whole(self.own_text())
     }
 
     /// As `ArcStr::substr`, for the slice's own text. The range is measured in bytes of that text, and the new slice has the same parent.
@@ -201,8 +203,10 @@ impl Substr {
     fn slice_in(&self, rt: &impl Wait, range: StrRange) -> Result<Substr, RangeFault>
         ensures { AnswersRange (text_of self.now) (slice_within self.now) range result }
     {
-        let (start, end) = inner_ends(self.parent().as_str(), self.range(), range)?;
-        Ok(Substr::from_parts_unchecked(self.parent().clone(rt), start..end))
+        match checked_ends(self.own_text(), range) {
+            Ok((start, end)) => Ok(self.clone_between(rt, start..end)),
+            Err(fault) => Err(fault),
+        }
     }
 
     /// As `ArcStr::try_substr_from`, for the slice's own text: the view's place is a byte offset of that text.
@@ -210,14 +214,13 @@ impl Substr {
         ensures found { IsSome result ↔ IsFoundAt (text_of self.now) view.entry.text view.entry.place }
         ensures value { IfSome result (IsSliceOfView (slice_within self.now) view.entry) }
     {
-        if !view.is_found_in(self.as_str()) {
+        if !view.is_found_in(self.own_text()) {
             return None;
         }
         Some(self.substr_from(rt, view))
     }
 
     /// As `ArcStr::substr_from`, for the slice's own text: the view's place is a byte offset of that text.
-    #[tactic(auto, using(crate::proofs::Texts::slices_of_views))]
     pub fn substr_from(&self, rt: &impl Wait, view: StrView<'_>) -> Substr
         requires { IsFoundAt (text_of self.now) view.text view.place }
         ensures { IsSliceOfView (slice_within self.now) view.entry result }
@@ -225,12 +228,7 @@ impl Substr {
         if view.text().is_empty() {
             return Substr::new();
         }
-        let start = self.range().start;
-        let found = view.range();
-        Substr::from_parts_unchecked(
-            self.parent().clone(rt),
-            start + found.start..start + found.end,
-        )
+        self.clone_between(rt, view.range())
     }
 
     /// As `ArcStr::substr_using`, for the slice's own text. The closure returns byte offsets of that text.
@@ -243,7 +241,7 @@ impl Substr {
         ensures { (found : Range ℕ) × FnOnceReturnsAt F.FnOnce find (text_of self.now) found
             × AnswersFoundRange (text_of self.now) (slice_within self.now) found result }
     {
-        let found = find(self.as_str());
+        let found = find(self.own_text());
         if found.start == found.end {
             return Ok(Substr::new());
         }

@@ -30,7 +30,6 @@ impl ArcStr {
     /// let fault = text.substr_split_at(&rt, 7).err();
     /// assert_eq!(rt; fault, Some(RangeFault::PastEnd));
     /// ```
-    #[tactic(auto, using(arcstr_range::proofs::Affixes::slices_of_rests))]
     pub fn substr_split_at(
         &self,
         rt: &impl Wait,
@@ -39,10 +38,14 @@ impl ArcStr {
         // Promise: The call succeeds exactly if the range is lawful, and otherwise returns the first fault.
         ensures { AnswersSplitAt self.now.text (slice_of self.now) place result }
     {
-        let (start, end) = checked_ends(self.as_str(), StrRange::To(place))?;
-        let before = self.clone_between(rt, start..end);
-        let after = self.clone_between(rt, end..self.len());
-        Ok((before, after))
+        match checked_ends(self.as_str(), StrRange::To(place)) {
+            Ok((start, end)) => {
+                let before = self.clone_between(rt, start..end);
+                let after = self.clone_between(rt, end..self.len());
+                Ok((before, after))
+            }
+            Err(fault) => Err(fault),
+        }
     }
 
     /// Splits this text around the first match of the separator, as `str::split_once` does. The separator is part of neither slice. Returns `None` exactly if
@@ -195,7 +198,6 @@ impl ArcStr {
 
 impl Substr {
     /// As `ArcStr::substr_split_at`, for the slice's own text.
-    #[tactic(auto, using(arcstr_range::proofs::Affixes::slices_of_rests))]
     pub fn substr_split_at(
         &self,
         rt: &impl Wait,
@@ -203,10 +205,14 @@ impl Substr {
     ) -> Result<(Substr, Substr), RangeFault>
         ensures { AnswersSplitAt (text_of self.now) (slice_within self.now) place result }
     {
-        let (start, end) = checked_ends(self.as_str(), StrRange::To(place))?;
-        let before = self.clone_between(rt, start..end);
-        let after = self.clone_between(rt, end..self.len());
-        Ok((before, after))
+        match checked_ends(self.own_text(), StrRange::To(place)) {
+            Ok((start, end)) => {
+                let before = self.clone_between(rt, start..end);
+                let after = self.clone_between(rt, end..self.len());
+                Ok((before, after))
+            }
+            Err(fault) => Err(fault),
+        }
     }
 
     /// As `ArcStr::substr_split_once`, for the slice's own text.
@@ -226,7 +232,7 @@ impl Substr {
         ensures at_a_character { IfSome (P.single_char separator) (λ character. FindsCharacter (P.find_in_gives separator) character
             → AnswersSplit (text_of self.now) (slice_within self.now) character result) }
     {
-        let (before, after) = self.as_str().split_once(separator)?;
+        let (before, after) = self.own_text().split_once(separator)?;
         Some((
             self.substr_of_prefix(rt, before),
             self.substr_of_suffix(rt, after),
@@ -247,7 +253,7 @@ impl Substr {
         ensures before { IfSome result (λ parts. LiesAtStart (slice_within self.now) parts.0) }
         ensures after { IfSome result (λ parts. LiesAtEnd (text_of self.now) (slice_within self.now) parts.1) }
     {
-        let (before, after) = self.as_str().rsplit_once(separator)?;
+        let (before, after) = self.own_text().rsplit_once(separator)?;
         Some((
             self.substr_of_prefix(rt, before),
             self.substr_of_suffix(rt, after),
@@ -263,7 +269,7 @@ impl Substr {
             (λ rest. StripsPrefix (P.prefix_len_gives prefix) (text_of self.now) (text_of rest)) }
         ensures slice { IfSome result (LiesAtEnd (text_of self.now) (slice_within self.now)) }
     {
-        let rest = self.as_str().strip_prefix(prefix)?;
+        let rest = self.own_text().strip_prefix(prefix)?;
         Some(self.substr_of_suffix(rt, rest))
     }
 
@@ -276,7 +282,7 @@ impl Substr {
             (λ rest. StripsSuffix (P.suffix_len_gives suffix) (text_of self.now) (text_of rest)) }
         ensures slice { IfSome result (LiesAtStart (slice_within self.now)) }
     {
-        let rest = self.as_str().strip_suffix(suffix)?;
+        let rest = self.own_text().strip_suffix(suffix)?;
         Some(self.substr_of_prefix(rt, rest))
     }
 
@@ -288,7 +294,7 @@ impl Substr {
         ensures text { text_of result ≡ prefix.now }
         ensures boundary { IsCharBoundary (text_of self.now) (length prefix.now) }
     {
-        self.clone_between(rt, prefix_range(self.as_str(), prefix))
+        self.clone_between(rt, prefix_range(self.own_text(), prefix))
     }
 
     /// As `ArcStr::substr_of_suffix`, for the slice's own text.
@@ -299,7 +305,7 @@ impl Substr {
         ensures text { text_of result ≡ suffix.now }
         ensures boundary { IsCharBoundary (text_of self.now) (length (text_of self.now) - length suffix.now) }
     {
-        self.clone_between(rt, suffix_range(self.as_str(), suffix))
+        self.clone_between(rt, suffix_range(self.own_text(), suffix))
     }
 }
 
