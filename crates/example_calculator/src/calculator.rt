@@ -2,16 +2,16 @@
 use crate::fault::{Fault, Reason};
 use crate::lexer::{Kind, Token, tokens_of};
 use crate::tree::{Node, tree_of};
-use arcintern::Interner;
+use arcintern::{Interner, SymbolMap};
 use arcstr::view::StrView;
 use std::alloc::Global;
 use std::io;
 
-/// The names, and at the index of each name's symbol its value.
+/// The names, and the values of those that have one.
 #[derive(Drop)]
 pub struct Calculator {
     names: Interner,
-    values: Vec<Option<i64>>,
+    values: SymbolMap<i64>,
 }
 
 impl Calculator {
@@ -19,7 +19,7 @@ impl Calculator {
     pub fn new(alloc: Global) -> Calculator {
         Calculator {
             names: Interner::new(alloc),
-            values: Vec::new(alloc),
+            values: SymbolMap::new(alloc),
         }
     }
 
@@ -41,7 +41,7 @@ impl Calculator {
                 rest @ ..,
             ] => {
                 let value = self.value_of(alloc, rest, end)?;
-                self.set(*name, value)?;
+                self.values.insert(*name, value)?;
                 Ok(None)
             }
             tokens => Ok(Some(self.value_of(alloc, tokens, end)?)),
@@ -65,31 +65,20 @@ impl Calculator {
 
     /// The value of a node, if it has one. `before` has the values of the nodes before it.
     fn value_at(&self, node: &Node, before: &[i64]) -> Option<i64> {
-        match *node {
-            Node::Number(number) => Some(number),
-            Node::Name(name) => *self.values.get(name)?,
+        match node {
+            Node::Number(number) => Some(*number),
+            Node::Name(name) => self.values.get(*name).copied(),
             Node::Operation(operator, left, right) => {
-                operator.apply(*before.get(left)?, *before.get(right)?)
+                operator.apply(*before.get(*left)?, *before.get(*right)?)
             }
         }
     }
 
-    fn set(&mut self, name: usize, value: i64) -> Result<(), Fault> {
-        for _ in self.values.len()..=name {
-            self.values.push(None)?;
-        }
-        if let Some(place) = self.values.get_mut(name) {
-            *place = Some(value);
-        }
-        Ok(())
-    }
-
-    /// Prints each name with its value, in the order in which the names came.
+    /// Prints each name that has a value, in the order in which the names came.
     pub fn print_values(&self, rt: &impl Print) -> io::Result<()> {
-        for (name, value) in self.names.iter().zip(&self.values) {
-            match value {
-                Some(value) => println!(rt; "{name} = {value}")?,
-                None => println!(rt; "{name} has no value")?,
+        for (name, value) in self.values.iter() {
+            if let Some(name) = self.names.resolve(name) {
+                println!(rt; "{name} = {value}")?;
             }
         }
         Ok(())

@@ -4,7 +4,7 @@ ghost use Rattle.arcstr_range.specs.View.{IsFoundWith};
 
 use crate::fault::{Fault, Reason};
 use crate::tree::Operator;
-use arcintern::Interner;
+use arcintern::{Interner, Symbol};
 use arcstr::view::StrView;
 use std::alloc::Global;
 
@@ -12,7 +12,7 @@ use std::alloc::Global;
 #[derive(Clone, Copy, Debug, PartialEq, Eq)]
 pub enum Kind {
     Number(i64),
-    Name(usize),
+    Name(Symbol),
     Operator(Operator),
     Open,
     Close,
@@ -40,7 +40,9 @@ pub fn tokens_of(
         }
         let unknown = Fault::at(rest.place(), Reason::UnknownCharacter);
         let (word, after) = first_word(&rest).ok_or(unknown)?;
-        tokens.push(token_of(names, &word)?)?;
+        // In parts: the check does not take a whole token with a symbol out of a `Result`.
+        let Token { kind, place } = token_of(names, &word)?;
+        tokens.push(Token { kind, place })?;
         rest = after.trim_start();
     }
     Ok(tokens)
@@ -75,9 +77,7 @@ fn token_of(names: &mut Interner, word: &StrView<'_>) -> Result<Token, Fault>
             let number = text.parse();
             Kind::Number(number.map_err(|_| Fault::at(place, Reason::LargeNumber))?)
         }
-        _ if text.starts_with(|c: char| c.is_alphabetic()) => Kind::Name(
-            names.intern(text)?.index(),
-        ),
+        _ if text.starts_with(|c: char| c.is_alphabetic()) => Kind::Name(names.intern(text)?),
         _ => return Err(Fault::at(place, Reason::UnknownCharacter)),
     };
     Ok(Token { kind, place })

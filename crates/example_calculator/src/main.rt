@@ -34,20 +34,15 @@ fn answer_lines<R: Wait + Print>(
     text: &ArcStr,
 ) -> io::Result<Vec<Refusal>> {
     let mut refusals = Vec::new(alloc);
-    let mut number: usize = 0;
-    for line in text.view().lines() {
-        number = number.saturating_add(1);
+    for (before, line) in text.view().lines().enumerate() {
         match calculator.answer(alloc, &line) {
             Ok(Some(value)) => println!(rt; "{value}")?,
             Ok(None) => {}
-            Err(fault) => {
-                let line = text.substr_from(rt, line);
-                refusals.push(Refusal {
-                    number,
-                    line,
-                    fault,
-                })?;
-            }
+            Err(fault) => refusals.push(Refusal {
+                number: before + 1,
+                line: text.substr_from(rt, line),
+                fault,
+            })?,
         }
     }
     Ok(refusals)

@@ -1,6 +1,7 @@
 //! The tree of an expression. It is a list in which each node stands after its parts, so no call recurses, however deep the brackets are.
 use crate::fault::{Fault, Reason};
 use crate::lexer::{Kind, Token};
+use arcintern::Symbol;
 use std::alloc::Global;
 
 #[derive(Clone, Copy, Debug, PartialEq, Eq)]
@@ -35,7 +36,7 @@ impl Operator {
 #[derive(Clone, Copy, Debug)]
 pub enum Node {
     Number(i64),
-    Name(usize),
+    Name(Symbol),
     Operation(Operator, usize, usize),
 }
 
@@ -73,9 +74,9 @@ impl Parser {
     /// Takes the next token, and returns whether an operand has to follow.
     fn take(&mut self, token: Token, wants_operand: bool) -> Result<bool, Fault> {
         let place = token.place;
-        match (token.kind, wants_operand) {
-            (Kind::Number(number), true) => self.push(Node::Number(number), place)?,
-            (Kind::Name(name), true) => self.push(Node::Name(name), place)?,
+        match (&token.kind, wants_operand) {
+            (Kind::Number(number), true) => self.push(Node::Number(*number), place)?,
+            (Kind::Name(name), true) => self.push(Node::Name(*name), place)?,
             (Kind::Open, true) => self.waiting.push(token)?,
             (_, true) => return Err(Fault::at(place, Reason::NoOperand)),
             (Kind::Operator(operator), false) => {

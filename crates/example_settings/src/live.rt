@@ -1,17 +1,20 @@
 //! Settings that change while threads use them.
 
+use crate::counts::Counts;
 use crate::settings::Settings;
+use arcstr::ArcStr;
 use std::alloc::{AllocError, Global};
 use std::sync::atomic::{AtomicU64, Ordering};
 use std::sync::{RwLock, Wait};
 use std::thread::Threads;
 use std::{mem, thread};
 
-/// The settings that all threads share.
+/// The settings that all threads share, and how often each name was greeted.
 #[derive(Drop)]
 pub struct Live {
     settings: RwLock<Settings>,
     changes: AtomicU64,
+    pub greeted: Counts,
 }
 
 /// The settings that a worker greeted with before and after a change.
@@ -23,10 +26,11 @@ pub struct Greetings {
 
 impl Live {
     /// Makes live settings of these.
-    pub fn new(settings: Settings) -> Live {
+    pub fn new(alloc: Global, settings: Settings) -> Live {
         Live {
             settings: RwLock::new(settings),
             changes: AtomicU64::new(0),
+            greeted: Counts::new(alloc),
         }
     }
 
@@ -48,7 +52,7 @@ impl Live {
         rt: &R,
         alloc: Global,
         settings: Settings,
-    ) -> Result<Vec<Greetings>, AllocError> {
+    ) -> Result<Vec<Result<Greetings, AllocError>>, AllocError> {
         let first = self.current(rt);
         let changes = self.changes.load(Ordering::SeqCst);
         let (greetings, ()) = thread::join(
@@ -65,14 +69,26 @@ impl Live {
     }
 
     /// A worker: greets with the first settings until there was another change, and then with the new ones.
-    fn greet(&self, rt: &impl Wait, first: &Settings, changes: u64) -> Greetings {
+    fn greet(
+        &self,
+        rt: &impl Wait,
+        first: &Settings,
+        changes: u64,
+    ) -> Result<Greetings, AllocError> {
         let before = first.clone(rt);
+        self.count(rt, &before.name)?;
         for _ in rt.forever() {
             if self.changes.load(Ordering::SeqCst) != changes {
                 break;
             }
         }
         let after = self.current(rt);
-        Greetings { before, after }
+        self.count(rt, &after.name)?;
+        Ok(Greetings { before, after })
+    }
+
+    fn count(&self, rt: &impl Wait, name: &ArcStr) -> Result<(), AllocError> {
+        self.greeted
+            .change(rt, name, 0, |count| *count = count.saturating_add(1))
     }
 }

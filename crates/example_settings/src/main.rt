@@ -1,6 +1,8 @@
-//! Reads settings from the files that its command line names. While workers greet with the settings of one file, those of the next one are swapped in.
+//! Reads settings from the files that its command line names. While workers greet with the settings of one file, those of the next one are swapped in. Then it
+//! prints how often each name was greeted.
 #![tactic(auto)]
 
+mod counts;
 mod error;
 mod live;
 mod settings;
@@ -8,19 +10,20 @@ mod settings;
 use crate::error::SettingsError;
 use crate::live::{Greetings, Live};
 use crate::settings::Settings;
+use std::alloc::Global;
 use std::env;
 use std::sync::Wait;
 use std::thread::Threads;
 
 fn main(rt: HostRuntime) -> Result<(), SettingsError> {
-    let live = Live::new(Settings::new());
+    let live = Live::new(rt.alloc(), Settings::new());
     for file in env::args(&rt)?.skip(1) {
         match Settings::read(&rt, &file) {
             Ok(settings) => print_change(&rt, &live, settings)?,
             Err(error) => println!(rt; "{file}: {error}")?,
         }
     }
-    Ok(())
+    print_greeted(&rt, rt.alloc(), &live)
 }
 
 /// Changes the settings, and prints what each worker greeted with.
@@ -30,9 +33,22 @@ fn print_change<R: AllocGlobal + Print + Threads + Wait + Sync>(
     settings: Settings,
 ) -> Result<(), SettingsError> {
     let all = live.change(rt, rt.alloc(), settings)?;
-    for (number, Greetings { before, after }) in all.iter().enumerate() {
+    for (number, greetings) in all.into_iter().enumerate() {
+        let Greetings { before, after } = greetings?;
         print!(rt; "worker {number}: {} {}, ", before.greeting, before.name)?;
         println!(rt; "then {} {}", after.greeting, after.name)?;
+    }
+    Ok(())
+}
+
+/// Prints how often each name was greeted, in the order of the names.
+fn print_greeted(
+    rt: &(impl Print + Wait),
+    alloc: Global,
+    live: &Live,
+) -> Result<(), SettingsError> {
+    for (name, count) in &live.greeted.sorted(rt, alloc)? {
+        println!(rt; "{name} was greeted {count} times")?;
     }
     Ok(())
 }
