@@ -180,7 +180,7 @@ impl Substr {
         ensures { (given : StrRange) × R.converts range given
             × AnswersGet (text_of self.now) given (option_copied result) }
     {
-        slice(self.own_text(), range.into())
+        slice(self.as_str(), range.into())
     }
 
     /// As `ArcStr::view`, for the slice's own text.
@@ -188,7 +188,7 @@ impl Substr {
         ensures value { result ≡ view_at (text_of self.now) 0 }
         ensures found { IsFoundAt (text_of self.now) result.text result.place }
     {
-        StrView::whole(self.own_text())
+        StrView::whole(self.as_str())
     }
 
     /// As `ArcStr::substr`, for the slice's own text. The range is measured in bytes of that text, and the new slice has the same parent.
@@ -203,7 +203,7 @@ impl Substr {
     fn slice_in(&self, rt: &impl Wait, range: StrRange) -> Result<Substr, RangeFault>
         ensures { AnswersRange (text_of self.now) (slice_within self.now) range result }
     {
-        match checked_ends(self.own_text(), range) {
+        match checked_ends(self.as_str(), range) {
             Ok((start, end)) => Ok(self.clone_between(rt, start..end)),
             Err(fault) => Err(fault),
         }
@@ -214,7 +214,7 @@ impl Substr {
         ensures found { IsSome result ↔ IsFoundAt (text_of self.now) view.entry.text view.entry.place }
         ensures value { IfSome result (IsSliceOfView (slice_within self.now) view.entry) }
     {
-        if !view.is_found_in(self.own_text()) {
+        if !view.is_found_in(self.as_str()) {
             return None;
         }
         Some(self.substr_from(rt, view))
@@ -241,7 +241,7 @@ impl Substr {
         ensures { (found : Range ℕ) × FnOnceReturnsAt F.FnOnce find (text_of self.now) found
             × AnswersFoundRange (text_of self.now) (slice_within self.now) found result }
     {
-        let found = find(self.own_text());
+        let found = find(self.as_str());
         if found.start == found.end {
             return Ok(Substr::new());
         }

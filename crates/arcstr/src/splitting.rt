@@ -205,7 +205,7 @@ impl Substr {
     ) -> Result<(Substr, Substr), RangeFault>
         ensures { AnswersSplitAt (text_of self.now) (slice_within self.now) place result }
     {
-        match checked_ends(self.own_text(), StrRange::To(place)) {
+        match checked_ends(self.as_str(), StrRange::To(place)) {
             Ok((start, end)) => {
                 let before = self.clone_between(rt, start..end);
                 let after = self.clone_between(rt, end..self.len());
@@ -232,7 +232,7 @@ impl Substr {
         ensures at_a_character { IfSome (P.single_char separator) (λ character. FindsCharacter (P.find_in_gives separator) character
             → AnswersSplit (text_of self.now) (slice_within self.now) character result) }
     {
-        let (before, after) = self.own_text().split_once(separator)?;
+        let (before, after) = self.as_str().split_once(separator)?;
         Some((
             self.substr_of_prefix(rt, before),
             self.substr_of_suffix(rt, after),
@@ -253,7 +253,7 @@ impl Substr {
         ensures before { IfSome result (λ parts. LiesAtStart (slice_within self.now) parts.0) }
         ensures after { IfSome result (λ parts. LiesAtEnd (text_of self.now) (slice_within self.now) parts.1) }
     {
-        let (before, after) = self.own_text().rsplit_once(separator)?;
+        let (before, after) = self.as_str().rsplit_once(separator)?;
         Some((
             self.substr_of_prefix(rt, before),
             self.substr_of_suffix(rt, after),
@@ -269,7 +269,7 @@ impl Substr {
             (λ rest. StripsPrefix (P.prefix_len_gives prefix) (text_of self.now) (text_of rest)) }
         ensures slice { IfSome result (LiesAtEnd (text_of self.now) (slice_within self.now)) }
     {
-        let rest = self.own_text().strip_prefix(prefix)?;
+        let rest = self.as_str().strip_prefix(prefix)?;
         Some(self.substr_of_suffix(rt, rest))
     }
 
@@ -282,7 +282,7 @@ impl Substr {
             (λ rest. StripsSuffix (P.suffix_len_gives suffix) (text_of self.now) (text_of rest)) }
         ensures slice { IfSome result (LiesAtStart (slice_within self.now)) }
     {
-        let rest = self.own_text().strip_suffix(suffix)?;
+        let rest = self.as_str().strip_suffix(suffix)?;
         Some(self.substr_of_prefix(rt, rest))
     }
 
@@ -294,7 +294,7 @@ impl Substr {
         ensures text { text_of result ≡ prefix.now }
         ensures boundary { IsCharBoundary (text_of self.now) (length prefix.now) }
     {
-        self.clone_between(rt, prefix_range(self.own_text(), prefix))
+        self.clone_between(rt, prefix_range(self.as_str(), prefix))
     }
 
     /// As `ArcStr::substr_of_suffix`, for the slice's own text.
@@ -305,7 +305,7 @@ impl Substr {
         ensures text { text_of result ≡ suffix.now }
         ensures boundary { IsCharBoundary (text_of self.now) (length (text_of self.now) - length suffix.now) }
     {
-        self.clone_between(rt, suffix_range(self.own_text(), suffix))
+        self.clone_between(rt, suffix_range(self.as_str(), suffix))
     }
 }
 

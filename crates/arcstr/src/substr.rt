@@ -173,13 +173,6 @@ impl Substr {
         &self.parent.as_str()[range.start..range.end]
     }
 
-    /// Returns the slice's own text, as `as_str` does. Its contract says nothing of characters, so the proofs of its callers are short.
-    pub(crate) fn own_text(&self) -> &str
-        ensures { result.now ≡ text_of self.now }
-    {
-        self.as_str()
-    }
-
     /// As `ArcStr::len`, for the slice's own text.
     pub fn len(&self) -> usize
         ensures { result ≡ length (text_of self.now) }

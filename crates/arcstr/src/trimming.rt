@@ -67,7 +67,7 @@ impl Substr {
         ensures slice { IsTrimmed Trims (text_of self.now) (slice_within self.now) result }
         ensures text { text_of result ≡ trim (text_of self.now) }
     {
-        self.clone_between(rt, trim_range(self.own_text()))
+        self.clone_between(rt, trim_range(self.as_str()))
     }
 
     /// As `ArcStr::substr_trim_start`, for the slice's own text.
@@ -75,7 +75,7 @@ impl Substr {
         ensures slice { IsTrimmed TrimsStart (text_of self.now) (slice_within self.now) result }
         ensures text { text_of result ≡ trim_start (text_of self.now) }
     {
-        self.clone_between(rt, trim_start_range(self.own_text()))
+        self.clone_between(rt, trim_start_range(self.as_str()))
     }
 
     /// As `ArcStr::substr_trim_end`, for the slice's own text.
@@ -83,7 +83,7 @@ impl Substr {
         ensures slice { IsTrimmed TrimsEnd (text_of self.now) (slice_within self.now) result }
         ensures text { text_of result ≡ trim_end (text_of self.now) }
     {
-        self.clone_between(rt, trim_end_range(self.own_text()))
+        self.clone_between(rt, trim_end_range(self.as_str()))
     }
 }
 
