@@ -21,7 +21,9 @@ pub(crate) trait Machine: Clock
     + Wait
     + Sync {}
 
-impl<R: Clock + Env + AllocGlobal + Input + Print + Eprint + RandomSource + Threads + Wait + Sync> Machine for R {}
+impl<
+    R: Clock + Env + AllocGlobal + Input + Print + Eprint + RandomSource + Threads + Wait + Sync,
+> Machine for R {}
 
 /// The form in which the rounds of a figure are printed.
 #[derive(Clone, Copy, PartialEq, Eq)]
