@@ -109,7 +109,7 @@ def is_library(crate):
 
 
 # The pages whose blocks `tools/examples` runs, but for those that declare a function, each with the library that it sees.
-EXAMPLE_PAGES = {ROOT / "docs" / "GUIDE.md": "arcstr"} | {CRATES / crate / "README.md": crate for crate in libraries()}
+EXAMPLE_PAGES = {ROOT / "docs" / "GUIDE.md": "arcstr"} | {page: crate for crate in libraries() for page in (CRATES / crate).glob("*.md")}
 DECLARES_FUNCTION = re.compile(r"^(pub )?fn ", re.M)
 
 

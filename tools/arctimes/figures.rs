@@ -26,7 +26,7 @@ pub(crate) enum Family {
 }
 
 /// The name of each figure, with its family.
-const FIGURES: [(&str, Family); 41] = [
+const FIGURES: [(&str, Family); 42] = [
     ("clone_drop", Family::Clones),
     ("clone_drop_bare", Family::Clones),
     ("clone_drop_slice", Family::Clones),
@@ -51,6 +51,7 @@ const FIGURES: [(&str, Family); 41] = [
     ("split_of_str", Family::Parts),
     ("intern", Family::Interner),
     ("intern_get", Family::Interner),
+    ("intern_random", Family::Interner),
     ("intern_list", Family::Interner),
     ("list_get", Family::Interner),
     ("intern_shared", Family::Interner),

@@ -6,6 +6,7 @@ use crate::words;
 use anyhow::Result;
 use arcintern::{FrozenInterner, InternFault, Interner, SharedInterner, WordList};
 use std::alloc::{AllocError, Global};
+use std::hash::{BuildHasher, RandomState};
 use std::ops::Range;
 use std::sync::Wait;
 use std::thread;
@@ -25,6 +26,7 @@ pub(crate) fn run<M: Machine>(rt: &M, request: &Request) -> Result<()> {
     match request.figure {
         "intern" => time_interning(rt, &request, &words),
         "intern_get" => time_looking_up(rt, &request, &words),
+        "intern_random" => time_random_hashes(rt, &request, &words),
         "intern_list" => time_listing(rt, &request, &words),
         "list_get" => time_finding(rt, &request, &words),
         "intern_shared" => time_sharing(rt, &request, &words),
@@ -54,6 +56,17 @@ fn index_of(interner: &Interner, word: &str) -> usize {
 fn time_interning<M: Machine>(rt: &M, request: &Request, words: &[&str]) -> Result<()> {
     for _ in 0..request.rounds {
         let mut interner = Interner::new(rt.alloc());
+        let start = Instant::now(rt)?;
+        let sum = intern_all(&mut interner, words)?;
+        request.finish(rt, start, sum)?;
+    }
+    Ok(())
+}
+
+/// As `time_interning`, by an interner whose hasher has a random seed.
+fn time_random_hashes<M: Machine>(rt: &M, request: &Request, words: &[&str]) -> Result<()> {
+    for _ in 0..request.rounds {
+        let mut interner = Interner::with_hasher(rt.alloc(), RandomState::new(rt)?);
         let start = Instant::now(rt)?;
         let sum = intern_all(&mut interner, words)?;
         request.finish(rt, start, sum)?;
@@ -215,7 +228,10 @@ fn split<'a>(alloc: Global, input: &'a str) -> Result<Vec<&'a str>, AllocError> 
 }
 
 /// Returns the sum of the words' symbols.
-fn intern_all(interner: &mut Interner, words: &[&str]) -> Result<usize, InternFault> {
+fn intern_all<S: BuildHasher>(
+    interner: &mut Interner<S>,
+    words: &[&str],
+) -> Result<usize, InternFault> {
     let mut sum = 0usize;
     for word in words {
         sum = sum.wrapping_add(interner.intern(word)?.index());

@@ -3,6 +3,7 @@
 use crate::figures::Family;
 use crate::texts::{add_each, add_times};
 use anyhow::Result;
+use std::random::RandomSource;
 use std::rt::{Clock, Env};
 use std::sync::Wait;
 use std::thread::Threads;
@@ -15,11 +16,12 @@ pub(crate) trait Machine: Clock
     + Input
     + Print
     + Eprint
+    + RandomSource
     + Threads
     + Wait
     + Sync {}
 
-impl<R: Clock + Env + AllocGlobal + Input + Print + Eprint + Threads + Wait + Sync> Machine for R {}
+impl<R: Clock + Env + AllocGlobal + Input + Print + Eprint + RandomSource + Threads + Wait + Sync> Machine for R {}
 
 /// The form in which the rounds of a figure are printed.
 #[derive(Clone, Copy, PartialEq, Eq)]

@@ -3,8 +3,8 @@ use Rattle.std.proofs.Common.{◌≡◌, ℕ, ◌<◌, zero, suc, List, [], ◌�
 use Rattle.std.proofs.lemmas.Bool.{cases_eq}
 use Rattle.std.proofs.lemmas.List.{get_or_append_left, get_or_at, get_or_default, length_push}
 use Rattle.std.proofs.lemmas.List.Quantifiers.{all_pairs_push}
-use Rattle.arcstr.specs.TextView.{TextView}
-use Rattle.arcintern.specs.Slots.{ArePlaced, IsPlaced, slot_of}
+use Rattle.arcstr.specs.TextView.{TextView, literal_of}
+use Rattle.arcintern.specs.Slots.{ArePlaced, AreTextsPlaced, IsPlaced, slot_of}
 use Rattle.arcintern.specs.Texts.{HasEachOnce, HasWord, IsWordAt, KeepsTexts}
 
 -- no two of the texts spell the same word, if the new one's word is new
@@ -27,6 +27,22 @@ ArePlaced-push {X} old new old_mask new_mask half empty texts text kept placed a
     by number less (inr other) =
         let within : number < length texts = omega (arith, less, other, length_push texts text) in
         rw (get_or_append_left texts (text ∷ []) empty number within) (kept _ (omega arith) (all number within))
+
+-- the numbers stay placed, if their slots do
+pub AreTextsPlaced-kept : (old new : List ℕ) (old_mask new_mask : ℕ) (half : List ℕ → ℕ) (texts : List TextView)
+    → ((slot : ℕ) → 0 < slot → IsPlaced old old_mask slot → IsPlaced new new_mask slot)
+    → AreTextsPlaced old old_mask half texts → AreTextsPlaced new new_mask half texts
+unfolding AreTextsPlaced
+AreTextsPlaced-kept old new old_mask new_mask half texts kept all = λ number less. kept _ (omega arith) (all number less)
+
+-- and with one more text, if that is placed too
+pub AreTextsPlaced-push : (old new : List ℕ) (old_mask new_mask : ℕ) (half : List ℕ → ℕ) (texts : List TextView) (text : TextView)
+    → ((slot : ℕ) → 0 < slot → IsPlaced old old_mask slot → IsPlaced new new_mask slot)
+    → IsPlaced new new_mask (slot_of (half text.text) (length texts))
+    → AreTextsPlaced old old_mask half texts → AreTextsPlaced new new_mask half (texts ++ text ∷ [])
+unfolding AreTextsPlaced
+AreTextsPlaced-push old new old_mask new_mask half texts text kept placed all =
+    ArePlaced-push old new old_mask new_mask (λ (one : TextView). half one.text) (literal_of []) texts text kept placed all
 
 -- each old text is still at its index
 pub KeepsTexts-push : {X : Type 0} (texts : List X) (text : X) → KeepsTexts texts (texts ++ text ∷ [])

@@ -1,14 +1,17 @@
 -- Where a table finds the number of a text by half of the hash of its word.
-use Rattle.std.specs.Prelude.{◌≡◌, ◌≢◌, ℕ, ◌+◌, ◌*◌, ◌/◌, ◌%◌, ◌<◌, ◌≤◌, List, length, slice_index, slice_index_or, bit_and, bit_xor}
-use Rattle.std.specs.List.{fold}
-use Rattle.std.specs.Hash.{str}
+use Rattle.std.specs.Prelude.{◌≡◌, ◌≢◌, ℕ, ◌+◌, ◌*◌, ◌/◌, ◌%◌, ◌<◌, ◌≤◌, List, [], length, slice_index, slice_index_or, bit_and, bit_xor}
 use Rattle.std.specs.declared.hash.BuildHasher as builder
 use Rattle.std.specs.declared.hash.Hasher as hasher
+use Rattle.arcstr.specs.TextView.{TextView, literal_of}
+
+-- what the hasher finishes with after one write of the word's bytes
+unfoldable pub hash_of_word : {S H : Type 0} → builder.Ghosts S H → hasher.Ghosts H → S → List ℕ → ℕ
+hash_of_word build hash state word = hash.finish (hash.write (build.build_hasher state) word)
 
 -- the two halves of a word's hash, joined by xor
 unfoldable pub half_of_word : {S H : Type 0} → builder.Ghosts S H → hasher.Ghosts H → S → List ℕ → ℕ
 half_of_word build hash state word =
-    let whole = hash.finish (fold hash.write (build.build_hasher state) (str word)) in
+    let whole = hash_of_word build hash state word in
     bit_xor whole (whole / 4294967296) % 4294967296
 
 -- the slot of a number, under half of a hash; an empty slot is 0
@@ -30,3 +33,7 @@ pub record IsPlaced (slots : List ℕ) (mask slot : ℕ) : Type 0 where
 -- the number of each text is placed under the half of its word, which is `half` of the text
 abbrev pub ArePlaced : {X : Type 0} → List ℕ → ℕ → (X → ℕ) → X → List X → Type 0
 ArePlaced slots mask half empty texts = (number : ℕ) → number < length texts → IsPlaced slots mask (slot_of (half (slice_index_or texts number empty)) number)
+
+-- the number of each text is placed under the half of its word
+unfoldable pub AreTextsPlaced : List ℕ → ℕ → (List ℕ → ℕ) → List TextView → Type 0
+AreTextsPlaced slots mask half texts = ArePlaced slots mask (λ text. half text.text) (literal_of []) texts

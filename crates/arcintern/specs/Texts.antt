@@ -28,6 +28,12 @@ KeepsTexts old new = (index : ℕ) → index < length old → slice_get new inde
 abbrev pub IsWhole : SubstrView → Type 0
 IsWhole slice = (slice.start ≡ 0) × (slice.end ≡ length slice.parent.text)
 
+-- what clauses see of a table of texts: the texts, and the table of their numbers
+pub record TextTableView : Type 0 where
+  pub texts : List TextView
+  pub slots : List ℕ
+  pub mask : ℕ
+
 -- ---- a shared interner, and its symbols
 
 -- what clauses see of a symbol: its number, the text that it stands for, and the bucket of texts that holds it, with the bucket's name

@@ -3,12 +3,12 @@
 //! No call here allocates, clones a handle or takes an atomic step unless it says so.
 ghost use Rattle.std.specs.Prelude.{◌≡◌, ◌^◌, ◌<◌, ◌≤◌, ◌↔◌, [], length, IfErr, IfOk, IsOk, IsTrue};
 ghost use Rattle.std.specs.Iterator.Adapters.{IterYieldsInOrder, IterYieldsInReverse};
+ghost use Rattle.std.specs.List.{enumerate_from};
 ghost use Rattle.std.specs.Slice.Iter.{iter_rest};
 ghost use Rattle.arcstr.specs.TextView.{TextView};
 ghost use Rattle.arcintern.specs.Texts.{HasEachOnce};
 
 use crate::fault::InternFault;
-use crate::slots::Slots;
 use arcstr::ArcStr;
 use std::alloc::Global;
 use std::fmt;
@@ -18,8 +18,12 @@ use std::slice::Iter;
 
 mod interning;
 mod lookup;
+mod pairs;
+mod table;
 
 pub(crate) use interning::{copy_of, is_whole};
+pub use pairs::InternerPairs;
+use table::TextTable;
 
 /// The number of texts that an interner can hold.
 ///
@@ -43,25 +47,21 @@ pub const MOST_TEXTS: usize = (1 << 32) - 1;
 /// ```
 #[derive(Drop)]
 pub struct Interner<S: BuildHasher = BuildHasherDefault<FoldHasher>> {
-    texts: Vec<ArcStr>,
-    slots: Slots,
+    table: TextTable,
     hash_builder: S,
 }
 
 impl<S: BuildHasher> Model for Interner<S> {
-    ghost use Rattle.std.specs.Prelude.{List, [], ◌≤◌, length};
-    ghost use Rattle.arcintern.specs.declared.interner.TheConstants.{MOST_TEXTS};
-    ghost use Rattle.arcstr.specs.TextView.{TextView, literal_of};
-    ghost use Rattle.arcintern.specs.Texts.{HasEachOnce};
-    ghost use Rattle.arcintern.specs.Slots.{ArePlaced, half_of_word};
+    ghost use Rattle.std.specs.Prelude.{List};
+    ghost use Rattle.arcstr.specs.TextView.{TextView};
+    ghost use Rattle.arcintern.specs.Slots.{AreTextsPlaced, half_of_word};
 
     ghost Value = { List TextView };
 
-    ghost view = { λ interner. interner.texts.items };
+    ghost view = { λ interner. interner.table.texts };
 
-    ghost invariant = { λ interner. HasEachOnce interner.texts.items × (length interner.texts.items ≤ MOST_TEXTS)
-        × ArePlaced interner.slots.slots.items interner.slots.mask (λ text. half_of_word S.BuildHasher S.Hasher.Hasher interner.hash_builder text.text)
-        (literal_of []) interner.texts.items };
+    ghost invariant = { λ interner. AreTextsPlaced interner.table.slots interner.table.mask
+        (half_of_word S.BuildHasher S.Hasher.Hasher interner.hash_builder) interner.table.texts };
 }
 
 impl Interner<BuildHasherDefault<FoldHasher>> {
@@ -90,11 +90,9 @@ impl Interner<BuildHasherDefault<FoldHasher>> {
         ensures none { texts ≡ 0 → IsOk result }
         ensures refused { IfErr result (λ fault. fault ≡ InternFault.Memory) }
     {
-        let slots = Slots::with_capacity(alloc, texts)?;
-        let texts = Vec::with_capacity(alloc, texts)?;
+        let table = TextTable::with_capacity(alloc, texts)?;
         Ok(Interner {
-            texts,
-            slots,
+            table,
             hash_builder: BuildHasherDefault::new(),
         })
     }
@@ -113,8 +111,7 @@ impl<S: BuildHasher> Interner<S> {
         ensures { result ≡ [] }
     {
         Interner {
-            texts: Vec::new(alloc),
-            slots: Slots::new(alloc),
+            table: TextTable::new(alloc),
             hash_builder,
         }
     }
@@ -132,7 +129,7 @@ impl<S: BuildHasher> Interner<S> {
         ensures most { result ≤ MOST_TEXTS }
         ensures once { HasEachOnce self.now }
     {
-        self.texts.len()
+        self.table.texts().len()
     }
 
     /// Returns whether there are no texts.
@@ -145,7 +142,7 @@ impl<S: BuildHasher> Interner<S> {
     pub fn is_empty(&self) -> bool
         ensures { IsTrue result ↔ (self.now ≡ []) }
     {
-        self.texts.is_empty()
+        self.table.texts().is_empty()
     }
 
     /// Returns the texts, in the order of their symbols.
@@ -165,7 +162,28 @@ impl<S: BuildHasher> Interner<S> {
         ensures runs_back { IterYieldsInReverse TextView }
         ensures fits { length self.now < 2 ^ 63 }
     {
-        self.texts.iter()
+        self.table.texts().iter()
+    }
+
+    /// Returns the symbols with their texts, in the order of the symbols.
+    ///
+    /// ```
+    /// let mut interner = Interner::new(rt.alloc());
+    /// let foo = interner.intern("foo")?;
+    /// interner.intern("bar")?;
+    /// let mut pairs = interner.pairs();
+    /// assert!(rt; pairs.next().is_some_and(|(symbol, text)| symbol == foo && text.eq_str("foo")));
+    /// assert!(rt; pairs.next().is_some_and(|(symbol, _)| symbol.index() == 1));
+    /// ```
+    pub fn pairs(&self) -> InternerPairs<'_>
+        // Promise: The symbols are 0, 1, 2 and so on, and the texts are those of the interner.
+        ensures pairs { result ≡ enumerate_from 0 self.now }
+        ensures once { HasEachOnce self.now }
+    {
+        InternerPairs {
+            texts: self.table.texts(),
+            next: 0,
+        }
     }
 }
 

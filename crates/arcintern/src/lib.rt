@@ -2,13 +2,13 @@
 #![tactic(auto)]
 
 pub use fault::InternFault;
-pub use interner::{Interner, MOST_TEXTS};
+pub use interner::{Interner, InternerPairs, MOST_TEXTS};
 pub use shared_interner::{
     FrozenInterner, LocalInterner, SharedInterner, SharedSymbol, SharedTexts,
 };
 pub use symbol::Symbol;
 pub use symbol_map::{SymbolMap, SymbolMapIter};
-pub use word_list::{MOST_BYTES, WordList, WordListIter};
+pub use word_list::{MOST_BYTES, WordList, WordListIter, WordListPairs};
 
 mod fault;
 mod interner;

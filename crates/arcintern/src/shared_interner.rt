@@ -1,6 +1,6 @@
 //! `SharedInterner`: each distinct text once, for threads.
 //!
-//! Each call with a handle `rt` can wait: for a thread that is adding a text to the same shard or the list.
+//! Each call with a handle `rt` can wait: for a thread that is looking in the same shard, or adding a text to the list.
 ghost use Rattle.std.specs.Prelude.{◌≡◌, ◌≤◌, IfErr, IfOk, IfSome, length};
 ghost use Rattle.arcintern.specs.Texts.{IsSymbolOf};
 
@@ -9,9 +9,10 @@ use crate::slots::Slots;
 use crate::symbol::Symbol;
 use arcstr::ArcStr;
 use std::alloc::Global;
+use std::fmt;
 use std::hash::{BuildHasher, BuildHasherDefault, FoldHasher};
 use std::marker::Model;
-use std::sync::RwLock;
+use std::sync::Mutex;
 
 mod frozen_interner;
 mod interning;
@@ -26,9 +27,9 @@ pub use shared_texts::SharedTexts;
 
 /// Keeps each distinct text once, as an `ArcStr`, for any number of threads.
 ///
-/// The hash of a word picks one of 1 to 64 shards. A shard has a lock, under which it finds the numbers of its texts. Calls for words
-/// that are there share the lock. The texts themselves lie in one list that only grows, and are read without a lock. So a symbol stands
-/// for one text as long as the interner lives, whatever other threads do. The numbers are 0, 1, 2 and so on, in the order in which the
+/// The hash of a word picks one of 1 to 64 shards. A shard has a lock, under which it finds the numbers of its texts. The texts
+/// themselves lie in one list that only grows, and are read without a lock. So a symbol stands for one text as long as the interner
+/// lives, whatever other threads do. The numbers are 0, 1, 2 and so on, in the order in which the
 /// texts were added. Only a call that runs out of memory while other threads add texts can leave a number without a text.
 ///
 /// The contracts do not say that a call succeeds, that a word has one number, which number is next, or what `len` answers: the tests
@@ -44,7 +45,7 @@ pub use shared_texts::SharedTexts;
 /// ```
 #[derive(Drop)]
 pub struct SharedInterner<S: BuildHasher = BuildHasherDefault<FoldHasher>> {
-    shards: Vec<RwLock<Slots>>,
+    shards: Vec<Mutex<Slots>>,
     texts: boxcar::Vec<ArcStr>,
     alloc: Global,
     hash_builder: S,
@@ -229,19 +230,33 @@ impl<S: BuildHasher> SharedInterner<S> {
     }
 }
 
+/// Prints the texts as a list, in the order of their numbers. It may miss texts that other threads are adding.
+///
+/// ```
+/// let interner = SharedInterner::new(rt.alloc(), 8)?;
+/// interner.intern(&rt, "foo")?;
+/// let printed = format!(in rt.alloc(); "{interner:?}")?;
+/// assert_eq!(rt; printed.as_str(), "[\"foo\"]");
+/// ```
+impl<S: BuildHasher> fmt::Debug for SharedInterner<S> {
+    fn fmt<W: fmt::Write>(&self, f: &mut fmt::Formatter<W>) -> fmt::Result {
+        let mut list = f.debug_list();
+        for (_, text) in self.iter() {
+            list.entry(text);
+        }
+        list.finish()
+    }
+}
+
 /// Shards without texts, each with room for this many.
-fn empty_shards(
-    alloc: Global,
-    shards: usize,
-    room: usize,
-) -> Result<Vec<RwLock<Slots>>, InternFault>
+fn empty_shards(alloc: Global, shards: usize, room: usize) -> Result<Vec<Mutex<Slots>>, InternFault>
     ensures len { IfOk result (λ tables. length tables.items ≡ shards) }
     ensures fault { IfErr result (λ fault. fault ≡ InternFault.Memory) }
 {
     let mut tables = Vec::with_capacity(alloc, shards)?;
     let mut count = 0;
     while count < shards {
-        tables.push_reserved(RwLock::new(Slots::with_capacity(alloc, room)?));
+        tables.push_reserved(Mutex::new(Slots::with_capacity(alloc, room)?));
         count += 1;
     }
     Ok(tables)

@@ -1,16 +1,26 @@
 //! A table that finds the number of a text by half of the hash of its word.
 ghost use Rattle.std.specs.Prelude.{◌≡◌, ◌+◌, ◌/◌, ◌%◌, ◌<◌, ◌≤◌, ℕ, [], IfNone, IfSome, IsOk, None, OnOk, Some, bit_xor, vec_len, vec_capacity};
-ghost use Rattle.arcintern.specs.Slots.{IsPlaced, half_of_word, slot_of};
+ghost use Rattle.arcintern.specs.Slots.{IsPlaced, half_of_word, hash_of_word, slot_of};
 
 use std::alloc::{AllocError, Global};
-use std::hash::BuildHasher;
+use std::hash::{BuildHasher, Hasher};
+
+/// The hash of the word: what the hasher finishes with after one write of the word's bytes.
+#[tactic(auto, unfolding(crate::specs::Slots::hash_of_word))]
+pub(crate) fn hash_of_word<S: BuildHasher>(hash_builder: &S, word: &str) -> u64
+    ensures { result ≡ hash_of_word S.BuildHasher S.Hasher.Hasher hash_builder.now word.now }
+{
+    let mut hasher = hash_builder.build_hasher();
+    hasher.write(word.as_bytes());
+    hasher.finish()
+}
 
 /// Half as many bits as the hash of the word has.
 #[tactic(auto, unfolding(crate::specs::Slots::half_of_word))]
 pub(crate) fn half_of_word<S: BuildHasher>(hash_builder: &S, word: &str) -> u32
     ensures { result ≡ half_of_word S.BuildHasher S.Hasher.Hasher hash_builder.now word.now }
 {
-    half_of(hash_builder.hash_one(word))
+    half_of(hash_of_word(hash_builder, word))
 }
 
 /// The two halves of a hash, joined by xor: a hasher may leave one of them alike for many words.
@@ -50,8 +60,7 @@ impl Slots {
             return Ok(Slots::new(alloc));
         }
         match slots
-            .saturating_add(1)
-            .saturating_mul(2)
+            .saturating_add(slots.div_ceil(3))
             .checked_next_power_of_two()
         {
             Some(len) => Slots::with_len(alloc, len.max(16)),
@@ -96,12 +105,12 @@ impl Slots {
         None
     }
 
-    /// Makes room for one more slot. At most half of the places are taken, so a search for an absent word passes about two.
+    /// Makes room for one more slot. At most three quarters of the places are taken, so a search for an absent word passes about eight.
     pub(crate) fn make_room(&mut self) -> Result<(), AllocError>
         ensures kept { (slot : ℕ) → 0 < slot → IsPlaced self.old.slots.items self.old.mask slot → IsPlaced self.new.slots.items self.new.mask slot }
         ensures room { OnOk result (vec_len self.new.slots < vec_capacity self.new.slots) }
     {
-        if self.used >= self.mask / 2 {
+        if self.used >= self.mask - self.mask / 4 {
             self.grow()?;
         }
         self.slots.reserve(1)

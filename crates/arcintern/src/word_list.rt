@@ -3,6 +3,7 @@
 //! No call here allocates unless it says so, and none takes an atomic step.
 ghost use Rattle.std.specs.Prelude.{◌≡◌, ◌<◌, ◌≤◌, ◌↔◌, ◌++◌, [], ◌∷◌, length, slice_get, Contains};
 ghost use Rattle.std.specs.Prelude.{IfErr, IfOk, IfSome, IsErrOf, IsOk, IsSome, IsTrue, OnErr, OnOk, Some};
+ghost use Rattle.std.specs.List.{enumerate_from};
 ghost use Rattle.arcintern.specs.Texts.{KeepsTexts};
 ghost use Rattle.arcintern.specs.Words.{AreDistinct, IsFullFor};
 
@@ -16,9 +17,11 @@ use std::hash::{BuildHasher, BuildHasherDefault, FoldHasher};
 use std::marker::Model;
 
 mod iter;
+mod pairs;
 mod table;
 
 pub use iter::WordListIter;
+pub use pairs::WordListPairs;
 use table::WordTable;
 
 /// The number of bytes that the texts of a word list can have together.
@@ -259,6 +262,27 @@ impl<S: BuildHasher> WordList<S> {
         ensures { result ≡ self.now }
     {
         self.table.iter()
+    }
+
+    /// Returns the symbols with their texts, in the order of the symbols.
+    ///
+    /// ```
+    /// let mut words = WordList::new(rt.alloc());
+    /// let foo = words.intern("foo")?;
+    /// let bar = words.intern("bar")?;
+    /// let mut pairs = words.pairs();
+    /// assert!(rt; pairs.next() == Some((foo, "foo")));
+    /// assert!(rt; pairs.next() == Some((bar, "bar")));
+    /// ```
+    pub fn pairs(&self) -> WordListPairs<'_>
+        // Promise: The symbols are 0, 1, 2 and so on, and the texts are those of the list.
+        ensures pairs { result ≡ enumerate_from 0 self.now }
+        ensures once { AreDistinct self.now }
+    {
+        WordListPairs {
+            texts: self.table.iter(),
+            next: 0,
+        }
     }
 }
 

@@ -9,7 +9,7 @@ use std::sync::Wait;
 use std::{io, mem};
 
 /// An interner with this many texts has a longer table after the next one.
-const FULL: usize = 7;
+const FULL: usize = 12;
 
 pub(crate) fn run<R: Machine>(rt: &R) -> io::Result<()> {
     again::<(), Interner, R>(rt, "Interner::with_capacity", 0, "", 0)?;

@@ -1,4 +1,5 @@
 pub mod FirstMatches
 pub mod Orders
+pub mod Ranges
 pub mod SliceLists
 pub mod Texts

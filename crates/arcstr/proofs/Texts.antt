@@ -1,14 +1,12 @@
--- Facts about texts and their slices: copies of an empty text, the whole text, what a trim leaves, and a view in a slice.
-use Rattle.std.proofs.Common.{◌≡◌, ◌≢◌, ℕ, zero, suc, List, [], ◌∷◌, length, inl, inr, refl, sym, subst, ◌∙◌, arith}
+-- Facts about texts and their slices: copies of an empty text, the whole text, and what a trim leaves.
+use Rattle.std.proofs.Common.{◌≡◌, ℕ, zero, suc, List, [], ◌∷◌, length, refl, sym, subst, arith}
 use Rattle.std.specs.List.{repeat}
 use Rattle.std.specs.Str.{IsUtf8}
 use Rattle.std.proofs.lemmas.Str.{IsCharBoundary-start, IsCharBoundary-end}
-use Rattle.arcstr_range.proofs.Boundaries.{cut-cut}
 use Rattle.arcstr_range.proofs.FoundParts.{lawful_both, lawful_start}
 use Rattle.arcstr_range.specs.Ends.{IsLawful}
 use Rattle.arcstr_range.specs.Trim.{Trims, TrimsStart}
-use Rattle.arcstr_range.specs.View.{View, IsFoundAt, end_of, view_at}
-use Rattle.arcstr.specs.Substr.{SubstrView, IsSoundSlice, slice_within, text_of}
+use Rattle.arcstr_range.specs.View.{View, end_of, view_at}
 
 -- copies of an empty text are the empty text
 pub copies_of_nothing : (n : ℕ) (text : List ℕ) → length text ≡ 0 → repeat n text ≡ []
@@ -37,14 +35,5 @@ IsLawful-trim text old new start end utf8 is trims at_start at_end =
     subst (λ e. IsLawful text start e) (sym at_end)
     (subst (λ s. IsLawful text s (end_of new)) (sym at_start) (lawful_both text new utf8 (subst (λ o. Trims o new) is trims)))
 
--- the slice at the offsets of a view that is found in a slice has the view's text
-pub text_of-slice_within_view : (outer : SubstrView) (view : View) → IsSoundSlice outer → view.text ≢ [] → IsFoundAt (text_of outer) view.text view.place →
-    text_of (slice_within outer view.place (end_of view)) ≡ view.text
-text_of-slice_within_view outer view sound shown (inl empty) = absurd (shown empty)
-text_of-slice_within_view outer view sound shown (inr stands) =
-    cut-cut outer.parent.text outer.start outer.end view.place (end_of view) sound.in_order stands.lawful.within ∙ stands.same
-
--- the functions whose proofs use these rulesets name them
+-- the functions whose proofs use this ruleset name it
 pub ruleset whole_ranges = (IsLawful-whole)
-
-pub ruleset slices_of_views = (text_of-slice_within_view)

@@ -15,7 +15,7 @@ ghost use Rattle.arcstr.specs.Substr.{slice_of, slice_within, text_of};
 
 use crate::arc_str::ArcStr;
 use crate::substr::Substr;
-use arcstr_range::range::{RangeFault, StrRange, checked_ends, inner_ends, slice};
+use arcstr_range::range::{RangeFault, StrRange, checked_ends, slice};
 use arcstr_range::view::StrView;
 use std::ops::Range;
 use std::sync::Wait;
@@ -70,8 +70,10 @@ impl ArcStr {
         ensures { (given : StrRange) × R.converts range given
             × AnswersRange self.now.text (slice_of self.now) given result }
     {
-        let (start, end) = checked_ends(self.as_str(), range.into())?;
-        Ok(Substr::from_parts_unchecked(self.clone(rt), start..end))
+        match checked_ends(self.as_str(), range.into()) {
+            Ok((start, end)) => Ok(self.clone_between(rt, start..end)),
+            Err(fault) => Err(fault),
+        }
     }
 
     /// Returns the slice of this text that a view shows, or `None` exactly if the text does not have the view's text at the view's place. An empty view is
@@ -201,8 +203,10 @@ impl Substr {
     fn slice_in(&self, rt: &impl Wait, range: StrRange) -> Result<Substr, RangeFault>
         ensures { AnswersRange (text_of self.now) (slice_within self.now) range result }
     {
-        let (start, end) = inner_ends(self.parent().as_str(), self.range(), range)?;
-        Ok(Substr::from_parts_unchecked(self.parent().clone(rt), start..end))
+        match checked_ends(self.as_str(), range) {
+            Ok((start, end)) => Ok(self.clone_between(rt, start..end)),
+            Err(fault) => Err(fault),
+        }
     }
 
     /// As `ArcStr::try_substr_from`, for the slice's own text: the view's place is a byte offset of that text.
@@ -217,7 +221,6 @@ impl Substr {
     }
 
     /// As `ArcStr::substr_from`, for the slice's own text: the view's place is a byte offset of that text.
-    #[tactic(auto, using(crate::proofs::Texts::slices_of_views))]
     pub fn substr_from(&self, rt: &impl Wait, view: StrView<'_>) -> Substr
         requires { IsFoundAt (text_of self.now) view.text view.place }
         ensures { IsSliceOfView (slice_within self.now) view.entry result }
@@ -225,12 +228,7 @@ impl Substr {
         if view.text().is_empty() {
             return Substr::new();
         }
-        let start = self.range().start;
-        let found = view.range();
-        Substr::from_parts_unchecked(
-            self.parent().clone(rt),
-            start + found.start..start + found.end,
-        )
+        self.clone_between(rt, view.range())
     }
 
     /// As `ArcStr::substr_using`, for the slice's own text. The closure returns byte offsets of that text.

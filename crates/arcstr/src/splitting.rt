@@ -30,7 +30,6 @@ impl ArcStr {
     /// let fault = text.substr_split_at(&rt, 7).err();
     /// assert_eq!(rt; fault, Some(RangeFault::PastEnd));
     /// ```
-    #[tactic(auto, using(arcstr_range::proofs::Affixes::slices_of_rests))]
     pub fn substr_split_at(
         &self,
         rt: &impl Wait,
@@ -39,10 +38,14 @@ impl ArcStr {
         // Promise: The call succeeds exactly if the range is lawful, and otherwise returns the first fault.
         ensures { AnswersSplitAt self.now.text (slice_of self.now) place result }
     {
-        let (start, end) = checked_ends(self.as_str(), StrRange::To(place))?;
-        let before = self.clone_between(rt, start..end);
-        let after = self.clone_between(rt, end..self.len());
-        Ok((before, after))
+        match checked_ends(self.as_str(), StrRange::To(place)) {
+            Ok((start, end)) => {
+                let before = self.clone_between(rt, start..end);
+                let after = self.clone_between(rt, end..self.len());
+                Ok((before, after))
+            }
+            Err(fault) => Err(fault),
+        }
     }
 
     /// Splits this text around the first match of the separator, as `str::split_once` does. The separator is part of neither slice. Returns `None` exactly if
@@ -195,7 +198,6 @@ impl ArcStr {
 
 impl Substr {
     /// As `ArcStr::substr_split_at`, for the slice's own text.
-    #[tactic(auto, using(arcstr_range::proofs::Affixes::slices_of_rests))]
     pub fn substr_split_at(
         &self,
         rt: &impl Wait,
@@ -203,10 +205,14 @@ impl Substr {
     ) -> Result<(Substr, Substr), RangeFault>
         ensures { AnswersSplitAt (text_of self.now) (slice_within self.now) place result }
     {
-        let (start, end) = checked_ends(self.as_str(), StrRange::To(place))?;
-        let before = self.clone_between(rt, start..end);
-        let after = self.clone_between(rt, end..self.len());
-        Ok((before, after))
+        match checked_ends(self.as_str(), StrRange::To(place)) {
+            Ok((start, end)) => {
+                let before = self.clone_between(rt, start..end);
+                let after = self.clone_between(rt, end..self.len());
+                Ok((before, after))
+            }
+            Err(fault) => Err(fault),
+        }
     }
 
     /// As `ArcStr::substr_split_once`, for the slice's own text.

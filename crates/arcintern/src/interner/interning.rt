@@ -43,11 +43,13 @@ impl<S: BuildHasher> Interner<S> {
         // Promise: `Length` comes exactly for a new word that is too long, in an interner that is not full.
         ensures too_long { IsErrOf result InternFault.Length ↔ ((¬ HasWord self.old word.now) × (length self.old < MOST_TEXTS) × IsTooLong (length word.now)) }
     {
-        match self.find_or_room(word)? {
+        let half = half_of_word(&self.hash_builder, word);
+        match self.table.find(half, word) {
             Some(symbol) => Ok(symbol),
+            None if self.table.is_full() => Err(InternFault::Full),
             None => {
-                let text = copy_of(*self.texts.allocator(), word)?;
-                self.push(text)
+                let text = copy_of(self.table.alloc(), word)?;
+                self.table.push(half, text)
             }
         }
     }
@@ -81,9 +83,11 @@ impl<S: BuildHasher> Interner<S> {
         // Promise: `Length` never comes.
         ensures never_too_long { ¬ (IsErrOf result InternFault.Length) }
     {
-        match self.find_or_room(text.as_str())? {
+        let half = half_of_word(&self.hash_builder, text.as_str());
+        match self.table.find(half, text.as_str()) {
             Some(symbol) => Ok(symbol),
-            None => self.push(text.clone(rt)),
+            None if self.table.is_full() => Err(InternFault::Full),
+            None => self.table.push(half, text.clone(rt)),
         }
     }
 
@@ -113,10 +117,11 @@ impl<S: BuildHasher> Interner<S> {
         // Promise: `Length` never comes.
         ensures never_too_long { ¬ (IsErrOf result InternFault.Length) }
     {
-        let found = self.find_or_room(word)?;
-        match found {
+        let half = half_of_word(&self.hash_builder, word);
+        match self.table.find(half, word) {
             Some(symbol) => Ok(symbol),
-            None => self.push(ArcStr::from_static(word)),
+            None if self.table.is_full() => Err(InternFault::Full),
+            None => self.table.push(half, ArcStr::from_static(word)),
         }
     }
 
@@ -157,41 +162,6 @@ impl<S: BuildHasher> Interner<S> {
         } else {
             self.intern(slice.as_str())
         }
-    }
-
-    /// Returns the symbol of this word if one of the texts spells it. If none does, returns `None` if there is room for one more text,
-    /// and else fails with `Full`.
-    fn find_or_room(&self, word: &str) -> Result<Option<Symbol>, InternFault>
-        ensures found { IfOk result (λ found. IfSome found (λ symbol. IsWordAt self.now symbol word.now)) }
-        ensures there { IfOk result (λ found. IsSome found ↔ HasWord self.now word.now) }
-        ensures once { HasEachOnce self.now }
-        ensures room { IfOk result (λ found. IsNone found → length self.now < MOST_TEXTS) }
-        ensures full { IfErr result (λ fault. (fault ≡ InternFault.Full) × (¬ HasWord self.now word.now) × (MOST_TEXTS ≤ length self.now)) }
-    {
-        match self.get(word) {
-            Some(symbol) => Ok(Some(symbol)),
-            None if self.len() < MOST_TEXTS => Ok(None),
-            None => Err(InternFault::Full),
-        }
-    }
-
-    /// Adds a text whose word is new.
-    fn push(&mut self, text: ArcStr) -> Result<Symbol, InternFault>
-        requires absent { ¬ HasWord self.old text.text }
-        requires room { length self.old < MOST_TEXTS }
-        ensures word { IfOk result (λ symbol. IsWordAt self.new symbol text.text) }
-        ensures kept { KeepsTexts self.old self.new }
-        ensures added { OnOk result (self.new ≡ self.old ++ text ∷ []) }
-        ensures once { HasEachOnce self.new }
-        ensures refused { OnErr result (self.new ≡ self.old) }
-        ensures fault { IfErr result (λ fault. fault ≡ InternFault.Memory) }
-    {
-        let number = self.texts.len();
-        let half = half_of_word(&self.hash_builder, text.as_str());
-        self.slots.make_room()?;
-        self.texts.push(text)?;
-        self.slots.put(half, number as u32);
-        Ok(Symbol::at(number))
     }
 }
 

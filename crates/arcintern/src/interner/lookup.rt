@@ -1,5 +1,5 @@
 //! Texts by their words, and by their symbols.
-ghost use Rattle.std.specs.Prelude.{◌≡◌, ◌<◌, ◌↔◌, length, option_copied, slice_get, IfNone, IfSome, Some, IsSome};
+ghost use Rattle.std.specs.Prelude.{◌≡◌, ◌<◌, ◌↔◌, length, option_copied, slice_get, IfSome, Some, IsSome};
 ghost use Rattle.arcintern.specs.Texts.{HasEachOnce, HasWord, IsWordAt};
 
 use crate::interner::Interner;
@@ -25,19 +25,7 @@ impl<S: BuildHasher> Interner<S> {
         ensures once { HasEachOnce self.now }
     {
         let half = half_of_word(&self.hash_builder, word);
-        self.slots
-            .find(half, |number| self.symbol_if_word(number, word))
-    }
-
-    /// The symbol of this number, if its text spells the word.
-    fn symbol_if_word(&self, number: u32, word: &str) -> Option<Symbol>
-        ensures is { IfSome result (λ symbol. (symbol ≡ number) × IsWordAt self.now number word.now) }
-        ensures not { IfNone result (¬ IsWordAt self.now number word.now) }
-    {
-        match self.texts.get(number as usize) {
-            Some(text) if text.eq_str(word) => Some(Symbol::at(number as usize)),
-            _ => None,
-        }
+        self.table.find(half, word)
     }
 
     /// Returns the symbol with this index, or `None` if the interner has fewer texts.
@@ -53,7 +41,7 @@ impl<S: BuildHasher> Interner<S> {
         ensures found { IsSome result ↔ (index < length self.now) }
         ensures symbol { IfSome result (λ symbol. symbol ≡ index) }
     {
-        if index < self.texts.len() {
+        if index < self.table.texts().len() {
             Some(Symbol::at(index))
         } else {
             None
@@ -75,7 +63,7 @@ impl<S: BuildHasher> Interner<S> {
         ensures found { IsSome result ↔ (symbol < length self.now) }
         ensures text { option_copied result ≡ slice_get self.now symbol }
     {
-        self.texts.get(symbol.index())
+        self.table.texts().get(symbol.index())
     }
 }
 
@@ -94,6 +82,6 @@ impl<S: BuildHasher> Index<Symbol> for Interner<S> {
     /// assert!(rt; interner[symbol].eq_str("foo"));
     /// ```
     fn index(&self, symbol: Symbol) -> &ArcStr {
-        &self.texts[symbol.index()]
+        &self.table.texts()[symbol.index()]
     }
 }

@@ -6,13 +6,13 @@ ghost use Rattle.arcintern.specs.Texts.{IsSymbolOf, IsSymbolOfWord};
 
 use crate::shared_interner::interning::{find_in, shard_of};
 use crate::shared_interner::{SharedInterner, SharedSymbol, SharedTexts};
-use crate::slots::Slots;
+use crate::slots::{Slots, hash_of_word};
 use crate::symbol::Symbol;
 use arcstr::ArcStr;
 use std::alloc::AllocFailed;
 use std::hash::{BuildHasher, BuildHasherDefault, FoldHasher};
 use std::marker::Model;
-use std::sync::RwLock;
+use std::sync::Mutex;
 
 /// The texts of a `SharedInterner` that no longer grows, for any number of threads. Its symbols are those that the interner gave out.
 ///
@@ -77,7 +77,7 @@ impl<S: BuildHasher> SharedInterner<S> {
 }
 
 /// Moves the tables out of their locks.
-fn without_locks(shards: Vec<RwLock<Slots>>, mut tables: Vec<Slots>) -> Vec<Slots>
+fn without_locks(shards: Vec<Mutex<Slots>>, mut tables: Vec<Slots>) -> Vec<Slots>
     requires room { length shards.items ≤ vec_capacity tables }
     requires empty { vec_len tables ≡ 0 }
     ensures { length result.items ≡ length shards.items }
@@ -101,7 +101,7 @@ impl<S: BuildHasher> FrozenInterner<S> {
     pub fn get(&self, word: &str) -> Option<SharedSymbol>
         ensures { IfSome result (λ symbol. IsSymbolOfWord self.now symbol word.now) }
     {
-        let hash = self.hash_builder.hash_one(word);
+        let hash = hash_of_word(&self.hash_builder, word);
         let shard = shard_of(hash, self.shards.len());
         find_in(&self.texts, &self.shards[shard], hash, word)
     }

@@ -8,7 +8,7 @@ use crate::fault::InternFault;
 use crate::interner::{MOST_TEXTS, copy_of, is_whole};
 use crate::shared_interner::SharedInterner;
 use crate::shared_interner::shared_symbol::SharedSymbol;
-use crate::slots::{Slots, half_of};
+use crate::slots::{Slots, half_of, hash_of_word};
 use arcstr::{ArcStr, Substr};
 use std::alloc::Global;
 use std::hash::BuildHasher;
@@ -116,7 +116,7 @@ impl<S: BuildHasher> SharedInterner<S> {
 
     /// The hash of the word.
     pub(crate) fn hash_of(&self, word: &str) -> u64 {
-        self.hash_builder.hash_one(word)
+        hash_of_word(&self.hash_builder, word)
     }
 
     /// The symbol of the word with this hash.
@@ -124,12 +124,12 @@ impl<S: BuildHasher> SharedInterner<S> {
         ensures { IfSome result (λ symbol. IsSymbolOfWord self.now symbol word.now) }
     {
         let shard = shard_of(hash, self.shards.len());
-        let slots = self.shards[shard].read(rt);
+        let slots = self.shards[shard].lock(rt);
         find_in(&self.texts, &slots, hash, word)
     }
 
     /// The symbol of the word with this hash. If there is none, the text becomes `whole` or, without one, a copy of the word. That text is made before
-    /// the lock is taken alone, and dropped if another thread has added the word meanwhile.
+    /// the lock is taken again, and dropped if another thread has added the word meanwhile.
     pub(crate) fn find_or_add(
         &self,
         rt: &impl Wait,
@@ -149,7 +149,7 @@ impl<S: BuildHasher> SharedInterner<S> {
         }
         let text = text_to_keep(rt, self.alloc, word, whole)?;
         let shard = shard_of(hash, self.shards.len());
-        let mut slots = self.shards[shard].write(rt);
+        let mut slots = self.shards[shard].lock(rt);
         match find_in(&self.texts, &slots, hash, word) {
             Some(symbol) => Ok(symbol),
             None => self.add(rt, &mut slots, hash, text),

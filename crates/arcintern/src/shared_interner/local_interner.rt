@@ -7,14 +7,14 @@ ghost use Rattle.arcintern.specs.Texts.{IsSymbolOf, IsSymbolOfWord};
 
 use crate::fault::InternFault;
 use crate::shared_interner::{SharedInterner, SharedSymbol};
-use arcstr::ArcStr;
+use crate::slots::half_of;
 use std::alloc::Global;
 use std::hash::{BuildHasher, BuildHasherDefault, FoldHasher};
 use std::marker::Model;
 use std::sync::Wait;
 
 /// How many symbols a cache has room for.
-const PLACES: usize = 1024;
+const PLACES: usize = 8192;
 
 /// A `SharedInterner` with a cache for one thread: the symbols of words that the thread has interned or found. A word that the cache
 /// has costs no lock and no atomic step. So threads that meet the same words again and again do not wait for each other.
@@ -31,6 +31,8 @@ const PLACES: usize = 1024;
 #[derive(Drop)]
 pub struct LocalInterner<'a, S: BuildHasher = BuildHasherDefault<FoldHasher>> {
     interner: &'a SharedInterner<S>,
+    /// For each place half of the hash of its word. A word with another half is passed over without a look at its text.
+    halves: Vec<u32>,
     cache: Vec<Option<Cached<'a>>>,
 }
 
@@ -38,7 +40,7 @@ pub struct LocalInterner<'a, S: BuildHasher = BuildHasherDefault<FoldHasher>> {
 #[derive(Drop)]
 struct Cached<'a> {
     symbol: SharedSymbol,
-    text: &'a ArcStr,
+    text: &'a str,
 }
 
 impl<'a, S: BuildHasher> Model for LocalInterner<'a, S> {
@@ -53,12 +55,12 @@ impl<'a, S: BuildHasher> Model for LocalInterner<'a, S> {
 
     ghost view = { λ local. local.interner.now };
 
-    ghost invariant = { λ local. (length local.cache.items ≡ PLACES)
-        × All (λ place. IfSome place (λ cached. IsSymbolOfWord local.interner.now cached.symbol cached.text.now.text)) local.cache.items };
+    ghost invariant = { λ local. (length local.halves.items ≡ PLACES) × (length local.cache.items ≡ PLACES)
+        × All (λ place. IfSome place (λ cached. IsSymbolOfWord local.interner.now cached.symbol cached.text.now)) local.cache.items };
 }
 
 impl<S: BuildHasher> SharedInterner<S> {
-    /// Returns this interner with an empty cache for one thread, which takes 40 KiB. `Memory` is the only fault.
+    /// Returns this interner with an empty cache for one thread, which takes 416 KiB. `Memory` is the only fault.
     ///
     /// ```
     /// let interner = SharedInterner::new(rt.alloc(), 8)?;
@@ -70,9 +72,12 @@ impl<S: BuildHasher> SharedInterner<S> {
         ensures of { IfOk result (λ local. local ≡ self.now) }
         ensures fault { IfErr result (λ fault. fault ≡ InternFault.Memory) }
     {
+        let mut halves = Vec::with_capacity(alloc, PLACES)?;
+        halves.resize(PLACES, 0)?;
         let cache = empty_cache(alloc)?;
         Ok(LocalInterner {
             interner: self,
+            halves,
             cache,
         })
     }
@@ -143,8 +148,13 @@ impl<'a, S: BuildHasher> LocalInterner<'a, S> {
     fn cached(&self, hash: u64, word: &str) -> Option<SharedSymbol>
         ensures { IfSome result (λ symbol. IsSymbolOfWord self.now symbol word.now) }
     {
-        match &self.cache[place_of(hash)] {
-            Some(cached) if cached.text.eq_str(word) => Some(cached.symbol.again()),
+        let half = half_of(hash);
+        let place = place_of(half);
+        if self.halves[place] != half {
+            return None;
+        }
+        match &self.cache[place] {
+            Some(cached) if cached.text == word => Some(cached.symbol.again()),
             _ => None,
         }
     }
@@ -154,19 +164,22 @@ impl<'a, S: BuildHasher> LocalInterner<'a, S> {
         requires { IsSymbolOf self.old symbol.now }
         ensures { self.new ≡ self.old }
     {
-        let text = self.interner.text(symbol);
-        self.cache[place_of(hash)] = Some(Cached {
+        let text = self.interner.text(symbol).as_str();
+        let half = half_of(hash);
+        let place = place_of(half);
+        self.halves[place] = half;
+        self.cache[place] = Some(Cached {
             symbol: symbol.again(),
             text,
         });
     }
 }
 
-/// The place of the words with this hash in a cache.
-fn place_of(hash: u64) -> usize
+/// The place in a cache of the words with this half of a hash.
+fn place_of(half: u32) -> usize
     ensures { result < PLACES }
 {
-    (hash % PLACES as u64) as usize
+    half as usize % PLACES
 }
 
 /// A cache without symbols.

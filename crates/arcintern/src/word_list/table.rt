@@ -121,8 +121,11 @@ impl WordTable {
     }
 
     /// The texts, in the order of their numbers.
+    #[tactic(auto, using(crate::proofs::Words::as_many_pieces_as_ends))]
     pub(crate) fn iter(&self) -> WordListIter<'_>
-        ensures { result ≡ self.now.texts }
+        ensures texts { result ≡ self.now.texts }
+        ensures most { length self.now.texts ≤ MOST_TEXTS }
+        ensures once { AreDistinct self.now.texts }
     {
         WordListIter {
             bytes: self.bytes.as_str(),

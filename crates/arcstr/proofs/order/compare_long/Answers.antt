@@ -4,7 +4,7 @@ use Rattle.arcstr.proofs.order.compare_long.Goals as goal
 
 pub returns-then-is_ne : goal.returns-then-is_ne
 returns-then-is_ne c =
-    by_prefixes 64 c.args.one.now c.args.other.now _ (omega arith) (omega arith) c.order_of_block-found.ensures (sym c.is_ne.ensures ∙ c.if-is_ne.true)
+    by_prefixes 64 c.args.one.now c.args.other.now _ c.requires.0 c.requires.1 c.order_of_block-found.ensures (sym c.is_ne.ensures ∙ c.if-is_ne.true)
 
 pub returns-then-one-eq64 : goal.returns-then-one-eq64
 returns-then-one-eq64 c =

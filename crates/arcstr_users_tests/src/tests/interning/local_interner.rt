@@ -12,7 +12,7 @@ use std::thread::Threads;
 const THREADS: usize = 8;
 
 /// How many words are interned: more than a cache has places.
-const WORDS: usize = 3_000;
+const WORDS: usize = 10_000;
 
 /// The word of a number.
 fn word_of(alloc: Global, number: usize) -> Result<String, AllocError> {
