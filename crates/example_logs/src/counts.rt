@@ -5,11 +5,14 @@ ghost use Rattle.arcstr_range.specs.View.{IsFoundAt};
 use anyhow::Result;
 use arcstr::view::StrView;
 use arcstr::{ArcStr, Substr};
-use regex::Matcher;
+use regex::{Matcher, Regex};
 use std::alloc::{AllocError, Global};
 use std::collections::HashMap;
 use std::sync::Wait;
 use thiserror::Error;
+
+/// A request: the time, the method, the path and the status. Group 1 is the path.
+const REQUEST: &str = r"^\S+ [A-Z]+ (/\S*) \d{3}$";
 
 /// The number of lines between two lines of progress.
 const PROGRESS: usize = 100_000;
@@ -22,13 +25,6 @@ pub struct Fault {
     pub start: usize,
 }
 
-/// A path, and how often it was asked for.
-#[derive(Drop)]
-pub struct Requests {
-    pub path: ArcStr,
-    pub count: u64,
-}
-
 /// The number of requests for each path, and the lines that are no requests. Each key is a slice, which keeps the whole log alive.
 #[derive(Drop)]
 pub struct Counts {
@@ -38,7 +34,13 @@ pub struct Counts {
 
 impl Counts {
     /// Counts the requests of a log. For a large log, prints the progress to standard error.
-    pub fn read(
+    pub fn read(rt: &(impl Wait + Eprint), alloc: Global, log: &ArcStr) -> Result<Counts> {
+        let request = Regex::new(alloc, REQUEST)?;
+        Counts::matched(rt, alloc, log, &mut request.matcher(alloc)?)
+    }
+
+    /// Counts the requests that the matcher finds. The check proves the loop in a function of its own, with no `?` before it.
+    fn matched(
         rt: &(impl Wait + Eprint),
         alloc: Global,
         log: &ArcStr,
@@ -48,9 +50,8 @@ impl Counts {
             by_path: HashMap::new(alloc),
             faults: Vec::new(alloc),
         };
-        let mut number: usize = 0;
-        for line in log.view().lines() {
-            number = number.saturating_add(1);
+        for (before, line) in log.view().lines().enumerate() {
+            let number = before + 1;
             match path_of(matcher, log, &line) {
                 Some(path) => counts.add(rt, log, path)?,
                 None => counts.faults.push(Fault {
@@ -78,19 +79,15 @@ impl Counts {
         Ok(())
     }
 
-    /// Returns the most frequent paths, at most `most` of them, and paths with equal counts in their order. Each is copied, so that it does not keep the log
-    /// alive.
-    pub fn most_frequent(&self, alloc: Global, most: usize) -> Result<Vec<Requests>> {
+    /// Returns the most frequent paths, at most `most` of them, with their counts, and paths with equal counts in their order. Each path is copied, so that it
+    /// does not keep the log alive.
+    pub fn most_frequent(&self, alloc: Global, most: usize) -> Result<Vec<(ArcStr, u64)>> {
         let mut counts: Vec<(&Substr, &u64)> = self.by_path.iter().collect(alloc)?;
         counts.sort_by(|one, other| other.1.cmp(one.1).then(one.0.cmp(other.0)))?;
         counts.truncate(most);
         let mut copies = Vec::new(alloc);
         for (path, count) in counts {
-            let path = path.to_arc_str(alloc)?;
-            copies.push(Requests {
-                path,
-                count: *count,
-            })?;
+            copies.push((path.to_arc_str(alloc)?, *count))?;
         }
         Ok(copies)
     }

@@ -7,17 +7,13 @@ mod command;
 mod counts;
 
 use crate::command::Command;
-use crate::counts::{Counts, Requests};
+use crate::counts::{Counts, Fault};
 use anyhow::{Context, Result};
 use arcstr::ArcStr;
-use regex::Regex;
 use std::process::ExitCode;
 use std::rt::Files;
 use std::sync::Wait;
 use std::{env, fs, io};
-
-/// A request: the time, the method, the path and the status. Group 1 is the path.
-const REQUEST: &str = r"^\S+ [A-Z]+ (/\S*) \d{3}$";
 
 /// The number of characters of the longest bar.
 const WIDTH: u64 = 40;
@@ -36,27 +32,35 @@ fn main(rt: HostRuntime) -> Result<ExitCode> {
     }
 }
 
-/// Reads the log and prints its faults. Returns the most frequent paths, which are copies: the log and all slices of it are freed here.
+/// Reads the log and prints its faults. Returns the most frequent paths with their counts. They are copies: the log and all slices of it are freed here.
 fn most_frequent<R: AllocGlobal + Files + Print + Eprint + Wait>(
     rt: &R,
     command: Command<'_>,
-) -> Result<Vec<Requests>> {
-    let text = fs::read_to_string(rt, command.file).context(command.file)?;
-    let log = ArcStr::from_str(rt.alloc(), &text)?;
-    let request = Regex::new(rt.alloc(), REQUEST)?;
-    let counts = Counts::read(rt, rt.alloc(), &log, &mut request.matcher(rt.alloc())?)?;
-    for fault in &counts.faults {
-        println!(rt; "{fault}")?;
-    }
+) -> Result<Vec<(ArcStr, u64)>> {
+    let log = read_log(rt, command.file)?;
+    let counts = Counts::read(rt, rt.alloc(), &log)?;
+    print_faults(rt, &counts.faults)?;
     let handles = ArcStr::strong_count(&log).unwrap_or(0);
     println!(rt; "{handles} handles keep {} bytes of log alive", log.len())?;
     counts.most_frequent(rt.alloc(), command.top)
 }
 
+fn read_log<R: AllocGlobal + Files>(rt: &R, file: &str) -> Result<ArcStr> {
+    let text = fs::read_to_string(rt, file).context(file)?;
+    Ok(ArcStr::from_str(rt.alloc(), &text)?)
+}
+
+fn print_faults(rt: &impl Print, faults: &[Fault]) -> io::Result<()> {
+    for fault in faults {
+        println!(rt; "{fault}")?;
+    }
+    Ok(())
+}
+
 /// Prints a line for each path. The first path has the longest bar.
-fn print_chart(rt: &impl Print, all: &[Requests]) -> io::Result<()> {
-    let most = all.first().map_or(1, |first| first.count);
-    for Requests { path, count } in all {
+fn print_chart(rt: &impl Print, all: &[(ArcStr, u64)]) -> io::Result<()> {
+    let most = all.first().map_or(1, |(_, count)| *count);
+    for (path, count) in all {
         let length = bar_length(*count, most);
         println!(rt; "{path:<24} {:#<length$} {count}", "")?;
     }
