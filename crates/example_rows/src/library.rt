@@ -80,7 +80,7 @@ impl Library {
         let rows = self.database.query_all(ALL_BOOKS, &[])?;
         let mut books = Vec::new(alloc);
         for row in &rows {
-            let book = book_of(rt, alloc, row, books.last())?;
+            let book = book_of(rt, row, books.last())?;
             books.push(book)?;
         }
         Ok(books)
@@ -88,16 +88,16 @@ impl Library {
 }
 
 /// The book of a row. If the one before has the same author, they share the author's text.
-fn book_of(rt: &impl Wait, alloc: Global, row: &Row, before: Option<&Book>) -> Result<Book> {
+fn book_of(rt: &impl Wait, row: &Row, before: Option<&Book>) -> Result<Book> {
     let author: String = row.get(0)?;
     let title: String = row.get(1)?;
     let author = match before {
         Some(book) if book.author.eq_str(&author) => book.author.clone(rt),
-        _ => ArcStr::from_str(alloc, &author)?,
+        _ => ArcStr::try_from(author)?,
     };
     Ok(Book {
         author,
-        title: ArcStr::from_str(alloc, &title)?,
+        title: ArcStr::try_from(title)?,
         year: row.get(2)?,
     })
 }
