@@ -30,3 +30,4 @@ mod static_str;
 mod substr;
 mod text;
 mod trimming;
+mod values;
