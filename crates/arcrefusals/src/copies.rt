@@ -20,7 +20,9 @@ pub(crate) fn run<R: Machine>(rt: &R) -> io::Result<()> {
     again::<ArcStr, String, R>(rt, "String::from_iter of texts", 2, "foobarfoobar", 1)?;
     again::<Substr, String, R>(rt, "String::extend by slices", 2, "barbar", 1)?;
     again::<ArcStr, Value, R>(rt, "ArcStr::to_value", 1, "foobar", 1)?;
-    again::<Substr, Value, R>(rt, "Substr::to_value", 1, "bar", 1)
+    again::<Substr, Value, R>(rt, "Substr::to_value", 1, "bar", 1)?;
+    again::<ArcStr, toml::Value, R>(rt, "ArcStr::to_value of toml", 0, "foobar", 1)?;
+    again::<Substr, toml::Value, R>(rt, "Substr::to_value of toml", 0, "bar", 1)
 }
 
 impl Given for ArcStr {
@@ -62,6 +64,12 @@ impl Made for String {
 }
 
 impl Made for Value {
+    fn is(&self, wanted: &str, _handles: usize) -> bool {
+        self.as_str() == Some(wanted)
+    }
+}
+
+impl Made for toml::Value {
     fn is(&self, wanted: &str, _handles: usize) -> bool {
         self.as_str() == Some(wanted)
     }
@@ -128,6 +136,20 @@ impl Calls<Substr> for Value {
         }
         let slice: &Substr = slice;
         Ok(slice.to_value(rt.alloc())?)
+    }
+}
+
+impl Calls<ArcStr> for toml::Value {
+    fn call<R: Machine>(rt: &R, text: &mut ArcStr, _: usize) -> Result<toml::Value, Stop> {
+        let text: &ArcStr = text;
+        Ok(toml::macros::ToValue::to_value(text, rt.alloc())?)
+    }
+}
+
+impl Calls<Substr> for toml::Value {
+    fn call<R: Machine>(rt: &R, slice: &mut Substr, _: usize) -> Result<toml::Value, Stop> {
+        let slice: &Substr = slice;
+        Ok(toml::macros::ToValue::to_value(slice, rt.alloc())?)
     }
 }
 

@@ -19,3 +19,4 @@ mod splitting;
 mod steps;
 mod threads;
 mod trimming;
+mod values;
