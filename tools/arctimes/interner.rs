@@ -113,7 +113,7 @@ fn list_all(list: &mut WordList, words: &[&str]) -> Result<usize, InternFault> {
 fn time_frozen<M: Machine>(rt: &M, request: &Request, words: &[&str]) -> Result<()> {
     let interner = SharedInterner::new(rt.alloc(), SHARDS)?;
     intern_share(rt, &interner, words, 0, 1)?;
-    let frozen = interner.freeze()?;
+    let frozen = interner.freeze();
     request.time_each(rt, words, words.len(), |word| index_in(&frozen, word))
 }
 

@@ -1,22 +1,22 @@
 //! `SharedInterner`: each distinct text once, for threads.
 //!
-//! Each call with a handle `rt` can wait: for a thread that is looking in the same shard, or adding a text to the list.
+//! Each call with a handle `rt` can wait, but only for a new word: for a thread that adds a text to the same shard, or to the list.
 ghost use Rattle.std.specs.Prelude.{◌≡◌, ◌≤◌, IfErr, IfOk, IfSome, length};
 ghost use Rattle.arcintern.specs.Texts.{IsSymbolOf};
 
 use crate::fault::InternFault;
-use crate::slots::Slots;
 use crate::symbol::Symbol;
 use arcstr::ArcStr;
 use std::alloc::Global;
 use std::fmt;
 use std::hash::{BuildHasher, BuildHasherDefault, FoldHasher};
 use std::marker::Model;
-use std::sync::Mutex;
+use shard::Shard;
 
 mod frozen_interner;
 mod interning;
 mod local_interner;
+mod shard;
 mod shared_symbol;
 mod shared_texts;
 
@@ -27,10 +27,13 @@ pub use shared_texts::SharedTexts;
 
 /// Keeps each distinct text once, as an `ArcStr`, for any number of threads.
 ///
-/// The hash of a word picks one of 1 to 64 shards. A shard has a lock, under which it finds the numbers of its texts. The texts
-/// themselves lie in one list that only grows, and are read without a lock. So a symbol stands for one text as long as the interner
-/// lives, whatever other threads do. The numbers are 0, 1, 2 and so on, in the order in which the
-/// texts were added. Only a call that runs out of memory while other threads add texts can leave a number without a text.
+/// The hash of a word picks one of 1 to 64 shards. A shard has a table of the numbers of its texts, and a lock for whoever adds one. The
+/// texts themselves lie in one list that only grows. A known word and a text are read without a lock. So a symbol stands for one text
+/// as long as the interner lives, whatever other threads do. The numbers are 0, 1, 2 and so on, in the order in which the texts were
+/// added. Only a call that runs out of memory while other threads add texts can leave a number without a text.
+///
+/// A table that is too short is kept until the interner is dropped, since a thread may be reading it. `with_capacity` makes tables that
+/// need not grow.
 ///
 /// The contracts do not say that a call succeeds, that a word has one number, which number is next, or what `len` answers: the tests
 /// `threads_agree_on_eight_shards`, `words_are_numbered_as_they_come` and `words_are_told_apart` check that.
@@ -45,7 +48,7 @@ pub use shared_texts::SharedTexts;
 /// ```
 #[derive(Drop)]
 pub struct SharedInterner<S: BuildHasher = BuildHasherDefault<FoldHasher>> {
-    shards: Vec<Mutex<Slots>>,
+    shards: Vec<Shard>,
     texts: boxcar::Vec<ArcStr>,
     alloc: Global,
     hash_builder: S,
@@ -66,7 +69,7 @@ impl<S: BuildHasher> Model for SharedInterner<S> {
 
 impl SharedInterner<BuildHasherDefault<FoldHasher>> {
     /// Makes an interner without texts. The caller must ensure that there are 1 to 64 shards. A power of two is best, as many as
-    /// threads or more. `Memory` is the only fault.
+    /// threads or more. A shard takes 1.7 KB. `Memory` is the only fault.
     ///
     /// ```
     /// let interner = SharedInterner::new(rt.alloc(), 1)?;
@@ -249,14 +252,14 @@ impl<S: BuildHasher> fmt::Debug for SharedInterner<S> {
 }
 
 /// Shards without texts, each with room for this many.
-fn empty_shards(alloc: Global, shards: usize, room: usize) -> Result<Vec<Mutex<Slots>>, InternFault>
+fn empty_shards(alloc: Global, shards: usize, room: usize) -> Result<Vec<Shard>, InternFault>
     ensures len { IfOk result (λ tables. length tables.items ≡ shards) }
     ensures fault { IfErr result (λ fault. fault ≡ InternFault.Memory) }
 {
     let mut tables = Vec::with_capacity(alloc, shards)?;
     let mut count = 0;
     while count < shards {
-        tables.push_reserved(Mutex::new(Slots::with_capacity(alloc, room)?));
+        tables.push_reserved(Shard::with_capacity(alloc, room)?);
         count += 1;
     }
     Ok(tables)

@@ -1,7 +1,7 @@
 //! Calls of an interner, with and without texts. A refusal leaves its texts as they were, and the same call then succeeds.
 use crate::calls::{Calls, Given, Machine, Made, Stop, again, check, count, is_text};
 use arcintern::{
-    FrozenInterner, Interner, SharedInterner, SharedSymbol, Symbol, SymbolMap, WordList,
+    Interner, SharedInterner, SharedSymbol, Symbol, SymbolMap, WordList,
 };
 use arcstr::{ArcStr, Substr};
 use std::alloc::{AllocError, Global};
@@ -31,8 +31,7 @@ pub(crate) fn run<R: Machine>(rt: &R) -> io::Result<()> {
     again::<SharedWords<FULL>, SharedInterner, R>(rt, "SharedInterner::intern_static", 1, "", 0)?;
     again::<SharedWords<FULL>, SharedInterner, R>(rt, "LocalInterner::intern", 2, "", 0)?;
     let line = "SharedInterner::intern of a known word";
-    again::<SharedWords<FULL>, SharedInterner, R>(rt, line, 3, "", 0)?;
-    again::<SharedWords<FULL>, FrozenInterner, R>(rt, "SharedInterner::freeze", 0, "", 0)
+    again::<SharedWords<FULL>, SharedInterner, R>(rt, line, 3, "", 0)
 }
 
 /// An interner whose last text is this one, or which has none if the text is empty.
@@ -286,7 +285,7 @@ impl<const TEXTS: usize> Given for SharedWords<TEXTS> {
     fn is_unchanged<R: Machine>(&self, rt: &R) -> bool {
         match &self.0 {
             None => true,
-            Some(interner) => interner.len() == TEXTS && interner.get(rt, "foobar").is_none(),
+            Some(interner) => interner.len() == TEXTS && interner.get("foobar").is_none(),
         }
     }
 }
@@ -340,7 +339,7 @@ fn is_found(
     handles: usize,
 ) -> bool {
     match (
-        interner.get(rt, "foobar"),
+        interner.get("foobar"),
         interner.symbol_at(symbol.number()),
     ) {
         (Some(found), Some(there)) => {
@@ -350,27 +349,3 @@ fn is_found(
     }
 }
 
-impl Made for FrozenInterner {
-    fn is(&self, _wanted: &str, _handles: usize) -> bool {
-        self.len() == FULL && self.get("0").is_some() && self.get("foobar").is_none()
-    }
-}
-
-impl Calls<SharedWords<FULL>> for FrozenInterner {
-    fn call<R: Machine>(
-        _rt: &R,
-        words: &mut SharedWords<FULL>,
-        _: usize,
-    ) -> Result<FrozenInterner, Stop> {
-        let Some(interner) = words.0.take() else {
-            return Err(Stop::Differs);
-        };
-        match interner.freeze() {
-            Ok(frozen) => Ok(frozen),
-            Err(failed) => {
-                words.0 = Some(failed.value);
-                Err(Stop::Refused)
-            }
-        }
-    }
-}

@@ -1,5 +1,5 @@
 //! The calls that intern a text, and that find one by its word.
-ghost use Rattle.std.specs.Prelude.{◌≡◌, ◌+◌, ◌*◌, ◌<◌, ◌≤◌, IfErr, IfOk, IfSome, IsErrOf, IsNone, length};
+ghost use Rattle.std.specs.Prelude.{◌≡◌, ◌<◌, ◌≤◌, IfOk, IfSome, IsErrOf, IsNone, length};
 ghost use Rattle.arcstr.specs.Making.{IsTooLong};
 ghost use Rattle.arcstr.specs.Substr.{text_of};
 ghost use Rattle.arcintern.specs.Texts.{IsSymbolOf, IsSymbolOfWord, IsWhole};
@@ -7,8 +7,9 @@ ghost use Rattle.arcintern.specs.Texts.{IsSymbolOf, IsSymbolOfWord, IsWhole};
 use crate::fault::InternFault;
 use crate::interner::{MOST_TEXTS, copy_of, is_whole};
 use crate::shared_interner::SharedInterner;
+use crate::shared_interner::shard::Shard;
 use crate::shared_interner::shared_symbol::SharedSymbol;
-use crate::slots::{Slots, half_of, hash_of_word};
+use crate::slots::{half_of, hash_of_word};
 use arcstr::{ArcStr, Substr};
 use std::alloc::Global;
 use std::hash::BuildHasher;
@@ -99,19 +100,20 @@ impl<S: BuildHasher> SharedInterner<S> {
         }
     }
 
-    /// Returns the symbol of the text that spells this word, or `None` if there was none when the call took the lock. Does not allocate.
+    /// Returns the symbol of the text that spells this word, or `None` if there was none when the call began. Takes no lock, never waits,
+    /// and does not allocate.
     ///
     /// ```
     /// let interner = SharedInterner::new(rt.alloc(), 8)?;
     /// let symbol = interner.intern(&rt, "foo")?;
-    /// let found = interner.get(&rt, "foo");
+    /// let found = interner.get("foo");
     /// assert!(rt; found.is_some_and(|found| found.number() == symbol.number()));
-    /// assert!(rt; interner.get(&rt, "fo").is_none());
+    /// assert!(rt; interner.get("fo").is_none());
     /// ```
-    pub fn get(&self, rt: &impl Wait, word: &str) -> Option<SharedSymbol>
+    pub fn get(&self, word: &str) -> Option<SharedSymbol>
         ensures { IfSome result (λ symbol. IsSymbolOfWord self.now symbol word.now) }
     {
-        self.find(rt, self.hash_of(word), word)
+        self.find(self.hash_of(word), word)
     }
 
     /// The hash of the word.
@@ -120,12 +122,20 @@ impl<S: BuildHasher> SharedInterner<S> {
     }
 
     /// The symbol of the word with this hash.
-    pub(crate) fn find(&self, rt: &impl Wait, hash: u64, word: &str) -> Option<SharedSymbol>
+    pub(crate) fn find(&self, hash: u64, word: &str) -> Option<SharedSymbol>
         ensures { IfSome result (λ symbol. IsSymbolOfWord self.now symbol word.now) }
     {
-        let shard = shard_of(hash, self.shards.len());
-        let slots = self.shards[shard].lock(rt);
-        find_in(&self.texts, &slots, hash, word)
+        let shard = &self.shards[shard_of(hash, self.shards.len())];
+        self.find_in(shard, hash, word)
+    }
+
+    /// The symbol of the word with this hash, in the table of its shard.
+    fn find_in(&self, shard: &Shard, hash: u64, word: &str) -> Option<SharedSymbol>
+        ensures { IfSome result (λ symbol. IsSymbolOfWord self.now symbol word.now) }
+    {
+        let slots = shard.slots()?;
+        let texts = &self.texts;
+        slots.find(half_of(hash), |number| symbol_if_word(texts, number, word))
     }
 
     /// The symbol of the word with this hash. If there is none, the text becomes `whole` or, without one, a copy of the word. That text is made before
@@ -141,18 +151,18 @@ impl<S: BuildHasher> SharedInterner<S> {
         ensures word { IfOk result (λ symbol. IsSymbolOfWord self.now symbol word.now) }
         ensures too_long { IsErrOf result InternFault.Length → IsNone whole.entry × IsTooLong (length word.now) }
     {
-        if let Some(symbol) = self.find(rt, hash, word) {
+        if let Some(symbol) = self.find(hash, word) {
             return Ok(symbol);
         }
         if self.len() >= MOST_TEXTS {
             return Err(InternFault::Full);
         }
         let text = text_to_keep(rt, self.alloc, word, whole)?;
-        let shard = shard_of(hash, self.shards.len());
-        let mut slots = self.shards[shard].lock(rt);
-        match find_in(&self.texts, &slots, hash, word) {
+        let shard = &self.shards[shard_of(hash, self.shards.len())];
+        let mut used = shard.used.lock(rt);
+        match self.find_in(shard, hash, word) {
             Some(symbol) => Ok(symbol),
-            None => self.add(rt, &mut slots, hash, text),
+            None => self.add(rt, shard, &mut used, hash, text),
         }
     }
 
@@ -161,7 +171,8 @@ impl<S: BuildHasher> SharedInterner<S> {
     fn add(
         &self,
         rt: &impl Wait,
-        slots: &mut Slots,
+        shard: &Shard,
+        used: &mut usize,
         hash: u64,
         text: ArcStr,
     ) -> Result<SharedSymbol, InternFault>
@@ -169,7 +180,7 @@ impl<S: BuildHasher> SharedInterner<S> {
         ensures text { IfOk result (λ symbol. symbol.text ≡ text) }
         ensures never_too_long { ¬ (IsErrOf result InternFault.Length) }
     {
-        slots.make_room()?;
+        let slots = shard.slots_with_room(*used)?;
         let Ok(text) = self.texts.push_shown(rt, text) else {
             return Err(InternFault::Memory);
         };
@@ -177,20 +188,9 @@ impl<S: BuildHasher> SharedInterner<S> {
             return Err(InternFault::Full);
         }
         slots.put(half_of(hash), text.index() as u32);
+        *used = used.saturating_add(1);
         Ok(SharedSymbol { text })
     }
-}
-
-/// The symbol of the word with this hash, in the table of its shard.
-pub(crate) fn find_in(
-    texts: &boxcar::Vec<ArcStr>,
-    slots: &Slots,
-    hash: u64,
-    word: &str,
-) -> Option<SharedSymbol>
-    ensures { IfSome result (λ symbol. IsSymbolOfWord texts.now symbol word.now) }
-{
-    slots.find(half_of(hash), |number| symbol_if_word(texts, number, word))
 }
 
 /// The symbol of this number, if its text spells the word.

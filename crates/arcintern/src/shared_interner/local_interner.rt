@@ -1,6 +1,6 @@
 //! A shared interner in the hands of one thread.
 //!
-//! Each call with a handle `rt` can wait, as those of `SharedInterner` can, unless the cache has the word.
+//! Each call with a handle `rt` can wait, as those of `SharedInterner` can, but only for a new word.
 ghost use Rattle.std.specs.Prelude.{◌≡◌, ◌%◌, ◌<◌, All, IfErr, IfOk, IfSome, IsErrOf, None, length};
 ghost use Rattle.arcstr.specs.Making.{IsTooLong};
 ghost use Rattle.arcintern.specs.Texts.{IsSymbolOf, IsSymbolOfWord};
@@ -17,7 +17,7 @@ use std::sync::Wait;
 const PLACES: usize = 8192;
 
 /// A `SharedInterner` with a cache for one thread: the symbols of words that the thread has interned or found. A word that the cache
-/// has costs no lock and no atomic step. So threads that meet the same words again and again do not wait for each other.
+/// has is found beside its text, without the interner's table and list.
 ///
 /// Each word has one place in the cache, which it shares with others: the last of them is there.
 ///
@@ -84,7 +84,7 @@ impl<S: BuildHasher> SharedInterner<S> {
 }
 
 impl<'a, S: BuildHasher> LocalInterner<'a, S> {
-    /// As `SharedInterner::intern`. Does not wait if the cache has the word.
+    /// As `SharedInterner::intern`.
     ///
     /// ```
     /// let interner = SharedInterner::new(rt.alloc(), 8)?;
@@ -107,17 +107,17 @@ impl<'a, S: BuildHasher> LocalInterner<'a, S> {
         Ok(symbol)
     }
 
-    /// As `SharedInterner::get`. Does not wait if the cache has the word.
+    /// As `SharedInterner::get`.
     ///
     /// ```
     /// let interner = SharedInterner::new(rt.alloc(), 8)?;
     /// let mut local = interner.local(rt.alloc())?;
-    /// assert!(rt; local.get(&rt, "foo").is_none());
+    /// assert!(rt; local.get("foo").is_none());
     /// let symbol = interner.intern(&rt, "foo")?;
-    /// let found = local.get(&rt, "foo");
+    /// let found = local.get("foo");
     /// assert!(rt; found.is_some_and(|found| found.number() == symbol.number()));
     /// ```
-    pub fn get(&mut self, rt: &impl Wait, word: &str) -> Option<SharedSymbol>
+    pub fn get(&mut self, word: &str) -> Option<SharedSymbol>
         ensures word { IfSome result (λ symbol. IsSymbolOfWord self.old symbol word.now) }
         ensures same { self.new ≡ self.old }
     {
@@ -125,7 +125,7 @@ impl<'a, S: BuildHasher> LocalInterner<'a, S> {
         if let Some(symbol) = self.cached(hash, word) {
             return Some(symbol);
         }
-        let symbol = self.interner.find(rt, hash, word)?;
+        let symbol = self.interner.find(hash, word)?;
         self.keep(hash, &symbol);
         Some(symbol)
     }

@@ -58,7 +58,7 @@ fn check_shared(
     let symbol = &interner.intern(rt, word).expect(rt, "refused");
     check_eq!(rt; symbol.number().index(), index);
     check_eq!(rt; interner.text(symbol).as_str(), word);
-    let found = &interner.get(rt, word).expect(rt, "not found");
+    let found = &interner.get(word).expect(rt, "not found");
     check_eq!(rt; found.number().index(), index);
 }
 
@@ -70,7 +70,7 @@ fn a_shared_interner_tells_words_of_one_hash_apart(ref rt: HostRuntime) {
             check_shared(rt, &interner, word, index);
         }
     }
-    check!(rt; interner.get(rt, "fo").is_none());
+    check!(rt; interner.get("fo").is_none());
     check_eq!(rt; interner.len(), WORDS.len());
     let mut local = interner.local(rt.alloc()).expect(rt, "refused");
     for _ in 0..2 {
@@ -78,9 +78,9 @@ fn a_shared_interner_tells_words_of_one_hash_apart(ref rt: HostRuntime) {
             check_eq!(rt; local.intern(rt, word).expect(rt, "refused").number().index(), index);
         }
     }
-    check!(rt; local.get(rt, "fo").is_none());
+    check!(rt; local.get("fo").is_none());
     drop(local);
-    let frozen = interner.freeze().expect(rt, "refused");
+    let frozen = interner.freeze();
     for (index, word) in WORDS.iter().enumerate() {
         let found = frozen.get(word).expect(rt, "not found");
         check_eq!(rt; found.number().index(), index);

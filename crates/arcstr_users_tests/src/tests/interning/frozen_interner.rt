@@ -37,7 +37,7 @@ fn check_frozen<R: Abort + AllocGlobal + Wait>(rt: &R, shards: usize)
             .intern(rt, &word_of(rt, number))
             .expect(rt, "refused");
     }
-    let frozen = &interner.freeze().expect(rt, "refused");
+    let frozen = &interner.freeze();
     for number in 0..WORDS {
         check_word(rt, frozen, &word_of(rt, number), number);
     }
@@ -67,7 +67,7 @@ fn a_frozen_interner_has_what_it_had(rt: HostRuntime) {
 #[test]
 fn an_empty_interner_is_frozen(ref rt: HostRuntime) {
     let interner = SharedInterner::new(rt.alloc(), 8).expect(rt, "refused");
-    let frozen = interner.freeze().expect(rt, "refused");
+    let frozen = interner.freeze();
     check!(rt; frozen.is_empty());
     check!(rt; frozen.get("").is_none());
 }
@@ -77,7 +77,7 @@ fn symbols_stay_when_an_interner_is_frozen(ref rt: HostRuntime) {
     let text = &made(rt, "foobar");
     let interner = SharedInterner::new(rt.alloc(), 8).expect(rt, "refused");
     let symbol = interner.intern_arc(rt, text).expect(rt, "refused");
-    let frozen = interner.freeze().expect(rt, "refused");
+    let frozen = interner.freeze();
     check_eq!(rt; frozen.text(&symbol).as_str(), "foobar");
     check_eq!(rt; ArcStr::strong_count(text), Some(2));
     drop(frozen);

@@ -28,9 +28,9 @@ fn check_word(rt: &(impl Abort + Wait), local: &mut LocalInterner<'_>, word: &st
         check_eq!(rt; text.as_str(), word);
         check_eq!(rt; ArcStr::strong_count(text), Some(1));
     }
-    let found = &local.get(rt, word).expect(rt, "not found");
+    let found = &local.get(word).expect(rt, "not found");
     check_eq!(rt; found.number().index(), number);
-    let wanted = &local.interner().get(rt, word).expect(rt, "not found");
+    let wanted = &local.interner().get(word).expect(rt, "not found");
     check_eq!(rt; wanted.number().index(), number);
 }
 
@@ -50,16 +50,16 @@ fn a_local_interner_agrees_with_its_interner(ref rt: HostRuntime) {
     let interner = SharedInterner::new(rt.alloc(), 8).expect(rt, "refused");
     let mut local = interner.local(rt.alloc()).expect(rt, "refused");
     check_words(rt, &mut local);
-    check!(rt; local.get(rt, "word").is_none());
+    check!(rt; local.get("word").is_none());
 }
 
 #[test]
 fn a_word_of_another_thread_is_found(ref rt: HostRuntime) {
     let interner = SharedInterner::new(rt.alloc(), 8).expect(rt, "refused");
     let mut local = interner.local(rt.alloc()).expect(rt, "refused");
-    check!(rt; local.get(rt, "foo").is_none());
+    check!(rt; local.get("foo").is_none());
     interner.intern(rt, "foo").expect(rt, "refused");
-    check!(rt; local.get(rt, "foo").is_some());
+    check!(rt; local.get("foo").is_some());
 }
 
 /// Interns the words from the number `first` on and then those before it, twice, and answers their symbols in the order of the words.

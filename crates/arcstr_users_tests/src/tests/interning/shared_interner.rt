@@ -119,12 +119,43 @@ fn threads_agree_on_sixty_four_shards(rt: HostRuntime) {
     check_threads(&rt, 64);
 }
 
+/// Interns words of its own, and answers how many of them `get` then finds, and the first word too, while other threads add theirs.
+fn count_found(
+    rt: &impl Wait,
+    alloc: Global,
+    interner: &SharedInterner,
+    worker: usize,
+) -> Result<usize, InternFault> {
+    let first = format!(in alloc; "{worker} 0")?;
+    let mut found = 0_usize;
+    for number in 0..WORDS {
+        let word = format!(in alloc; "{worker} {number}")?;
+        let symbol = interner.intern(rt, &word)?.number();
+        let there = interner.get(&word).map(|there| there.number());
+        if there == Some(symbol) && interner.get(&first).is_some() {
+            found = found.wrapping_add(1);
+        }
+    }
+    Ok(found)
+}
+
+#[test]
+fn words_stay_found_while_tables_grow(ref rt: HostRuntime) {
+    let alloc = rt.alloc();
+    let interner = &SharedInterner::new(alloc, 1).expect(rt, "refused");
+    let work = |worker: usize| count_found(rt, alloc, interner, worker);
+    for found in thread::map_indices(rt, alloc, THREADS, &work).expect(rt, "refused") {
+        check_eq!(rt; found.expect(rt, "refused"), WORDS);
+    }
+    check_eq!(rt; interner.len(), THREADS * WORDS);
+}
+
 /// Asserts that the word is new, and then found with its text.
 fn check_new(rt: &(impl Abort + Wait), interner: &SharedInterner, word: &str) {
-    check!(rt; interner.get(rt, word).is_none());
+    check!(rt; interner.get(word).is_none());
     let number = interned(rt, interner, word);
     check!(rt; interned(rt, interner, word) == number);
-    let found = &interner.get(rt, word).expect(rt, "not found");
+    let found = &interner.get(word).expect(rt, "not found");
     check!(rt; found.number() == number);
     check_eq!(rt; interner.text(found).as_str(), word);
 }
