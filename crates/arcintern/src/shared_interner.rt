@@ -7,11 +7,11 @@ ghost use Rattle.arcintern.specs.Texts.{IsSymbolOf};
 use crate::fault::InternFault;
 use crate::symbol::Symbol;
 use arcstr::ArcStr;
+use shard::Shard;
 use std::alloc::Global;
 use std::fmt;
 use std::hash::{BuildHasher, BuildHasherDefault, FoldHasher};
 use std::marker::Model;
-use shard::Shard;
 
 mod frozen_interner;
 mod interning;

@@ -1,8 +1,6 @@
 //! Calls of an interner, with and without texts. A refusal leaves its texts as they were, and the same call then succeeds.
 use crate::calls::{Calls, Given, Machine, Made, Stop, again, check, count, is_text};
-use arcintern::{
-    Interner, SharedInterner, SharedSymbol, Symbol, SymbolMap, WordList,
-};
+use arcintern::{Interner, SharedInterner, SharedSymbol, Symbol, SymbolMap, WordList};
 use arcstr::{ArcStr, Substr};
 use std::alloc::{AllocError, Global};
 use std::sync::Wait;
@@ -338,14 +336,10 @@ fn is_found(
     symbol: &SharedSymbol,
     handles: usize,
 ) -> bool {
-    match (
-        interner.get("foobar"),
-        interner.symbol_at(symbol.number()),
-    ) {
+    match (interner.get("foobar"), interner.symbol_at(symbol.number())) {
         (Some(found), Some(there)) => {
             found.number() == symbol.number() && is_text(interner.text(&there), "foobar", handles)
         }
         _ => false,
     }
 }
-

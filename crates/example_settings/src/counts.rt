@@ -14,7 +14,6 @@ const SHARDS: usize = 16;
 #[derive(Drop)]
 pub struct Counts {
     shards: [RwLock<HashMap<ArcStr, u64>>; SHARDS],
-    hash_builder: BuildHasherDefault<FoldHasher>,
 }
 
 impl Counts {
@@ -22,7 +21,6 @@ impl Counts {
     pub fn new(alloc: Global) -> Counts {
         Counts {
             shards: array::from_fn(|_| RwLock::new(HashMap::new(alloc))),
-            hash_builder: BuildHasherDefault::new(),
         }
     }
 
@@ -36,25 +34,17 @@ impl Counts {
     ) -> Result<(), AllocError>
         requires { F.IsAlwaysCallable change }
     {
-        let shard = self.hash_builder.hash_one(text) as usize % SHARDS;
+        let shard = BuildHasherDefault::<FoldHasher>::new().hash_one(text) as usize % SHARDS;
         let mut numbers = self.shards[shard].write(rt);
         match numbers.get_mut(text.as_str()) {
             Some(number) => change(number),
-            None => {
-                let mut number = first;
-                change(&mut number);
-                numbers.insert(text.clone(rt), number)?;
-            }
+            None => change(numbers.entry(text.clone(rt))?.or_insert(first)),
         }
         Ok(())
     }
 
     /// Returns the texts with their numbers, in the order of the texts. Numbers that change meanwhile are those before or after the change.
-    pub fn sorted(
-        &self,
-        rt: &impl Wait,
-        alloc: Global,
-    ) -> Result<BTreeMap<ArcStr, u64>, AllocError> {
+    pub fn all(&self, rt: &impl Wait, alloc: Global) -> Result<BTreeMap<ArcStr, u64>, AllocError> {
         let mut all = BTreeMap::new(alloc);
         for shard in &self.shards {
             for (text, number) in &*shard.read(rt) {

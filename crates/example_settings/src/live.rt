@@ -41,8 +41,7 @@ impl Live {
 
     /// Replaces the settings.
     pub fn replace(&self, rt: &impl Wait, settings: Settings) {
-        let old = mem::replace(&mut *self.settings.write(rt), settings);
-        drop(old);
+        let _old = mem::replace(&mut *self.settings.write(rt), settings);
         self.changes.fetch_add(1, Ordering::SeqCst);
     }
 
@@ -54,31 +53,18 @@ impl Live {
         settings: Settings,
     ) -> Result<Vec<Result<Greetings, AllocError>>, AllocError> {
         let first = self.current(rt);
-        let changes = self.changes.load(Ordering::SeqCst);
-        let (greetings, ()) = thread::join(
-            rt,
-            || thread::map_indices(
-                rt,
-                alloc,
-                first.workers,
-                &|_| self.greet(rt, &first, changes),
-            ),
-            || self.replace(rt, settings),
-        );
-        greetings
+        let seen = self.changes.load(Ordering::SeqCst);
+        let greet = |_| self.greet(rt, &first, seen);
+        let greet_all = || thread::map_indices(rt, alloc, first.workers, &greet);
+        thread::join(rt, greet_all, || self.replace(rt, settings)).0
     }
 
     /// A worker: greets with the first settings until there was another change, and then with the new ones.
-    fn greet(
-        &self,
-        rt: &impl Wait,
-        first: &Settings,
-        changes: u64,
-    ) -> Result<Greetings, AllocError> {
+    fn greet(&self, rt: &impl Wait, first: &Settings, seen: u64) -> Result<Greetings, AllocError> {
         let before = first.clone(rt);
         self.count(rt, &before.name)?;
         for _ in rt.forever() {
-            if self.changes.load(Ordering::SeqCst) != changes {
+            if self.changes.load(Ordering::SeqCst) != seen {
                 break;
             }
         }

@@ -3,14 +3,11 @@
 #![tactic(auto)]
 
 mod counts;
-mod error;
 mod live;
 mod settings;
 
-use crate::error::SettingsError;
 use crate::live::{Greetings, Live};
-use crate::settings::Settings;
-use std::alloc::Global;
+use crate::settings::{Settings, SettingsError};
 use std::env;
 use std::sync::Wait;
 use std::thread::Threads;
@@ -23,7 +20,7 @@ fn main(rt: HostRuntime) -> Result<(), SettingsError> {
             Err(error) => println!(rt; "{file}: {error}")?,
         }
     }
-    print_greeted(&rt, rt.alloc(), &live)
+    print_greeted(&rt, &live)
 }
 
 /// Changes the settings, and prints what each worker greeted with.
@@ -42,12 +39,8 @@ fn print_change<R: AllocGlobal + Print + Threads + Wait + Sync>(
 }
 
 /// Prints how often each name was greeted, in the order of the names.
-fn print_greeted(
-    rt: &(impl Print + Wait),
-    alloc: Global,
-    live: &Live,
-) -> Result<(), SettingsError> {
-    for (name, count) in &live.greeted.sorted(rt, alloc)? {
+fn print_greeted(rt: &(impl AllocGlobal + Print + Wait), live: &Live) -> Result<(), SettingsError> {
+    for (name, count) in &live.greeted.all(rt, rt.alloc())? {
         println!(rt; "{name} was greeted {count} times")?;
     }
     Ok(())

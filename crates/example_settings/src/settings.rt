@@ -1,47 +1,49 @@
-//! The settings.
+//! The settings, and why they cannot be read or used.
 ghost use Rattle.std.specs.Prelude.{◌≤◌, IfOk};
 
-use crate::error::SettingsError;
 use arcstr::{ArcStr, literal};
 use serde::Deserialize;
-use std::fs;
+use std::alloc::AllocError;
 use std::rt::Files;
 use std::sync::Wait;
+use std::{fs, io};
+use thiserror::Error;
 
 /// The most workers that can run.
 pub const MOST_WORKERS: usize = 16;
 
 /// The settings. A field that a file leaves out has its default, which is a literal and allocates nothing.
 #[derive(Drop, Deserialize)]
-#[serde(deny_unknown_fields)]
+#[serde(default = "Settings::new", deny_unknown_fields)]
 pub struct Settings {
-    #[serde(default = "Settings::default_greeting")]
     pub greeting: ArcStr,
-    #[serde(default = "Settings::default_name")]
     pub name: ArcStr,
-    #[serde(default = "Settings::default_workers")]
     pub workers: usize,
 }
 
+/// Why settings cannot be read or used.
+#[derive(Debug, Drop, Error)]
+pub enum SettingsError {
+    #[error("byte {start}: {error}")]
+    Toml {
+        start: usize,
+        error: toml::de::Error,
+    },
+    #[error("{0} workers, where 1 to {most} can run", most = MOST_WORKERS)]
+    Workers(usize),
+    #[error(transparent)]
+    Io(#[from] io::Error),
+    #[error(transparent)]
+    Memory(#[from(alloc)] AllocError),
+}
+
 impl Settings {
-    fn default_greeting() -> ArcStr {
-        literal!("Hi")
-    }
-
-    fn default_name() -> ArcStr {
-        literal!("world")
-    }
-
-    fn default_workers() -> usize {
-        2
-    }
-
     /// Returns the defaults.
     pub fn new() -> Settings {
         Settings {
-            greeting: Settings::default_greeting(),
-            name: Settings::default_name(),
-            workers: Settings::default_workers(),
+            greeting: literal!("Hi"),
+            name: literal!("world"),
+            workers: 2,
         }
     }
 
@@ -65,5 +67,13 @@ impl Settings {
             name: self.name.clone(rt),
             workers: self.workers,
         }
+    }
+}
+
+impl SettingsError {
+    /// The error of a text that is no TOML, or has other fields, with the byte offset at which it starts.
+    fn toml(error: toml::de::Error) -> SettingsError {
+        let start = error.span().map_or(0, |span| span.start);
+        SettingsError::Toml { start, error }
     }
 }

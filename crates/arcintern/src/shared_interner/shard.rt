@@ -59,8 +59,7 @@ impl Shard {
         let Ok(there) = place.try_set(longer) else {
             return Err(AllocError);
         };
-        self.grown
-            .store(grown.saturating_add(1), Ordering::Release);
+        self.grown.store(grown.saturating_add(1), Ordering::Release);
         Ok(place.value(&there))
     }
 }
