@@ -119,35 +119,45 @@ fn threads_agree_on_sixty_four_shards(rt: HostRuntime) {
     check_threads(&rt, 64);
 }
 
-/// Interns words of its own, and answers how many of them `get` then finds, and the first word too, while other threads add theirs.
-fn count_found(
+/// As the last worker, interns more words. As another, looks for known words until they are all there, and answers whether each was found.
+fn add_or_find(
     rt: &impl Wait,
     alloc: Global,
     interner: &SharedInterner,
     worker: usize,
-) -> Result<usize, InternFault> {
-    let first = format!(in alloc; "{worker} 0")?;
-    let mut found = 0_usize;
-    for number in 0..WORDS {
-        let word = format!(in alloc; "{worker} {number}")?;
-        let symbol = interner.intern(rt, &word)?.number();
-        let there = interner.get(&word).map(|there| there.number());
-        if there == Some(symbol) && interner.get(&first).is_some() {
-            found = found.wrapping_add(1);
+) -> Result<bool, InternFault> {
+    if worker == THREADS - 1 {
+        for number in TOGETHER..5 * WORDS {
+            interner.intern(rt, &word_of(alloc, number)?)?;
         }
     }
-    Ok(found)
+    for turn in 0..2_000_000_usize {
+        if interner.len() == 5 * WORDS {
+            break;
+        }
+        if interner.get(&word_of(alloc, turn % TOGETHER)?).is_none() {
+            return Ok(false);
+        }
+    }
+    Ok(true)
 }
 
 #[test]
-fn words_stay_found_while_tables_grow(ref rt: HostRuntime) {
+fn known_words_are_found_while_tables_grow(ref rt: HostRuntime) {
     let alloc = rt.alloc();
     let interner = &SharedInterner::new(alloc, 1).expect(rt, "refused");
-    let work = |worker: usize| count_found(rt, alloc, interner, worker);
-    for found in thread::map_indices(rt, alloc, THREADS, &work).expect(rt, "refused") {
-        check_eq!(rt; found.expect(rt, "refused"), WORDS);
+    for number in 0..TOGETHER {
+        interned(
+            rt,
+            interner,
+            &word_of(alloc, number).expect(rt, "no memory"),
+        );
     }
-    check_eq!(rt; interner.len(), THREADS * WORDS);
+    let work = |worker: usize| add_or_find(rt, alloc, interner, worker);
+    for found in thread::map_indices(rt, alloc, THREADS, &work).expect(rt, "refused") {
+        check!(rt; found.expect(rt, "refused"));
+    }
+    check_eq!(rt; interner.len(), 5 * WORDS);
 }
 
 /// Asserts that the word is new, and then found with its text.
