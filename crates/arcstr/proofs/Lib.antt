@@ -1,3 +1,4 @@
+pub mod Differences
 pub mod FirstMatches
 pub mod Orders
 pub mod Ranges

@@ -1,6 +1,6 @@
 -- The order of texts: by the bytes of two lists, by their prefixes, and by masks of the positions where they differ. Answers take std's names from here.
 pub use Rattle.std.proofs.Common.{◌≡◌, ℕ, List, sym, ap, ◌∙◌, arith, ◌+◌, ◌≤◌, length, take, drop, ◌%◌, not, ◌==◌, subst, w8, ◌-◌, ◌^◌}
-use Rattle.std.proofs.Common.{◌<◌, [], ◌∷◌, ◌++◌, refl, inl, inr, zero, suc, Bool, true, false, ◌&&◌, min, length-take, take-add, take-take, ◌*◌, ◌/◌, nat_eq, get_or}
+use Rattle.std.proofs.Common.{◌<◌, [], ◌∷◌, ◌++◌, refl, inl, inr, zero, suc, Bool, true, false, min, length-take, take-add, take-take, ◌*◌, ◌/◌, get_or}
 use Rattle.std.specs.declared.cmp.Ordering.{Ordering}
 use Rattle.std.specs.declared.cmp.Ordering.TheVariants.{Less, Equal, Greater}
 use Rattle.std.specs.Cmp.{nat_cmp_total}
@@ -195,12 +195,6 @@ by_prefixes-within n m xs ys answer shorter in_xs in_ys is differ =
 pub equal-whole : (n : ℕ) (xs ys : List ℕ) → length xs ≤ n → length ys ≤ n → take n xs ≡ take n ys → xs ≡ ys
 equal-whole n xs ys in_xs in_ys same = sym (take_all n xs in_xs) ∙ same ∙ take_all n ys in_ys
 
--- the conjuncts of a test of both
-pub both-true : (a b : Bool) → a && b ≡ true → (a ≡ true) × (b ≡ true)
-both-true true true is = (refl, refl)
-both-true true false is = cc
-both-true false b is = cc
-
 -- ---- the lowest set bit of a mask is the first position where two lists differ, and the bytes there decide
 
 -- a lane for each position, `true` if the bytes differ
@@ -225,24 +219,6 @@ none_differs (u ∷ us) (v ∷ vs) same none = by_lane (not (u == v)) refl none 
         (mask_l (differing us vs) ≡ 0 → us ≡ vs) → u ∷ us ≡ v ∷ vs
     by_lane true is empty later = absurd (omega arith)
     by_lane false is empty later = λ i. equal-lane u v is i ∷ later (omega arith) i
-
-lane-itself : (u : ℕ) → not (u == u) ≡ false
-lane-itself u = grind (arith, nat_tests)
-
--- equal lists differ in no lane
-pub none_differs-of_equal : (us vs : List ℕ) → us ≡ vs → mask_l (differing us vs) ≡ 0
-none_differs-of_equal us vs same = ap (λ (l : List ℕ). mask_l (differing us l)) (sym same) ∙ itself us
-  where
-    itself : (us : List ℕ) → mask_l (differing us us) ≡ 0
-    itself [] = refl
-    itself (u ∷ us) = rw (lane-itself u) (omega (arith, itself us))
-
--- the meaning of a test of a mask
-pub zero-of_test : (mask : ℕ) → nat_eq mask 0 ≡ true → mask ≡ 0
-zero-of_test mask is = grind (arith, nat_tests)
-
-pub test-of_zero : (mask : ℕ) → mask ≡ 0 → nat_eq mask 0 ≡ true
-test-of_zero mask is = grind (arith, nat_tests)
 
 -- the lists differ at position `at`, and compare as the bytes there
 pub record Decides (us vs : List ℕ) (at : ℕ) : Type 0 where

@@ -1,8 +1,8 @@
 //! Equality, order and hash of texts. They depend only on the text, not on its kind, and those of `Substr` only on the slice's own text. Those of `StaticStr`
 //! are those of `ArcStr`.
 //!
-//! The functions at the end compare two texts by vectors of bytes: 16 at a time, or 32 or 64 whose differences are combined before one test.
-ghost use Rattle.std.specs.Prelude.{◌≡◌, ◌↔◌, ◌+◌, ◌≤◌, ◌<◌, ◌==◌, ℕ, Some, IsTrue, bytes_eq, drop, length, not, refl, take};
+//! The functions at the end compare two texts by vectors of bytes: 16 at a time, or 32, 64 or 128 whose differences are combined before one test.
+ghost use Rattle.std.specs.Prelude.{◌≡◌, ◌↔◌, ◌+◌, ◌≤◌, ◌<◌, ◌==◌, ℕ, Some, IsTrue, bit_xor, bytes_eq, drop, length, not, refl, take};
 ghost use Rattle.std.proofs.Common.{rules};
 ghost use Rattle.std.specs.Cmp.{on_equiv, on_per, on_po, on_total, partial_equiv_from_equiv};
 ghost use Rattle.std.specs.Cmp.Lexicographic.{nat_list_cmp_total, nat_list_eq_equiv, slice_cmp, texts_po, texts_ties};
@@ -252,7 +252,7 @@ pub(crate) fn is_equal(one: &str, other: &str) -> bool
 
 /// Tests whether `one` and `other` are equal, given that both have the same length of at least N bytes and that their first `start` bytes agree.
 fn is_equal_from<const N: usize>(one: &[u8], other: &[u8], start: usize) -> bool
-    requires lanes { (0 < N) × (N ≤ 64) }
+    requires lanes { 0 < N }
     requires long { N ≤ length one.now }
     requires as_long { length one.now ≡ length other.now }
     requires within { start ≤ length one.now }
@@ -281,9 +281,7 @@ fn equal_prefix(one: &[u8], other: &[u8], start: usize) -> usize
 {
     let both = one.len().min(other.len());
     let mut from = start;
-    while 128 <= both - from
-        && is_equal_at::<64>(one, other, from) & is_equal_at::<64>(one, other, from + 64)
-    {
+    while 128 <= both - from && is_equal_128(one, other, from) {
         from += 128;
     }
     from
@@ -400,11 +398,28 @@ fn order_of_lanes<const N: usize>(one: &[u8], other: &[u8], from: usize) -> Orde
 
 /// Tests whether the N bytes at `from` are equal.
 fn is_equal_at<const N: usize>(one: &[u8], other: &[u8], from: usize) -> bool
-    requires lanes { N ≤ 64 }
     requires within { (from + N ≤ length one.now) × (from + N ≤ length other.now) }
     ensures { IsTrue result ↔ (take N (drop from one.now) ≡ take N (drop from other.now)) }
 {
-    lanes_that_differ::<N>(one, other, from) == 0
+    differences::<N>(one, other, from).reduce_or() == 0
+}
+
+/// Tests whether the 128 bytes at `from` are equal. The differences of two vectors of 64 bytes are combined before one test.
+fn is_equal_128(one: &[u8], other: &[u8], from: usize) -> bool
+    requires within { (from + 128 ≤ length one.now) × (from + 128 ≤ length other.now) }
+    ensures { IsTrue result ↔ (take 128 (drop from one.now) ≡ take 128 (drop from other.now)) }
+{
+    let nearer = differences::<64>(one, other, from);
+    let farther = differences::<64>(one, other, from + 64);
+    (nearer | farther).reduce_or() == 0
+}
+
+/// Returns a lane for each of the N bytes at `from`, which is 0 exactly if the two bytes are equal.
+fn differences<const N: usize>(one: &[u8], other: &[u8], from: usize) -> Simd<u8, N>
+    requires within { (from + N ≤ length one.now) × (from + N ≤ length other.now) }
+    ensures { result ≡ zip2 bit_xor (take N (drop from one.now)) (take N (drop from other.now)) }
+{
+    Simd::<u8, N>::from_slice(&one[from..]) ^ Simd::<u8, N>::from_slice(&other[from..])
 }
 
 /// Returns a bit for each of the N bytes at `from`, which is set if the two bytes differ. The first byte has the lowest bit.

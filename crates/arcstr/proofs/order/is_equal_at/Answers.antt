@@ -1,5 +1,5 @@
--- The mask is 0 exactly if no lane differs.
-use Rattle.arcstr.proofs.Orders.{sym, ◌∙◌, length-chunk, none_differs-of_equal, none_differs, test-of_zero, zero-of_test}
+-- The vector of differences is 0 exactly if the bytes are equal.
+use Rattle.arcstr.proofs.Differences.{IsZeroIfEqual-xor, equal_if_zero}
 use Rattle.arcstr.proofs.order.is_equal_at.Goals as goal
 
 pub returns : goal.returns
@@ -8,7 +8,4 @@ returns g c =
     let other = c.args.other.now in
     let from = c.args.from in
     let lanes = g.row.N in
-    let same = length-chunk from lanes one c.requires.within.0 ∙ sym (length-chunk from lanes other c.requires.within.1) in (
-      λ test. none_differs _ _ same (sym c.lanes_that_differ.ensures ∙ zero-of_test _ test),
-      λ equal. test-of_zero _ (c.lanes_that_differ.ensures ∙ none_differs-of_equal _ _ equal),
-    )
+    equal_if_zero lanes from lanes one other _ (IsZeroIfEqual-xor from lanes one other _ c.requires.within.0 c.requires.within.1 c.differences.ensures)
