@@ -138,8 +138,8 @@ impl<S: BuildHasher> SharedInterner<S> {
         slots.find(half_of(hash), |number| symbol_if_word(texts, number, word))
     }
 
-    /// The symbol of the word with this hash. If there is none, the text becomes `whole` or, without one, a copy of the word. That text is made before
-    /// the lock is taken again, and dropped if another thread has added the word meanwhile.
+    /// The symbol of the word with this hash. If there is none, the text becomes `whole` or, without one, a copy of the word. That text is
+    /// made before the lock is taken, and dropped if another thread has added the word meanwhile.
     pub(crate) fn find_or_add(
         &self,
         rt: &impl Wait,
