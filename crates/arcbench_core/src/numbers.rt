@@ -39,8 +39,5 @@ fn decimal_of(text: &[u8]) -> Option<u64>
     requires no_sign { slice_index text.now 0 ≢ plus_sign }
     ensures { result ≡ (if is_decimal text.now then Some (digits_value 10 text.now) else None) }
 {
-    match str::from_utf8(text) {
-        Ok(text) => text.parse::<u64>().ok(),
-        Err(_) => None,
-    }
+    str::from_utf8(text).ok()?.parse::<u64>().ok()
 }

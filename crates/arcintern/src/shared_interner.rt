@@ -32,11 +32,12 @@ pub use shared_texts::SharedTexts;
 /// as long as the interner lives, whatever other threads do. The numbers are 0, 1, 2 and so on, in the order in which the texts were
 /// added. Only a call that runs out of memory while other threads add texts can leave a number without a text.
 ///
-/// A table that is too short is kept until the interner is dropped, since a thread may be reading it. `with_capacity` makes tables that
-/// need not grow.
+/// A table that is too short is kept until the interner is dropped, since a thread may be reading it. After `with_capacity`, a table grows
+/// only if its shard gets more than its part of the texts.
 ///
-/// The contracts do not say that a call succeeds, that a word has one number, which number is next, or what `len` answers: the tests
-/// `threads_agree_on_eight_shards`, `words_are_numbered_as_they_come` and `words_are_told_apart` check that.
+/// The contracts do not say that a call succeeds, that `get` finds a word, that a word has one number, which number is next, or what
+/// `len` answers. The tests `words_are_told_apart`, `known_words_are_found_while_tables_grow`, `threads_agree_on_eight_shards` and
+/// `words_are_numbered_as_they_come` check that.
 ///
 /// The default hasher has a fixed seed. Where an attacker picks the texts, make the interner by `with_hasher`.
 ///
@@ -82,8 +83,7 @@ impl SharedInterner<BuildHasherDefault<FoldHasher>> {
         SharedInterner::with_hasher(alloc, shards, BuildHasherDefault::new())
     }
 
-    /// As `new`, with room for this many texts, which is allocated here: in the list, and in each shard for its part of them. A shard
-    /// that gets more than its part grows.
+    /// As `new`, with room for this many texts, which is allocated here: in the list, and in each shard for its part of them.
     ///
     /// ```
     /// let interner = SharedInterner::with_capacity(rt.alloc(), 8, 1_000)?;

@@ -1,5 +1,5 @@
 //! A table that finds the number of a text by half of the hash of its word.
-ghost use Rattle.std.specs.Prelude.{◌≡◌, ◌+◌, ◌/◌, ◌%◌, ◌<◌, ◌≤◌, ℕ, [], IfNone, IfSome, IsOk, None, OnOk, Some, bit_xor, vec_len, vec_capacity};
+ghost use Rattle.std.specs.Prelude.{◌≡◌, ◌+◌, ◌/◌, ◌%◌, ◌<◌, ◌≤◌, ℕ, [], IfNone, IfOk, IfSome, IsOk, None, OnOk, Some, bit_xor, vec_len, vec_capacity};
 ghost use Rattle.arcintern.specs.Slots.{IsPlaced, half_of_word, hash_of_word, slot_of};
 
 use std::alloc::{AllocError, Global};
@@ -28,6 +28,19 @@ pub(crate) fn half_of(hash: u64) -> u32
     ensures { result ≡ bit_xor hash (hash / 4294967296) % 4294967296 }
 {
     ((hash ^ (hash >> 32)) % 4294967296) as u32
+}
+
+/// The length of a table that does not grow for this many slots: a power of two, at least 16, so that a quarter of the places stays empty.
+pub(crate) fn places_for(slots: usize) -> Result<usize, AllocError>
+    ensures { IfOk result (λ len. 0 < len) }
+{
+    match slots
+        .saturating_add(slots.div_ceil(3))
+        .checked_next_power_of_two()
+    {
+        Some(len) => Ok(len.max(16)),
+        None => Err(AllocError),
+    }
 }
 
 /// An empty slot is 0. Any other has half of a hash in its upper 32 bits, and a number plus 1 in its lower ones. A search begins where the
@@ -59,13 +72,7 @@ impl Slots {
         if slots == 0 {
             return Ok(Slots::new(alloc));
         }
-        match slots
-            .saturating_add(slots.div_ceil(3))
-            .checked_next_power_of_two()
-        {
-            Some(len) => Slots::with_len(alloc, len.max(16)),
-            None => Err(AllocError),
-        }
+        Slots::with_len(alloc, places_for(slots)?)
     }
 
     /// A table of empty slots, with some room behind the last.

@@ -1,6 +1,8 @@
 //! Calls of an interner, with and without texts. A refusal leaves its texts as they were, and the same call then succeeds.
 use crate::calls::{Calls, Given, Machine, Made, Stop, again, check, count, is_text};
-use arcintern::{Interner, SharedInterner, SharedSymbol, Symbol, SymbolMap, WordList};
+use arcintern::{
+    FrozenInterner, Interner, SharedInterner, SharedSymbol, Symbol, SymbolMap, WordList,
+};
 use arcstr::{ArcStr, Substr};
 use std::alloc::{AllocError, Global};
 use std::sync::Wait;
@@ -29,7 +31,8 @@ pub(crate) fn run<R: Machine>(rt: &R) -> io::Result<()> {
     again::<SharedWords<FULL>, SharedInterner, R>(rt, "SharedInterner::intern_static", 1, "", 0)?;
     again::<SharedWords<FULL>, SharedInterner, R>(rt, "LocalInterner::intern", 2, "", 0)?;
     let line = "SharedInterner::intern of a known word";
-    again::<SharedWords<FULL>, SharedInterner, R>(rt, line, 3, "", 0)
+    again::<SharedWords<FULL>, SharedInterner, R>(rt, line, 3, "", 0)?;
+    again::<SharedWords<FULL>, FrozenInterner, R>(rt, "SharedInterner::freeze", 0, "", 0)
 }
 
 /// An interner whose last text is this one, or which has none if the text is empty.
@@ -341,5 +344,22 @@ fn is_found(
             found.number() == symbol.number() && is_text(interner.text(&there), "foobar", handles)
         }
         _ => false,
+    }
+}
+
+impl Made for FrozenInterner {
+    fn is(&self, _wanted: &str, _handles: usize) -> bool {
+        self.len() == FULL && self.get("0").is_some() && self.get("foobar").is_none()
+    }
+}
+
+impl Calls<SharedWords<FULL>> for FrozenInterner {
+    fn call<R: Machine>(
+        _rt: &R,
+        words: &mut SharedWords<FULL>,
+        _: usize,
+    ) -> Result<FrozenInterner, Stop> {
+        let interner = words.0.take().ok_or(Stop::Differs)?;
+        Ok(interner.freeze())
     }
 }

@@ -6,7 +6,7 @@ ghost use Rattle.arcstr.specs.Substr.{text_of};
 
 use crate::arc_str::ArcStr;
 use crate::substr::Substr;
-use std::alloc::Global;
+use std::alloc::{AllocError, Global};
 use std::borrow::CowStr;
 
 impl ArcStr {
@@ -51,7 +51,7 @@ impl ArcStr {
         }
         match self.to_string(alloc) {
             Ok(copy) => Ok(CowStr::Owned(copy)),
-            Err(_) => Err(self),
+            Err(AllocError) => Err(self),
         }
     }
 }
@@ -77,7 +77,7 @@ impl Substr {
         }
         match self.to_string(alloc) {
             Ok(copy) => Ok(CowStr::Owned(copy)),
-            Err(_) => Err(self),
+            Err(AllocError) => Err(self),
         }
     }
 

@@ -131,10 +131,8 @@ pub(crate) fn blank_block<A: Allocator + Copy>(
     ensures refused { IfErr result (λ fault. fault ≡ TextFault.Memory) }
 {
     let offset = offset_of_word(len);
-    match Blank::make(&alloc, Word::one().bits(), len, offset, size_of_block(len)) {
-        Ok(made) => Ok(made),
-        Err(_) => Err(TextFault::Memory),
-    }
+    let made = Blank::make(&alloc, Word::one().bits(), len, offset, size_of_block(len))?;
+    Ok(made)
 }
 
 /// Writes 0 in each slot.

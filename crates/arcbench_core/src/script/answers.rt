@@ -40,7 +40,7 @@ fn bad_limit<A: Allocator>(alloc: A) -> Result<Vec<u8, A>, RunFault>
 {
     match String::from_str(alloc, "bad limit\n") {
         Ok(out) => Ok(out.into_bytes()),
-        Err(_) => Err(RunFault::Memory),
+        Err(AllocError) => Err(RunFault::Memory),
     }
 }
 

@@ -12,7 +12,7 @@ use std::marker::Model;
 
 /// The texts of a `SharedInterner` that no longer grows, for any number of threads. Its symbols are those that the interner gave out.
 ///
-/// That `get` finds each word that is there is not proved, but tested (`a_frozen_interner_has_what_it_had`).
+/// The contracts do not say that `get` finds each word that is there. The test `a_frozen_interner_has_what_it_had` checks that.
 ///
 /// ```
 /// let interner = SharedInterner::new(rt.alloc(), 8)?;

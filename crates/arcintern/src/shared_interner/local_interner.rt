@@ -21,6 +21,9 @@ const PLACES: usize = 8192;
 ///
 /// Each word has one place in the cache, which it shares with others: the last of them is there.
 ///
+/// The contracts do not say that a call succeeds, or that `get` finds a word. The test `a_local_interner_agrees_with_its_interner` checks
+/// that.
+///
 /// ```
 /// let interner = SharedInterner::new(rt.alloc(), 8)?;
 /// let mut local = interner.local(rt.alloc())?;

@@ -1,6 +1,7 @@
 //! The part of a shared interner that has tables and a lock of its own.
 ghost use Rattle.std.specs.Prelude.{◌+◌, ◌<◌, ℕ, IfSome, Some};
 
+use crate::slots::places_for;
 use std::alloc::{AllocError, Global};
 use std::array;
 use std::sync::atomic::{AtomicU64, AtomicUsize, Ordering};
@@ -66,6 +67,8 @@ impl Shard {
 
 /// As `Slots`, for threads: a slot is written once, by whoever holds the shard's lock, and read without a lock. A search that passes the
 /// last place goes on at the first.
+///
+/// No contract says that a search finds a slot. The test `known_words_are_found_while_tables_grow` checks that.
 #[derive(Drop)]
 pub(crate) struct SharedSlots {
     slots: Vec<AtomicU64>,
@@ -81,13 +84,7 @@ impl SharedSlots {
                 mask: 0,
             });
         }
-        match slots
-            .saturating_add(slots.div_ceil(3))
-            .checked_next_power_of_two()
-        {
-            Some(len) => SharedSlots::with_len(alloc, len.max(16)),
-            None => Err(AllocError),
-        }
+        SharedSlots::with_len(alloc, places_for(slots)?)
     }
 
     /// A table of empty slots.
