@@ -10,7 +10,7 @@ mod fault;
 mod places;
 
 pub use fault::RangeFault;
-pub use places::{checked_ends, inner_ends, is_boundary, slice};
+pub use places::{checked_ends, is_boundary, slice};
 use std::ops::{Range, RangeFrom, RangeFull, RangeInclusive, RangeTo, RangeToInclusive};
 
 /// A range of byte offsets in a text, in one of the forms of Rust's ranges over `usize`.

@@ -1,11 +1,10 @@
 //! Ranges and byte offsets in a text.
-ghost use Rattle.std.specs.Prelude.{◌≡◌, ◌+◌, ◌↔◌, IsTrue, IfOk, IsSome, IfSome};
+ghost use Rattle.std.specs.Prelude.{◌≡◌, ◌↔◌, IsTrue, IsSome, IfSome};
 ghost use Rattle.std.specs.Str.{IsCharBoundary};
-ghost use Rattle.arcstr_range.specs.Text.{IsPrefixLength, SpellsBetween, cut};
-ghost use Rattle.arcstr_range.specs.Ends.{AnswersEnds, ends_in, cut_by, IsLawful, IsLawfulRange, IsFirstRangeFault};
+ghost use Rattle.arcstr_range.specs.Text.{IsPrefixLength, SpellsBetween};
+ghost use Rattle.arcstr_range.specs.Ends.{AnswersEnds, ends_in, cut_by, IsLawfulRange, IsFirstRangeFault};
 
 use crate::range::{RangeFault, StrRange};
-use std::ops::Range;
 
 /// Tests whether the text can be cut at this byte offset: exactly if the offset is the length in bytes of a prefix of the text's characters.
 ///
@@ -40,41 +39,6 @@ pub fn checked_ends(text: &str, range: StrRange) -> Result<(usize, usize), Range
         return Err(RangeFault::OffBoundary);
     }
     Ok((start, end))
-}
-
-/// Returns the start and the end, as byte offsets in the parent, of a range in a substring of the parent. `outer` is the range of the substring in the
-/// parent. The caller must ensure that it is valid.
-///
-/// The range is measured in the substring's own text. Fails as `checked_ends` of that text does: `OutOfOrder`, then `PastEnd`, then `OffBoundary`. The ends
-/// that it returns are valid in the parent, and cut the same text from it.
-///
-/// ```
-/// let ends = range::inner_ends("foobarbaz", 3..6, StrRange::From(1));
-/// assert_eq!(rt; ends, Ok((4, 6)));
-/// let past = range::inner_ends("foobarbaz", 3..6, StrRange::To(5));
-/// assert_eq!(rt; past, Err(RangeFault::PastEnd));
-/// ```
-#[tactic(auto, using(crate::proofs::Boundaries::cuts_of_cuts))]
-pub fn inner_ends(
-    parent: &str,
-    outer: Range<usize>,
-    range: StrRange,
-) -> Result<(usize, usize), RangeFault>
-    requires { IsLawful parent.now outer.start outer.end }
-    // Promise: The range is summed into the parent. Its faults are those of the range in the substring.
-    ensures answer { let own = cut parent.now outer.start outer.end in
-        let ends = ends_in own range in
-        AnswersEnds (outer.start + ends.0, outer.start + ends.1) (IsLawfulRange own range) (IsFirstRangeFault own range) result }
-    // Promise: The ends cut the same text from the parent, at character boundaries.
-    ensures sound { IfOk result (λ ends. IsLawful parent.now ends.0 ends.1) }
-    ensures same_text { let own = cut parent.now outer.start outer.end in
-        IfOk result (λ ends. cut parent.now ends.0 ends.1 ≡ cut_by own range) }
-{
-    let own = &parent[outer.start..outer.end];
-    match checked_ends(own, range) {
-        Ok((start, end)) => Ok((outer.start + start, outer.start + end)),
-        Err(fault) => Err(fault),
-    }
 }
 
 /// Returns the slice of the text between the ends of the range, as `str::get` does. Returns `None` exactly if the ends are out of order, past the text or

@@ -1,6 +1,6 @@
 use crate::tests::checks::{check, check_eq};
 use arcstr_range::range::StrRange::Between;
-use arcstr_range::range::{RangeFault, StrRange, checked_ends, inner_ends, is_boundary, slice};
+use arcstr_range::range::{RangeFault, StrRange, checked_ends, is_boundary, slice};
 use std::io;
 
 /// The smallest offset that does not fit in 32 bits.
@@ -112,15 +112,6 @@ fn boundaries_are_between_characters(rt: HostRuntime) {
     check!(rt; !is_boundary("aé", 2));
     check!(rt; is_boundary("aé", 3));
     check!(rt; !is_boundary("aé", 4));
-}
-
-#[test]
-fn inner_ends_are_measured_in_the_substring(rt: HostRuntime) {
-    check_eq!(rt; inner_ends("foobarbaz", 3..6, Between(1, 3)), Ok((4, 6)));
-    check_eq!(rt; inner_ends("foobarbaz", 3..6, Between(2, 2)), Ok((5, 5)));
-    let past = Err(RangeFault::PastEnd);
-    check_eq!(rt; inner_ends("foobarbaz", 3..6, Between(0, 5)), past);
-    check_eq!(rt; inner_ends("foobarbaz", 3..9, Between(1, 5)), Ok((4, 8)));
 }
 
 #[test]
