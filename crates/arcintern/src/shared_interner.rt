@@ -1,6 +1,7 @@
 //! `SharedInterner`: each distinct text once, for threads.
 //!
-//! Each call with a handle `rt` can wait, but only for a new word: for a thread that adds a text to the same shard, or to the list.
+//! Each call with a handle `rt` can wait, but only for a new word: for a thread that adds a text to the same shard or to the list, or
+//! that changes the count of a text that the call clones.
 ghost use Rattle.std.specs.Prelude.{◌≡◌, ◌≤◌, IfErr, IfOk, IfSome, length};
 ghost use Rattle.arcintern.specs.Texts.{IsSymbolOf};
 

@@ -25,6 +25,8 @@ pub(crate) fn run<R: Machine>(rt: &R) -> io::Result<()> {
     again::<Mapped, SymbolMap<u64>, R>(rt, "SymbolMap::or_insert", 1, "", 0)?;
     again::<(), SharedInterner, R>(rt, "SharedInterner::new", 0, "", 0)?;
     again::<(), SharedInterner, R>(rt, "SharedInterner::with_capacity", 1, "", 0)?;
+    let line = "SharedInterner::intern_arc where there is room";
+    again::<SharedRoom, SharedInterner, R>(rt, line, 0, "", 0)?;
     again::<SharedWords<0>, SharedInterner, R>(rt, "SharedInterner::intern", 0, "", 0)?;
     let line = "SharedInterner::intern with a full table";
     again::<SharedWords<FULL>, SharedInterner, R>(rt, line, 0, "", 0)?;
@@ -58,14 +60,19 @@ struct Room {
     interner: Interner,
 }
 
+/// The texts `0` to `99`.
+fn hundred_texts(alloc: Global) -> Result<Vec<ArcStr>, Stop> {
+    let mut texts = Vec::with_capacity(alloc, 100)?;
+    for number in 0..100 {
+        let text = ArcStr::from_str(alloc, &format!(in alloc; "{number}")?)?;
+        texts.push(text).map_err(AllocError::from)?;
+    }
+    Ok(texts)
+}
+
 impl Given for Room {
     fn prepare<R: Machine>(rt: &R) -> Result<Room, Stop> {
-        let mut texts = Vec::with_capacity(rt.alloc(), 100)?;
-        for number in 0..100 {
-            let word = format!(in rt.alloc(); "{number}")?;
-            let text = ArcStr::from_str(rt.alloc(), &word)?;
-            texts.push(text).map_err(AllocError::from)?;
-        }
+        let texts = hundred_texts(rt.alloc())?;
         let interner = Interner::with_capacity(rt.alloc(), 100)?;
         Ok(Room { texts, interner })
     }
@@ -266,6 +273,36 @@ impl Calls<()> for SharedInterner {
             _ => SharedInterner::with_capacity(rt.alloc(), 2, 100)?,
         };
         check(interner.is_empty())?;
+        Ok(interner)
+    }
+}
+
+/// As `Room`, for an interner of one shard. A call that succeeds takes it.
+#[derive(Drop)]
+struct SharedRoom {
+    texts: Vec<ArcStr>,
+    interner: Option<SharedInterner>,
+}
+
+impl Given for SharedRoom {
+    fn prepare<R: Machine>(rt: &R) -> Result<SharedRoom, Stop> {
+        let texts = hundred_texts(rt.alloc())?;
+        let interner = Some(SharedInterner::with_capacity(rt.alloc(), 1, 100)?);
+        Ok(SharedRoom { texts, interner })
+    }
+
+    fn is_unchanged<R: Machine>(&self, _rt: &R) -> bool {
+        self.interner.is_none()
+    }
+}
+
+impl Calls<SharedRoom> for SharedInterner {
+    fn call<R: Machine>(rt: &R, room: &mut SharedRoom, _: usize) -> Result<SharedInterner, Stop> {
+        let interner = room.interner.take().ok_or(Stop::Differs)?;
+        for text in &room.texts {
+            interner.intern_arc(rt, text)?;
+        }
+        check(interner.len() == 100)?;
         Ok(interner)
     }
 }

@@ -11,8 +11,15 @@ pub(crate) fn run<R: Machine>(rt: &R) -> io::Result<()> {
     again::<(), ArcStr, R>(rt, "ArcStr::from_str of an empty text", 9, "", 0)?;
     again::<(), ArcStr, R>(rt, "literal!", 10, "foobar", 0)?;
     again::<ArcStr, ArcStr, R>(rt, "ArcStr::clone", 0, "foobar", 2)?;
+    again::<ArcStr, ArcStr, R>(rt, "ArcStr::try_clone", 2, "foobar", 2)?;
     again::<ArcStr, Substr, R>(rt, "ArcStr::substr", 0, "bar", 2)?;
+    again::<ArcStr, Substr, R>(rt, "ArcStr::substr_trim", 1, "foobar", 2)?;
+    again::<ArcStr, Substr, R>(rt, "ArcStr::try_substr_from", 2, "bar", 2)?;
+    again::<ArcStr, Substr, R>(rt, "ArcStr::substr_using", 3, "bar", 2)?;
     again::<Substr, Substr, R>(rt, "Substr::substr", 0, "ar", 2)?;
+    again::<Substr, Substr, R>(rt, "Substr::substr_trim", 1, "bar", 2)?;
+    again::<Substr, Substr, R>(rt, "Substr::try_substr_from", 2, "ar", 2)?;
+    again::<Substr, Substr, R>(rt, "Substr::substr_using", 3, "ar", 2)?;
     let parts =
         "ArcStr::substr_split_at, substr_split_once, substr_rsplit_once, substr_strip_prefix, substr_strip_suffix";
     again::<ArcStr, Parts, R>(rt, parts, 0, "bar", 9)?;
@@ -29,26 +36,42 @@ pub(crate) fn run<R: Machine>(rt: &R) -> io::Result<()> {
 /// A clone, or a text that is joined of two.
 impl Calls<ArcStr> for ArcStr {
     fn call<R: Machine>(rt: &R, text: &mut ArcStr, number: usize) -> Result<ArcStr, Stop> {
-        if number == 0 {
-            return Ok(text.clone(rt));
+        match number {
+            0 => Ok(text.clone(rt)),
+            1 => {
+                let texts = [text.clone(rt), text.clone(rt)];
+                Ok(texts.into_iter().collect::<ArcStr>(rt.alloc())?)
+            }
+            _ => text.try_clone(1).ok_or(Stop::Fault),
         }
-        Ok(
-            [text.clone(rt), text.clone(rt)]
-                .into_iter()
-                .collect::<ArcStr>(rt.alloc())?,
-        )
     }
 }
 
 impl Calls<ArcStr> for Substr {
-    fn call<R: Machine>(rt: &R, text: &mut ArcStr, _: usize) -> Result<Substr, Stop> {
-        text.substr(rt, 3..6).map_err(|_| Stop::Fault)
+    fn call<R: Machine>(rt: &R, text: &mut ArcStr, number: usize) -> Result<Substr, Stop> {
+        match number {
+            0 => text.substr(rt, 3..6).map_err(|_| Stop::Fault),
+            1 => Ok(text.substr_trim(rt)),
+            2 => {
+                let view = text.view().cut(3..6).ok_or(Stop::Fault)?;
+                text.try_substr_from(rt, view).ok_or(Stop::Fault)
+            }
+            _ => text.substr_using(rt, |_| 3..6).map_err(|_| Stop::Fault),
+        }
     }
 }
 
 impl Calls<Substr> for Substr {
-    fn call<R: Machine>(rt: &R, slice: &mut Substr, _: usize) -> Result<Substr, Stop> {
-        slice.substr(rt, 1..).map_err(|_| Stop::Fault)
+    fn call<R: Machine>(rt: &R, slice: &mut Substr, number: usize) -> Result<Substr, Stop> {
+        match number {
+            0 => slice.substr(rt, 1..).map_err(|_| Stop::Fault),
+            1 => Ok(slice.substr_trim(rt)),
+            2 => {
+                let view = slice.view().cut(1..3).ok_or(Stop::Fault)?;
+                slice.try_substr_from(rt, view).ok_or(Stop::Fault)
+            }
+            _ => slice.substr_using(rt, |_| 1..3).map_err(|_| Stop::Fault),
+        }
     }
 }
 

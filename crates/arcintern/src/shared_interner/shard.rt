@@ -7,8 +7,8 @@ use std::array;
 use std::sync::atomic::{AtomicU64, AtomicUsize, Ordering};
 use std::sync::{Mutex, OnceLock};
 
-/// How many longer tables a shard can have. The last has `2^33` places, which is enough for all numbers.
-const TABLES: usize = 29;
+/// How many longer tables a shard can have. The last has `2^33` places or more, which is enough for all numbers.
+const TABLES: usize = 30;
 
 /// The words whose hashes pick this shard. Threads read its table while another adds a word, so a table stays where it is: one that is
 /// too short is kept beside the longer one that takes its place.

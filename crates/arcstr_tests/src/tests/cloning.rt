@@ -44,7 +44,9 @@ fn a_clone_that_gives_up_leaves_the_count(rt: HostRuntime) {
     let slice = &part(&rt, &made(&rt, "foobar"), 3..);
     check!(rt; slice.try_clone(0).is_none() && slice.parent().try_clone(0).is_none());
     check_count(&rt, slice.parent(), Some(1));
-    check!(rt; slice.try_clone(1).is_some_and(|copy| copy == *slice));
+    let copy = &slice.try_clone(1).expect(&rt, "changed");
+    check!(rt; copy == slice);
+    check_count(&rt, slice.parent(), Some(2));
     check!(rt; literal!("foo").try_clone(0).is_some_and(|copy| copy.eq_str("foo")));
 }
 
