@@ -1,4 +1,4 @@
-//! Shares a text with a thread, takes slices of it, and asks for a slice that it does not have.
+//! Shares a text with a thread, takes slices of the text, and asks for a slice past its end.
 #![tactic(auto)]
 
 use arcstr::ArcStr;
