@@ -1,5 +1,5 @@
 #!/usr/bin/env -S python3 -B
-"""Proves and builds crates of this repository with the libraries below them, and tells how far it is: tools/built.py CRATE ..
+"""Proves and builds crates of this repository with the libraries below them, and tells how far it is: tools/rattle/built.py CRATE ..
 
 For the other scripts it also lays the built forms of libraries, `out/rlib`, beside copies of their sources.
 """
@@ -20,7 +20,9 @@ KEPT = "the functions that are proved are kept, and the same command goes on fro
 
 def laid_crates():
     """The libraries that users name, and those below them, which `./vendor` copies."""
-    return with_below([crate for crate in ("arcstr", "arcintern", "arctokens") if crate in listed_crates()])
+    return with_below(
+        [crate for crate in ("arcstr", "arcintern", "arctokens") if crate in listed_crates()]
+    )
 
 
 def product(crate):
@@ -36,7 +38,11 @@ def with_below(crates):
 
 def seconds_for(crates):
     """About how much processor time the proofs of these crates take from nothing."""
-    return sum(SECONDS_A_CRATE + SECONDS_A_LINE * sum(file.read_text().count("\n") for file in files_of(crate)[0]) for crate in crates)
+    return sum(
+        SECONDS_A_CRATE
+        + SECONDS_A_LINE * sum(file.read_text().count("\n") for file in files_of(crate)[0])
+        for crate in crates
+    )
 
 
 def prove(name, crates):
@@ -55,10 +61,14 @@ def prove(name, crates):
             print(said, end="", file=sys.stderr)
         return status == 0
 
-    with Progress(name, len(crates), "crates", seconds_for(left), KEPT) as progress, Lanes(len(crates), progress) as pool:
+    with Progress(name, len(crates), "crates", seconds_for(left), KEPT) as progress, Lanes(
+        len(crates), progress
+    ) as pool:
         # Those that use no other do not wait for each other. Each of the others waits for most of the rest.
         lowest = [crate for crate in crates if not below(crate)]
-        return all([*pool.map(build, lowest)]) and all(map(build, [crate for crate in crates if crate not in lowest]))
+        return all([*pool.map(build, lowest)]) and all(
+            map(build, [crate for crate in crates if crate not in lowest])
+        )
 
 
 def sum_of(file):
@@ -66,25 +76,42 @@ def sum_of(file):
 
 
 def kit_here():
-    return subprocess.run(["rt", "version"], capture_output=True, text=True).stdout.strip() if shutil.which("rt") else "none, as `rt` is not in PATH"
+    return (
+        subprocess.run(["rt", "version"], capture_output=True, text=True).stdout.strip()
+        if shutil.which("rt")
+        else "none, as `rt` is not in PATH"
+    )
 
 
 def fault_of_pack():
-    """Why nothing can be taken from this folder, which may be a pack of tools/pack: it is of another kit, or not as it was packed. Empty for a clone."""
+    """Why nothing can be taken from this folder, which may be a pack of tools/rattle/pack: it is of another kit, or not as it was packed. Empty for a clone."""
     if not PACKED.is_file():
         return ""
     head, *rows = PACKED.read_text().splitlines() or [""]
     _, kit, _, number = [*head.split("  "), "", "", "", ""][:4]
     rows = [row.partition("  ") for row in rows]
-    wrong = [path for sum, _, path in rows if sum_of(ROOT / path) != sum] + [PACKED.name] * (str(len(rows)) != number)
+    wrong = [path for sum, _, path in rows if sum_of(ROOT / path) != sum] + [PACKED.name] * (
+        str(len(rows)) != number
+    )
     if wrong:
         return f"this pack is cut or was changed, so unpack it anew: not as packed are {', '.join(wrong[:5])}"
-    return "" if kit == kit_here() else f"this pack is of the kit {kit}, and the kit here is {kit_here()}: take the pack of your kit, or a clone"
+    return (
+        ""
+        if kit == kit_here()
+        else f"this pack is of the kit {kit}, and the kit here is {kit_here()}: take the pack of your kit, or a clone"
+    )
 
 
 def takes_as_built(folder, *words):
     """Whether `rt lib` or `rt run` has no proof to do in a crate's folder. It is stopped where it begins one."""
-    with subprocess.Popen(words, cwd=folder, stdin=subprocess.DEVNULL, stdout=subprocess.PIPE, stderr=subprocess.STDOUT, text=True) as ran:
+    with subprocess.Popen(
+        words,
+        cwd=folder,
+        stdin=subprocess.DEVNULL,
+        stdout=subprocess.PIPE,
+        stderr=subprocess.STDOUT,
+        text=True,
+    ) as ran:
         begins = ran.stdout.readline()
         ran.terminate()
     return begins.startswith("rt: nothing has changed") or not begins and ran.returncode == 0

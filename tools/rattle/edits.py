@@ -29,7 +29,7 @@ def lines_before(text, part, old):
     if start < 0 or text.count(old, start, end) != 1:
         return f"{part}: "
     first = place = text.index(old, start)
-    while text.count(text[first:place + len(old)]) > 1:
+    while text.count(text[first : place + len(old)]) > 1:
         first = text.rindex("\n", 0, first - 1) + 1
     return text[first:place]
 
@@ -48,7 +48,11 @@ def wrong_bodies_in(path):
         elif word in whole:
             (own if body else whole)[word] = rest
         elif word == "old:":
-            before = lines_before((path.parents[1] / own["file:"]).read_text(), own["in:"], rest) if own["in:"] else ""
+            before = (
+                lines_before((path.parents[1] / own["file:"]).read_text(), own["in:"], rest)
+                if own["in:"]
+                else ""
+            )
             body.hunks.append([own["file:"], before + rest, ""])
         elif word == "new:":
             body.hunks[-1][2] = before + rest
@@ -69,10 +73,18 @@ def read_edit(edit):
             return edit
         texts[path] = before, after.replace(old, new)
     for path, (before, after) in texts.items():
-        lines, changed, file = before.splitlines(True), after.splitlines(True), str(path.relative_to(edit.path.parents[1]))
-        for kind, first, last, *there in SequenceMatcher(None, lines, changed, autojunk=False).get_opcodes():
+        lines, changed, file = (
+            before.splitlines(True),
+            after.splitlines(True),
+            str(path.relative_to(edit.path.parents[1])),
+        )
+        for kind, first, last, *there in SequenceMatcher(
+            None, lines, changed, autojunk=False
+        ).get_opcodes():
             start, end = (len("".join(lines[:line])) for line in (first, last))
-            around = [it for it in functions_in(path, before) if it.start <= start and end <= it.end + 1]
+            around = [
+                it for it in functions_in(path, before) if it.start <= start and end <= it.end + 1
+            ]
             if kind != "equal" and not around:
                 edit.wrong = f"line {first + 1} of {file} is in no function"
             elif kind != "equal":
@@ -83,7 +95,9 @@ def read_edit(edit):
 
 def module_of(file):
     """The module of a source, empty for the crate's root."""
-    return "::".join(part for part in Path(file).with_suffix("").parts[1:] if part not in ("lib", "main"))
+    return "::".join(
+        part for part in Path(file).with_suffix("").parts[1:] if part not in ("lib", "main")
+    )
 
 
 def path_of(key):
@@ -94,7 +108,11 @@ def path_of(key):
     # An implementation for a reference has its trait as its owner, and the reference in its place.
     named = f"{trait} {owner}" if (trait or "").startswith("&") else f"{owner} {trait or ''}"
     words = re.findall(r"\w+|&", re.sub(r"\bfmt::|'\w+|\bDrop\b", "", named))
-    return "".join("Ref" if word == "&" else word[0].upper() + word[1:] for word in words) + "::" + name
+    return (
+        "".join("Ref" if word == "&" else word[0].upper() + word[1:] for word in words)
+        + "::"
+        + name
+    )
 
 
 def copy_function(key, edit, room):
@@ -102,17 +120,24 @@ def copy_function(key, edit, room):
     file, owner, trait, name = key
     copied, text = f"{name}_{edit.name}", (room / file).read_text()
     it = next(it for it in functions_in(room / file, text) if key_of(file, it) == key)
-    body = text[it.start:it.end + 1]
+    body = text[it.start : it.end + 1]
     for _, start, end, new in sorted(edit.changes, reverse=True):
-        body = body[:start - it.start] + new + body[end - it.start:]
+        body = body[: start - it.start] + new + body[end - it.start :]
     place = [part for part in (*module_of(file).split("::"), owner, name) if part]
     for folder in [*(room / "proofs").rglob(name)]:
         if [part for part in folder.relative_to(room / "proofs").parts if part != "fn"] == place:
             there = shutil.copytree(folder, folder.with_name(copied))
-            old, new = (".".join(["", *path.relative_to(room).parts, ""]) for path in (folder, there))
+            old, new = (
+                ".".join(["", *path.relative_to(room).parts, ""]) for path in (folder, there)
+            )
             for proof in there.rglob("*.antt"):
                 proof.write_text(proof.read_text().replace(old, new))
-    return (file, owner, trait, copied), (file, it.end + 1, it.end + 1, "\n" + re.sub(rf"\bfn {name}\b", f"fn {copied}", body, count=1))
+    return (file, owner, trait, copied), (
+        file,
+        it.end + 1,
+        it.end + 1,
+        "\n" + re.sub(rf"\bfn {name}\b", f"fn {copied}", body, count=1),
+    )
 
 
 def plant(edits, room):

@@ -5,17 +5,24 @@ from dataclasses import dataclass, field
 from functools import cache
 from pathlib import Path
 
-ROOT = Path(__file__).resolve().parents[1]
+ROOT = Path(__file__).resolve().parents[2]
 CRATES = ROOT / "crates"
 COMMENT_OR_LITERAL = re.compile(
-    r"(?P<line>//[^\n]*)|(?P<block>/\*)|\"(?:\\.|[^\"\\])*\"|(?<![\w'])'(?:\\[^'\n]+|[^'\\\n])'", re.S)
+    r"(?P<line>//[^\n]*)|(?P<block>/\*)|\"(?:\\.|[^\"\\])*\"|(?<![\w'])'(?:\\[^'\n]+|[^'\\\n])'",
+    re.S,
+)
 ATTRIBUTES = r"^(?P<attributes>(?:[ \t]*#\[[^\n]*\][ \t]*\n(?:[ \t]*\n)*)*)[ \t]*"
 MODULE = re.compile(ATTRIBUTES + r"(?:pub(?:\([a-z]+\))? )?mod (?P<name>\w+);", re.M)
 FUNCTION = re.compile(
-    ATTRIBUTES + r"(?P<public>pub )?(?:pub\([a-z]+\) )?(?:(?:const|unsafe|extern|async) )*fn (?P<name>\w+)", re.M)
+    ATTRIBUTES
+    + r"(?P<public>pub )?(?:pub\([a-z]+\) )?(?:(?:const|unsafe|extern|async) )*fn (?P<name>\w+)",
+    re.M,
+)
 OWNER = re.compile(
     r"^(?:unsafe )?(?:impl\b(?:<[^{]*?>)? (?:(?P<own>[^{;\n]*?) for (?P<lent>&(?:'\w+ )?\w+)|(?:(?P<trait>[^{;\n]*?) for )?(?P<type>\w+(?:::\w+)*))"
-    r"|(?:pub )?trait (?P<new>\w+))[^;{]*\{", re.M)
+    r"|(?:pub )?trait (?P<new>\w+))[^;{]*\{",
+    re.M,
+)
 CLAUSE = re.compile(r"\b(?P<kind>ensures|requires|invariant|decreases)(?: (?P<name>\w+))?\s*$")
 HIDING = re.compile(r"#!?\[(?:cfg|path|ignore).*?\]$", re.M)
 CLOSING = {"(": ")", "{": "}"}
@@ -42,9 +49,9 @@ def without_comments(text, literals=True):
     parts = []
     place = 0
     while found := COMMENT_OR_LITERAL.search(text, place):
-        parts.append(text[place:found.start()])
+        parts.append(text[place : found.start()])
         place = end_of_block_comment(text, found.start()) if found["block"] else found.end()
-        part = text[found.start():place]
+        part = text[found.start() : place]
         if found["line"] or found["block"]:
             part = blank(part)
         elif not literals:
@@ -67,13 +74,19 @@ def listed_crates():
 
 def uses_of(crate):
     """What crates.txt lists after the name of a crate."""
-    return re.search(rf"^{crate}\b[^:#\n]*:(.*)", (ROOT / "crates.txt").read_text(), re.M)[1].split()
+    return re.search(rf"^{crate}\b[^:#\n]*:(.*)", (ROOT / "crates.txt").read_text(), re.M)[
+        1
+    ].split()
 
 
 @cache
 def libraries():
     """The libraries of crates.txt, lowest first, with what each uses. A crate of tests is none."""
-    return {crate: uses_of(crate) for crate in listed_crates() if is_library(crate) and not crate.endswith(TESTS)}
+    return {
+        crate: uses_of(crate)
+        for crate in listed_crates()
+        if is_library(crate) and not crate.endswith(TESTS)
+    }
 
 
 @cache
@@ -85,7 +98,9 @@ def below(crate):
 
 def write_repository(folder, crate, uses, files):
     """Writes a repository that has these libraries and those below them, and a crate that uses them, with these files of sources."""
-    own = [name for name in libraries() if name in {*uses}.union(*map(below, {*uses} & {*libraries()}))]
+    own = [
+        name for name in libraries() if name in {*uses}.union(*map(below, {*uses} & {*libraries()}))
+    ]
     lines = [f"{name}: {' '.join(libraries()[name])}\n" for name in own]
     for name in [*own, crate]:
         for part in ("src", "specs", "proofs"):
@@ -93,7 +108,9 @@ def write_repository(folder, crate, uses, files):
             if (CRATES / name / part).is_dir():
                 shutil.copytree(CRATES / name / part, folder / "crates" / name / part)
     (folder / "crates" / crate / "src").mkdir(parents=True)
-    (folder / "crates.txt").write_text("".join([*lines, f"{crate} tests_may=Threads+Wait: {' '.join({*uses, *own})}\n"]))
+    (folder / "crates.txt").write_text(
+        "".join([*lines, f"{crate} tests_may=Threads+Wait: {' '.join({*uses, *own})}\n"])
+    )
     shutil.copy(ROOT / "HANDLES", folder)
     for name, text in files.items():
         (folder / "crates" / crate / "src" / name).write_text(text)
@@ -101,22 +118,28 @@ def write_repository(folder, crate, uses, files):
 
 def with_test_crates(crate):
     """The crate, and the crates of tests that use it."""
-    return [crate, *(other for other in listed_crates() if other.endswith(TESTS) and crate in uses_of(other))]
+    return [
+        crate,
+        *(other for other in listed_crates() if other.endswith(TESTS) and crate in uses_of(other)),
+    ]
 
 
 def is_library(crate):
     return (CRATES / crate / "src" / "lib.rt").exists()
 
 
-# The pages whose blocks `tools/examples` runs, but for those that declare a function, each with the library that it sees.
-EXAMPLE_PAGES = {ROOT / "docs" / "GUIDE.md": "arcstr"} | {page: crate for crate in libraries() for page in (CRATES / crate).glob("*.md")}
+# The pages whose blocks `tools/rattle/examples` runs, but for those that declare a function, each with the library that it sees.
+EXAMPLE_PAGES = {ROOT / "docs" / "GUIDE.md": "arcstr"} | {
+    page: crate for crate in libraries() for page in (CRATES / crate).glob("*.md")
+}
 DECLARES_FUNCTION = re.compile(r"^(pub )?fn ", re.M)
 
 
 @cache
 def files_of(crate):
     """The files that the `mod` lines of a crate reach, each with whether it is for tests alone; and what is wrong: a file that they do
-    not reach, a file that is missing, a test that is not run, and code under a condition other than `test`."""
+    not reach, a file that is missing, a test that is not run, and code under a condition other than `test`.
+    """
     source = CRATES / crate / "src"
     root = source / ("lib.rt" if is_library(crate) else "main.rt")
     files, wrong = {}, []
@@ -132,9 +155,13 @@ def files_of(crate):
         wrong.extend(f"{crate}: {file.relative_to(source)} has `{line}`" for line in hidden)
         for found in MODULE.finditer(text):
             folder = file.parent if file == root else file.with_suffix("")
-            to_read.append((folder / f"{found['name']}.rt", tests or "#[cfg(test)]" in found["attributes"]))
+            to_read.append(
+                (folder / f"{found['name']}.rt", tests or "#[cfg(test)]" in found["attributes"])
+            )
     unread = sorted(set(source.rglob("*.rt")) - set(files))
-    return dict(sorted(files.items())), wrong + [f"{crate}: no `mod` line reads {file.relative_to(source)}" for file in unread]
+    return dict(sorted(files.items())), wrong + [
+        f"{crate}: no `mod` line reads {file.relative_to(source)}" for file in unread
+    ]
 
 
 @dataclass(eq=False)
@@ -163,7 +190,9 @@ class Function:
 def end_of_group(text, start):
     """The place after the bracket that closes the one at `start`."""
     depth = 0
-    for found in re.compile(re.escape(text[start]) + "|" + re.escape(CLOSING[text[start]])).finditer(text, start):
+    for found in re.compile(
+        re.escape(text[start]) + "|" + re.escape(CLOSING[text[start]])
+    ).finditer(text, start):
         depth += 1 if found[0] == text[start] else -1
         if depth == 0:
             return found.end()
@@ -177,10 +206,13 @@ def read_contract(function, text, shown, source, start):
         function.end = end = end_of_group(text, found.start())
         clause = CLAUSE.search(text, start, found.start())
         if not clause:
-            function.body, function.raw_body = shown[found.end():end - 1], source[found.end():end - 1]
+            function.body, function.raw_body = (
+                shown[found.end() : end - 1],
+                source[found.end() : end - 1],
+            )
             return
         if clause["kind"] == "ensures":
-            function.ensures[clause["name"]] = " ".join(shown[found.end():end - 1].split())
+            function.ensures[clause["name"]] = " ".join(shown[found.end() : end - 1].split())
         start = end
 
 
@@ -192,15 +224,33 @@ def functions(file, source=None):
     owners = [(found, end_of_group(text, found.end() - 1)) for found in OWNER.finditer(text)]
     for found in FUNCTION.finditer(text):
         owner = next((owner for owner, end in owners if owner.start() < found.start() < end), None)
-        is_public = bool(found["public"] or owner and (owner["trait"] or owner["own"] or owner["new"]))
+        is_public = bool(
+            found["public"] or owner and (owner["trait"] or owner["own"] or owner["new"])
+        )
         attributes = re.findall(r"#\[(.*)\]", found["attributes"])
         owned_by = owner and (owner["type"] or owner["own"] or owner["new"])
-        function = Function(found["name"], owned_by, is_public, attributes, file, found.start(), trait=owner and owner["trait"], lent=owner and owner["lent"])
-        read_contract(function, text, shown, source, end_of_group(text, text.index("(", found.end())))
+        function = Function(
+            found["name"],
+            owned_by,
+            is_public,
+            attributes,
+            file,
+            found.start(),
+            trait=owner and owner["trait"],
+            lent=owner and owner["lent"],
+        )
+        read_contract(
+            function, text, shown, source, end_of_group(text, text.index("(", found.end()))
+        )
         yield function
 
 
 def is_current(built, crates):
     """Whether a file is newer than all sources of these crates. `rt ci` leaves no stamp by which `rt lib` and `rt run` would see that."""
-    sources = [path for crate in crates for part in ("src", "specs", "proofs") for path in (CRATES / crate / part).rglob("*")]
+    sources = [
+        path
+        for crate in crates
+        for part in ("src", "specs", "proofs")
+        for path in (CRATES / crate / part).rglob("*")
+    ]
     return built.exists() and all(path.stat().st_mtime <= built.stat().st_mtime for path in sources)

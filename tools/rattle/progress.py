@@ -14,7 +14,13 @@ PROCESSORS = len(os.sched_getaffinity(0))
 # What rt says while it proves a crate, and what it and other scripts say of a part of their work.
 SO_FAR = re.compile(r"(?:so far: |checked .*, )(\d+) of (\d+)\b")
 NEWS = re.compile(r"rt: (.* (?:proved|NOT PROVED))$|(?:wrong-bodies|refusals): (.*)")
-STREAMS = {"stdin": subprocess.DEVNULL, "stdout": subprocess.PIPE, "stderr": subprocess.STDOUT, "text": True, "errors": "replace"}
+STREAMS = {
+    "stdin": subprocess.DEVNULL,
+    "stdout": subprocess.PIPE,
+    "stderr": subprocess.STDOUT,
+    "text": True,
+    "errors": "replace",
+}
 
 
 def span(seconds):
@@ -24,16 +30,35 @@ def span(seconds):
 
 class Progress:
     """What `with Progress(..)` tells of its block. The work has `total` parts, such as crates, and takes `seconds` of processor time. After an interrupt it
-    says what is `kept`. The block calls `note` for what it learns of a part, and `end` once the part is done."""
+    says what is `kept`. The block calls `note` for what it learns of a part, and `end` once the part is done.
+    """
 
     def __init__(self, name, total, parts, seconds, kept):
-        self.name, self.total, self.parts, self.kept, self.expected = name, total, parts, kept, span(seconds / PROCESSORS)
-        self.done, self.now, self.running, self.shows, self.begun = 0, {}, set(), sys.stderr.isatty(), time.monotonic()
-        self.lock, self.ended, self.thread = threading.RLock(), threading.Event(), threading.Thread(target=self.renew, daemon=True)
+        self.name, self.total, self.parts, self.kept, self.expected = (
+            name,
+            total,
+            parts,
+            kept,
+            span(seconds / PROCESSORS),
+        )
+        self.done, self.now, self.running, self.shows, self.begun = (
+            0,
+            {},
+            set(),
+            sys.stderr.isatty(),
+            time.monotonic(),
+        )
+        self.lock, self.ended, self.thread = (
+            threading.RLock(),
+            threading.Event(),
+            threading.Thread(target=self.renew, daemon=True),
+        )
 
     def __enter__(self):
         signal.signal(signal.SIGTERM, signal.default_int_handler)
-        self.say(f"{self.total} {self.parts}, about {self.expected} on {PROCESSORS} processor{'s' * (PROCESSORS > 1)}")
+        self.say(
+            f"{self.total} {self.parts}, about {self.expected} on {PROCESSORS} processor{'s' * (PROCESSORS > 1)}"
+        )
         self.thread.start()
         return self
 
@@ -58,7 +83,9 @@ class Progress:
         while self.shows and not self.ended.wait(1):
             with self.lock:
                 now = ", ".join(f"{part} {note}".strip() for part, note in self.now.items())
-                line = f"{self.name}: {self.so_far()} of about {self.expected}; {now}"[:shutil.get_terminal_size().columns - 1]
+                line = f"{self.name}: {self.so_far()} of about {self.expected}; {now}"[
+                    : shutil.get_terminal_size().columns - 1
+                ]
                 print(f"\r\033[K{line}", end="", file=sys.stderr, flush=True)
 
     def say(self, *lines, file=None):
