@@ -243,14 +243,3 @@ def functions(file, source=None):
             function, text, shown, source, end_of_group(text, text.index("(", found.end()))
         )
         yield function
-
-
-def is_current(built, crates):
-    """Whether a file is newer than all sources of these crates. `rt ci` leaves no stamp by which `rt lib` and `rt run` would see that."""
-    sources = [
-        path
-        for crate in crates
-        for part in ("src", "specs", "proofs")
-        for path in (CRATES / crate / part).rglob("*")
-    ]
-    return built.exists() and all(path.stat().st_mtime <= built.stat().st_mtime for path in sources)
