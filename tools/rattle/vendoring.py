@@ -37,9 +37,9 @@ OF_PACK = """- These crates are proved, and their built forms came along, about 
 OF_CLONE = """- These crates are proved in {root}. As long as that folder stays, `rt` takes the proofs from
   there at your first check, and proves your functions alone: the line that begins with `logic=`
   says `libraries-built=trusted`. `rt verdict` proves these crates again too."""
-NOT_PROVED = """- Not proved in {root}: {names}. {first} proves them once: about {time} on {number}
-  processors, and up to 7 GB of memory. `./vendor --prove FOLDER` proves them there, and tells how
-  far it is."""
+NOT_PROVED = """- Not proved in {root}: {names}.
+  {first} proves them once: about {time} on {number} processors, and up to 7 GB of memory.
+  `./vendor --prove FOLDER` proves them there, and tells how far it is."""
 NEITHER = """- {root} has neither `.git` nor PACKED, so it is neither a clone nor a whole pack. Only the
   sources were copied, and nothing that was built there."""
 NO_RT = "- `rt` is not in PATH: put the folder `bin` of the kit {kit} there."
