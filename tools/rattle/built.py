@@ -147,7 +147,7 @@ def fault_of_pack() -> str:
 
 
 def takes_as_built(folder: Path) -> bool:
-    """Whether `rt lib` has no proof to do in a crate's folder. It is stopped where it begins one."""
+    """Whether `rt lib` has no proof to do in a crate's folder. It is stopped if it begins one."""
     with subprocess.Popen(
         ["rt", "lib"],
         cwd=folder,

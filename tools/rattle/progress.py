@@ -1,5 +1,5 @@
-"""Tells on standard error how far a long command is: at once how much is to come, then on a terminal one line that is renewed each second, and elsewhere a line
-for each part that is done."""
+"""Tells on standard error how far a long command is: at once how much is to come, then on a
+terminal one line that is renewed each second, and elsewhere a line for each part that is done."""
 import os
 import re
 import shutil
@@ -28,9 +28,17 @@ def span(seconds):
     return f"{-int(-seconds // 10) * 10} s" if seconds <= 90 else f"{-int(-seconds // 60)} min"
 
 
+def take_interrupts() -> None:
+    """Has SIGTERM and SIGHUP end this run as SIGINT does, but for what it was started to ignore."""
+    for number in (signal.SIGTERM, signal.SIGHUP):
+        if signal.getsignal(number) != signal.SIG_IGN:
+            signal.signal(number, signal.default_int_handler)
+
+
 class Progress:
-    """What `with Progress(..)` tells of its block. The work has `total` parts, such as crates, and takes `seconds` of processor time. After an interrupt it
-    says what is `kept`. The block calls `note` for what it learns of a part, and `end` once the part is done.
+    """What `with Progress(..)` tells of its block. The work has `total` parts, such as crates, and
+    takes `seconds` of processor time. After an interrupt it says what is `kept`. The block calls
+    `note` for what it learns of a part, and `end` once the part is done.
     """
 
     def __init__(self, name, total, parts, seconds, kept):
@@ -55,10 +63,9 @@ class Progress:
         )
 
     def __enter__(self):
-        signal.signal(signal.SIGTERM, signal.default_int_handler)
-        self.say(
-            f"{self.total} {self.parts}, about {self.expected} on {PROCESSORS} processor{'s' * (PROCESSORS > 1)}"
-        )
+        take_interrupts()
+        processors = f"{PROCESSORS} processor{'s' * (PROCESSORS > 1)}"
+        self.say(f"{self.total} {self.parts}, about {self.expected} on {processors}")
         self.thread.start()
         return self
 
@@ -108,7 +115,8 @@ class Progress:
                 self.say(f"{part} {what} ({self.so_far()})")
 
     def follow(self, part, words, folder):
-        """Runs a command in a folder, which is a part, and tells what it tells. Returns its status and all that it says."""
+        """Runs a command in a folder, which is a part, and tells what it tells. Returns its status
+        and all that it says."""
         said, most = [], 0
         self.note(part)
         with subprocess.Popen(words, cwd=folder, **STREAMS) as ran:
@@ -125,7 +133,8 @@ class Progress:
 
 
 class Lanes(ThreadPoolExecutor):
-    """Lanes for the parts of a progress. After an interrupt no part begins, and what runs is ended."""
+    """Lanes for the parts of a progress. After an interrupt no part begins, and what runs is
+    ended."""
 
     def __init__(self, number, progress):
         super().__init__(number)

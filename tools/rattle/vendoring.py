@@ -31,20 +31,25 @@ LIST = ".laid-by-vendor"
 PLAN, LINES = "plan.json", "lines"
 Plan = list[tuple[str, str]]
 
-OF_PACK = """- These crates are proved, and their built forms came along, about {size} MB. Your checks
+OF_PACK = """\
+- These crates are proved, and their built forms came along, about {size} MB. Your checks
   prove your functions alone, and trust those proofs: the line that begins with `logic=` says
   `libraries-built=trusted`. `rt verdict` proves these crates again too."""
-OF_CLONE = """- These crates are proved in {root}. As long as that folder stays, `rt` takes the proofs from
-  there at your first check, and proves your functions alone: the line that begins with `logic=`
-  says `libraries-built=trusted`. `rt verdict` proves these crates again too."""
-NOT_PROVED = """- Not proved in {root}: {names}.
+OF_CLONE = """\
+- These crates are proved in {root}. As long as that folder stays, `rt` takes the
+  proofs from there at your first check, and proves your functions alone: the line that begins
+  with `logic=` says `libraries-built=trusted`. `rt verdict` proves these crates again too."""
+NOT_PROVED = """\
+- Not proved in {root}: {names}.
   {first} proves them once: about {time} on {number} processors, and up to 7 GB of memory.
   `./vendor --prove FOLDER` proves them there, and tells how far it is."""
-NEITHER = """- {root} has neither `.git` nor PACKED, so it is neither a clone nor a whole pack. Only the
-  sources were copied, and nothing that was built there."""
+NEITHER = """\
+- {root} has neither `.git` nor PACKED, so it is neither a clone nor a whole pack.
+  Only the sources were copied, and nothing that was built there."""
 NO_RT = "- `rt` is not in PATH: put the folder `bin` of the kit {kit} there."
-OTHER_KIT = """- `rt` here is of the kit {here}, and these crates are of {kit}: another kit may refuse them.
-  Take that kit, or a version of this library for yours."""
+OTHER_KIT = """\
+- `rt` here is of the kit {here}, and these crates are of {kit}. Another kit may refuse
+  them: take that kit, or a version of this library for yours."""
 REMOVED = """The crates that `vendor` copied are gone, with their lines of crates.txt.
 - What stays: the crates of yours, and the file HANDLES if there is one.{users}"""
 USERS = "\n- These crates still name a removed one in crates.txt: {names}."
