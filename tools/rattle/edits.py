@@ -3,9 +3,9 @@ the crate's sources.
 
 A file `wrong-bodies/SUBJECT.edits` has a block for each wrong body, from a line `## NAME` to a line
 `refused: CLAUSE, ..`. Between them stand pairs of lines `old: TEXT` and `new: TEXT`. They edit
-`src/SUBJECT.rt`, or the file that a line `file: FILE` names, and there the part that a line
-`in: PART` names. These two lines hold for one body where they stand in it, else for all below. A
-file `must-fail/NAME.edit` has one edit without a heading and without a line `refused:`.
+`src/SUBJECT.rt`, or the file that a line `file: FILE` names, and there the part that a line `in:
+PART` names. These two lines hold for one body where they stand in it, else for all below. A file
+`must-fail/NAME.edit` has one edit without a heading and without a line `refused:`.
 """
 import re
 import shutil

@@ -1,5 +1,5 @@
-"""Reads the crates' sources, for the checks: the list of crates, the files of each, the functions in a
-file with their contracts, and what differs from the upstream branch."""
+"""Reads the crates' sources, for the checks: the list of crates, the files of each, the functions
+in a file with their contracts, and what differs from the upstream branch."""
 import re
 import shutil
 import subprocess
@@ -108,8 +108,8 @@ def below(crate: str) -> list[str]:
 
 
 def write_repository(folder: Path, crate: str, uses: Iterable[str], files: dict[str, str]) -> None:
-    """Writes a repository that has these libraries and those below them, and a crate that uses them,
-    with these files of sources."""
+    """Writes a repository that has these libraries and those below them, and a crate that uses
+    them, with these files of sources."""
     wanted = {*uses}.union(*map(below, {*uses} & {*libraries()}))
     own = [name for name in libraries() if name in wanted]
     lines = [f"{name}: {' '.join(libraries()[name])}\n" for name in own]
@@ -139,8 +139,8 @@ def is_library(crate: str) -> bool:
     return (CRATES / crate / "src" / "lib.rt").exists()
 
 
-# The pages whose blocks `tools/rattle/examples` runs, but for those that declare a function, each with
-# the library that it sees.
+# The pages whose blocks `tools/rattle/examples` runs, but for those that declare a function, each
+# with the library that it sees.
 EXAMPLE_PAGES = {ROOT / "docs" / "GUIDE.md": "arcstr"} | {
     page: crate for crate in libraries() for page in (CRATES / crate).glob("*.md")
 }
@@ -150,8 +150,8 @@ DECLARES_FUNCTION = re.compile(r"^(pub )?fn ", re.M)
 @cache
 def files_of(crate: str) -> tuple[dict[Path, bool], list[str]]:
     """The files that the `mod` lines of a crate reach, each with whether it is for tests alone; and
-    what is wrong: a file that they do not reach, a file that is missing, a test that is not run, and
-    code under a condition other than `test`.
+    what is wrong: a file that they do not reach, a file that is missing, a test that is not run,
+    and code under a condition other than `test`.
     """
     source = CRATES / crate / "src"
     root = source / ("lib.rt" if is_library(crate) else "main.rt")
@@ -278,7 +278,8 @@ def text_upstream(file: str) -> str:
 
 
 def is_current(built, crates):
-    """Whether a file is newer than all sources of these crates. `rt ci` leaves no stamp by which `rt lib` and `rt run` would see that."""
+    """Whether a file is newer than all sources of these crates. `rt ci` leaves no stamp by which
+    `rt lib` and `rt run` would see that."""
     sources = [
         path
         for crate in crates

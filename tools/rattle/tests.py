@@ -48,6 +48,7 @@ def load(path: Path) -> ModuleType:
     return module
 
 
+examples = load(Path(__file__).with_name("examples"))
 wrong_bodies = load(Path(__file__).with_name("wrong-bodies"))
 
 
@@ -263,3 +264,42 @@ class WrongBodies(Folder):
         self.assertIn("ensures value { result ≡ self.now.first } {}", left)
         macro = self.write("src/more.rt", f"macro_rules! m {{}}\n{SOURCE}")
         self.assertIn("one + one", wrong_bodies.without_bodies(macro))
+
+
+class Examples(Folder):
+    """tools/rattle/examples finds examples, and reads how they ended."""
+
+    PAGE = "/// Text.\n///\n/// ```\n/// let a = 1;\n/// ```\nfn f() {}\n"
+    ENDS = "test planted::fails ... FAILED\n    left: 1\ntest result: FAILED. {}; {}; 0 ignored\n"
+
+    def test_examples_stand_in_their_lines(self) -> None:
+        source = examples.read("arcstr", self.write("src/a.rt", self.PAGE))
+        self.assertEqual(source.examples, [3])
+        module = examples.as_module(source).splitlines()
+        self.assertEqual(module[2], "#[test] fn l3(rt: HostRuntime) -> Result<(), Fail> {")
+        self.assertEqual((module[3].strip(), module[4], module[5]), ("let a = 1;", "Ok(()) }", ""))
+
+    def test_a_page_has_no_examples_in_functions(self) -> None:
+        text = "```rust\nlet a = 1;\n```\n\n```rust\nfn f() {}\n```\n\n```sh\nls\n```\n"
+        self.assertEqual(examples.read("arcstr", self.write("A.md", text)).examples, [1])
+
+    def test_results(self) -> None:
+        source = examples.read("arcstr", self.write("src/a.rt", self.PAGE))
+        ends = self.ENDS.format("3 passed", "1 failed")
+        for status, said, ran, wrong in (
+            (101, ends, 3, 0),
+            (0, ends, 3, 1),
+            (
+                101,
+                "test f0::l3 ... FAILED\n    x\n" + self.ENDS.format("2 passed", "2 failed"),
+                3,
+                1,
+            ),
+            (0, "test result: ok. 3 passed; 0 failed; 0 ignored\n", 3, 1),
+            (101, "src/f0.rt:4: error\n", 0, 1),
+        ):
+            found, faults = examples.read_result(status, said, [source])
+            self.assertEqual((found, len(faults)), (ran, wrong), said)
+            if "f0" in said:
+                self.assertIn(f"{source.file}:", faults[0])
+            self.assertNotIn("planted", "".join(faults))
