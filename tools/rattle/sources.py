@@ -1,6 +1,9 @@
-"""Reads the crates' sources, for the checks: the list of crates, the files of each, and the functions in a file with their contracts."""
+"""Reads the crates' sources, for the checks: the list of crates, the files of each, the functions
+in a file with their contracts, and what differs from the upstream branch."""
 import re
 import shutil
+import subprocess
+from collections.abc import Iterable, Iterator
 from dataclasses import dataclass, field
 from functools import cache
 from pathlib import Path
@@ -19,7 +22,9 @@ FUNCTION = re.compile(
     re.M,
 )
 OWNER = re.compile(
-    r"^(?:unsafe )?(?:impl\b(?:<[^{]*?>)? (?:(?P<own>[^{;\n]*?) for (?P<lent>&(?:'\w+ )?\w+)|(?:(?P<trait>[^{;\n]*?) for )?(?P<type>\w+(?:::\w+)*))"
+    r"^(?:unsafe )?(?:impl\b(?:<[^{]*?>)? "
+    r"(?:(?P<own>[^{;\n]*?) for (?P<lent>&(?:'\w+ )?\w+)"
+    r"|(?:(?P<trait>[^{;\n]*?) for )?(?P<type>\w+(?:::\w+)*))"
     r"|(?:pub )?trait (?P<new>\w+))[^;{]*\{",
     re.M,
 )
@@ -29,7 +34,12 @@ CLOSING = {"(": ")", "{": "}"}
 TESTS = "_tests"
 
 
-def end_of_block_comment(text, start):
+def place_of(file: Path) -> str:
+    """A file as errors name it."""
+    return str(file.relative_to(ROOT) if file.is_relative_to(ROOT) else file)
+
+
+def end_of_block_comment(text: str, start: int) -> int:
     """The place after the block comment that begins at `start`. Block comments nest."""
     depth = 0
     for found in re.compile(r"/\*|\*/").finditer(text, start):
@@ -39,13 +49,14 @@ def end_of_block_comment(text, start):
     return len(text)
 
 
-def blank(text):
+def blank(text: str) -> str:
     return re.sub(r"[^\n]", " ", text)
 
 
 @cache
-def without_comments(text, literals=True):
-    """The text with a space for each character of a comment, so that all places stay. `literals=False` also blanks what stands in quotes."""
+def without_comments(text: str, literals: bool = True) -> str:
+    """The text with a space for each character of a comment, so that all places stay.
+    `literals=False` also blanks what stands in quotes."""
     parts = []
     place = 0
     while found := COMMENT_OR_LITERAL.search(text, place):
@@ -60,27 +71,27 @@ def without_comments(text, literals=True):
     return "".join(parts) + text[place:]
 
 
-def without_layout(code):
-    """The code without white space, but for that of literals, and without the comma of a last argument that has a line of its own."""
+def without_layout(code: str) -> str:
+    """The code without white space, but for that of literals, and without the comma of a last
+    argument that has a line of its own."""
     code = re.sub(r"\"(?:\\.|[^\"\\])*\"|' '", lambda found: found[0].replace(" ", "\0"), code)
     return re.sub(r",?\s+(?=\))|\s+", "", code)
 
 
-def listed_crates():
+def listed_crates() -> list[str]:
     """The crates that crates.txt lists, in its order."""
-    lines = (ROOT / "crates.txt").read_text().splitlines()
-    return [re.match(r"\w+", line)[0] for line in lines if re.match(r"\w", line)]
+    return re.findall(r"^\w+", (ROOT / "crates.txt").read_text(), re.M)
 
 
-def uses_of(crate):
+def uses_of(crate: str) -> list[str]:
     """What crates.txt lists after the name of a crate."""
-    return re.search(rf"^{crate}\b[^:#\n]*:(.*)", (ROOT / "crates.txt").read_text(), re.M)[
-        1
-    ].split()
+    listed = (ROOT / "crates.txt").read_text()
+    found = re.search(rf"^{crate}\b[^:#\n]*:(.*)", listed, re.M)
+    return found[1].split() if found else []
 
 
 @cache
-def libraries():
+def libraries() -> dict[str, list[str]]:
     """The libraries of crates.txt, lowest first, with what each uses. A crate of tests is none."""
     return {
         crate: uses_of(crate)
@@ -90,17 +101,17 @@ def libraries():
 
 
 @cache
-def below(crate):
+def below(crate: str) -> list[str]:
     """The libraries of the repository that a crate uses, and those that they use."""
     own = {*uses_of(crate)} & {*libraries()}
     return sorted(own.union(*map(below, own)))
 
 
-def write_repository(folder, crate, uses, files):
-    """Writes a repository that has these libraries and those below them, and a crate that uses them, with these files of sources."""
-    own = [
-        name for name in libraries() if name in {*uses}.union(*map(below, {*uses} & {*libraries()}))
-    ]
+def write_repository(folder: Path, crate: str, uses: Iterable[str], files: dict[str, str]) -> None:
+    """Writes a repository that has these libraries and those below them, and a crate that uses
+    them, with these files of sources."""
+    wanted = {*uses}.union(*map(below, {*uses} & {*libraries()}))
+    own = [name for name in libraries() if name in wanted]
     lines = [f"{name}: {' '.join(libraries()[name])}\n" for name in own]
     for name in [*own, crate]:
         for part in ("src", "specs", "proofs"):
@@ -116,7 +127,7 @@ def write_repository(folder, crate, uses, files):
         (folder / "crates" / crate / "src" / name).write_text(text)
 
 
-def with_test_crates(crate):
+def with_test_crates(crate: str) -> list[str]:
     """The crate, and the crates of tests that use it."""
     return [
         crate,
@@ -124,11 +135,12 @@ def with_test_crates(crate):
     ]
 
 
-def is_library(crate):
+def is_library(crate: str) -> bool:
     return (CRATES / crate / "src" / "lib.rt").exists()
 
 
-# The pages whose blocks `tools/rattle/examples` runs, but for those that declare a function, each with the library that it sees.
+# The pages whose blocks `tools/rattle/examples` runs, but for those that declare a function, each
+# with the library that it sees.
 EXAMPLE_PAGES = {ROOT / "docs" / "GUIDE.md": "arcstr"} | {
     page: crate for crate in libraries() for page in (CRATES / crate).glob("*.md")
 }
@@ -136,13 +148,15 @@ DECLARES_FUNCTION = re.compile(r"^(pub )?fn ", re.M)
 
 
 @cache
-def files_of(crate):
-    """The files that the `mod` lines of a crate reach, each with whether it is for tests alone; and what is wrong: a file that they do
-    not reach, a file that is missing, a test that is not run, and code under a condition other than `test`.
+def files_of(crate: str) -> tuple[dict[Path, bool], list[str]]:
+    """The files that the `mod` lines of a crate reach, each with whether it is for tests alone; and
+    what is wrong: a file that they do not reach, a file that is missing, a test that is not run,
+    and code under a condition other than `test`.
     """
     source = CRATES / crate / "src"
     root = source / ("lib.rt" if is_library(crate) else "main.rt")
-    files, wrong = {}, []
+    files: dict[Path, bool] = {}
+    wrong: list[str] = []
     to_read = [(root, False)]
     while to_read:
         file, tests = to_read.pop()
@@ -166,28 +180,29 @@ def files_of(crate):
 
 @dataclass(eq=False)
 class Function:
-    """A function: its type or trait where it has one, the trait that it implements, where it stands in its file, its `ensures` clauses by name (`None` for
-    a clause without one), and its body. A function of a trait for a reference, as `impl Equivalent<ArcStr> for &str`, has the trait as its type, and the
-    reference as `lent`."""
+    """A function: its type or trait where it has one, the trait that it implements, where it stands
+    in its file, its `ensures` clauses by name (`None` for a clause without one), and its body. A
+    function of a trait for a reference, as `impl Equivalent<ArcStr> for &str`, has the trait as its
+    type, and the reference as `lent`."""
 
     name: str
     owner: str | None
     is_public: bool
-    attributes: list
+    attributes: list[str]
     file: Path
     start: int = 0
     end: int = 0
     trait: str | None = None
     lent: str | None = None
-    ensures: dict = field(default_factory=dict)
+    ensures: dict[str | None, str] = field(default_factory=dict)
     body: str = ""
     raw_body: str = ""
 
-    def call(self):
+    def call(self) -> str:
         return f"{self.owner}::{self.name}" if self.owner else self.name
 
 
-def end_of_group(text, start):
+def end_of_group(text: str, start: int) -> int:
     """The place after the bracket that closes the one at `start`."""
     depth = 0
     for found in re.compile(
@@ -199,8 +214,9 @@ def end_of_group(text, start):
     return len(text)
 
 
-def read_contract(function, text, shown, source, start):
-    """Reads the clauses and the body after the parameters. `shown` is the source without its comments, and `text` also without literals."""
+def read_contract(function: Function, text: str, shown: str, source: str, start: int) -> None:
+    """Reads the clauses and the body after the parameters. `shown` is the source without its
+    comments, and `text` also without literals."""
     function.end = start
     while (found := re.compile(r"[{;]").search(text, start)) and found[0] == "{":
         function.end = end = end_of_group(text, found.start())
@@ -216,30 +232,46 @@ def read_contract(function, text, shown, source, start):
         start = end
 
 
-def functions(file, source=None):
-    """The functions of a file, or of another text of it. One of a trait, or of its implementation, is as public as the trait."""
+def functions(file: Path, source: str | None = None) -> Iterator[Function]:
+    """The functions of a file, or of another text of it. One of a trait, or of its implementation,
+    is as public as the trait."""
     source = file.read_text() if source is None else source
     shown = without_comments(source)
     text = without_comments(source, literals=False)
     owners = [(found, end_of_group(text, found.end() - 1)) for found in OWNER.finditer(text)]
     for found in FUNCTION.finditer(text):
-        owner = next((owner for owner, end in owners if owner.start() < found.start() < end), None)
-        is_public = bool(
-            found["public"] or owner and (owner["trait"] or owner["own"] or owner["new"])
-        )
-        attributes = re.findall(r"#\[(.*)\]", found["attributes"])
-        owned_by = owner and (owner["type"] or owner["own"] or owner["new"])
+        around = (owner for owner, end in owners if owner.start() < found.start() < end)
+        owner = next(around, None)
+        part = owner.groupdict() if owner else {}
         function = Function(
             found["name"],
-            owned_by,
-            is_public,
-            attributes,
+            part.get("type") or part.get("own") or part.get("new"),
+            bool(found["public"] or part.get("trait") or part.get("own") or part.get("new")),
+            re.findall(r"#\[(.*)\]", found["attributes"]),
             file,
             found.start(),
-            trait=owner and owner["trait"],
-            lent=owner and owner["lent"],
+            trait=part.get("trait"),
+            lent=part.get("lent"),
         )
-        read_contract(
-            function, text, shown, source, end_of_group(text, text.index("(", found.end()))
-        )
+        parameters = end_of_group(text, text.index("(", found.end()))
+        read_contract(function, text, shown, source, parameters)
         yield function
+
+
+def git(*words: str) -> str:
+    """What git says of the repository. Fails where it has no upstream branch, or no git."""
+    ran = subprocess.run(["git", *words], cwd=ROOT, stdout=subprocess.PIPE, check=True)
+    return ran.stdout.decode()
+
+
+def changed_files() -> list[str]:
+    """The files that differ from the upstream branch."""
+    said = git("diff", "--merge-base", "--name-only", "@{upstream}")
+    return sorted({*(said + git("ls-files", "--others", "--exclude-standard")).splitlines()})
+
+
+def text_upstream(file: str) -> str:
+    """The text that a file had where this branch left the upstream branch. Empty if it had none."""
+    base = git("merge-base", "HEAD", "@{upstream}").strip()
+    is_there = git("ls-tree", "--name-only", base, "--", file)
+    return git("show", f"{base}:{file}") if is_there else ""

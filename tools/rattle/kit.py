@@ -1,0 +1,75 @@
+"""What the scripts know of the Rattle kit beyond its commands: private programs and their flags,
+the words of messages, and where built libraries lie. Another kit may change each of these."""
+import re
+import shutil
+import sys
+from collections.abc import Iterable
+from functools import cache
+from pathlib import Path
+
+# The last line of a check begins with one of these, if the check came to its end.
+ENDS_OF_A_CHECK = ("logic=", "only=")
+# The status of a check that does not know a function's path.
+NO_SUCH_PATH = 2
+# An open goal.
+OPEN_GOAL = re.compile(r"note: (?P<file>src/[^:]+):(?P<line>\d+):\d+: .*?\(`(?P<goal>[^`]+)`\)")
+# A handwritten answer that does not prove its goal. One that names what is no longer there says
+# nothing of the goal.
+WRONG_ANSWER = re.compile(
+    r"\./proofs/(?P<path>.+)/\w+\.antt:\d+:\d+: error: `(?P<goal>[^`]+)`: "
+    r"(?!.*(?:has no [f`]|is not in scope|was not admitted))"
+)
+# How many tests passed and failed.
+TESTED = re.compile(r"^test result: .*? (?P<passed>\d+) passed; (?P<failed>\d+) failed;", re.M)
+PASSED_TEST = re.compile(r"^test .* ok\n", re.M)
+
+
+@cache
+def folder() -> Path:
+    """The kit's folder."""
+    found = shutil.which("rt")
+    if not found:
+        sys.exit("rt is not in PATH")
+    return Path(found).resolve().parents[1]
+
+
+def compiler() -> Path:
+    """The program below `rt`, which also lays out files that stand in no crate's folder."""
+    return folder() / "bin/rattle"
+
+
+def format_words(files: Iterable[Path]) -> list[str | Path]:
+    """Tells which of these files are laid out otherwise than `rt fmt` would."""
+    return [compiler(), "fmt", "--check", *files]
+
+
+def check_words(crate: str, root: str, kept: Path, built: dict[str, Path], uses: list[str]) -> list:
+    """A check of a copy of a crate, to be run in its folder. `root` is its first file, `kept` the
+    folder of what earlier checks proved, and `built` has the folders of built libraries other than
+    the kit's. To be followed by `--only PATH` for each function, if not all are meant."""
+    libraries = folder() / "rlibs"
+    words: list = [compiler(), "check", "--crate-name", crate, root, "--incremental", kept]
+    words += ["--antt-project", folder() / "rattle/logic/antt-project.json"]
+    words += ["--logic-built", folder() / "logic_built"]
+    for name in ["std", *uses]:
+        words += ["--extern", f"{name}={built.get(name, libraries)}/{name}.rlib"]
+    for place in [libraries, *built.values()]:
+        words += ["-L", f"dependency={place}"]
+    return words
+
+
+def clause_of(goal: str) -> str:
+    """The name of the clause that a goal is about: `returns` of a contract with one unnamed clause,
+    `CALL-requires`, `invariant` of a type, or the goal itself."""
+    if found := re.search(r"-clause-(\w+)$", goal):
+        return found[1]
+    if found := re.match(r"(.*-requires)\b", goal) or re.match(r"(returns)\b", goal):
+        return found[1]
+    return "invariant" if goal.startswith("invariant_of") else goal
+
+
+def shared_library_words(source: Path, library: Path | str) -> list:
+    """Compiles a C file to a library that may be loaded before the C library."""
+    tools = folder() / "toolchain/bin"
+    words: list = [tools / "clang", "-O1", "-fPIC", "-shared", "-nostdlib"]
+    return [*words, f"-fuse-ld={tools}/ld.lld", "-o", library, source]

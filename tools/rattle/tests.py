@@ -1,0 +1,305 @@
+"""Tests of the scripts of this folder: what their parsers read, and the mistakes that they find."""
+import importlib.util
+import sys
+import tempfile
+import unittest
+from importlib.machinery import SourceFileLoader
+from pathlib import Path
+from types import ModuleType
+
+import edits
+import kit
+import sources
+
+SOURCE = """//! A crate.
+impl Pair {
+    /// A promise.
+    #[inline]
+    pub fn first(&self) -> u8
+    ensures value { result ≡ self.now.first } {
+        self.first // {
+    }
+}
+
+impl Clone for Pair {
+    fn clone(&self) -> Pair
+    ensures { result ≡ self.now } {
+        Pair { first: self.first, note: "}" }
+    }
+}
+
+fn two() -> u8 {
+    let one = 1;
+    one + one
+}
+"""
+BODY = "## a_mistake\nold: one + one\nnew: one\nrefused: value\n"
+
+
+def load(path: Path) -> ModuleType:
+    """A script as a module."""
+    name = path.name.replace("-", "_")
+    loader = SourceFileLoader(name, str(path))
+    spec = importlib.util.spec_from_loader(name, loader)
+    assert spec
+    module = importlib.util.module_from_spec(spec)
+    sys.modules[name] = module
+    loader.exec_module(module)
+    return module
+
+
+examples = load(Path(__file__).with_name("examples"))
+wrong_bodies = load(Path(__file__).with_name("wrong-bodies"))
+
+
+class Folder(unittest.TestCase):
+    """A test with a folder that has a crate `pair`."""
+
+    def setUp(self) -> None:
+        made = tempfile.TemporaryDirectory()
+        self.addCleanup(made.cleanup)
+        self.folder = Path(made.name)
+        self.crate = self.folder / "crates/pair"
+        self.write("src/lib.rt", SOURCE)
+        self.path = self.crate / "wrong-bodies/lib.edits"
+
+    def write(self, name: str, text: str) -> Path:
+        path = self.crate / name
+        path.parent.mkdir(parents=True, exist_ok=True)
+        path.write_text(text)
+        return path
+
+
+class Sources(Folder):
+    def test_functions_with_their_contracts_and_bodies(self) -> None:
+        first, clone, two = sources.functions(self.crate / "src/lib.rt")
+        self.assertEqual((first.call(), first.is_public), ("Pair::first", True))
+        self.assertEqual(first.ensures, {"value": "result ≡ self.now.first"})
+        self.assertEqual(first.attributes, ["inline"])
+        self.assertEqual((clone.call(), clone.trait), ("Pair::clone", "Clone"))
+        self.assertEqual(clone.ensures, {None: "result ≡ self.now"})
+        self.assertIn('note: "}" }', clone.body)
+        self.assertEqual((two.is_public, two.ensures), (False, {}))
+        self.assertEqual(two.body.split(), "let one = 1; one + one".split())
+
+    def test_comments_and_literals(self) -> None:
+        text = 'a /* b /* c */ d */ "e // f" // g\n'
+        shown = sources.without_comments(text)
+        self.assertEqual((len(shown), shown.split()), (len(text), ["a", '"e', "//", 'f"']))
+        self.assertNotIn("e", sources.without_comments(text, literals=False))
+
+    def test_layout(self) -> None:
+        spread = 'call(\n    "a b",\n    c,\n)'
+        self.assertEqual(sources.without_layout(spread), sources.without_layout('call("a b", c)'))
+        self.assertNotEqual(sources.without_layout('"a b"'), sources.without_layout('"ab"'))
+
+
+class Edits(Folder):
+    def errors_of(self, text: str) -> list[str]:
+        """What is wrong in a text, each with its line."""
+        return [error.partition("lib.edits:")[2] for error in edits.parse(self.path, text)[1]]
+
+    def test_a_wrong_body(self) -> None:
+        [body], errors = edits.parse(self.path, BODY)
+        self.assertEqual(errors, [])
+        self.assertEqual((body.name, body.refused), ("a_mistake", ["value"]))
+        self.assertEqual(body.hunks, [("src/lib.rt", "one + one", "one")])
+        self.assertEqual(edits.read_edit(body).wrong, "")
+        self.assertEqual({edits.path_of(key) for key in body.functions}, {"two"})
+
+    def test_a_part_and_a_file(self) -> None:
+        self.write("src/more.rt", "fn f() {\n    work()\n}\n\nimpl A {\n    fn f() {\n    }\n}\n")
+        [body], errors = edits.parse(self.path, f"file: src/more.rt\n{BODY}".replace("one", "fn"))
+        self.assertIn("does not stand once in src/more.rt", edits.read_edit(body).wrong)
+        text = (
+            "## a\nfile: src/more.rt\nin: impl A\nold:     fn f() {\nnew:     fn g() {\nrefused: b"
+        )
+        [body], errors = edits.parse(self.path, text)
+        self.assertEqual(errors, [])
+        self.assertEqual(edits.read_edit(body).wrong, "")
+        self.assertEqual({key.owner for key in body.functions}, {"A"})
+
+    def test_mistakes_of_typing_are_told_with_their_lines(self) -> None:
+        """Each text has one mistake, which is told."""
+        for text, line, part in (
+            ("## a\nnew: x\nold: one + one\nnew: y\nrefused: b\n", 2, "`new:` has no `old:`"),
+            ("old: one + one\nnew: x\nrefused: b\n", 1, "stands in no wrong body"),
+            (BODY + "\nold: x\nnew: y\nrefused: z\n", 6, "stands in no wrong body"),
+            ("### a\n", 1, "begins neither with"),
+            ("# a\n", 1, "begins neither with"),
+            (BODY.replace("##", "##a"), 1, "begins neither with"),
+            (BODY.replace("old: ", "file: src/none.rt\nold: "), 2, "there is no src/none.rt"),
+            (f"file: src/none.rt\n{BODY}", 1, "there is no src/none.rt"),
+            (BODY.replace("refused", "Refused"), 4, "begins neither with"),
+            (BODY.replace("new:", "New:"), 3, "begins neither with"),
+            (BODY.replace("old: ", "old:"), 2, "begins neither with"),
+            (BODY.replace("refused: value\n", ""), 1, "has no line `refused:`"),
+            (BODY.replace(" value", ""), 4, "names no clause"),
+            (BODY.replace("new: one\n", ""), 2, "`old:` has no `new:`"),
+            (BODY.replace("new: one\n", "old: x\nnew: y\n"), 2, "`old:` has no `new:`"),
+            ("## a\nrefused: value\n", 1, "has no lines `old:` and `new:`"),
+            (BODY + BODY, 5, "the name `a_mistake` stands twice"),
+            (BODY.replace("a_mistake", "a mistake"), 1, "is no name"),
+            (BODY.replace("old:", "in: impl B\nold:"), 3, "does not stand once in `impl B`"),
+        ):
+            with self.subTest(text):
+                errors = self.errors_of(text)
+                self.assertTrue(
+                    any(it.startswith(f"{line}: ") and part in it for it in errors), errors
+                )
+
+    def test_what_cannot_be_planted(self) -> None:
+        for text, part in (
+            (BODY.replace("one + one", "one"), "does not stand once"),
+            (BODY.replace("old: one + one", "old: //! A crate."), "is in no function"),
+            (BODY.replace("new: one", "new: one + one"), "changes nothing"),
+        ):
+            with self.subTest(text):
+                [body], _ = edits.parse(self.path, text)
+                wrong = edits.read_edit(body).wrong
+                self.assertIn(part, wrong)
+                self.assertRegex(wrong, r"lib\.edits:\d: ")
+
+    def test_a_name_of_two_files(self) -> None:
+        for name in ("lib", "more"):
+            file = "file: src/lib.rt\n" if name == "more" else ""
+            self.write(f"wrong-bodies/{name}.edits", file + BODY)
+        _, errors = edits.wrong_bodies_of(self.crate)
+        self.assertIn("stands in lib.edits too", errors[0])
+
+    def test_two_edits_of_a_function_are_planted_in_copies(self) -> None:
+        self.write("proofs/two/Proof.antt", "use pair.proofs.two.Proof\n")
+        bodies, _ = edits.parse(self.path, BODY + BODY.replace("a_mistake", "another"))
+        edits.plant([edits.read_edit(body) for body in bodies], self.crate)
+        text = (self.crate / "src/lib.rt").read_text()
+        self.assertIn("fn two_another() -> u8 {\n    let one = 1;\n    one\n}", text)
+        self.assertTrue((self.crate / "proofs/two_another/Proof.antt").is_file())
+        self.assertEqual({edits.path_of(key) for key in bodies[1].planted}, {"two_another"})
+
+    def test_edits_that_may_not_be_copied_stand_in_lists_of_their_own(self) -> None:
+        clone = BODY.replace("one + one", "Pair { first: self.first,").replace(": one", ": Pair {")
+        texts = [clone, clone.replace("a_mistake", "b"), BODY.replace("a_mistake", "c")]
+        bodies, _ = edits.parse(self.path, "".join(texts))
+        batches = edits.batches_of(edits.read_edit(body) for body in bodies)
+        self.assertEqual(
+            [[it.name for it in batch] for batch in batches], [["a_mistake", "c"], ["b"]]
+        )
+
+
+class WrongBodies(Folder):
+    """The verdicts of tools/rattle/wrong-bodies, on messages of the prover."""
+
+    def verdict(self, status: int, stdout: str, text: str = BODY) -> str:
+        [body], _ = edits.parse(self.path, text)
+        edits.plant([edits.read_edit(body)], self.crate)
+        tells = wrong_bodies.read_goals(status, stdout, [body], self.crate)
+        return wrong_bodies.fault_of(body, tells, stdout)
+
+    def test_verdicts(self) -> None:
+        goal = "note: src/lib.rt:20:5: a hole (`two-clause-{}`)\n"
+        end = "only=1 proved=0\n"
+        for status, stdout, fault in (
+            (1, goal.format("value") + end, ""),
+            (1, goal.format("other") + end, "rejected at other, and not at value"),
+            (0, "logic=proved functions=1\n", "not rejected: each goal of the function is proved"),
+            (1, end, "not rejected: each goal of the function is proved"),
+            (2, goal.format("value") + "rattle: a bug\n", "no verdict: "),
+            (1, goal.format("value"), "no verdict: "),
+            (1, "error: no function `x`\n", "no verdict: error: no function `x`"),
+            (1, "", "no verdict: "),
+        ):
+            with self.subTest(stdout):
+                found = self.verdict(status, stdout)
+                self.assertTrue(found.startswith(fault) and bool(fault) == bool(found), found)
+
+    def test_an_edit_has_to_name_its_clauses(self) -> None:
+        said = "note: src/lib.rt:20:5: a hole (`two-clause-value`)\nonly=1 proved=0\n"
+        both = BODY.replace("value", "value, other")
+        self.assertEqual(self.verdict(1, said, both), "rejected at value, and not at other")
+
+    def test_a_goal_of_another_function_is_no_verdict(self) -> None:
+        [first, second], _ = edits.parse(self.path, BODY + BODY.replace("a_mistake", "another"))
+        edits.plant([edits.read_edit(body) for body in (first, second)], self.crate)
+        said = "note: src/lib.rt:7:5: a hole (`first-clause-value`)\nonly=2 proved=0\n"
+        self.assertFalse(wrong_bodies.read_goals(1, said, [first, second], self.crate))
+
+    def test_clauses(self) -> None:
+        for goal, clause in (
+            ("f-clause-value", "value"),
+            ("returns.1", "returns"),
+            ("call-requires.2", "call-requires"),
+            ("invariant_of_x", "invariant"),
+            ("loop", "loop"),
+        ):
+            self.assertEqual(kit.clause_of(goal), clause)
+
+    def test_what_is_meant(self) -> None:
+        [body], _ = edits.parse(self.path, BODY)
+        for named, is_meant in (
+            ([], True),
+            (["pair"], True),
+            (["pair/lib"], True),
+            (["pair/lib/a_mistake"], True),
+            (["pair/more", "other"], False),
+            (["pair/lib/another"], False),
+        ):
+            self.assertEqual(wrong_bodies.is_meant(body, named), is_meant, named)
+
+    def test_what_differs_from_upstream(self) -> None:
+        [body], _ = edits.parse(self.path, BODY)
+        same = lambda file: [body.content()]
+        other = lambda file: [("a_mistake", [], ["value"])]
+        for files, before, is_changed in (
+            (["crates/pair/wrong-bodies/lib.edits"], same, False),
+            (["crates/pair/wrong-bodies/lib.edits"], other, True),
+            (["crates/pair/src/lib.rt"], same, True),
+            (["crates/pair/src/more.rt", "crates/pairs/specs/A.antt"], other, False),
+            (["crates/pair/specs/A.antt"], same, True),
+        ):
+            self.assertEqual(wrong_bodies.is_changed(body, files, before), is_changed, files)
+
+    def test_a_sum_leaves_out_bodies_alone(self) -> None:
+        left = wrong_bodies.without_bodies(self.crate / "src/lib.rt")
+        self.assertNotIn("one + one", left)
+        self.assertIn("ensures value { result ≡ self.now.first } {}", left)
+        macro = self.write("src/more.rt", f"macro_rules! m {{}}\n{SOURCE}")
+        self.assertIn("one + one", wrong_bodies.without_bodies(macro))
+
+
+class Examples(Folder):
+    """tools/rattle/examples finds examples, and reads how they ended."""
+
+    PAGE = "/// Text.\n///\n/// ```\n/// let a = 1;\n/// ```\nfn f() {}\n"
+    ENDS = "test planted::fails ... FAILED\n    left: 1\ntest result: FAILED. {}; {}; 0 ignored\n"
+
+    def test_examples_stand_in_their_lines(self) -> None:
+        source = examples.read("arcstr", self.write("src/a.rt", self.PAGE))
+        self.assertEqual(source.examples, [3])
+        module = examples.as_module(source).splitlines()
+        self.assertEqual(module[2], "#[test] fn l3(rt: HostRuntime) -> Result<(), Fail> {")
+        self.assertEqual((module[3].strip(), module[4], module[5]), ("let a = 1;", "Ok(()) }", ""))
+
+    def test_a_page_has_no_examples_in_functions(self) -> None:
+        text = "```rust\nlet a = 1;\n```\n\n```rust\nfn f() {}\n```\n\n```sh\nls\n```\n"
+        self.assertEqual(examples.read("arcstr", self.write("A.md", text)).examples, [1])
+
+    def test_results(self) -> None:
+        source = examples.read("arcstr", self.write("src/a.rt", self.PAGE))
+        ends = self.ENDS.format("3 passed", "1 failed")
+        for status, said, ran, wrong in (
+            (101, ends, 3, 0),
+            (0, ends, 3, 1),
+            (
+                101,
+                "test f0::l3 ... FAILED\n    x\n" + self.ENDS.format("2 passed", "2 failed"),
+                3,
+                1,
+            ),
+            (0, "test result: ok. 3 passed; 0 failed; 0 ignored\n", 3, 1),
+            (101, "src/f0.rt:4: error\n", 0, 1),
+        ):
+            found, faults = examples.read_result(status, said, [source])
+            self.assertEqual((found, len(faults)), (ran, wrong), said)
+            if "f0" in said:
+                self.assertIn(f"{source.file}:", faults[0])
+            self.assertNotIn("planted", "".join(faults))
