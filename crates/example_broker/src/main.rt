@@ -9,33 +9,56 @@ mod script;
 use crate::broker::{Broker, start_senders};
 use crate::reader::{Mailbox, start_readers};
 use crate::script::Script;
-use arcstr::ArcStr;
+use anyhow::{Context, Result};
+use arcstr::{ArcStr, Substr};
+use std::alloc::AllocError;
+use std::hash::RandomState;
 use std::io;
-use std::sync::Arc;
+use std::io::{IsTerminal, Stdin};
+use std::sync::{Arc, Wait};
 use std::thread::{JoinHandle, Threads};
 
-fn main(rt: HostRuntime) -> io::Result<()> {
+fn main(rt: HostRuntime) -> Result<()> {
     let alloc = rt.alloc();
-    let text = ArcStr::from_str(alloc, &io::read_to_string(alloc, rt.stdin())?)?;
-    let script = Script::read(&rt, alloc, &text)?;
-    let broker = Arc::new(alloc, Broker::new(alloc))?;
-    let readers = start_readers(rt, alloc, &broker, script.readers)?;
-    let senders = start_senders(rt, alloc, broker, script.messages)?;
-    let sent = sum_of(&rt, senders);
+    let script = Script::read(&rt, alloc, &read_input(&rt, rt.stdin())?)?;
+    let broker = Broker::new(alloc, RandomState::new(&rt)?);
+    let broker = Arc::new(alloc, broker)?;
+    let readers = start_readers(rt, alloc, &broker, script.readers);
+    let readers = readers.context("the readers cannot be started")?;
+    let senders = start_senders(rt, alloc, broker, script.messages);
+    let senders = senders.context("the senders cannot be started and given the messages")?;
+    let threads = senders.len();
+    let sent = sum_of(&rt, senders).context("a message cannot be sent")?;
     let read = print_mailboxes(&rt, readers)?;
     for fault in &script.faults {
         println!(rt; "{fault}")?;
     }
-    println!(rt; "copies: {sent} sent, {read} read")
+    println!(rt; "copies: {sent} sent by {threads} threads, {read} read")?;
+    Ok(())
+}
+
+/// Reads standard input, and says so where it is a terminal. A byte order mark at its start is no
+/// part of the slice.
+fn read_input<R: AllocGlobal + Eprint + Wait>(rt: &R, input: Stdin) -> Result<Substr> {
+    if input.is_terminal() {
+        eprintln!(rt; "reading standard input: readers, topics and messages")?;
+    }
+    let text = io::read_to_string(rt.alloc(), input).context("standard input cannot be read")?;
+    let text = ArcStr::from_str(rt.alloc(), &text)?;
+    let after_mark = text.substr_strip_prefix(rt, '\u{feff}');
+    Ok(after_mark.unwrap_or(Substr::full(text)))
 }
 
 /// Waits for the senders, and returns the sum of what they return.
-fn sum_of(rt: &impl Threads, senders: Vec<JoinHandle<usize>>) -> usize {
+fn sum_of(
+    rt: &impl Threads,
+    senders: Vec<JoinHandle<Result<usize, AllocError>>>,
+) -> Result<usize, AllocError> {
     let mut sum: usize = 0;
     for sender in senders {
-        sum = sum.saturating_add(sender.join(rt));
+        sum = sum.saturating_add(sender.join(rt)?);
     }
-    sum
+    Ok(sum)
 }
 
 /// Waits for the readers and prints what they got. Returns the number of all texts.

@@ -1,5 +1,5 @@
 //! The input: who reads which topics, and the messages.
-use arcstr::{ArcStr, Substr};
+use arcstr::Substr;
 use std::alloc::{AllocError, Global};
 use std::sync::Wait;
 use thiserror::Error;
@@ -36,7 +36,7 @@ pub struct Script {
 
 impl Script {
     /// Reads the input. Copies no part of it.
-    pub fn read(rt: &impl Wait, alloc: Global, text: &ArcStr) -> Result<Script, AllocError> {
+    pub fn read(rt: &impl Wait, alloc: Global, text: &Substr) -> Result<Script, AllocError> {
         let mut script = Script {
             readers: Vec::new(alloc),
             messages: Vec::new(alloc),

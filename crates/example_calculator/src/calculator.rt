@@ -52,6 +52,7 @@ impl Calculator {
     fn value_of(&self, alloc: Global, tokens: &[Token], end: usize) -> Result<i64, Fault> {
         let tree = tree_of(alloc, tokens, end)?;
         let mut values = Vec::new(alloc);
+        let mut last = end;
         for (node, place) in &tree {
             let missing = match node {
                 Node::Name(_) => Reason::NoValue,
@@ -59,15 +60,17 @@ impl Calculator {
             };
             let value = self.value_at(node, &values);
             values.push(value.ok_or(Fault::at(*place, missing))?)?;
+            last = *place;
         }
-        values.pop().ok_or(Fault::at(end, Reason::NoOperand))
+        let value = values.pop().ok_or(Fault::at(end, Reason::NoOperand))?;
+        i64::try_from(value).map_err(|_| Fault::at(last, Reason::LargeNumber))
     }
 
     /// The value of a node, if it has one. `before` has the values of the nodes before it.
-    fn value_at(&self, node: &Node, before: &[i64]) -> Option<i64> {
+    fn value_at(&self, node: &Node, before: &[i128]) -> Option<i128> {
         match node {
-            Node::Number(number) => Some(*number),
-            Node::Name(name) => self.values.get(*name).copied(),
+            Node::Number(number) => Some(i128::from(*number)),
+            Node::Name(name) => Some(i128::from(*self.values.get(*name)?)),
             Node::Operation(operator, left, right) => {
                 operator.apply(*before.get(*left)?, *before.get(*right)?)
             }

@@ -12,6 +12,8 @@ use thiserror::Error;
 pub enum Reason {
     #[error("this character begins no token")]
     UnknownCharacter,
+    #[error("a number has only the digits 0 to 9, and a name begins with a letter")]
+    BadNumber,
     #[error("a number that does not fit 64 bits")]
     LargeNumber,
     #[error("a number, a name or `(` is missing")]
@@ -26,7 +28,8 @@ pub enum Reason {
     NoValue,
     #[error("a division by zero, or a result that does not fit 64 bits")]
     NoResult,
-    #[error("no memory, or no room for one name more")]
+    /// Not the line's fault: it ends the program, since later lines would lack the line's name.
+    #[error("out of memory, or no room for one name more")]
     NoRoom,
 }
 

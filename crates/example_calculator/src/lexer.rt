@@ -11,7 +11,7 @@ use std::alloc::Global;
 /// What a token is.
 #[derive(Clone, Copy, Debug, PartialEq, Eq)]
 pub enum Kind {
-    Number(i64),
+    Number(u64),
     Name(Symbol),
     Operator(Operator),
     Open,
@@ -74,8 +74,13 @@ fn token_of(names: &mut Interner, word: &StrView<'_>) -> Result<Token, Fault>
         ")" => Kind::Close,
         "=" => Kind::Equals,
         _ if text.starts_with(|c: char| c.is_ascii_digit()) => {
-            let number = text.parse();
-            Kind::Number(number.map_err(|_| Fault::at(place, Reason::LargeNumber))?)
+            let is_number = text.bytes().all(|byte| byte.is_ascii_digit());
+            let reason = if is_number {
+                Reason::LargeNumber
+            } else {
+                Reason::BadNumber
+            };
+            Kind::Number(text.parse().map_err(|_| Fault::at(place, reason))?)
         }
         _ if text.starts_with(|c: char| c.is_alphabetic()) => Kind::Name(names.intern(text)?),
         _ => return Err(Fault::at(place, Reason::UnknownCharacter)),

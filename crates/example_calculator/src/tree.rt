@@ -10,6 +10,8 @@ pub enum Operator {
     Minus,
     Times,
     Over,
+    /// A `-` with no operand before it.
+    Sign,
 }
 
 impl Operator {
@@ -18,24 +20,26 @@ impl Operator {
         match self {
             Operator::Plus | Operator::Minus => 1,
             Operator::Times | Operator::Over => 2,
+            Operator::Sign => 3,
         }
     }
 
-    /// The result, if there is one that fits.
-    pub fn apply(self, left: i64, right: i64) -> Option<i64> {
-        match self {
+    /// The result, if there is one that fits 64 bits. A sign takes its operand from 0.
+    pub fn apply(self, left: i128, right: i128) -> Option<i128> {
+        let result = match self {
             Operator::Plus => left.checked_add(right),
-            Operator::Minus => left.checked_sub(right),
+            Operator::Minus | Operator::Sign => left.checked_sub(right),
             Operator::Times => left.checked_mul(right),
             Operator::Over => left.checked_div(right),
-        }
+        };
+        result.filter(|it| i64::try_from(*it).is_ok())
     }
 }
 
 /// An operation has the indexes of its two parts.
 #[derive(Clone, Copy, Debug)]
 pub enum Node {
-    Number(i64),
+    Number(u64),
     Name(Symbol),
     Operation(Operator, usize, usize),
 }
@@ -78,6 +82,11 @@ impl Parser {
             (Kind::Number(number), true) => self.push(Node::Number(*number), place)?,
             (Kind::Name(name), true) => self.push(Node::Name(*name), place)?,
             (Kind::Open, true) => self.waiting.push(token)?,
+            (Kind::Operator(Operator::Minus), true) => {
+                let kind = Kind::Operator(Operator::Sign);
+                self.push(Node::Number(0), place)?;
+                self.waiting.push(Token { kind, place })?;
+            }
             (_, true) => return Err(Fault::at(place, Reason::NoOperand)),
             (Kind::Operator(operator), false) => {
                 self.apply_waiting(operator.rank())?;

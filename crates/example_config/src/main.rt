@@ -6,8 +6,9 @@ mod fault;
 mod line;
 
 use crate::config::Config;
+use anyhow::{Context, Result};
 use arcstr::ArcStr;
-use std::io::Print;
+use std::io::{IsTerminal, Print, Stdin};
 use std::{io, thread};
 
 /// The section and the key that each thread looks up.
@@ -18,9 +19,9 @@ const ASKED: [(&str, &str); 4] = [
     ("client", "port"),
 ];
 
-fn main(rt: HostRuntime) -> io::Result<()> {
+fn main(rt: HostRuntime) -> Result<()> {
     let alloc = rt.alloc();
-    let text = ArcStr::from_str(alloc, &io::read_to_string(alloc, rt.stdin())?)?;
+    let text = read_input(&rt, rt.stdin())?;
     let config = Config::read(&rt, alloc, &text)?;
     print_config(&rt, &config)?;
     let asked = Vec::from_array(alloc, ASKED)?;
@@ -28,11 +29,23 @@ fn main(rt: HostRuntime) -> io::Result<()> {
         &rt,
         asked,
         &|(section, key)| { Some(config.get(section, key)?.clone(&rt)) },
-    )?;
+    );
+    let answers = answers.context("the values cannot be looked up")?;
     for ((section, key), answer) in ASKED.into_iter().zip(&answers) {
         println!(rt; "{key} of [{section}]: {answer:?}")?;
     }
     Ok(())
+}
+
+/// Reads standard input, and says so where it is a terminal. A byte order mark at its start is no
+/// part of the text.
+fn read_input<R: AllocGlobal + Eprint>(rt: &R, input: Stdin) -> Result<ArcStr> {
+    if input.is_terminal() {
+        eprintln!(rt; "reading standard input: a configuration")?;
+    }
+    let text = io::read_to_string(rt.alloc(), input).context("standard input cannot be read")?;
+    let after_mark = text.strip_prefix('\u{feff}');
+    Ok(ArcStr::from_str(rt.alloc(), after_mark.unwrap_or(text.as_str()))?)
 }
 
 /// Prints the faults, and then the entries.

@@ -6,17 +6,24 @@ ghost use Rattle.std.specs.Str.{chars, trim};
 ghost use Rattle.arcstr.specs.Splitting.{AreAround};
 ghost use Rattle.arcstr.specs.Substr.{SubstrView, slice_of, text_of};
 
+use anyhow::{Context, Result};
 use arcstr::{ArcStr, Substr};
 use std::io;
+use std::io::IsTerminal;
 use std::sync::Wait;
 
 /// The character after each field but the last.
 const COMMA: char = ',';
 
-fn main(rt: HostRuntime) -> io::Result<()> {
+fn main(rt: HostRuntime) -> Result<()> {
     let alloc = rt.alloc();
-    let input = io::read_to_string(alloc, rt.stdin())?;
-    for line in input.lines() {
+    if rt.stdin().is_terminal() {
+        eprintln!(rt; "reading standard input: lines of fields")?;
+    }
+    let input = io::read_to_string(alloc, rt.stdin()).context("standard input cannot be read")?;
+    // Some editors write a byte order mark first.
+    let lines = input.strip_prefix('\u{feff}').unwrap_or(input.as_str());
+    for line in lines.lines() {
         let line = ArcStr::from_str(alloc, line)?;
         match first_field(&rt, &line) {
             Some(field) => println!(rt; "{field}, at byte {}", field.range().start)?,

@@ -8,6 +8,8 @@ use arcstr::{ArcStr, Substr};
 use regex::{Matcher, Regex};
 use std::alloc::{AllocError, Global};
 use std::collections::HashMap;
+use std::hash::RandomState;
+use std::random::RandomSource;
 use std::sync::Wait;
 use thiserror::Error;
 
@@ -25,36 +27,43 @@ pub struct Fault {
     pub start: usize,
 }
 
-/// The number of requests for each path, and the lines that are no requests. Each key is a slice, which keeps the whole log alive.
+/// The number of requests for each path, and the lines that are no requests. Each key is a slice,
+/// which keeps the whole log alive. Strangers pick the paths, so the map hashes by a random seed:
+/// they cannot find paths that collide.
 #[derive(Drop)]
 pub struct Counts {
-    by_path: HashMap<Substr, u64>,
+    by_path: HashMap<Substr, u64, RandomState>,
     pub faults: Vec<Fault>,
 }
 
 impl Counts {
     /// Counts the requests of a log. For a large log, prints the progress to standard error.
-    pub fn read(rt: &(impl Wait + Eprint), alloc: Global, log: &ArcStr) -> Result<Counts> {
+    pub fn read<R: Wait + Eprint + RandomSource>(
+        rt: &R,
+        alloc: Global,
+        log: &ArcStr,
+    ) -> Result<Counts> {
         let request = Regex::new(alloc, REQUEST)?;
-        Counts::matched(rt, alloc, log, &mut request.matcher(alloc)?)
+        let counts = Counts {
+            by_path: HashMap::with_hasher(alloc, RandomState::new(rt)?),
+            faults: Vec::new(alloc),
+        };
+        counts.matched(rt, log, &mut request.matcher(alloc)?)
     }
 
-    /// Counts the requests that the matcher finds. The check proves the loop in a function of its own, with no `?` before it.
+    /// Adds the requests that the matcher finds. The check proves the loop in a function of its
+    /// own, with no `?` before it.
     fn matched(
+        mut self,
         rt: &(impl Wait + Eprint),
-        alloc: Global,
         log: &ArcStr,
         matcher: &mut Matcher<'_>,
     ) -> Result<Counts> {
-        let mut counts = Counts {
-            by_path: HashMap::new(alloc),
-            faults: Vec::new(alloc),
-        };
         for (before, line) in log.view().lines().enumerate() {
             let number = before + 1;
             match path_of(matcher, log, &line) {
-                Some(path) => counts.add(rt, log, path)?,
-                None => counts.faults.push(Fault {
+                Some(path) => self.add(rt, log, path)?,
+                None => self.faults.push(Fault {
                     line: number,
                     start: line.place(),
                 })?,
@@ -63,7 +72,7 @@ impl Counts {
                 eprintln!(rt; "{number} lines")?;
             }
         }
-        Ok(counts)
+        Ok(self)
     }
 
     /// Counts a request for a path of the log. The map finds a path by its `&str`, so only a new path becomes a slice.

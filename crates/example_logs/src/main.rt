@@ -9,8 +9,10 @@ mod counts;
 use crate::command::Command;
 use crate::counts::{Counts, Fault};
 use anyhow::{Context, Result};
-use arcstr::ArcStr;
+use arcstr::{ArcStr, format_arcstr};
+use std::alloc::Global;
 use std::process::ExitCode;
+use std::random::RandomSource;
 use std::rt::Files;
 use std::sync::Wait;
 use std::{env, fs, io};
@@ -19,10 +21,11 @@ use std::{env, fs, io};
 const WIDTH: u64 = 40;
 
 fn main(rt: HostRuntime) -> Result<ExitCode> {
-    let words: Vec<String> = env::args(&rt)?.collect(rt.alloc())?;
+    let words = env::args(&rt).context("the arguments cannot be read")?;
+    let words: Vec<String> = words.collect(rt.alloc())?;
     match Command::read(rt.alloc(), &words) {
         Ok(command) => {
-            print_chart(&rt, &most_frequent(&rt, command)?)?;
+            print_chart(&rt, rt.alloc(), &most_frequent(&rt, command)?)?;
             Ok(ExitCode::SUCCESS)
         }
         Err(error) => {
@@ -33,7 +36,7 @@ fn main(rt: HostRuntime) -> Result<ExitCode> {
 }
 
 /// Reads the log and prints its faults. Returns the most frequent paths with their counts. They are copies: the log and all slices of it are freed here.
-fn most_frequent<R: AllocGlobal + Files + Print + Eprint + Wait>(
+fn most_frequent<R: AllocGlobal + Files + Print + Eprint + RandomSource + Wait>(
     rt: &R,
     command: Command<'_>,
 ) -> Result<Vec<(ArcStr, u64)>> {
@@ -58,13 +61,22 @@ fn print_faults(rt: &impl Print, faults: &[Fault]) -> io::Result<()> {
 }
 
 /// Prints a line for each path. The first path has the longest bar.
-fn print_chart(rt: &impl Print, all: &[(ArcStr, u64)]) -> io::Result<()> {
+fn print_chart(rt: &(impl Print + Wait), alloc: Global, all: &[(ArcStr, u64)]) -> Result<()> {
     let most = all.first().map_or(1, |(_, count)| *count);
     for (path, count) in all {
-        let length = bar_length(*count, most);
+        let (path, length) = (printable(rt, alloc, path)?, bar_length(*count, most));
         println!(rt; "{path:<24} {:#<length$} {count}", "")?;
     }
     Ok(())
+}
+
+/// Returns the path, escaped if it has a control character: a stranger picks it, and a terminal
+/// would obey it.
+fn printable(rt: &impl Wait, alloc: Global, path: &ArcStr) -> Result<ArcStr> {
+    if path.contains(|c: char| c.is_control()) {
+        return Ok(format_arcstr!(alloc; "{}", path.escape_debug())?);
+    }
+    Ok(path.clone(rt))
 }
 
 /// Returns the number of characters of a bar, where `most` has the longest one.

@@ -1,6 +1,6 @@
 //! Books in a database file.
 use crate::book::{Book, Entry};
-use anyhow::Result;
+use anyhow::{Context, Result};
 use arcstr::{ArcStr, Substr};
 use lru::LruCache;
 use sqlite::{Connection, Error, File, FileStore, Row, params};
@@ -37,8 +37,11 @@ pub struct Library {
 impl Library {
     /// Opens the file or makes it, and begins a transaction.
     pub fn open(rt: &HostRuntime, alloc: Global, path: &str) -> Result<Library> {
-        let mut database = Connection::open(rt, path)?;
-        database.execute_batch(TABLES)?;
+        let database = Connection::open(rt, path);
+        let mut database = database.context(format_args!("{path} cannot be opened"))?;
+        database
+            .execute_batch(TABLES)
+            .context(format_args!("the tables of {path} cannot be made"))?;
         let authors = LruCache::new(alloc, NonZeroUsize::new(REMEMBERED).unwrap())?;
         Ok(Library { database, authors })
     }

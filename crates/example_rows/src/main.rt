@@ -1,5 +1,6 @@
-//! Keeps a list of books in a database file, which its argument names. It adds the books of its input, one `author; title; year` a line, and prints the lines
-//! that it refuses, and then all books of the file, in the order of their authors.
+//! Keeps a list of books in a database file, which its argument names. It adds the books of its
+//! input, one `author; title; year` a line, and prints the lines that it refuses. Then it opens the
+//! file again, and prints all books, in the order of their authors.
 #![tactic(auto)]
 
 mod book;
@@ -8,24 +9,43 @@ mod library;
 use crate::book::{Entry, Fault};
 use crate::library::Library;
 use anyhow::{Context, Result};
-use arcstr::ArcStr;
+use arcstr::{ArcStr, Substr};
 use std::alloc::Global;
 use std::fmt::Display;
+use std::io::{IsTerminal, Stdin};
 use std::sync::Wait;
 use std::{env, io};
 
 fn main(rt: HostRuntime) -> Result<()> {
     let alloc = rt.alloc();
-    let path = env::args(&rt)?
-        .nth(1)
-        .context("the name of a file is missing")?;
-    let text = ArcStr::from_str(alloc, &io::read_to_string(alloc, rt.stdin())?)?;
+    let mut words = env::args(&rt).context("the arguments cannot be read")?;
+    let path = words.nth(1).context("the name of a file is missing")?;
+    let text = read_input(&rt, rt.stdin())?;
     let mut library = Library::open(&rt, alloc, &path)?;
-    let faults = add_lines(&rt, alloc, &mut library, &text)?;
-    let books = library.books(&rt, alloc)?;
-    library.close()?;
+    let faults = add_lines(&rt, alloc, &mut library, &text);
+    let faults = faults.context(format_args!("no book was added to {path}"))?;
+    library
+        .close()
+        .context(format_args!("{path} keeps none of the books"))?;
     print_all(&rt, &faults)?;
-    print_all(&rt, &books)
+    let mut library = Library::open(&rt, alloc, &path)?;
+    let books = library.books(&rt, alloc);
+    print_all(
+        &rt,
+        &books.context(format_args!("the books of {path} cannot be read"))?,
+    )
+}
+
+/// Reads standard input, and says so where it is a terminal. A byte order mark at its start is no
+/// part of the slice.
+fn read_input<R: AllocGlobal + Eprint + Wait>(rt: &R, input: Stdin) -> Result<Substr> {
+    if input.is_terminal() {
+        eprintln!(rt; "reading standard input: a book a line, as `author; title; year`")?;
+    }
+    let text = io::read_to_string(rt.alloc(), input).context("standard input cannot be read")?;
+    let text = ArcStr::from_str(rt.alloc(), &text)?;
+    let after_mark = text.substr_strip_prefix(rt, '\u{feff}');
+    Ok(after_mark.unwrap_or(Substr::full(text)))
 }
 
 /// Adds the book of each line. Returns the faults of the lines that are no book.
@@ -33,7 +53,7 @@ fn add_lines(
     rt: &impl Wait,
     alloc: Global,
     library: &mut Library,
-    text: &ArcStr,
+    text: &Substr,
 ) -> Result<Vec<Fault>> {
     let mut faults = Vec::new(alloc);
     for (before, line) in text.substr_lines(rt, alloc)?.iter().enumerate() {

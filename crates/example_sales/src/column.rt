@@ -3,19 +3,22 @@
 use arcintern::{InternFault, Interner, Symbol};
 use arcstr::ArcStr;
 use std::alloc::{AllocError, Global};
+use std::hash::RandomState;
 
-/// A column of texts, of which the interner keeps each distinct one once. A row has its text's symbol, which takes 4 bytes.
+/// A column of texts, of which the interner keeps each distinct one once. A row has its text's
+/// symbol, which takes 4 bytes. Strangers may pick the texts, so the interner hashes by a random
+/// seed: they cannot find texts that collide.
 #[derive(Drop)]
 pub struct Column {
-    texts: Interner,
+    texts: Interner<RandomState>,
     symbols: Vec<Symbol>,
 }
 
 impl Column {
-    /// Makes a column without rows.
-    pub fn new(alloc: Global) -> Column {
+    /// Makes a column without rows, which hashes by `hash_builder`.
+    pub fn new(alloc: Global, hash_builder: RandomState) -> Column {
         Column {
-            texts: Interner::new(alloc),
+            texts: Interner::with_hasher(alloc, hash_builder),
             symbols: Vec::new(alloc),
         }
     }

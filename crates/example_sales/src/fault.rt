@@ -1,4 +1,6 @@
 //! Why a row cannot be read, and where it stands.
+ghost use Rattle.std.specs.Prelude.{◌≡◌, ◌+◌, ◌<◌, ◌^◌};
+ghost use Rattle.example_sales.specs.declared.fault.Reason.TheVariants.{Encoding};
 
 use arcstr::ArcStr;
 use csv::Position;
@@ -13,6 +15,15 @@ pub enum Reason {
     Encoding(u64),
     #[error("`{0}` is no number of cents")]
     Cents(ArcStr),
+}
+
+impl Reason {
+    /// Makes the reason of a field that is not UTF-8. `before` is the number of fields before it.
+    pub fn encoding(before: u64) -> Reason
+        ensures { before + 1 < 2 ^ 64 → result ≡ Encoding (before + 1) }
+    {
+        Reason::Encoding(before.saturating_add(1))
+    }
 }
 
 /// A row that cannot be read, by its line from 1 and the byte offset at which it starts.

@@ -7,14 +7,21 @@ mod table;
 
 use crate::column::Column;
 use crate::table::Table;
-use anyhow::Result;
+use anyhow::{Context, Result};
 use rayon::prelude::*;
 use std::alloc::Global;
+use std::hash::RandomState;
 use std::io;
+use std::io::IsTerminal;
 use std::thread::Threads;
 
 fn main(rt: HostRuntime) -> Result<()> {
-    let table = Table::read(rt.alloc(), rt.stdin())?;
+    let input = rt.stdin();
+    if input.is_terminal() {
+        eprintln!(rt; "reading standard input: a table with the fields region, product and cents")?;
+    }
+    let table = Table::read(rt.alloc(), input, RandomState::new(&rt)?);
+    let table = table.context("standard input cannot be read")?;
     for fault in &table.faults {
         println!(rt; "{fault}")?;
     }

@@ -6,6 +6,7 @@ use anyhow::Result;
 use arcstr::ArcStr;
 use csv::{ErrorKind, Reader, StringRecord};
 use std::alloc::Global;
+use std::hash::RandomState;
 use std::io::Read;
 
 /// The columns of a table of sales with the fields region, product and cents, and the rows that cannot be read.
@@ -18,11 +19,16 @@ pub struct Table {
 }
 
 impl Table {
-    /// Reads a table, whose first row has the names of the fields.
-    pub fn read(alloc: Global, input: impl Read + Drop) -> Result<Table> {
+    /// Reads a table, whose first row has the names of the fields. Its columns hash by
+    /// `hash_builder`.
+    pub fn read(
+        alloc: Global,
+        input: impl Read + Drop,
+        hash_builder: RandomState,
+    ) -> Result<Table> {
         let mut table = Table {
-            regions: Column::new(alloc),
-            products: Column::new(alloc),
+            regions: Column::new(alloc, hash_builder),
+            products: Column::new(alloc, hash_builder),
             cents: Vec::new(alloc),
             faults: Vec::new(alloc),
         };
@@ -67,9 +73,7 @@ fn fault_of(error: csv::Error) -> Result<Fault> {
                 wanted: *wanted,
             },
         )),
-        ErrorKind::Utf8 { pos, err } => {
-            Ok(Fault::at(*pos, Reason::Encoding(err.field().saturating_add(1))))
-        }
+        ErrorKind::Utf8 { pos, err } => Ok(Fault::at(*pos, Reason::encoding(err.field()))),
         ErrorKind::Io(_)
         | ErrorKind::Serialize(_)
         | ErrorKind::Deserialize { .. }

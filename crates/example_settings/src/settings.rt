@@ -71,9 +71,15 @@ impl Settings {
 }
 
 impl SettingsError {
-    /// The error of a text that is no TOML, or has other fields, with the byte offset at which it starts.
+    /// The error of a text that is no TOML, or has other fields, with the byte offset at which it
+    /// starts. An error without one is an allocation failure.
     fn toml(error: toml::de::Error) -> SettingsError {
-        let start = error.span().map_or(0, |span| span.start);
-        SettingsError::Toml { start, error }
+        match error.span() {
+            Some(span) => SettingsError::Toml {
+                start: span.start,
+                error,
+            },
+            None => SettingsError::Memory(AllocError),
+        }
     }
 }
