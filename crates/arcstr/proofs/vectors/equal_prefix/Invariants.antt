@@ -1,5 +1,5 @@
 use Rattle.arcstr.proofs.Orders.{◌≡◌, ◌≤◌, ◌-◌, take}
-use Rattle.arcstr.proofs.order.equal_prefix.Given as goal
+use Rattle.arcstr.proofs.vectors.equal_prefix.Given as goal
 
 -- the bytes passed so far are equal
 abbrev pub invariant-loop-from : goal.invariant-loop-from

@@ -1,7 +1,7 @@
 -- Each of the two vectors is 0 exactly if its 64 bytes are equal, so both are 0 exactly if 128 bytes are.
 use Rattle.arcstr.proofs.Orders.{◌+◌, arith}
 use Rattle.arcstr.proofs.Differences.{IsZeroIfEqual-xor, IsZeroIfEqual-or, equal_if_zero}
-use Rattle.arcstr.proofs.order.is_equal_128.Goals as goal
+use Rattle.arcstr.proofs.vectors.is_equal_128.Goals as goal
 
 pub returns : goal.returns
 returns c =

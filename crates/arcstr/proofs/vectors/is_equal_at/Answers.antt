@@ -1,6 +1,6 @@
 -- The vector of differences is 0 exactly if the bytes are equal.
 use Rattle.arcstr.proofs.Differences.{IsZeroIfEqual-xor, equal_if_zero}
-use Rattle.arcstr.proofs.order.is_equal_at.Goals as goal
+use Rattle.arcstr.proofs.vectors.is_equal_at.Goals as goal
 
 pub returns : goal.returns
 returns g c =

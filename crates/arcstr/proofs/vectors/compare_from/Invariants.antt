@@ -1,5 +1,5 @@
 use Rattle.arcstr.proofs.Orders.{◌≡◌, ◌≤◌, ◌+◌, ◌-◌, take}
-use Rattle.arcstr.proofs.order.compare_from.Given as goal
+use Rattle.arcstr.proofs.vectors.compare_from.Given as goal
 
 -- the bytes passed so far are equal
 abbrev pub invariant-loop-from : goal.invariant-loop-from

@@ -1,6 +1,6 @@
 -- The first vector that differs decides, and otherwise the lengths do.
 use Rattle.arcstr.proofs.Orders.{◌≡◌, ℕ, ◌+◌, ◌-◌, take, sym, ◌∙◌, subst, arith, equal-of_not_ne, equal-prefix, by_prefixes, by_length}
-use Rattle.arcstr.proofs.order.compare_from.Goals as goal
+use Rattle.arcstr.proofs.vectors.compare_from.Goals as goal
 
 pub returns-then-is_ne : goal.returns-then-is_ne
 returns-then-is_ne g c =

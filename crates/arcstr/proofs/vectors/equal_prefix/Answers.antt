@@ -1,6 +1,6 @@
 -- Equal prefixes grow by equal blocks of 128 bytes.
 use Rattle.arcstr.proofs.Orders.{arith, equal-next}
-use Rattle.arcstr.proofs.order.equal_prefix.Goals as goal
+use Rattle.arcstr.proofs.vectors.equal_prefix.Goals as goal
 
 pub loop-from-preserved : goal.loop-from-preserved
 loop-from-preserved c = record {

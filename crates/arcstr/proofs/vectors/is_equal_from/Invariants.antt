@@ -1,5 +1,5 @@
 use Rattle.arcstr.proofs.Orders.{◌≡◌, ◌≤◌, ◌-◌, length, take}
-use Rattle.arcstr.proofs.order.is_equal_from.Given as goal
+use Rattle.arcstr.proofs.vectors.is_equal_from.Given as goal
 
 -- the bytes passed so far are equal
 abbrev pub invariant-loop-from : goal.invariant-loop-from

@@ -1,6 +1,6 @@
 -- The first vector that differs decides.
 use Rattle.arcstr.proofs.Orders.{sym, ◌∙◌, arith, equal-of_not_ne, by_prefixes-within}
-use Rattle.arcstr.proofs.order.order_of_block.Goals as goal
+use Rattle.arcstr.proofs.vectors.order_of_block.Goals as goal
 
 pub returns-then-is_ne : goal.returns-then-is_ne
 returns-then-is_ne c =

@@ -1,6 +1,6 @@
 -- Equal prefixes grow by equal bytes, and the last vector covers the rest.
 use Rattle.arcstr.proofs.Orders.{◌+◌, ◌-◌, List, ℕ, length, take, drop, ap, arith, equal-prefix, equal-next, equal-whole}
-use Rattle.arcstr.proofs.order.is_equal_from.Goals as goal
+use Rattle.arcstr.proofs.vectors.is_equal_from.Goals as goal
 
 pub loop-from-preserved : goal.loop-from-preserved
 loop-from-preserved g c = record {

@@ -1,6 +1,6 @@
 -- The first 64 bytes decide, or they are equal.
 use Rattle.arcstr.proofs.Orders.{sym, ◌∙◌, arith, equal-of_not_ne, by_prefixes, by_length}
-use Rattle.arcstr.proofs.order.compare_long.Goals as goal
+use Rattle.arcstr.proofs.vectors.compare_long.Goals as goal
 
 pub returns-then-is_ne : goal.returns-then-is_ne
 returns-then-is_ne c =
