@@ -2,12 +2,15 @@
 //!
 //! Each call with a handle `rt` can wait, but only for a new word: for a thread that adds a text to the same shard or to the list, or
 //! that changes the count of a text that the call clones.
-ghost use Rattle.std.specs.Prelude.{◌≡◌, ◌≤◌, IfErr, IfOk, IfSome, length};
+ghost use Rattle.std.specs.Prelude.{◌≡◌, ◌≤◌, IfErr, IfOk, IfSome, length, ◌^◌, ◌<◌, ◌-◌};
 ghost use Rattle.arcintern.specs.Texts.{IsSymbolOf};
+ghost use Rattle.std.specs.Iterator.{at_most};
 
-use crate::fault::InternFault;
-use crate::symbol::Symbol;
 use arcstr::ArcStr;
+use boxcar::Pushed;
+use crate::fault::InternFault;
+use crate::interner::MOST_TEXTS;
+use crate::symbol::Symbol;
 use shard::Shard;
 use std::alloc::Global;
 use std::fmt;
@@ -18,13 +21,10 @@ mod frozen_interner;
 mod interning;
 mod local_interner;
 mod shard;
-mod shared_symbol;
-mod shared_texts;
+mod shared_slots;
 
 pub use frozen_interner::FrozenInterner;
 pub use local_interner::LocalInterner;
-pub use shared_symbol::SharedSymbol;
-pub use shared_texts::SharedTexts;
 
 /// Keeps each distinct text once, as an `ArcStr`, for any number of threads.
 ///
@@ -264,4 +264,114 @@ fn empty_shards(alloc: Global, shards: usize, room: usize) -> Result<Vec<Shard>,
         count += 1;
     }
     Ok(tables)
+}
+
+/// Stands for one text of one shared interner. It takes 24 bytes. A contract sees its number and its text, which other threads cannot
+/// change. The number alone is a `Symbol` of 4 bytes, which can be copied, compared, ordered and hashed.
+///
+/// ```
+/// let interner = SharedInterner::new(rt.alloc(), 8)?;
+/// let foo = interner.intern(&rt, "foo")?;
+/// assert!(rt; foo.number() == interner.intern(&rt, "foo")?.number());
+/// assert!(rt; foo.number() != interner.intern(&rt, "bar")?.number());
+/// ```
+#[derive(Drop)]
+pub struct SharedSymbol {
+    pub(crate) text: Pushed<ArcStr>,
+}
+
+impl Model for SharedSymbol {
+    ghost use Rattle.std.specs.Prelude.{◌^◌, ◌<◌};
+    ghost use Rattle.arcintern.specs.Texts.{SymbolView};
+
+    ghost Value = { SymbolView };
+
+    ghost view = { λ symbol. record { number = symbol.text.index; text = symbol.text.value; bucket = symbol.text.bucket; row = symbol.text.row } };
+
+    ghost invariant = { λ symbol. symbol.text.index < 2 ^ 32 };
+}
+
+impl SharedSymbol {
+    /// Returns the number alone. `SharedInterner::symbol_at` returns the symbol with a number.
+    ///
+    /// ```
+    /// let interner = SharedInterner::new(rt.alloc(), 8)?;
+    /// assert_eq!(rt; interner.intern(&rt, "foo")?.number().index(), 0);
+    /// assert_eq!(rt; interner.intern(&rt, "bar")?.number().index(), 1);
+    /// ```
+    pub fn number(&self) -> Symbol
+        ensures { result ≡ self.now.number }
+    {
+        Symbol::at(self.text.index())
+    }
+
+    /// Returns the same symbol once more.
+    ///
+    /// ```
+    /// let interner = SharedInterner::new(rt.alloc(), 8)?;
+    /// let symbol = interner.intern(&rt, "foo")?.again();
+    /// assert!(rt; interner.text(&symbol).eq_str("foo"));
+    /// ```
+    pub fn again(&self) -> SharedSymbol
+        ensures { result ≡ self.now }
+    {
+        SharedSymbol {
+            text: self.text.again(),
+        }
+    }
+}
+
+/// Yields the symbols of a shared interner with their texts, in the order of their numbers.
+///
+/// ```
+/// let interner = SharedInterner::new(rt.alloc(), 8)?;
+/// interner.intern(&rt, "foo")?;
+/// interner.intern(&rt, "bar")?;
+/// let mut texts: SharedTexts<'_> = interner.iter();
+/// assert!(rt; texts.next().is_some_and(|(_, text)| text.eq_str("foo")));
+/// assert!(rt; texts.next().is_some_and(|(symbol, _)| symbol.number().index() == 1));
+/// assert!(rt; texts.next().is_none());
+/// ```
+#[derive(Drop)]
+pub struct SharedTexts<'a> {
+    texts: &'a boxcar::Vec<ArcStr>,
+    index: usize,
+    end: usize,
+    ghost small: { end < 2 ^ 32 },
+}
+
+impl<'a> SharedTexts<'a> {
+    /// The texts whose numbers are below the count of them now.
+    pub(crate) fn of(texts: &'a boxcar::Vec<ArcStr>) -> SharedTexts<'a>
+        ensures texts { result.texts.now ≡ texts.now }
+        ensures first { result.index ≡ 0 }
+    {
+        SharedTexts {
+            texts,
+            index: 0,
+            end: texts.count().min(MOST_TEXTS),
+        }
+    }
+}
+
+impl<'a> Iterator for SharedTexts<'a> {
+    type Item = (SharedSymbol, &'a ArcStr);
+
+    // Promise: The symbol is of the interner and has this text, and the numbers rise.
+    ghost next_gives = { λ old item new. (new.texts ≡ old.texts) × (new.end ≡ old.end) × (old.index ≤ new.index)
+        × IfSome item (λ pair. IsSymbolOf old.texts.now pair.0 × (pair.1.now ≡ pair.0.text) × (old.index ≤ pair.0.number) × (pair.0.number < new.index)) };
+
+    ghost remaining = { λ texts. at_most (texts.end - texts.index) };
+
+    fn next(&mut self) -> Option<(SharedSymbol, &'a ArcStr)> {
+        while self.index < self.end {
+            let index = self.index;
+            self.index += 1;
+            if let Some(text) = self.texts.witness(index) {
+                let value = self.texts.value(&text);
+                return Some((SharedSymbol { text }, value));
+            }
+        }
+        None
+    }
 }

@@ -6,9 +6,8 @@ ghost use Rattle.arcintern.specs.Texts.{IsSymbolOf, IsSymbolOfWord, IsWhole};
 
 use crate::fault::InternFault;
 use crate::interner::{MOST_TEXTS, copy_of, is_whole};
-use crate::shared_interner::SharedInterner;
+use crate::shared_interner::{SharedInterner, SharedSymbol};
 use crate::shared_interner::shard::Shard;
-use crate::shared_interner::shared_symbol::SharedSymbol;
 use crate::slots::{half_of, hash_of_word};
 use arcstr::{ArcStr, Substr};
 use std::alloc::Global;

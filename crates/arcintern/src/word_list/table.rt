@@ -10,7 +10,7 @@ use crate::interner::MOST_TEXTS;
 use crate::slots::Slots;
 use crate::symbol::Symbol;
 use crate::word_list::MOST_BYTES;
-use crate::word_list::iter::WordListIter;
+use crate::word_list::WordListIter;
 use std::alloc::{AllocError, Global};
 use std::marker::Model;
 
