@@ -291,7 +291,7 @@ impl<S: BuildHasher> Index<Symbol> for Interner<S> {
 
     ghost index_gives = { λ interner symbol text. slice_get interner symbol ≡ Some text };
 
-    /// The text of the symbol, which is one of this interner.
+    /// Returns the text of the symbol, which is one of this interner.
     ///
     /// ```
     /// let mut interner = Interner::new(rt.alloc());

@@ -118,7 +118,7 @@ impl<S: BuildHasher + Drop> SharedInterner<S> {
         SharedInterner::with_room(alloc, shards, 0, hash_builder)
     }
 
-    /// An interner without texts, with room for this many.
+    /// Makes an interner without texts, with room for this many.
     fn with_room(
         alloc: Global,
         shards: usize,
@@ -154,14 +154,15 @@ impl<S: BuildHasher> SharedInterner<S> {
         self.texts.value(&symbol.text)
     }
 
-    /// Two symbols of this interner with one number have one text. It does nothing when it runs.
+    /// Proves that two symbols of this interner with one number have one text. It does nothing when
+    /// it runs.
     ///
     /// ```
     /// let interner = SharedInterner::new(rt.alloc(), 8)?;
     /// let symbol = interner.intern(&rt, "foo")?;
-    /// interner.agrees(&symbol, &symbol.again());
+    /// interner.one_number_has_one_text(&symbol, &symbol.again());
     /// ```
-    pub fn agrees(&self, one: &SharedSymbol, other: &SharedSymbol)
+    pub fn one_number_has_one_text(&self, one: &SharedSymbol, other: &SharedSymbol)
         requires one { IsSymbolOf self.now one.now }
         requires other { IsSymbolOf self.now other.now }
         requires same { one.now.number ≡ other.now.number }
@@ -297,7 +298,7 @@ impl<S: BuildHasher> fmt::Debug for SharedInterner<S> {
     }
 }
 
-/// Shards without texts, each with room for this many.
+/// Makes shards without texts, each with room for this many.
 fn empty_shards(alloc: Global, shards: usize, room: usize) -> Result<Vec<Shard>, InternFault>
     ensures len { IfOk result (λ tables. length tables.items ≡ shards) }
     ensures fault { IfErr result (λ fault. fault ≡ InternFault.Memory) }
@@ -387,7 +388,7 @@ pub struct SharedTexts<'a> {
 }
 
 impl<'a> SharedTexts<'a> {
-    /// The texts whose numbers are below the count of them now.
+    /// Makes an iterator over the texts whose numbers are below the count of them now.
     pub(crate) fn of(texts: &'a boxcar::Vec<ArcStr>) -> SharedTexts<'a>
         ensures texts { result.texts.now ≡ texts.now }
         ensures first { result.index ≡ 0 }

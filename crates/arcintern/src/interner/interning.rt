@@ -138,7 +138,7 @@ pub(crate) fn copy_of(alloc: Global, word: &str) -> Result<ArcStr, InternFault>
     }
 }
 
-/// Whether the slice is all of its parent.
+/// Returns whether the slice is all of its parent.
 pub(crate) fn is_whole(slice: &Substr) -> bool
     ensures whole { IsTrue result ↔ IsWhole slice.now }
     ensures text { IsWhole slice.now → text_of slice.now ≡ slice.now.parent.text }

@@ -6,7 +6,8 @@ use std::array;
 use std::sync::atomic::{AtomicUsize, Ordering};
 use std::sync::{Mutex, OnceLock};
 
-/// How many longer tables a shard can have. The last has `2^33` places or more, which is enough for all numbers.
+/// How many longer tables a shard can have. The last has `2^33` slots or more, which is enough for
+/// all numbers.
 const TABLES: usize = 30;
 
 /// The words whose hashes pick this shard. Threads read its table while another adds a word, so a table stays where it is: one that is
@@ -22,7 +23,7 @@ pub(crate) struct Shard {
 }
 
 impl Shard {
-    /// A shard without words, which does not grow for this many.
+    /// Makes a shard without words, which does not grow for this many.
     pub(crate) fn with_capacity(alloc: Global, words: usize) -> Result<Shard, AllocError> {
         Ok(Shard {
             first: SharedSlots::with_capacity(alloc, words)?,
@@ -32,7 +33,7 @@ impl Shard {
         })
     }
 
-    /// The table that has every word.
+    /// Returns the table that has every word.
     #[inline(always)]
     pub(crate) fn slots(&self) -> Option<&SharedSlots> {
         match self.grown.load(Ordering::Acquire) {
@@ -41,7 +42,7 @@ impl Shard {
         }
     }
 
-    /// The table that has every word, with room for one more. The caller holds `used`.
+    /// Returns the table that has every word, with room for one more. The caller holds `used`.
     pub(crate) fn slots_with_room(&self, used: usize) -> Result<&SharedSlots, AllocError> {
         match self.slots() {
             Some(slots) if slots.has_room(used) => Ok(slots),
@@ -50,16 +51,16 @@ impl Shard {
         }
     }
 
-    /// Puts a longer table in the place of the last.
+    /// Puts a longer table after the last.
     fn grow(&self, longer: SharedSlots) -> Result<&SharedSlots, AllocError> {
         let grown = self.grown.load(Ordering::Acquire);
-        let Some(place) = self.longer.get(grown) else {
+        let Some(next) = self.longer.get(grown) else {
             return Err(AllocError);
         };
-        let Ok(there) = place.try_set(longer) else {
+        let Ok(there) = next.try_set(longer) else {
             return Err(AllocError);
         };
         self.grown.store(grown.saturating_add(1), Ordering::Release);
-        Ok(place.value(&there))
+        Ok(next.value(&there))
     }
 }

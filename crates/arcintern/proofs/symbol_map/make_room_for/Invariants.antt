@@ -1,7 +1,7 @@
 use Rattle.std.proofs.Common.{◌+◌, ◌-◌, ◌^◌, ◌≤◌, length}
 use Rattle.std.specs.Prelude.{vec_capacity}
 use Rattle.arcintern.specs.Values.{HaveSameValues}
-use Rattle.arcintern.proofs.symbol_map.reach.Given as goal
+use Rattle.arcintern.proofs.symbol_map.make_room_for.Given as goal
 
 abbrev pub invariant-loop-values : goal.invariant-loop-values
 invariant-loop-values g l = record {
