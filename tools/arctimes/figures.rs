@@ -26,7 +26,7 @@ pub(crate) enum Family {
 }
 
 /// The name of each figure, with its family.
-const FIGURES: [(&str, Family); 42] = [
+const FIGURES: [(&str, Family); 40] = [
     ("clone_drop", Family::Clones),
     ("clone_drop_bare", Family::Clones),
     ("clone_drop_slice", Family::Clones),
@@ -56,8 +56,6 @@ const FIGURES: [(&str, Family); 42] = [
     ("list_get", Family::Interner),
     ("intern_shared", Family::Interner),
     ("intern_shared_new", Family::Interner),
-    ("intern_local", Family::Interner),
-    ("get_frozen", Family::Interner),
     ("substr", Family::Slices),
     ("substr_of_substr", Family::Slices),
     ("clone_drop_contended", Family::Contended),

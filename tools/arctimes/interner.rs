@@ -4,7 +4,7 @@ use crate::figures::no_figure;
 use crate::requests::{Machine, Request};
 use crate::words;
 use anyhow::Result;
-use arcintern::{FrozenInterner, InternFault, Interner, SharedInterner, WordList};
+use arcintern::{InternFault, Interner, SharedInterner, WordList};
 use std::alloc::{AllocError, Global};
 use std::hash::{BuildHasher, RandomState};
 use std::ops::Range;
@@ -31,8 +31,6 @@ pub(crate) fn run<M: Machine>(rt: &M, request: &Request) -> Result<()> {
         "list_get" => time_finding(rt, &request, &words),
         "intern_shared" => time_sharing(rt, &request, &words),
         "intern_shared_new" => time_sharing_new_words(rt, &request, &words),
-        "intern_local" => time_caches(rt, &request, &words),
-        "get_frozen" => time_frozen(rt, &request, &words),
         _ => no_figure(),
     }
 }
@@ -109,22 +107,6 @@ fn list_all(list: &mut WordList, words: &[&str]) -> Result<usize, InternFault> {
     Ok(sum)
 }
 
-/// Times look-ups in a frozen interner that has all the words.
-fn time_frozen<M: Machine>(rt: &M, request: &Request, words: &[&str]) -> Result<()> {
-    let interner = SharedInterner::new(rt.alloc(), SHARDS)?;
-    intern_share(rt, &interner, words, 0, 1)?;
-    let frozen = interner.freeze();
-    request.time_each(rt, words, words.len(), |word| index_in(&frozen, word))
-}
-
-/// Returns the index of a word, or 0 if the interner does not have it.
-fn index_in(frozen: &FrozenInterner, word: &str) -> usize {
-    match frozen.get(word) {
-        Some(symbol) => symbol.number().index(),
-        None => 0,
-    }
-}
-
 /// Times how long the threads of the request take for the words, in an interner that has them all.
 fn time_sharing<M: Machine>(rt: &M, request: &Request, words: &[&str]) -> Result<()> {
     let interner = SharedInterner::new(rt.alloc(), SHARDS)?;
@@ -146,18 +128,6 @@ fn time_sharing_new_words<M: Machine>(rt: &M, request: &Request, words: &[&str])
         request.finish(rt, start, sum)?;
     }
     Ok(())
-}
-
-/// As `time_sharing`, where each thread makes a cache of its own in each round.
-fn time_caches<M: Machine>(rt: &M, request: &Request, words: &[&str]) -> Result<()> {
-    let (alloc, workers) = (rt.alloc(), request.threads);
-    let interner = SharedInterner::new(alloc, SHARDS)?;
-    intern_share(rt, &interner, words, 0, 1)?;
-    let work = |worker: usize| intern_locally(rt, alloc, &interner, words, worker, workers);
-    request.time(
-        rt,
-        || sum_of(thread::map_indices(rt, alloc, workers, &work)?),
-    )
 }
 
 /// Returns the sum of what the workers return.
@@ -184,27 +154,6 @@ fn intern_share<R: Wait>(
     {
         let symbol = interner.intern(rt, word)?;
         sum = sum.wrapping_add(interner.text(&symbol).len());
-    }
-    Ok(sum)
-}
-
-/// As `intern_share`, through a cache.
-fn intern_locally<R: Wait>(
-    rt: &R,
-    alloc: Global,
-    interner: &SharedInterner,
-    words: &[&str],
-    worker: usize,
-    workers: usize,
-) -> Result<usize, InternFault> {
-    let mut local = interner.local(alloc)?;
-    let mut sum = 0usize;
-    for word in words
-        .get(share_of(words.len(), worker, workers))
-        .unwrap_or(&[])
-    {
-        let symbol = local.intern(rt, word)?;
-        sum = sum.wrapping_add(local.interner().text(&symbol).len());
     }
     Ok(sum)
 }

@@ -3,6 +3,7 @@ use Rattle.std.specs.Prelude.{◌≡◌, ◌≢◌, ℕ, ◌+◌, ◌*◌, ◌/�
 use Rattle.std.specs.declared.hash.BuildHasher as builder
 use Rattle.std.specs.declared.hash.Hasher as hasher
 use Rattle.arcstr.specs.TextView.{TextView, literal_of}
+use Rattle.arcintern.specs.declared.slots.TheConstants.{NUMBERS}
 
 -- what the hasher finishes with after one write of the word's bytes
 unfoldable pub hash_of_word : {S H : Type 0} → builder.Ghosts S H → hasher.Ghosts H → S → List ℕ → ℕ
@@ -12,23 +13,23 @@ hash_of_word build hash state word = hash.finish (hash.write (build.build_hasher
 unfoldable pub half_of_word : {S H : Type 0} → builder.Ghosts S H → hasher.Ghosts H → S → List ℕ → ℕ
 half_of_word build hash state word =
     let whole = hash_of_word build hash state word in
-    bit_xor whole (whole / 4294967296) % 4294967296
+    bit_xor whole (whole / NUMBERS) % NUMBERS
 
 -- the slot of a number, under half of a hash; an empty slot is 0
 abbrev pub slot_of : ℕ → ℕ → ℕ
-slot_of half number = half * 4294967296 + number + 1
+slot_of half number = half * NUMBERS + number + 1
 
 -- where a search for the slot begins
 abbrev pub home : ℕ → ℕ → ℕ
-home mask slot = bit_and (slot / 4294967296) mask
+home mask slot = bit_and (slot / NUMBERS) mask
 
 -- a search that begins at the slot's home and ends at the first empty slot finds the slot
 pub record IsPlaced (slots : List ℕ) (mask slot : ℕ) : Type 0 where
-  pub place : ℕ
-  pub from_home : home mask slot ≤ place
-  pub within : place < length slots
-  pub here : slice_index slots place ≡ slot
-  pub before : (other : ℕ) → home mask slot ≤ other → other < place → slice_index slots other ≢ 0
+  pub index : ℕ
+  pub from_home : home mask slot ≤ index
+  pub within : index < length slots
+  pub here : slice_index slots index ≡ slot
+  pub before : (other : ℕ) → home mask slot ≤ other → other < index → slice_index slots other ≢ 0
 
 -- the number of each text is placed under the half of its word, which is `half` of the text
 abbrev pub ArePlaced : {X : Type 0} → List ℕ → ℕ → (X → ℕ) → X → List X → Type 0

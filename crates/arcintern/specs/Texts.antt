@@ -1,5 +1,6 @@
 -- The texts of an interner, in the order in which they came, the symbols of a shared interner, and the faults of both.
-use Rattle.std.specs.Prelude.{◌≡◌, ◌≢◌, ℕ, ◌<◌, List, length, slice_get, AllPairs, Any, IsSomeAnd, codes}
+use Rattle.std.specs.Prelude.{◌≡◌, ◌≢◌, ℕ, ◌<◌, ◌≤◌, ◌↔◌, ◌++◌, ◌∷◌, List, [], length, slice_get, AllPairs, Any, IsSomeAnd, codes}
+use Rattle.std.specs.Prelude.{Result, IfOk, IsErrOf, IsOk, OnErr, OnOk}
 use Rattle.std.specs.declared.io.ErrorKind.{ErrorKind}
 use Rattle.std.specs.declared.io.ErrorKind.TheVariants.{InvalidInput, OutOfMemory}
 use Rattle.arcstr.specs.Substr.{SubstrView}
@@ -7,6 +8,7 @@ use Rattle.arcstr.specs.TextView.{TextView}
 use Rattle.boxcar.specs.Table.{Shelves, id_at}
 use Rattle.arcintern.specs.declared.fault.InternFault.{InternFault}
 use Rattle.arcintern.specs.declared.fault.InternFault.TheVariants.{Full, Length, Memory}
+use Rattle.arcintern.specs.declared.interner.TheConstants.{MOST_TEXTS}
 
 -- one of the texts spells this word
 abbrev pub HasWord : List TextView → List ℕ → Type 0
@@ -27,6 +29,23 @@ KeepsTexts old new = (index : ℕ) → index < length old → slice_get new inde
 -- the slice is all of its parent
 abbrev pub IsWhole : SubstrView → Type 0
 IsWhole slice = (slice.start ≡ 0) × (slice.end ≡ length slice.parent.text)
+
+-- what interning a word does to the texts: a new word is kept as `text`, with the next number
+pub record Interns (old new : List TextView) (word : List ℕ) (text : TextView) (answer : Result ℕ InternFault) : Type 0 where
+  -- the answer is the symbol of a text that spells the word
+  pub found : IfOk answer (λ symbol. IsWordAt new symbol word)
+  -- a known word is never refused, and changes nothing
+  pub known : HasWord old word → IsOk answer
+  pub same : HasWord old word → new ≡ old
+  -- a new word adds its text at the end
+  pub added : (¬ HasWord old word) → OnOk answer (new ≡ old ++ text ∷ [])
+  -- each text keeps its symbol, and stands once
+  pub kept : KeepsTexts old new
+  pub once : HasEachOnce new
+  -- a refused call changes nothing
+  pub refused : OnErr answer (new ≡ old)
+  -- `Full` comes exactly for a new word in an interner with `MOST_TEXTS` texts
+  pub full : IsErrOf answer Full ↔ ((¬ HasWord old word) × (MOST_TEXTS ≤ length old))
 
 -- what clauses see of a table of texts: the texts, and the table of their numbers
 pub record TextTableView : Type 0 where

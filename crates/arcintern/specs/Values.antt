@@ -14,7 +14,7 @@ module _ {V : Type 0} where
   abbrev pub HaveSameOtherValues : List (Option V) → List (Option V) → ℕ → Type 0
   HaveSameOtherValues one other symbol = (number : ℕ) → number ≢ symbol → value_at one number ≡ value_at other number
 
-  -- the values, each with its number, where the first place has this number
+  -- the values, each with its number, where the first entry has this number
   abbrev pub pairs_from : ℕ → List (Option V) → List (ℕ × V)
   pairs_from number [] = []
   pairs_from number (None ∷ rest) = pairs_from (number + 1) rest

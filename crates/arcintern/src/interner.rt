@@ -1,29 +1,32 @@
 //! `Interner`: each distinct text once.
 //!
 //! No call here allocates, clones a handle or takes an atomic step unless it says so.
-ghost use Rattle.std.specs.Prelude.{◌≡◌, ◌^◌, ◌<◌, ◌≤◌, ◌↔◌, [], length, IfErr, IfOk, IsOk, IsTrue};
+ghost use Rattle.std.specs.Prelude.{◌≡◌, ◌^◌, ◌<◌, ◌≤◌, ◌↔◌, [], length, IfErr, IfOk, IsOk, IsTrue, OnOk, option_copied, slice_get, IfSome, Some, IsSome};
 ghost use Rattle.std.specs.Iterator.Adapters.{IterYieldsInOrder, IterYieldsInReverse};
 ghost use Rattle.std.specs.List.{enumerate_from};
 ghost use Rattle.std.specs.Slice.Iter.{iter_rest};
 ghost use Rattle.arcstr.specs.TextView.{TextView};
-ghost use Rattle.arcintern.specs.Texts.{HasEachOnce};
+ghost use Rattle.arcintern.specs.Texts.{HasEachOnce, HasWord, IsWordAt};
+ghost use Rattle.std.specs.Iterator.{YieldsFirstBy, item_count};
 
 use crate::fault::InternFault;
+use crate::shared_interner::SharedTexts;
+use crate::slots::half_of_word;
+use crate::symbol::Symbol;
 use arcstr::ArcStr;
 use std::alloc::Global;
 use std::fmt;
 use std::hash::{BuildHasher, BuildHasherDefault, FoldHasher};
 use std::marker::Model;
+use std::ops::Index;
 use std::slice::Iter;
+use std::sync::Wait;
+use table::TextTable;
 
 mod interning;
-mod lookup;
-mod pairs;
 mod table;
 
 pub(crate) use interning::{copy_of, is_whole};
-pub use pairs::InternerPairs;
-use table::TextTable;
 
 /// The number of texts that an interner can hold.
 ///
@@ -116,6 +119,44 @@ impl<S: BuildHasher> Interner<S> {
         }
     }
 
+    /// Makes an interner of the texts of a shared interner, each under the number that it has there.
+    /// Returns the hasher out of memory, or if a number has no text.
+    pub(crate) fn of_texts(
+        rt: &impl Wait,
+        alloc: Global,
+        hash_builder: S,
+        texts: SharedTexts<'_>,
+    ) -> Result<Interner<S>, S>
+        ensures once { IfOk result (λ interner. HasEachOnce interner) }
+    {
+        let Ok(table) = TextTable::with_capacity(alloc, texts.end) else {
+            return Err(hash_builder);
+        };
+        let mut interner = Interner {
+            table,
+            hash_builder,
+        };
+        match interner.add_all(rt, texts) {
+            Ok(()) => Ok(interner),
+            Err(_) => Err(interner.hash_builder),
+        }
+    }
+
+    /// Adds a clone of each text. If there are then as many texts as numbers, each has its number.
+    fn add_all(&mut self, rt: &impl Wait, texts: SharedTexts<'_>) -> Result<(), InternFault>
+        ensures once { OnOk result (HasEachOnce self.new) }
+    {
+        let numbers = texts.end;
+        for (_, text) in texts {
+            self.intern_arc(rt, text)?;
+        }
+        if self.len() == numbers {
+            Ok(())
+        } else {
+            Err(InternFault::Memory)
+        }
+    }
+
     /// Returns the number of texts.
     ///
     /// ```
@@ -185,6 +226,81 @@ impl<S: BuildHasher> Interner<S> {
             next: 0,
         }
     }
+
+    /// Returns the symbol of the text that spells this word, or `None` if there is none.
+    ///
+    /// ```
+    /// let mut interner = Interner::new(rt.alloc());
+    /// let symbol = interner.intern("foo")?;
+    /// assert!(rt; interner.get("foo") == Some(symbol));
+    /// assert!(rt; interner.get("fo").is_none());
+    /// ```
+    pub fn get(&self, word: &str) -> Option<Symbol>
+        // Promise: It finds exactly the words that are there, each of which stands once.
+        ensures found { IsSome result ↔ HasWord self.now word.now }
+        ensures word { IfSome result (λ symbol. IsWordAt self.now symbol word.now) }
+        ensures once { HasEachOnce self.now }
+    {
+        let half = half_of_word(&self.hash_builder, word);
+        self.table.find(half, word)
+    }
+
+    /// Returns the symbol with this index, or `None` if the interner has fewer texts.
+    ///
+    /// ```
+    /// let mut interner = Interner::new(rt.alloc());
+    /// let symbol = interner.intern("foo")?;
+    /// assert!(rt; interner.symbol_at(0) == Some(symbol));
+    /// assert!(rt; interner.symbol_at(1).is_none());
+    /// ```
+    pub fn symbol_at(&self, index: usize) -> Option<Symbol>
+        // Promise: It finds exactly the indices that are there.
+        ensures found { IsSome result ↔ (index < length self.now) }
+        ensures symbol { IfSome result (λ symbol. symbol ≡ index) }
+    {
+        if index < self.table.texts().len() {
+            Some(Symbol::at(index))
+        } else {
+            None
+        }
+    }
+
+    /// Returns the text of the symbol, or `None` if the interner has fewer texts: the symbol is another
+    /// interner's.
+    ///
+    /// ```
+    /// let mut interner = Interner::new(rt.alloc());
+    /// let symbol = interner.intern("foo")?;
+    /// let text = interner.resolve(symbol);
+    /// assert!(rt; text.is_some_and(|text| text.eq_str("foo")));
+    /// assert!(rt; Interner::new(rt.alloc()).resolve(symbol).is_none());
+    /// ```
+    pub fn resolve(&self, symbol: Symbol) -> Option<&ArcStr>
+        // Promise: It finds exactly the symbols that are there.
+        ensures found { IsSome result ↔ (symbol < length self.now) }
+        ensures text { option_copied result ≡ slice_get self.now symbol }
+    {
+        self.table.texts().get(symbol.index())
+    }
+}
+
+impl<S: BuildHasher> Index<Symbol> for Interner<S> {
+    type Output = ArcStr;
+
+    ghost can_index = { λ interner symbol. symbol < length interner };
+
+    ghost index_gives = { λ interner symbol text. slice_get interner symbol ≡ Some text };
+
+    /// Returns the text of the symbol, which is one of this interner.
+    ///
+    /// ```
+    /// let mut interner = Interner::new(rt.alloc());
+    /// let symbol = interner.intern("foo")?;
+    /// assert!(rt; interner[symbol].eq_str("foo"));
+    /// ```
+    fn index(&self, symbol: Symbol) -> &ArcStr {
+        &self.table.texts()[symbol.index()]
+    }
 }
 
 /// Prints the texts as a list, in the order of their symbols.
@@ -198,5 +314,52 @@ impl<S: BuildHasher> Interner<S> {
 impl<S: BuildHasher> fmt::Debug for Interner<S> {
     fn fmt<W: fmt::Write>(&self, f: &mut fmt::Formatter<W>) -> fmt::Result {
         f.debug_list().entries(self.iter()).finish()
+    }
+}
+
+/// The symbols of an `Interner` with their texts, seen as the list of the pairs that are left.
+///
+/// ```
+/// let mut interner = Interner::new(rt.alloc());
+/// let symbol = interner.intern("foo")?;
+/// let mut pairs: InternerPairs = interner.pairs();
+/// assert!(rt; pairs.next().is_some_and(|(found, text)| found == symbol && text.eq_str("foo")));
+/// assert!(rt; pairs.next().is_none());
+/// ```
+#[derive(Drop)]
+pub struct InternerPairs<'a> {
+    pub(crate) texts: &'a [ArcStr],
+    pub(crate) next: usize,
+}
+
+impl<'a> Model for InternerPairs<'a> {
+    ghost use Rattle.std.specs.Prelude.{ℕ, List, ◌+◌, ◌^◌, ◌≤◌, length};
+    ghost use Rattle.std.specs.List.{enumerate_from};
+    ghost use Rattle.arcstr.specs.TextView.{TextView};
+
+    ghost Value = { List (ℕ × TextView) };
+
+    ghost view = { λ it. enumerate_from it.next it.texts.now };
+
+    ghost invariant = { λ it. it.next + length it.texts.now ≤ 2 ^ 32 };
+}
+
+impl<'a> Iterator for InternerPairs<'a> {
+    type Item = (Symbol, &'a ArcStr);
+
+    ghost next_gives = { YieldsFirstBy (λ item. (item.0, item.1.now)) (λ rest. rest) };
+
+    ghost remaining = { item_count (λ rest. rest) };
+
+    fn next(&mut self) -> Option<(Symbol, &'a ArcStr)> {
+        match self.texts.split_first() {
+            Some((text, rest)) => {
+                let symbol = Symbol::at(self.next);
+                self.texts = rest;
+                self.next += 1;
+                Some((symbol, text))
+            }
+            None => None,
+        }
     }
 }

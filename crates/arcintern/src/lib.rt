@@ -3,9 +3,7 @@
 
 pub use fault::InternFault;
 pub use interner::{Interner, InternerPairs, MOST_TEXTS};
-pub use shared_interner::{
-    FrozenInterner, LocalInterner, SharedInterner, SharedSymbol, SharedTexts,
-};
+pub use shared_interner::{SharedInterner, SharedSymbol, SharedTexts};
 pub use symbol::Symbol;
 pub use symbol_map::{SymbolMap, SymbolMapIter};
 pub use word_list::{MOST_BYTES, WordList, WordListIter, WordListPairs};

@@ -1,30 +1,26 @@
 //! `SharedInterner`: each distinct text once, for threads.
 //!
-//! Each call with a handle `rt` can wait, but only for a new word: for a thread that adds a text to the same shard or to the list, or
-//! that changes the count of a text that the call clones.
-ghost use Rattle.std.specs.Prelude.{◌≡◌, ◌≤◌, IfErr, IfOk, IfSome, length};
-ghost use Rattle.arcintern.specs.Texts.{IsSymbolOf};
+//! Each call with a handle `rt` can wait for a thread that adds a text to the same shard or to the
+//! list, or that changes the count of a text that the call clones. No call waits for a known word.
+ghost use Rattle.std.specs.Prelude.{◌≡◌, ◌^◌, ◌<◌, ◌≤◌, ◌-◌, IfErr, IfOk, IfSome, length};
+ghost use Rattle.arcintern.specs.Texts.{HasEachOnce, IsSymbolOf};
+ghost use Rattle.std.specs.Iterator.{at_most};
 
 use crate::fault::InternFault;
+use crate::interner::{Interner, MOST_TEXTS};
 use crate::symbol::Symbol;
 use arcstr::ArcStr;
+use boxcar::Pushed;
 use shard::Shard;
-use std::alloc::Global;
+use std::alloc::{AllocFailed, Global};
 use std::fmt;
 use std::hash::{BuildHasher, BuildHasherDefault, FoldHasher};
 use std::marker::Model;
+use std::sync::Wait;
 
-mod frozen_interner;
 mod interning;
-mod local_interner;
 mod shard;
-mod shared_symbol;
-mod shared_texts;
-
-pub use frozen_interner::FrozenInterner;
-pub use local_interner::LocalInterner;
-pub use shared_symbol::SharedSymbol;
-pub use shared_texts::SharedTexts;
+mod shared_slots;
 
 /// Keeps each distinct text once, as an `ArcStr`, for any number of threads.
 ///
@@ -122,7 +118,7 @@ impl<S: BuildHasher + Drop> SharedInterner<S> {
         SharedInterner::with_room(alloc, shards, 0, hash_builder)
     }
 
-    /// An interner without texts, with room for this many.
+    /// Makes an interner without texts, with room for this many.
     fn with_room(
         alloc: Global,
         shards: usize,
@@ -158,14 +154,15 @@ impl<S: BuildHasher> SharedInterner<S> {
         self.texts.value(&symbol.text)
     }
 
-    /// Two symbols of this interner with one number have one text. It does nothing when it runs.
+    /// Proves that two symbols of this interner with one number have one text. It does nothing when
+    /// it runs.
     ///
     /// ```
     /// let interner = SharedInterner::new(rt.alloc(), 8)?;
     /// let symbol = interner.intern(&rt, "foo")?;
-    /// interner.agrees(&symbol, &symbol.again());
+    /// interner.one_number_has_one_text(&symbol, &symbol.again());
     /// ```
-    pub fn agrees(&self, one: &SharedSymbol, other: &SharedSymbol)
+    pub fn one_number_has_one_text(&self, one: &SharedSymbol, other: &SharedSymbol)
         requires one { IsSymbolOf self.now one.now }
         requires other { IsSymbolOf self.now other.now }
         requires same { one.now.number ≡ other.now.number }
@@ -232,6 +229,55 @@ impl<S: BuildHasher> SharedInterner<S> {
     {
         SharedTexts::of(&self.texts)
     }
+
+    /// Makes an `Interner` of the texts, each under the number that it has here. The `Interner`
+    /// has all contracts of its type, and is faster on one thread.
+    ///
+    /// It gets a clone of each text, and this interner is dropped. So no text is copied, and each
+    /// count is as it was. The list of the texts and the table are allocated.
+    ///
+    /// A refused call returns this interner as it was, in the fault. The call is refused out of
+    /// memory. It is also refused if a number has no text, since the texts after it would get other
+    /// numbers. Then `iter` yields fewer texts than `len` returns, and each further call is refused
+    /// too.
+    ///
+    /// The contract does not say which texts the `Interner` has. The test
+    /// `words_of_threads_keep_their_numbers` checks that.
+    ///
+    /// ```
+    /// let shared = SharedInterner::new(rt.alloc(), 8)?;
+    /// let symbol = shared.intern(&rt, "foo")?.number();
+    /// let interner = shared.into_interner(&rt)?;
+    /// assert!(rt; interner.get("foo") == Some(symbol));
+    /// assert_eq!(rt; interner.len(), 1);
+    /// ```
+    pub fn into_interner(
+        self,
+        rt: &impl Wait,
+    ) -> Result<Interner<S>, AllocFailed<SharedInterner<S>>>
+        // Promise: No two texts spell the same word.
+        ensures once { IfOk result (λ interner. HasEachOnce interner) }
+        // Promise: A refused call returns this interner.
+        ensures refused { IfErr result (λ refused. refused.value ≡ self) }
+    {
+        let SharedInterner {
+            shards,
+            texts,
+            alloc,
+            hash_builder,
+        } = self;
+        match Interner::of_texts(rt, alloc, hash_builder, SharedTexts::of(&texts)) {
+            Ok(interner) => Ok(interner),
+            Err(hash_builder) => Err(AllocFailed {
+                value: SharedInterner {
+                    shards,
+                    texts,
+                    alloc,
+                    hash_builder,
+                },
+            }),
+        }
+    }
 }
 
 /// Prints the texts as a list, in the order of their numbers. It may miss texts that other threads are adding.
@@ -252,7 +298,7 @@ impl<S: BuildHasher> fmt::Debug for SharedInterner<S> {
     }
 }
 
-/// Shards without texts, each with room for this many.
+/// Makes shards without texts, each with room for this many.
 fn empty_shards(alloc: Global, shards: usize, room: usize) -> Result<Vec<Shard>, InternFault>
     ensures len { IfOk result (λ tables. length tables.items ≡ shards) }
     ensures fault { IfErr result (λ fault. fault ≡ InternFault.Memory) }
@@ -264,4 +310,115 @@ fn empty_shards(alloc: Global, shards: usize, room: usize) -> Result<Vec<Shard>,
         count += 1;
     }
     Ok(tables)
+}
+
+/// Stands for one text of one shared interner. It takes 24 bytes. A contract sees its number and its text, which other threads cannot
+/// change. The number alone is a `Symbol` of 4 bytes, which can be copied, compared, ordered and hashed.
+///
+/// ```
+/// let interner = SharedInterner::new(rt.alloc(), 8)?;
+/// let foo = interner.intern(&rt, "foo")?;
+/// assert!(rt; foo.number() == interner.intern(&rt, "foo")?.number());
+/// assert!(rt; foo.number() != interner.intern(&rt, "bar")?.number());
+/// ```
+#[derive(Drop)]
+pub struct SharedSymbol {
+    pub(crate) text: Pushed<ArcStr>,
+}
+
+impl Model for SharedSymbol {
+    ghost use Rattle.std.specs.Prelude.{◌^◌, ◌<◌};
+    ghost use Rattle.arcintern.specs.Texts.{SymbolView};
+
+    ghost Value = { SymbolView };
+
+    ghost view = { λ symbol. record { number = symbol.text.index; text = symbol.text.value; bucket = symbol.text.bucket; row = symbol.text.row } };
+
+    ghost invariant = { λ symbol. symbol.text.index < 2 ^ 32 };
+}
+
+impl SharedSymbol {
+    /// Returns the number alone. `SharedInterner::symbol_at` returns the symbol with a number.
+    ///
+    /// ```
+    /// let interner = SharedInterner::new(rt.alloc(), 8)?;
+    /// assert_eq!(rt; interner.intern(&rt, "foo")?.number().index(), 0);
+    /// assert_eq!(rt; interner.intern(&rt, "bar")?.number().index(), 1);
+    /// ```
+    pub fn number(&self) -> Symbol
+        ensures { result ≡ self.now.number }
+    {
+        Symbol::at(self.text.index())
+    }
+
+    /// Returns the same symbol once more.
+    ///
+    /// ```
+    /// let interner = SharedInterner::new(rt.alloc(), 8)?;
+    /// let symbol = interner.intern(&rt, "foo")?.again();
+    /// assert!(rt; interner.text(&symbol).eq_str("foo"));
+    /// ```
+    pub fn again(&self) -> SharedSymbol
+        ensures { result ≡ self.now }
+    {
+        SharedSymbol {
+            text: self.text.again(),
+        }
+    }
+}
+
+/// Yields the symbols of a shared interner with their texts, in the order of their numbers.
+///
+/// ```
+/// let interner = SharedInterner::new(rt.alloc(), 8)?;
+/// interner.intern(&rt, "foo")?;
+/// interner.intern(&rt, "bar")?;
+/// let mut texts: SharedTexts<'_> = interner.iter();
+/// assert!(rt; texts.next().is_some_and(|(_, text)| text.eq_str("foo")));
+/// assert!(rt; texts.next().is_some_and(|(symbol, _)| symbol.number().index() == 1));
+/// assert!(rt; texts.next().is_none());
+/// ```
+#[derive(Drop)]
+pub struct SharedTexts<'a> {
+    texts: &'a boxcar::Vec<ArcStr>,
+    index: usize,
+    /// All numbers are below it.
+    pub(crate) end: usize,
+    ghost small: { end < 2 ^ 32 },
+}
+
+impl<'a> SharedTexts<'a> {
+    /// Makes an iterator over the texts whose numbers are below the count of them now.
+    pub(crate) fn of(texts: &'a boxcar::Vec<ArcStr>) -> SharedTexts<'a>
+        ensures texts { result.texts.now ≡ texts.now }
+        ensures first { result.index ≡ 0 }
+    {
+        SharedTexts {
+            texts,
+            index: 0,
+            end: texts.count().min(MOST_TEXTS),
+        }
+    }
+}
+
+impl<'a> Iterator for SharedTexts<'a> {
+    type Item = (SharedSymbol, &'a ArcStr);
+
+    // Promise: The symbol is of the interner and has this text, and the numbers rise.
+    ghost next_gives = { λ old item new. (new.texts ≡ old.texts) × (new.end ≡ old.end) × (old.index ≤ new.index)
+        × IfSome item (λ pair. IsSymbolOf old.texts.now pair.0 × (pair.1.now ≡ pair.0.text) × (old.index ≤ pair.0.number) × (pair.0.number < new.index)) };
+
+    ghost remaining = { λ texts. at_most (texts.end - texts.index) };
+
+    fn next(&mut self) -> Option<(SharedSymbol, &'a ArcStr)> {
+        while self.index < self.end {
+            let index = self.index;
+            self.index += 1;
+            if let Some(text) = self.texts.witness(index) {
+                let value = self.texts.value(&text);
+                return Some((SharedSymbol { text }, value));
+            }
+        }
+        None
+    }
 }

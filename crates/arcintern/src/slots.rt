@@ -5,7 +5,10 @@ ghost use Rattle.arcintern.specs.Slots.{IsPlaced, half_of_word, hash_of_word, sl
 use std::alloc::{AllocError, Global};
 use std::hash::{BuildHasher, Hasher};
 
-/// The hash of the word: what the hasher finishes with after one write of the word's bytes.
+/// How many values 32 bits have: half of a hash, or the number plus 1 in a slot.
+pub(crate) const NUMBERS: u64 = 1 << 32;
+
+/// Returns the hash of the word: what the hasher finishes with after one write of its bytes.
 #[tactic(auto, unfolding(crate::specs::Slots::hash_of_word))]
 pub(crate) fn hash_of_word<S: BuildHasher>(hash_builder: &S, word: &str) -> u64
     ensures { result ≡ hash_of_word S.BuildHasher S.Hasher.Hasher hash_builder.now word.now }
@@ -15,7 +18,7 @@ pub(crate) fn hash_of_word<S: BuildHasher>(hash_builder: &S, word: &str) -> u64
     hasher.finish()
 }
 
-/// Half as many bits as the hash of the word has.
+/// Returns half as many bits as the hash of the word has.
 #[tactic(auto, unfolding(crate::specs::Slots::half_of_word))]
 pub(crate) fn half_of_word<S: BuildHasher>(hash_builder: &S, word: &str) -> u32
     ensures { result ≡ half_of_word S.BuildHasher S.Hasher.Hasher hash_builder.now word.now }
@@ -23,19 +26,20 @@ pub(crate) fn half_of_word<S: BuildHasher>(hash_builder: &S, word: &str) -> u32
     half_of(hash_of_word(hash_builder, word))
 }
 
-/// The two halves of a hash, joined by xor: a hasher may leave one of them alike for many words.
+/// Joins the two halves of a hash by xor: a hasher may leave one of them alike for many words.
 pub(crate) fn half_of(hash: u64) -> u32
-    ensures { result ≡ bit_xor hash (hash / 4294967296) % 4294967296 }
+    ensures { result ≡ bit_xor hash (hash / NUMBERS) % NUMBERS }
 {
-    ((hash ^ (hash >> 32)) % 4294967296) as u32
+    ((hash ^ (hash >> 32)) % NUMBERS) as u32
 }
 
-/// The length of a table that does not grow for this many slots: a power of two, at least 16, so that a quarter of the places stays empty.
-pub(crate) fn places_for(slots: usize) -> Result<usize, AllocError>
+/// Returns the length of a table that does not grow for this many numbers: a power of two, at least
+/// 16, so that a quarter of the slots stays empty.
+pub(crate) fn slots_for(numbers: usize) -> Result<usize, AllocError>
     ensures { IfOk result (λ len. 0 < len) }
 {
-    match slots
-        .saturating_add(slots.div_ceil(3))
+    match numbers
+        .saturating_add(numbers.div_ceil(3))
         .checked_next_power_of_two()
     {
         Some(len) => Ok(len.max(16)),
@@ -43,8 +47,9 @@ pub(crate) fn places_for(slots: usize) -> Result<usize, AllocError>
     }
 }
 
-/// An empty slot is 0. Any other has half of a hash in its upper 32 bits, and a number plus 1 in its lower ones. A search begins where the
-/// half says, and goes on to an empty slot or the end, so a text whose half leads to a full place stands further on.
+/// An empty slot is 0. Any other has half of a hash in its upper 32 bits, and a number plus 1 in its
+/// lower ones. A search begins where the half says, and goes on to an empty slot or the end. So a
+/// number whose half leads to a full slot stands further on.
 #[derive(Drop)]
 pub(crate) struct Slots {
     pub(crate) slots: Vec<u64>,
@@ -54,7 +59,7 @@ pub(crate) struct Slots {
 }
 
 impl Slots {
-    /// A table without slots.
+    /// Makes a table without slots.
     pub(crate) fn new(alloc: Global) -> Slots
         ensures { result.slots.items ≡ [] }
     {
@@ -65,17 +70,17 @@ impl Slots {
         }
     }
 
-    /// A table that does not grow for this many slots, which `tools/refusals` checks.
-    pub(crate) fn with_capacity(alloc: Global, slots: usize) -> Result<Slots, AllocError>
-        ensures none { slots ≡ 0 → IsOk result }
+    /// Makes a table that does not grow for this many numbers, which `tools/refusals` checks.
+    pub(crate) fn with_capacity(alloc: Global, numbers: usize) -> Result<Slots, AllocError>
+        ensures none { numbers ≡ 0 → IsOk result }
     {
-        if slots == 0 {
+        if numbers == 0 {
             return Ok(Slots::new(alloc));
         }
-        Slots::with_len(alloc, places_for(slots)?)
+        Slots::with_len(alloc, slots_for(numbers)?)
     }
 
-    /// A table of empty slots, with some room behind the last.
+    /// Makes a table of empty slots, with some room behind the last.
     fn with_len(alloc: Global, len: usize) -> Result<Slots, AllocError>
         requires { 0 < len }
     {
@@ -88,31 +93,33 @@ impl Slots {
         })
     }
 
-    /// What `look` answers for the first number under this half of a hash for which it is `Some`.
+    /// Returns what `look` answers for the first number under this half of a hash for which that is
+    /// `Some`.
     #[inline(always)]
     pub(crate) fn find<T, F: Fn(u32) -> Option<T>>(&self, half: u32, look: F) -> Option<T>
         requires { F.IsAlwaysCallable look }
-        ensures found { IfSome result (λ found. (number : ℕ) × (number < 4294967296) × F.post look number (Some found)) }
-        ensures absent { IfNone result ((number : ℕ) → number + 1 < 4294967296
+        ensures found { IfSome result (λ found. (number : ℕ) × (number < NUMBERS) × F.post look number (Some found)) }
+        ensures absent { IfNone result ((number : ℕ) → number + 1 < NUMBERS
             → IsPlaced self.now.slots.items self.now.mask (slot_of half number) → F.post look number None) }
     {
-        let mut place = half as usize & self.mask;
-        while place < self.slots.len() {
-            let slot = self.slots[place];
+        let mut index = half as usize & self.mask;
+        while index < self.slots.len() {
+            let slot = self.slots[index];
             if slot == 0 {
                 return None;
             }
             if slot >> 32 == half as u64 {
-                if let Some(found) = look(((slot % 4294967296) as u32).wrapping_sub(1)) {
+                if let Some(found) = look(((slot % NUMBERS) as u32).wrapping_sub(1)) {
                     return Some(found);
                 }
             }
-            place += 1;
+            index += 1;
         }
         None
     }
 
-    /// Makes room for one more slot. At most three quarters of the places are taken, so a search for an absent word passes about eight.
+    /// Makes room for one more number. At most three quarters of the slots are taken, so a search for
+    /// an absent word passes about eight.
     pub(crate) fn make_room(&mut self) -> Result<(), AllocError>
         ensures kept { (slot : ℕ) → 0 < slot → IsPlaced self.old.slots.items self.old.mask slot → IsPlaced self.new.slots.items self.new.mask slot }
         ensures room { OnOk result (vec_len self.new.slots < vec_capacity self.new.slots) }
@@ -136,7 +143,7 @@ impl Slots {
         Ok(())
     }
 
-    /// Puts in a slot of another table, unless it is empty.
+    /// Puts in what a slot of another table holds, unless it is empty.
     fn take_over(&mut self, slot: u64) -> Result<(), AllocError>
         ensures placed { OnOk result (0 < slot → IsPlaced self.new.slots.items self.new.mask slot) }
         ensures kept { (other : ℕ) → 0 < other → IsPlaced self.old.slots.items self.old.mask other → IsPlaced self.new.slots.items self.new.mask other }
@@ -150,28 +157,28 @@ impl Slots {
 
     /// Puts a number into the table, under half of a hash.
     pub(crate) fn put(&mut self, half: u32, number: u32)
-        requires number { number + 1 < 4294967296 }
+        requires number { number + 1 < NUMBERS }
         requires room { vec_len self.old.slots < vec_capacity self.old.slots }
         ensures placed { IsPlaced self.new.slots.items self.new.mask (slot_of half number) }
         ensures kept { (slot : ℕ) → 0 < slot → IsPlaced self.old.slots.items self.old.mask slot → IsPlaced self.new.slots.items self.new.mask slot }
     {
-        self.put_slot(half as u64 * 4294967296 + number as u64 + 1);
+        self.put_slot(half as u64 * NUMBERS + number as u64 + 1);
     }
 
-    /// Puts a slot at the first empty place from its home on.
+    /// Puts what a slot holds into the first empty slot from its home on.
     fn put_slot(&mut self, slot: u64)
         requires slot { 0 < slot }
         requires room { vec_len self.old.slots < vec_capacity self.old.slots }
         ensures placed { IsPlaced self.new.slots.items self.new.mask slot }
         ensures kept { (other : ℕ) → 0 < other → IsPlaced self.old.slots.items self.old.mask other → IsPlaced self.new.slots.items self.new.mask other }
     {
-        let mut place = (slot >> 32) as usize & self.mask;
-        while place < self.slots.len() && self.slots[place] != 0 {
-            place += 1;
+        let mut index = (slot >> 32) as usize & self.mask;
+        while index < self.slots.len() && self.slots[index] != 0 {
+            index += 1;
         }
         self.used = self.used.saturating_add(1);
-        if place < self.slots.len() {
-            self.slots[place] = slot;
+        if index < self.slots.len() {
+            self.slots[index] = slot;
         } else {
             self.slots.push_reserved(slot);
         }

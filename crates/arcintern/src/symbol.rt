@@ -41,7 +41,7 @@ impl Symbol {
         self.0 as usize
     }
 
-    /// The symbol of the text at this index.
+    /// Returns the symbol of the text at this index.
     pub(crate) fn at(index: usize) -> Symbol
         requires { index < 2 ^ 32 }
         ensures { result ≡ index }

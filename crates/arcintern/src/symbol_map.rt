@@ -107,11 +107,11 @@ impl<V> SymbolMap<V> {
         ensures refused { OnErr result (HaveSameValues self.new self.old) }
         ensures value { IfErr result (λ failed. failed.value ≡ value) }
     {
-        if reach(&mut self.values, symbol.index()).is_err() {
+        if make_room_for(&mut self.values, symbol.index()).is_err() {
             return Err(AllocFailed { value });
         }
-        let place = &mut self.values[symbol.index()];
-        Ok(place.replace(value))
+        let entry = &mut self.values[symbol.index()];
+        Ok(entry.replace(value))
     }
 
     /// Returns the value of the symbol for writing. If it has none, stores this one first. Allocates and fails as `insert` does.
@@ -133,11 +133,11 @@ impl<V> SymbolMap<V> {
         ensures value { IfOk result (λ found. found.now ≡ unwrap_or (value_at self.old symbol) value) }
         ensures failed { IfErr result (λ failed. failed.value ≡ value) }
     {
-        if reach(&mut self.values, symbol.index()).is_err() {
+        if make_room_for(&mut self.values, symbol.index()).is_err() {
             return Err(AllocFailed { value });
         }
-        let place = &mut self.values[symbol.index()];
-        Ok(place.get_or_insert(value))
+        let entry = &mut self.values[symbol.index()];
+        Ok(entry.get_or_insert(value))
     }
 
     /// Returns the symbols that have a value, each with its value, in the order of the symbols.
@@ -176,8 +176,8 @@ impl<V: fmt::Debug> fmt::Debug for SymbolMap<V> {
     }
 }
 
-/// Makes a place for this index.
-fn reach<V>(values: &mut Vec<Option<V>>, index: usize) -> Result<(), AllocError>
+/// Makes an entry for this index.
+fn make_room_for<V>(values: &mut Vec<Option<V>>, index: usize) -> Result<(), AllocError>
     requires { index < 2 ^ 32 }
     ensures same { HaveSameValues values.new.items values.old.items }
     ensures reached { OnOk result (index < length values.new.items) }
@@ -228,11 +228,11 @@ impl<'a, V> Iterator for SymbolMapIter<'a, V> {
     ghost remaining = { item_count (λ rest. rest) };
 
     fn next(&mut self) -> Option<(Symbol, &'a V)> {
-        while let Some((place, rest)) = self.values.split_first() {
+        while let Some((entry, rest)) = self.values.split_first() {
             let symbol = Symbol::at(self.next);
             self.values = rest;
             self.next += 1;
-            if let Some(value) = place {
+            if let Some(value) = entry {
                 return Some((symbol, value));
             }
         }

@@ -1,11 +1,11 @@
 //! `WordList`: each distinct text once, all in one allocation.
 //!
 //! No call here allocates unless it says so, and none takes an atomic step.
-ghost use Rattle.std.specs.Prelude.{◌≡◌, ◌<◌, ◌≤◌, ◌↔◌, ◌++◌, [], ◌∷◌, length, slice_get, Contains};
-ghost use Rattle.std.specs.Prelude.{IfErr, IfOk, IfSome, IsErrOf, IsOk, IsSome, IsTrue, OnErr, OnOk, Some};
+ghost use Rattle.std.specs.Prelude.{◌≡◌, ◌<◌, ◌≤◌, ◌↔◌, [], length, slice_get, Contains};
+ghost use Rattle.std.specs.Prelude.{IfErr, IfOk, IfSome, IsErrOf, IsOk, IsSome, IsTrue, Some};
+ghost use Rattle.std.specs.Iterator.{YieldsFirstBy, item_count};
 ghost use Rattle.std.specs.List.{enumerate_from};
-ghost use Rattle.arcintern.specs.Texts.{KeepsTexts};
-ghost use Rattle.arcintern.specs.Words.{AreDistinct, IsFullFor};
+ghost use Rattle.arcintern.specs.Words.{AreDistinct, InternsInList};
 
 use crate::fault::InternFault;
 use crate::interner::MOST_TEXTS;
@@ -15,14 +15,9 @@ use std::alloc::Global;
 use std::fmt;
 use std::hash::{BuildHasher, BuildHasherDefault, FoldHasher};
 use std::marker::Model;
-
-mod iter;
-mod pairs;
-mod table;
-
-pub use iter::WordListIter;
-pub use pairs::WordListPairs;
 use table::WordTable;
+
+mod table;
 
 /// The number of bytes that the texts of a word list can have together.
 ///
@@ -125,19 +120,9 @@ impl<S: BuildHasher> WordList<S> {
     /// assert!(rt; words.intern("bar")? != symbol);
     /// ```
     pub fn intern(&mut self, word: &str) -> Result<Symbol, InternFault>
-        ensures word { IfOk result (λ symbol. slice_get self.new symbol ≡ Some word.now) }
-        // Promise: A known word is never refused, and changes nothing.
-        ensures known { Contains self.old word.now → IsOk result }
-        ensures same { Contains self.old word.now → self.new ≡ self.old }
-        // Promise: A new word adds a copy at the end.
-        ensures added { (¬ Contains self.old word.now) → OnOk result (self.new ≡ self.old ++ word.now ∷ []) }
-        // Promise: Each text keeps its symbol, and stands once.
-        ensures kept { KeepsTexts self.old self.new }
-        ensures once { AreDistinct self.new }
-        // Promise: A refused call changes nothing.
-        ensures refused { OnErr result (self.new ≡ self.old) }
-        // Promise: `Full` comes exactly for a new word where the numbers or the bytes no longer fit.
-        ensures full { IsErrOf result InternFault.Full ↔ ((¬ Contains self.old word.now) × IsFullFor self.old word.now) }
+        // Promise: A known word is found, and nothing changes. A new one is added at the end.
+        // A refused call changes nothing.
+        ensures interns { InternsInList self.old self.new word.now result }
         // Promise: `Length` never comes.
         ensures never_too_long { ¬ (IsErrOf result InternFault.Length) }
     {
@@ -297,5 +282,99 @@ impl<S: BuildHasher> WordList<S> {
 impl<S: BuildHasher> fmt::Debug for WordList<S> {
     fn fmt<W: fmt::Write>(&self, f: &mut fmt::Formatter<W>) -> fmt::Result {
         f.debug_list().entries(self.iter()).finish()
+    }
+}
+
+/// The texts of a `WordList`, seen as the list of those that are left.
+///
+/// ```
+/// let mut words = WordList::new(rt.alloc());
+/// words.intern("foo")?;
+/// let mut texts: WordListIter = words.iter();
+/// assert!(rt; texts.next() == Some("foo"));
+/// assert!(rt; texts.next().is_none());
+/// ```
+#[derive(Drop)]
+pub struct WordListIter<'a> {
+    pub(crate) bytes: &'a str,
+    pub(crate) start: usize,
+    pub(crate) ends: &'a [u32],
+}
+
+impl<'a> Model for WordListIter<'a> {
+    ghost use Rattle.std.specs.Prelude.{ℕ, List, ◌<◌};
+    ghost use Rattle.std.specs.Str.{IsCharBoundary};
+    ghost use Rattle.arcintern.specs.Words.{AreEnds, pieces};
+
+    ghost Value = { List (List ℕ) };
+
+    ghost view = { λ it. pieces it.bytes.now it.start it.ends.now };
+
+    ghost invariant = { λ it. AreEnds it.bytes.now it.start it.ends.now × (0 < it.start → IsCharBoundary it.bytes.now it.start) };
+}
+
+impl<'a> Iterator for WordListIter<'a> {
+    type Item = &'a str;
+
+    ghost next_gives = { YieldsFirstBy (λ text. text.now) (λ rest. rest) };
+
+    ghost remaining = { item_count (λ rest. rest) };
+
+    fn next(&mut self) -> Option<&'a str> {
+        match self.ends.split_first() {
+            Some((end, rest)) => {
+                let end = *end as usize;
+                let text = &self.bytes[self.start..end];
+                self.start = end;
+                self.ends = rest;
+                Some(text)
+            }
+            None => None,
+        }
+    }
+}
+
+/// The symbols of a `WordList` with their texts, seen as the list of the pairs that are left.
+///
+/// ```
+/// let mut words = WordList::new(rt.alloc());
+/// let symbol = words.intern("foo")?;
+/// let mut pairs: WordListPairs = words.pairs();
+/// assert!(rt; pairs.next() == Some((symbol, "foo")));
+/// assert!(rt; pairs.next().is_none());
+/// ```
+#[derive(Drop)]
+pub struct WordListPairs<'a> {
+    pub(crate) texts: WordListIter<'a>,
+    pub(crate) next: usize,
+}
+
+impl<'a> Model for WordListPairs<'a> {
+    ghost use Rattle.std.specs.Prelude.{ℕ, List, ◌+◌, ◌^◌, ◌≤◌, length};
+    ghost use Rattle.std.specs.List.{enumerate_from};
+
+    ghost Value = { List (ℕ × List ℕ) };
+
+    ghost view = { λ it. enumerate_from it.next it.texts };
+
+    ghost invariant = { λ it. it.next + length it.texts ≤ 2 ^ 32 };
+}
+
+impl<'a> Iterator for WordListPairs<'a> {
+    type Item = (Symbol, &'a str);
+
+    ghost next_gives = { YieldsFirstBy (λ item. (item.0, item.1.now)) (λ rest. rest) };
+
+    ghost remaining = { item_count (λ rest. rest) };
+
+    fn next(&mut self) -> Option<(Symbol, &'a str)> {
+        match self.texts.next() {
+            Some(text) => {
+                let symbol = Symbol::at(self.next);
+                self.next += 1;
+                Some((symbol, text))
+            }
+            None => None,
+        }
     }
 }

@@ -1,8 +1,6 @@
 //! Calls of an interner, with and without texts. A refusal leaves its texts as they were, and the same call then succeeds.
 use crate::calls::{Calls, Given, Machine, Made, Stop, again, check, count, is_text};
-use arcintern::{
-    FrozenInterner, Interner, SharedInterner, SharedSymbol, Symbol, SymbolMap, WordList,
-};
+use arcintern::{Interner, SharedInterner, SharedSymbol, Symbol, SymbolMap, WordList};
 use arcstr::{ArcStr, Substr};
 use std::alloc::{AllocError, Global};
 use std::sync::Wait;
@@ -31,10 +29,9 @@ pub(crate) fn run<R: Machine>(rt: &R) -> io::Result<()> {
     let line = "SharedInterner::intern with a full table";
     again::<SharedWords<FULL>, SharedInterner, R>(rt, line, 0, "", 0)?;
     again::<SharedWords<FULL>, SharedInterner, R>(rt, "SharedInterner::intern_static", 1, "", 0)?;
-    again::<SharedWords<FULL>, SharedInterner, R>(rt, "LocalInterner::intern", 2, "", 0)?;
     let line = "SharedInterner::intern of a known word";
-    again::<SharedWords<FULL>, SharedInterner, R>(rt, line, 3, "", 0)?;
-    again::<SharedWords<FULL>, FrozenInterner, R>(rt, "SharedInterner::freeze", 0, "", 0)
+    again::<SharedWords<FULL>, SharedInterner, R>(rt, line, 2, "", 0)?;
+    again::<SharedWords<FULL>, Interner, R>(rt, "SharedInterner::into_interner", 0, "11", 1)
 }
 
 /// An interner whose last text is this one, or which has none if the text is empty.
@@ -336,8 +333,8 @@ impl<const TEXTS: usize> Calls<SharedWords<TEXTS>> for SharedInterner {
     ) -> Result<SharedInterner, Stop> {
         if let Some(interner) = words.0.as_ref() {
             match number {
-                3 => intern_known(rt, interner)?,
-                _ => intern_new(rt, rt.alloc(), interner, number)?,
+                2 => intern_known(rt, interner)?,
+                _ => intern_new(rt, interner, number)?,
             }
         }
         words.0.take().ok_or(Stop::Differs)
@@ -345,17 +342,11 @@ impl<const TEXTS: usize> Calls<SharedWords<TEXTS>> for SharedInterner {
 }
 
 /// Interns the text `foobar`, by the call of this number.
-fn intern_new(
-    rt: &impl Wait,
-    alloc: Global,
-    interner: &SharedInterner,
-    number: usize,
-) -> Result<(), Stop> {
+fn intern_new(rt: &impl Wait, interner: &SharedInterner, number: usize) -> Result<(), Stop> {
     let texts = interner.len();
     let symbol = match number {
         0 => interner.intern(rt, "foobar")?,
-        1 => interner.intern_static(rt, "foobar")?,
-        _ => interner.local(alloc)?.intern(rt, "foobar")?,
+        _ => interner.intern_static(rt, "foobar")?,
     };
     check(interner.len() == texts.saturating_add(1))?;
     check(symbol.number().index() == texts)?;
@@ -384,19 +375,16 @@ fn is_found(
     }
 }
 
-impl Made for FrozenInterner {
-    fn is(&self, _wanted: &str, _handles: usize) -> bool {
-        self.len() == FULL && self.get("0").is_some() && self.get("foobar").is_none()
-    }
-}
-
-impl Calls<SharedWords<FULL>> for FrozenInterner {
-    fn call<R: Machine>(
-        _rt: &R,
-        words: &mut SharedWords<FULL>,
-        _: usize,
-    ) -> Result<FrozenInterner, Stop> {
-        let interner = words.0.take().ok_or(Stop::Differs)?;
-        Ok(interner.freeze())
+/// A refused call returns the shared interner, which is then given again.
+impl Calls<SharedWords<FULL>> for Interner {
+    fn call<R: Machine>(rt: &R, words: &mut SharedWords<FULL>, _: usize) -> Result<Interner, Stop> {
+        let shared = words.0.take().ok_or(Stop::Differs)?;
+        match shared.into_interner(rt) {
+            Ok(interner) => Ok(interner),
+            Err(refused) => {
+                words.0 = Some(refused.value);
+                Err(Stop::Refused)
+            }
+        }
     }
 }

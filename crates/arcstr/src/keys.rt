@@ -9,8 +9,8 @@ ghost use Rattle.std.specs.Ordering.{nat_cmp};
 ghost use Rattle.arcstr.specs.Substr.{text_of};
 
 use crate::arc_str::ArcStr;
-use crate::order::{compare, is_equal};
 use crate::substr::Substr;
+use crate::vectors::{compare, is_equal};
 use std::cmp::Ordering;
 use std::collections::btree_map::Comparable;
 use std::collections::hash_map::Equivalent;

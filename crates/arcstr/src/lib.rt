@@ -31,3 +31,4 @@ mod substr;
 mod text;
 mod trimming;
 mod values;
+mod vectors;

@@ -16,18 +16,21 @@ use std::marker::Model;
 /// drop(text);
 /// assert_eq!(rt; kept.as_str(), "foo");
 /// ```
-#[derive(Drop)]
+#[derive(Drop, PartialEq, Eq, PartialOrd, Ord, Hash)]
 pub struct StaticStr {
     text: ArcStr,
-    ghost permanent: { IsStatic text.kind },
 }
 
 impl Model for StaticStr {
-    ghost use Rattle.arcstr.specs.TextView.{TextView};
+    ghost use Rattle.arcstr.specs.TextView.{IsStatic, TextView};
 
     ghost Value = { TextView };
 
     ghost view = { λ kept. kept.text };
+
+    ghost inverse = { λ text. record { text = text } };
+
+    ghost invariant = { λ kept. IsStatic kept.text.kind };
 }
 
 impl StaticStr {

@@ -1,9 +1,9 @@
 //! The calls that intern a text.
-ghost use Rattle.std.specs.Prelude.{◌≡◌, ◌<◌, ◌≤◌, ◌↔◌, ◌++◌, [], ◌∷◌, length, IfErr, IfOk, IfSome, IsErrOf, IsNone, IsOk, IsSome, IsTrue, OnErr, OnOk};
+ghost use Rattle.std.specs.Prelude.{◌≡◌, ◌<◌, ◌↔◌, length, IfErr, IfOk, IsErrOf, IsTrue};
 ghost use Rattle.arcstr.specs.Making.{IsTooLong};
 ghost use Rattle.arcstr.specs.Substr.{text_of};
 ghost use Rattle.arcstr.specs.TextView.{literal_of, made_of};
-ghost use Rattle.arcintern.specs.Texts.{HasEachOnce, HasWord, IsWhole, IsWordAt, KeepsTexts};
+ghost use Rattle.arcintern.specs.Texts.{HasWord, Interns, IsWhole};
 
 use crate::fault::InternFault;
 use crate::interner::{Interner, MOST_TEXTS};
@@ -27,19 +27,9 @@ impl<S: BuildHasher> Interner<S> {
     /// assert!(rt; interner.intern("bar")? != symbol);
     /// ```
     pub fn intern(&mut self, word: &str) -> Result<Symbol, InternFault>
-        ensures word { IfOk result (λ symbol. IsWordAt self.new symbol word.now) }
-        // Promise: A known word is never refused, and changes nothing.
-        ensures known { HasWord self.old word.now → IsOk result }
-        ensures same { HasWord self.old word.now → self.new ≡ self.old }
-        // Promise: A new word adds a copy at the end.
-        ensures added { (¬ HasWord self.old word.now) → OnOk result (self.new ≡ self.old ++ made_of word.now ∷ []) }
-        // Promise: Each text keeps its symbol, and stands once.
-        ensures kept { KeepsTexts self.old self.new }
-        ensures once { HasEachOnce self.new }
-        // Promise: A refused call changes nothing.
-        ensures refused { OnErr result (self.new ≡ self.old) }
-        // Promise: `Full` comes exactly for a new word in an interner with `MOST_TEXTS` texts.
-        ensures full { IsErrOf result InternFault.Full ↔ ((¬ HasWord self.old word.now) × (MOST_TEXTS ≤ length self.old)) }
+        // Promise: A known word is found, and nothing changes. A new one is added at the end.
+        // A refused call changes nothing.
+        ensures interns { Interns self.old self.new word.now (made_of word.now) result }
         // Promise: `Length` comes exactly for a new word that is too long, in an interner that is not full.
         ensures too_long { IsErrOf result InternFault.Length ↔ ((¬ HasWord self.old word.now) × (length self.old < MOST_TEXTS) × IsTooLong (length word.now)) }
     {
@@ -67,19 +57,9 @@ impl<S: BuildHasher> Interner<S> {
     /// assert_eq!(rt; ArcStr::strong_count(&text), Some(2));
     /// ```
     pub fn intern_arc(&mut self, rt: &impl Wait, text: &ArcStr) -> Result<Symbol, InternFault>
-        ensures word { IfOk result (λ symbol. IsWordAt self.new symbol text.now.text) }
-        // Promise: A known word is never refused, and changes nothing.
-        ensures known { HasWord self.old text.now.text → IsOk result }
-        ensures same { HasWord self.old text.now.text → self.new ≡ self.old }
-        // Promise: A new word adds a clone of the text at the end.
-        ensures added { (¬ HasWord self.old text.now.text) → OnOk result (self.new ≡ self.old ++ text.now ∷ []) }
-        // Promise: Each text keeps its symbol, and stands once.
-        ensures kept { KeepsTexts self.old self.new }
-        ensures once { HasEachOnce self.new }
-        // Promise: A refused call changes nothing.
-        ensures refused { OnErr result (self.new ≡ self.old) }
-        // Promise: `Full` comes exactly for a new word in an interner with `MOST_TEXTS` texts.
-        ensures full { IsErrOf result InternFault.Full ↔ ((¬ HasWord self.old text.now.text) × (MOST_TEXTS ≤ length self.old)) }
+        // Promise: A known word is found, and nothing changes. A new one is added at the end.
+        // A refused call changes nothing.
+        ensures interns { Interns self.old self.new text.now.text text.now result }
         // Promise: `Length` never comes.
         ensures never_too_long { ¬ (IsErrOf result InternFault.Length) }
     {
@@ -101,19 +81,9 @@ impl<S: BuildHasher> Interner<S> {
     /// assert!(rt; ArcStr::is_static(&interner[symbol]));
     /// ```
     pub fn intern_static(&mut self, word: &'static str) -> Result<Symbol, InternFault>
-        ensures word { IfOk result (λ symbol. IsWordAt self.new symbol word.now) }
-        // Promise: A known word is never refused, and changes nothing.
-        ensures known { HasWord self.old word.now → IsOk result }
-        ensures same { HasWord self.old word.now → self.new ≡ self.old }
-        // Promise: A new word adds a literal at the end.
-        ensures added { (¬ HasWord self.old word.now) → OnOk result (self.new ≡ self.old ++ literal_of word.now ∷ []) }
-        // Promise: Each text keeps its symbol, and stands once.
-        ensures kept { KeepsTexts self.old self.new }
-        ensures once { HasEachOnce self.new }
-        // Promise: A refused call changes nothing.
-        ensures refused { OnErr result (self.new ≡ self.old) }
-        // Promise: `Full` comes exactly for a new word in an interner with `MOST_TEXTS` texts.
-        ensures full { IsErrOf result InternFault.Full ↔ ((¬ HasWord self.old word.now) × (MOST_TEXTS ≤ length self.old)) }
+        // Promise: A known word is found, and nothing changes. A new one is added at the end.
+        // A refused call changes nothing.
+        ensures interns { Interns self.old self.new word.now (literal_of word.now) result }
         // Promise: `Length` never comes.
         ensures never_too_long { ¬ (IsErrOf result InternFault.Length) }
     {
@@ -137,21 +107,11 @@ impl<S: BuildHasher> Interner<S> {
     /// assert_eq!(rt; ArcStr::strong_count(&text), Some(1));
     /// ```
     pub fn intern_substr(&mut self, rt: &impl Wait, slice: &Substr) -> Result<Symbol, InternFault>
-        ensures word { IfOk result (λ symbol. IsWordAt self.new symbol (text_of slice.now)) }
-        // Promise: A known word is never refused, and changes nothing.
-        ensures known { HasWord self.old (text_of slice.now) → IsOk result }
-        ensures same { HasWord self.old (text_of slice.now) → self.new ≡ self.old }
-        // Promise: A new word adds one text at the end: a clone of a whole text, or a copy of a part.
-        ensures added_whole { (¬ HasWord self.old (text_of slice.now)) → IsWhole slice.now → OnOk result (self.new ≡ self.old ++ slice.now.parent ∷ []) }
-        ensures added_part { (¬ HasWord self.old (text_of slice.now)) → (¬ IsWhole slice.now)
-            → OnOk result (self.new ≡ self.old ++ made_of (text_of slice.now) ∷ []) }
-        // Promise: Each text keeps its symbol, and stands once.
-        ensures kept { KeepsTexts self.old self.new }
-        ensures once { HasEachOnce self.new }
-        // Promise: A refused call changes nothing.
-        ensures refused { OnErr result (self.new ≡ self.old) }
-        // Promise: `Full` comes exactly for a new word in an interner with `MOST_TEXTS` texts.
-        ensures full { IsErrOf result InternFault.Full ↔ ((¬ HasWord self.old (text_of slice.now)) × (MOST_TEXTS ≤ length self.old)) }
+        // Promise: As `intern_arc` for a whole text, and as `intern` for a part.
+        ensures whole { IsWhole slice.now
+            → Interns self.old self.new (text_of slice.now) slice.now.parent result }
+        ensures part { (¬ IsWhole slice.now)
+            → Interns self.old self.new (text_of slice.now) (made_of (text_of slice.now)) result }
         // Promise: `Length` comes exactly for the copy of a new part that is too long, in an interner that is not full.
         ensures too_long_part { (¬ IsWhole slice.now) → (IsErrOf result InternFault.Length
             ↔ ((¬ HasWord self.old (text_of slice.now)) × (length self.old < MOST_TEXTS) × IsTooLong (length (text_of slice.now)))) }
@@ -178,7 +138,7 @@ pub(crate) fn copy_of(alloc: Global, word: &str) -> Result<ArcStr, InternFault>
     }
 }
 
-/// Whether the slice is all of its parent.
+/// Returns whether the slice is all of its parent.
 pub(crate) fn is_whole(slice: &Substr) -> bool
     ensures whole { IsTrue result ↔ IsWhole slice.now }
     ensures text { IsWhole slice.now → text_of slice.now ≡ slice.now.parent.text }

@@ -16,7 +16,7 @@ use std::marker::Model;
 #[derive(Drop)]
 pub(crate) struct TextTable {
     texts: Vec<ArcStr>,
-    slots: Slots,
+    numbers: Slots,
 }
 
 impl Model for TextTable {
@@ -26,13 +26,13 @@ impl Model for TextTable {
 
     ghost Value = { TextTableView };
 
-    ghost view = { λ table. record { texts = table.texts.items; slots = table.slots.slots.items; mask = table.slots.mask } };
+    ghost view = { λ table. record { texts = table.texts.items; slots = table.numbers.slots.items; mask = table.numbers.mask } };
 
     ghost invariant = { λ table. HasEachOnce table.texts.items × (length table.texts.items ≤ MOST_TEXTS) };
 }
 
 impl TextTable {
-    /// A table without texts.
+    /// Makes a table without texts.
     #[tactic(auto, unfolding(crate::specs::Slots::AreTextsPlaced))]
     pub(crate) fn new(alloc: Global) -> TextTable
         ensures texts { result.texts ≡ [] }
@@ -40,23 +40,23 @@ impl TextTable {
     {
         TextTable {
             texts: Vec::new(alloc),
-            slots: Slots::new(alloc),
+            numbers: Slots::new(alloc),
         }
     }
 
-    /// A table without texts, with room for this many.
+    /// Makes a table without texts, with room for this many.
     #[tactic(auto, unfolding(crate::specs::Slots::AreTextsPlaced))]
     pub(crate) fn with_capacity(alloc: Global, texts: usize) -> Result<TextTable, AllocError>
         ensures texts { IfOk result (λ table. table.texts ≡ []) }
         ensures placed { IfOk result (λ table. (half_of : List ℕ → ℕ) → AreTextsPlaced table.slots table.mask half_of table.texts) }
         ensures none { texts ≡ 0 → IsOk result }
     {
-        let slots = Slots::with_capacity(alloc, texts)?;
+        let numbers = Slots::with_capacity(alloc, texts)?;
         let texts = Vec::with_capacity(alloc, texts)?;
-        Ok(TextTable { texts, slots })
+        Ok(TextTable { texts, numbers })
     }
 
-    /// The texts, in the order of their numbers.
+    /// Returns the texts, in the order of their numbers.
     pub(crate) fn texts(&self) -> &[ArcStr]
         ensures texts { result.now ≡ self.now.texts }
         ensures most { length self.now.texts ≤ MOST_TEXTS }
@@ -65,19 +65,19 @@ impl TextTable {
         self.texts.as_slice()
     }
 
-    /// Whether one more text has no number.
+    /// Returns whether one more text has no number.
     pub(crate) fn is_full(&self) -> bool
         ensures { IsTrue result ↔ (MOST_TEXTS ≤ length self.now.texts) }
     {
         self.texts.len() >= MOST_TEXTS
     }
 
-    /// The allocator of the texts.
+    /// Returns the allocator of the texts.
     pub(crate) fn alloc(&self) -> Global {
         *self.texts.allocator()
     }
 
-    /// The symbol of the text that spells this word, by half of the word's hash.
+    /// Returns the symbol of the text that spells this word, by half of the word's hash.
     #[tactic(auto, unfolding(crate::specs::Slots::AreTextsPlaced))]
     pub(crate) fn find(&self, half: u32, word: &str) -> Option<Symbol>
         ensures found { IfSome result (λ symbol. IsWordAt self.now.texts symbol word.now) }
@@ -87,7 +87,7 @@ impl TextTable {
         ensures once { HasEachOnce self.now.texts }
     {
         match self
-            .slots
+            .numbers
             .find(half, |number| self.symbol_if_word(number, word))
         {
             Some(symbol) => Some(symbol),
@@ -95,7 +95,7 @@ impl TextTable {
         }
     }
 
-    /// The symbol of this number, if its text spells the word.
+    /// Returns the symbol of this number, if its text spells the word.
     fn symbol_if_word(&self, number: u32, word: &str) -> Option<Symbol>
         ensures is { IfSome result (λ symbol. (symbol ≡ number) × IsWordAt self.now.texts number word.now) }
         ensures not { IfNone result (¬ IsWordAt self.now.texts number word.now) }
@@ -120,10 +120,10 @@ impl TextTable {
         ensures fault { IfErr result (λ fault. fault ≡ InternFault.Memory) }
     {
         let number = self.texts.len();
-        self.slots.make_room()?;
+        self.numbers.make_room()?;
         make_room_for_text(&mut self.texts)?;
         self.texts.push_reserved(text);
-        self.slots.put(half, number as u32);
+        self.numbers.put(half, number as u32);
         Ok(Symbol::at(number))
     }
 }

@@ -6,9 +6,8 @@ ghost use Rattle.arcintern.specs.Texts.{IsSymbolOf, IsSymbolOfWord, IsWhole};
 
 use crate::fault::InternFault;
 use crate::interner::{MOST_TEXTS, copy_of, is_whole};
-use crate::shared_interner::SharedInterner;
 use crate::shared_interner::shard::Shard;
-use crate::shared_interner::shared_symbol::SharedSymbol;
+use crate::shared_interner::{SharedInterner, SharedSymbol};
 use crate::slots::{half_of, hash_of_word};
 use arcstr::{ArcStr, Substr};
 use std::alloc::Global;
@@ -116,12 +115,12 @@ impl<S: BuildHasher> SharedInterner<S> {
         self.find(self.hash_of(word), word)
     }
 
-    /// The hash of the word.
+    /// Returns the hash of the word.
     pub(crate) fn hash_of(&self, word: &str) -> u64 {
         hash_of_word(&self.hash_builder, word)
     }
 
-    /// The symbol of the word with this hash.
+    /// Returns the symbol of the word with this hash.
     pub(crate) fn find(&self, hash: u64, word: &str) -> Option<SharedSymbol>
         ensures { IfSome result (λ symbol. IsSymbolOfWord self.now symbol word.now) }
     {
@@ -129,7 +128,7 @@ impl<S: BuildHasher> SharedInterner<S> {
         self.find_in(shard, hash, word)
     }
 
-    /// The symbol of the word with this hash, in the table of its shard.
+    /// Returns the symbol of the word with this hash, in the table of its shard.
     fn find_in(&self, shard: &Shard, hash: u64, word: &str) -> Option<SharedSymbol>
         ensures { IfSome result (λ symbol. IsSymbolOfWord self.now symbol word.now) }
     {
@@ -138,8 +137,9 @@ impl<S: BuildHasher> SharedInterner<S> {
         slots.find(half_of(hash), |number| symbol_if_word(texts, number, word))
     }
 
-    /// The symbol of the word with this hash. If there is none, the text becomes `whole` or, without one, a copy of the word. That text is
-    /// made before the lock is taken, and dropped if another thread has added the word meanwhile.
+    /// Returns the symbol of the word with this hash. If there is none, adds `whole` or, without
+    /// one, a copy of the word. That text is made before the lock is taken, and dropped if another
+    /// thread has added the word meanwhile.
     pub(crate) fn find_or_add(
         &self,
         rt: &impl Wait,
@@ -193,7 +193,7 @@ impl<S: BuildHasher> SharedInterner<S> {
     }
 }
 
-/// The symbol of this number, if its text spells the word.
+/// Returns the symbol of this number, if its text spells the word.
 fn symbol_if_word(texts: &boxcar::Vec<ArcStr>, number: u32, word: &str) -> Option<SharedSymbol>
     ensures { IfSome result (λ symbol. IsSymbolOfWord texts.now symbol word.now) }
 {
@@ -205,7 +205,8 @@ fn symbol_if_word(texts: &boxcar::Vec<ArcStr>, number: u32, word: &str) -> Optio
     }
 }
 
-/// The shard of the words with this hash: its upper half as a fraction of `2^32`, of the number of shards.
+/// Returns the shard of the words with this hash: its upper half as a fraction of `2^32`, of the
+/// number of shards.
 pub(crate) fn shard_of(hash: u64, shards: usize) -> usize
     requires some { 1 ≤ shards }
     requires most { shards ≤ 64 }
@@ -214,7 +215,7 @@ pub(crate) fn shard_of(hash: u64, shards: usize) -> usize
     (((hash >> 32) * shards as u64) >> 32) as usize
 }
 
-/// A clone of `whole` or, without one, a copy of the word.
+/// Returns a clone of `whole` or, without one, a copy of the word.
 fn text_to_keep(
     rt: &impl Wait,
     alloc: Global,

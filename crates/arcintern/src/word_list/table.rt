@@ -9,8 +9,7 @@ use crate::fault::InternFault;
 use crate::interner::MOST_TEXTS;
 use crate::slots::Slots;
 use crate::symbol::Symbol;
-use crate::word_list::MOST_BYTES;
-use crate::word_list::iter::WordListIter;
+use crate::word_list::{MOST_BYTES, WordListIter};
 use std::alloc::{AllocError, Global};
 use std::marker::Model;
 
@@ -19,7 +18,7 @@ use std::marker::Model;
 pub(crate) struct WordTable {
     bytes: String,
     ends: Vec<u32>,
-    slots: Slots,
+    numbers: Slots,
 }
 
 impl Model for WordTable {
@@ -30,14 +29,14 @@ impl Model for WordTable {
 
     ghost Value = { WordTableView };
 
-    ghost view = { λ table. record { texts = pieces (string_bytes table.bytes) 0 table.ends.items; slots = table.slots.slots.items; mask = table.slots.mask } };
+    ghost view = { λ table. record { texts = pieces (string_bytes table.bytes) 0 table.ends.items; slots = table.numbers.slots.items; mask = table.numbers.mask } };
 
     ghost invariant = { λ table. AreEnds (string_bytes table.bytes) 0 table.ends.items × (length table.ends.items ≤ MOST_TEXTS)
         × AreDistinct (pieces (string_bytes table.bytes) 0 table.ends.items) };
 }
 
 impl WordTable {
-    /// A table without texts.
+    /// Makes a table without texts.
     pub(crate) fn new(alloc: Global) -> WordTable
         ensures texts { result.texts ≡ [] }
         ensures slots { result.slots ≡ [] }
@@ -45,11 +44,11 @@ impl WordTable {
         WordTable {
             bytes: String::new(alloc),
             ends: Vec::new(alloc),
-            slots: Slots::new(alloc),
+            numbers: Slots::new(alloc),
         }
     }
 
-    /// A table without texts, with room for this many texts, which have this many bytes together.
+    /// Makes a table without texts, with room for this many texts, which have this many bytes together.
     pub(crate) fn with_capacity(
         alloc: Global,
         texts: usize,
@@ -58,13 +57,17 @@ impl WordTable {
         ensures texts { IfOk result (λ table. table.texts ≡ []) }
         ensures none { texts ≡ 0 → bytes ≡ 0 → IsOk result }
     {
-        let slots = Slots::with_capacity(alloc, texts)?;
+        let numbers = Slots::with_capacity(alloc, texts)?;
         let ends = Vec::with_capacity(alloc, texts)?;
         let bytes = String::with_capacity(alloc, bytes)?;
-        Ok(WordTable { bytes, ends, slots })
+        Ok(WordTable {
+            bytes,
+            ends,
+            numbers,
+        })
     }
 
-    /// The number of texts.
+    /// Returns the number of texts.
     #[tactic(auto, using(crate::proofs::Words::as_many_pieces_as_ends))]
     pub(crate) fn len(&self) -> usize
         ensures len { result ≡ length self.now.texts }
@@ -74,7 +77,7 @@ impl WordTable {
         self.ends.len()
     }
 
-    /// The text of this number.
+    /// Returns the text of this number.
     pub(crate) fn text(&self, number: usize) -> Option<&str>
         ensures found { IsSome result ↔ (number < length self.now.texts) }
         ensures text { IfSome result (λ text. slice_get self.now.texts number ≡ Some text.now) }
@@ -88,7 +91,7 @@ impl WordTable {
         }
     }
 
-    /// The symbol of the text that spells this word, by half of the word's hash.
+    /// Returns the symbol of the text that spells this word, by half of the word's hash.
     pub(crate) fn find(&self, half: u32, word: &str) -> Option<Symbol>
         ensures found { IfSome result (λ symbol. slice_get self.now.texts symbol ≡ Some word.now) }
         ensures there { IsSome result → Contains self.now.texts word.now }
@@ -97,7 +100,7 @@ impl WordTable {
         ensures once { AreDistinct self.now.texts }
     {
         match self
-            .slots
+            .numbers
             .find(half, |number| self.symbol_if_word(number, word))
         {
             Some(symbol) => Some(symbol),
@@ -105,7 +108,7 @@ impl WordTable {
         }
     }
 
-    /// The symbol of this number, if its text spells the word.
+    /// Returns the symbol of this number, if its text spells the word.
     fn symbol_if_word(&self, number: u32, word: &str) -> Option<Symbol>
         ensures is { IfSome result (λ symbol. (symbol ≡ number) × (slice_get self.now.texts number ≡ Some word.now)) }
         ensures not { IfNone result (slice_get self.now.texts number ≢ Some word.now) }
@@ -120,7 +123,7 @@ impl WordTable {
         }
     }
 
-    /// The texts, in the order of their numbers.
+    /// Returns the texts, in the order of their numbers.
     #[tactic(auto, using(crate::proofs::Words::as_many_pieces_as_ends))]
     pub(crate) fn iter(&self) -> WordListIter<'_>
         ensures texts { result ≡ self.now.texts }
@@ -134,7 +137,7 @@ impl WordTable {
         }
     }
 
-    /// Whether one more text has no number, or the bytes of this word do not fit.
+    /// Returns whether one more text has no number, or the bytes of this word do not fit.
     pub(crate) fn is_full_for(&self, word: &str) -> bool
         ensures { IsTrue result ↔ IsFullFor self.now.texts word.now }
     {
@@ -156,16 +159,16 @@ impl WordTable {
     {
         let number = self.ends.len();
         let end = self.bytes.len() + word.len();
-        self.slots.make_room()?;
+        self.numbers.make_room()?;
         self.ends.reserve(1)?;
         self.bytes.push_str(word)?;
         self.ends.push_reserved(end as u32);
-        self.slots.put(half, number as u32);
+        self.numbers.put(half, number as u32);
         Ok(Symbol::at(number))
     }
 }
 
-/// Where the text of this number begins: at the end of the one before it.
+/// Returns where the text of this number begins: at the end of the one before it.
 fn start_of(ends: &[u32], number: usize) -> usize
     requires { number ≤ length ends.now }
     ensures { result ≡ slice_index (0 ∷ ends.now) number }

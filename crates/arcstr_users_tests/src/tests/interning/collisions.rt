@@ -72,20 +72,11 @@ fn a_shared_interner_tells_words_of_one_hash_apart(ref rt: HostRuntime) {
     }
     check!(rt; interner.get("fo").is_none());
     check_eq!(rt; interner.len(), WORDS.len());
-    let mut local = interner.local(rt.alloc()).expect(rt, "refused");
-    for _ in 0..2 {
-        for (index, word) in WORDS.iter().enumerate() {
-            check_eq!(rt; local.intern(rt, word).expect(rt, "refused").number().index(), index);
-        }
-    }
-    check!(rt; local.get("fo").is_none());
-    drop(local);
-    let frozen = interner.freeze();
+    let interner = interner.into_interner(rt).expect(rt, "refused");
     for (index, word) in WORDS.iter().enumerate() {
-        let found = frozen.get(word).expect(rt, "not found");
-        check_eq!(rt; found.number().index(), index);
+        check_eq!(rt; interner.get(*word).expect(rt, "not found").index(), index);
     }
-    check!(rt; frozen.get("fo").is_none());
+    check!(rt; interner.get("fo").is_none());
 }
 
 /// Asserts that the table grows for words of one hash.

@@ -2,12 +2,12 @@ use Rattle.std.proofs.Common.{◌≢◌, ℕ, ◌-◌, ◌<◌, ◌≤◌, lengt
 use Rattle.std.specs.Prelude.{slice_index}
 use Rattle.arcintern.proofs.slots.Slots.put_slot.Given as goal
 
-abbrev pub invariant-loop-place : goal.invariant-loop-place
-invariant-loop-place l = record {
-  from_home : l.initial.place ≤ l.place;
-  within : l.place ≤ length l.self.slots.items;
-  others : (other : ℕ) → l.initial.place ≤ other → other < l.place → slice_index l.self.slots.items other ≢ 0;
+abbrev pub invariant-loop-index : goal.invariant-loop-index
+invariant-loop-index l = record {
+  from_home : l.initial.index ≤ l.index;
+  within : l.index ≤ length l.self.slots.items;
+  others : (other : ℕ) → l.initial.index ≤ other → other < l.index → slice_index l.self.slots.items other ≢ 0;
 }
 
-abbrev pub decreases-loop-place : goal.decreases-loop-place
-decreases-loop-place l = length l.self.slots.items - l.place
+abbrev pub decreases-loop-index : goal.decreases-loop-index
+decreases-loop-index l = length l.self.slots.items - l.index

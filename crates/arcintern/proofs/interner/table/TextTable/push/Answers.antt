@@ -8,13 +8,13 @@ use Rattle.arcintern.proofs.interner.table.TextTable.push.Goals as goal
 
 pub returns-in_err-make_room-clause-placed : goal.returns-in_err-make_room-clause-placed
 returns-in_err-make_room-clause-placed c = λ half_of is_half all.
-    let slots = c.self.inside.slots in
+    let slots = c.self.inside.numbers in
     let were = subst (λ (table : TextTableView). AreTextsPlaced table.slots table.mask half_of table.texts) (sym c.self.view_is) all in
     AreTextsPlaced-kept slots.slots.items c.make_room.new.self.slots.items slots.mask c.make_room.new.self.mask half_of c.self.inside.texts.items c.make_room.ensures.kept were
 
 pub returns-in_err-make_room_for_text-clause-placed : goal.returns-in_err-make_room_for_text-clause-placed
 returns-in_err-make_room_for_text-clause-placed c = λ half_of is_half all.
-    let slots = c.self.inside.slots in
+    let slots = c.self.inside.numbers in
     let were = subst (λ (table : TextTableView). AreTextsPlaced table.slots table.mask half_of table.texts) (sym c.self.view_is) all in
     let are = AreTextsPlaced-kept slots.slots.items c.make_room.new.self.slots.items slots.mask c.make_room.new.self.mask half_of c.self.inside.texts.items c.make_room.ensures.kept were in
     subst (AreTextsPlaced c.make_room.new.self.slots.items c.make_room.new.self.mask half_of) (sym c.make_room_for_text.ensures.same) are
@@ -43,7 +43,7 @@ returns-clause-word c =
 
 pub returns-clause-placed : goal.returns-clause-placed
 returns-clause-placed c = λ half_of is_half all.
-    let slots = c.self.inside.slots in
+    let slots = c.self.inside.numbers in
     let texts = ap (λ (table : TextTableView). table.texts) c.self.view_is in
     let number : c.len-number.result ≡ length c.self.inside.texts.items = search rules in
     let last : length c.args.self.now.texts ≡ c.len-number.result = cc (ap length texts, number) in

@@ -1,5 +1,6 @@
 use Rattle.std.proofs.Common.{rules, ◌+◌, ◌<◌, ap, arith, subst, sym}
 use Rattle.std.specs.String.{string_bytes}
+use Rattle.arcintern.specs.declared.slots.TheConstants.{NUMBERS}
 use Rattle.arcintern.specs.Slots.{IsPlaced, slot_of}
 use Rattle.arcintern.specs.Words.{WordTableView}
 use Rattle.arcintern.proofs.Words.{sizes_of_texts, word_is_absent}
@@ -11,7 +12,7 @@ returns-in-None-clause-absent c = λ half_of is_half all.
     let sizes = sizes_of_texts (string_bytes c.self.inside.bytes) c.self.inside.ends.items c.args.self.now.texts c.self.invariant.0 texts in
     word_is_absent c.args.self.now.slots c.args.self.now.mask c.args.half half_of c.args.self.now.texts c.args.word.now is_half all
     (λ number less placed.
-    let small : number + 1 < 4294967296 = omega (arith, less, sizes.0, c.self.invariant.1) in
-    let here : IsPlaced c.self.inside.slots.slots.items c.self.inside.slots.mask (slot_of c.args.half number) =
+    let small : number + 1 < NUMBERS = omega (arith, less, sizes.0, c.self.invariant.1) in
+    let here : IsPlaced c.self.inside.numbers.slots.items c.self.inside.numbers.mask (slot_of c.args.half number) =
     subst (λ (table : WordTableView). IsPlaced table.slots table.mask (slot_of c.args.half number)) (sym c.self.view_is) placed in
     search (rules, c.in-None.ensures.absent number small here))

@@ -51,7 +51,7 @@ returns-clause-word c =
 
 pub returns-clause-placed : goal.returns-clause-placed
 returns-clause-placed c = λ half_of is_half all.
-    let slots = c.self.inside.slots in
+    let slots = c.self.inside.numbers in
     let texts = ap (λ (table : WordTableView). table.texts) c.self.view_is in
     let sizes = sizes_of_texts (string_bytes c.self.inside.bytes) c.self.inside.ends.items c.args.self.now.texts c.self.invariant.0 texts in
     let number : c.len-number.result ≡ length c.self.inside.ends.items = search rules in
