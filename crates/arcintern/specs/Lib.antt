@@ -1,3 +1,4 @@
+pub mod Lends
 pub mod Slots
 pub mod Texts
 pub mod Values

@@ -2,6 +2,7 @@
 ghost use Rattle.std.specs.Prelude.{◌≡◌, ◌^◌, ◌<◌, ◌≤◌, [], length, option_copied, unwrap_or, IfErr, IfOk, OnErr, OnOk, Some};
 ghost use Rattle.std.specs.Iterator.{YieldsFirstBy, item_count};
 ghost use Rattle.std.specs.Option.{option_copied_mut};
+ghost use Rattle.std.specs.Borrow.{sem};
 ghost use Rattle.arcintern.specs.Values.{HaveSameOtherValues, HaveSameValues, pairs_from, value_at};
 
 use crate::symbol::Symbol;
@@ -37,6 +38,8 @@ impl<V> Model for SymbolMap<V> {
 }
 
 impl<V> SymbolMap<V> {
+    ghost use Rattle.arcintern.specs.Lends.{lends_get, lends_put, lends_value};
+
     /// Makes a map without values. Does not allocate.
     ///
     /// ```
@@ -81,12 +84,11 @@ impl<V> SymbolMap<V> {
     /// assert!(rt; map.get(symbol) == Some(&8));
     /// ```
     pub fn get_mut(&mut self, symbol: Symbol) -> Option<&mut V>
-        ensures { option_copied_mut result ≡ value_at self.old symbol }
+        ensures value { option_copied_mut result ≡ value_at self.old symbol }
+        // Promise: What is written becomes the value of the symbol, and no other value changes.
+        ensures* writes_back { sem 𝓛 (lends_get V.row self.entry symbol result) }
     {
-        match self.values.get_mut(symbol.index()) {
-            Some(Some(value)) => Some(value),
-            _ => None,
-        }
+        self.values.get_mut(symbol.index())?.as_mut()
     }
 
     /// Stores a value for the symbol, and returns the value that it had. Allocates where the symbol is the largest so far, but then not
@@ -132,12 +134,24 @@ impl<V> SymbolMap<V> {
         // Promise: A value that is there is returned, and else the new one.
         ensures value { IfOk result (λ found. found.now ≡ unwrap_or (value_at self.old symbol) value) }
         ensures failed { IfErr result (λ failed. failed.value ≡ value) }
+        // Promise: What is written becomes the value of the symbol, and no other value changes.
+        ensures* writes_back { sem 𝓛 (lends_put V.row self.entry symbol result) }
     {
         if make_room_for(&mut self.values, symbol.index()).is_err() {
             return Err(AllocFailed { value });
         }
-        let entry = &mut self.values[symbol.index()];
-        Ok(entry.get_or_insert(value))
+        Ok(self.value_or(symbol.index(), value))
+    }
+
+    /// Returns the value at an index that the map has, for writing. If there is none, stores this one first.
+    fn value_or(&mut self, index: usize, value: V) -> &mut V
+    where
+        V: Drop,
+        requires { index < length self.old }
+        ensures value { result.now ≡ unwrap_or (value_at self.old index) value }
+        ensures* writes_back { sem 𝓛 (lends_value V.row self.entry index result) }
+    {
+        self.values[index].get_or_insert(value)
     }
 
     /// Returns the symbols that have a value, each with its value, in the order of the symbols.

@@ -2,7 +2,7 @@
 //!
 //! Each call allocates the list, and clones the handle once for each slice, so it can wait. A call that fails drops the slices that it made. Each slice keeps
 //! the text alive, even if it is empty. The slices of a `Substr` have its parent.
-ghost use Rattle.std.specs.Prelude.{◌≡◌, ◌==◌, map, IfOk};
+ghost use Rattle.std.specs.Prelude.{◌≡◌, ◌≢◌, ◌==◌, [], map, IfOk, IsErr};
 ghost use Rattle.std.specs.Char.{is_whitespace};
 ghost use Rattle.std.specs.List.{filter};
 ghost use Rattle.std.specs.Str.Lines.{lines};
@@ -59,6 +59,8 @@ impl ArcStr {
         ensures slices { IfOk result (λ slices. slices.items ≡ slices_of (slice_of self.now) (lines_of (view_at self.now.text 0))) }
         // Promise: Their texts are those of the lines of the text.
         ensures texts { IfOk result (λ slices. map text_of slices.items ≡ lines self.now.text) }
+        // Promise: A text without lines is never refused.
+        ensures refused { IsErr result → lines self.now.text ≢ [] }
     {
         let mut slices = Vec::new(alloc);
         for line in self.view().lines() {
@@ -84,6 +86,8 @@ impl ArcStr {
         ensures slices { IfOk result (λ slices. slices.items ≡ slices_of (slice_of self.now) (words_of (view_at self.now.text 0))) }
         // Promise: Their texts are those of the words of the text.
         ensures texts { IfOk result (λ slices. map text_of slices.items ≡ filter is_not_empty (texts_between is_whitespace self.now.text)) }
+        // Promise: A text without words is never refused.
+        ensures refused { IsErr result → filter is_not_empty (texts_between is_whitespace self.now.text) ≢ [] }
     {
         let mut slices = Vec::new(alloc);
         for word in self.view().split_whitespace() {
@@ -126,6 +130,7 @@ impl Substr {
     pub fn substr_lines(&self, rt: &impl Wait, alloc: Global) -> Result<Vec<Substr>, AllocError>
         ensures slices { IfOk result (λ slices. slices.items ≡ slices_of (slice_within self.now) (lines_of (view_at (text_of self.now) 0))) }
         ensures texts { IfOk result (λ slices. map text_of slices.items ≡ lines (text_of self.now)) }
+        ensures refused { IsErr result → lines (text_of self.now) ≢ [] }
     {
         let mut slices = Vec::new(alloc);
         for line in self.view().lines() {
@@ -143,6 +148,7 @@ impl Substr {
     ) -> Result<Vec<Substr>, AllocError>
         ensures slices { IfOk result (λ slices. slices.items ≡ slices_of (slice_within self.now) (words_of (view_at (text_of self.now) 0))) }
         ensures texts { IfOk result (λ slices. map text_of slices.items ≡ filter is_not_empty (texts_between is_whitespace (text_of self.now))) }
+        ensures refused { IsErr result → filter is_not_empty (texts_between is_whitespace (text_of self.now)) ≢ [] }
     {
         let mut slices = Vec::new(alloc);
         for word in self.view().split_whitespace() {

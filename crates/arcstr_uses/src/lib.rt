@@ -1,8 +1,11 @@
-//! Eight uses of `arcstr`, as a caller writes them: each has a contract of its own, and none has a proof file. The first is the one to read.
+//! Nine uses of `arcstr`, as a caller writes them.
+//! Each has a contract of its own, and none has a proof file. The first is the one to read.
 #![tactic(auto)]
 
 ghost use Rattle.std.specs.Prelude.{◌≡◌, ◌↔◌, Contains, IfSome, IsSome};
-ghost use Rattle.std.specs.Str.{chars};
+ghost use Rattle.std.specs.Str.{chars, trim};
+ghost use Rattle.arcstr.specs.Splitting.{AreAround};
+ghost use Rattle.arcstr.specs.Substr.{SubstrView, slice_of, text_of};
 
 use arcstr::{ArcStr, Substr};
 use std::sync::Wait;
@@ -21,6 +24,9 @@ const EQUALS: char = '=';
 pub fn key_and_value(rt: &impl Wait, line: &ArcStr) -> Option<(Substr, Substr)>
     ensures found { IsSome result ↔ Contains (chars line.now.text) EQUALS }
     ensures kept { IfSome result (λ pair. (pair.0.parent ≡ line.now) × (pair.1.parent ≡ line.now)) }
+    ensures parts { IfSome result (λ pair. (around : SubstrView × SubstrView)
+        × AreAround line.now.text (slice_of line.now) EQUALS around
+        × (text_of pair.0 ≡ trim (text_of around.0)) × (text_of pair.1 ≡ trim (text_of around.1))) }
 {
     let (key, value) = line.substr_split_once(rt, EQUALS)?;
     Some((key.substr_trim(rt), value.substr_trim(rt)))
@@ -28,10 +34,9 @@ pub fn key_and_value(rt: &impl Wait, line: &ArcStr) -> Option<(Substr, Substr)>
 
 // ---- more uses
 ghost use Rattle.std.specs.Prelude.{◌==◌, ◌++◌, Some, bytes_eq, codes, length, map, IfOk, OnOk};
-ghost use Rattle.std.specs.HashMap.{get, get_by};
+ghost use Rattle.std.specs.HashMap.{Updates, get, get_by};
 ghost use Rattle.arcstr_range.specs.Pieces.{lines_of, texts_between};
 ghost use Rattle.arcstr_range.specs.View.{view_at};
-ghost use Rattle.arcstr.specs.Substr.{text_of};
 ghost use Rattle.arcstr.specs.TextView.{TextView};
 ghost use Rattle.arcintern.specs.Texts.{IsWordAt};
 
@@ -109,7 +114,7 @@ impl Message {
         head: usize,
     ) -> Result<Message, RangeFault>
         ensures topic { IfOk result (λ message. message.topic ≡ topic.now) }
-        ensures payload { IfOk result (λ message. message.payload.parent ≡ packet.now) }
+        ensures payload { IfOk result (λ message. message.payload ≡ slice_of packet.now head (length packet.now.text)) }
     {
         let payload = packet.substr(rt, head..)?;
         Ok(Message {
@@ -138,7 +143,7 @@ impl Message {
     }
 }
 
-/// Sets a value. A look-up then finds it.
+/// Sets a value. A look-up then finds it, and the values of other keys stay as they are.
 ///
 /// ```
 /// let mut settings = std::collections::HashMap::new(rt.alloc());
@@ -150,7 +155,9 @@ pub fn set(
     key: ArcStr,
     value: u64,
 ) -> Result<(), AllocFailed<(ArcStr, u64)>>
-    ensures { OnOk result (get (λ (one : TextView) (other : TextView). bytes_eq one.text other.text) settings.new key ≡ Some value) }
+    ensures found { OnOk result (get (λ (one : TextView) (other : TextView). bytes_eq one.text other.text) settings.new key ≡ Some value) }
+    ensures others { OnOk result (Updates (λ (one : TextView) (other : TextView). bytes_eq one.text other.text)
+        settings.old settings.new key (Some value)) }
 {
     settings.insert(key, value)?;
     Ok(())
