@@ -57,8 +57,8 @@ EndsAs limit history h Ended = EndsIn limit history (Begin h) EndedReply
 EndsAs limit history h Left = EndsIn limit history (Sub h) LeftReply
 EndsAs limit history h (Owes debt) = EndsIn limit history (Sub h) OwesReply
 
--- if something is owed, it is the block of this handle, with the handle's seat
+-- if something is owed, it is the block of this handle, with the handle's seat and limit
 abbrev pub OwesAs : {A : Type 0} → Handle → Down A → Type 0
 OwesAs handle Ended = Unit {0}
 OwesAs handle Left = Unit {0}
-OwesAs handle (Owes debt) = (debt.block ≡ handle.block) × (debt.seat ≡ handle.seat)
+OwesAs handle (Owes debt) = (debt.block ≡ handle.block) × (debt.seat ≡ handle.seat) × (debt.limit ≡ handle.limit)

@@ -13,6 +13,7 @@ ghost use Rattle.arcstr_count.specs.Word.{bits_of, fresh_word};
 ghost use Rattle.arcstr_block.specs.Word.{IsLimit, IsCountWord, IsClone};
 ghost use Rattle.arcstr_block.specs.Rights.{Right, right_code, nothing, counted, fixed, dropping, owed};
 ghost use Rattle.arcstr_block.specs.Rights.{IsFree, MaySee, IsIdle, Loads, Gains, Begins, Leaves};
+ghost use Rattle.arcstr_block.specs.Handle.{SawBack};
 ghost use Rattle.arcstr_block.specs.Memory.{Fits, word_offset};
 ghost use Rattle.arcstr_block.specs.Book.{BlockName, name_code};
 ghost use Rattle.arcstr_block.specs.Ledger.{pointer_owns, pointer_shares};
@@ -198,14 +199,16 @@ impl<A: Allocator> Pointer<A> {
         }
     }
 
-    /// The block and the length of its text, for whoever subtracted last and frees the block.
-    pub(crate) fn back(self, offset: usize) -> (Sole<A>, usize)
+    /// The block, the length of its text and the history of the block, which ends here, for whoever subtracted last and frees it.
+    pub(crate) fn back(self, offset: usize) -> (Sole<A>, usize, Seen)
         requires right { self.right ≡ owed }
         requires offset { offset ≡ word_offset (length self.text) }
         ensures home { result.0.home ≡ self.home }
         ensures text { result.0.text ≡ self.text }
         ensures length { result.1 ≡ length self.text }
         ensures fits { Fits result.1 }
+        ensures history { SawBack self.limit result.2.history self.seat }
+        ensures block { result.2.block ≡ self.block }
     {
         let Pointer { at, marker } = self;
         let len = unsafe {
@@ -213,7 +216,10 @@ impl<A: Allocator> Pointer<A> {
             (*tail).length
         };
         let at = at.cast_mut();
-        (Sole { at, marker }, len)
+        let seen = Seen {
+            marker: PhantomData,
+        };
+        (Sole { at, marker }, len, seen)
     }
 
     /// What the pointer has seen of the block's history.
