@@ -104,8 +104,9 @@ fn all_memory_is_given_back(rt: HostRuntime) {
 fn what_is_owed_is_freed_with_its_history(rt: HostRuntime) {
     let heap = LocalHeap::new(rt.alloc(), 4096).expect(&rt, "refused");
     let text = Shared::<5, _>::from_text(&heap, "aé").expect(&rt, "refused");
-    if let Down::Owes(owed) = text.down().0 {
-        drop(owed.free());
+    match text.down().0 {
+        Down::Owes(owed) => drop(owed.free()),
+        Down::Left | Down::Ended => {}
     }
     check_eq!(rt; heap.used(), 0);
 }
