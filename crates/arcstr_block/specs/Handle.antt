@@ -26,11 +26,13 @@ pub record Kept : Type 0 where
 abbrev pub kept_of : ℕ → Handle → List Step → Kept
 kept_of limit handle history = record { text = handle.text; block = handle.block; limit = limit; history = history }
 
--- what the last subtraction on a block leaves owed: the block, the handle in it that was subtracted, and the limit on its count
+-- what the last subtraction on a block leaves owed: the block, the handle in it that was subtracted, the limit on its count,
+-- and the history that ends in the subtraction
 pub record Debt : Type 0 where
   pub block : BlockName
   pub seat : ℕ
   pub limit : ℕ
+  pub history : List Step
 
 -- the history ends in a look of handle h, to which the core answers this number of handles
 abbrev pub SawCount : ℕ → List Step → ℕ → ℕ → Type 0

@@ -1,5 +1,6 @@
 //! What remains after the end of a handle.
 ghost use Rattle.std.specs.Prelude.{◌≡◌, length};
+ghost use mathlib.Core.List.{IsPrefix};
 ghost use Rattle.arcstr_block.specs.Rights.{owed};
 ghost use Rattle.arcstr_block.specs.Handle.{Debt, SawBack};
 ghost use Rattle.arcstr_block.specs.Memory.{word_offset};
@@ -55,7 +56,7 @@ pub struct Owed<A: Allocator> {
 impl<A: Allocator> Model for Owed<A> {
     ghost Value = { Debt };
 
-    ghost view = { λ o. record { block = o.pointer.block; seat = o.pointer.seat; limit = o.pointer.limit } };
+    ghost view = { λ o. record { block = o.pointer.block; seat = o.pointer.seat; limit = o.pointer.limit; history = o.pointer.history } };
 }
 
 impl<A: Allocator> Owed<A> {
@@ -86,6 +87,8 @@ impl<A: Allocator> Owed<A> {
     pub fn free(self) -> Seen
         // Promise: The history of the block says that this handle freed it.
         ensures step { SawBack self.limit result.history self.seat }
+        // Promise: It begins with the history of the drop that owed the block.
+        ensures after { IsPrefix self.history result.history }
         ensures block { result.block ≡ self.block }
     {
         let Owed {

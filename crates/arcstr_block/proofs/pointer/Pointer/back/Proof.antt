@@ -9,7 +9,7 @@ use Rattle.arcstr_block.proofs.Names.{flt_i, at_ret, basic, sub, whole, agg, loo
 use Rattle.arcstr_block.proofs.Names.{load, bin, tail, word_out, word_in, word, leaves, proved, Gone, Given, Back, Book, seat, Ends, held_with, block_owns}
 use Rattle.arcstr_block.proofs.Names.{block_shares, Fits, word_offset, length_lies, Right, owed}
 use Rattle.arcstr_block.proofs.Book.{book_back}
-use Rattle.arcstr_block.proofs.Names.{BlockName, reached, Token, token_made, unit}
+use Rattle.arcstr_block.proofs.Names.{BlockName, IsPrefix, reached, Token, token_made, unit, use3}
 use Rattle.arcstr_block.specs.Handle.{SawBack}
 use Rattle.arcstr_block.proofs.Pointers.{pointer_val, typed, seen_val, measured_val, measured_typed, Words, told, made}
 use Rattle.arcstr_block.specs.contracts.pointer.Pointer.back.{ended, clauses}
@@ -42,14 +42,14 @@ back_spec 𝓤 𝓛 𝓜 𝓡 wired Y K g d dd met md =
     keep ! (2 ∷ 3 ∷ 0 ∷ []) $ heard ! (h.right ≡ owed) (λ mine. heard ! (offset ≡ word_offset n) (λ placed.
     let there : offset + o ≡ u = omega (arith, placed) in split ! $ move ! (1 ∷ []) $ fsplit ! $ fsplit ! $ keep ! (1 ∷ 3 ∷ []) $ fsplit ! $ fpick ! (λ inb.
     drop ! $ let at : p ≡ block_ptr b o = at_block p inb.0 in
-    let small : n < 2 ^ 64 = (let x = inb.1.0 in omega arith) in fpick ! (λ t. fsplit ! $ fsplit ! $ fpick ! (λ named. drop ! $ drop ! $
+    let small : n < 2 ^ 64 = (let x = inb.1.0 in omega arith) in fpick ! (λ t. fsplit ! $ fsplit ! $ fpick ! (λ named. drop ! $ move ! (1 ∷ []) $
     rewrite ! 0 (λ (k : Right). ‵ (held_with P lim b (u + 0) t s h.seat k)) mine refl $ fsplit ! $ drop ! $ fsplit3 ! $ fsplit ! $
     enter ! 𝓣.C 𝓣.Λ fn (pointer_val p ∷ vint w64 offset ∷ []) Post $
     alloc_all ! (λ l. pass_all ! refl (typed p, ((tt, record { fits = fits_offset }), tt)) $ let Ev = env fn.locals l in
-    -- [the word; the book; what the block owns; the seat; the tokens]
-    move ! (1 ∷ 3 ∷ []) $ use2 𝓛 (later (‵ (Book lim t.name.history t.name.seats 0) ⊛ ‵ (seat t.name.seats h.seat Gone) ⊛
-    ‵ (Ends lim t.name.history t.name.seats (Back h.seat) Given))) (via 𝓤 _
-    (book_back 𝓛 lim t.name.history t.name.seats 0 h.seat) (basic 𝓛 _)) $ await ! tt $ split3 ! $ drop ! $ drop ! $
+    -- [the word; the book; what the block owns; the seat; the history before; the tokens]
+    move ! (1 ∷ 3 ∷ 4 ∷ []) $ use3 𝓛 (later (‵ (Book lim t.name.history t.name.seats 0) ⊛ ‵ (seat t.name.seats h.seat Gone) ⊛
+    ‵ (Ends lim t.name.history t.name.seats h.history (Back h.seat) Given))) (via 𝓤 _
+    (book_back 𝓛 lim t.name.history t.name.seats 0 h.seat h.history) (basic 𝓛 _)) $ await ! tt $ split3 ! $ drop ! $ drop ! $
     fpick ! (λ r'. fsplit ! $ fpick ! (λ ends. drop ! $ rewrite ! 0 (λ (block : BlockName). ‵ (reached block.history r')) named refl $
     -- [the history; the word; what the block owns; the tokens]
     move ! (2 ∷ 1 ∷ []) $ fsplit ! $ rewrite ! 0 (λ (r : Ptr). ‵ (length_lies r n)) at refl $ use1 𝓛 (‵ (word b (u + 8) n)) (word_out 𝓛 b (u + 8) n) $
@@ -78,7 +78,8 @@ back_spec 𝓤 𝓛 𝓜 𝓡 wired Y K g d dd met md =
     fpack ! (Valss (Alone ∷ usize ∷ H' ∷ [])) (λ uss. fsep (feq (List Val) (r ∷ []) (vstruct (of_list (uss.0 ++ (uss.1.0 ++ (uss.1.1.0 ++ [])))) ∷ []))
     (owns (Alone ∷ usize ∷ H' ∷ []) (v, (n, (s', tt))) uss)) (pointer_val p ∷ [], (vint w64 n ∷ [], (seen_val ∷ [], tt))) $
     use0 𝓛 (raw (fact 𝓤 (h.block ≡ h.block))) (fact_i 𝓤 (h.block ≡ h.block) (emp 𝓤) refl) $
-    use0 𝓛 (raw (fact 𝓤 (SawBack lim r' h.seat))) (fact_i 𝓤 (SawBack lim r' h.seat) (emp 𝓤) ends) $ join ! $
+    use0 𝓛 (raw (fact 𝓤 (IsPrefix h.history r'))) (fact_i 𝓤 (IsPrefix h.history r') (emp 𝓤) ends.1) $ join ! $
+    use0 𝓛 (raw (fact 𝓤 (SawBack lim r' h.seat))) (fact_i 𝓤 (SawBack lim r' h.seat) (emp 𝓤) ends.0) $ join ! $
     use0 𝓛 (raw (fact 𝓤 (Fits n))) (fact_i 𝓤 (Fits n) (emp 𝓤) inb.1.0) $ join ! $ use0 𝓛 (raw (fact 𝓤 (n ≡ n))) (fact_i 𝓤 (n ≡ n) (emp 𝓤) refl) $ join ! $
     use0 𝓛 (raw (fact 𝓤 (xs ≡ xs))) (fact_i 𝓤 (xs ≡ xs) (emp 𝓤) refl) $ join ! $
     use0 𝓛 (raw (fact 𝓤 (h.home ≡ h.home))) (fact_i 𝓤 (h.home ≡ h.home) (emp 𝓤) refl) $ join ! $ nothing ! $ nothing ! $ fjoin ! $ nothing ! $ fjoin ! $
