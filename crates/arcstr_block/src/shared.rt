@@ -1,11 +1,11 @@
 //! One handle on a block. No call here allocates, and only `up` may wait.
-ghost use Rattle.std.specs.Prelude.{◌≡◌, ℕ, length, IsUtf8, ◌<◌, ◌≤◌, ◌+◌, MatchOption, IfOk, IfErr, IfSome};
+ghost use Rattle.std.specs.Prelude.{◌≡◌, ℕ, length, IsUtf8, ◌<◌, ◌≤◌, ◌+◌, MatchOption, IfOk, IfErr, IfSome, IsNone, IsSome};
 ghost use mathlib.Core.List.{IsPrefix};
 ghost use Rattle.arcstr_count.specs.Word.{bits_of, fresh_word};
 ghost use Rattle.arcstr_block.specs.Memory.{Fits};
 ghost use Rattle.arcstr_block.specs.Word.{IsLimit, IsUnmarked, IsCountWord, IsOtherWord};
 ghost use Rattle.arcstr_block.specs.Rights.{IsFree, is_free_once};
-ghost use Rattle.arcstr_block.specs.Handle.{Handle, SawCount, SawMark, SawLeak, kept_of};
+ghost use Rattle.arcstr_block.specs.Handle.{Handle, SawCount, SawMark, SawLeak, IsMarkedIn, kept_of};
 ghost use Rattle.arcstr_block.specs.Steps.{handle_of};
 
 use crate::block::{Sole, offset_of_word};
@@ -138,8 +138,13 @@ impl<const LIMIT: u64, A: Allocator + Copy> Shared<LIMIT, A> {
         ensures block { result.1.block ≡ self.now.block }
         // Promise: The history seen begins with what the caller had seen.
         ensures after { IsPrefix before.now.history result.1.history }
+        // Promise: A block that was marked before stays marked.
+        ensures marked { IsMarkedIn LIMIT before.now.history → IsNone result.0 }
     {
-        let (found, gained) = self.handle.pointer.load(offset_of_word(self.handle.len), before);
+        let (found, gained) = self
+            .handle
+            .pointer
+            .load(offset_of_word(self.handle.len), before);
         let seen = gained.seen();
         gained.forget();
         (looked(found), seen)
@@ -176,8 +181,13 @@ impl<const LIMIT: u64, A: Allocator + Copy> Shared<LIMIT, A> {
         ensures block { result.1.block ≡ self.now.block }
         // Promise: The history seen begins with what the caller had seen.
         ensures after { IsPrefix before.now.history result.1.history }
+        // Promise: A block that was marked before stays marked.
+        ensures marked { IsMarkedIn LIMIT before.now.history → IsSome result.0 }
     {
-        let (found, gained) = self.handle.pointer.load(offset_of_word(self.handle.len), before);
+        let (found, gained) = self
+            .handle
+            .pointer
+            .load(offset_of_word(self.handle.len), before);
         let seen = gained.seen();
         match looked(found) {
             None => {
@@ -227,7 +237,10 @@ impl<const LIMIT: u64, A: Allocator + Copy> Shared<LIMIT, A> {
         ensures after { IsPrefix before.now.history result.history }
     {
         Fixed {
-            pointer: self.handle.pointer.leak(offset_of_word(self.handle.len), before),
+            pointer: self
+                .handle
+                .pointer
+                .leak(offset_of_word(self.handle.len), before),
             len: self.handle.len,
             alloc: self.handle.alloc,
         }

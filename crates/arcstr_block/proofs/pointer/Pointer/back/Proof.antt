@@ -4,7 +4,7 @@ use Rattle.arcstr_block.proofs.Names.{vptr, vstruct, of_list, Fml, fsep, ftrue, 
 use Rattle.arcstr_block.proofs.Names.{param, bounded, uint_vals, uint_Tells, RattleType, Valss, owns, block_of, Ptr, block_ptr, ptr_val, InBlock, count_of}
 use Rattle.arcstr_block.proofs.Names.{at_block, types_at, plain, nothing, heard, alive, Stays, stay_dropped, walk_of, Goes-dropped, alloc_all, pass_all}
 use Rattle.arcstr_block.proofs.Names.{free_all, look_at, get, get_in, sets, env, through, sets_last, is, ‵, ◌⊛◌, later, ◌$◌, ◌∵◌, !, qed, move, use0, use1}
-use Rattle.arcstr_block.proofs.Names.{use2, split, split3, join, fsplit, fjoin, fpick, fpack, await, raw, by, keep, fsplit3, drop, rewrite, feq_i}
+use Rattle.arcstr_block.proofs.Names.{split, split3, join, fsplit, fjoin, fpick, fpack, await, raw, by, keep, fsplit3, drop, rewrite, feq_i}
 use Rattle.arcstr_block.proofs.Names.{flt_i, at_ret, basic, sub, whole, agg, look_in, stop, fld, of_opd, no_more, and_then, first, blocks, exec, returns, enter}
 use Rattle.arcstr_block.proofs.Names.{load, bin, tail, word_out, word_in, word, leaves, proved, Gone, Given, Back, Book, seat, Ends, held_with, block_owns}
 use Rattle.arcstr_block.proofs.Names.{block_shares, Fits, word_offset, length_lies, Right, owed}

@@ -32,10 +32,20 @@ begin_spec 𝓤 𝓛 𝓜 𝓡 wired Y K g d dd met md =
     let Row : RattleType = C.the_row B g in let D : RattleType = Words B g in let self = plain (λ _. Row) in
     let number = plain (λ _. usize) in let S : RattleType = Seen.the_row in let other = RefOf (0 ∷ []) tt (plain (λ _. S)) (λ _. tt) in
     let hs : Stays En.signature.params En.kept = (stay_dropped self no, (stay_dropped number yes, (stay_dropped other yes, tt))) in
-    proved 𝓛 En hs c 𝓜 𝓡 (Goes-dropped 𝓛 2 self no (λ κs x f. refl), (Goes-dropped 𝓛 2 number yes (λ κs x f. refl),
-    (Goes-dropped 𝓛 2 other yes (λ κs x f. refl), tt))) (#self inst) fn closed
-    (λ κs. ((λ x. pointer_val x.at ∷ []), (uint_vals w64, (shr_vals, tt)))) (λ κs. ((λ x vs so. told B g x.at vs so.0), (uint_Tells w64,
-    (shr_Tells (named 0) κs.0 S, tt)))) (λ κs qs bounds a gh are.
+    proved 𝓛 En hs c 𝓜 𝓡 (
+      Goes-dropped 𝓛 2 self no (λ κs x f. refl),
+      (
+        Goes-dropped 𝓛 2 number yes (λ κs x f. refl),
+        (Goes-dropped 𝓛 2 other yes (λ κs x f. refl), tt),
+      ),
+    ) (#self inst) fn closed
+    (λ κs. ((λ x. pointer_val x.at ∷ []), (uint_vals w64, (shr_vals, tt)))) (λ κs. (
+      (λ x vs so. told B g x.at vs so.0),
+      (
+        uint_Tells w64,
+        (shr_Tells (named 0) κs.0 S, tt),
+      ),
+    )) (λ κs qs bounds a gh are.
     let h : Row.Denot = a.0 in let p : Ptr = h.at in let lim : ℕ = h.limit in let holds = g.dealloc_token h.home in
     let P : Fml = block_owns holds p h.text in let s : Lft → Fml = block_shares p h.text in
     let right : Right = h.right in let sl = shares_laws p h.text in

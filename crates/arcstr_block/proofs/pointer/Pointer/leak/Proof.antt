@@ -33,8 +33,13 @@ leak_spec 𝓤 𝓛 𝓜 𝓡 wired Y K g d dd met md =
     let Row : RattleType = C.the_row B g in let D : RattleType = Words B g in let self = RefOf (0 ∷ []) tt (plain (λ _. Row)) (λ _. tt) in
     let number = plain (λ _. usize) in let S : RattleType = Seen.the_row in let other = RefOf (1 ∷ []) tt (plain (λ _. S)) (λ _. tt) in
     let hs : Stays En.signature.params En.kept = (stay_dropped self yes, (stay_dropped number yes, (stay_dropped other yes, tt))) in
-    proved 𝓛 En hs c 𝓜 𝓡 (Goes-dropped 𝓛 3 self yes (λ κs x f. refl), (Goes-dropped 𝓛 3 number yes (λ κs x f. refl),
-    (Goes-dropped 𝓛 3 other yes (λ κs x f. refl), tt))) (#self inst) fn closed
+    proved 𝓛 En hs c 𝓜 𝓡 (
+      Goes-dropped 𝓛 3 self yes (λ κs x f. refl),
+      (
+        Goes-dropped 𝓛 3 number yes (λ κs x f. refl),
+        (Goes-dropped 𝓛 3 other yes (λ κs x f. refl), tt),
+      ),
+    ) (#self inst) fn closed
     (λ κs. (shr_vals, (uint_vals w64, (shr_vals, tt)))) (λ κs. (shr_Tells (named 0) κs.0 Row, (uint_Tells w64, (shr_Tells (named 1) κs.1.0 S, tt)))) (λ κs qs bounds a gh are.
     let b : ℕ = a.0.ref_ptr.0 in let o : ℕ = a.0.ref_ptr.1 in let κ : Lft = κs.0 in let q : Share = qs.0 in
     let others : Fml = fsep (flft κs.1.0 qs.1.0) (fsep (flft κs.1.1.0 qs.1.1.0) ftrue) in
