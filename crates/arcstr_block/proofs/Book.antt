@@ -9,6 +9,7 @@ use Rattle.arcstr_block.proofs.Names.{check, rewrite, suffices, settle, show, Lo
 use Rattle.arcstr_block.proofs.Names.{looked_of, cloned_of, is_last, HandleState, Free, Dropping, Owing, Gone, Ended, Looked, Owes, Left, Handle, Marked, Given}
 use Rattle.arcstr_block.proofs.Names.{Step, Make, Look, Clone, Begin, Sub, Back, Leak, BlockName, Book, reached, seat, steps, state_code, seat_share, book}
 use Rattle.arcstr_block.proofs.Names.{Ends, reached_ending, word_of, IsMarked, IsClone, operators}
+use Rattle.arcstr_block.proofs.Names.{IsPrefix, latest_bounds}
 use mathlib.Core.Path.{Path}
 use mathlib.Mathlib.Data.Part.{◌∈◌}
 use seplogic.Ra.Pcs.{OpDef, OpDef-comm}
@@ -153,8 +154,12 @@ module _ {M : Type 1} {𝓤 : Ura M} (𝓛 : Logic 𝓤) where
     abbrev Seats : List HandleState → Fml
     Seats vs = roster state_code δ 0 vs
 
-    abbrev Said : Step → Reply → Fml
+    abbrev Said : List Step → Step → Reply → Fml
     Said = Ends L γ δ
+
+    -- what was reached is a prefix of the history now
+    bounds : (r before : List Step) → ⟦ Now r ⟧ ∗ ⟦ reached γ before ⟧ ⊢ guard 𝓤 (IsPrefix before r) (⟦ Now r ⟧ ∗ ⟦ reached γ before ⟧)
+    bounds r before = latest_bounds steps 𝓛 full_share γ r before
 
     pub reached_twice : (r : List Step) → ⟦ reached γ r ⟧ ⊢ ⟦ reached γ r ⟧ ∗ ⟦ reached γ r ⟧
     reached_twice r = at_least_dup steps 𝓛 γ r
@@ -164,33 +169,35 @@ module _ {M : Type 1} {𝓤 : Ura M} (𝓛 : Logic 𝓤) where
         fpack ! (List Step × List HandleState) (book L γ δ n) (r, vs) $ done !
 
     -- the history with one more step, and what the core answered
-    turns : (n : ℕ) (r : List Step) (s : Step) (reply : Reply) (vs : List HandleState) → Prolongs L r s reply (word_of n) vs
-        → ⟦ Now r ⟧ ∗ ⟦ Seats vs ⟧ ⊢ upd 𝓤 (⟦ Bk n ⟧ ∗ ⟦ Said s reply ⟧)
-    turns n r s reply vs on = let r' : List Step = r ++ s ∷ [] in let Z : Pr = ⟦ Bk n ⟧ ∗ ⟦ Said s reply ⟧ in
+    turns : (n : ℕ) (r before : List Step) (s : Step) (reply : Reply) (vs : List HandleState) → IsPrefix before r → Prolongs L r s reply (word_of n) vs
+        → ⟦ Now r ⟧ ∗ ⟦ Seats vs ⟧ ⊢ upd 𝓤 (⟦ Bk n ⟧ ∗ ⟦ Said before s reply ⟧)
+    turns n r before s reply vs starts on = let r' : List Step = r ++ s ∷ [] in let Z : Pr = ⟦ Bk n ⟧ ∗ ⟦ Said before s reply ⟧ in
         qed 𝓛 (‵ (Now r) ∷ ‵ (Seats vs) ∷ []) ∵ use1 𝓛 (raw (upd 𝓤 ⟦ Now r' ⟧)) (latest_grows steps 𝓛 γ r r' (s ∷ [], refl)) $ settle 𝓛 Z (‵ (Now r')) $
         suffices ! _ (upd_i 𝓤 Z) $
         use1 𝓛 (‵ (Now r') ⊛ ‵ (reached γ r')) (latest_shows steps 𝓛 full_share γ r' r' (steps.same r')) $ split ! $ move ! (1 ∷ []) $
-        nothing ! $ fpack ! (EndsIn L r' s reply) (λ _. ftrue) on.ends $ fjoin ! $ fpack ! (List Step) (reached_ending L γ δ s reply) r' $
+        nothing ! $ fpack ! (EndsIn L r' s reply × IsPrefix before r') (λ _. ftrue) (on.ends, steps.trans before r r' starts (s ∷ [], refl)) $ fjoin ! $
+        fpack ! (List Step) (reached_ending L γ δ before s reply) r' $
         move ! (1 ∷ 2 ∷ []) $ use2 𝓛 (‵ (Bk n)) (book_in n r' vs on.keeps) $ done !
 
     -- a step of a free handle, by a share of its seat
-    by_share : (n n' h : ℕ) (q : Share) (s : Step) (reply : Reply)
+    by_share : (n n' h : ℕ) (q : Share) (before : List Step) (s : Step) (reply : Reply)
         → ((r : List Step) (vs : List HandleState) → Keeps L r (word_of n) vs → slice_get vs h ≡ Some Free → Prolongs L r s reply (word_of n') vs)
-        → ⟦ Bk n ⟧ ∗ ⟦ seat_share δ h q Free ⟧ ⊢ upd 𝓤 (⟦ Bk n' ⟧ ∗ ⟦ seat_share δ h q Free ⟧ ∗ ⟦ Said s reply ⟧)
-    by_share n n' h q s reply law = let Z : Pr = ⟦ Bk n' ⟧ ∗ ⟦ seat_share δ h q Free ⟧ ∗ ⟦ Said s reply ⟧ in
-        qed 𝓛 (‵ (Bk n) ∷ ‵ (seat_share δ h q Free) ∷ []) ∵ fpick ! (λ x. fsplit3 ! $ fpick ! (λ keeps. drop ! $ move ! (1 ∷ 2 ∷ []) $
+        → ⟦ Bk n ⟧ ∗ ⟦ seat_share δ h q Free ⟧ ∗ ⟦ reached γ before ⟧ ⊢ upd 𝓤 (⟦ Bk n' ⟧ ∗ ⟦ seat_share δ h q Free ⟧ ∗ ⟦ Said before s reply ⟧)
+    by_share n n' h q before s reply law = let Z : Pr = ⟦ Bk n' ⟧ ∗ ⟦ seat_share δ h q Free ⟧ ∗ ⟦ Said before s reply ⟧ in
+        qed 𝓛 (‵ (Bk n) ∷ ‵ (seat_share δ h q Free) ∷ ‵ (reached γ before) ∷ []) ∵ fpick ! (λ x. fsplit3 ! $ fpick ! (λ keeps. drop ! $ move ! (1 ∷ 2 ∷ []) $
         use2 𝓛 (given (slice_get x.1 h ≡ Some Free) (‵ (Seats x.1) ⊛ ‵ (seat_share δ h q Free))) (agrees δ x.1 0 h h q Free (sym
-        (Rattle.std.proofs.Common.zero-add h))) $ learn ! (λ at. split ! $ move ! (2 ∷ 0 ∷ []) $
-        use2 𝓛 (raw (upd 𝓤 (⟦ Bk n' ⟧ ∗ ⟦ Said s reply ⟧))) (turns n' x.0 s reply x.1 (law x.0 x.1 keeps at)) $ settle 𝓛 Z (‵ (Bk n') ⊛ ‵ (Said s reply)) $
-        split ! $ suffices ! _ (upd_i 𝓤 Z) $ move ! (0 ∷ 2 ∷ 1 ∷ []) $ done !)))
+        (Rattle.std.proofs.Common.zero-add h))) $ learn ! (λ at. split ! $ move ! (2 ∷ 3 ∷ []) $
+        use2 𝓛 (given (IsPrefix before x.0) (‵ (Now x.0) ⊛ ‵ (reached γ before))) (bounds x.0 before) $ learn ! (λ starts. split ! $ move ! (0 ∷ 2 ∷ []) $
+        use2 𝓛 (raw (upd 𝓤 (⟦ Bk n' ⟧ ∗ ⟦ Said before s reply ⟧))) (turns n' x.0 before s reply x.1 starts (law x.0 x.1 keeps at)) $
+        settle 𝓛 Z (‵ (Bk n') ⊛ ‵ (Said before s reply)) $ split ! $ suffices ! _ (upd_i 𝓤 Z) $ keep ! (0 ∷ 3 ∷ 1 ∷ []) $ done !))))
 
-    pub book_look : (n h : ℕ) (q : Share)
-        → ⟦ Bk n ⟧ ∗ ⟦ seat_share δ h q Free ⟧ ⊢ upd 𝓤 (⟦ Bk n ⟧ ∗ ⟦ seat_share δ h q Free ⟧ ∗ ⟦ Said (Look h) (look_reply (looked_of (word_of n))) ⟧)
-    book_look n h q = by_share n n h q (Look h) (look_reply (looked_of (word_of n))) (λ r vs keeps at. keeps-look L r (word_of n) vs h keeps at)
+    pub book_look : (n h : ℕ) (q : Share) (before : List Step) → ⟦ Bk n ⟧ ∗ ⟦ seat_share δ h q Free ⟧ ∗ ⟦ reached γ before ⟧
+        ⊢ upd 𝓤 (⟦ Bk n ⟧ ∗ ⟦ seat_share δ h q Free ⟧ ∗ ⟦ Said before (Look h) (look_reply (looked_of (word_of n))) ⟧)
+    book_look n h q before = by_share n n h q before (Look h) (look_reply (looked_of (word_of n))) (λ r vs keeps at. keeps-look L r (word_of n) vs h keeps at)
 
-    pub book_mark : (n h : ℕ) (q : Share)
-        → ⟦ Bk n ⟧ ∗ ⟦ seat_share δ h q Free ⟧ ⊢ upd 𝓤 (⟦ Bk (bit_or n 1) ⟧ ∗ ⟦ seat_share δ h q Free ⟧ ∗ ⟦ Said (Leak h) Marked ⟧)
-    book_mark n h q = by_share n (bit_or n 1) h q (Leak h) Marked (λ r vs keeps at.
+    pub book_mark : (n h : ℕ) (q : Share) (before : List Step) → ⟦ Bk n ⟧ ∗ ⟦ seat_share δ h q Free ⟧ ∗ ⟦ reached γ before ⟧
+        ⊢ upd 𝓤 (⟦ Bk (bit_or n 1) ⟧ ∗ ⟦ seat_share δ h q Free ⟧ ∗ ⟦ Said before (Leak h) Marked ⟧)
+    book_mark n h q before = by_share n (bit_or n 1) h q before (Leak h) Marked (λ r vs keeps at.
         subst (λ (w : FlagAndCount). Prolongs L r (Leak h) Marked w vs) (sym (word_marked n)) (keeps-leak L r (word_of n) vs h keeps at))
 
     -- a clone is born with a seat of its own
@@ -208,22 +215,24 @@ module _ {M : Type 1} {𝓤 : Ura M} (𝓛 : Logic 𝓤) where
         settle 𝓛 Z (‵ (Seats vs) ⊛ ‵ (seat δ (0 + length x.1) Free)) $ split ! $ move ! (1 ∷ []) $ fpack ! ℕ (λ j. seat δ j Free) (0 + length x.1) $
         let on : Prolongs L x.0 (Clone h) (Handle (length x.1)) (word_of n') vs = subst (λ (w : FlagAndCount). Prolongs L x.0 (Clone h) (Handle
         (length x.1)) w vs) (sym is) (keeps-clone L x.0 (word_of n) x.1 h keeps at) in
-        move ! (3 ∷ 1 ∷ []) $ use2 𝓛 (raw (upd 𝓤 (⟦ Bk n' ⟧ ∗ ⟦ Said (Clone h) (Handle (length x.1)) ⟧))) (turns n' x.0 (Clone h) (Handle (length x.1)) vs on) $
-        settle 𝓛 Z (‵ (Bk n') ⊛ ‵ (Said (Clone h) (Handle (length x.1)))) $ split ! $ suffices ! _ (upd_i 𝓤 Z) $ keep ! (0 ∷ 3 ∷ 2 ∷ []) $ done !)))
+        move ! (3 ∷ 1 ∷ []) $ use2 𝓛 (raw (upd 𝓤 (⟦ Bk n' ⟧ ∗ ⟦ Said [] (Clone h) (Handle (length x.1)) ⟧)))
+        (turns n' x.0 [] (Clone h) (Handle (length x.1)) vs (x.0, refl) on) $
+        settle 𝓛 Z (‵ (Bk n') ⊛ ‵ (Said [] (Clone h) (Handle (length x.1)))) $ split ! $ suffices ! _ (upd_i 𝓤 Z) $ keep ! (0 ∷ 3 ∷ 2 ∷ []) $ done !)))
 
     -- a step of a handle that has its seat
-    by_seat : (n n' h : ℕ) (v u : HandleState) (s : Step) (reply : Reply)
+    by_seat : (n n' h : ℕ) (v u : HandleState) (before : List Step) (s : Step) (reply : Reply)
         → ((r : List Step) (vs : List HandleState) → Keeps L r (word_of n) vs → slice_get vs h ≡ Some v → Prolongs L r s reply (word_of n') (set vs h u))
-        → ⟦ Bk n ⟧ ∗ ⟦ seat δ h v ⟧ ⊢ upd 𝓤 (⟦ Bk n' ⟧ ∗ ⟦ seat δ h u ⟧ ∗ ⟦ Said s reply ⟧)
-    by_seat n n' h v u s reply law = let Z : Pr = ⟦ Bk n' ⟧ ∗ ⟦ seat δ h u ⟧ ∗ ⟦ Said s reply ⟧ in
+        → ⟦ Bk n ⟧ ∗ ⟦ seat δ h v ⟧ ∗ ⟦ reached γ before ⟧ ⊢ upd 𝓤 (⟦ Bk n' ⟧ ∗ ⟦ seat δ h u ⟧ ∗ ⟦ Said before s reply ⟧)
+    by_seat n n' h v u before s reply law = let Z : Pr = ⟦ Bk n' ⟧ ∗ ⟦ seat δ h u ⟧ ∗ ⟦ Said before s reply ⟧ in
         let zero_h : h ≡ 0 + h = sym (Rattle.std.proofs.Common.zero-add h) in
-        qed 𝓛 (‵ (Bk n) ∷ ‵ (seat δ h v) ∷ []) ∵ fpick ! (λ x. fsplit3 ! $ fpick ! (λ keeps. drop ! $ move ! (1 ∷ 2 ∷ []) $
+        qed 𝓛 (‵ (Bk n) ∷ ‵ (seat δ h v) ∷ ‵ (reached γ before) ∷ []) ∵ fpick ! (λ x. fsplit3 ! $ fpick ! (λ keeps. drop ! $ move ! (1 ∷ 2 ∷ []) $
         let vs : List HandleState = set x.1 h u in
         use2 𝓛 (given (slice_get x.1 h ≡ Some v) (‵ (Seats x.1) ⊛ ‵ (seat δ h v))) (agrees δ x.1 0 h h three_quarters v zero_h) $ learn ! (λ at. split ! $
         use2 𝓛 (raw (upd 𝓤 (⟦ Seats vs ⟧ ∗ ⟦ seat δ h u ⟧))) (moves δ x.1 0 h h v u zero_h) $ settle 𝓛 Z (‵ (Seats vs) ⊛ ‵ (seat δ h u)) $ split ! $
-        move ! (2 ∷ 0 ∷ []) $
-        use2 𝓛 (raw (upd 𝓤 (⟦ Bk n' ⟧ ∗ ⟦ Said s reply ⟧))) (turns n' x.0 s reply vs (law x.0 x.1 keeps at)) $ settle 𝓛 Z (‵ (Bk n') ⊛ ‵ (Said s reply)) $
-        split ! $ suffices ! _ (upd_i 𝓤 Z) $ move ! (0 ∷ 2 ∷ 1 ∷ []) $ done !)))
+        move ! (2 ∷ 3 ∷ []) $
+        use2 𝓛 (given (IsPrefix before x.0) (‵ (Now x.0) ⊛ ‵ (reached γ before))) (bounds x.0 before) $ learn ! (λ starts. split ! $ move ! (0 ∷ 2 ∷ []) $
+        use2 𝓛 (raw (upd 𝓤 (⟦ Bk n' ⟧ ∗ ⟦ Said before s reply ⟧))) (turns n' x.0 before s reply vs starts (law x.0 x.1 keeps at)) $
+        settle 𝓛 Z (‵ (Bk n') ⊛ ‵ (Said before s reply)) $ split ! $ suffices ! _ (upd_i 𝓤 Z) $ keep ! (0 ∷ 3 ∷ 1 ∷ []) $ done !))))
 
     abbrev pub begun : ℕ → HandleState
     begun n = if (word_of n).flag then Gone else Dropping
@@ -231,8 +240,9 @@ module _ {M : Type 1} {𝓤 : Ura M} (𝓛 : Logic 𝓤) where
     abbrev pub begin_reply : ℕ → Reply
     begin_reply n = if (word_of n).flag then Ended else Looked
 
-    pub book_begin : (n h : ℕ) → ⟦ Bk n ⟧ ∗ ⟦ seat δ h Free ⟧ ⊢ upd 𝓤 (⟦ Bk n ⟧ ∗ ⟦ seat δ h (begun n) ⟧ ∗ ⟦ Said (Begin h) (begin_reply n) ⟧)
-    book_begin n h = by_seat n n h Free (begun n) (Begin h) (begin_reply n) (λ r vs keeps at. keeps-begin L r (word_of n) vs h keeps at)
+    pub book_begin : (n h : ℕ) (before : List Step)
+        → ⟦ Bk n ⟧ ∗ ⟦ seat δ h Free ⟧ ∗ ⟦ reached γ before ⟧ ⊢ upd 𝓤 (⟦ Bk n ⟧ ∗ ⟦ seat δ h (begun n) ⟧ ∗ ⟦ Said before (Begin h) (begin_reply n) ⟧)
+    book_begin n h before = by_seat n n h Free (begun n) before (Begin h) (begin_reply n) (λ r vs keeps at. keeps-begin L r (word_of n) vs h keeps at)
 
     abbrev pub left_in : ℕ → HandleState
     left_in n = if is_last (word_of n) then Owing else Gone
@@ -240,13 +250,14 @@ module _ {M : Type 1} {𝓤 : Ura M} (𝓛 : Logic 𝓤) where
     abbrev pub sub_reply : ℕ → Reply
     sub_reply n = if is_last (word_of n) then Owes else Left
 
-    pub book_sub : (n h : ℕ) → n < 2 ^ 64
-        → ⟦ Bk n ⟧ ∗ ⟦ seat δ h Dropping ⟧ ⊢ upd 𝓤 (⟦ Bk (one_less n) ⟧ ∗ ⟦ seat δ h (left_in n) ⟧ ∗ ⟦ Said (Sub h) (sub_reply n) ⟧)
-    book_sub n h fits = by_seat n (one_less n) h Dropping (left_in n) (Sub h) (sub_reply n) (λ r vs keeps at. let on = keeps-sub L r (word_of n) vs h keeps at in
+    pub book_sub : (n h : ℕ) (before : List Step) → n < 2 ^ 64 → ⟦ Bk n ⟧ ∗ ⟦ seat δ h Dropping ⟧ ∗ ⟦ reached γ before ⟧
+        ⊢ upd 𝓤 (⟦ Bk (one_less n) ⟧ ∗ ⟦ seat δ h (left_in n) ⟧ ∗ ⟦ Said before (Sub h) (sub_reply n) ⟧)
+    book_sub n h before fits = by_seat n (one_less n) h Dropping (left_in n) before (Sub h) (sub_reply n) (λ r vs keeps at. let on = keeps-sub L r (word_of n) vs h keeps at in
         subst (λ (w : FlagAndCount). Prolongs L r (Sub h) (sub_reply n) w (set vs h (left_in n))) (sym (word_dropped n fits on.0)) on.1)
 
-    pub book_back : (n h : ℕ) → ⟦ Bk n ⟧ ∗ ⟦ seat δ h Owing ⟧ ⊢ upd 𝓤 (⟦ Bk n ⟧ ∗ ⟦ seat δ h Gone ⟧ ∗ ⟦ Said (Back h) Given ⟧)
-    book_back n h = by_seat n n h Owing Gone (Back h) Given (λ r vs keeps at. keeps-back L r (word_of n) vs h keeps at)
+    pub book_back : (n h : ℕ) (before : List Step)
+        → ⟦ Bk n ⟧ ∗ ⟦ seat δ h Owing ⟧ ∗ ⟦ reached γ before ⟧ ⊢ upd 𝓤 (⟦ Bk n ⟧ ∗ ⟦ seat δ h Gone ⟧ ∗ ⟦ Said before (Back h) Given ⟧)
+    book_back n h before = by_seat n n h Owing Gone before (Back h) Given (λ r vs keeps at. keeps-back L r (word_of n) vs h keeps at)
 
     -- ---- the steps of a clone by the handle h, depending on the word that they find
     module _ (h : ℕ) (q : Share) where

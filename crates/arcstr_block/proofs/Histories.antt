@@ -4,12 +4,14 @@ use Rattle.arcstr_block.proofs.Names.{◌==◌, Option, None, ◌≤◌, IsPrefi
 use Rattle.arcstr_block.proofs.Names.{SProp, ent, sep, fact, fact_i, heard, at_least_join, ‵, some, ◌$◌, ◌∵◌, !, qed, pick, use2, raw, by, given, learn}
 use Rattle.arcstr_block.proofs.Names.{rewrite, Logic, sem, EndsIn, look_reply, IsOneBlock, FlagAndCount, looked_of, Free, Marked, Count, Static, Step, Look}
 use Rattle.arcstr_block.proofs.Names.{Leak, reached, steps, IsMarkedIn, word_of, IsMarked}
+use Rattle.std.specs.Prelude.{IsNone}
 use Rattle.arcstr_count.specs.declared.faults.StepFault.{StepFault}
 use Rattle.arcstr_count.specs.History.{makes, births, block_of}
 use Rattle.arcstr_count.specs.Marks.{is_marked}
 use Rattle.arcstr_count.specs.Answer.{is_accepted, reply_by}
 use Rattle.arcstr_count.specs.Past.{past_of}
-use Rattle.arcstr_count.proofs.Pasts.{past_of-step, IsPast-past_of}
+use Rattle.arcstr_count.proofs.Pasts.{past_of-append, past_of-step, IsPast-past_of}
+use Rattle.arcstr_count.proofs.LawsOfPasts.{mark_stays_from}
 use Rattle.arcstr_count.proofs.LawsOfHandles.{block_made, step_finds}
 use Rattle.arcstr_block.proofs.Words.{marked_word}
 
@@ -53,6 +55,30 @@ pub marked_by_word : (limit n : ℕ) (history : List Step) (h : ℕ) → EndsIn 
     → IsMarkedIn limit history
 marked_by_word limit n history h ends odd =
     marked_by_look limit history h (subst (EndsIn limit history (Look h)) (ap (λ (w : FlagAndCount). look_reply (looked_of w)) (marked_word n odd)) ends)
+
+-- only a look at an unmarked block has this answer
+count_was : (refusal : Option StepFault) (marked : Bool) (n m : ℕ) → reply_by refusal (if marked then Static else Count n) ≡ Count m → marked ≡ false
+count_was None true n m e = cc
+count_was None false n m e = refl
+count_was (Some fault) marked n m e = cc
+
+-- a block that was marked before a look is not counted by it
+marked_is_not_counted : (limit : ℕ) (before history : List Step) (h n : ℕ) → IsMarkedIn limit before → IsPrefix before history
+    → EndsIn limit history (Look h) (Count n) → ⊥
+marked_is_not_counted limit before history h n marked starts ends = let p : List Step = past_of limit ends.prefix in
+    let past : past_of limit history ≡ Look h ∷ p = past_ends limit history ends.prefix (Look h) ends.ends ends.accepted in
+    let on : block_of p h ≡ 0 = on_the_block limit history ends.prefix (Look h) h ends.one_block past refl (step_finds limit p h Free ends.accepted).born in
+    let unmarked : is_marked limit p 0 ≡ false = sym (ap (λ b. is_marked limit p b) on) ∙ count_was _ _ _ _ ends.answered in
+    let later : is_marked limit (past_of limit (before ++ starts.0)) 0 ≡ true =
+    ap (λ q. is_marked limit q 0) (past_of-append limit before starts.0) ∙ mark_stays_from limit (past_of limit before) starts.0 0 marked.marked in
+    let stays : is_marked limit (past_of limit history) 0 ≡ true = subst (λ r. is_marked limit (past_of limit r) 0 ≡ true) starts.1 later in
+    let both : true ≡ false = sym (sym (ap (λ q. is_marked limit q 0) past) ∙ stays) ∙ unmarked in cc
+
+-- a look at a block that was marked before has no count
+pub stays_marked : (limit : ℕ) (before history : List Step) (h : ℕ) (count : Option ℕ) → IsMarkedIn limit before → IsPrefix before history
+    → EndsIn limit history (Look h) (look_reply count) → IsNone count
+stays_marked limit before history h None marked starts ends = refl
+stays_marked limit before history h (Some n) marked starts ends = absurd (marked_is_not_counted limit before history h n marked starts ends)
 
 -- ---- two prefixes of one history
 

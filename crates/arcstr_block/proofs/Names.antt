@@ -66,7 +66,7 @@ pub use denote.Triple.Entry.{on_entry, alive}
 pub use denote.Triple.Spec.{triple_of, Meets}
 pub use denote.Triple.Walked.{Stays, stay_dropped, walk_of, Goes-dropped, says, needs, ends_at, Goes-spent_ref, walk_Meets}
 pub use types.ByLocal.{alloc_all, pass_all, free_all, look_at, get, get_in, sets, lands_last, env, through, sets_last, is, get_tag, lands_as}
-pub use types.Growing.{latest_new, latest_grows, latest_shows, at_least_dup, at_least_join}
+pub use types.Growing.{latest_new, latest_grows, latest_shows, latest_bounds, at_least_dup, at_least_join}
 pub use types.Keyed.{entry, entries_take, entries_beside, entry_cut, entry_glue, entry_set, entries_new, entry_keyless, entries_keyless}
 pub use types.Kit.{‵, ◌⊛◌, some, later, ◌$◌, ◌∵◌, !, qed, move, group, pick, use0, use1, use2, split, split3, join, fsplit, fjoin, fjoin3, fpick, fpack, await}
 pub use types.Kit.{updating, now, done, raw, by, keep, fsplit3, assume, given, drop, learn, check, rewrite, suffices, settle, show, feq_l, feq_i, flt_l, flt_i}

@@ -30,13 +30,19 @@ pub found_typed : (n : ℕ) → n < 2 ^ 64 → (p : Ptr) → T (has_ty (ty_struc
 found_typed n fits (block_ptr b o) = (tt, (record { fits = fits }, ((tt, (tt, tt)), tt)))
 found_typed n fits null_ptr = (tt, (record { fits = fits }, ((record { fits = lit< tt }, (tt, tt)), tt)))
 
+abbrev seen_ty : Ty
+seen_ty = ty_struct [] (tcons (ty_struct [] tnil) tnil)
+
+abbrev pub seen_val : Val
+seen_val = vstruct (vcons (vstruct vnil) vnil)
+
 abbrev pub measured_val : Ptr → ℕ → Val
-measured_val p n = vstruct (vcons (pointer_val p) (vcons (vint w64 n) vnil))
+measured_val p n = vstruct (vcons (pointer_val p) (vcons (vint w64 n) (vcons seen_val vnil)))
 
 pub measured_typed : (p : Ptr) (n : ℕ) → n < 2 ^ 64
-    → T (has_ty (ty_struct [] (tcons pointer_ty (tcons (ty_int w64) tnil))) (measured_val p n)) × WT (measured_val p n)
-measured_typed (block_ptr b o) n fits = (tt, ((tt, (tt, tt)), (record { fits = fits }, tt)))
-measured_typed null_ptr n fits = (tt, ((record { fits = lit< tt }, (tt, tt)), (record { fits = fits }, tt)))
+    → T (has_ty (ty_struct [] (tcons pointer_ty (tcons (ty_int w64) (tcons seen_ty tnil)))) (measured_val p n)) × WT (measured_val p n)
+measured_typed (block_ptr b o) n fits = (tt, ((tt, (tt, tt)), (record { fits = fits }, ((tt, tt), tt))))
+measured_typed null_ptr n fits = (tt, ((record { fits = lit< tt }, (tt, tt)), (record { fits = fits }, ((tt, tt), tt))))
 
 abbrev pub two_val : Ptr → Ptr → Val
 two_val p q = vstruct (vcons (pointer_val p) (vcons (pointer_val q) vnil))

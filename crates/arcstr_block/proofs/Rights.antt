@@ -2,6 +2,7 @@
 use Rattle.arcstr_block.proofs.Names.{◌≡◌, ℕ, Bool, true, [], ◌∷◌, refl, arith, false, List, sym, subst, inl, inr, ◌≢◌, ap, if◌then◌else◌, dite, ℕ_discrete}
 use Rattle.arcstr_block.proofs.Names.{Ura, Lft, Share, Fml, fsep, fex, flft, finv, fshr_bor, ftrue, fall, Counts, emp, all_i, upd, id⊢, all_e, ⊑_static}
 use Rattle.arcstr_block.proofs.Names.{ShrLaws, no_item, ‵, later, ◌$◌, ◌∵◌, !, qed, move, use1, use2, fsplit, fjoin, fjoin3, fpick, fpack, await, updating, now}
+use Rattle.arcstr_block.proofs.Names.{by}
 use Rattle.arcstr_block.proofs.Names.{done, keep, fsplit3, drop, rewrite, use3, Logic, bor_new, bor_fracture, lent_back, look_reply, FlagAndCount, looked_of}
 use Rattle.arcstr_block.proofs.Names.{HandleState, Free, Dropping, Owing, Gone, Step, Look, Book, reached, seat, seat_share, Ends, Id, parts, Inv, knows, free}
 use Rattle.arcstr_block.proofs.Names.{right_to, shown, free_shown, uncounted, counted, HasSeat, Right, dropping, owed, MaySee, IsFree, Looks, Finds, Gains}
@@ -268,24 +269,26 @@ module _ {M : Type 1} {𝓤 : Ura M} (𝓛 : Logic 𝓤) (P : Fml) (L b o : ℕ)
       subtracted last m u = dite (ℕ_discrete n one) (λ two. record { right = owed; said = ((λ _. refl), (λ ne. absurd (ne two))); turns = owes two }) (λ ne.
           let e = u ne in absurd cc)
 
-    -- ---- a load by the free handle h, of a clone or as a look
-    module _ (h : ℕ) where
+    -- ---- a load by the free handle h, of a clone or as a look, after the history `before`
+    module _ (h : ℕ) (before : List Step) where
       abbrev Bk : ℕ → Fml
       Bk = Book L t.name.history t.name.seats
 
       -- the history after the load found the word n
       abbrev pub entered : Bool → ℕ → Fml
       entered true n = newborn (IsMarked n)
-      entered false n = Ends L t.name.history t.name.seats (Look h) (look_reply (looked_of (word_of n)))
+      entered false n = Ends L t.name.history t.name.seats before (Look h) (look_reply (looked_of (word_of n)))
 
       pub enters : (clones : Bool) (q : Share) (n : ℕ)
-          → ⟦ Bk n ⟧ ∗ ⟦ seat_share t.name.seats h q Free ⟧ ⊢ upd 𝓤 (⟦ Bk n ⟧ ∗ ⟦ seat_share t.name.seats h q Free ⟧ ∗ ⟦ entered clones n ⟧)
-      enters true q n = finds 𝓛 L t.name.history t.name.seats h q n
-      enters false q n = book_look 𝓛 L t.name.history t.name.seats n h q
+          → ⟦ Bk n ⟧ ∗ ⟦ seat_share t.name.seats h q Free ⟧ ∗ ⟦ reached t.name.history before ⟧
+          ⊢ upd 𝓤 (⟦ Bk n ⟧ ∗ ⟦ seat_share t.name.seats h q Free ⟧ ∗ ⟦ entered clones n ⟧)
+      enters true q n = qed 𝓛 (‵ (Bk n) ∷ ‵ (seat_share t.name.seats h q Free) ∷ ‵ (reached t.name.history before) ∷ []) ∵
+          keep ! (0 ∷ 1 ∷ []) $ by ! (finds 𝓛 L t.name.history t.name.seats h q n)
+      enters false q n = book_look 𝓛 L t.name.history t.name.seats n h q before
 
       -- a right of the handle x.0, with the prefix x.1 of the history
       abbrev pub right_after : Bool → ℕ → Right → ℕ × List Step → Fml
-      right_after clones n k x = fsep (fact (LoadEnds clones L h n x.1)) (fsep (reached t.name.history x.1) (right_to P L b o t s x.0 k))
+      right_after clones n k x = fsep (fact (LoadEnds clones L h before n x.1)) (fsep (reached t.name.history x.1) (right_to P L b o t s x.0 k))
 
       abbrev pub AfterLoad : Bool → ℕ → Right → Fml
       AfterLoad clones n k = fex (ℕ × List Step) (right_after clones n k)
@@ -300,7 +303,7 @@ module _ {M : Type 1} {𝓤 : Ura M} (𝓛 : Logic 𝓤) (P : Fml) (L b o : ℕ)
         said = got.said;
         turns = qed 𝓛 (‵ (gained 𝓛 P L b o t g) ∷ ‵ (s (t.sharing ∷ [])) ∷ ‵ (entered true n) ∷ ‵ (reached t.name.history r) ∷ []) ∵ updating ! $
             use3 𝓛 (later (‵ (fex ℕ (λ j. right_to P L b o t s j got.right)))) got.turns $ await ! tt $ fpick ! (λ j. move ! (1 ∷ 0 ∷ []) $ fjoin ! $
-            no_item ! $ fpack ! (LoadEnds true L h n r) (λ _. ftrue) tt $ fjoin ! $ fpack ! (ℕ × List Step) (right_after true n got.right) (j, r) $ now ! $ done !);
+            no_item ! $ fpack ! (LoadEnds true L h before n r) (λ _. ftrue) tt $ fjoin ! $ fpack ! (ℕ × List Step) (right_after true n got.right) (j, r) $ now ! $ done !);
       }
       loaded false n r g m u = let got = looked n g m u in record {
         right = got.right;
@@ -308,6 +311,6 @@ module _ {M : Type 1} {𝓤 : Ura M} (𝓛 : Logic 𝓤) (P : Fml) (L b o : ℕ)
         turns = qed 𝓛 (‵ (gained 𝓛 P L b o t g) ∷ ‵ (s (t.sharing ∷ [])) ∷ ‵ (entered false n) ∷ ‵ (reached t.name.history r) ∷ []) ∵ updating ! $
             use2 𝓛 (later (‵ (right_to P L b o t s 0 got.right))) got.turns $ await ! tt $ move ! (1 ∷ []) $ fpick ! (λ r'. fsplit ! $ fpick ! (λ ends. drop ! $
             fjoin ! $
-            no_item ! $ fpack ! (LoadEnds false L h n r') (λ _. ftrue) (ends, marked_by_word L n r' h ends) $ fjoin ! $ fpack ! (ℕ × List Step) (right_after false n got.right) (0, r') $ now ! $
+            no_item ! $ fpack ! (LoadEnds false L h before n r') (λ _. ftrue) (ends.0, marked_by_word L n r' h ends.0, ends.1) $ fjoin ! $ fpack ! (ℕ × List Step) (right_after false n got.right) (0, r') $ now ! $
             keep ! (0 ∷ []) $ done !));
       }

@@ -5,6 +5,7 @@ use base.Fraction.{full_share}
 use base.Share.{three_quarters}
 use base.Growing.{Order, prefixes, latest, at_least}
 use base.Stored.{Gv}
+use mathlib.Core.List.{IsPrefix}
 use base.Fml.{GName, Share, Fml, ftrue, fsep, fex}
 use Rattle.atomic_table.specs.Seated.{seen as share_of_seat, roster}
 use Rattle.arcstr_count.specs.declared.steps.Step.{Step}
@@ -53,10 +54,10 @@ module _ (L : ℕ) (γ δ : GName) where
   abbrev pub Book : ℕ → Fml
   Book n = fex (List Step × List HandleState) (book n)
 
-  -- the history has reached one that ends in this step, and this reply is the core's answer to it
-  abbrev pub reached_ending : Step → Reply → List Step → Fml
-  reached_ending s reply r = fsep (fex (EndsIn L r s reply) (λ _. ftrue)) (reached γ r)
+  -- the history has reached one that begins with `before` and ends in this step, and this reply is the core's answer to it
+  abbrev pub reached_ending : List Step → Step → Reply → List Step → Fml
+  reached_ending before s reply r = fsep (fex (EndsIn L r s reply × IsPrefix before r) (λ _. ftrue)) (reached γ r)
 
-  -- some prefix that was reached ends in this step, with this reply
-  abbrev pub Ends : Step → Reply → Fml
-  Ends s reply = fex (List Step) (reached_ending s reply)
+  -- some prefix that was reached begins with `before` and ends in this step, with this reply
+  abbrev pub Ends : List Step → Step → Reply → Fml
+  Ends before s reply = fex (List Step) (reached_ending before s reply)

@@ -1,8 +1,8 @@
 -- What contracts see of a handle on a block, and what was seen of its block's history.
 use Rattle.std.specs.Prelude.{ℕ, IsTrue, List}
 use Rattle.arcstr_count.specs.declared.steps.Step.{Step}
-use Rattle.arcstr_count.specs.declared.steps.Step.TheVariants.{Look, Leak}
-use Rattle.arcstr_count.specs.declared.steps.Reply.TheVariants.{Count, Static, Marked}
+use Rattle.arcstr_count.specs.declared.steps.Step.TheVariants.{Look, Leak, Back}
+use Rattle.arcstr_count.specs.declared.steps.Reply.TheVariants.{Count, Static, Marked, Given}
 use Rattle.arcstr_count.specs.OneBlock.{IsOneBlock, EndsIn}
 use Rattle.arcstr_count.specs.Past.{marked_after}
 use Rattle.arcstr_block.specs.Book.{BlockName}
@@ -26,10 +26,13 @@ pub record Kept : Type 0 where
 abbrev pub kept_of : ℕ → Handle → List Step → Kept
 kept_of limit handle history = record { text = handle.text; block = handle.block; limit = limit; history = history }
 
--- what the last subtraction on a block leaves owed: the block, and the handle in it that was subtracted
+-- what the last subtraction on a block leaves owed: the block, the handle in it that was subtracted, the limit on its count,
+-- and the history that ends in the subtraction
 pub record Debt : Type 0 where
   pub block : BlockName
   pub seat : ℕ
+  pub limit : ℕ
+  pub history : List Step
 
 -- the history ends in a look of handle h, to which the core answers this number of handles
 abbrev pub SawCount : ℕ → List Step → ℕ → ℕ → Type 0
@@ -42,6 +45,10 @@ SawMark limit history h = EndsIn limit history (Look h) Static
 -- the history ends in a mark by handle h
 abbrev pub SawLeak : ℕ → List Step → ℕ → Type 0
 SawLeak limit history h = EndsIn limit history (Leak h) Marked
+
+-- the history ends when handle h frees the block
+abbrev pub SawBack : ℕ → List Step → ℕ → Type 0
+SawBack limit history h = EndsIn limit history (Back h) Given
 
 -- the history has one block, number 0, which is marked after it
 pub record IsMarkedIn (limit : ℕ) (history : List Step) : Type 0 where

@@ -1,5 +1,6 @@
 -- What the steps of a handle say: of another pointer to its block, and of how the handle ended.
 use Rattle.std.specs.Prelude.{◌≡◌, ℕ, Bool, true, false, List}
+use mathlib.Core.List.{IsPrefix}
 use Rattle.arcstr_count.specs.declared.steps.Step.{Step}
 use Rattle.arcstr_count.specs.declared.steps.Step.TheVariants.{Look, Begin, Sub, Leak}
 use Rattle.arcstr_count.specs.declared.steps.Reply.{Reply}
@@ -12,11 +13,12 @@ use Rattle.arcstr_block.specs.declared.pointer.Pointer.{Pointer}
 use Rattle.arcstr_block.specs.declared.owed.Down.{Down}
 use Rattle.arcstr_block.specs.declared.owed.Down.TheVariants.{Ended, Left, Owes}
 
--- the history ends in a look of handle h that found the count word, and has marked its block if the count word is marked; the load of a clone,
--- which gives birth to a handle, says nothing
-abbrev pub LoadEnds : Bool → ℕ → ℕ → ℕ → List Step → Type 0
-LoadEnds true limit h word history = Unit {0}
-LoadEnds false limit h word history = EndsIn limit history (Look h) (look_reply (looked_of (word_of word))) × (IsMarked word → IsMarkedIn limit history)
+-- the history begins with `before`, ends in a look of handle h that found the count word, and has marked its block if the count word is marked;
+-- the load of a clone, which gives birth to a handle, says nothing
+abbrev pub LoadEnds : Bool → ℕ → ℕ → List Step → ℕ → List Step → Type 0
+LoadEnds true limit h before word history = Unit {0}
+LoadEnds false limit h before word history =
+    EndsIn limit history (Look h) (look_reply (looked_of (word_of word))) × (IsMarked word → IsMarkedIn limit history) × IsPrefix before history
 
 module _ {A : Type 0} where
   -- the two have one allocator, one content, one limit and one history
@@ -35,21 +37,23 @@ module _ {A : Type 0} where
   abbrev pub SawStep : Pointer A → Pointer A → Step → Reply → Type 0
   SawStep p q s reply = EndsIn p.limit q.history s reply
 
-  -- a load of p that found the count word, of a clone or as a look
-  abbrev pub LoadedAs : Bool → Pointer A → ℕ → Pointer A → Type 0
-  LoadedAs clones p word q = LoadEnds clones p.limit p.seat word q.history
+  -- a load of p that found the count word, of a clone or as a look, after the history `before`
+  abbrev pub LoadedAs : Bool → Pointer A → List Step → ℕ → Pointer A → Type 0
+  LoadedAs clones p before word q = LoadEnds clones p.limit p.seat before word q.history
 
-  -- the mark by p, which marks the block
-  abbrev pub LeakedAs : Pointer A → Pointer A → Type 0
-  LeakedAs p q = SawStep p q (Leak p.seat) Marked × IsMarkedIn q.limit q.history
+  -- the mark by p, which marks the block, after the history `before`
+  abbrev pub LeakedAs : Pointer A → List Step → Pointer A → Type 0
+  LeakedAs p before q = SawStep p q (Leak p.seat) Marked × IsMarkedIn q.limit q.history × IsPrefix before q.history
 
-  -- the look of p's drop
-  abbrev pub BegunAs : Pointer A → ℕ → Pointer A → Type 0
-  BegunAs p word q = (q.seat ≡ p.seat) × (IsMarked word → SawStep p q (Begin p.seat) EndedReply) × (IsUnmarked word → SawStep p q (Begin p.seat) LookedReply)
+  -- the look of p's drop, after the history `before`
+  abbrev pub BegunAs : Pointer A → List Step → ℕ → Pointer A → Type 0
+  BegunAs p before word q = (q.seat ≡ p.seat) × (IsMarked word → SawStep p q (Begin p.seat) EndedReply)
+      × (IsUnmarked word → SawStep p q (Begin p.seat) LookedReply) × IsPrefix before q.history
 
-  -- the subtraction of p's drop
+  -- the subtraction of p's drop, after what p has seen
   abbrev pub SubtractedAs : Pointer A → ℕ → Pointer A → Type 0
-  SubtractedAs p word q = (q.seat ≡ p.seat) × (IsLast word → SawStep p q (Sub p.seat) OwesReply) × ((¬ IsLast word) → SawStep p q (Sub p.seat) LeftReply)
+  SubtractedAs p word q = (q.seat ≡ p.seat) × (IsLast word → SawStep p q (Sub p.seat) OwesReply)
+      × ((¬ IsLast word) → SawStep p q (Sub p.seat) LeftReply) × IsPrefix p.history q.history
 
 -- the history ends in the look of the drop of handle h, or in its subtraction, and the core's answer has the same name
 abbrev pub EndsAs : {A : Type 0} → ℕ → List Step → ℕ → Down A → Type 0
@@ -57,8 +61,9 @@ EndsAs limit history h Ended = EndsIn limit history (Begin h) EndedReply
 EndsAs limit history h Left = EndsIn limit history (Sub h) LeftReply
 EndsAs limit history h (Owes debt) = EndsIn limit history (Sub h) OwesReply
 
--- if something is owed, it is the block of this handle, with the handle's seat
-abbrev pub OwesAs : {A : Type 0} → Handle → Down A → Type 0
-OwesAs handle Ended = Unit {0}
-OwesAs handle Left = Unit {0}
-OwesAs handle (Owes debt) = (debt.block ≡ handle.block) × (debt.seat ≡ handle.seat)
+-- if something is owed, it is the block of this handle, with the handle's seat and limit, after this history
+abbrev pub OwesAs : {A : Type 0} → Handle → List Step → Down A → Type 0
+OwesAs handle history Ended = Unit {0}
+OwesAs handle history Left = Unit {0}
+OwesAs handle history (Owes debt) =
+    (debt.block ≡ handle.block) × (debt.seat ≡ handle.seat) × (debt.limit ≡ handle.limit) × (debt.history ≡ history)

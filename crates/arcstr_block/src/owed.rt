@@ -1,11 +1,13 @@
 //! What remains after the end of a handle.
 ghost use Rattle.std.specs.Prelude.{◌≡◌, length};
+ghost use mathlib.Core.List.{IsPrefix};
 ghost use Rattle.arcstr_block.specs.Rights.{owed};
-ghost use Rattle.arcstr_block.specs.Handle.{Debt};
+ghost use Rattle.arcstr_block.specs.Handle.{Debt, SawBack};
 ghost use Rattle.arcstr_block.specs.Memory.{word_offset};
 
 use crate::block::size_of_block;
 use crate::pointer::Pointer;
+use crate::seen::Seen;
 use std::alloc::Allocator;
 use std::marker::Model;
 
@@ -54,7 +56,7 @@ pub struct Owed<A: Allocator> {
 impl<A: Allocator> Model for Owed<A> {
     ghost Value = { Debt };
 
-    ghost view = { λ o. record { block = o.pointer.block; seat = o.pointer.seat } };
+    ghost view = { λ o. record { block = o.pointer.block; seat = o.pointer.seat; limit = o.pointer.limit; history = o.pointer.history } };
 }
 
 impl<A: Allocator> Owed<A> {
@@ -70,13 +72,33 @@ impl<A: Allocator> Owed<A> {
     /// }
     /// ```
     pub fn give_back(self) {
+        self.free();
+    }
+
+    /// Frees the block as `give_back` does, and returns its history, which ends in `Back`.
+    ///
+    /// ```
+    /// let text = Shared::<5, _>::from_text(rt.alloc(), "aé")?;
+    /// match text.down().0 {
+    ///     Down::Owes(owed) => drop(owed.free()),
+    ///     Down::Left | Down::Ended => return Err(Fail::from("another handle is left")),
+    /// }
+    /// ```
+    pub fn free(self) -> Seen
+        // Promise: The history of the block says that this handle freed it.
+        ensures step { SawBack self.limit result.history self.seat }
+        // Promise: It begins with the history of the drop that owed the block.
+        ensures after { IsPrefix self.history result.history }
+        ensures block { result.block ≡ self.block }
+    {
         let Owed {
             pointer,
             offset,
             alloc,
         } = self;
-        let (block, len) = pointer.back(offset);
+        let (block, len, seen) = pointer.back(offset);
         block.give_back(&alloc, size_of_block(len));
+        seen
     }
 }
 

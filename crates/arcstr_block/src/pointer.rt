@@ -5,6 +5,7 @@
 //! (`proofs/pointer/Pointer/NAME/Proof.antt`) moves them, so a body shows only the machine's step. Each step gets the word
 //! offset, `offset`: how many bytes past the address the count word lies. `make` begins the history with `Make`, and `back`
 //! ends it with `Back`; `IntoRaw` and `FromRaw` never occur in it.
+ghost use mathlib.Core.List.{IsPrefix};
 ghost use Rattle.std.specs.Prelude.{◌≡◌, ℕ, Bool, List, length, IsUtf8};
 ghost use Rattle.std.specs.Coded.{coded_list};
 ghost use Rattle.arcstr_count.specs.declared.steps.Step.{Step};
@@ -13,6 +14,7 @@ ghost use Rattle.arcstr_count.specs.Word.{bits_of, fresh_word};
 ghost use Rattle.arcstr_block.specs.Word.{IsLimit, IsCountWord, IsClone};
 ghost use Rattle.arcstr_block.specs.Rights.{Right, right_code, nothing, counted, fixed, dropping, owed};
 ghost use Rattle.arcstr_block.specs.Rights.{IsFree, MaySee, IsIdle, Loads, Gains, Begins, Leaves};
+ghost use Rattle.arcstr_block.specs.Handle.{SawBack};
 ghost use Rattle.arcstr_block.specs.Memory.{Fits, word_offset};
 ghost use Rattle.arcstr_block.specs.Book.{BlockName, name_code};
 ghost use Rattle.arcstr_block.specs.Ledger.{pointer_owns, pointer_shares};
@@ -87,13 +89,15 @@ impl<A: Allocator> Pointer<A> {
     }
 
     /// Loads the count word, for a clone or for a look. A clone that finds the block marked succeeds.
-    pub(crate) fn load(&self, offset: usize) -> (u64, Pointer<A>)
+    /// What a look has seen begins with `before`.
+    pub(crate) fn load(&self, offset: usize, before: &Seen) -> (u64, Pointer<A>)
         ghost clones: { Bool }
         requires right { IsFree self.now.right }
         requires offset { offset ≡ word_offset (length self.now.text) }
+        requires before { before.now.block ≡ self.now.block }
         ensures word { IsCountWord self.now.limit result.0 }
         ensures right { Loads clones result.0 result.1.right }
-        ensures history { LoadedAs clones self.now result.0 result.1 }
+        ensures history { LoadedAs clones self.now before.now.history result.0 result.1 }
         ensures same { IsSameBlock result.1 self.now }
     {
         let at = self.at;
@@ -133,12 +137,13 @@ impl<A: Allocator> Pointer<A> {
         )
     }
 
-    /// One fetch-or, which sets the static flag.
-    pub(crate) fn leak(&self, offset: usize) -> Pointer<A>
+    /// One fetch-or, which sets the static flag. What it has seen begins with `before`.
+    pub(crate) fn leak(&self, offset: usize, before: &Seen) -> Pointer<A>
         requires right { IsFree self.now.right }
         requires offset { offset ≡ word_offset (length self.now.text) }
+        requires before { before.now.block ≡ self.now.block }
         ensures right { result.right ≡ fixed }
-        ensures history { LeakedAs self.now result }
+        ensures history { LeakedAs self.now before.now.history result }
         ensures same { IsSameBlock result self.now }
     {
         let at = self.at;
@@ -152,12 +157,13 @@ impl<A: Allocator> Pointer<A> {
         }
     }
 
-    /// The look of a drop: one load.
-    pub(crate) fn begin(self, offset: usize) -> (u64, Pointer<A>)
+    /// The look of a drop: one load. What it has seen begins with `before`.
+    pub(crate) fn begin(self, offset: usize, before: &Seen) -> (u64, Pointer<A>)
         requires right { IsFree self.right }
         requires offset { offset ≡ word_offset (length self.text) }
+        requires before { before.now.block ≡ self.block }
         ensures right { Begins result.0 result.1.right }
-        ensures history { BegunAs self result.0 result.1 }
+        ensures history { BegunAs self before.now.history result.0 result.1 }
         ensures same { IsSameBlock result.1 self }
     {
         let Pointer { at, marker } = self;
@@ -198,14 +204,17 @@ impl<A: Allocator> Pointer<A> {
         }
     }
 
-    /// The block and the length of its text, for whoever subtracted last and frees the block.
-    pub(crate) fn back(self, offset: usize) -> (Sole<A>, usize)
+    /// The block, the length of its text and the history of the block, which ends here, for whoever subtracted last and frees it.
+    pub(crate) fn back(self, offset: usize) -> (Sole<A>, usize, Seen)
         requires right { self.right ≡ owed }
         requires offset { offset ≡ word_offset (length self.text) }
         ensures home { result.0.home ≡ self.home }
         ensures text { result.0.text ≡ self.text }
         ensures length { result.1 ≡ length self.text }
         ensures fits { Fits result.1 }
+        ensures history { SawBack self.limit result.2.history self.seat }
+        ensures after { IsPrefix self.history result.2.history }
+        ensures block { result.2.block ≡ self.block }
     {
         let Pointer { at, marker } = self;
         let len = unsafe {
@@ -213,7 +222,10 @@ impl<A: Allocator> Pointer<A> {
             (*tail).length
         };
         let at = at.cast_mut();
-        (Sole { at, marker }, len)
+        let seen = Seen {
+            marker: PhantomData,
+        };
+        (Sole { at, marker }, len, seen)
     }
 
     /// What the pointer has seen of the block's history.

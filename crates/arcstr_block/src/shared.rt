@@ -1,10 +1,11 @@
 //! One handle on a block. No call here allocates, and only `up` may wait.
-ghost use Rattle.std.specs.Prelude.{◌≡◌, ℕ, length, IsUtf8, ◌<◌, ◌≤◌, ◌+◌, MatchOption, IfOk, IfErr, IfSome};
+ghost use Rattle.std.specs.Prelude.{◌≡◌, ℕ, length, IsUtf8, ◌<◌, ◌≤◌, ◌+◌, MatchOption, IfOk, IfErr, IfSome, IsNone, IsSome};
+ghost use mathlib.Core.List.{IsPrefix};
 ghost use Rattle.arcstr_count.specs.Word.{bits_of, fresh_word};
 ghost use Rattle.arcstr_block.specs.Memory.{Fits};
 ghost use Rattle.arcstr_block.specs.Word.{IsLimit, IsUnmarked, IsCountWord, IsOtherWord};
 ghost use Rattle.arcstr_block.specs.Rights.{IsFree, is_free_once};
-ghost use Rattle.arcstr_block.specs.Handle.{Handle, SawCount, SawMark, SawLeak, kept_of};
+ghost use Rattle.arcstr_block.specs.Handle.{Handle, SawCount, SawMark, SawLeak, IsMarkedIn, kept_of};
 ghost use Rattle.arcstr_block.specs.Steps.{handle_of};
 
 use crate::block::{Sole, offset_of_word};
@@ -120,7 +121,30 @@ impl<const LIMIT: u64, A: Allocator + Copy> Shared<LIMIT, A> {
         ensures seen { MatchOption result.0 (SawMark LIMIT result.1.history self.now.seat) (λ count. SawCount LIMIT result.1.history self.now.seat count) }
         ensures block { result.1.block ≡ self.now.block }
     {
-        let (found, gained) = self.handle.pointer.load(offset_of_word(self.handle.len));
+        self.look_after(&self.handle.pointer.seen())
+    }
+
+    /// As `look`, after what the caller has seen of the block: the history seen begins with it, so two looks of one thread are in order.
+    ///
+    /// ```
+    /// let text = Shared::<5, _>::from_text(rt.alloc(), "aé")?;
+    /// let (_, seen) = text.look();
+    /// assert_eq!(rt; text.look_after(&seen).0, Some(1));
+    /// ```
+    pub fn look_after(&self, before: &Seen) -> (Option<u64>, Seen)
+        requires before { before.now.block ≡ self.now.block }
+        ensures count { IfSome result.0 (λ count. (0 < count) × (count ≤ LIMIT + 1)) }
+        ensures seen { MatchOption result.0 (SawMark LIMIT result.1.history self.now.seat) (λ count. SawCount LIMIT result.1.history self.now.seat count) }
+        ensures block { result.1.block ≡ self.now.block }
+        // Promise: The history seen begins with what the caller had seen.
+        ensures after { IsPrefix before.now.history result.1.history }
+        // Promise: A block that was marked before stays marked.
+        ensures marked { IsMarkedIn LIMIT before.now.history → IsNone result.0 }
+    {
+        let (found, gained) = self
+            .handle
+            .pointer
+            .load(offset_of_word(self.handle.len), before);
         let seen = gained.seen();
         gained.forget();
         (looked(found), seen)
@@ -140,7 +164,30 @@ impl<const LIMIT: u64, A: Allocator + Copy> Shared<LIMIT, A> {
         ensures seen { MatchOption result.0 ((n : ℕ) × SawCount LIMIT result.1.history self.now.seat n) (λ _. SawMark LIMIT result.1.history self.now.seat) }
         ensures block { result.1.block ≡ self.now.block }
     {
-        let (found, gained) = self.handle.pointer.load(offset_of_word(self.handle.len));
+        self.fixed_after(&self.handle.pointer.seen())
+    }
+
+    /// As `fixed`, after what the caller has seen of the block: the history seen begins with it.
+    ///
+    /// ```
+    /// let text = Shared::<5, _>::from_text(rt.alloc(), "aé")?;
+    /// let seen = text.mark().seen();
+    /// assert!(rt; text.fixed_after(&seen).0.is_some());
+    /// ```
+    pub fn fixed_after(&self, before: &Seen) -> (Option<Fixed<A>>, Seen)
+        requires before { before.now.block ≡ self.now.block }
+        ensures kept { IfSome result.0 (λ fixed. fixed ≡ kept_of LIMIT self.now result.1.history) }
+        ensures seen { MatchOption result.0 ((n : ℕ) × SawCount LIMIT result.1.history self.now.seat n) (λ _. SawMark LIMIT result.1.history self.now.seat) }
+        ensures block { result.1.block ≡ self.now.block }
+        // Promise: The history seen begins with what the caller had seen.
+        ensures after { IsPrefix before.now.history result.1.history }
+        // Promise: A block that was marked before stays marked.
+        ensures marked { IsMarkedIn LIMIT before.now.history → IsSome result.0 }
+    {
+        let (found, gained) = self
+            .handle
+            .pointer
+            .load(offset_of_word(self.handle.len), before);
         let seen = gained.seen();
         match looked(found) {
             None => {
@@ -172,8 +219,28 @@ impl<const LIMIT: u64, A: Allocator + Copy> Shared<LIMIT, A> {
         // Promise: The mark is a step of the history seen.
         ensures step { SawLeak LIMIT result.history self.now.seat }
     {
+        self.mark_after(&self.handle.pointer.seen())
+    }
+
+    /// As `mark`, after what the caller has seen of the block: the history seen begins with it.
+    ///
+    /// ```
+    /// let text = Shared::<5, _>::from_text(rt.alloc(), "aé")?;
+    /// let (_, seen) = text.look();
+    /// assert_eq!(rt; text.mark_after(&seen).as_str(), "aé");
+    /// ```
+    pub fn mark_after(&self, before: &Seen) -> Fixed<A>
+        requires before { before.now.block ≡ self.now.block }
+        ensures kept { result ≡ kept_of LIMIT self.now result.history }
+        ensures step { SawLeak LIMIT result.history self.now.seat }
+        // Promise: The history seen begins with what the caller had seen.
+        ensures after { IsPrefix before.now.history result.history }
+    {
         Fixed {
-            pointer: self.handle.pointer.leak(offset_of_word(self.handle.len)),
+            pointer: self
+                .handle
+                .pointer
+                .leak(offset_of_word(self.handle.len), before),
             len: self.handle.len,
             alloc: self.handle.alloc,
         }
@@ -300,8 +367,30 @@ impl<const LIMIT: u64, A: Allocator + Copy> Shared<LIMIT, A> {
     pub fn down(self) -> (Down<A>, Seen)
         // Promise: The drop ends as the history seen says. Exactly the last handle owes the block.
         ensures seen { EndsAs LIMIT result.1.history self.seat result.0 }
-        ensures owes { OwesAs self result.0 }
+        ensures owes { OwesAs self result.1.history result.0 }
         ensures block { result.1.block ≡ self.block }
+    {
+        let before = self.handle.pointer.seen();
+        self.down_after(&before)
+    }
+
+    /// As `down`, after what the caller has seen of the block: the history seen begins with it.
+    ///
+    /// ```
+    /// let text = Shared::<5, _>::from_text(rt.alloc(), "aé")?;
+    /// let (_, seen) = text.look();
+    /// match text.down_after(&seen).0 {
+    ///     Down::Owes(owed) => owed.give_back(),
+    ///     Down::Left | Down::Ended => return Err(Fail::from("another handle is left")),
+    /// }
+    /// ```
+    pub fn down_after(self, before: &Seen) -> (Down<A>, Seen)
+        requires before { before.now.block ≡ self.block }
+        ensures seen { EndsAs LIMIT result.1.history self.seat result.0 }
+        ensures owes { OwesAs self result.1.history result.0 }
+        ensures block { result.1.block ≡ self.block }
+        // Promise: The history seen begins with what the caller had seen.
+        ensures after { IsPrefix before.now.history result.1.history }
     {
         let Shared { handle } = self;
         let Counted {
@@ -310,7 +399,7 @@ impl<const LIMIT: u64, A: Allocator + Copy> Shared<LIMIT, A> {
             alloc,
         } = handle;
         let offset = offset_of_word(len);
-        let (found, pointer) = pointer.begin(offset);
+        let (found, pointer) = pointer.begin(offset, before);
         if is_marked(found) {
             let seen = pointer.seen();
             pointer.forget();
@@ -341,7 +430,7 @@ impl<const LIMIT: u64, A: Allocator + Copy> Counted<LIMIT, A> {
         ensures word { IfErr result (IsCountWord LIMIT) }
     {
         let len = self.len;
-        let (found, gained) = self.pointer.load(offset_of_word(len));
+        let (found, gained) = self.pointer.load(offset_of_word(len), &self.pointer.seen());
         if is_marked(found) {
             Ok(self.with_pointer(gained, len))
         } else {

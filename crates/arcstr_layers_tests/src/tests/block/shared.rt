@@ -101,6 +101,17 @@ fn all_memory_is_given_back(rt: HostRuntime) {
 }
 
 #[test]
+fn what_is_owed_is_freed_with_its_history(rt: HostRuntime) {
+    let heap = LocalHeap::new(rt.alloc(), 4096).expect(&rt, "refused");
+    let text = Shared::<5, _>::from_text(&heap, "aé").expect(&rt, "refused");
+    match text.down().0 {
+        Down::Owes(owed) => drop(owed.free()),
+        Down::Left | Down::Ended => {}
+    }
+    check_eq!(rt; heap.used(), 0);
+}
+
+#[test]
 fn a_limit_marks_the_block(rt: HostRuntime) {
     let heap = LocalHeap::new(rt.alloc(), 4096).expect(&rt, "refused");
     check_eq!(rt; used_after::<1, _>(&rt, &heap, false).expect(&rt, "refused") > 0, true);

@@ -1,19 +1,22 @@
--- `back` takes the whole block with its length, and ends the history of the block.
+-- `back` takes the whole block with its length, and returns the history of the block, which it ends.
 use Rattle.arcstr_block.proofs.Names.{◌≡◌, ℕ, ◌^◌, [], ◌∷◌, refl, arith, List, sym, ap, length, ◌+◌, ◌<◌, ◌++◌, w64, inst_fn, dcons, dnil, a_type, Val, vint}
 use Rattle.arcstr_block.proofs.Names.{vptr, vstruct, of_list, Fml, fsep, ftrue, feq, full_share, emp, via, SProp, fact, fact_i, tables, usize, no, yes, part_at}
 use Rattle.arcstr_block.proofs.Names.{param, bounded, uint_vals, uint_Tells, RattleType, Valss, owns, block_of, Ptr, block_ptr, ptr_val, InBlock, count_of}
 use Rattle.arcstr_block.proofs.Names.{at_block, types_at, plain, nothing, heard, alive, Stays, stay_dropped, walk_of, Goes-dropped, alloc_all, pass_all}
 use Rattle.arcstr_block.proofs.Names.{free_all, look_at, get, get_in, sets, env, through, sets_last, is, ‵, ◌⊛◌, later, ◌$◌, ◌∵◌, !, qed, move, use0, use1}
-use Rattle.arcstr_block.proofs.Names.{use2, split, split3, join, fsplit, fjoin, fjoin3, fpick, fpack, await, raw, by, keep, fsplit3, drop, rewrite, feq_i}
+use Rattle.arcstr_block.proofs.Names.{split, split3, join, fsplit, fjoin, fpick, fpack, await, raw, by, keep, fsplit3, drop, rewrite, feq_i}
 use Rattle.arcstr_block.proofs.Names.{flt_i, at_ret, basic, sub, whole, agg, look_in, stop, fld, of_opd, no_more, and_then, first, blocks, exec, returns, enter}
 use Rattle.arcstr_block.proofs.Names.{load, bin, tail, word_out, word_in, word, leaves, proved, Gone, Given, Back, Book, seat, Ends, held_with, block_owns}
 use Rattle.arcstr_block.proofs.Names.{block_shares, Fits, word_offset, length_lies, Right, owed}
 use Rattle.arcstr_block.proofs.Book.{book_back}
-use Rattle.arcstr_block.proofs.Pointers.{pointer_val, typed, measured_val, measured_typed, Words, told, made}
+use Rattle.arcstr_block.proofs.Names.{BlockName, IsPrefix, reached, Token, token_made, unit, use3}
+use Rattle.arcstr_block.specs.Handle.{SawBack}
+use Rattle.arcstr_block.proofs.Pointers.{pointer_val, typed, seen_val, measured_val, measured_typed, Words, told, made}
 use Rattle.arcstr_block.specs.contracts.pointer.Pointer.back.{ended, clauses}
 use Rattle.arcstr_block.specs.contracts.pointer.Pointer.back.Key.{name as #self}
 use Rattle.arcstr_block.proofs.pointer.Pointer.back.Statement.{statement}
 use Rattle.arcstr_block.specs.contracts.block.Sole as S
+use Rattle.arcstr_block.specs.contracts.seen.Seen as Seen
 use Rattle.arcstr_block.specs.contracts.pointer.Pointer as C
 use Rattle.arcstr_block.proofs.pointer.Pointer.back.Code as code
 
@@ -23,6 +26,7 @@ back_spec 𝓤 𝓛 𝓜 𝓡 wired Y K g d dd met md =
     let inst = bounded (a_type ∷ []) (Y, tt) (dcons d (dcons dd dnil)) in let fn = inst_fn inst code.function in
     let closed = code.unfolded 𝓤 H 𝓜 𝓡 wired (Y, tt) d dd in
     let Row : RattleType = C.the_row B g in let Alone : RattleType = S.the_row B g in let self = plain (λ _. Row) in
+    let D' : RattleType = Token unit in let H' : RattleType = Seen.the_row in
     let number = plain (λ _. usize) in
     let hs : Stays En.signature.params En.kept = (stay_dropped self no, (stay_dropped number yes, tt)) in
     proved 𝓛 En hs c 𝓜 𝓡 (Goes-dropped 𝓛 1 self no (λ κs x f. refl), (Goes-dropped 𝓛 1 number yes (λ κs x f. refl), tt)) (#self inst) fn closed
@@ -38,17 +42,18 @@ back_spec 𝓤 𝓛 𝓜 𝓡 wired Y K g d dd met md =
     keep ! (2 ∷ 3 ∷ 0 ∷ []) $ heard ! (h.right ≡ owed) (λ mine. heard ! (offset ≡ word_offset n) (λ placed.
     let there : offset + o ≡ u = omega (arith, placed) in split ! $ move ! (1 ∷ []) $ fsplit ! $ fsplit ! $ keep ! (1 ∷ 3 ∷ []) $ fsplit ! $ fpick ! (λ inb.
     drop ! $ let at : p ≡ block_ptr b o = at_block p inb.0 in
-    let small : n < 2 ^ 64 = (let x = inb.1.0 in omega arith) in fpick ! (λ t. fsplit ! $ drop ! $
+    let small : n < 2 ^ 64 = (let x = inb.1.0 in omega arith) in fpick ! (λ t. fsplit ! $ fsplit ! $ fpick ! (λ named. drop ! $ move ! (1 ∷ []) $
     rewrite ! 0 (λ (k : Right). ‵ (held_with P lim b (u + 0) t s h.seat k)) mine refl $ fsplit ! $ drop ! $ fsplit3 ! $ fsplit ! $
     enter ! 𝓣.C 𝓣.Λ fn (pointer_val p ∷ vint w64 offset ∷ []) Post $
     alloc_all ! (λ l. pass_all ! refl (typed p, ((tt, record { fits = fits_offset }), tt)) $ let Ev = env fn.locals l in
-    -- [the word; the book; what the block owns; the seat; the tokens]
-    move ! (1 ∷ 3 ∷ []) $ use2 𝓛 (later (‵ (Book lim t.name.history t.name.seats 0) ⊛ ‵ (seat t.name.seats h.seat Gone) ⊛
-    ‵ (Ends lim t.name.history t.name.seats (Back h.seat) Given))) (via 𝓤 _
-    (book_back 𝓛 lim t.name.history t.name.seats 0 h.seat) (basic 𝓛 _)) $ await ! tt $ split3 ! $ drop ! $ drop ! $ drop ! $
-    -- [the word; what the block owns; the tokens]
-    move ! (1 ∷ []) $ fsplit ! $ rewrite ! 0 (λ (r : Ptr). ‵ (length_lies r n)) at refl $ use1 𝓛 (‵ (word b (u + 8) n)) (word_out 𝓛 b (u + 8) n) $
-    -- [the length; the bytes and the rim; the word; the tokens]
+    -- [the word; the book; what the block owns; the seat; the history before; the tokens]
+    move ! (1 ∷ 3 ∷ 4 ∷ []) $ use3 𝓛 (later (‵ (Book lim t.name.history t.name.seats 0) ⊛ ‵ (seat t.name.seats h.seat Gone) ⊛
+    ‵ (Ends lim t.name.history t.name.seats h.history (Back h.seat) Given))) (via 𝓤 _
+    (book_back 𝓛 lim t.name.history t.name.seats 0 h.seat h.history) (basic 𝓛 _)) $ await ! tt $ split3 ! $ drop ! $ drop ! $
+    fpick ! (λ r'. fsplit ! $ fpick ! (λ ends. drop ! $ rewrite ! 0 (λ (block : BlockName). ‵ (reached block.history r')) named refl $
+    -- [the history; the word; what the block owns; the tokens]
+    move ! (2 ∷ 1 ∷ []) $ fsplit ! $ rewrite ! 0 (λ (r : Ptr). ‵ (length_lies r n)) at refl $ use1 𝓛 (‵ (word b (u + 8) n)) (word_out 𝓛 b (u + 8) n) $
+    -- [the length; the bytes and the rim; the word; the history; the tokens]
     sets ! (is ! (of_opd ! (get_in ! (fld ! refl (stop !)) (sub ! 0 refl (whole !)))) (ap ptr_val at)) refl (tt, tt) $
     sets ! (of_opd ! (get_in ! (fld ! refl (stop !)) (sub ! 1 refl (whole !)))) refl (tt, tt) $
     first ! $ blocks ! $ sets ! (is ! (bin ! (get ! refl) (get ! refl) tt) (ap (vptr b) there)) refl (tt, tt) $
@@ -56,19 +61,26 @@ back_spec 𝓤 𝓛 𝓜 𝓡 wired Y K g d dd met md =
     sets_last ! (of_opd ! (load ! (through ! refl (fld ! refl (stop !))) (look_in ! 0 (whole !)))) refl (tt, record { fits = small }) $
     exec ! 𝓣.C 𝓣.Λ Ev (tail (tail (tail fn.body))) (at_ret Ev Post) $ sets ! (of_opd ! (get ! refl)) refl (tt, record { fits = small }) $
     sets ! (of_opd ! (get ! refl)) refl (tt, tt) $
+    sets ! (agg ! (no_more !)) refl (tt, tt) $ sets ! (agg ! (and_then ! (get ! refl) (no_more !))) refl (tt, (tt, tt)) $
     sets ! (is ! (agg ! (and_then ! (get ! refl) (and_then ! (get ! refl) (no_more !)))) (ap pointer_val (sym at))) refl (typed p) $
-    sets ! (agg ! (and_then ! (get ! refl) (and_then ! (get ! refl) (no_more !)))) refl (measured_typed p n small) $
+    sets ! (agg ! (and_then ! (get ! refl) (and_then ! (get ! refl) (and_then ! (get ! refl) (no_more !))))) refl (measured_typed p n small) $
     use1 𝓛 (‵ (part_at usize full_share n b (u + 8))) (word_in 𝓛 b (u + 8) n) $ rewrite ! 0 (λ (r : Ptr). ‵ (length_lies r n)) (sym at) refl $ fjoin ! $
     move ! (1 ∷ 0 ∷ []) $ fjoin ! $
     nothing ! $ fpack ! (InBlock p × Fits n) (λ _. ftrue) (inb.0, inb.1.0) $ fjoin ! $
     use0 𝓛 (‵ ((Words B g).own_val (p, (tt, tt)) (pointer_val p ∷ []))) (made B g 𝓛 p) $ fjoin ! $
-    -- [the block; the tokens]
-    nothing ! $ flt_i ! n (2 ^ 64) small $ feq_i ! (List Val) (vint w64 n ∷ []) (vint w64 n ∷ []) refl $ fjoin ! $ move ! (2 ∷ 0 ∷ 1 ∷ []) $ fjoin3 ! $
+    -- [the block; the history; the tokens]
+    move ! (1 ∷ []) $ use0 𝓛 (‵ (D'.own_val (record {}, tt) (seen_val ∷ []))) (token_made unit 𝓛) $ fjoin ! $
+    nothing ! $ move ! (1 ∷ 0 ∷ []) $ fjoin ! $
+    flt_i ! n (2 ^ 64) small $ feq_i ! (List Val) (vint w64 n ∷ []) (vint w64 n ∷ []) refl $ fjoin ! $ fjoin ! $ move ! (1 ∷ 0 ∷ []) $ fjoin ! $
     let v : Alone.Denot = record { at = p; marker = record {}; home = h.home; word = 0; text = xs } in
+    let s' : H'.Denot = record { marker = record {}; block = h.block; history = r' } in
     let r : Val = measured_val p n in feq_i ! (List Val) (r ∷ []) (r ∷ []) refl $ fjoin ! $
-    fpack ! (Valss (Alone ∷ usize ∷ [])) (λ uss. fsep (feq (List Val) (r ∷ []) (vstruct (of_list (uss.0 ++ (uss.1.0 ++ []))) ∷ [])) (owns (Alone ∷ usize ∷ [])
-    (v, (n, tt)) uss)) (pointer_val p ∷ [], (vint w64 n ∷ [], tt)) $
-    use0 𝓛 (raw (fact 𝓤 (Fits n))) (fact_i 𝓤 (Fits n) (emp 𝓤) inb.1.0) $ use0 𝓛 (raw (fact 𝓤 (n ≡ n))) (fact_i 𝓤 (n ≡ n) (emp 𝓤) refl) $ join ! $
+    fpack ! (Valss (Alone ∷ usize ∷ H' ∷ [])) (λ uss. fsep (feq (List Val) (r ∷ []) (vstruct (of_list (uss.0 ++ (uss.1.0 ++ (uss.1.1.0 ++ [])))) ∷ []))
+    (owns (Alone ∷ usize ∷ H' ∷ []) (v, (n, (s', tt))) uss)) (pointer_val p ∷ [], (vint w64 n ∷ [], (seen_val ∷ [], tt))) $
+    use0 𝓛 (raw (fact 𝓤 (h.block ≡ h.block))) (fact_i 𝓤 (h.block ≡ h.block) (emp 𝓤) refl) $
+    use0 𝓛 (raw (fact 𝓤 (IsPrefix h.history r'))) (fact_i 𝓤 (IsPrefix h.history r') (emp 𝓤) ends.1) $ join ! $
+    use0 𝓛 (raw (fact 𝓤 (SawBack lim r' h.seat))) (fact_i 𝓤 (SawBack lim r' h.seat) (emp 𝓤) ends.0) $ join ! $
+    use0 𝓛 (raw (fact 𝓤 (Fits n))) (fact_i 𝓤 (Fits n) (emp 𝓤) inb.1.0) $ join ! $ use0 𝓛 (raw (fact 𝓤 (n ≡ n))) (fact_i 𝓤 (n ≡ n) (emp 𝓤) refl) $ join ! $
     use0 𝓛 (raw (fact 𝓤 (xs ≡ xs))) (fact_i 𝓤 (xs ≡ xs) (emp 𝓤) refl) $ join ! $
     use0 𝓛 (raw (fact 𝓤 (h.home ≡ h.home))) (fact_i 𝓤 (h.home ≡ h.home) (emp 𝓤) refl) $ join ! $ nothing ! $ nothing ! $ fjoin ! $ nothing ! $ fjoin ! $
-    returns ! (look_at ! 0 refl) $ free_all ! refl $ keep ! (3 ∷ 0 ∷ 2 ∷ 1 ∷ []) $ by ! (leaves 𝓛 En hs c y r (v, n) (tt, (tt, tt)) (tt, (tt, tt)))))))))
+    returns ! (look_at ! 0 refl) $ free_all ! refl $ keep ! (3 ∷ 0 ∷ 2 ∷ 1 ∷ []) $ by ! (leaves 𝓛 En hs c y r (v, n, s') (tt, (tt, tt)) (tt, (tt, tt))))))))))))

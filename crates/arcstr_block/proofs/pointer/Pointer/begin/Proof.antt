@@ -8,6 +8,7 @@ use Rattle.arcstr_block.proofs.Names.{raw, by, keep, fsplit3, drop, use3, at_ret
 use Rattle.arcstr_block.proofs.Names.{blocks, exec, returns, enter, addr, bin, Calls-last, tail, found, fm, seq_cst, finds, loads, leaves, proved, EndsIn}
 use Rattle.arcstr_block.proofs.Names.{FlagAndCount, Free, Ended, Looked, Begin, seat, Ends, Inv, free, right_to, block_owns, block_shares, word_at, word_offset}
 use Rattle.arcstr_block.proofs.Names.{Right, IsFree, Begins, IsMarked, IsUnmarked}
+use Rattle.arcstr_block.proofs.Names.{BlockName, IsPrefix, List, RefOf, Step, Token, fhide, hidden_shr, lent_out, named, reached, rewrite, shr_Tells, shr_vals, unhide, unit}
 use Rattle.arcstr_block.proofs.Memory.{shares_laws}
 use Rattle.arcstr_block.proofs.Pointers.{pointer_val, typed, found_val, found_typed, Words, told}
 use Rattle.arcstr_block.proofs.Book.{book_begin, begun, begin_reply}
@@ -15,7 +16,9 @@ use Rattle.arcstr_block.proofs.Words.{marked_word, unmarked_word}
 use Rattle.arcstr_block.specs.contracts.pointer.Pointer.begin.{ended, clauses}
 use Rattle.arcstr_block.specs.contracts.pointer.Pointer.begin.Key.{name as #self}
 use Rattle.arcstr_block.proofs.pointer.Pointer.begin.Statement.{statement}
+use Rattle.core.specs.contracts.marker.PhantomData as Marker
 use Rattle.arcstr_block.specs.contracts.pointer.Pointer as C
+use Rattle.arcstr_block.specs.contracts.seen.Seen as Seen
 use Rattle.arcstr_block.proofs.Pointers as framed
 use Rattle.arcstr_block.proofs.Rights as rights
 use Rattle.arcstr_block.proofs.Steps as steps
@@ -27,39 +30,59 @@ begin_spec 𝓤 𝓛 𝓜 𝓡 wired Y K g d dd met md =
     let inst = bounded (a_type ∷ []) (Y, tt) (dcons d (dcons dd dnil)) in let fn = inst_fn inst code.function in
     let closed = code.unfolded 𝓤 H 𝓜 𝓡 wired (Y, tt) d dd in
     let Row : RattleType = C.the_row B g in let D : RattleType = Words B g in let self = plain (λ _. Row) in
-    let number = plain (λ _. usize) in
-    let hs : Stays En.signature.params En.kept = (stay_dropped self no, (stay_dropped number yes, tt)) in
-    proved 𝓛 En hs c 𝓜 𝓡 (Goes-dropped 𝓛 1 self no (λ κs x f. refl), (Goes-dropped 𝓛 1 number yes (λ κs x f. refl), tt)) (#self inst) fn closed
-    (λ κs. ((λ x. pointer_val x.at ∷ []), (uint_vals w64, tt))) (λ κs. ((λ x vs so. told B g x.at vs so.0), (uint_Tells w64, tt))) (λ κs qs bounds a gh are.
+    let number = plain (λ _. usize) in let S : RattleType = Seen.the_row in let other = RefOf (0 ∷ []) tt (plain (λ _. S)) (λ _. tt) in
+    let hs : Stays En.signature.params En.kept = (stay_dropped self no, (stay_dropped number yes, (stay_dropped other yes, tt))) in
+    proved 𝓛 En hs c 𝓜 𝓡 (
+      Goes-dropped 𝓛 2 self no (λ κs x f. refl),
+      (
+        Goes-dropped 𝓛 2 number yes (λ κs x f. refl),
+        (Goes-dropped 𝓛 2 other yes (λ κs x f. refl), tt),
+      ),
+    ) (#self inst) fn closed
+    (λ κs. ((λ x. pointer_val x.at ∷ []), (uint_vals w64, (shr_vals, tt)))) (λ κs. (
+      (λ x vs so. told B g x.at vs so.0),
+      (
+        uint_Tells w64,
+        (shr_Tells (named 0) κs.0 S, tt),
+      ),
+    )) (λ κs qs bounds a gh are.
     let h : Row.Denot = a.0 in let p : Ptr = h.at in let lim : ℕ = h.limit in let holds = g.dealloc_token h.home in
     let P : Fml = block_owns holds p h.text in let s : Lft → Fml = block_shares p h.text in
     let right : Right = h.right in let sl = shares_laws p h.text in
     let pb : ℕ = block_of p in let po : ℕ = word_at p (length h.text) in
     let offset : ℕ = a.1.0 in let fits_offset : offset < 2 ^ 64 = are.1.0.1 in
-    let y : (walk_of 𝓛 En hs c).Ghost = ((κs, qs, bounds, a, (pointer_val p ∷ [], (vint w64 offset ∷ [], tt))), gh) in
+    let b' : ℕ = a.1.1.0.ref_ptr.0 in let o' : ℕ = a.1.1.0.ref_ptr.1 in let j : S.Denot = a.1.1.0.now in let before : List Step = j.history in
+    let codes = Seen.the_codes (Marker.the_row unit).coded in
+    let y : (walk_of 𝓛 En hs c).Ghost = ((κs, qs, bounds, a, (pointer_val p ∷ [], (vint w64 offset ∷ [], (vptr b' o' ∷ [], tt)))), gh) in
     let Post : Val → SProp 𝓤 = (walk_of 𝓛 En hs c).post y in
     qed 𝓛 ((raw (alive 𝓛 En.signature κs qs) ⊛ ‵ (owns (types_at En.signature.params κs) a y.0.4)) ∷ raw (fact 𝓤 _) ∷ raw (fact 𝓤 (IsFree h.right)) ∷
-    raw (fact 𝓤 (offset ≡ word_offset (length h.text))) ∷ []) ∵
-    keep ! (2 ∷ 3 ∷ 0 ∷ []) $ heard ! (IsFree h.right) (λ may. heard ! (offset ≡ word_offset (length h.text)) (λ placed.
+    raw (fact 𝓤 (offset ≡ word_offset (length h.text))) ∷ raw (fact 𝓤 (j.block ≡ h.block)) ∷ []) ∵
+    keep ! (2 ∷ 3 ∷ 4 ∷ 0 ∷ []) $ heard ! (IsFree h.right) (λ may. heard ! (offset ≡ word_offset (length h.text)) (λ placed.
+    heard ! (j.block ≡ h.block) (λ same.
     let there : offset + count_of p ≡ count_of p + word_offset (length h.text) = omega (arith, placed) in
-    split ! $ move ! (1 ∷ []) $ fsplit ! $ fsplit ! $ keep ! (1 ∷ 3 ∷ []) $ fsplit ! $ fpick ! (λ inb.
+    split ! $ move ! (1 ∷ []) $ fsplit3 ! $ move ! (2 ∷ []) $ fsplit ! $ fsplit ! $ move ! (3 ∷ []) $ fsplit ! $ keep ! (3 ∷ 1 ∷ 6 ∷ []) $
+    use1 𝓛 (‵ (hidden_shr (Token unit) κs.0 (record {}, tt) b' o') ⊛ ‵ (fhide (reached j.block.history before)))
+    (lent_out 𝓛 Seen.struct codes Seen.the_heap Seen.the_lent κs.0 j b' o') $ split ! $ drop ! $ unhide ! $
+    rewrite ! 0 (λ (z : BlockName). ‵ (reached z.history before)) same refl $ move ! (1 ∷ 0 ∷ []) $ fsplit ! $ fpick ! (λ inb.
     drop ! $ let at : p ≡ block_ptr pb (count_of p) = at_block p inb.0 in
-    fpick ! (λ t. let I : Fml = Inv P lim pb po t in let af : Lft = t.sharing ∷ [] in fsplit ! $ move ! (1 ∷ []) $
+    fpick ! (λ t. let I : Fml = Inv P lim pb po t in let af : Lft = t.sharing ∷ [] in fsplit ! $ fsplit ! $ fpick ! (λ named. drop ! $ drop ! $
+    -- [what is held; the history before; the tokens]
+    rewrite ! 1 (λ (z : BlockName). ‵ (reached z.history before)) (sym named) refl $
     fsplit ! $ use1 𝓛 (‵ (finv I) ⊛ ‵ (finv I)) (𝓛.invs.inv_dup I) $ split ! $ move ! (2 ∷ []) $
     use1 𝓛 (‵ (free P lim pb po t s h.seat right)) (rights.is_free 𝓛 P lim pb po t s sl h.seat right may) $ fpick ! (λ e. fsplit ! $ fpick ! (λ one. drop ! $
     fsplit3 ! $ move ! (2 ∷ []) $ fsplit ! $
-    -- [what is shared; the seat; the share; what it knows; the invariant, twice; what is known; the tokens]
-    move ! (2 ∷ 3 ∷ []) $ fjoin ! $ move ! (3 ∷ 0 ∷ 2 ∷ []) $
-    enter ! 𝓣.C 𝓣.Λ fn (pointer_val p ∷ vint w64 offset ∷ []) Post $
-    alloc_all ! (λ l. pass_all ! refl (typed p, ((tt, record { fits = fits_offset }), tt)) $ let Ev = env fn.locals l in
+    -- [what is shared; the seat; the share; what it knows; the invariant, twice; the history before; the tokens]
+    move ! (2 ∷ 3 ∷ []) $ fjoin ! $ move ! (2 ∷ 5 ∷ []) $ fjoin ! $ move ! (3 ∷ 1 ∷ 0 ∷ []) $
+    enter ! 𝓣.C 𝓣.Λ fn (pointer_val p ∷ vint w64 offset ∷ vptr b' o' ∷ []) Post $
+    alloc_all ! (λ l. pass_all ! refl (typed p, ((tt, record { fits = fits_offset }), ((tt, tt), tt))) $ let Ev = env fn.locals l in
     sets ! (is ! (of_opd ! (get_in ! (fld ! refl (stop !)) (sub ! 0 refl (whole !)))) (ap ptr_val at)) refl (tt, tt) $
     sets ! (of_opd ! (get_in ! (fld ! refl (stop !)) (sub ! 1 refl (whole !)))) refl (tt, tt) $
-    let said : ℕ → Fml = λ n. fsep (seat t.name.seats h.seat (begun 𝓛 lim t.name.history t.name.seats n)) (Ends lim t.name.history t.name.seats
+    let said : ℕ → Fml = λ n. fsep (seat t.name.seats h.seat (begun 𝓛 lim t.name.history t.name.seats n)) (Ends lim t.name.history t.name.seats before
     (Begin h.seat) (begin_reply 𝓛 lim t.name.history t.name.seats n)) in
     let after : ℕ → Fml = steps.all_after 𝓛 P lim pb po t (λ n. n) (steps.Told 𝓛 P lim pb po t e right) (steps.With 𝓛 P lim pb po t e right) (flft af e) said in
     use3 𝓛 (raw (𝓣.C _ (vptr pb po ∷ seq_cst ∷ []) (λ r. mean 𝓛 (found after r))))
-    (via 𝓤 _ (steps.loads 𝓛 P lim pb po t e right (seat t.name.seats h.seat Free) said (λ n _.
-    book_begin 𝓛 lim t.name.history t.name.seats n h.seat)) (loads 𝓛 𝓜 𝓡 (code.calls-core::raw_atomic::load 𝓡.env wired) (block_ptr pb po) after)) $
+    (via 𝓤 _ (steps.loads 𝓛 P lim pb po t e right (fsep (seat t.name.seats h.seat Free) (reached t.name.history before)) said (λ n _.
+    book_begin 𝓛 lim t.name.history t.name.seats n h.seat before)) (loads 𝓛 𝓜 𝓡 (code.calls-core::raw_atomic::load 𝓡.env wired) (block_ptr pb po) after)) $
     first ! $ blocks ! $ sets ! (is ! (bin ! (get ! refl) (get ! refl) tt) (ap (vptr pb) there)) refl (tt, tt) $
     sets ! (of_opd ! (get ! refl)) refl (tt, tt) $ sets ! (addr ! (through ! refl (fld ! refl (stop !)))) refl (tt, tt) $
     sets ! (agg ! (and_then ! (lit ! tt) (no_more !))) refl (tt, (record { fits = lit< tt }, tt)) $
@@ -73,20 +96,22 @@ begin_spec 𝓤 𝓛 𝓜 𝓡 wired Y K g d dd met md =
     let got = rights.begins 𝓛 P lim pb po t s sl n h.seat right e may one ok.1 in let k : Right = got.right in
     fsplit ! $ move ! (2 ∷ 3 ∷ 0 ∷ []) $ use3 𝓛 (later (‵ (right_to P lim pb po t s h.seat k))) got.turns $ await ! tt $
     -- [the right; the history's end; the invariant; what was known; the tokens]
-    move ! (1 ∷ []) $ fpick ! (λ r'. fsplit ! $ fpick ! (λ ends. drop ! $ move ! (3 ∷ []) $ fsplit ! $ fpick ! (λ named. drop ! $ drop ! $
+    move ! (1 ∷ []) $ fpick ! (λ r'. fsplit ! $ fpick ! (λ ends. drop ! $
     -- [the prefix; the right; the invariant; the tokens]
     let h' : Row.Denot = record h { right = k; history = r' } in let r : Val = found_val n p in
     move ! (1 ∷ 2 ∷ 0 ∷ []) $ use3 𝓛 (‵ (Row.own_val h' (pointer_val p ∷ []))) (framed.pointer_in 𝓛 B g h' t named inb) $
     use1 𝓛 (‵ (fex (Valss (u64 ∷ Row ∷ [])) (framed.found_as 𝓛 B g h' n))) (framed.found_in 𝓛 B g h' n fits) $
     let Same : Type 0 = (h.home ≡ h.home) × (h.text ≡ h.text) × (lim ≡ lim) × (h.block ≡ h.block) in
-    let Saw : Type 0 = (h.seat ≡ h.seat) × (IsMarked n → EndsIn lim r' (Begin h.seat) Ended) × (IsUnmarked n → EndsIn lim r' (Begin h.seat) Looked) in
+    let Saw : Type 0 = (h.seat ≡ h.seat) × (IsMarked n → EndsIn lim r' (Begin h.seat) Ended) × (IsUnmarked n → EndsIn lim r' (Begin h.seat) Looked)
+    × IsPrefix before r' in
     use0 𝓛 (raw (fact 𝓤 (Begins n k)) ⊛ raw (fact 𝓤 Saw) ⊛ raw (fact 𝓤 Same))
     (framed.three 𝓛 got.said (
       refl,
       (λ odd. subst (EndsIn lim r' (Begin h.seat)) (ap (λ (v : FlagAndCount). if v.flag then Ended else Looked)
-          (marked_word n odd)) ends),
+          (marked_word n odd)) ends.0),
       (λ even. subst (EndsIn lim r' (Begin h.seat)) (ap (λ (v : FlagAndCount). if v.flag then Ended else Looked)
-          (unmarked_word n even)) ends),
+          (unmarked_word n even)) ends.0),
+      ends.1,
     ) (refl, refl, refl, refl)) $
-    nothing ! $ nothing ! $ fjoin ! $ nothing ! $ fjoin ! $ returns ! (look_at ! 0 refl) $ free_all ! refl $ keep ! (3 ∷ 0 ∷ 2 ∷ 1 ∷ []) $
-    by ! (leaves 𝓛 En hs c y r (n, h') (tt, (tt, tt)) (tt, (tt, tt))))))))))))))))))
+    nothing ! $ nothing ! $ fjoin ! $ nothing ! $ fjoin ! $ nothing ! $ fjoin ! $ returns ! (look_at ! 0 refl) $ free_all ! refl $ keep ! (3 ∷ 0 ∷ 2 ∷ 1 ∷ []) $
+    by ! (leaves 𝓛 En hs c y r (n, h') (tt, (tt, (tt, tt))) (tt, (tt, (tt, tt))))))))))))))))))))

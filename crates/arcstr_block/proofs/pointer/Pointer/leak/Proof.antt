@@ -9,6 +9,7 @@ use Rattle.arcstr_block.proofs.Names.{fsplit3, drop, rewrite, use3, at_ret, mean
 use Rattle.arcstr_block.proofs.Names.{blocks, exec, returns, enter, load, addr, bin, Calls-last, tail, found, fm, seq_cst, finds, ors, leaves, proved, EndsIn}
 use Rattle.arcstr_block.proofs.Names.{Free, Marked, Leak, seat_share, Ends, IsMarkedIn, Inv, knows, right_to, pointer_shares, block_owns, block_shares, word_at}
 use Rattle.arcstr_block.proofs.Names.{word_offset, Right, IsFree, fixed}
+use Rattle.arcstr_block.proofs.Names.{BlockName, IsPrefix, Step, Token, reached, unit}
 use Rattle.arcstr_block.proofs.Memory.{shares_laws}
 use Rattle.arcstr_block.proofs.Pointers.{pointer_val, typed, Words, told, opened}
 use Rattle.arcstr_block.proofs.Book.{book_mark}
@@ -18,6 +19,7 @@ use Rattle.arcstr_block.specs.contracts.pointer.Pointer.leak.Key.{name as #self}
 use Rattle.arcstr_block.proofs.pointer.Pointer.leak.Statement.{statement}
 use Rattle.core.specs.contracts.marker.PhantomData as Marker
 use Rattle.arcstr_block.specs.contracts.pointer.Pointer as C
+use Rattle.arcstr_block.specs.contracts.seen.Seen as Seen
 use Rattle.arcstr_block.proofs.Pointers as framed
 use Rattle.arcstr_block.proofs.Rights as rights
 use Rattle.arcstr_block.proofs.Steps as steps
@@ -29,26 +31,40 @@ leak_spec 𝓤 𝓛 𝓜 𝓡 wired Y K g d dd met md =
     let inst = bounded (a_type ∷ []) (Y, tt) (dcons d (dcons dd dnil)) in let fn = inst_fn inst code.function in
     let closed = code.unfolded 𝓤 H 𝓜 𝓡 wired (Y, tt) d dd in
     let Row : RattleType = C.the_row B g in let D : RattleType = Words B g in let self = RefOf (0 ∷ []) tt (plain (λ _. Row)) (λ _. tt) in
-    let number = plain (λ _. usize) in
-    let hs : Stays En.signature.params En.kept = (stay_dropped self yes, (stay_dropped number yes, tt)) in
-    proved 𝓛 En hs c 𝓜 𝓡 (Goes-dropped 𝓛 2 self yes (λ κs x f. refl), (Goes-dropped 𝓛 2 number yes (λ κs x f. refl), tt)) (#self inst) fn closed
-    (λ κs. (shr_vals, (uint_vals w64, tt))) (λ κs. (shr_Tells (named 0) κs.0 Row, (uint_Tells w64, tt))) (λ κs qs bounds a gh are.
+    let number = plain (λ _. usize) in let S : RattleType = Seen.the_row in let other = RefOf (1 ∷ []) tt (plain (λ _. S)) (λ _. tt) in
+    let hs : Stays En.signature.params En.kept = (stay_dropped self yes, (stay_dropped number yes, (stay_dropped other yes, tt))) in
+    proved 𝓛 En hs c 𝓜 𝓡 (
+      Goes-dropped 𝓛 3 self yes (λ κs x f. refl),
+      (
+        Goes-dropped 𝓛 3 number yes (λ κs x f. refl),
+        (Goes-dropped 𝓛 3 other yes (λ κs x f. refl), tt),
+      ),
+    ) (#self inst) fn closed
+    (λ κs. (shr_vals, (uint_vals w64, (shr_vals, tt)))) (λ κs. (shr_Tells (named 0) κs.0 Row, (uint_Tells w64, (shr_Tells (named 1) κs.1.0 S, tt)))) (λ κs qs bounds a gh are.
     let b : ℕ = a.0.ref_ptr.0 in let o : ℕ = a.0.ref_ptr.1 in let κ : Lft = κs.0 in let q : Share = qs.0 in
-    let others : Fml = fsep (flft κs.1.0 qs.1.0) ftrue in
+    let others : Fml = fsep (flft κs.1.0 qs.1.0) (fsep (flft κs.1.1.0 qs.1.1.0) ftrue) in
+    let b' : ℕ = a.1.1.0.ref_ptr.0 in let o' : ℕ = a.1.1.0.ref_ptr.1 in let j : S.Denot = a.1.1.0.now in let before : List Step = j.history in
+    let codes = Seen.the_codes (Marker.the_row unit).coded in
     let h : Row.Denot = a.0.now in let p : Ptr = h.at in let right : Right = h.right in let lim : ℕ = h.limit in let holds = g.dealloc_token h.home in
     let P : Fml = block_owns holds p h.text in let s : Lft → Fml = block_shares p h.text in
     let sl = shares_laws p h.text in
     let pb : ℕ = block_of p in let po : ℕ = word_at p (length h.text) in
     let offset : ℕ = a.1.0 in let fits_offset : offset < 2 ^ 64 = are.1.0.1 in
-    let y : (walk_of 𝓛 En hs c).Ghost = ((κs, qs, bounds, a, (vptr b o ∷ [], (vint w64 offset ∷ [], tt))), gh) in
+    let y : (walk_of 𝓛 En hs c).Ghost = ((κs, qs, bounds, a, (vptr b o ∷ [], (vint w64 offset ∷ [], (vptr b' o' ∷ [], tt)))), gh) in
     let Post : Val → SProp 𝓤 = (walk_of 𝓛 En hs c).post y in
     qed 𝓛 (((‵ (flft κ q) ⊛ ‵ others) ⊛ ‵ (owns (types_at En.signature.params κs) a y.0.4)) ∷ raw (fact 𝓤 _) ∷ raw (fact 𝓤 (IsFree right)) ∷
-    raw (fact 𝓤 (offset ≡ word_offset (length h.text))) ∷ []) ∵
-    keep ! (2 ∷ 3 ∷ 0 ∷ []) $ heard ! (IsFree right) (λ may. heard ! (offset ≡ word_offset (length h.text)) (λ placed.
+    raw (fact 𝓤 (offset ≡ word_offset (length h.text))) ∷ raw (fact 𝓤 (j.block ≡ h.block)) ∷ []) ∵
+    keep ! (2 ∷ 3 ∷ 4 ∷ 0 ∷ []) $ heard ! (IsFree right) (λ may. heard ! (offset ≡ word_offset (length h.text)) (λ placed.
+    heard ! (j.block ≡ h.block) (λ same.
     let there : offset + count_of p ≡ count_of p + word_offset (length h.text) = omega (arith, placed) in
-    split ! $ split ! $ move ! (2 ∷ []) $ fsplit ! $ fsplit ! $ keep ! (1 ∷ 3 ∷ 4 ∷ []) $
-    enter ! 𝓣.C 𝓣.Λ fn (vptr b o ∷ vint w64 offset ∷ []) Post $
-    alloc_all ! (λ l. pass_all ! refl ((tt, tt), ((tt, record { fits = fits_offset }), tt)) $ let Ev = env fn.locals l in
+    split ! $ split ! $ move ! (2 ∷ []) $ fsplit3 ! $ move ! (2 ∷ []) $ fsplit ! $ fsplit ! $ move ! (3 ∷ []) $ fsplit ! $ keep ! (3 ∷ 1 ∷ 6 ∷ 7 ∷ []) $
+    enter ! 𝓣.C 𝓣.Λ fn (vptr b o ∷ vint w64 offset ∷ vptr b' o' ∷ []) Post $
+    alloc_all ! (λ l. pass_all ! refl ((tt, tt), ((tt, record { fits = fits_offset }), ((tt, tt), tt))) $ let Ev = env fn.locals l in
+    use1 𝓛 (‵ (hidden_shr (Token unit) κs.1.0 (record {}, tt) b' o') ⊛ ‵ (fhide (reached j.block.history before)))
+    (lent_out 𝓛 Seen.struct codes Seen.the_heap Seen.the_lent κs.1.0 j b' o') $ split ! $ drop ! $ unhide ! $
+    rewrite ! 0 (λ (z : BlockName). ‵ (reached z.history before)) same refl $
+    -- [what the pointer shows; κ; the others; the history before]
+    move ! (1 ∷ 2 ∷ 3 ∷ 0 ∷ []) $
     use1 𝓛 (‵ (hidden_shr D κ (p, (tt, tt)) b o) ⊛ ‵ (fhide (pointer_shares holds lim p h.text right h.seat h.block h.history κ)))
     (lent_out 𝓛 (C.struct B g) (C.the_codes Y.Denot B.coded (Marker.the_row B).coded) (C.the_heap B g) (C.the_lent B g) κ h b o) $
     split ! $ move ! (1 ∷ []) $ unhide ! $ fsplit ! $ fpick ! (λ inb. drop ! $ let at : p ≡ block_ptr pb (count_of p) = at_block p inb.0 in fpick ! (λ t.
@@ -68,15 +84,19 @@ leak_spec 𝓤 𝓛 𝓜 𝓡 wired Y K g d dd met md =
     await ! tt $ fpick ! (λ out.
     let u : Share = out.0 in let v : Share = out.1 in let Mine : Fml = seat_share t.name.seats h.seat v Free in
     fsplit ! $ move ! (1 ∷ []) $ fsplit ! $
-    -- [the token; the seat; the open borrows; what is known; the invariant; what is shared; the prefix; the others]
+    -- [the token; the seat; the open borrows; what is known; the invariant; what is shared; the prefix; the others; the history before]
+    move ! (6 ∷ []) $ fsplit ! $ fpick ! (λ named. drop ! $ rewrite ! 8 (λ (z : BlockName). ‵ (reached z.history before)) (sym named) refl $
+    -- [the prefix; the token; the seat; the open borrows; what is known; the invariant; what is shared; the others; the history before]
+    move ! (2 ∷ 8 ∷ []) $ fjoin ! $ move ! (2 ∷ 0 ∷ 3 ∷ 4 ∷ 5 ∷ 6 ∷ 1 ∷ []) $
+    -- [the token; the seat and the history before; the open borrows; what is known; the invariant; what is shared; the prefix; the others]
     move ! (4 ∷ []) $ use1 𝓛 (‵ (finv I) ⊛ ‵ (finv I)) (𝓛.invs.inv_dup I) $ split ! $
-    let said : ℕ → Fml = λ n. fsep Mine (Ends lim t.name.history t.name.seats (Leak h.seat) Marked) in
+    let said : ℕ → Fml = λ n. fsep Mine (Ends lim t.name.history t.name.seats before (Leak h.seat) Marked) in
     -- [the invariant, twice; the token; the seat; the open borrows; what is known; what is shared; the prefix; the others]
     move ! (0 ∷ 2 ∷ 3 ∷ []) $ let after : ℕ → Fml = steps.all_after 𝓛 P lim pb po t (steps.with_mark 𝓛 P lim pb po t u) (steps.Fixed 𝓛 P lim pb po t u)
     (steps.Tok 𝓛 P lim pb po t u) (flft af u) said in
     use3 𝓛 (raw (𝓣.C _ (vptr pb po ∷ vint w64 1 ∷ seq_cst ∷ []) (λ r. mean 𝓛 (found after r))))
-    (via 𝓤 _ (steps.marks_it 𝓛 P lim pb po t u Mine said (λ n _.
-    book_mark 𝓛 lim t.name.history t.name.seats n h.seat v)) (ors 𝓛 𝓜 𝓡 (code.calls-core::raw_atomic::fetch_or 𝓡.env wired) (block_ptr pb po) 1
+    (via 𝓤 _ (steps.marks_it 𝓛 P lim pb po t u (fsep Mine (reached t.name.history before)) said (λ n _.
+    book_mark 𝓛 lim t.name.history t.name.seats n h.seat v before)) (ors 𝓛 𝓜 𝓡 (code.calls-core::raw_atomic::fetch_or 𝓡.env wired) (block_ptr pb po) 1
     (lit< tt) after)) $
     first ! $ blocks ! $ sets ! (is ! (bin ! (get ! refl) (get ! refl) tt) (ap (vptr pb) there)) refl (tt, tt) $
     sets ! (of_opd ! (get ! refl)) refl (tt, tt) $ sets ! (addr ! (through ! refl (fld ! refl (stop !)))) refl (tt, tt) $
@@ -95,13 +115,13 @@ leak_spec 𝓤 𝓛 𝓜 𝓡 wired Y K g d dd met md =
     let got = rights.marked 𝓛 P lim pb po t s sl w ok in let k : Right = got.right in
     move ! (0 ∷ 4 ∷ []) $ use2 𝓛 (later (‵ (right_to P lim pb po t s 0 k))) got.turns $ await ! tt $
     -- [the right; the tokens; what is said; the invariant; the prefix]
-    move ! (2 ∷ []) $ fpick ! (λ r'. fsplit ! $ fpick ! (λ ends. drop ! $ move ! (4 ∷ []) $ fsplit ! $ fpick ! (λ named. drop ! $ drop ! $
+    move ! (2 ∷ []) $ fpick ! (λ r'. fsplit ! $ fpick ! (λ ends. drop ! $ move ! (4 ∷ []) $ drop ! $
     -- [the prefix; the right; the tokens; the invariant]
     let h' : Row.Denot = record h { right = k; seat = 0; history = r' } in let r : Val = pointer_val p in
     move ! (1 ∷ 3 ∷ 0 ∷ []) $ use3 𝓛 (‵ (Row.own_val h' (pointer_val p ∷ []))) (framed.pointer_in 𝓛 B g h' t named inb) $
     let Same : Type 0 = (h.home ≡ h.home) × (h.text ≡ h.text) × (lim ≡ lim) × (h.block ≡ h.block) in
-    let Saw : Type 0 = EndsIn lim r' (Leak h.seat) Marked × IsMarkedIn lim r' in
+    let Saw : Type 0 = EndsIn lim r' (Leak h.seat) Marked × IsMarkedIn lim r' × IsPrefix before r' in
     use0 𝓛 (raw (fact 𝓤 (k ≡ fixed)) ⊛ raw (fact 𝓤 Saw) ⊛ raw (fact 𝓤 Same))
-    (framed.three 𝓛 got.said (ends, marked_by_leak lim r' h.seat ends) (refl, refl, refl, refl)) $
-    nothing ! $ nothing ! $ fjoin ! $ nothing ! $ fjoin ! $ returns ! (look_at ! 0 refl) $ free_all ! refl $ keep ! (3 ∷ 0 ∷ 2 ∷ 1 ∷ []) $
-    by ! (leaves 𝓛 En hs c y r h' (tt, (tt, tt)) (tt, (tt, tt)))))))))))))))))))
+    (framed.three 𝓛 got.said (ends.0, marked_by_leak lim r' h.seat ends.0, ends.1) (refl, refl, refl, refl)) $
+    nothing ! $ nothing ! $ fjoin ! $ nothing ! $ fjoin ! $ nothing ! $ fjoin ! $ returns ! (look_at ! 0 refl) $ free_all ! refl $ keep ! (3 ∷ 0 ∷ 2 ∷ 1 ∷ []) $
+    by ! (leaves 𝓛 En hs c y r h' (tt, (tt, (tt, tt))) (tt, (tt, (tt, tt)))))))))))))))))))))

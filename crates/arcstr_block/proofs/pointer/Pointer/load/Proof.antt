@@ -9,6 +9,7 @@ use Rattle.arcstr_block.proofs.Names.{fpick, await, raw, by, keep, fsplit3, drop
 use Rattle.arcstr_block.proofs.Names.{no_more, and_then, first, blocks, exec, returns, enter, load, addr, bin, Calls-last, tail, found, fm, seq_cst, finds}
 use Rattle.arcstr_block.proofs.Names.{loads, leaves, proved, Free, Step, seat_share, Inv, knows, pointer_shares, block_owns, block_shares, word_at, word_offset}
 use Rattle.arcstr_block.proofs.Names.{Right, IsFree, Loads, LoadedAs, IsCountWord}
+use Rattle.arcstr_block.proofs.Names.{BlockName, Token, reached, unit}
 use Rattle.arcstr_block.proofs.Memory.{shares_laws}
 use Rattle.arcstr_block.proofs.Pointers.{pointer_val, typed, found_val, found_typed, Words, told, opened}
 use Rattle.arcstr_block.specs.contracts.pointer.Pointer.load.{ended, clauses}
@@ -16,6 +17,7 @@ use Rattle.arcstr_block.specs.contracts.pointer.Pointer.load.Key.{name as #self}
 use Rattle.arcstr_block.proofs.pointer.Pointer.load.Statement.{statement}
 use Rattle.core.specs.contracts.marker.PhantomData as Marker
 use Rattle.arcstr_block.specs.contracts.pointer.Pointer as C
+use Rattle.arcstr_block.specs.contracts.seen.Seen as Seen
 use Rattle.arcstr_block.proofs.Pointers as framed
 use Rattle.arcstr_block.proofs.Rights as rights
 use Rattle.arcstr_block.proofs.Steps as steps
@@ -27,26 +29,40 @@ load_spec 𝓤 𝓛 𝓜 𝓡 wired Y K g d dd met md =
     let inst = bounded (a_type ∷ []) (Y, tt) (dcons d (dcons dd dnil)) in let fn = inst_fn inst code.function in
     let closed = code.unfolded 𝓤 H 𝓜 𝓡 wired (Y, tt) d dd in
     let Row : RattleType = C.the_row B g in let D : RattleType = Words B g in let self = RefOf (0 ∷ []) tt (plain (λ _. Row)) (λ _. tt) in
-    let number = plain (λ _. usize) in
-    let hs : Stays En.signature.params En.kept = (stay_dropped self yes, (stay_dropped number yes, tt)) in
-    proved 𝓛 En hs c 𝓜 𝓡 (Goes-dropped 𝓛 2 self yes (λ κs x f. refl), (Goes-dropped 𝓛 2 number yes (λ κs x f. refl), tt)) (#self inst) fn closed
-    (λ κs. (shr_vals, (uint_vals w64, tt))) (λ κs. (shr_Tells (named 0) κs.0 Row, (uint_Tells w64, tt))) (λ κs qs bounds a gh are.
+    let number = plain (λ _. usize) in let S : RattleType = Seen.the_row in let other = RefOf (1 ∷ []) tt (plain (λ _. S)) (λ _. tt) in
+    let hs : Stays En.signature.params En.kept = (stay_dropped self yes, (stay_dropped number yes, (stay_dropped other yes, tt))) in
+    proved 𝓛 En hs c 𝓜 𝓡 (
+      Goes-dropped 𝓛 3 self yes (λ κs x f. refl),
+      (
+        Goes-dropped 𝓛 3 number yes (λ κs x f. refl),
+        (Goes-dropped 𝓛 3 other yes (λ κs x f. refl), tt),
+      ),
+    ) (#self inst) fn closed
+    (λ κs. (shr_vals, (uint_vals w64, (shr_vals, tt)))) (λ κs. (shr_Tells (named 0) κs.0 Row, (uint_Tells w64, (shr_Tells (named 1) κs.1.0 S, tt)))) (λ κs qs bounds a gh are.
     let b : ℕ = a.0.ref_ptr.0 in let o : ℕ = a.0.ref_ptr.1 in let κ : Lft = κs.0 in let q : Share = qs.0 in
-    let others : Fml = fsep (flft κs.1.0 qs.1.0) ftrue in
+    let others : Fml = fsep (flft κs.1.0 qs.1.0) (fsep (flft κs.1.1.0 qs.1.1.0) ftrue) in
+    let b' : ℕ = a.1.1.0.ref_ptr.0 in let o' : ℕ = a.1.1.0.ref_ptr.1 in let j : S.Denot = a.1.1.0.now in let before : List Step = j.history in
+    let codes = Seen.the_codes (Marker.the_row unit).coded in
     let h : Row.Denot = a.0.now in let p : Ptr = h.at in let right : Right = h.right in let lim : ℕ = h.limit in let holds = g.dealloc_token h.home in
     let P : Fml = block_owns holds p h.text in let s : Lft → Fml = block_shares p h.text in
     let sl = shares_laws p h.text in
     let pb : ℕ = block_of p in let po : ℕ = word_at p (length h.text) in
     let offset : ℕ = a.1.0 in let fits_offset : offset < 2 ^ 64 = are.1.0.1 in
-    let y : (walk_of 𝓛 En hs c).Ghost = ((κs, qs, bounds, a, (vptr b o ∷ [], (vint w64 offset ∷ [], tt))), gh) in
+    let y : (walk_of 𝓛 En hs c).Ghost = ((κs, qs, bounds, a, (vptr b o ∷ [], (vint w64 offset ∷ [], (vptr b' o' ∷ [], tt)))), gh) in
     let Post : Val → SProp 𝓤 = (walk_of 𝓛 En hs c).post y in
     qed 𝓛 (((‵ (flft κ q) ⊛ ‵ others) ⊛ ‵ (owns (types_at En.signature.params κs) a y.0.4)) ∷ raw (fact 𝓤 _) ∷ raw (fact 𝓤 (IsFree right)) ∷
-    raw (fact 𝓤 (offset ≡ word_offset (length h.text))) ∷ []) ∵
-    keep ! (2 ∷ 3 ∷ 0 ∷ []) $ heard ! (IsFree right) (λ may. heard ! (offset ≡ word_offset (length h.text)) (λ placed.
+    raw (fact 𝓤 (offset ≡ word_offset (length h.text))) ∷ raw (fact 𝓤 (j.block ≡ h.block)) ∷ []) ∵
+    keep ! (2 ∷ 3 ∷ 4 ∷ 0 ∷ []) $ heard ! (IsFree right) (λ may. heard ! (offset ≡ word_offset (length h.text)) (λ placed.
+    heard ! (j.block ≡ h.block) (λ same.
     let there : offset + count_of p ≡ count_of p + word_offset (length h.text) = omega (arith, placed) in
-    split ! $ split ! $ move ! (2 ∷ []) $ fsplit ! $ fsplit ! $ keep ! (1 ∷ 3 ∷ 4 ∷ []) $
-    enter ! 𝓣.C 𝓣.Λ fn (vptr b o ∷ vint w64 offset ∷ []) Post $
-    alloc_all ! (λ l. pass_all ! refl ((tt, tt), ((tt, record { fits = fits_offset }), tt)) $ let Ev = env fn.locals l in
+    split ! $ split ! $ move ! (2 ∷ []) $ fsplit3 ! $ move ! (2 ∷ []) $ fsplit ! $ fsplit ! $ move ! (3 ∷ []) $ fsplit ! $ keep ! (3 ∷ 1 ∷ 6 ∷ 7 ∷ []) $
+    enter ! 𝓣.C 𝓣.Λ fn (vptr b o ∷ vint w64 offset ∷ vptr b' o' ∷ []) Post $
+    alloc_all ! (λ l. pass_all ! refl ((tt, tt), ((tt, record { fits = fits_offset }), ((tt, tt), tt))) $ let Ev = env fn.locals l in
+    use1 𝓛 (‵ (hidden_shr (Token unit) κs.1.0 (record {}, tt) b' o') ⊛ ‵ (fhide (reached j.block.history before)))
+    (lent_out 𝓛 Seen.struct codes Seen.the_heap Seen.the_lent κs.1.0 j b' o') $ split ! $ drop ! $ unhide ! $
+    rewrite ! 0 (λ (z : BlockName). ‵ (reached z.history before)) same refl $
+    -- [what the pointer shows; κ; the others; the history before]
+    move ! (1 ∷ 2 ∷ 3 ∷ 0 ∷ []) $
     use1 𝓛 (‵ (hidden_shr D κ (p, (tt, tt)) b o) ⊛ ‵ (fhide (pointer_shares holds lim p h.text right h.seat h.block h.history κ)))
     (lent_out 𝓛 (C.struct B g) (C.the_codes Y.Denot B.coded (Marker.the_row B).coded) (C.the_heap B g) (C.the_lent B g) κ h b o) $
     split ! $ move ! (1 ∷ []) $ unhide ! $ fsplit ! $ fpick ! (λ inb. drop ! $ let at : p ≡ block_ptr pb (count_of p) = at_block p inb.0 in fpick ! (λ t.
@@ -66,15 +82,19 @@ load_spec 𝓤 𝓛 𝓜 𝓡 wired Y K g d dd met md =
     await ! tt $ fpick ! (λ out.
     let u : Share = out.0 in let v : Share = out.1 in let Mine : Fml = seat_share t.name.seats h.seat v Free in
     fsplit ! $ move ! (1 ∷ []) $ fsplit ! $
-    -- [the token; the seat; the open borrows; what is known; the invariant; what is shared; the prefix; the others]
+    -- [the token; the seat; the open borrows; what is known; the invariant; what is shared; the prefix; the others; the history before]
+    move ! (6 ∷ []) $ fsplit ! $ fpick ! (λ named. drop ! $ rewrite ! 8 (λ (z : BlockName). ‵ (reached z.history before)) (sym named) refl $
+    -- [the prefix; the token; the seat; the open borrows; what is known; the invariant; what is shared; the others; the history before]
+    move ! (2 ∷ 8 ∷ []) $ fjoin ! $ move ! (2 ∷ 0 ∷ 3 ∷ 4 ∷ 5 ∷ 6 ∷ 1 ∷ []) $
+    -- [the token; the seat and the history before; the open borrows; what is known; the invariant; what is shared; the prefix; the others]
     move ! (4 ∷ []) $ use1 𝓛 (‵ (finv I) ⊛ ‵ (finv I)) (𝓛.invs.inv_dup I) $ split ! $
-    let clones : Bool = gh in let said : ℕ → Fml = λ n. fsep Mine (rights.entered 𝓛 P lim pb po t s sl h.seat clones n) in
+    let clones : Bool = gh in let said : ℕ → Fml = λ n. fsep Mine (rights.entered 𝓛 P lim pb po t s sl h.seat before clones n) in
     -- [the invariant, twice; the token; the seat; the open borrows; what is known; what is shared; the prefix; the others]
     move ! (2 ∷ 5 ∷ []) $ fjoin ! $ move ! (1 ∷ 0 ∷ 3 ∷ []) $ let after : ℕ → Fml = steps.all_after 𝓛 P lim pb po t (λ n.
     n) (steps.Told 𝓛 P lim pb po t u right) (steps.With 𝓛 P lim pb po t u right) (flft af u) said in
     use3 𝓛 (raw (𝓣.C _ (vptr pb po ∷ seq_cst ∷ []) (λ r. mean 𝓛 (found after r))))
-    (via 𝓤 _ (steps.loads 𝓛 P lim pb po t u right Mine said (λ n _.
-    rights.enters 𝓛 P lim pb po t s sl h.seat clones v n)) (loads 𝓛 𝓜 𝓡 (code.calls-core::raw_atomic::load 𝓡.env wired) (block_ptr pb po) after)) $
+    (via 𝓤 _ (steps.loads 𝓛 P lim pb po t u right (fsep Mine (reached t.name.history before)) said (λ n _.
+    rights.enters 𝓛 P lim pb po t s sl h.seat before clones v n)) (loads 𝓛 𝓜 𝓡 (code.calls-core::raw_atomic::load 𝓡.env wired) (block_ptr pb po) after)) $
     first ! $ blocks ! $ sets ! (is ! (bin ! (get ! refl) (get ! refl) tt) (ap (vptr pb) there)) refl (tt, tt) $
     sets ! (of_opd ! (get ! refl)) refl (tt, tt) $ sets ! (addr ! (through ! refl (fld ! refl (stop !)))) refl (tt, tt) $
     sets ! (agg ! (and_then ! (lit ! tt) (no_more !))) refl (tt, (record { fits = lit< tt }, tt)) $
@@ -90,18 +110,18 @@ load_spec 𝓤 𝓛 𝓜 𝓡 wired Y K g d dd met md =
     -- [κ; what is said; the gain; the invariant; what is shared; the prefix; the others]
     move ! (0 ∷ 6 ∷ []) $ join ! $ move ! (2 ∷ []) $ fpick ! (λ w. fsplit ! $ fpick ! (λ ok. drop ! $
     -- [the gain; the tokens; what is said; the invariant; what is shared; the prefix]
-    move ! (5 ∷ []) $ fsplit ! $ fpick ! (λ named. drop ! $
+    move ! (5 ∷ []) $
     -- [the prefix; the gain; the tokens; what is said; the invariant; what is shared]
-    let got = rights.loaded 𝓛 P lim pb po t s sl h.seat clones n h.history w ok.2 ok.3 in let k : Right = got.right in
-    move ! (1 ∷ 5 ∷ 3 ∷ 0 ∷ []) $ types.Kit.group ! 4 $ use1 𝓛 (later (‵ (rights.AfterLoad 𝓛 P lim pb po t s sl h.seat clones n k))) got.turns $ await ! tt $
+    let got = rights.loaded 𝓛 P lim pb po t s sl h.seat before clones n h.history w ok.2 ok.3 in let k : Right = got.right in
+    move ! (1 ∷ 5 ∷ 3 ∷ 0 ∷ []) $ types.Kit.group ! 4 $ use1 𝓛 (later (‵ (rights.AfterLoad 𝓛 P lim pb po t s sl h.seat before clones n k))) got.turns $ await ! tt $
     fpick ! (λ x. let j : ℕ = x.0 in let r' : List Step = x.1 in fsplit3 ! $ fpick ! (λ ends. drop ! $
     -- [the prefix; the right; the tokens; the invariant]
     let h' : Row.Denot = record h { right = k; seat = j; history = r' } in let r : Val = found_val n p in
     move ! (1 ∷ 3 ∷ 0 ∷ []) $ use3 𝓛 (‵ (Row.own_val h' (pointer_val p ∷ []))) (framed.pointer_in 𝓛 B g h' t named inb) $
     use1 𝓛 (‵ (fex (Valss (u64 ∷ Row ∷ [])) (framed.found_as 𝓛 B g h' n))) (framed.found_in 𝓛 B g h' n fits) $
-    let Same : Type 0 = (h.home ≡ h.home) × (h.text ≡ h.text) × (lim ≡ lim) × (h.block ≡ h.block) in let Saw : Type 0 = LoadedAs clones h n h' in
+    let Same : Type 0 = (h.home ≡ h.home) × (h.text ≡ h.text) × (lim ≡ lim) × (h.block ≡ h.block) in let Saw : Type 0 = LoadedAs clones h before n h' in
     use0 𝓛 (raw (fact 𝓤 (Loads clones n k)) ⊛ raw (fact 𝓤 Saw) ⊛ raw (fact 𝓤 Same))
     (framed.three 𝓛 got.said ends (refl, refl, refl, refl)) $
     use0 𝓛 (raw (fact 𝓤 (IsCountWord lim n))) (fact_i 𝓤 (IsCountWord lim n) (emp 𝓤) ok.0) $ join ! $
-    nothing ! $ nothing ! $ fjoin ! $ nothing ! $ fjoin ! $ returns ! (look_at ! 0 refl) $ free_all ! refl $ keep ! (3 ∷ 0 ∷ 2 ∷ 1 ∷ []) $
-    by ! (leaves 𝓛 En hs c y r (n, h') (tt, (tt, tt)) (tt, (tt, tt)))))))))))))))))))
+    nothing ! $ nothing ! $ fjoin ! $ nothing ! $ fjoin ! $ nothing ! $ fjoin ! $ returns ! (look_at ! 0 refl) $ free_all ! refl $ keep ! (3 ∷ 0 ∷ 2 ∷ 1 ∷ []) $
+    by ! (leaves 𝓛 En hs c y r (n, h') (tt, (tt, (tt, tt))) (tt, (tt, (tt, tt)))))))))))))))))))))

@@ -8,6 +8,7 @@ use Rattle.arcstr_block.proofs.Names.{raw, by, keep, fsplit3, drop, rewrite, use
 use Rattle.arcstr_block.proofs.Names.{first, blocks, exec, returns, enter, addr, bin, Calls-last, tail, found, fm, seq_cst, finds, subs, leaves, proved, EndsIn}
 use Rattle.arcstr_block.proofs.Names.{Dropping, Owes, Left, Sub, seat, Ends, Inv, held_with, right_to, block_owns, block_shares, word_at, word_offset, Right}
 use Rattle.arcstr_block.proofs.Names.{dropping, Leaves}
+use Rattle.arcstr_block.proofs.Names.{IsPrefix, reached}
 use Rattle.arcstr_block.proofs.Memory.{shares_laws}
 use Rattle.arcstr_block.proofs.Pointers.{pointer_val, typed, found_val, found_typed, Words, told}
 use Rattle.arcstr_block.proofs.Book.{book_sub, left_in, sub_reply}
@@ -44,22 +45,22 @@ sub_spec 𝓤 𝓛 𝓜 𝓡 wired Y K g d dd met md =
     let there : offset + count_of p ≡ count_of p + word_offset (length h.text) = omega (arith, placed) in
     split ! $ move ! (1 ∷ []) $ fsplit ! $ fsplit ! $ keep ! (1 ∷ 3 ∷ []) $ fsplit ! $
     fpick ! (λ inb. drop ! $ let at : p ≡ block_ptr pb (count_of p) = at_block p inb.0 in
-    fpick ! (λ t. let I : Fml = Inv P lim pb po t in let af : Lft = t.sharing ∷ [] in fsplit ! $ move ! (1 ∷ []) $
+    fpick ! (λ t. let I : Fml = Inv P lim pb po t in let af : Lft = t.sharing ∷ [] in fsplit ! $ fsplit ! $ fpick ! (λ named. drop ! $ move ! (1 ∷ []) $
     rewrite ! 0 (λ (k : Right). ‵ (held_with P lim pb po t s h.seat k)) mine refl $ fsplit ! $ use1 𝓛 (‵ (finv I) ⊛ ‵ (finv I)) (𝓛.invs.inv_dup I) $ split ! $
     move ! (2 ∷ []) $ fsplit3 ! $
-    -- [the part; what is shared; the seat; the invariant, twice; what is known; the tokens]
-    move ! (3 ∷ 0 ∷ 2 ∷ []) $
+    -- [the part; what is shared; the seat; the invariant, twice; the history before; the tokens]
+    move ! (2 ∷ 5 ∷ []) $ fjoin ! $ move ! (3 ∷ 1 ∷ 0 ∷ []) $
     enter ! 𝓣.C 𝓣.Λ fn (pointer_val p ∷ vint w64 offset ∷ []) Post $
     alloc_all ! (λ l. pass_all ! refl (typed p, ((tt, record { fits = fits_offset }), tt)) $ let Ev = env fn.locals l in
     sets ! (is ! (of_opd ! (get_in ! (fld ! refl (stop !)) (sub ! 0 refl (whole !)))) (ap ptr_val at)) refl (tt, tt) $
     sets ! (of_opd ! (get_in ! (fld ! refl (stop !)) (sub ! 1 refl (whole !)))) refl (tt, tt) $
-    let said : ℕ → Fml = λ n. fsep (seat t.name.seats h.seat (left_in 𝓛 lim t.name.history t.name.seats n)) (Ends lim t.name.history t.name.seats
+    let said : ℕ → Fml = λ n. fsep (seat t.name.seats h.seat (left_in 𝓛 lim t.name.history t.name.seats n)) (Ends lim t.name.history t.name.seats h.history
     (Sub h.seat) (sub_reply 𝓛 lim t.name.history t.name.seats n)) in
     let after : ℕ → Fml = steps.all_after 𝓛 P lim pb po t one_less (steps.Left 𝓛 P lim pb po t)
     (steps.One 𝓛 P lim pb po t) ftrue said in
     use3 𝓛 (raw (𝓣.C _ (vptr pb po ∷ vint w64 2 ∷ seq_cst ∷ []) (λ r. mean 𝓛 (found after r))))
-    (via 𝓤 _ (steps.leaves_it 𝓛 P lim pb po t (seat t.name.seats h.seat Dropping) said (λ n fits.
-    book_sub 𝓛 lim t.name.history t.name.seats n h.seat fits)) (subs 𝓛 𝓜 𝓡 (code.calls-core::raw_atomic::fetch_sub 𝓡.env wired) (block_ptr pb po) 2
+    (via 𝓤 _ (steps.leaves_it 𝓛 P lim pb po t (fsep (seat t.name.seats h.seat Dropping) (reached t.name.history h.history)) said (λ n fits.
+    book_sub 𝓛 lim t.name.history t.name.seats n h.seat h.history fits)) (subs 𝓛 𝓜 𝓡 (code.calls-core::raw_atomic::fetch_sub 𝓡.env wired) (block_ptr pb po) 2
     (lit< tt) after)) $
     first ! $ blocks ! $ sets ! (is ! (bin ! (get ! refl) (get ! refl) tt) (ap (vptr pb) there)) refl (tt, tt) $
     sets ! (of_opd ! (get ! refl)) refl (tt, tt) $ sets ! (addr ! (through ! refl (fld ! refl (stop !)))) refl (tt, tt) $
@@ -75,19 +76,21 @@ sub_spec 𝓤 𝓛 𝓜 𝓡 wired Y K g d dd met md =
     -- [the gain; what is said; what is shared; the invariant; what is known; the tokens]
     move ! (1 ∷ []) $ fsplit ! $ move ! (2 ∷ 3 ∷ 0 ∷ []) $ use3 𝓛 (later (‵ (right_to P lim pb po t s h.seat k))) got.turns $ await ! tt $
     -- [the right; the history's end; the invariant; what was known; the tokens]
-    move ! (1 ∷ []) $ fpick ! (λ r'. fsplit ! $ fpick ! (λ ends. drop ! $ move ! (3 ∷ []) $ fsplit ! $ fpick ! (λ named. drop ! $ drop ! $
+    move ! (1 ∷ []) $ fpick ! (λ r'. fsplit ! $ fpick ! (λ ends. drop ! $
     -- [the prefix; the right; the invariant; the tokens]
     let h' : Row.Denot = record h { right = k; history = r' } in let r : Val = found_val n p in
     move ! (1 ∷ 2 ∷ 0 ∷ []) $ use3 𝓛 (‵ (Row.own_val h' (pointer_val p ∷ []))) (framed.pointer_in 𝓛 B g h' t named inb) $
     use1 𝓛 (‵ (fex (Valss (u64 ∷ Row ∷ [])) (framed.found_as 𝓛 B g h' n))) (framed.found_in 𝓛 B g h' n fits) $
     let Same : Type 0 = (h.home ≡ h.home) × (h.text ≡ h.text) × (lim ≡ lim) × (h.block ≡ h.block) in
-    let Saw : Type 0 = (h.seat ≡ h.seat) × (n ≡ 2 → EndsIn lim r' (Sub h.seat) Owes) × (n ≢ 2 → EndsIn lim r' (Sub h.seat) Left) in
+    let Saw : Type 0 = (h.seat ≡ h.seat) × (n ≡ 2 → EndsIn lim r' (Sub h.seat) Owes) × (n ≢ 2 → EndsIn lim r' (Sub h.seat) Left)
+    × IsPrefix h.history r' in
     use0 𝓛 (raw (fact 𝓤 (Leaves n k)) ⊛ raw (fact 𝓤 Saw) ⊛ raw (fact 𝓤 Same))
     (framed.three 𝓛 got.said (
       refl,
-      (λ two. subst (EndsIn lim r' (Sub h.seat)) (ap (λ y. if y then Owes else Left) (last_two n two)) ends),
+      (λ two. subst (EndsIn lim r' (Sub h.seat)) (ap (λ y. if y then Owes else Left) (last_two n two)) ends.0),
       (λ ne.
-          subst (EndsIn lim r' (Sub h.seat)) (ap (λ y. if y then Owes else Left) (not_last n ne)) ends),
+          subst (EndsIn lim r' (Sub h.seat)) (ap (λ y. if y then Owes else Left) (not_last n ne)) ends.0),
+      ends.1,
     ) (refl, refl, refl, refl)) $
     nothing ! $ nothing ! $ fjoin ! $ nothing ! $ fjoin ! $ returns ! (look_at ! 0 refl) $ free_all ! refl $ keep ! (3 ∷ 0 ∷ 2 ∷ 1 ∷ []) $
     by ! (leaves 𝓛 En hs c y r (n, h') (tt, (tt, tt)) (tt, (tt, tt))))))))))))))))

@@ -1,5 +1,5 @@
 use Rattle.arcstr_block.proofs.Names.{false}
-use Rattle.arcstr_block.proofs.shared.Shared.look.Given as goal
+use Rattle.arcstr_block.proofs.shared.Shared.fixed_after.Given as goal
 
 -- the load is a look
 abbrev pub ghost-load : goal.ghost-load
