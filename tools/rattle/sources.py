@@ -28,7 +28,7 @@ OWNER = re.compile(
     r"|(?:pub )?trait (?P<new>\w+))[^;{]*\{",
     re.M,
 )
-CLAUSE = re.compile(r"\b(?P<kind>ensures|requires|invariant|decreases)(?: (?P<name>\w+))?\s*$")
+CLAUSE = re.compile(r"\b(?P<kind>ensures|requires|invariant|decreases)\*?(?: (?P<name>\w+))?\s*$")
 HIDING = re.compile(r"#!?\[(?:cfg|path|ignore).*?\]$", re.M)
 CLOSING = {"(": ")", "{": "}"}
 TESTS = "_tests"

@@ -236,11 +236,9 @@ impl<const LIMIT: u64, A: Allocator + Copy> Shared<LIMIT, A> {
         // Promise: The history seen begins with what the caller had seen.
         ensures after { IsPrefix before.now.history result.history }
     {
+        let offset = offset_of_word(self.handle.len);
         Fixed {
-            pointer: self
-                .handle
-                .pointer
-                .leak(offset_of_word(self.handle.len), before),
+            pointer: self.handle.pointer.leak(offset, before),
             len: self.handle.len,
             alloc: self.handle.alloc,
         }
