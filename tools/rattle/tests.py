@@ -1,5 +1,6 @@
 """Tests of the scripts of this folder: what their parsers read, and the mistakes that they find."""
 import importlib.util
+import subprocess
 import sys
 import tempfile
 import unittest
@@ -257,6 +258,22 @@ class WrongBodies(Folder):
             (["crates/pair/specs/A.antt"], same, True),
         ):
             self.assertEqual(wrong_bodies.is_changed(body, files, before), is_changed, files)
+
+    def test_planted_bodies_have_to_get_their_verdicts(self) -> None:
+        """A prover that rejects all, and one that rejects nothing, are seen."""
+        [body], _ = edits.parse(self.path, BODY)
+        edits.read_edit(body)
+        rejected = "note: src/lib.rt:20:5: a hole (`two-clause-value`)\nonly=1 proved=0\n"
+        for answers, faults in (
+            ([(0, "logic=proved\n"), (1, "error: no_such_name\n")], 0),
+            ([(1, rejected), (1, "error: no_such_name\n")], 1),
+            ([(0, "logic=proved\n"), (0, "logic=proved\n")], 1),
+            ([(1, rejected), (1, rejected)], 2),
+            ([(2, ""), (2, "")], 1),
+        ):
+            ran = iter([subprocess.CompletedProcess("", *answer) for answer in answers])
+            plants = wrong_bodies.planted_faults([body], lambda *_: next(ran))
+            self.assertEqual(len(plants), faults, answers)
 
     def test_a_sum_leaves_out_bodies_alone(self) -> None:
         left = wrong_bodies.without_bodies(self.crate / "src/lib.rt")
