@@ -4,9 +4,6 @@ use anyhow::Result;
 use std::alloc::Global;
 use std::fmt::Display;
 
-/// The digits of escaped bytes.
-const DIGITS: &str = "0123456789abcdef";
-
 #[derive(Drop)]
 pub(crate) struct Answer {
     line: String,
@@ -37,30 +34,39 @@ impl Answer {
         }
     }
 
-    /// Adds a text. `\` and two digits stand for each byte that is no printable ASCII character.
+    /// Adds a text, in which `\` and two digits stand for each of `\`, tab and line ends.
     pub(crate) fn text(&mut self, text: &str) -> Result<()> {
         self.line.push('\t')?;
-        let mut plain = 0;
-        for (at, character) in text.char_indices() {
-            if !(' '..='~').contains(&character) || character == '\\' {
-                let next = at.wrapping_add(character.len_utf8());
-                self.line.push_str(text.get(plain..at).unwrap_or(""))?;
-                self.escape(text.get(at..next).unwrap_or(""))?;
-                plain = next;
-            }
+        let mut rest = text;
+        for _ in 0..=text.len() {
+            let Some(place) = first_escaped(rest) else {
+                break
+            };
+            let (before, after) = rest.split_at_checked(place).unwrap_or((rest, ""));
+            let (escaped, after) = after.split_at_checked(1).unwrap_or((after, ""));
+            self.line.push_str(before)?;
+            self.line.push_str(match escaped {
+                "\t" => "\\09",
+                "\n" => "\\0a",
+                "\r" => "\\0d",
+                _ => "\\5c",
+            })?;
+            rest = after;
         }
-        self.line.push_str(text.get(plain..).unwrap_or(""))?;
+        self.line.push_str(rest)?;
         Ok(())
     }
+}
 
-    fn escape(&mut self, part: &str) -> Result<()> {
-        for byte in part.bytes() {
-            self.line.push('\\')?;
-            for digit in [usize::from(byte >> 4), usize::from(byte & 15)] {
-                let end = digit.wrapping_add(1);
-                self.line.push_str(DIGITS.get(digit..end).unwrap_or(""))?;
-            }
+/// Returns the place of the first character that is escaped. A search for one character reads
+/// several bytes at a time, so four are faster than one for either.
+fn first_escaped(text: &str) -> Option<usize> {
+    let mut first = None;
+    for character in ['\t', '\n', '\r', '\\'] {
+        let place = text.find(character);
+        if place.is_some() && (first.is_none() || place < first) {
+            first = place;
         }
-        Ok(())
     }
+    first
 }

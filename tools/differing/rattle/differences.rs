@@ -3,6 +3,7 @@
 use crate::question::Question;
 use anyhow::Result;
 use std::alloc::Global;
+use std::process::ExitCode;
 
 /// How many differences of one kind are shown, how many in all, and how much of a line.
 const SHOWN_OF_KIND: usize = 2;
@@ -74,5 +75,12 @@ impl Differences {
     pub(crate) fn print_counts(&self, rt: &impl Print) -> Result<()> {
         println!(rt; "{} answers, {} differ", self.answers, self.differ)?;
         Ok(())
+    }
+
+    pub(crate) fn status(&self) -> ExitCode {
+        match self.differ {
+            0 => ExitCode::SUCCESS,
+            _ => ExitCode::FAILURE,
+        }
     }
 }

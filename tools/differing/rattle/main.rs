@@ -1,6 +1,6 @@
 //! Reads questions with the answers of the Rust program beside this one, which asks the crate
 //! `arcstr` and std, and compares them with the answers of the libraries. Prints the first
-//! differences, and then `N answers, M differ`.
+//! differences, and then `N answers, M differ`. The status is 0 only if none differs.
 #![tactic(auto)]
 
 mod answer;
@@ -21,6 +21,7 @@ use crate::answer::Answer;
 use crate::differences::Differences;
 use crate::question::Question;
 use anyhow::{Result, bail};
+use std::process::ExitCode;
 use std::sync::Wait;
 use std::thread::Threads;
 
@@ -29,7 +30,7 @@ pub(crate) trait Machine: AllocGlobal + Threads + Wait + Sync {}
 
 impl<R: AllocGlobal + Threads + Wait + Sync> Machine for R {}
 
-fn main(rt: HostRuntime) -> Result<()> {
+fn main(rt: HostRuntime) -> Result<ExitCode> {
     let mut differences = Differences::new(rt.alloc());
     let mut asked = Question::new(rt.alloc());
     for (number, line) in rt.lines(rt.alloc()).enumerate() {
@@ -44,7 +45,8 @@ fn main(rt: HostRuntime) -> Result<()> {
             differences.compare(&rt, &asked, answer.line(), line.as_str())?;
         }
     }
-    differences.print_counts(&rt)
+    differences.print_counts(&rt)?;
+    Ok(differences.status())
 }
 
 fn give<R: Machine>(rt: &R, question: &Question, answer: &mut Answer) -> Result<()> {

@@ -21,19 +21,29 @@ impl Line {
         }
     }
 
+    /// Adds a text, in which `\` and two digits stand for each of `\`, tab and line ends.
     pub fn text(&mut self, text: &str) {
-        self.bytes(text.as_bytes());
+        self.0.push('\t');
+        for character in text.chars() {
+            match character {
+                '\t' | '\n' | '\r' | '\\' => self.escape(character as u8),
+                _ => self.0.push(character),
+            }
+        }
     }
 
-    /// Adds bytes. `\` and two digits stand for each byte that is no printable ASCII character.
+    /// Adds bytes, in which `\` and two digits stand for each that is no printable ASCII character.
     pub fn bytes(&mut self, bytes: &[u8]) {
         self.0.push('\t');
         for &byte in bytes {
-            if (b' '..=b'~').contains(&byte) && byte != b'\\' {
-                self.0.push(char::from(byte));
-            } else {
-                self.0.push_str(&format!("\\{byte:02x}"));
+            match byte {
+                b' '..=b'~' if byte != b'\\' => self.0.push(char::from(byte)),
+                _ => self.escape(byte),
             }
         }
+    }
+
+    fn escape(&mut self, byte: u8) {
+        self.0.push_str(&format!("\\{byte:02x}"));
     }
 }

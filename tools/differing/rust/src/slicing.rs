@@ -160,7 +160,8 @@ fn taken(random: &mut Random, case: &mut Case) {
     case.say.say(slice.len());
     case.say.text(&text.to_string());
     case.say.text(&slice.to_string());
-    case.say.bytes(slice.as_bytes());
+    case.say
+        .text(std::str::from_utf8(slice.as_bytes()).expect("no UTF-8"));
     // The range is that of a slice.
     let same = unsafe { Substr::from_parts_unchecked(text.clone(), slice.range()) };
     say_slice(&mut case.say, &same);
