@@ -1,7 +1,7 @@
 //! Callers of the laws, with what the laws tell them as contracts.
-ghost use Rattle.std.specs.Prelude.{◌≡◌, ◌≢◌, ◌≤◌, IsTrue, IfSome, length};
+ghost use Rattle.std.specs.Prelude.{◌≡◌, ◌≢◌, ◌≤◌, IsNone, IsTrue, IfSome, length};
 ghost use mathlib.Core.List.{IsPrefix};
-ghost use Rattle.arcstr_block.specs.Handle.{IsMarkedIn};
+ghost use Rattle.arcstr_block.specs.Handle.{IsMarkedIn, SawBack};
 
 use super::made;
 use crate::tests::checks::check_eq;
@@ -185,4 +185,44 @@ fn what_marked_a_block_has_the_mark(rt: HostRuntime) {
         panic!(rt; "the mark was not found");
     };
     made.a_block_has_one_history(&found);
+}
+
+/// A look after a mark finds the mark.
+fn mark_and_look(handle: &Shared<5, Global>) -> Option<u64>
+    ensures { IsNone result }
+{
+    let fixed = handle.mark();
+    handle.look_after(&fixed.seen()).0
+}
+
+/// Of two looks, the second has seen all that the first saw.
+fn looked_in_order(handle: &Shared<5, Global>) -> (Seen, Seen)
+    ensures { IsPrefix result.0.history result.1.history }
+{
+    let (_, first) = handle.look();
+    let (_, second) = handle.look_after(&first);
+    (first, second)
+}
+
+/// A drop that owes the block frees it, and the history says so after all that was seen.
+fn ended(handle: Shared<5, Global>, before: &Seen) -> Option<Seen>
+    requires { before.now.block ≡ handle.block }
+    ensures freed { IfSome result (λ seen. SawBack 5 seen.history handle.seat) }
+    ensures after { IfSome result (λ seen. IsPrefix before.now.history seen.history) }
+{
+    match handle.down_after(before).0 {
+        Down::Owes(owed) => Some(owed.free()),
+        Down::Left | Down::Ended => None,
+    }
+}
+
+#[test]
+fn what_follows_extends_what_was_seen(rt: HostRuntime) {
+    let first = made(&rt, "foobar");
+    let (_, before) = looked_in_order(&first);
+    check_eq!(rt; ended(first, &before).is_some(), true);
+    let second = made(&rt, "foo");
+    check_eq!(rt; mark_and_look(&second), None);
+    let (_, before) = second.look();
+    check_eq!(rt; ended(second, &before).is_some(), false);
 }
