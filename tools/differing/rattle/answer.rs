@@ -1,4 +1,4 @@
-//! An answer: a line of values with a tab before each.
+//! An answer: values with a tab before each. Its texts are not escaped.
 
 use anyhow::Result;
 use std::alloc::Global;
@@ -34,39 +34,9 @@ impl Answer {
         }
     }
 
-    /// Adds a text, in which `\` and two digits stand for each of `\`, tab and line ends.
     pub(crate) fn text(&mut self, text: &str) -> Result<()> {
         self.line.push('\t')?;
-        let mut rest = text;
-        for _ in 0..=text.len() {
-            let Some(place) = first_escaped(rest) else {
-                break
-            };
-            let (before, after) = rest.split_at_checked(place).unwrap_or((rest, ""));
-            let (escaped, after) = after.split_at_checked(1).unwrap_or((after, ""));
-            self.line.push_str(before)?;
-            self.line.push_str(match escaped {
-                "\t" => "\\09",
-                "\n" => "\\0a",
-                "\r" => "\\0d",
-                _ => "\\5c",
-            })?;
-            rest = after;
-        }
-        self.line.push_str(rest)?;
+        self.line.push_str(text)?;
         Ok(())
     }
-}
-
-/// Returns the place of the first character that is escaped. A search for one character reads
-/// several bytes at a time, so four are faster than one for either.
-fn first_escaped(text: &str) -> Option<usize> {
-    let mut first = None;
-    for character in ['\t', '\n', '\r', '\\'] {
-        let place = text.find(character);
-        if place.is_some() && (first.is_none() || place < first) {
-            first = place;
-        }
-    }
-    first
 }

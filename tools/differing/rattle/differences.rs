@@ -1,6 +1,6 @@
 //! The count of the answers, and of those that differ.
 
-use crate::question::Question;
+use crate::question::{Question, unescaped};
 use anyhow::Result;
 use std::alloc::Global;
 use std::process::ExitCode;
@@ -39,8 +39,10 @@ impl Differences {
         rust: &str,
     ) -> Result<()> {
         self.answers = self.answers.wrapping_add(1);
-        let wanted = rust.get(rust.find('\t').unwrap_or(0)..).unwrap_or("");
-        if here != wanted {
+        let (_, wanted) = rust
+            .split_at_checked(rust.find('\t').unwrap_or(0))
+            .unwrap_or(("", ""));
+        if here.as_bytes() != unescaped(rt.alloc(), wanted)?.as_slice() {
             self.differ = self.differ.wrapping_add(1);
             self.show(rt, asked, here, rust)?;
         }
@@ -64,6 +66,7 @@ impl Differences {
         if shown < SHOWN_OF_KIND && self.shown.len() < SHOWN {
             self.shown.push(String::from_str(rt.alloc(), kind)?)?;
             let (most, question) = (CHARACTERS, asked.line());
+            let here = escaped(rt.alloc(), here)?;
             println!(rt; "differs: {kind}")?;
             println!(rt; "  question: {question:.most$}")?;
             println!(rt; "  here:     {here:.most$}")?;
@@ -83,4 +86,18 @@ impl Differences {
             _ => ExitCode::FAILURE,
         }
     }
+}
+
+/// Returns an answer as one line. A tab in a text stays as it is.
+fn escaped(alloc: Global, answer: &str) -> Result<String> {
+    let mut line = String::new(alloc);
+    for character in answer.chars() {
+        match character {
+            '\n' => line.push_str("\\0a")?,
+            '\r' => line.push_str("\\0d")?,
+            '\\' => line.push_str("\\5c")?,
+            other => line.push(other)?,
+        }
+    }
+    Ok(line)
 }

@@ -54,8 +54,8 @@ impl Question {
     }
 }
 
-/// Returns the bytes of a field, in which `\` and two digits stand for a byte.
-fn unescaped(alloc: Global, field: &str) -> Result<Vec<u8>> {
+/// Returns the bytes of a field or of an answer, in which `\` and two digits stand for a byte.
+pub(crate) fn unescaped(alloc: Global, field: &str) -> Result<Vec<u8>> {
     let mut bytes = Vec::new(alloc);
     let mut parts = field.split('\\');
     bytes.extend_from_slice(parts.next().unwrap_or("").as_bytes())?;

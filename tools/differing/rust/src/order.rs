@@ -67,7 +67,7 @@ fn hashed(random: &mut Random, case: &mut Case) {
 fn sorted(random: &mut Random, case: &mut Case) {
     let first = random.text();
     let mut texts: Vec<ArcStr> = vec![first.as_str().into()];
-    for _ in 0..random.below(12) {
+    for _ in 0..random.below(8) {
         texts.push(if random.one_in(2) {
             random.text_like(&first).into()
         } else {

@@ -120,11 +120,11 @@ impl Random {
                 let count = 1 + self.below(8);
                 self.characters(count)
             }
-            240..=339 => {
+            240..=369 => {
                 let count = 1 + self.below(30);
                 self.characters(count)
             }
-            340..=398 => {
+            370..=398 => {
                 let edge = self.pick(&EDGES);
                 self.text_near(edge)
             }

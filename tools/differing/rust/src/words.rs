@@ -47,7 +47,7 @@ fn tokens_all(random: &mut Random, case: &mut Case) {
 /// Asks for words, many of which are equal.
 fn words(random: &mut Random, case: &mut Case) -> Vec<String> {
     let mut words: Vec<String> = Vec::new();
-    for _ in 0..1 + random.below(16) {
+    for _ in 0..1 + random.below(10) {
         let at = random.below(words.len() + 1);
         let word = match words.get(at) {
             Some(word) if random.one_in(2) => random.text_like(word),
