@@ -261,6 +261,21 @@ class WrongBodies(Folder):
         ):
             self.assertEqual(wrong_bodies.is_changed(body, files, before), is_changed, files)
 
+    def test_shares(self) -> None:
+        """No edit is lost, and a large crate does not keep one lane busy alone."""
+        for number, total, lanes, rooms in (
+            (187, 468, 4, 2),
+            (187, 468, 1, 1),
+            (187, 187, 4, 4),
+            (43, 43, 4, 2),
+            (1, 1, 4, 1),
+            (30, 468, 4, 1),
+        ):
+            edits_of_crate = [*range(number)]
+            shares = wrong_bodies.shares_of(edits_of_crate, total, lanes)
+            self.assertEqual(len(shares), rooms, number)
+            self.assertEqual(sorted(sum(shares, [])), edits_of_crate)
+
     def test_planted_bodies_have_to_get_their_verdicts(self) -> None:
         """A prover that rejects all, and one that rejects nothing, are seen."""
         [body], _ = edits.parse(self.path, BODY)
