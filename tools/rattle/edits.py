@@ -209,6 +209,7 @@ def wrong_bodies_in(path: Path) -> tuple[list[WrongBody], list[str]]:
 def read_edit(edit: WrongBody) -> WrongBody:
     """Adds to an edit what it changes of each file, the functions around that, and why it cannot be
     planted."""
+    edit.changes, edit.functions, edit.wrong = [], set(), ""
     texts: dict[Path, tuple[str, str]] = {}
     for (file, old, new), line in zip(edit.hunks, edit.lines):
         path = edit.path.parents[1] / file

@@ -9,12 +9,13 @@ import sys
 import threading
 import time
 from concurrent.futures import ThreadPoolExecutor
+from typing import Any
 
 PROCESSORS = len(os.sched_getaffinity(0))
 # What rt says while it proves a crate, and what it and other scripts say of a part of their work.
 SO_FAR = re.compile(r"(?:so far: |checked .*, )(\d+) of (\d+)\b")
 NEWS = re.compile(r"rt: (.* (?:proved|NOT PROVED))$|(?:wrong-bodies|refusals): (.*)")
-STREAMS = {
+STREAMS: dict[str, Any] = {
     "stdin": subprocess.DEVNULL,
     "stdout": subprocess.PIPE,
     "stderr": subprocess.STDOUT,
@@ -121,7 +122,7 @@ class Progress:
         self.note(part)
         with subprocess.Popen(words, cwd=folder, **STREAMS) as ran:
             self.running.add(ran)
-            for line in ran.stdout:
+            for line in ran.stdout or ():
                 said.append(line)
                 if found := SO_FAR.match(line):
                     most = max(most, int(found[1]))

@@ -4,6 +4,7 @@ import subprocess
 import sys
 import tempfile
 import unittest
+from collections.abc import Callable
 from importlib.machinery import SourceFileLoader
 from pathlib import Path
 from types import ModuleType
@@ -49,6 +50,7 @@ def load(path: Path) -> ModuleType:
     return module
 
 
+apidoc = load(Path(__file__).with_name("apidoc"))
 examples = load(Path(__file__).with_name("examples"))
 wrong_bodies = load(Path(__file__).with_name("wrong-bodies"))
 
@@ -248,8 +250,8 @@ class WrongBodies(Folder):
 
     def test_what_differs_from_upstream(self) -> None:
         [body], _ = edits.parse(self.path, BODY)
-        same = lambda file: [body.content()]
-        other = lambda file: [("a_mistake", [], ["value"])]
+        same: Callable[[str], list] = lambda file: [body.content()]
+        other: Callable[[str], list] = lambda file: [("a_mistake", [], ["value"])]
         for files, before, is_changed in (
             (["crates/pair/wrong-bodies/lib.edits"], same, False),
             (["crates/pair/wrong-bodies/lib.edits"], other, True),
@@ -258,6 +260,21 @@ class WrongBodies(Folder):
             (["crates/pair/specs/A.antt"], same, True),
         ):
             self.assertEqual(wrong_bodies.is_changed(body, files, before), is_changed, files)
+
+    def test_shares(self) -> None:
+        """No edit is lost, and a large crate does not keep one lane busy alone."""
+        for number, total, lanes, rooms in (
+            (187, 468, 4, 2),
+            (187, 468, 1, 1),
+            (187, 187, 4, 4),
+            (43, 43, 4, 2),
+            (1, 1, 4, 1),
+            (30, 468, 4, 1),
+        ):
+            edits_of_crate = [*range(number)]
+            shares = wrong_bodies.shares_of(edits_of_crate, total, lanes)
+            self.assertEqual(len(shares), rooms, number)
+            self.assertEqual(sorted(sum(shares, [])), edits_of_crate)
 
     def test_planted_bodies_have_to_get_their_verdicts(self) -> None:
         """A prover that rejects all, and one that rejects nothing, are seen."""
@@ -320,3 +337,49 @@ class Examples(Folder):
             if "f0" in said:
                 self.assertIn(f"{source.file}:", faults[0])
             self.assertNotIn("planted", "".join(faults))
+
+
+class Reference(Folder):
+    """tools/rattle/apidoc reads items and pictures."""
+
+    def test_signatures_and_contracts(self) -> None:
+        first, clone, _ = sources.functions(self.crate / "src/lib.rt")
+        signature, contract = apidoc.split_header(first, SOURCE)
+        self.assertEqual(signature, "pub fn first(&self) -> u8")
+        self.assertEqual(contract, "ensures value { result ≡ self.now.first }")
+        self.assertEqual(apidoc.split_header(clone, SOURCE)[0], "fn clone(&self) -> Pair")
+
+    def test_types_without_private_fields(self) -> None:
+        source = "pub struct A {\n    pub b: u8,\n    c: u8,\n}\npub struct D {\n    e: u8,\n}\n"
+        shown = {name: said for name, _, said in apidoc.types_of(source)}
+        self.assertEqual(shown["A"].split(), "pub struct A { pub b: u8, }".split())
+        self.assertEqual(shown["D"], "pub struct D { .. }")
+
+    def test_items_without_an_example(self) -> None:
+        def item(title: str, comment: str, body: str = "work()") -> tuple:
+            owner, _, name = title.rpartition("::")
+            function = sources.Function(name, owner or None, True, [], Path("a.rt"), body=body)
+            by = apidoc.shown_by(title, comment, f"pub fn {name}()", function)
+            return apidoc.Item(title, title, comment, by)
+
+        items = [
+            item("A::shown", "Makes.\n```\nmake()\n```"),
+            item("A::twin", "As `A::shown`, for another."),
+            item("A::twin_of_twin", "As `twin`, for another."),
+            item("A::len", "The length.", "self.len"),
+            item("A::bare", "Makes."),
+            item("A::twin_of_bare", "As `bare`."),
+        ]
+        self.assertEqual(apidoc.without_example(items), ["A::bare", "A::twin_of_bare"])
+
+    def test_pictures(self) -> None:
+        dot, wrong = apidoc.as_dot('flowchart LR\n    a["A"]\n    a -->|"to"| b\n    a ==> b\n')
+        self.assertIn('"a" -> "b" [label="to" style=solid arrowhead=normal]', dot)
+        self.assertEqual(wrong, ["this line of a picture is not drawn: a ==> b"])
+
+    def test_links(self) -> None:
+        pages = {"a.html": "<h3 id='b'><a href='c.html#d'>", "c.html": "<a href=a.html#b><p id=e>"}
+        self.assertEqual(apidoc.broken_links(pages)[0], 2)
+        self.assertEqual(len(apidoc.broken_links(pages)[1]), 1)
+        pages["c.html"] += "<p id=d>"
+        self.assertEqual(apidoc.broken_links(pages)[1], [])
