@@ -11,7 +11,7 @@ use std::mem::size_of;
 use std::process::Abort;
 use std::sync::Wait;
 use std::sync::atomic::{AtomicU64, Ordering};
-use std::thread::Threads;
+use std::thread::{Threads, yield_now};
 use std::{io, thread};
 
 #[test]
@@ -135,8 +135,9 @@ fn a_mark_keeps_the_block(rt: HostRuntime) {
     check_eq!(rt; used_after::<5, _>(&rt, &heap, true).expect(&rt, "refused") > 0, true);
 }
 
-/// How often a thread looks for the others: for many seconds, since other programs may keep them from starting.
-const LOOKS: u64 = 10_000_000_000;
+/// How often a thread looks for the others at most. After each look it lets another thread run, since
+/// other programs may keep the threads from starting.
+const LOOKS: u64 = 100_000_000;
 
 /// Counts this thread, and waits until there are as many threads. Returns whether there are.
 fn all_arrive(arrived: &AtomicU64, threads: u64) -> bool {
@@ -145,6 +146,7 @@ fn all_arrive(arrived: &AtomicU64, threads: u64) -> bool {
         if arrived.load(Ordering::SeqCst) == threads {
             return true;
         }
+        yield_now();
     }
     false
 }
