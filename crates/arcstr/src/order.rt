@@ -1,5 +1,6 @@
 //! Equality, order and hash of texts. They depend only on the text, not on its kind.
-//! Those of `Substr` depend only on the slice's own text. `StaticStr` derives those of `ArcStr`.
+//! Those of `Substr` depend only on the slice's own text. Those of `StaticStr` are those
+//! of `ArcStr`, and all but the order are derived.
 ghost use Rattle.std.specs.Prelude.{◌≡◌, ◌↔◌, Some, IsTrue, bytes_eq, refl};
 ghost use Rattle.std.proofs.Common.{rules};
 ghost use Rattle.std.specs.Cmp.{on_equiv, on_per, on_po, on_total, partial_equiv_from_equiv};
@@ -11,6 +12,7 @@ ghost use Rattle.arcstr.specs.TextOrder.{IsTextOrder};
 ghost use Rattle.arcstr.specs.Substr.{text_of};
 
 use crate::arc_str::ArcStr;
+use crate::static_str::StaticStr;
 use crate::substr::Substr;
 use crate::vectors::{compare, is_equal};
 use std::cmp::Ordering;
@@ -156,5 +158,24 @@ impl Hash for Substr {
     /// Feeds the slice's own text to the hasher as a `str` does, so equal slices have equal hashes.
     fn hash<H: Hasher>(&self, state: &mut H) {
         Substr::as_str(self).hash(state);
+    }
+}
+
+impl Ord for StaticStr {
+    ghost cmp = { λ one other. slice_cmp nat_cmp one.text other.text };
+
+    ghost total = { on_total (λ kept. kept.text) nat_list_cmp_total };
+
+    ghost matches_partial_cmp = { λ one other. refl };
+
+    ghost matches_eq = { λ one other. texts_ties one.text other.text };
+
+    /// Compares the two texts as `Ord` of `ArcStr` does.
+    #[tactic(auto, using(crate::proofs::Orders::text_orders))]
+    fn cmp(&self, other: &StaticStr) -> Ordering
+        ensures value { result ≡ slice_cmp nat_cmp self.now.text other.now.text }
+        ensures order { IsTextOrder self.now.text other.now.text result }
+    {
+        compare(StaticStr::as_str(self), StaticStr::as_str(other))
     }
 }

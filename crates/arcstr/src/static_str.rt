@@ -16,7 +16,7 @@ use std::marker::Model;
 /// drop(text);
 /// assert_eq!(rt; kept.as_str(), "foo");
 /// ```
-#[derive(Drop, PartialEq, Eq, PartialOrd, Ord, Hash)]
+#[derive(Drop, PartialEq, Eq, PartialOrd, Hash)]
 pub struct StaticStr {
     text: ArcStr,
 }
