@@ -33,10 +33,7 @@ fn a_long_text_is_made(rt: HostRuntime) {
     check_long(&rt, ArcStr::from_str(alloc, text.as_str()));
     check_long(&rt, ArcStr::try_alloc(alloc, text.as_str()));
     check_long(&rt, ArcStr::from_utf8(alloc, bytes));
-    check_long(
-        &rt,
-        ArcStr::init_with(alloc, LONG, |room| room.copy_from_slice(bytes)),
-    );
+    check_long(&rt, ArcStr::init_with(alloc, LONG, |room| room.fill(b'7')));
     check_long(&rt, ArcStr::try_repeat(alloc, "0123456789", LONG / 10));
     check_long(&rt, ArcStr::repeat(alloc, text.as_str(), 1));
     check_long(&rt, ArcStr::join(alloc, &[text.as_str(), ""], ""));
@@ -57,7 +54,6 @@ fn a_long_text_is_made(rt: HostRuntime) {
 fn a_long_text_is_copied_and_read(rt: HostRuntime) {
     let (alloc, text) = (rt.alloc(), &long_text(&rt));
     check!(rt; text.to_string(alloc).is_ok_and(|copy| copy.len() == LONG));
-    check!(rt; text.clone(&rt).into_cow(alloc).is_ok_and(|copy| copy.len() == LONG));
     let value: Value = text.to_json(alloc).expect(&rt, "no memory");
     check_long(&rt, ArcStr::from_json(alloc, &value));
     let slice = Substr::from_json(alloc, &value).expect(&rt, "no slice");
