@@ -8,6 +8,7 @@ mod handles;
 mod joining;
 mod json;
 mod keys;
+mod long_texts;
 mod macros;
 mod making;
 mod order;

@@ -34,6 +34,7 @@ fn the_empty_text_is_a_literal(rt: HostRuntime) {
 #[test]
 fn a_clone_shares_the_count(rt: HostRuntime) {
     let text = &made(&rt, "foobar");
+    check_count(&rt, text, Some(1));
     let copy = text.clone(&rt);
     check_count(&rt, text, Some(2));
     check_count(&rt, &copy, Some(2));

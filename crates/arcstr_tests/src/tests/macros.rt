@@ -75,6 +75,8 @@ fn values_are_printed(rt: HostRuntime) {
     check_made(&rt, printed_character(rt.alloc(), 'é'), "é");
     check_made(&rt, printed_text(rt.alloc(), "foo"), "foo!");
     check_empty(&rt, &format_arcstr!(rt.alloc(); "").expect(&rt, "refused"));
+    let padded = format_arcstr!(rt.alloc(); "{:>5}", literal!("foo"));
+    check_made(&rt, padded, "  foo");
     let counted = printed_number(rt.alloc(), 123).expect(&rt, "refused");
     check!(rt; ArcStr::as_static(&counted).is_none());
 }

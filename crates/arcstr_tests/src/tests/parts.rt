@@ -1,6 +1,6 @@
 //! Lists of slices: each has its text and its place, and keeps the parent until it is dropped.
 use crate::tests::checks::{check, check_eq};
-use crate::tests::steps::{check_count, made, middle};
+use crate::tests::steps::{check_count, made, middle, part};
 use arcstr::{ArcStr, Substr};
 use std::alloc::{AllocError, AllocGlobal};
 use std::process::Abort;
@@ -87,6 +87,47 @@ fn texts_are_listed_as_str_lists_them(rt: HostRuntime) {
         check_lists_of_text(&rt, &made(&rt, text), parts, lines, words);
         check_lists_of_slice(&rt, &middle(&rt, text), parts, lines, words);
     }
+}
+
+/// How often the text of a long list has a comma and a line.
+const LINES: usize = 200_000;
+
+/// Asserts that a list has this many slices, and that they are all handles of the parent, which has
+/// one other.
+fn check_long_list(
+    rt: &impl Abort,
+    parent: &ArcStr,
+    list: Result<Vec<Substr>, AllocError>,
+    count: usize,
+) {
+    let list = list.expect(rt, "no memory");
+    check_eq!(rt; list.len(), count);
+    check_count(rt, parent, Some(count.saturating_add(1)));
+    drop(list);
+    check_count(rt, parent, Some(1));
+}
+
+#[test]
+fn a_text_of_200_000_lines_is_listed(rt: HostRuntime) {
+    let alloc = rt.alloc();
+    let text = &ArcStr::repeat(alloc, "a,\n", LINES).expect(&rt, "no memory");
+    check_long_list(&rt, text, text.substr_split(&rt, alloc, ','), LINES + 1);
+    check_long_list(&rt, text, text.substr_lines(&rt, alloc), LINES);
+    check_long_list(&rt, text, text.substr_split_whitespace(&rt, alloc), LINES);
+    let slice = &part(
+        &rt,
+        &ArcStr::repeat(alloc, "a,\n", LINES).expect(&rt, "no memory"),
+        3..,
+    );
+    let parent = slice.parent();
+    check_long_list(&rt, parent, slice.substr_split(&rt, alloc, ','), LINES);
+    check_long_list(&rt, parent, slice.substr_lines(&rt, alloc), LINES - 1);
+    check_long_list(
+        &rt,
+        parent,
+        slice.substr_split_whitespace(&rt, alloc),
+        LINES - 1,
+    );
 }
 
 #[test]

@@ -116,7 +116,7 @@ fn found(rt: &(impl Abort + Wait), text: &ArcStr, shown: &str, place: usize) -> 
 
 #[test]
 fn an_empty_view_is_found_everywhere(rt: HostRuntime) {
-    let text = made(&rt, "abab");
+    let text = made(&rt, "   abc");
     for place in [99, MAX] {
         let slice = found(&rt, &text, "", place);
         check_nothing(&rt, &slice.expect(&rt, "not found"));
@@ -155,9 +155,12 @@ fn a_trimmed_view_gives_its_slice(rt: HostRuntime) {
 fn a_trimmed_view_of_a_slice_gives_its_slice(rt: HostRuntime) {
     let slice = &part(&rt, &made(&rt, "foo   bar"), StrRange::From(3));
     check_text(&rt, slice.as_str(), "   bar");
-    let view = StrView::whole(slice.as_str()).trim();
-    let trimmed = slice.try_substr_from(&rt, view).expect(&rt, "not found");
+    let trimmed = slice.substr_from(&rt, slice.view().trim());
     check_slice(&rt, &trimmed, "bar", 6..9);
+    let found = slice
+        .try_substr_from(&rt, slice.view().trim())
+        .expect(&rt, "not found");
+    check_slice(&rt, &found, "bar", 6..9);
 }
 
 /// Returns the slice of `bar` that a view of `shown` at `place` shows, if there is one.

@@ -1,7 +1,7 @@
 //! Texts and slices as values and keys of `toml`, and as values of `log`.
 use crate::tests::checks::check;
 use crate::tests::steps::{check_count, check_text, made, part};
-use arcstr::{Substr, literal};
+use arcstr::Substr;
 use log::kv::ToValue;
 use toml::{Value, toml};
 
@@ -18,23 +18,28 @@ fn texts_are_toml_values(rt: HostRuntime) {
 #[test]
 fn a_toml_value_is_found_by_a_text(rt: HostRuntime) {
     let value: Value = toml::from_str(rt.alloc(), "a = 1\nb = 2").expect(&rt, "no table");
-    let text = &made(&rt, "ab");
+    let (text, name) = (&made(&rt, "ab"), &made(&rt, "a"));
     check!(rt; value.get(&part(&rt, text, 1..)).and_then(|value| value.as_integer()) == Some(2));
-    check!(rt; value.get(&literal!("a")).and_then(|value| value.as_integer()) == Some(1));
+    check!(rt; value.get(name).and_then(|value| value.as_integer()) == Some(1));
     check!(rt; value.get(text).is_none());
+    check_count(&rt, text, Some(1));
+    check_count(&rt, name, Some(1));
 }
 
 #[test]
 fn a_toml_value_that_a_text_names_is_changed(rt: HostRuntime) {
     let mut value: Value = toml::from_str(rt.alloc(), "a = 1\nb = 2").expect(&rt, "no table");
-    for name in [literal!("a"), literal!("c")] {
-        if let Some(member) = value.get_mut(&name) {
+    for name in [&made(&rt, "a"), &made(&rt, "c")] {
+        if let Some(member) = value.get_mut(name) {
             *member = Value::Integer(3);
         }
+        check_count(&rt, name, Some(1));
     }
-    if let Some(member) = value.get_mut(&Substr::from_static("b")) {
+    let name = &Substr::full(made(&rt, "b"));
+    if let Some(member) = value.get_mut(name) {
         *member = Value::Integer(4);
     }
+    check_count(&rt, name.parent(), Some(1));
     check!(rt; value.get("a").and_then(|value| value.as_integer()) == Some(3));
     check!(rt; value.get("b").and_then(|value| value.as_integer()) == Some(4));
     check!(rt; value.get("c").is_none());
