@@ -146,7 +146,7 @@ module _ (limit : ℕ) (p : List Step) (b : ℕ) where
       let one = ended_or_not (length (living limit p b)) (length (owing limit p b) + times_given p b) x.held x.ended in
       (one.0, λ some. (refl, nil_from_length (living limit p b) (one.1 some)))
 
-  owes_or_given : IsPast limit p → b < makes p → (length (owing limit p b) + times_given p b ≤ 1)
+  pub owes_or_given : IsPast limit p → b < makes p → (length (owing limit p b) + times_given p b ≤ 1)
       × (0 < length (owing limit p b) + times_given p b → IsFalse (is_marked limit p b) × (living limit p b ≡ []))
   owes_or_given past made = owes_by (is_marked limit p b) (balance limit p b past made)
 

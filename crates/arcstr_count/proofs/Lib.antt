@@ -9,4 +9,3 @@ pub mod LawsOfPasts
 mod SentencesBlocks
 mod SentencesHandles
 mod SentencesState
-pub mod WorldSteps

@@ -28,10 +28,9 @@ pub use Rattle.arcstr_count.specs.Sentences.{AcceptedAnswer, AcceptedSentence, A
 pub use Rattle.arcstr_count.specs.Sentences.{FirstThatHolds, HasAccepted, LastIsIntoRaw, LivesAlone, LivingSentence, MarkedSentence, OwesSentence}
 pub use Rattle.arcstr_count.specs.Sentences.{StateSentence, UnderWaySentence, accepted_after, accepted_count, births_after, block_after, given_count}
 pub use Rattle.arcstr_count.specs.Sentences.{is_back_on, makes_after, passes_after, state_after}
-pub use Rattle.arcstr_count.specs.Summary.{BlockSummary, StandsFor, Summary, WorldView, block_summary, blocks_of, handle_summary, handles_of, summary_of}
-pub use Rattle.arcstr_count.specs.Summary.{words_left, Answers, Follows, HasHistory, IsAcceptedBy, IsRefusal, Takes, IsAt, state_at}
-pub use Rattle.arcstr_count.specs.Tables.{IsWorld, blocks_with_given, blocks_with_mark, blocks_with_word, handles_with_state, no_block, no_handle, summary_in}
-pub use Rattle.arcstr_count.specs.Tables.{view_of, word_in}
+pub use Rattle.arcstr_count.specs.Model.{State, WorldView, state_of_tables, start, no_handle, no_block, block_on, word_on, state_in, given_in}
+pub use Rattle.arcstr_count.specs.Model.{handles_with_state, blocks_with_word, blocks_with_given, accepted, refusal_in, unless_refused, step}
+pub use Rattle.arcstr_count.specs.Model.{after_from, after, replies_from, replies, HasHistory, IsWorld, IsSound, view_of}
 pub use Rattle.arcstr_count.specs.Word.{FlagAndCount, cloned_of, dropped_of, fresh_word, is_last, looked_of, marked_of}
 pub use Rattle.arcstr_count.specs.declared.faults.StepFault.{StepFault}
 pub use Rattle.arcstr_count.specs.declared.faults.StepFault.TheVariants.{InDrop, IsRaw, NoHandle, NotInDrop, NotOwing, NotRaw}

@@ -5,12 +5,12 @@ use Rattle.arcstr_count.proofs.Names.{length-map, reverse-append, get_or_from_sl
 use Rattle.arcstr_count.proofs.Names.{HandleState, Free, Dropping, Owing, Gone, HandleSummary, Reply, Handle, Looked, Ended, Left, Owes, Given, Marked}
 use Rattle.arcstr_count.proofs.Names.{FlagAndCount, fresh_word, looked_of, cloned_of, dropped_of, is_last, marked_of, makes, births, block_of, numbers_below}
 use Rattle.arcstr_count.proofs.Names.{lives, is_marked, state_of, living, is_only, needs, handle_state, refusal_unless, refusal_by, refusal_of, is_accepted}
-use Rattle.arcstr_count.proofs.Names.{reply_by, accepted_answer, IsPast, past_of, answer_after, word_left, Stands, is_dropping, is_owing, handles_of}
-use Rattle.arcstr_count.proofs.Names.{handle_summary, Keeps, EndsIn, look_reply}
+use Rattle.arcstr_count.proofs.Names.{reply_by, accepted_answer, IsPast, past_of, answer_after, word_left, Stands, is_dropping, is_owing}
+use Rattle.arcstr_count.proofs.Names.{Keeps, EndsIn, look_reply}
 use Rattle.arcstr_count.proofs.Pasts.{past_of-step, IsPast-past_of}
 use Rattle.arcstr_count.proofs.LawsOfHandles.{IsIn, handle_state_is, accepts_needed, block_made, ChangesOne, Begin-changes, Sub-changes, Back-changes}
 use Rattle.arcstr_count.proofs.LawsOfPasts.{word_stands, look_answers, Sub_counted, Sub_last, count_bounded, one_owes, owes_alone}
-use Rattle.arcstr_count.proofs.Tables.{length-numbers_below, length-handles_of, handle_at, handles-Clone, handles-changed}
+use Rattle.arcstr_count.proofs.Tables.{handles_of, handle_summary, length-numbers_below, length-handles_of, handle_at, handles-Clone, handles-changed}
 use Rattle.arcstr_count.proofs.LawsOfBlocks.{held, is_held, count-same}
 
 -- ---- the states of the handles, as a column of the table

@@ -3,8 +3,7 @@ pub mod History
 pub mod Marks
 pub mod Answer
 pub mod Past
-pub mod Summary
 pub mod OneBlock
 pub mod Laws
 pub mod Sentences
-pub mod Tables
+pub mod Model

@@ -11,8 +11,25 @@ ghost use Rattle.arcstr_count.specs.Past.{marked_after, living_after, dropping_a
 ghost use Rattle.arcstr_count.specs.Sentences.{accepted_after, makes_after, births_after, block_after, state_after};
 ghost use Rattle.arcstr_count.specs.Sentences.{accepted_count, given_count, AcceptedSentence, BornSentence, MarkedSentence};
 ghost use Rattle.arcstr_count.specs.Sentences.{StateSentence, OwesSentence, LivingSentence, UnderWaySentence, AnswerSentence};
+ghost use Rattle.arcstr_count.specs.Model.{after, step, block_on, state_in, given_in};
 
 use crate::steps::{HandleState, Reply, Step};
+
+/// What the model's step function says after a history: its reply is the answer of the step, and its state has the block and the state of each handle that was
+/// born, and how often each block was freed.
+///
+/// ```
+/// let (handle, block) = (0, 0);
+/// sentences::model_is(2, &[Step::Make], Step::Look(0), handle, block);
+/// ```
+#[tactic(auto, using(crate::proofs::Tables::reply_is, crate::proofs::Tables::state_is, crate::proofs::Tables::block_is, crate::proofs::Tables::given_is))]
+pub fn model_is(limit: u64, history: &[Step], act: Step, handle: u64, block: u64)
+    ensures reply { (step limit (after limit history.now) act).1 ≡ answer_after limit history.now act }
+    ensures state { state_in (after limit history.now) handle ≡ state_after limit history.now handle }
+    ensures on { handle < births_after limit history.now
+        → block_on (after limit history.now) handle ≡ block_after limit history.now handle }
+    ensures given { given_in (after limit history.now) block ≡ given_after limit history.now block }
+{}
 
 /// Which steps are accepted: `Make` always, and any other step whose handle's state has 'ok' in the table of refusals. `Look`, `Clone`, `Begin`, `Leak` and
 /// `IntoRaw` need a free handle, `Sub` a dropping one, `Back` an owing one and `FromRaw` a raw one.

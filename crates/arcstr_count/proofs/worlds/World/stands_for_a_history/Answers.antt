@@ -6,4 +6,4 @@ pub returns-clause-some : goal.returns-clause-some
 returns-clause-some g c = subst HasHistory c.self.view_is c.self.invariant.has_history
 
 pub returns-clause-laws : goal.returns-clause-laws
-returns-clause-laws g c history stands = holds_in_every_interleaving c.args.self.now.summary.limit history
+returns-clause-laws g c history stands = holds_in_every_interleaving c.args.self.now.limit history
