@@ -7,8 +7,7 @@ use Rattle.arcstr_count.specs.declared.steps.Step.{Step}
 use Rattle.arcstr_count.specs.declared.faults.RunFault.{RunFault}
 use Rattle.arcstr_count.specs.declared.faults.RunFault.TheVariants.{LimitTooLarge as RunLimitTooLarge, Memory as RunMemory}
 use Rattle.arcstr_count.specs.declared.words.TheConstants.{RC_MAX}
-use Rattle.arcstr_count.specs.History.{numbers_below}
-use Rattle.arcstr_count.specs.Model.{State, step, after}
+use Rattle.arcstr_count.specs.Model.{State, step, after, numbers_below}
 use Rattle.arcstr_count.specs.declared.steps.Reply.{Reply}
 use Rattle.arcstr_count.specs.declared.steps.Reply.TheVariants.{Made, Count, Static, Handle, Looked, Ended, Left, Owes, Given, Marked, Raw, Unraw, Refused}
 use Rattle.arcstr_count.specs.Answer.{step_fault_number, step_fault_text}

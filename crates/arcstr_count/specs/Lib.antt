@@ -1,9 +1,6 @@
-pub mod Word
-pub mod History
-pub mod Marks
-pub mod Answer
-pub mod Past
-pub mod OneBlock
-pub mod Laws
-pub mod Sentences
 pub mod Model
+pub mod Word
+pub mod Answer
+pub mod Laws
+pub mod OneBlock
+pub mod Sentences

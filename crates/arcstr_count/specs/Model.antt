@@ -1,23 +1,23 @@
 -- The model of counted blocks as one step function: from a state and a step to a state and a reply. Read this file first.
 --
 -- A state has an entry for each handle that was born, in the order of their births, with its block and its own state, and an
--- entry for each block that was made, in the order of their making, with its count word and how often it was freed.
-use Rattle.std.specs.Prelude.{◌≡◌, ℕ, ◌+◌, ◌<◌, ◌≤◌, if◌then◌else◌, List, [], ◌∷◌, ◌++◌, length, slice_get, slice_index_or, slice_set}
-use Rattle.std.specs.Prelude.{Option, None, Some, option_map}
+-- entry for each block that was made, in the order of their making, with its count word and how often it was freed. The count
+-- word of an unmarked block is the number of the handles that live on it: `words_stand` of Laws.antt, for every history.
+use Rattle.std.specs.Prelude.{◌≡◌, ℕ, ◌+◌, ◌<◌, ◌≤◌, Bool, true, false, ◌&&◌, ◌==◌, if◌then◌else◌, List, [], ◌∷◌, ◌++◌, length}
+use Rattle.std.specs.Prelude.{zero, suc, filter, Option, None, Some, option_map, is_none, slice_get, slice_index_or, slice_set}
 use Rattle.arcstr_count.specs.declared.steps.Step.{Step}
 use Rattle.arcstr_count.specs.declared.steps.Step.TheVariants.{Make, Look, Clone, Begin, Sub, Back, Leak, IntoRaw, FromRaw}
 use Rattle.arcstr_count.specs.declared.steps.HandleState.{HandleState}
 use Rattle.arcstr_count.specs.declared.steps.HandleState.TheVariants.{Free, Raw, Dropping, Owing, Gone}
 use Rattle.arcstr_count.specs.declared.steps.HandleSummary.{HandleSummary}
 use Rattle.arcstr_count.specs.declared.steps.Reply.{Reply}
-use Rattle.arcstr_count.specs.declared.steps.Reply.TheVariants.{Made, Handle, Looked, Ended, Left, Owes}
+use Rattle.arcstr_count.specs.declared.steps.Reply.TheVariants.{Made, Count, Static, Handle, Looked, Ended, Left, Owes}
 use Rattle.arcstr_count.specs.declared.steps.Reply.TheVariants.{Given, Marked, Raw as RawReply, Unraw, Refused}
 use Rattle.arcstr_count.specs.declared.faults.StepFault.{StepFault}
 use Rattle.arcstr_count.specs.declared.words.TheConstants.{RC_MAX}
 use Rattle.arcstr_count.specs.declared.worlds.BlockEntry.{BlockEntry}
 use Rattle.arcstr_count.specs.Word.{FlagAndCount, fresh_word, looked_of, cloned_of, dropped_of, is_last, marked_of}
 use Rattle.arcstr_count.specs.Answer.{needs, refusal_by}
-use Rattle.arcstr_count.specs.OneBlock.{look_reply}
 
 pub record State : Type 0 where
   pub handles : List HandleSummary
@@ -39,20 +39,27 @@ no_handle = record { block = 0; state = Gone }
 abbrev pub no_block : BlockEntry
 no_block = record { word = fresh_word; given = 0 }
 
--- the block of a handle, and its count word
+-- the block and the state of a handle
 abbrev pub block_on : State → ℕ → ℕ
 block_on w h = (slice_index_or w.handles h no_handle).block
 
-abbrev pub word_on : State → ℕ → FlagAndCount
-word_on w h = (slice_index_or w.blocks (block_on w h) no_block).word
-
--- how often a block was freed; 0 for one that was never made
-abbrev pub given_in : State → ℕ → ℕ
-given_in w b = (slice_index_or w.blocks b no_block).given
+abbrev pub state_on : State → ℕ → HandleState
+state_on w h = (slice_index_or w.handles h no_handle).state
 
 -- the state of a handle; `None` for one that was never born
 abbrev pub state_in : State → ℕ → Option HandleState
 state_in w h = option_map (λ (it : HandleSummary). it.state) (slice_get w.handles h)
+
+-- the count word of a block, and how often it was freed
+abbrev pub word_in : State → ℕ → FlagAndCount
+word_in w b = (slice_index_or w.blocks b no_block).word
+
+abbrev pub given_in : State → ℕ → ℕ
+given_in w b = (slice_index_or w.blocks b no_block).given
+
+-- the count word of the block of a handle
+abbrev pub word_on : State → ℕ → FlagAndCount
+word_on w h = word_in w (block_on w h)
 
 -- the handle is in another state, on the same block
 abbrev pub handles_with_state : List HandleSummary → ℕ → HandleState → List HandleSummary
@@ -69,6 +76,11 @@ blocks_with_given blocks b =
     slice_set blocks b (record { word = (slice_index_or blocks b no_block).word; given = (slice_index_or blocks b no_block).given + 1 })
 
 -- ---- steps
+
+-- what a look answers: a number of handles, or `Static` at a marked block
+abbrev pub look_reply : Option ℕ → Reply
+look_reply (Some n) = Count n
+look_reply None = Static
 
 -- the state and the reply after a step that is accepted
 abbrev pub accepted : ℕ → State → Step → State × Reply
@@ -134,6 +146,90 @@ replies_from limit w (s ∷ later) = (step limit w s).1 ∷ replies_from limit (
 abbrev pub replies : ℕ → List Step → List Reply
 replies limit history = replies_from limit start history
 
+-- `Make` makes a block
+abbrev pub is_make : Step → Bool
+is_make Make = true
+is_make s = false
+
+-- `Make` and `Clone` give birth to a handle
+abbrev pub is_birth : Step → Bool
+is_birth Make = true
+is_birth (Clone h) = true
+is_birth s = false
+
+-- ---- the handles on a block
+
+-- a handle lives while it is free, raw or dropping
+abbrev pub lives : HandleState → Bool
+lives Free = true
+lives Raw = true
+lives Dropping = true
+lives s = false
+
+abbrev pub is_dropping : HandleState → Bool
+is_dropping Dropping = true
+is_dropping s = false
+
+abbrev pub is_owing : HandleState → Bool
+is_owing Owing = true
+is_owing s = false
+
+-- the numbers below n, in ascending order
+abbrev pub numbers_below : ℕ → List ℕ
+numbers_below zero = []
+numbers_below (suc n) = numbers_below n ++ n ∷ []
+
+-- the handles on a block whose states pass a test
+abbrev pub handles_on : State → ℕ → (HandleState → Bool) → List ℕ
+handles_on w b test = filter (λ h. (block_on w h == b) && test (state_on w h)) (numbers_below (length w.handles))
+
+-- ---- what a history means for blocks and handles
+
+-- the step is accepted after the history, and what it answers
+abbrev pub accepted_after : ℕ → List Step → Step → Bool
+accepted_after limit history s = is_none (refusal_in (after limit history) s)
+
+abbrev pub answer_after : ℕ → List Step → Step → Reply
+answer_after limit history s = (step limit (after limit history) s).1
+
+-- how many blocks were made, and how many handles were born
+abbrev pub makes_after : ℕ → List Step → ℕ
+makes_after limit history = length (after limit history).blocks
+
+abbrev pub births_after : ℕ → List Step → ℕ
+births_after limit history = length (after limit history).handles
+
+-- the block of a handle, and its state; `None` for one that was never born
+abbrev pub block_after : ℕ → List Step → ℕ → ℕ
+block_after limit history h = block_on (after limit history) h
+
+abbrev pub state_after : ℕ → List Step → ℕ → Option HandleState
+state_after limit history h = state_in (after limit history) h
+
+-- the block was made in the history
+abbrev pub IsMade : ℕ → List Step → ℕ → Type 0
+IsMade limit history b = b < makes_after limit history
+
+-- the count word of a block, whether the block is marked, and how often it was freed
+abbrev pub word_after : ℕ → List Step → ℕ → FlagAndCount
+word_after limit history b = word_in (after limit history) b
+
+abbrev pub marked_after : ℕ → List Step → ℕ → Bool
+marked_after limit history b = (word_after limit history b).flag
+
+abbrev pub given_after : ℕ → List Step → ℕ → ℕ
+given_after limit history b = given_in (after limit history) b
+
+-- the handles on a block that live, whose drops have looked and not subtracted, and that owe the block
+abbrev pub living_after : ℕ → List Step → ℕ → List ℕ
+living_after limit history b = handles_on (after limit history) b lives
+
+abbrev pub dropping_after : ℕ → List Step → ℕ → List ℕ
+dropping_after limit history b = handles_on (after limit history) b is_dropping
+
+abbrev pub owing_after : ℕ → List Step → ℕ → List ℕ
+owing_after limit history b = handles_on (after limit history) b is_owing
+
 -- ---- worlds
 
 -- what contracts see of a world: its limit and its state
@@ -157,8 +253,6 @@ pub record IsWorld (limit : ℕ) (handles : List HandleSummary) (blocks : List B
 -- handle's block counts it; the block of an owing handle was not freed; no block was freed twice
 pub record IsSound (w : State) : Type 0 where
   pub made : (h : ℕ) (it : HandleSummary) → slice_get w.handles h ≡ Some it → it.block < length w.blocks
-  pub counted : (h : ℕ) (it : HandleSummary) → slice_get w.handles h ≡ Some it → it.state ≡ Dropping
-      → 0 < (slice_index_or w.blocks it.block no_block).word.count
-  pub unfreed : (h : ℕ) (it : HandleSummary) → slice_get w.handles h ≡ Some it → it.state ≡ Owing
-      → (slice_index_or w.blocks it.block no_block).given ≡ 0
+  pub counted : (h : ℕ) (it : HandleSummary) → slice_get w.handles h ≡ Some it → it.state ≡ Dropping → 0 < (word_in w it.block).count
+  pub unfreed : (h : ℕ) (it : HandleSummary) → slice_get w.handles h ≡ Some it → it.state ≡ Owing → given_in w it.block ≡ 0
   pub once : (b : ℕ) → given_in w b ≤ 1

@@ -3,9 +3,8 @@
 ghost use Rattle.std.specs.Prelude.{ℕ, ◌≡◌, ◌<◌, ◌≤◌, ◌↔◌, ◌+◌, ◌++◌, if◌then◌else◌, [], ◌∷◌, List, length};
 ghost use Rattle.std.specs.Prelude.{IsTrue, IfOk, IfErr, OnErr, IsOk, IsNone, IsSome, None, slice_get, slice_index_or, vec_len, vec_capacity};
 ghost use Rattle.arcstr_count.specs.declared.steps.Step.{Step};
-ghost use Rattle.arcstr_count.specs.History.{is_birth};
 ghost use Rattle.arcstr_count.specs.Model.{State, WorldView, step, after, start, state_of_tables, refusal_in, state_in, no_block, no_handle};
-ghost use Rattle.arcstr_count.specs.Model.{handles_with_state, blocks_with_word, blocks_with_given, given_in, HasHistory, IsSound};
+ghost use Rattle.arcstr_count.specs.Model.{is_birth, handles_with_state, blocks_with_word, blocks_with_given, given_in, HasHistory, IsSound};
 ghost use Rattle.arcstr_count.specs.Answer.{refusal_unless};
 ghost use Rattle.arcstr_count.specs.Word.{marked_of};
 ghost use Rattle.arcstr_count.specs.declared.words.TheConstants.{RC_MAX};

@@ -1,5 +1,5 @@
 use Rattle.arcstr_count.proofs.Names.{◌≡◌, ◌++◌, [], ◌∷◌, if◌then◌else◌, get_or, take, refl, ◌∙◌, ap, take_more, take_all, Make}
-use Rattle.arcstr_count.proofs.Tables.{takes_more}
+use Rattle.arcstr_count.proofs.LawsOfHistories.{takes_more}
 use Rattle.arcstr_count.proofs.runs.replies_of.Goals as goal
 
 pub loop-step-init : goal.loop-step-init

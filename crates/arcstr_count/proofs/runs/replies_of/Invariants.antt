@@ -1,5 +1,5 @@
 use Rattle.arcstr_count.proofs.Names.{take}
-use Rattle.arcstr_count.proofs.Tables.{HasTaken}
+use Rattle.arcstr_count.proofs.LawsOfHistories.{HasTaken}
 use Rattle.arcstr_count.proofs.runs.replies_of.Given as goal
 
 abbrev pub invariant-loop-step : goal.invariant-loop-step

@@ -1,5 +1,5 @@
 use Rattle.arcstr_count.proofs.Names.{◌∙◌, sym, subst, refl, ◌<◌, BlockEntry, no_block}
-use Rattle.arcstr_count.proofs.Tables.{get_or_any}
+use Rattle.arcstr_count.proofs.LawsOfHistories.{get_or_any}
 use Rattle.arcstr_count.proofs.worlds.sub.Goals as goal
 
 pub dropped-word-requires : goal.dropped-word-requires

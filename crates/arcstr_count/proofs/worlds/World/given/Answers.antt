@@ -1,5 +1,5 @@
 use Rattle.arcstr_count.proofs.Names.{◌∙◌, ap, sym, slice_get, WorldView, given_in}
-use Rattle.arcstr_count.proofs.Tables.{given_found, given_absent, sound_world}
+use Rattle.arcstr_count.proofs.LawsOfHistories.{given_found, given_absent, sound_world}
 use Rattle.arcstr_count.proofs.worlds.World.given.Goals as goal
 
 pub returns-in-None-clause-value : goal.returns-in-None-clause-value

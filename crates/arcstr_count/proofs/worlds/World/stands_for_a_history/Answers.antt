@@ -1,5 +1,5 @@
 use Rattle.arcstr_count.proofs.Names.{subst, HasHistory}
-use Rattle.arcstr_count.proofs.LawsOfPasts.{holds_in_every_interleaving}
+use Rattle.arcstr_count.proofs.LawsOfHistories.{holds_in_every_interleaving}
 use Rattle.arcstr_count.proofs.worlds.World.stands_for_a_history.Goals as goal
 
 pub returns-clause-some : goal.returns-clause-some

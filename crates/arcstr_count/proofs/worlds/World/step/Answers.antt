@@ -1,4 +1,4 @@
-use Rattle.arcstr_count.proofs.Tables.{sound_world, world_taken}
+use Rattle.arcstr_count.proofs.LawsOfHistories.{sound_world, world_taken}
 use Rattle.arcstr_count.proofs.worlds.World.step.Goals as goal
 
 pub take-requires-clause-sound : goal.take-requires-clause-sound
