@@ -8,11 +8,11 @@ use Rattle.std.proofs.lemmas.List.Elements.{filter_map-append}
 use Rattle.std.proofs.Math.ListN.{get_or-append}
 use Rattle.std.proofs.Math.Seq.{get_or-append_seam, take-append_seam}
 use Rattle.arcstr_count.specs.declared.steps.Step.{Step}
-use Rattle.arcstr_count.specs.History.{numbers_below}
-use Rattle.arcstr_count.specs.Summary.{WorldView, StandsFor}
+use Rattle.arcstr_count.specs.Model.{State, WorldView, start, step, after, after_from, numbers_below}
+use Rattle.arcstr_count.proofs.LawsOfHistories.{after_from-step}
 use Rattle.arcbench_core.specs.Line.{newline, step_of}
 use Rattle.arcbench_core.specs.Threads.{worker_line, worker_lines}
-use Rattle.arcbench_core.specs.Script.{steps_of, history_with, answer_by, line_answer, answer_at, answers}
+use Rattle.arcbench_core.specs.Script.{steps_of, state_with, answer_by, line_answer, answer_at, answers}
 
 -- ---- the answers to the first lines
 
@@ -58,34 +58,36 @@ answers-push limit before line =
       map-same _ (λ k. answer_at limit before k) (length before) (answer_at-prefix limit before line),
     ) refl
 
--- ---- the history of lines
+-- ---- the state after lines
 
-steps_of-push : (before : List (List ℕ)) (line : List ℕ) → steps_of (before ++ line ∷ []) ≡ history_with (steps_of before) (step_of line)
-steps_of-push before line = filter_map-append step_of before (line ∷ []) ∙ one (step_of line)
+after-push : (limit : ℕ) (before : List (List ℕ)) (line : List ℕ)
+    → after limit (steps_of (before ++ line ∷ [])) ≡ state_with limit (after limit (steps_of before)) (step_of line)
+after-push limit before line = ap (λ steps. after limit steps) (filter_map-append step_of before (line ∷ [])) ∙ one (step_of line)
   where
-    one : (found : Option Step) → steps_of before ++ filter_map (λ x. found) (line ∷ []) ≡ history_with (steps_of before) found
-    one None = append-nil (steps_of before)
-    one (Some step) = refl
+    one : (found : Option Step) → after limit (steps_of before ++ filter_map (λ x. found) (line ∷ []))
+        ≡ state_with limit (after limit (steps_of before)) found
+    one None = ap (λ steps. after limit steps) (append-nil (steps_of before))
+    one (Some s) = after_from-step limit start (steps_of before) s
 
 -- ---- the lines that are answered
 
 -- of all lines, `done` are answered and `left` are not; the world and the bytes are those after `done`
-pub record LinesDone (all done left : List (List ℕ)) (first world : WorldView) (start out : List ℕ) : Type 0 where
+pub record LinesDone (all done left : List (List ℕ)) (first world : WorldView) (begun out : List ℕ) : Type 0 where
   pub parts : all ≡ done ++ left
-  pub limit : world.summary.limit ≡ first.summary.limit
-  pub stands : StandsFor world (steps_of done)
-  pub text : out ≡ start ++ answers first.summary.limit done
+  pub limit : world.limit ≡ first.limit
+  pub state : world.state ≡ after first.limit (steps_of done)
+  pub text : out ≡ begun ++ answers first.limit done
 
-pub nothing_done : (all : List (List ℕ)) (world : WorldView) (start : List ℕ) → StandsFor world [] → LinesDone all [] all world world start start
-nothing_done all world start h = record { parts = refl; limit = refl; stands = h; text = sym (append-nil start) }
+pub nothing_done : (all : List (List ℕ)) (world : WorldView) (begun : List ℕ) → world.state ≡ start → LinesDone all [] all world world begun begun
+nothing_done all world begun h = record { parts = refl; limit = refl; state = h; text = sym (append-nil begun) }
 
-pub one_more_done : (all done later : List (List ℕ)) (line : List ℕ) (first world next : WorldView) (start out end : List ℕ)
-    → LinesDone all done (line ∷ later) first world start out → next.summary.limit ≡ world.summary.limit
-    → StandsFor next (history_with (steps_of done) (step_of line))
-    → end ≡ out ++ (answer_by world.summary.limit (steps_of done) (step_of line) ++ newline ∷ []) → LinesDone all (done ++ line ∷ []) later first next start end
-one_more_done all done later line first world next start out end h same stands text = record {
+pub one_more_done : (all done later : List (List ℕ)) (line : List ℕ) (first world next : WorldView) (begun out end : List ℕ)
+    → LinesDone all done (line ∷ later) first world begun out → next.limit ≡ world.limit
+    → next.state ≡ state_with world.limit world.state (step_of line)
+    → end ≡ out ++ (answer_by world.limit world.state (step_of line) ++ newline ∷ []) → LinesDone all (done ++ line ∷ []) later first next begun end
+one_more_done all done later line first world next begun out end h same state text = record {
   parts = h.parts ∙ sym (append_assoc done (line ∷ []) later);
   limit = same ∙ h.limit;
-  stands = rw (steps_of-push done line) stands;
-  text = rw (text, h.text, h.limit, answers-push first.summary.limit done line) (append_assoc start _ _);
+  state = state ∙ (λ i. state_with (h.limit i) (h.state i) (step_of line)) ∙ sym (after-push first.limit done line);
+  text = rw (text, h.text, h.limit, h.state, answers-push first.limit done line) (append_assoc begun _ _);
 }

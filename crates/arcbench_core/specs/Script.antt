@@ -7,8 +7,7 @@ use Rattle.arcstr_count.specs.declared.steps.Step.{Step}
 use Rattle.arcstr_count.specs.declared.faults.RunFault.{RunFault}
 use Rattle.arcstr_count.specs.declared.faults.RunFault.TheVariants.{LimitTooLarge as RunLimitTooLarge, Memory as RunMemory}
 use Rattle.arcstr_count.specs.declared.words.TheConstants.{RC_MAX}
-use Rattle.arcstr_count.specs.History.{numbers_below}
-use Rattle.arcstr_count.specs.Past.{answer_after}
+use Rattle.arcstr_count.specs.Model.{State, step, after, numbers_below}
 use Rattle.arcstr_count.specs.declared.steps.Reply.{Reply}
 use Rattle.arcstr_count.specs.declared.steps.Reply.TheVariants.{Made, Count, Static, Handle, Looked, Ended, Left, Owes, Given, Marked, Raw, Unraw, Refused}
 use Rattle.arcstr_count.specs.Answer.{step_fault_number, step_fault_text}
@@ -43,19 +42,19 @@ reply_text (Refused fault) =
 abbrev pub steps_of : List (List ℕ) → List Step
 steps_of lines = filter_map step_of lines
 
--- the history with a line's step at its end, if the line has one
-abbrev pub history_with : List Step → Option Step → List Step
-history_with history None = history
-history_with history (Some step) = history ++ step ∷ []
+-- the state after a line's step, if the line has one
+abbrev pub state_with : ℕ → State → Option Step → State
+state_with limit w None = w
+state_with limit w (Some s) = (step limit w s).0
 
--- the answer to a line, by its step: `bad` if it has none, else the text of the answer after a history
-abbrev pub answer_by : ℕ → List Step → Option Step → List ℕ
-answer_by limit history None = codes "bad"
-answer_by limit history (Some step) = reply_text (answer_after limit history step)
+-- the answer to a line in a state, by its step: `bad` if it has none, else the text of the model's reply
+abbrev pub answer_by : ℕ → State → Option Step → List ℕ
+answer_by limit w None = codes "bad"
+answer_by limit w (Some s) = reply_text (step limit w s).1
 
 -- the answer to a line after the lines before it
 abbrev pub line_answer : ℕ → List (List ℕ) → List ℕ → List ℕ
-line_answer limit before line = answer_by limit (steps_of before) (step_of line)
+line_answer limit before line = answer_by limit (after limit (steps_of before)) (step_of line)
 
 -- the answer to the line at an index, ended by a newline
 abbrev pub answer_at : ℕ → List (List ℕ) → ℕ → List ℕ

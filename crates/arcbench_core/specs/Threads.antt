@@ -3,7 +3,7 @@ use Rattle.std.specs.Prelude.{◌≡◌, ℕ, ◌<◌, List, [], ◌∷◌, ◌+
 use Rattle.std.specs.Fmt.{decimal}
 use Rattle.std.specs.List.{concat}
 use Rattle.arcstr.specs.TextView.{TextView}
-use Rattle.arcstr_count.specs.History.{numbers_below}
+use Rattle.arcstr_count.specs.Model.{numbers_below}
 use Rattle.arcbench_core.specs.declared.pool.PoolFault.{PoolFault}
 use Rattle.arcbench_core.specs.declared.pool.PoolFault.TheVariants.{Memory, NoThread}
 use Rattle.arcbench_core.specs.Line.{newline}

@@ -91,7 +91,8 @@ pub use Rattle.atomic_table.proofs.Calls.{found, fm, seq_cst, finds, loads, ors,
 pub use Rattle.atomic_table.proofs.Walks.{leaves, proved}
 pub use Rattle.atomic_table.specs.Seated.{itself, halved, unused, roster}
 pub use Rattle.logbook.proofs.Fields.{lends_twice, Token, token, token_made}
-pub use Rattle.arcstr_count.specs.OneBlock.{Keeps, EndsIn, look_reply, IsOneBlock}
+pub use Rattle.arcstr_count.specs.Model.{look_reply}
+pub use Rattle.arcstr_count.specs.OneBlock.{Keeps, EndsIn, IsOneBlock}
 pub use Rattle.arcstr_count.specs.Word.{FlagAndCount, looked_of, cloned_of, is_last, marked_of, dropped_of, bits_of, fresh_word}
 pub use Rattle.arcstr_count.specs.declared.steps.HandleState.{HandleState}
 pub use Rattle.arcstr_count.specs.declared.steps.HandleState.TheVariants.{Free, Dropping, Owing, Gone}

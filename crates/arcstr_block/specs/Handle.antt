@@ -3,8 +3,8 @@ use Rattle.std.specs.Prelude.{ℕ, IsTrue, List}
 use Rattle.arcstr_count.specs.declared.steps.Step.{Step}
 use Rattle.arcstr_count.specs.declared.steps.Step.TheVariants.{Look, Leak, Back}
 use Rattle.arcstr_count.specs.declared.steps.Reply.TheVariants.{Count, Static, Marked, Given}
+use Rattle.arcstr_count.specs.Model.{marked_after}
 use Rattle.arcstr_count.specs.OneBlock.{IsOneBlock, EndsIn}
-use Rattle.arcstr_count.specs.Past.{marked_after}
 use Rattle.arcstr_block.specs.Book.{BlockName}
 
 -- the bytes of the text, the name of the block, the number of the handle in it, and the limit on the count of the block

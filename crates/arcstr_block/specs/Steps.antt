@@ -6,7 +6,8 @@ use Rattle.arcstr_count.specs.declared.steps.Step.TheVariants.{Look, Begin, Sub,
 use Rattle.arcstr_count.specs.declared.steps.Reply.{Reply}
 use Rattle.arcstr_count.specs.declared.steps.Reply.TheVariants.{Ended as EndedReply, Looked as LookedReply, Owes as OwesReply, Left as LeftReply, Marked}
 use Rattle.arcstr_count.specs.Word.{looked_of}
-use Rattle.arcstr_count.specs.OneBlock.{EndsIn, look_reply}
+use Rattle.arcstr_count.specs.Model.{look_reply}
+use Rattle.arcstr_count.specs.OneBlock.{EndsIn}
 use Rattle.arcstr_block.specs.Word.{word_of, IsMarked, IsUnmarked, IsLast}
 use Rattle.arcstr_block.specs.Handle.{Handle, IsMarkedIn}
 use Rattle.arcstr_block.specs.declared.pointer.Pointer.{Pointer}

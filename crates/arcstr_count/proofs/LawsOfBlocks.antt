@@ -1,12 +1,16 @@
--- The handles on a block, counted by their states, and the count word of the block, which counts them.
+-- The handles on a block, counted by their states, and the count word of the block, which counts them, in every state after a history.
+--
+-- We show for each step what it does to the number of handles on each block in a state that passes a test, then that each block stays balanced with
+-- these numbers, and then that each state after a history is balanced.
 use Rattle.arcstr_count.proofs.Names.{◌≡◌, ◌≢◌, ℕ, zero, suc, ◌+◌, ◌<◌, ◌≤◌, Bool, true, false, ◌&&◌, ◌==◌, if◌then◌else◌, List, [], ◌∷◌, ◌++◌, get_or, length}
-use Rattle.arcstr_count.proofs.Names.{filter, refl, sym, ◌∙◌, ap, ap₂, ◌⊎◌, inl, inr, arith, ne_eqb, eq-eqb, Contains, not, ◌||◌, nat_lt, subst, subst₂}
-use Rattle.arcstr_count.proofs.Names.{eqb-true, ltb-true, ltb-false, length-append, filter-append, Contains-append_left, Contains-push, cases_eq, eqb-false}
-use Rattle.arcstr_count.proofs.Names.{Step, Make, Clone, Look, Begin, Sub, Back, Leak, IntoRaw, FromRaw, HandleState, Free, Raw, Dropping, Owing, Gone, makes}
-use Rattle.arcstr_count.proofs.Names.{births, block_of, lives, numbers_below, state_of, living, is_only, is_marked, IsPast, times_given, is_dropping, word_left}
-use Rattle.arcstr_count.proofs.Names.{is_owing, FlagAndCount, cloned_of, dropped_of, marked_of, is_accepted}
-use Rattle.arcstr_count.proofs.LawsOfHandles.{same_test, other_test, IsIn, ChangesOne, state-born, block-Make, block-Make_other, block-Clone, block-Clone_other}
-use Rattle.arcstr_count.proofs.LawsOfHandles.{block_made, step_finds, Begin-changes, Sub-changes, Back-changes, IntoRaw-changes, FromRaw-changes}
+use Rattle.arcstr_count.proofs.Names.{filter, refl, sym, ◌∙◌, ap, ap₂, ◌⊎◌, inl, inr, arith, ne_eqb, eq-eqb, Contains, not, ◌||◌, nat_lt, subst, set}
+use Rattle.arcstr_count.proofs.Names.{eqb-true, ltb-true, ltb-false, length-append, filter-append, Contains-append_left, Contains-push, cases_eq, eqb-false, length_push}
+use Rattle.arcstr_count.proofs.Names.{get_or-set_same, get_or-set_other, set-get_or, length-set, get_or_push, get_or_append_left, Option, Some, None, option_map, slice_get}
+use Rattle.arcstr_count.proofs.Names.{slice_get_within, get_or_from_slice_get, slice_get-get_or, StepFault, numbers_below, lives, is_dropping, is_owing}
+use Rattle.arcstr_count.proofs.Names.{Step, Make, Clone, Look, Begin, Sub, Back, Leak, IntoRaw, FromRaw, HandleState, Free, Raw, Dropping, Owing, Gone, HandleSummary}
+use Rattle.arcstr_count.proofs.Names.{FlagAndCount, fresh_word, cloned_of, dropped_of, marked_of, is_last, BlockEntry, refusal_unless, Reply, Ended, Looked}
+use Rattle.arcstr_count.proofs.Names.{State, start, no_handle, no_block, block_on, state_on, state_in, word_on, given_in, handles_with_state}
+use Rattle.arcstr_count.proofs.Names.{accepted, refusal_in, unless_refused, step, after_from, after}
 
 -- ---- how many numbers below n pass a test
 
@@ -72,6 +76,12 @@ contains_passing f (suc n) i below passes = by_place (cases_eq i n) (λ inner. c
     by_place (inr inner) earlier =
         rw (filter-push f n) (Contains-append_left (filter f (numbers_below n)) (filter f (n ∷ [])) i (earlier (omega arith)))
 
+-- h is the only member of the set
+abbrev pub is_only : ℕ → List ℕ → Bool
+is_only h [] = false
+is_only h (x ∷ []) = x == h
+is_only h (x ∷ y ∷ xs) = false
+
 one_place : (k x h : ℕ) → k < 1 → get_or (x ∷ []) k h ≡ h → x ≡ h
 one_place zero x h within here = here
 one_place (suc k) x h within here = absurd (omega arith)
@@ -82,188 +92,147 @@ is_only-member [] h member = let none = member.1 in absurd (omega arith)
 is_only-member (x ∷ []) h member = eq-eqb x h (one_place member.0 x h member.1 member.2)
 is_only-member (x ∷ y ∷ xs) h member = sym (ne_eqb (suc (suc (length xs))) 1 (λ same. omega arith))
 
--- ---- the handles on a block, by their states
+-- ---- tests on numbers
+
+pub same_test : (n : ℕ) → (n == n) ≡ true
+same_test n = eq-eqb n n refl
+
+pub other_test : (n m : ℕ) → m ≢ n → (n == m) ≡ false
+other_test n m apart = ne_eqb n m (λ same. apart (sym same))
+
+-- ---- the handles on a block in a table of handles, by their states
 
 -- h is on the block, in a state that passes
-abbrev pub is_held : ℕ → List Step → ℕ → (HandleState → Bool) → ℕ → Bool
-is_held limit p b test h = (block_of p h == b) && test (state_of limit p h)
+abbrev pub is_held : List HandleSummary → ℕ → (HandleState → Bool) → ℕ → Bool
+is_held hs b test h = ((get_or hs h no_handle).block == b) && test (get_or hs h no_handle).state
 
-abbrev pub held : ℕ → List Step → ℕ → (HandleState → Bool) → ℕ
-held limit p b test = count (λ h. is_held limit p b test h) (births p)
+abbrev pub held : List HandleSummary → ℕ → (HandleState → Bool) → ℕ
+held hs b test = count (λ h. is_held hs b test h) (length hs)
 
-held_by : {b c : ℕ} {s t : HandleState} (d : ℕ) (test : HandleState → Bool) → b ≡ c → s ≡ t
-    → ((b == d) && test s) ≡ ((c == d) && test t)
-held_by d test block state = ap₂ (λ b s. (b == d) && test s) block state
+is_held_by : (x y : HandleSummary) (b : ℕ) (test : HandleState → Bool) → x ≡ y → ((x.block == b) && test x.state) ≡ ((y.block == b) && test y.state)
+is_held_by x y b test same = ap (λ (it : HandleSummary). (it.block == b) && test it.state) same
 
--- ---- steps that change the state of one handle
+on_it : (c b : ℕ) (x : Bool) → c ≡ b → one_if ((c == b) && x) ≡ one_if x
+on_it c b x same = ap (λ (t : Bool). one_if (t && x)) (eq-eqb c b same)
 
-module _ (limit : ℕ) (p : List Step) (s : Step) (h : ℕ) (old new : HandleState) (c : ChangesOne limit p s h old new) where
-  -- each count of states changes by that one handle
-  changed_count : (b : ℕ) (test : HandleState → Bool)
-      → count (λ k. is_held limit (s ∷ p) b test k) (births p) + one_if ((block_of p h == b) && test old)
-      ≡ held limit p b test + one_if ((block_of p h == b) && test new)
-  changed_count b test =
-      let step = count-set (λ k. is_held limit p b test k) (λ k. is_held limit (s ∷ p) b test k) (births p) h c.found.born
-      (λ k apart. held_by b test (c.blocks k) (c.others k apart)) in
-      let before : is_held limit p b test h ≡ ((block_of p h == b) && test old) = held_by b test refl c.found.state in
-      let after : is_held limit (s ∷ p) b test h ≡ ((block_of p h == b) && test new) = held_by b test (c.blocks h) c.left in
-      ap (λ x. count (λ k. is_held limit (s ∷ p) b test k) (births p) + one_if x) (sym before)
-      ∙ step ∙ ap (λ x. held limit p b test + one_if x) after
+off_it : (c b : ℕ) (x : Bool) → c ≢ b → one_if ((c == b) && x) ≡ 0
+off_it c b x apart = ap (λ (t : Bool). one_if (t && x)) (ne_eqb c b apart)
 
-  pub changed_here : (test : HandleState → Bool)
-      → held limit (s ∷ p) (block_of p h) test + one_if (test old) ≡ held limit p (block_of p h) test + one_if (test new)
-  changed_here test = rw c.same_births (rw (same_test (block_of p h)) at (changed_count (block_of p h) test))
+-- ---- a handle goes from one state to another
 
-  pub changed_elsewhere : (b : ℕ) (test : HandleState → Bool) → b ≢ block_of p h
-      → held limit (s ∷ p) b test ≡ held limit p b test
-  changed_elsewhere b test apart =
-      let elsewhere = other_test (block_of p h) b apart in
-      let all : count (λ k. is_held limit (s ∷ p) b test k) (births p) + 0 ≡ held limit p b test + 0 = rw elsewhere at (changed_count b test) in
-      rw c.same_births (omega arith)
+module _ (hs : List HandleSummary) (h : ℕ) (new : HandleState) (born : h < length hs) where
+  moved : List HandleSummary
+  moved = handles_with_state hs h new
 
--- ---- steps that give birth
+  pub length-moved : length (handles_with_state hs h new) ≡ length hs
+  length-moved = length-set hs h (record { block = (get_or hs h no_handle).block; state = new })
 
-newborn_count : (f g : ℕ → Bool) (n : ℕ) (new : Bool) → ((k : ℕ) → k < n → g k ≡ f k) → g n ≡ new
-    → count g (suc n) ≡ count f n + one_if new
-newborn_count f g n new agree here = count-push g n ∙ ap₂ (λ x y. x + one_if y) (count-same f g n agree) here
+  pub moved_same : get_or (handles_with_state hs h new) h no_handle ≡ record { block = (get_or hs h no_handle).block; state = new }
+  moved_same = get_or-set_same hs h (record { block = (get_or hs h no_handle).block; state = new }) no_handle born
 
--- on the newborn handle's block, and on another one
-born_here : (before after c : ℕ) (test : Bool) → after ≡ before + one_if ((c == c) && test) → after ≡ before + one_if test
-born_here before after c test step = rw (same_test c) at step
+  pub moved_other : (k : ℕ) → k ≢ h → get_or (handles_with_state hs h new) k no_handle ≡ get_or hs k no_handle
+  moved_other k apart = get_or-set_other hs h k (record { block = (get_or hs h no_handle).block; state = new }) no_handle apart
 
-born_elsewhere : (before after c b : ℕ) (test : Bool) → b ≢ c → after ≡ before + one_if ((c == b) && test) → after ≡ before
-born_elsewhere before after c b test apart step =
-    let elsewhere = other_test c b apart in
-    let same : after ≡ before + 0 = rw elsewhere at step in
-    omega arith
+  -- each handle stays on its block
+  pub moved_block : (k : ℕ) → (get_or (handles_with_state hs h new) k no_handle).block ≡ (get_or hs k no_handle).block
+  moved_block k = by_place (cases_eq k h)
+    where
+      by_place : (k ≡ h) ⊎ (k ≢ h) → (get_or (handles_with_state hs h new) k no_handle).block ≡ (get_or hs k no_handle).block
+      by_place (inl same) = subst (λ j. (get_or (handles_with_state hs h new) j no_handle).block ≡ (get_or hs j no_handle).block) (sym same)
+          (ap (λ (it : HandleSummary). it.block) moved_same)
+      by_place (inr apart) = ap (λ (it : HandleSummary). it.block) (moved_other k apart)
 
-held-Make : (limit : ℕ) (p : List Step) (b : ℕ) (test : HandleState → Bool) → IsPast limit p
-    → held limit (Make ∷ p) b test ≡ held limit p b test + one_if ((makes p == b) && test Free)
-held-Make limit p b test past =
-    newborn_count (λ k. is_held limit p b test k) (λ k. is_held limit (Make ∷ p) b test k) (births p) _
-    (λ k born. held_by b test (block-Make_other p k born) refl)
-    (held_by b test (block-Make p) (state-born limit p past))
+  moved_count : (b : ℕ) (test : HandleState → Bool)
+      → held (handles_with_state hs h new) b test + one_if (((get_or hs h no_handle).block == b) && test (get_or hs h no_handle).state)
+      ≡ held hs b test + one_if (((get_or hs h no_handle).block == b) && test new)
+  moved_count b test =
+      let changed = count-set (λ k. is_held hs b test k) (λ k. is_held (handles_with_state hs h new) b test k) (length hs) h born
+      (λ k apart. is_held_by _ _ b test (moved_other k apart)) in
+      let long = ap (λ n. count (λ k. is_held (handles_with_state hs h new) b test k) n) length-moved in
+      let here = ap one_if (is_held_by _ _ b test moved_same) in
+      omega (arith, changed, long, here)
 
-held-Clone : (limit : ℕ) (p : List Step) (h b : ℕ) (test : HandleState → Bool) → IsPast limit p
-    → held limit (Clone h ∷ p) b test ≡ held limit p b test + one_if ((block_of p h == b) && test Free)
-held-Clone limit p h b test past =
-    newborn_count (λ k. is_held limit p b test k) (λ k. is_held limit (Clone h ∷ p) b test k) (births p) _
-    (λ k born. held_by b test (block-Clone_other p h k born) refl)
-    (held_by b test (block-Clone p h) (state-born limit p past))
+  pub moved_here : (b : ℕ) → (get_or hs h no_handle).block ≡ b → (test : HandleState → Bool)
+      → held (handles_with_state hs h new) b test + one_if (test (get_or hs h no_handle).state) ≡ held hs b test + one_if (test new)
+  moved_here b on test =
+      let old = on_it (get_or hs h no_handle).block b (test (get_or hs h no_handle).state) on in
+      let after = on_it (get_or hs h no_handle).block b (test new) on in
+      omega (arith, moved_count b test, old, after)
 
-pub Clone_here : (limit : ℕ) (p : List Step) (h : ℕ) (test : HandleState → Bool) → IsPast limit p
-    → held limit (Clone h ∷ p) (block_of p h) test ≡ held limit p (block_of p h) test + one_if (test Free)
-Clone_here limit p h test past = born_here _ _ (block_of p h) (test Free) (held-Clone limit p h (block_of p h) test past)
+  pub moved_elsewhere : (b : ℕ) → (get_or hs h no_handle).block ≢ b → (test : HandleState → Bool)
+      → held (handles_with_state hs h new) b test ≡ held hs b test
+  moved_elsewhere b apart test =
+      let old = off_it (get_or hs h no_handle).block b (test (get_or hs h no_handle).state) apart in
+      let after = off_it (get_or hs h no_handle).block b (test new) apart in
+      omega (arith, moved_count b test, old, after)
 
-pub Clone_elsewhere : (limit : ℕ) (p : List Step) (h b : ℕ) (test : HandleState → Bool) → IsPast limit p → b ≢ block_of p h
-    → held limit (Clone h ∷ p) b test ≡ held limit p b test
-Clone_elsewhere limit p h b test past apart = born_elsewhere _ _ (block_of p h) b (test Free) apart (held-Clone limit p h b test past)
+-- ---- a handle is born free on block c
 
-pub Make_elsewhere : (limit : ℕ) (p : List Step) (b : ℕ) (test : HandleState → Bool) → IsPast limit p → b ≢ makes p
-    → held limit (Make ∷ p) b test ≡ held limit p b test
-Make_elsewhere limit p b test past apart = born_elsewhere _ _ (makes p) b (test Free) apart (held-Make limit p b test past)
+module _ (hs : List HandleSummary) (c : ℕ) where
+  abbrev with_birth : List HandleSummary
+  with_birth = hs ++ record { block = c; state = Free } ∷ []
 
--- ---- what holds of the counts in each past
+  pub born_last : get_or (hs ++ record { block = c; state = Free } ∷ []) (length hs) no_handle ≡ record { block = c; state = Free }
+  born_last = get_or_push hs (record { block = c; state = Free }) no_handle (length hs) refl
+
+  pub born_earlier : (k : ℕ) → k < length hs → get_or (hs ++ record { block = c; state = Free } ∷ []) k no_handle ≡ get_or hs k no_handle
+  born_earlier k below = get_or_append_left hs (record { block = c; state = Free } ∷ []) no_handle k below
+
+  born_count : (b : ℕ) (test : HandleState → Bool)
+      → held (hs ++ record { block = c; state = Free } ∷ []) b test ≡ held hs b test + one_if ((c == b) && test Free)
+  born_count b test =
+      let long : length (hs ++ record { block = c; state = Free } ∷ []) ≡ suc (length hs) = omega (arith, length_push hs (record { block = c; state = Free })) in
+      ap (λ n. count (λ k. is_held (hs ++ record { block = c; state = Free } ∷ []) b test k) n) long
+      ∙ count-push (λ k. is_held (hs ++ record { block = c; state = Free } ∷ []) b test k) (length hs)
+      ∙ ap₂ (λ x y. x + one_if y)
+      (count-same (λ k. is_held hs b test k) (λ k. is_held (hs ++ record { block = c; state = Free } ∷ []) b test k) (length hs)
+      (λ k below. is_held_by _ _ b test (born_earlier k below)))
+      (is_held_by _ _ b test born_last)
+
+  pub born_here : (test : HandleState → Bool) → held (hs ++ record { block = c; state = Free } ∷ []) c test ≡ held hs c test + one_if (test Free)
+  born_here test = let on = on_it c c (test Free) refl in omega (arith, born_count c test, on)
+
+  pub born_elsewhere : (b : ℕ) → c ≢ b → (test : HandleState → Bool) → held (hs ++ record { block = c; state = Free } ∷ []) b test ≡ held hs b test
+  born_elsewhere b apart test = let off = off_it c b (test Free) apart in omega (arith, born_count b test, off)
+
+-- ---- how many are held
 
 count-none : (n : ℕ) → count (λ k. false) n ≡ 0
 count-none zero = refl
 count-none (suc n) = count-push (λ k. false) n ∙ omega (arith, count-none n)
 
--- no handle is on a block that is not made yet
-held-unmade : (limit : ℕ) (p : List Step) (b : ℕ) (test : HandleState → Bool) → IsPast limit p → makes p ≤ b
-    → held limit p b test ≡ 0
-held-unmade limit p b test past unmade =
-    count-same (λ k. false) (λ k. is_held limit p b test k) (births p) nowhere ∙ count-none (births p)
+-- no handle is on a block that is above those of all handles
+held-none : (hs : List HandleSummary) (b : ℕ) (test : HandleState → Bool) → ((k : ℕ) → k < length hs → (get_or hs k no_handle).block < b) → held hs b test ≡ 0
+held-none hs b test below = count-same (λ k. false) (λ k. is_held hs b test k) (length hs) nowhere ∙ count-none (length hs)
   where
-    nowhere : (k : ℕ) → k < births p → is_held limit p b test k ≡ false
+    nowhere : (k : ℕ) → k < length hs → is_held hs b test k ≡ false
     nowhere k born =
-        let made = block_made limit p k past born in
-        let elsewhere : (block_of p k == b) ≡ false = ne_eqb (block_of p k) b (λ same. omega arith) in
+        let made = below k born in
+        let elsewhere : ((get_or hs k no_handle).block == b) ≡ false = ne_eqb (get_or hs k no_handle).block b (λ same. omega arith) in
         rw elsewhere refl
-
--- so the first handle of a new block is alone on it
-pub Make_here : (limit : ℕ) (p : List Step) (test : HandleState → Bool) → IsPast limit p
-    → held limit (Make ∷ p) (makes p) test ≡ one_if (test Free)
-Make_here limit p test past =
-    let step = born_here _ _ (makes p) (test Free) (held-Make limit p (makes p) test past) in
-    let none = held-unmade limit p (makes p) test past (omega arith) in
-    omega arith
 
 dropping_lives : (x : Bool) (s : HandleState) → (x && is_dropping s) ≡ true → (x && lives s) ≡ true
 dropping_lives x s e = grind arith
 
-pub dropping-le-living : (limit : ℕ) (p : List Step) (b : ℕ) → held limit p b is_dropping ≤ held limit p b lives
-dropping-le-living limit p b =
-    count-le (λ h. is_held limit p b is_dropping h) (λ h. is_held limit p b lives h) (births p)
-    (λ h. dropping_lives (block_of p h == b) (state_of limit p h))
+pub dropping-le-living : (hs : List HandleSummary) (b : ℕ) → held hs b is_dropping ≤ held hs b lives
+dropping-le-living hs b =
+    count-le (λ h. is_held hs b is_dropping h) (λ h. is_held hs b lives h) (length hs)
+    (λ h. dropping_lives ((get_or hs h no_handle).block == b) (get_or hs h no_handle).state)
 
 -- a handle in a state that passes is in the list of those that pass on its block
-contains_held : (limit : ℕ) (p : List Step) (h : ℕ) (s : HandleState) (test : HandleState → Bool) → IsIn limit p h s → test s ≡ true
-    → Contains (filter (λ k. is_held limit p (block_of p h) test k) (numbers_below (births p))) h
-contains_held limit p h s test found passes =
-    contains_passing (λ k. is_held limit p (block_of p h) test k) (births p) h found.born here
-  where
-    here : is_held limit p (block_of p h) test h ≡ true
-    here = held_by (block_of p h) test refl found.state ∙ rw (same_test (block_of p h), passes) refl
+module _ (hs : List HandleSummary) (h : ℕ) (test : HandleState → Bool) (born : h < length hs) (passes : test (get_or hs h no_handle).state ≡ true) where
+  pub contains_held : Contains (filter (λ k. is_held hs (get_or hs h no_handle).block test k) (numbers_below (length hs))) h
+  contains_held = contains_passing (λ k. is_held hs (get_or hs h no_handle).block test k) (length hs) h born
+      (rw (same_test (get_or hs h no_handle).block, passes) refl)
 
-pub some_held : (limit : ℕ) (p : List Step) (h : ℕ) (s : HandleState) (test : HandleState → Bool) → IsIn limit p h s → test s ≡ true
-    → 0 < held limit p (block_of p h) test
-some_held limit p h s test found passes =
-    let member = contains_held limit p h s test found passes in
-    let within = member.1 in
-    omega arith
+  pub some_held : 0 < held hs (get_or hs h no_handle).block test
+  some_held = let within = contains_held.1 in omega arith
 
--- a handle that lives is the only one exactly if one lives there
-pub is_only-living : (limit : ℕ) (p : List Step) (h : ℕ) (s : HandleState) → IsIn limit p h s → lives s ≡ true
-    → is_only h (living limit p (block_of p h)) ≡ (held limit p (block_of p h) lives == 1)
-is_only-living limit p h s found alive =
-    is_only-member (living limit p (block_of p h)) h (contains_held limit p h s lives found alive)
+  pub is_only-held : is_only h (filter (λ k. is_held hs (get_or hs h no_handle).block test k) (numbers_below (length hs)))
+      ≡ (held hs (get_or hs h no_handle).block test == 1)
+  is_only-held = is_only-member (filter (λ k. is_held hs (get_or hs h no_handle).block test k) (numbers_below (length hs))) h contains_held
 
--- ---- blocks that a step does not act on
-
--- no handle stands on a block that is not made yet
-other_block : (limit : ℕ) (p : List Step) (h b : ℕ) → IsPast limit p → h < births p → makes p ≤ b → (block_of p h == b) ≡ false
-other_block limit p h b past born unmade =
-    let made = block_made limit p h past born in
-    ne_eqb (block_of p h) b (λ same. omega arith)
-
--- no step of a past acts on a block that is not made yet
-pub unmade_block : (limit : ℕ) (p : List Step) (b : ℕ) → IsPast limit p → makes p ≤ b
-    → (is_marked limit p b ≡ false) × (times_given p b ≡ 0)
-unmade_block limit [] b past unmade = (refl, refl)
-unmade_block limit (Make ∷ p) b past unmade = unmade_block limit p b past.1 (omega arith)
-unmade_block limit (Clone h ∷ p) b past unmade =
-    let before = unmade_block limit p b past.1 unmade in
-    let elsewhere = other_block limit p h b past.1 (step_finds limit p h Free past.0).born unmade in
-    (rw (before.0, elsewhere) refl, before.1)
-unmade_block limit (Back h ∷ p) b past unmade =
-    let before = unmade_block limit p b past.1 unmade in
-    let elsewhere = other_block limit p h b past.1 (step_finds limit p h Owing past.0).born unmade in
-    (before.0, rw (elsewhere) before.1)
-unmade_block limit (Leak h ∷ p) b past unmade =
-    let before = unmade_block limit p b past.1 unmade in
-    let elsewhere = other_block limit p h b past.1 (step_finds limit p h Free past.0).born unmade in
-    (rw (before.0, elsewhere) refl, before.1)
-unmade_block limit (s ∷ p) b past unmade = unmade_block limit p b past.1 unmade
-
-or_false : (m : Bool) → (m || false) ≡ m
-or_false true = refl
-or_false false = refl
-
-pub marked-Clone_other : (limit : ℕ) (p : List Step) (h b : ℕ) → b ≢ block_of p h
-    → is_marked limit (Clone h ∷ p) b ≡ is_marked limit p b
-marked-Clone_other limit p h b apart = rw (other_test (block_of p h) b apart) (or_false (is_marked limit p b))
-
-pub given-Back : (p : List Step) (h : ℕ) → times_given (Back h ∷ p) (block_of p h) ≡ times_given p (block_of p h) + 1
-given-Back p h = rw (same_test (block_of p h)) (omega arith)
-
-pub marked-Leak_other : (limit : ℕ) (p : List Step) (h b : ℕ) → b ≢ block_of p h
-    → is_marked limit (Leak h ∷ p) b ≡ is_marked limit p b
-marked-Leak_other limit p h b apart = rw (other_test (block_of p h) b apart) refl
-
--- ==== what each past leaves on a block that was made: its word and its mark, against the counts of its handles
-
--- ---- the word, the mark and the counts of one block
+-- ==== the count word of a block against the counts of its handles, and what each step on the block does to them
 
 -- how many handles on a block are in a state that passes
 abbrev pub Counts : Type 0
@@ -357,106 +326,242 @@ after_Leak : (limit : ℕ) (w : FlagAndCount) (n : Counts) (g : ℕ) (m : Bool) 
 after_Leak limit w n g true some fewer b = grind arith
 after_Leak limit w n g false some fewer b = grind arith
 
--- ---- the same in each past
+-- ==== each state after a history is balanced
 
-abbrev pub Balance : ℕ → List Step → ℕ → Type 0
-Balance limit p b = IsBalanced limit (word_left limit p b) (is_marked limit p b) (λ test. held limit p b test) (times_given p b)
+-- the count word of a block is balanced with the handles on the block
+abbrev pub Balance : ℕ → List HandleSummary → ℕ → BlockEntry → Type 0
+Balance limit hs b entry = (m : Bool) × IsBalanced limit entry.word m (λ test. held hs b test) entry.given
 
--- a step on block c leaves the other blocks alone
-on_block : (P Q : ℕ → Type 0) (b c : ℕ) → (P c → Q c) → (b ≢ c → P b → Q b) → P b → Q b
-on_block P Q b c here elsewhere before = by_block (cases_eq b c)
+-- each handle stands on a block that was made, and each block is balanced
+pub record IsLawful (limit : ℕ) (w : State) : Type 0 where
+  pub made : (h : ℕ) → h < length w.handles → block_on w h < length w.blocks
+  pub balanced : (b : ℕ) → b < length w.blocks → Balance limit w.handles b (get_or w.blocks b no_block)
+
+-- the mark of a balance is the flag of its word
+pub flag_is : (limit : ℕ) (w : FlagAndCount) (m : Bool) (n : Counts) (g : ℕ) → IsBalanced limit w m n g → w.flag ≡ m
+flag_is limit w true n g b = b.flag
+flag_is limit w false n g b = b.flag
+
+-- equal counts are balanced alike
+same_counts : (limit : ℕ) (hs hs' : List HandleSummary) (b : ℕ) (entry : BlockEntry) → ((test : HandleState → Bool) → held hs' b test ≡ held hs b test)
+    → Balance limit hs b entry → Balance limit hs' b entry
+same_counts limit hs hs' b entry same before =
+    (before.0, subst (λ (n : Counts). IsBalanced limit entry.word before.0 n entry.given) (λ i test. sym (same test) i) before.1)
+
+-- a step on block c, which leaves these handles and this entry of c
+acts : (limit : ℕ) (w : State) (c : ℕ) (hs : List HandleSummary) (entry : BlockEntry) → IsLawful limit w → c < length w.blocks
+    → ((k : ℕ) → k < length hs → (get_or hs k no_handle).block < length w.blocks)
+    → ((b : ℕ) → c ≢ b → (test : HandleState → Bool) → held hs b test ≡ held w.handles b test)
+    → (Balance limit w.handles c (get_or w.blocks c no_block) → Balance limit hs c entry)
+    → IsLawful limit (record { handles = hs; blocks = set w.blocks c entry })
+acts limit w c hs entry lawful within made elsewhere here = record {
+  made = λ h born. rw (length-set w.blocks c entry) (made h born);
+  balanced = λ b below. by_block b (rw (length-set w.blocks c entry) at below) (cases_eq b c);
+}
   where
-    by_block : (b ≡ c) ⊎ (b ≢ c) → Q b
-    by_block (inl same) = subst Q (sym same) (here (subst P same before))
-    by_block (inr apart) = elsewhere apart before
+    by_block : (b : ℕ) → b < length w.blocks → (b ≡ c) ⊎ (b ≢ c) → Balance limit hs b (get_or (set w.blocks c entry) b no_block)
+    by_block b below (inl same) = subst (λ d. Balance limit hs d (get_or (set w.blocks c entry) d no_block)) (sym same)
+        (subst (Balance limit hs c) (sym (get_or-set_same w.blocks c entry no_block within)) (here (lawful.balanced c within)))
+    by_block b below (inr apart) = subst (Balance limit hs b) (sym (get_or-set_other w.blocks c b entry no_block apart))
+        (same_counts limit w.handles hs b _ (elsewhere b (λ same. apart (sym same))) (lawful.balanced b below))
 
-module _ (limit : ℕ) (p : List Step) (past : IsPast limit p) where
-  -- where the word, the mark, the counts and the times given stay, everything stays
-  unchanged : (q : List Step) (b : ℕ) → word_left limit q b ≡ word_left limit p b → is_marked limit q b ≡ is_marked limit p b
-      → ((test : HandleState → Bool) → held limit q b test ≡ held limit p b test) → times_given q b ≡ times_given p b
-      → Balance limit p b → Balance limit q b
-  unchanged q b word mark counts given before =
-      let same = subst₂ (λ m g. IsBalanced limit (word_left limit p b) m (λ test. held limit p b test) g) (sym mark) (sym given) before in
-      subst₂ (λ w n. IsBalanced limit w (is_marked limit q b) n (times_given q b)) (sym word) (λ i test. sym (counts test) i) same
+-- the state and the reply after an accepted `Begin`, by the flag of the count word
+abbrev pub begun_by : Bool → State → ℕ → State × Reply
+begun_by f w h = if f
+    then (record w { handles = handles_with_state w.handles h Gone }, Ended)
+    else (record w { handles = handles_with_state w.handles h Dropping }, Looked)
+
+-- the handle was born, and is in this state
+pub record IsIn (w : State) (h : ℕ) (s : HandleState) : Type 0 where
+  pub born : h < length w.handles
+  pub state : state_on w h ≡ s
+
+pub is_in_state : (w : State) (h : ℕ) (s : HandleState) → state_in w h ≡ Some s → IsIn w h s
+is_in_state w h s e = by_entry (slice_get w.handles h) refl e
+  where
+    by_entry : (o : Option HandleSummary) → slice_get w.handles h ≡ o → option_map (λ (it : HandleSummary). it.state) o ≡ Some s → IsIn w h s
+    by_entry None found is = cc
+    by_entry (Some it) found is = record {
+      born = slice_get_within w.handles h it found;
+      state = ap (λ (x : HandleSummary). x.state) (get_or_from_slice_get w.handles h it no_handle found) ∙ cc;
+    }
+
+pub state_born : (w : State) (h : ℕ) → h < length w.handles → state_in w h ≡ Some (state_on w h)
+state_born w h born = ap (option_map (λ (it : HandleSummary). it.state)) (slice_get-get_or w.handles h no_handle born)
+
+-- the table of refusals accepts a handle in the state that a step needs, and no other
+pub accepts_needed : (s : HandleState) → refusal_unless s (Some s) ≡ None
+accepts_needed Free = refl
+accepts_needed Raw = refl
+accepts_needed Dropping = refl
+accepts_needed Owing = refl
+accepts_needed Gone = refl
+
+pub needed_state : (s : HandleState) (o : Option HandleState) → refusal_unless s o ≡ None → o ≡ Some s
+needed_state Free (Some Free) e = refl
+needed_state Raw (Some Raw) e = refl
+needed_state Dropping (Some Dropping) e = refl
+needed_state Owing (Some Owing) e = refl
+needed_state Gone (Some Gone) e = refl
+needed_state s o e = cc
+
+-- so an accepted step finds its handle in the state that it needs
+pub step_finds : (w : State) (h : ℕ) (s : HandleState) → refusal_unless s (state_in w h) ≡ None → IsIn w h s
+step_finds w h s e = is_in_state w h s (needed_state s (state_in w h) e)
+
+module _ (limit : ℕ) (w : State) (lawful : IsLawful limit w) where
+  -- a step that brings a handle from one state to another, and leaves this entry of its block
+  changes : (h : ℕ) (old new : HandleState) (entry : BlockEntry) → IsIn w h old
+      → ((m : Bool) (after : Counts) → Moves (λ test. held w.handles (block_on w h) test) after old new
+      → IsBalanced limit (word_on w h) m (λ test. held w.handles (block_on w h) test) (given_in w (block_on w h))
+      → (m' : Bool) × IsBalanced limit entry.word m' after entry.given)
+      → IsLawful limit (record { handles = handles_with_state w.handles h new; blocks = set w.blocks (block_on w h) entry })
+  changes h old new entry found balance =
+      acts limit w (block_on w h) (handles_with_state w.handles h new) entry lawful (lawful.made h found.born)
+      (λ k born. rw (moved_block w.handles h new found.born k) (lawful.made k (rw (length-moved w.handles h new found.born) at born)))
+      (λ b apart. moved_elsewhere w.handles h new found.born b apart)
+      (λ before. balance before.0 (λ test. held (handles_with_state w.handles h new) (block_on w h) test)
+      (moves _ _ old new (λ test. subst (λ s. held (handles_with_state w.handles h new) (block_on w h) test + one_if (test s)
+      ≡ held w.handles (block_on w h) test + one_if (test new)) found.state (moved_here w.handles h new found.born (block_on w h) refl test))) before.1)
+
+  -- the same where the entry stays
+  changes_state : (h : ℕ) (old new : HandleState) → IsIn w h old
+      → ((m : Bool) (after : Counts) → Moves (λ test. held w.handles (block_on w h) test) after old new
+      → IsBalanced limit (word_on w h) m (λ test. held w.handles (block_on w h) test) (given_in w (block_on w h))
+      → IsBalanced limit (word_on w h) m after (given_in w (block_on w h)))
+      → IsLawful limit (record w { handles = handles_with_state w.handles h new })
+  changes_state h old new found balance =
+      subst (λ bs. IsLawful limit (record { handles = handles_with_state w.handles h new; blocks = bs }))
+      (set-get_or w.blocks (block_on w h) no_block)
+      (changes h old new (get_or w.blocks (block_on w h) no_block) found (λ m after moves before. (m, balance m after moves before)))
+
+  lives_here : (h : ℕ) → IsIn w h Free → 0 < held w.handles (block_on w h) lives
+  lives_here h i = some_held w.handles h lives i.born (ap lives i.state)
 
   -- a new block has one free handle
-  Make_here-balance : Balance limit (Make ∷ p) (makes p)
-  Make_here-balance =
-      let unmade = unmade_block limit p (makes p) past (omega arith) in
-      let l = Make_here limit p lives past in
-      let o = Make_here limit p is_owing past in
-      rw (same_test (makes p), unmade.0) (record {
-        flag = refl;
-        count = sym l;
-        few = omega arith;
-        held = λ h. omega (arith, unmade.1);
-        ended = λ h. omega arith;
-      })
-
-  Make-balance : (b : ℕ) → b ≢ makes p → Balance limit p b → Balance limit (Make ∷ p) b
-  Make-balance b apart = unchanged (Make ∷ p) b (rw (ne_eqb b (makes p) apart) refl) refl
-      (λ test. Make_elsewhere limit p b test past apart) refl
-
-  Clone-balance : (h b : ℕ) → is_accepted limit p (Clone h) ≡ true → Balance limit p b → Balance limit (Clone h ∷ p) b
-  Clone-balance h b a = on_block (λ c. Balance limit p c) (λ c. Balance limit (Clone h ∷ p) c) b (block_of p h) here elsewhere
+  lawful_make : IsLawful limit (accepted limit w Make).0
+  lawful_make = record {
+    made = λ h born. rw (length_push w.blocks (record { word = fresh_word; given = 0 })) (on_made h born (cases_eq h (length w.handles)));
+    balanced = λ b below. by_block b (cases_eq b (length w.blocks)) (rw (length_push w.blocks (record { word = fresh_word; given = 0 })) at below);
+  }
     where
-      here : Balance limit p (block_of p h) → Balance limit (Clone h ∷ p) (block_of p h)
-      here before = rw (same_test (block_of p h)) (after_Clone limit (word_left limit p (block_of p h))
-          (λ test. held limit p (block_of p h) test) (λ test. held limit (Clone h ∷ p) (block_of p h) test)
-          (times_given p (block_of p h)) (is_marked limit p (block_of p h))
-          (bears _ _ (λ test. Clone_here limit p h test past))
-          (some_held limit p h Free lives (step_finds limit p h Free a) refl) (dropping-le-living limit p (block_of p h)) before)
+      first : HandleSummary
+      first = record { block = length w.blocks; state = Free }
 
-      elsewhere : b ≢ block_of p h → Balance limit p b → Balance limit (Clone h ∷ p) b
-      elsewhere apart = unchanged (Clone h ∷ p) b (rw (other_test (block_of p h) b apart) refl)
-          (marked-Clone_other limit p h b apart) (λ test. Clone_elsewhere limit p h b test past apart) refl
+      fresh : BlockEntry
+      fresh = record { word = fresh_word; given = 0 }
 
-  Leak-balance : (h b : ℕ) → is_accepted limit p (Leak h) ≡ true → Balance limit p b → Balance limit (Leak h ∷ p) b
-  Leak-balance h b a = on_block (λ c. Balance limit p c) (λ c. Balance limit (Leak h ∷ p) c) b (block_of p h) here elsewhere
+      on_made : (h : ℕ) → h < length (w.handles ++ record { block = length w.blocks; state = Free } ∷ []) → (h ≡ length w.handles) ⊎ (h ≢ length w.handles)
+          → (get_or (w.handles ++ record { block = length w.blocks; state = Free } ∷ []) h no_handle).block < length w.blocks + 1
+      on_made h born (inl last) = rw (last, born_last w.handles (length w.blocks)) (omega arith)
+      on_made h born (inr earlier) =
+          let long = length_push w.handles (record { block = length w.blocks; state = Free }) in
+          let below : h < length w.handles = omega arith in
+          let made = lawful.made h below in
+          rw (born_earlier w.handles (length w.blocks) h below) (omega arith)
+
+      new_block : Balance limit (w.handles ++ record { block = length w.blocks; state = Free } ∷ []) (length w.blocks) (record { word = fresh_word; given = 0 })
+      new_block =
+          let here = born_here w.handles (length w.blocks) in
+          let none : (test : HandleState → Bool) → held w.handles (length w.blocks) test ≡ 0 =
+          λ test. held-none w.handles (length w.blocks) test lawful.made in (
+            false,
+            record {
+              flag = refl;
+              count = omega (arith, here lives, none lives);
+              few = omega (arith, here lives, none lives);
+              held = λ some. omega (arith, here is_owing, none is_owing);
+              ended = λ ended. omega (arith, here lives, none lives);
+            },
+          )
+
+      by_block : (b : ℕ) → (b ≡ length w.blocks) ⊎ (b ≢ length w.blocks) → b < length w.blocks + 1
+          → Balance limit (w.handles ++ record { block = length w.blocks; state = Free } ∷ []) b
+          (get_or (w.blocks ++ record { word = fresh_word; given = 0 } ∷ []) b no_block)
+      by_block b (inl last) below = rw (last, get_or_push w.blocks (record { word = fresh_word; given = 0 }) no_block (length w.blocks) refl) new_block
+      by_block b (inr earlier) below =
+          let older : b < length w.blocks = omega arith in
+          rw (get_or_append_left w.blocks (record { word = fresh_word; given = 0 } ∷ []) no_block b older)
+          (same_counts limit w.handles (w.handles ++ record { block = length w.blocks; state = Free } ∷ []) b (get_or w.blocks b no_block) (born_elsewhere w.handles (length w.blocks) b (λ same. omega arith)) (lawful.balanced b older))
+
+  lawful_clone : (h : ℕ) → IsIn w h Free → IsLawful limit (accepted limit w (Clone h)).0
+  lawful_clone h i = acts limit w (block_on w h) (w.handles ++ record { block = block_on w h; state = Free } ∷ []) _ lawful (lawful.made h i.born)
+      (λ k born. on_made k born (cases_eq k (length w.handles)))
+      (λ b apart. born_elsewhere w.handles (block_on w h) b apart)
+      (λ before. (
+        _,
+        after_Clone limit (word_on w h) (λ test. held w.handles (block_on w h) test) _ (given_in w (block_on w h)) before.0
+            (bears _ _ (λ test. born_here w.handles (block_on w h) test)) (lives_here h i) (dropping-le-living w.handles (block_on w h)) before.1,
+      ))
     where
-      here : Balance limit p (block_of p h) → Balance limit (Leak h ∷ p) (block_of p h)
-      here before = rw (same_test (block_of p h)) (after_Leak limit (word_left limit p (block_of p h))
-          (λ test. held limit p (block_of p h) test) (times_given p (block_of p h)) (is_marked limit p (block_of p h))
-          (some_held limit p h Free lives (step_finds limit p h Free a) refl) (dropping-le-living limit p (block_of p h)) before)
+      on_made : (k : ℕ) → k < length (w.handles ++ record { block = block_on w h; state = Free } ∷ []) → (k ≡ length w.handles) ⊎ (k ≢ length w.handles)
+          → (get_or (w.handles ++ record { block = block_on w h; state = Free } ∷ []) k no_handle).block < length w.blocks
+      on_made k born (inl last) = rw (last, born_last w.handles (block_on w h)) (lawful.made h i.born)
+      on_made k born (inr earlier) =
+          let long = length_push w.handles (record { block = block_on w h; state = Free }) in
+          let below : k < length w.handles = omega arith in
+          rw (born_earlier w.handles (block_on w h) k below) (lawful.made k below)
 
-      elsewhere : b ≢ block_of p h → Balance limit p b → Balance limit (Leak h ∷ p) b
-      elsewhere apart = unchanged (Leak h ∷ p) b (rw (other_test (block_of p h) b apart) refl)
-          (marked-Leak_other limit p h b apart) (λ test. refl) refl
+  begun : (h : ℕ) → IsIn w h Free → (f : Bool) → (word_on w h).flag ≡ f → IsLawful limit (begun_by f w h).0
+  begun h i f flag = by_flag f flag
+    where
+      same_mark : (f m : Bool) (n after : Counts) (g : ℕ) → (word_on w h).flag ≡ f
+          → Moves n after Free (if f then Gone else Dropping) → IsBalanced limit (word_on w h) m n g → IsBalanced limit (word_on w h) m after g
+      same_mark f m n after g flag moves before =
+          let is : f ≡ m = sym flag ∙ flag_is limit (word_on w h) m n g before in
+          after_Begin limit (word_on w h) n after g m (subst (λ (x : Bool). Moves n after Free (if x then Gone else Dropping)) is moves) before
 
--- a step that changes the state of one handle, given what it does to that handle's block
-changed-balance : (limit : ℕ) (p : List Step) (s : Step) (h : ℕ) (old new : HandleState) → IsPast limit p → ChangesOne limit p s h old new
-    → ((after : Counts) → Moves (λ test. held limit p (block_of p h) test) after old new → Balance limit p (block_of p h)
-    → IsBalanced limit (word_left limit (s ∷ p) (block_of p h)) (is_marked limit (s ∷ p) (block_of p h)) after (times_given (s ∷ p) (block_of p h)))
-    → (b : ℕ) → Balance limit p b → Balance limit (s ∷ p) b
-changed-balance limit p s h old new past c here b = on_block (λ d. Balance limit p d) (λ d. Balance limit (s ∷ p) d) b (block_of p h)
-    (here (λ test. held limit (s ∷ p) (block_of p h) test) (moves _ _ _ _ (changed_here limit p s h old new c)))
-    (λ apart. unchanged limit p past (s ∷ p) b (c.words b apart) (c.marks b)
-    (λ test. changed_elsewhere limit p s h old new c b test apart) (c.frees b apart))
+      by_flag : (f : Bool) → (word_on w h).flag ≡ f → IsLawful limit (begun_by f w h).0
+      by_flag true marked = changes_state h Free Gone i (λ m after moves before. same_mark true m (λ test. held w.handles (block_on w h) test) after
+          (given_in w (block_on w h)) marked moves before)
+      by_flag false unmarked = changes_state h Free Dropping i (λ m after moves before. same_mark false m (λ test. held w.handles (block_on w h) test) after
+          (given_in w (block_on w h)) unmarked moves before)
 
-pub balance : (limit : ℕ) (p : List Step) (b : ℕ) → IsPast limit p → b < makes p → Balance limit p b
-balance limit [] b past made = absurd (omega arith)
-balance limit (Make ∷ p) b past made = by_block (cases_eq b (makes p)) (λ older. balance limit p b past.1 older)
-  where
-    by_block : (b ≡ makes p) ⊎ (b ≢ makes p) → (b < makes p → Balance limit p b) → Balance limit (Make ∷ p) b
-    by_block (inl new) before = rw new (Make_here-balance limit p past.1)
-    by_block (inr apart) before = Make-balance limit p past.1 b apart (before (omega arith))
-balance limit (Look h ∷ p) b past made = balance limit p b past.1 made
-balance limit (Clone h ∷ p) b past made = Clone-balance limit p past.1 h b past.0 (balance limit p b past.1 made)
-balance limit (Begin h ∷ p) b past made = changed-balance limit p (Begin h) h _ _ past.1 (Begin-changes limit p h past.1 past.0)
-    (λ after. after_Begin limit (word_left limit p (block_of p h)) (λ test. held limit p (block_of p h) test) after (times_given p (block_of p h))
-    (is_marked limit p (block_of p h))) b (balance limit p b past.1 made)
-balance limit (Sub h ∷ p) b past made = changed-balance limit p (Sub h) h _ _ past.1 (Sub-changes limit p h past.1 past.0)
-    (λ after step before. rw (same_test (block_of p h)) (after_Sub limit (word_left limit p (block_of p h)) (λ test. held limit p (block_of p h) test) after (times_given p (block_of p h))
-    (is_marked limit p (block_of p h))
-    (is_only h (living limit p (block_of p h)))
-    (is_only-living limit p h Dropping (step_finds limit p h Dropping past.0) refl) step before)) b (balance limit p b past.1 made)
-balance limit (Back h ∷ p) b past made = changed-balance limit p (Back h) h _ _ past.1 (Back-changes limit p h past.1 past.0)
-    (λ after. after_Back limit (word_left limit p (block_of p h)) (λ test. held limit p (block_of p h) test) after (times_given p (block_of p h))
-    (is_marked limit p (block_of p h)) _ (given-Back p h)) b (balance limit p b past.1 made)
-balance limit (IntoRaw h ∷ p) b past made = changed-balance limit p (IntoRaw h) h _ _ past.1 (IntoRaw-changes limit p h past.1 past.0)
-    (λ after. after_IntoRaw limit (word_left limit p (block_of p h)) (λ test. held limit p (block_of p h) test) after (times_given p (block_of p h))
-    (is_marked limit p (block_of p h))) b (balance limit p b past.1 made)
-balance limit (FromRaw h ∷ p) b past made = changed-balance limit p (FromRaw h) h _ _ past.1 (FromRaw-changes limit p h past.1 past.0)
-    (λ after. after_FromRaw limit (word_left limit p (block_of p h)) (λ test. held limit p (block_of p h) test) after (times_given p (block_of p h))
-    (is_marked limit p (block_of p h))) b (balance limit p b past.1 made)
-balance limit (Leak h ∷ p) b past made = Leak-balance limit p past.1 h b past.0 (balance limit p b past.1 made)
+  lawful_sub : (h : ℕ) → IsIn w h Dropping → IsLawful limit (accepted limit w (Sub h)).0
+  lawful_sub h i = changes h Dropping (if is_last (word_on w h) then Owing else Gone)
+      (record { word = dropped_of (word_on w h); given = given_in w (block_on w h) }) i (λ m after moves before. (
+        m,
+        after_Sub limit (word_on w h) (λ test. held w.handles (block_on w h) test) after (given_in w (block_on w h)) m
+            (held w.handles (block_on w h) lives == 1) refl
+            (subst (λ (last : Bool). Moves (λ test. held w.handles (block_on w h) test) after Dropping (if last then Owing else Gone)) (last_is m before) moves)
+            before,
+      ))
+    where
+      last_is : (m : Bool) → IsBalanced limit (word_on w h) m (λ test. held w.handles (block_on w h) test) (given_in w (block_on w h))
+          → is_last (word_on w h) ≡ (not m && (held w.handles (block_on w h) lives == 1))
+      last_is true b = rw b.flag refl
+      last_is false b = rw (b.flag, b.count) refl
+
+  lawful_accepted : (s : Step) → refusal_in w s ≡ None → IsLawful limit (accepted limit w s).0
+  lawful_accepted Make e = lawful_make
+  lawful_accepted (Look h) e = lawful
+  lawful_accepted (Clone h) e = lawful_clone h (step_finds w h Free e)
+  lawful_accepted (Begin h) e = begun h (step_finds w h Free e) (word_on w h).flag refl
+  lawful_accepted (Sub h) e = lawful_sub h (step_finds w h Dropping e)
+  lawful_accepted (Back h) e = changes h Owing Gone _ (step_finds w h Owing e) (λ m after moves before.
+      (m, after_Back limit (word_on w h) _ after _ m _ refl moves before))
+  lawful_accepted (Leak h) e =
+      let i = step_finds w h Free e in
+      acts limit w (block_on w h) w.handles _ lawful (lawful.made h i.born) lawful.made (λ b apart test. refl)
+      (λ before. (true, after_Leak limit (word_on w h) _ _ before.0 (lives_here h i) (dropping-le-living w.handles (block_on w h)) before.1))
+  lawful_accepted (IntoRaw h) e = changes_state h Free Raw (step_finds w h Free e) (λ m after moves before.
+      after_IntoRaw limit (word_on w h) _ after _ m moves before)
+  lawful_accepted (FromRaw h) e = changes_state h Raw Free (step_finds w h Raw e) (λ m after moves before.
+      after_FromRaw limit (word_on w h) _ after _ m moves before)
+
+  pub lawful_step : (s : Step) → IsLawful limit (step limit w s).0
+  lawful_step s = by_refusal (refusal_in w s) refl
+    where
+      by_refusal : (o : Option StepFault) → refusal_in w s ≡ o → IsLawful limit (unless_refused o w (accepted limit w s)).0
+      by_refusal None e = lawful_accepted s e
+      by_refusal (Some fault) e = lawful
+
+pub lawful_from : (limit : ℕ) (w : State) (later : List Step) → IsLawful limit w → IsLawful limit (after_from limit w later)
+lawful_from limit w [] lawful = lawful
+lawful_from limit w (s ∷ later) lawful = lawful_from limit (step limit w s).0 later (lawful_step limit w lawful s)
+
+pub lawful_after : (limit : ℕ) (history : List Step) → IsLawful limit (after limit history)
+lawful_after limit history = lawful_from limit start history (record {
+  made = λ h born. absurd (omega arith);
+  balanced = λ b below. absurd (omega arith);
+})

@@ -1,12 +1,9 @@
 mod Names
 mod WorkedExamples
-pub mod Pasts
-pub mod LawsOfHandles
-pub mod Tables
-pub mod OneBlock
 pub mod LawsOfBlocks
-pub mod LawsOfPasts
-mod SentencesBlocks
-mod SentencesHandles
-mod SentencesState
-pub mod WorldSteps
+pub mod LawsOfHistories
+pub mod Prefixes
+pub mod OneBlock
+pub mod SentencesHandles
+pub mod SentencesBlocks
+pub mod SentencesState

@@ -8,6 +8,7 @@ pub use Rattle.std.proofs.Math.Seq.{take-append_seam}
 pub use Rattle.std.proofs.Props.{props}
 pub use Rattle.std.proofs.lemmas.Bool.{and_from, and_parts, cases_eq, cases_order, cond-false, cond-true, eqb-false, false_from_ne_true, not-true}
 pub use Rattle.std.proofs.lemmas.Bool.{not_from_false, or_cases, or_left, or_right}
+pub use Rattle.std.proofs.lemmas.List.{get_or-set_other, get_or-set_same, get_or_past, length-set, set-get_or}
 pub use Rattle.std.proofs.lemmas.List.{append-nil, get_or-map, get_or_append_left, get_or_push, length-append, length-map, length_push, map-set, map_push}
 pub use Rattle.std.proofs.lemmas.List.{nil_from_length, reverse-append, same_lists, set-append_left, set_at, take-append-le, take_all, take_more}
 pub use Rattle.std.proofs.lemmas.List.Elements.{Contains-append_cases, Contains-append_left, Contains-push, Contains-push_cases, filter-append}
@@ -15,23 +16,17 @@ pub use Rattle.std.proofs.lemmas.List.Kept.{IsStrictlyIncreasing-filter}
 pub use Rattle.std.proofs.lemmas.Option.{get_or_from_slice_get, slice_get-get_or, slice_get_past, slice_get_within}
 pub use Rattle.std.proofs.lemmas.Simd.{map-map}
 pub use Rattle.std.specs.List.Sorted.{IsStrictlyIncreasing}
-pub use Rattle.arcstr_count.specs.Past.{AnswersEach, dropping_after, given_after, living_after, marked_after, owing_after, word_after}
-pub use Rattle.arcstr_count.specs.Answer.{Need, accepted_answer, answer_of, handle_state, is_accepted, needs, refusal_by, refusal_of, refusal_unless, reply_by}
-pub use Rattle.arcstr_count.specs.History.{births, block_of, has_begun, has_given, has_subtracted, is_birth, is_make, is_raw, lives, makes, numbers_below}
-pub use Rattle.arcstr_count.specs.History.{state_by}
-pub use Rattle.arcstr_count.specs.Laws.{HoldsInEveryInterleaving}
-pub use Rattle.arcstr_count.specs.Marks.{Stands, dropping, is_dropping, is_owing, owing, word_left}
-pub use Rattle.arcstr_count.specs.Marks.{began_unmarked, is_marked, is_only, living, state_of, was_last}
-pub use Rattle.arcstr_count.specs.OneBlock.{EndsIn, Keeps, look_reply}
-pub use Rattle.arcstr_count.specs.Past.{IsPast, answer_after, past_from, past_of, times_given, with_step}
+pub use Rattle.arcstr_count.specs.Answer.{Need, needs, refusal_by, refusal_unless}
+pub use Rattle.arcstr_count.specs.Laws.{HoldsInEveryInterleaving, StandsAfter}
+pub use Rattle.arcstr_count.specs.Model.{HasHistory, IsSound, IsWorld, State, WorldView, accepted, accepted_after, after, after_from, answer_after, births_after}
+pub use Rattle.arcstr_count.specs.Model.{block_after, block_on, blocks_with_given, blocks_with_word, dropping_after, given_after, given_in, handles_on}
+pub use Rattle.arcstr_count.specs.Model.{handles_with_state, is_birth, is_dropping, is_make, is_owing, lives, living_after, look_reply, makes_after, marked_after}
+pub use Rattle.arcstr_count.specs.Model.{no_block, no_handle, numbers_below, owing_after, refusal_in, replies, replies_from, start, state_after, state_in, state_of_tables}
+pub use Rattle.arcstr_count.specs.Model.{state_on, step, unless_refused, view_of, word_after, word_in, word_on}
+pub use Rattle.arcstr_count.specs.OneBlock.{EndsIn, Keeps, are_accepted, states_after}
 pub use Rattle.arcstr_count.specs.Sentences.{AcceptedAnswer, AcceptedSentence, AcceptedWhere, AnswerSentence, BeganUnmarked, BornSentence, ByFact}
 pub use Rattle.arcstr_count.specs.Sentences.{FirstThatHolds, HasAccepted, LastIsIntoRaw, LivesAlone, LivingSentence, MarkedSentence, OwesSentence}
-pub use Rattle.arcstr_count.specs.Sentences.{StateSentence, UnderWaySentence, accepted_after, accepted_count, births_after, block_after, given_count}
-pub use Rattle.arcstr_count.specs.Sentences.{is_back_on, makes_after, passes_after, state_after}
-pub use Rattle.arcstr_count.specs.Summary.{BlockSummary, StandsFor, Summary, WorldView, block_summary, blocks_of, handle_summary, handles_of, summary_of}
-pub use Rattle.arcstr_count.specs.Summary.{words_left, Answers, Follows, HasHistory, IsAcceptedBy, IsRefusal, Takes, IsAt, state_at}
-pub use Rattle.arcstr_count.specs.Tables.{IsWorld, blocks_with_given, blocks_with_mark, blocks_with_word, handles_with_state, no_block, no_handle, summary_in}
-pub use Rattle.arcstr_count.specs.Tables.{view_of, word_in}
+pub use Rattle.arcstr_count.specs.Sentences.{StateSentence, UnderWaySentence, accepted_count, given_count, is_back_on, passes_after}
 pub use Rattle.arcstr_count.specs.Word.{FlagAndCount, cloned_of, dropped_of, fresh_word, is_last, looked_of, marked_of}
 pub use Rattle.arcstr_count.specs.declared.faults.StepFault.{StepFault}
 pub use Rattle.arcstr_count.specs.declared.faults.StepFault.TheVariants.{InDrop, IsRaw, NoHandle, NotInDrop, NotOwing, NotRaw}

@@ -1,133 +1,43 @@
 -- A history of one block, its count word and its seats.
-use Rattle.arcstr_count.proofs.Names.{◌≡◌, ℕ, ◌<◌, true, not, ◌&&◌, ◌==◌, if◌then◌else◌, is_none, None, Some, List, [], ◌∷◌, ◌++◌, map, length, slice_get}
-use Rattle.arcstr_count.proofs.Names.{get_or, set, refl, sym, ◌∙◌, ap, subst, arith, ◌+◌, ◌≤◌, Bool, false, IsFalse, filter, map_push, get_or-map, map-set}
-use Rattle.arcstr_count.proofs.Names.{length-map, reverse-append, get_or_from_slice_get, slice_get_within, Step, Make, Look, Clone, Begin, Sub, Back, Leak}
-use Rattle.arcstr_count.proofs.Names.{HandleState, Free, Dropping, Owing, Gone, HandleSummary, Reply, Handle, Looked, Ended, Left, Owes, Given, Marked}
-use Rattle.arcstr_count.proofs.Names.{FlagAndCount, fresh_word, looked_of, cloned_of, dropped_of, is_last, marked_of, makes, births, block_of, numbers_below}
-use Rattle.arcstr_count.proofs.Names.{lives, is_marked, state_of, living, is_only, needs, handle_state, refusal_unless, refusal_by, refusal_of, is_accepted}
-use Rattle.arcstr_count.proofs.Names.{reply_by, accepted_answer, IsPast, past_of, answer_after, word_left, Stands, is_dropping, is_owing, handles_of}
-use Rattle.arcstr_count.proofs.Names.{handle_summary, Keeps, EndsIn, look_reply}
-use Rattle.arcstr_count.proofs.Pasts.{past_of-step, IsPast-past_of}
-use Rattle.arcstr_count.proofs.LawsOfHandles.{IsIn, handle_state_is, accepts_needed, block_made, ChangesOne, Begin-changes, Sub-changes, Back-changes}
-use Rattle.arcstr_count.proofs.LawsOfPasts.{word_stands, look_answers, Sub_counted, Sub_last, count_bounded, one_owes, owes_alone}
-use Rattle.arcstr_count.proofs.Tables.{length-numbers_below, length-handles_of, handle_at, handles-Clone, handles-changed}
-use Rattle.arcstr_count.proofs.LawsOfBlocks.{held, is_held, count-same}
-
--- ---- the states of the handles, as a column of the table
-
-column : {X Y Z : Type 0} (f : X → Y) (g : Y → Z) (xs : List X) → map g (map f xs) ≡ map (λ x. g (f x)) xs
-column f g [] = refl
-column f g (x ∷ xs) = ap (λ later. g (f x) ∷ later) (column f g xs)
-
-abbrev states_in : ℕ → List Step → List HandleState
-states_in limit p = map (λ h. state_of limit p h) (numbers_below (births p))
-
-abbrev state_in : HandleSummary → HandleState
-state_in e = e.state
-
-states_in-table : (limit : ℕ) (p : List Step) → map state_in (handles_of limit p) ≡ states_in limit p
-states_in-table limit p = column (λ h. handle_summary limit p h) state_in (numbers_below (births p))
-
-states_in-set : (limit : ℕ) (p q : List Step) (h : ℕ) (e : HandleSummary) → handles_of limit q ≡ set (handles_of limit p) h e
-    → states_in limit q ≡ set (states_in limit p) h e.state
-states_in-set limit p q h e changed =
-    sym (states_in-table limit q) ∙ ap (map state_in) changed ∙ map-set state_in (handles_of limit p) h e
-    ∙ ap (λ states. set states h e.state) (states_in-table limit p)
-
-states_in-push : (limit : ℕ) (p q : List Step) (e : HandleSummary) → handles_of limit q ≡ handles_of limit p ++ e ∷ []
-    → states_in limit q ≡ states_in limit p ++ e.state ∷ []
-states_in-push limit p q e born =
-    sym (states_in-table limit q) ∙ ap (map state_in) born ∙ map_push state_in (handles_of limit p) e
-    ∙ ap (λ states. states ++ e.state ∷ []) (states_in-table limit p)
+--
+-- We show for each step of a handle whose seat has the state that the step needs that the step is accepted and keeps the history: the step function
+-- computes its reply, the new count word and the new seats from those that the history leaves.
+use Rattle.arcstr_count.proofs.Names.{◌≡◌, ℕ, ◌+◌, ◌<◌, ◌≤◌, ◌==◌, ◌&&◌, Bool, true, false, if◌then◌else◌, IsFalse, is_none, Option, None, Some, option_map}
+use Rattle.arcstr_count.proofs.Names.{List, [], ◌∷◌, ◌++◌, map, length, filter, slice_get, get_or, set, refl, sym, ◌∙◌, ap, subst, arith, zero, suc, ap₂, filter-append, length-append, get_or_append_left, get_or_push}
+use Rattle.arcstr_count.proofs.Names.{map_push, map-set, length-map, length-set, length_push, get_or-set_same}
+use Rattle.arcstr_count.proofs.Names.{Step, Make, Look, Clone, Begin, Sub, Back, Leak, HandleState, Free, Dropping, Owing, Gone, HandleSummary, BlockEntry, Reply}
+use Rattle.arcstr_count.proofs.Names.{Count, Handle, Looked, Ended, Left, Owes, Given, Marked, Static, StepFault, FlagAndCount, fresh_word, looked_of, cloned_of, dropped_of, is_last, marked_of}
+use Rattle.arcstr_count.proofs.Names.{needs, refusal_by, refusal_unless, State, after, start, no_handle, no_block, block_on, state_on, state_in, word_in, word_on, given_in}
+use Rattle.arcstr_count.proofs.Names.{handles_with_state, blocks_with_word, blocks_with_given, accepted, refusal_in, unless_refused, step, look_reply, lives, is_dropping}
+use Rattle.arcstr_count.proofs.Names.{is_owing, makes_after, marked_after, are_accepted, Keeps, EndsIn, after_from, and_parts}
+use Rattle.arcstr_count.proofs.LawsOfBlocks.{is_in_state, step_finds, accepts_needed, lawful_after, held, is_held, count, count-same, count-push, one_if, begun_by}
+use Rattle.arcstr_count.proofs.LawsOfHistories.{SaysOfBlock, after-step, says, dropping_counted}
+use Rattle.arcstr_count.proofs.Prefixes.{by_pushes}
 
 -- ---- what a seat says
 
-length-states_in : (limit : ℕ) (p : List Step) → length (states_in limit p) ≡ births p
-length-states_in limit p =
-    length-map (numbers_below (births p)) (λ h. state_of limit p h) ∙ length-numbers_below (births p)
+slice_get-map : {X Y : Type 0} (f : X → Y) (xs : List X) (k : ℕ) → slice_get (map f xs) k ≡ option_map f (slice_get xs k)
+slice_get-map f [] k = refl
+slice_get-map f (x ∷ xs) zero = refl
+slice_get-map f (x ∷ xs) (suc k) = slice_get-map f xs k
 
-get_or-column : (limit : ℕ) (p : List Step) (h : ℕ) → h < births p → get_or (states_in limit p) h Gone ≡ state_of limit p h
-get_or-column limit p h born =
-    let within : h < length (handles_of limit p) = rw (length-handles_of limit p) born in
-    ap (λ states. get_or states h Gone) (sym (states_in-table limit p))
-    ∙ get_or-map state_in (handles_of limit p) h (record { block = 0; state = Gone }) Gone within
-    ∙ ap state_in (handle_at limit p h (record { block = 0; state = Gone }) born)
+module _ (limit : ℕ) (r : List Step) (w : FlagAndCount) (seats : List HandleState) (keeps : Keeps limit r w seats) where
+  -- a handle that has a seat is in the state that the seat holds
+  seat_is : (h : ℕ) (state : HandleState) → slice_get seats h ≡ Some state → state_in (after limit r) h ≡ Some state
+  seat_is h state seat = sym (slice_get-map (λ (it : HandleSummary). it.state) (after limit r).handles h)
+      ∙ ap (λ states. slice_get states h) (sym keeps.states) ∙ seat
 
--- a handle that has a seat was born, and is in the state that the seat holds
-seat_is : (limit : ℕ) (r : List Step) (w : FlagAndCount) (seats : List HandleState) (h : ℕ) (state : HandleState)
-    → Keeps limit r w seats → slice_get seats h ≡ Some state → IsIn limit (past_of limit r) h state
-seat_is limit r w seats h state keeps seat =
-    let seated : slice_get (states_in limit (past_of limit r)) h ≡ Some state = rw keeps.states at seat in
-    let born : h < births (past_of limit r) =
-    rw (length-states_in limit (past_of limit r)) at (slice_get_within (states_in limit (past_of limit r)) h state seated) in
-    record {
-      born = born;
-      state = sym (get_or-column limit (past_of limit r) h born)
-          ∙ get_or_from_slice_get (states_in limit (past_of limit r)) h state Gone seated;
-    }
+  made_one : 0 < makes_after limit r
+  made_one = let one = keeps.one_block.made in omega arith
 
--- ---- one more step
+  -- the one block is block 0, and its word is the one that is kept
+  on_first_block : (h : ℕ) (state : HandleState) → slice_get seats h ≡ Some state → block_on (after limit r) h ≡ 0
+  on_first_block h state seat =
+      let below = (lawful_after limit r).made h (is_in_state (after limit r) h state (seat_is h state seat)).born in
+      let one = keeps.one_block.made in omega arith
 
-past-step : (limit : ℕ) (r : List Step) (s : Step) → is_accepted limit (past_of limit r) s ≡ true
-    → past_of limit (r ++ s ∷ []) ≡ s ∷ past_of limit r
-past-step limit r s accepted =
-    past_of-step limit r s ∙ ap (λ b. if b then s ∷ past_of limit r else past_of limit r) accepted
-
-kept : (limit : ℕ) (r : List Step) (w new : FlagAndCount) (seats seats' : List HandleState) (s : Step)
-    → Keeps limit r w seats → is_accepted limit (past_of limit r) s ≡ true
-    → makes (s ∷ past_of limit r) ≡ makes (past_of limit r)
-    → new ≡ word_left limit (s ∷ past_of limit r) 0
-    → seats' ≡ states_in limit (s ∷ past_of limit r)
-    → Keeps limit (r ++ s ∷ []) new seats'
-kept limit r w new seats seats' s keeps accepted same_makes left states =
-    let extended : past_of limit (r ++ s ∷ []) ≡ s ∷ past_of limit r = past-step limit r s accepted in
-    record {
-      one_block = record {
-        made = ap makes extended ∙ same_makes ∙ keeps.one_block.made;
-        accepted = extended ∙ ap (λ q. s ∷ q) keeps.one_block.accepted ∙ sym (reverse-append r (s ∷ []));
-      };
-      left = left ∙ ap (λ q. word_left limit q 0) (sym extended);
-      states = states ∙ ap (λ q. states_in limit q) (sym extended);
-    }
-
--- the one block of the history is block 0
-on_first_block : (limit : ℕ) (r : List Step) (w : FlagAndCount) (seats : List HandleState) (h : ℕ) (state : HandleState)
-    → Keeps limit r w seats → IsIn limit (past_of limit r) h state → block_of (past_of limit r) h ≡ 0
-on_first_block limit r w seats h state keeps i =
-    let below = block_made limit (past_of limit r) h (IsPast-past_of limit r) i.born in
-    let one = keeps.one_block.made in omega arith
-
--- ---- what the word says
-
--- the one block was made
-pub made_one : (limit : ℕ) (r : List Step) (w : FlagAndCount) (seats : List HandleState) → Keeps limit r w seats
-    → 0 < makes (past_of limit r)
-made_one limit r w seats keeps = let one = keeps.one_block.made in omega arith
-
--- the word stands for the block's living handles
-pub stands : (limit : ℕ) (r : List Step) (w : FlagAndCount) (seats : List HandleState) → Keeps limit r w seats
-    → Stands limit (past_of limit r) 0 w
-stands limit r w seats keeps =
-    subst (Stands limit (past_of limit r) 0) (sym keeps.left)
-    (word_stands limit (past_of limit r) 0 (IsPast-past_of limit r) (made_one limit r w seats keeps))
-
--- a subtraction of a dropping handle is the last one exactly if the word says so, and the count is above 0
-record Subtracts (limit : ℕ) (p : List Step) (h : ℕ) (w : FlagAndCount) : Type 0 where
-  pub counted : 0 < w.count
-  pub last : not (is_marked limit p (block_of p h)) && is_only h (living limit p (block_of p h)) ≡ is_last w
-
-subtracts : (limit : ℕ) (r : List Step) (w : FlagAndCount) (seats : List HandleState) (h : ℕ) → Keeps limit r w seats
-    → IsIn limit (past_of limit r) h Dropping → Subtracts limit (past_of limit r) h w
-subtracts limit r w seats h keeps i =
-    let accepted : is_accepted limit (past_of limit r) (Sub h) ≡ true =
-    ap (λ o. is_none (refusal_unless Dropping o)) (handle_state_is limit (past_of limit r) h Dropping i) in
-    let same : word_left limit (past_of limit r) (block_of (past_of limit r) h) ≡ w =
-    ap (λ b. word_left limit (past_of limit r) b) (on_first_block limit r w seats h Dropping keeps i) ∙ sym keeps.left in
-    record {
-      counted = subst (λ (word : FlagAndCount). 0 < word.count) same
-          (Sub_counted limit (past_of limit r) h (IsPast-past_of limit r) accepted);
-      last = sym (Sub_last limit (past_of limit r) h (IsPast-past_of limit r) accepted) ∙ ap is_last same;
-    }
+  word_is : (h : ℕ) (state : HandleState) → slice_get seats h ≡ Some state → word_on (after limit r) h ≡ w
+  word_is h state seat = ap (λ b. word_in (after limit r) b) (on_first_block h state seat) ∙ sym keeps.left
 
 -- ---- each step, accepted, with its answer and what it keeps
 
@@ -136,15 +46,6 @@ pub record Prolongs (limit : ℕ) (r : List Step) (s : Step) (reply : Reply) (w 
   pub keeps : Keeps limit (r ++ s ∷ []) w seats
   pub ends : EndsIn limit (r ++ s ∷ []) s reply
 
--- a step that is accepted after r, with this answer, prolongs r, if the longer history keeps the new word and seats
-prolonged : {limit : ℕ} {r : List Step} {s : Step} {reply : Reply} {w : FlagAndCount} {seats : List HandleState}
-    → Keeps limit (r ++ s ∷ []) w seats → is_accepted limit (past_of limit r) s ≡ true → answer_after limit r s ≡ reply
-    → Prolongs limit r s reply w seats
-prolonged {r = r} keeps accepted answered = record {
-  keeps = keeps;
-  ends = record { one_block = keeps.one_block; prefix = r; ends = refl; accepted = accepted; answered = answered };
-}
-
 pub keeps-make : (limit : ℕ) → Keeps limit (Make ∷ []) fresh_word (Free ∷ [])
 keeps-make limit = record {
   one_block = record { made = refl; accepted = refl };
@@ -152,96 +53,161 @@ keeps-make limit = record {
   states = refl;
 }
 
--- what an accepted step answers after a past, the word that it leaves on block 0, and the states in which it leaves the handles
-record StepLeaves (limit : ℕ) (p : List Step) (s : Step) (reply : Reply) (w : FlagAndCount) (seats : List HandleState) : Type 0 where
-  answer : accepted_answer limit p s ≡ reply
-  word : w ≡ word_left limit (s ∷ p) 0
-  states : seats ≡ states_in limit (s ∷ p)
+-- steps after others are accepted if they are accepted in the state after these
+accepted-append : (limit : ℕ) (w : State) (xs ys : List Step) → are_accepted limit w (xs ++ ys) ≡ (are_accepted limit w xs && are_accepted limit (after_from limit w xs) ys)
+accepted-append limit w [] ys = refl
+accepted-append limit w (x ∷ xs) ys =
+    ap (λ t. is_none (refusal_in w x) && t) (accepted-append limit (step limit w x).0 xs ys)
+    ∙ both (is_none (refusal_in w x)) (are_accepted limit (step limit w x).0 xs) (are_accepted limit (after_from limit (step limit w x).0 xs) ys)
+  where
+    both : (a b c : Bool) → (a && (b && c)) ≡ ((a && b) && c)
+    both true b c = refl
+    both false b c = refl
+
+-- what an accepted step leaves of the one block and the seats, with its reply
+record StepLeaves (limit : ℕ) (p : State) (s : Step) (reply : Reply) (w : FlagAndCount) (seats : List HandleState) : Type 0 where
+  answer : (accepted limit p s).1 ≡ reply
+  blocks : length (accepted limit p s).0.blocks ≡ length p.blocks
+  word : w ≡ word_in (accepted limit p s).0 0
+  states : seats ≡ map (λ (it : HandleSummary). it.state) (accepted limit p s).0.handles
+
+states-with_state : (hs : List HandleSummary) (h : ℕ) (new : HandleState)
+    → set (map (λ (it : HandleSummary). it.state) hs) h new ≡ map (λ (it : HandleSummary). it.state) (handles_with_state hs h new)
+states-with_state hs h new = sym (map-set (λ (it : HandleSummary). it.state) hs h (record { block = (get_or hs h no_handle).block; state = new }))
 
 module _ (limit : ℕ) (r : List Step) (w : FlagAndCount) (seats : List HandleState) (h : ℕ) (keeps : Keeps limit r w seats) where
-  abbrev p : List Step
-  p = past_of limit r
-
-  past : IsPast limit p
-  past = IsPast-past_of limit r
+  abbrev p : State
+  p = after limit r
 
   -- a step of a handle whose seat has the state that the step needs
   keeps-step : (s : Step) (needed : HandleState) (reply : Reply) (new : FlagAndCount) (new_seats : List HandleState)
-      → needs s ≡ Some (record { handle = h; state = needed }) → slice_get seats h ≡ Some needed → makes (s ∷ p) ≡ makes p
-      → (is_accepted limit p s ≡ true → block_of p h ≡ 0 → StepLeaves limit p s reply new new_seats)
-      → Prolongs limit r s reply new new_seats
-  keeps-step s needed reply new new_seats need seat same_makes leaves =
-      let i = seat_is limit r w seats h needed keeps seat in
-      let open_to : refusal_of limit p s ≡ None =
-      ap (λ n. refusal_by (λ k. handle_state limit p k) n) need
-      ∙ ap (refusal_unless needed) (handle_state_is limit p h needed i) ∙ accepts_needed needed in
-      let accepted : is_accepted limit p s ≡ true = ap is_none open_to in
-      let left = leaves accepted (on_first_block limit r w seats h needed keeps i) in
-      prolonged (kept limit r w new seats new_seats s keeps accepted same_makes left.word left.states) accepted
-      (ap (λ o. reply_by o (accepted_answer limit p s)) open_to ∙ left.answer)
+      → needs s ≡ Some (record { handle = h; state = needed }) → slice_get seats h ≡ Some needed
+      → StepLeaves limit p s reply new new_seats → Prolongs limit r s reply new new_seats
+  keeps-step s needed reply new new_seats need seat leaves = record {
+    keeps = record {
+      one_block = one;
+      left = leaves.word ∙ ap (λ (v : State). word_in v 0) (sym state);
+      states = leaves.states ∙ ap (λ (v : State). map (λ (it : HandleSummary). it.state) v.handles) (sym state);
+    };
+    ends = record { one_block = one; prefix = r; ends = refl; answered = ap (λ o. (unless_refused o p (accepted limit p s)).1) open_to ∙ leaves.answer };
+  }
+    where
+      open_to : refusal_in (after limit r) s ≡ None
+      open_to = ap (λ n. refusal_by (λ k. state_in (after limit r) k) n) need
+          ∙ ap (refusal_unless needed) (seat_is limit r w seats keeps h needed seat) ∙ accepts_needed needed
 
-  -- the word, where the step changes that of its handle's block
-  word_is : (F : FlagAndCount → FlagAndCount) → block_of p h ≡ 0 → F w ≡ (if block_of p h == 0 then F (word_left limit p 0) else word_left limit p 0)
-  word_is F on = ap F keeps.left ∙ sym (ap (λ b. if b == 0 then F (word_left limit p 0) else word_left limit p 0) on)
+      state : after limit (r ++ s ∷ []) ≡ (accepted limit (after limit r) s).0
+      state = after-step limit r s ∙ ap (λ o. (unless_refused o (after limit r) (accepted limit (after limit r) s)).0) open_to
 
-  -- the seats, where the step changes its handle's state
-  seats_are : (s : Step) (old new : HandleState) → ChangesOne limit p s h old new → set seats h new ≡ states_in limit (s ∷ p)
-  seats_are s old new c = ap (λ states. set states h new) keeps.states
-      ∙ sym (states_in-set limit p (s ∷ p) h _ (handles-changed limit p s h old new c))
+      one : Rattle.arcstr_count.specs.OneBlock.IsOneBlock limit (r ++ s ∷ [])
+      one = record {
+        made = ap (λ (v : State). length v.blocks) state ∙ leaves.blocks ∙ keeps.one_block.made;
+        accepted = accepted-append limit start r (s ∷ [])
+            ∙ ap (λ t. t && (is_none (refusal_in (after limit r) s) && true)) keeps.one_block.accepted ∙ ap (λ o. is_none o && true) open_to;
+      }
+
+  -- where the word of the handle's block changes
+  abbrev with_word : FlagAndCount → List BlockEntry
+  with_word new = blocks_with_word (after limit r).blocks (block_on (after limit r) h) new
+
+  length-with_word : (new : FlagAndCount) → length (with_word new) ≡ length (after limit r).blocks
+  length-with_word new = length-set (after limit r).blocks (block_on (after limit r) h) _
+
+  word_changed : (state : HandleState) → slice_get seats h ≡ Some state → (F : FlagAndCount → FlagAndCount)
+      → F w ≡ (get_or (with_word (F (word_on (after limit r) h))) 0 no_block).word
+  word_changed state seat F =
+      let on = on_first_block limit r w seats keeps h state seat in
+      ap F (sym (word_is limit r w seats keeps h state seat))
+      ∙ sym (ap (λ (e : BlockEntry). e.word) (ap (λ b. get_or (with_word (F (word_on (after limit r) h))) b no_block) (sym on)
+      ∙ get_or-set_same (after limit r).blocks (block_on (after limit r) h)
+      (record { word = F (word_on (after limit r) h); given = (get_or (after limit r).blocks (block_on (after limit r) h) no_block).given }) no_block
+      ((lawful_after limit r).made h (is_in_state (after limit r) h state (seat_is limit r w seats keeps h state seat)).born)))
+
+  -- where the handle's state changes
+  seats_changed : (new : HandleState) → set seats h new ≡ map (λ (it : HandleSummary). it.state) (handles_with_state (after limit r).handles h new)
+  seats_changed new = ap (λ states. set states h new) keeps.states ∙ states-with_state (after limit r).handles h new
+
+  -- a birth
+  seats_grow : (b : ℕ) → seats ++ Free ∷ [] ≡ map (λ (it : HandleSummary). it.state) ((after limit r).handles ++ record { block = b; state = Free } ∷ [])
+  seats_grow b = ap (λ states. states ++ Free ∷ []) keeps.states
+      ∙ sym (map_push (λ (it : HandleSummary). it.state) (after limit r).handles (record { block = b; state = Free }))
+
+  long : length (after limit r).handles ≡ length seats
+  long = sym (length-map (after limit r).handles (λ (it : HandleSummary). it.state)) ∙ ap length (sym keeps.states)
 
   pub keeps-look : slice_get seats h ≡ Some Free → Prolongs limit r (Look h) (look_reply (looked_of w)) w seats
-  keeps-look seat = keeps-step (Look h) Free _ w seats refl seat refl (λ a on. record {
-    answer = look_answers limit p (block_of p h) w (rw on (stands limit r w seats keeps));
+  keeps-look seat = keeps-step (Look h) Free _ w seats refl seat (record {
+    answer = ap (λ v. look_reply (looked_of v)) (word_is limit r w seats keeps h Free seat);
+    blocks = refl;
     word = keeps.left;
     states = keeps.states;
   })
 
+  begin_leaves : (f : Bool) → slice_get seats h ≡ Some Free → w.flag ≡ f
+      → StepLeaves limit (after limit r) (Begin h) (if f then Ended else Looked) w (set seats h (if f then Gone else Dropping))
+  begin_leaves true seat marked =
+      let flag = ap (λ (v : FlagAndCount). v.flag) (word_is limit r w seats keeps h Free seat) ∙ marked in record {
+        answer = ap (λ x. (begun_by x (after limit r) h).1) flag;
+        blocks = ap (λ x. length (begun_by x (after limit r) h).0.blocks) flag;
+        word = keeps.left ∙ sym (ap (λ x. word_in (begun_by x (after limit r) h).0 0) flag);
+        states = seats_changed Gone ∙ sym (ap (λ x. map (λ (it : HandleSummary). it.state) (begun_by x (after limit r) h).0.handles) flag);
+      }
+  begin_leaves false seat unmarked =
+      let flag = ap (λ (v : FlagAndCount). v.flag) (word_is limit r w seats keeps h Free seat) ∙ unmarked in record {
+        answer = ap (λ x. (begun_by x (after limit r) h).1) flag;
+        blocks = ap (λ x. length (begun_by x (after limit r) h).0.blocks) flag;
+        word = keeps.left ∙ sym (ap (λ x. word_in (begun_by x (after limit r) h).0 0) flag);
+        states = seats_changed Dropping ∙ sym (ap (λ x. map (λ (it : HandleSummary). it.state) (begun_by x (after limit r) h).0.handles) flag);
+      }
+
   pub keeps-begin : slice_get seats h ≡ Some Free
       → Prolongs limit r (Begin h) (if w.flag then Ended else Looked) w (set seats h (if w.flag then Gone else Dropping))
-  keeps-begin seat = keeps-step (Begin h) Free _ w _ refl seat refl (λ a on.
-      let mark : is_marked limit p (block_of p h) ≡ w.flag =
-      ap (λ b. is_marked limit p b) on ∙ sym (stands limit r w seats keeps).flag in record {
-        answer = ap (λ m. if m then Ended else Looked) mark;
-        word = keeps.left;
-        states = seats_are (Begin h) Free _
-            (subst (λ m. ChangesOne limit p (Begin h) h Free (if m then Gone else Dropping)) mark (Begin-changes limit p h past a));
-      })
+  keeps-begin seat = keeps-step (Begin h) Free _ w _ refl seat (begin_leaves w.flag seat refl)
 
   pub keeps-clone : slice_get seats h ≡ Some Free
       → Prolongs limit r (Clone h) (Handle (length seats)) (cloned_of limit w) (seats ++ Free ∷ [])
-  keeps-clone seat = keeps-step (Clone h) Free _ _ _ refl seat refl (λ a on. record {
-    answer = ap Handle (sym (length-states_in limit p) ∙ ap length (sym keeps.states));
-    word = word_is (cloned_of limit) on;
-    states = ap (λ states. states ++ Free ∷ []) keeps.states
-        ∙ sym (states_in-push limit p (Clone h ∷ p) _ (handles-Clone limit p h past));
+  keeps-clone seat = keeps-step (Clone h) Free _ _ _ refl seat (record {
+    answer = ap Handle long;
+    blocks = length-with_word (cloned_of limit (word_on (after limit r) h));
+    word = word_changed Free seat (cloned_of limit);
+    states = seats_grow (block_on (after limit r) h);
   })
 
   pub keeps-leak : slice_get seats h ≡ Some Free → Prolongs limit r (Leak h) Marked (marked_of w) seats
-  keeps-leak seat = keeps-step (Leak h) Free _ _ _ refl seat refl (λ a on. record {
+  keeps-leak seat = keeps-step (Leak h) Free _ _ _ refl seat (record {
     answer = refl;
-    word = word_is marked_of on;
+    blocks = length-with_word (marked_of (word_on (after limit r) h));
+    word = word_changed Free seat marked_of;
     states = keeps.states;
   })
 
   pub keeps-sub : slice_get seats h ≡ Some Dropping → (0 < w.count)
       × Prolongs limit r (Sub h) (if is_last w then Owes else Left) (dropped_of w) (set seats h (if is_last w then Owing else Gone))
   keeps-sub seat =
-      let takes : Subtracts limit p h w = subtracts limit r w seats h keeps (seat_is limit r w seats h Dropping keeps seat) in (
-        takes.counted,
-        keeps-step (Sub h) Dropping _ _ _ refl seat refl (λ a on. record {
-          answer = ap (λ m. if m then Owes else Left) takes.last;
-          word = word_is dropped_of on;
-          states = seats_are (Sub h) Dropping _
-              (subst (λ m. ChangesOne limit p (Sub h) h Dropping (if m then Owing else Gone)) takes.last (Sub-changes limit p h past a));
+      let i = is_in_state (after limit r) h Dropping (seat_is limit r w seats keeps h Dropping seat) in
+      let word = word_is limit r w seats keeps h Dropping seat in (
+        subst (λ (v : FlagAndCount). 0 < v.count) word (dropping_counted limit r h i.born i.state),
+        keeps-step (Sub h) Dropping _ _ _ refl seat (record {
+          answer = ap (λ v. if is_last v then Owes else Left) word;
+          blocks = length-with_word (dropped_of (word_on (after limit r) h));
+          word = word_changed Dropping seat dropped_of;
+          states = ap (λ v. set seats h (if is_last v then Owing else Gone)) (sym word)
+              ∙ seats_changed (if is_last (word_on (after limit r) h) then Owing else Gone);
         }),
       )
 
   pub keeps-back : slice_get seats h ≡ Some Owing → Prolongs limit r (Back h) Given w (set seats h Gone)
-  keeps-back seat = keeps-step (Back h) Owing _ w _ refl seat refl (λ a on. record {
-    answer = refl;
-    word = keeps.left;
-    states = seats_are (Back h) Owing Gone (Back-changes limit p h past a);
-  })
+  keeps-back seat =
+      let i = is_in_state (after limit r) h Owing (seat_is limit r w seats keeps h Owing seat) in
+      let on = on_first_block limit r w seats keeps h Owing seat in
+      keeps-step (Back h) Owing _ w _ refl seat (record {
+        answer = refl;
+        blocks = length-set (after limit r).blocks (block_on (after limit r) h) _;
+        word = sym (word_is limit r w seats keeps h Owing seat)
+            ∙ sym (ap (λ (e : BlockEntry). e.word) (ap (λ b. get_or (blocks_with_given (after limit r).blocks (block_on (after limit r) h)) b no_block) (sym on)
+            ∙ get_or-set_same (after limit r).blocks (block_on (after limit r) h) _ no_block ((lawful_after limit r).made h i.born)));
+        states = seats_changed Gone;
+      })
 
 -- ==== how many seats of a history of one block are in which states: their numbers agree with the count of the word
 
@@ -256,66 +222,147 @@ length-filter_column test f (x ∷ xs) = by_test (test (f x)) (length-filter_col
     by_test true later = omega arith
     by_test false later = later
 
--- as many seats pass a test as there are handles on the block whose states pass it
-seats-held : (limit : ℕ) (r : List Step) (w : FlagAndCount) (seats : List HandleState) (test : HandleState → Bool)
-    → Keeps limit r w seats → length (filter test seats) ≡ held limit (past_of limit r) 0 test
-seats-held limit r w seats test keeps =
-    ap (λ states. length (filter test states)) keeps.states
-    ∙ length-filter_column test (λ h. state_of limit p h) (numbers_below (births p))
-    ∙ count-same (λ h. is_held limit p 0 test h) (λ h. test (state_of limit p h)) (births p) on_the_block
+-- the entries of a list that pass a test are as many as their indices
+count_entries : {X : Type 0} (test : X → Bool) (d : X) (xs : List X) → count (λ k. test (get_or xs k d)) (length xs) ≡ length (filter test xs)
+count_entries {X} test d = by_pushes (λ xs. count (λ k. test (get_or xs k d)) (length xs) ≡ length (filter test xs)) refl push
   where
-    p : List Step
-    p = past_of limit r
+    single : (t : Bool) (x : X) → one_if t ≡ length (if t then x ∷ [] else [])
+    single true x = refl
+    single false x = refl
 
-    on_the_block : (h : ℕ) → h < births p → test (state_of limit p h) ≡ is_held limit p 0 test h
-    on_the_block h born =
-        let below : block_of p h < makes p = block_made limit p h (IsPast-past_of limit r) born in
-        let one = keeps.one_block.made in
-        let here : block_of p h ≡ 0 = omega arith in
-        sym (ap (λ b. (b == 0) && test (state_of limit p h)) here)
+    push : (xs : List X) (x : X) → count (λ k. test (get_or xs k d)) (length xs) ≡ length (filter test xs)
+        → count (λ k. test (get_or (xs ++ x ∷ []) k d)) (length (xs ++ x ∷ [])) ≡ length (filter test (xs ++ x ∷ []))
+    push xs x before =
+        let more : length (xs ++ x ∷ []) ≡ suc (length xs) = omega (arith, length_push xs x) in
+        ap (λ n. count (λ k. test (get_or (xs ++ x ∷ []) k d)) n) more
+        ∙ count-push (λ k. test (get_or (xs ++ x ∷ []) k d)) (length xs)
+        ∙ ap₂ (λ a b. a + b)
+        (count-same (λ k. test (get_or xs k d)) (λ k. test (get_or (xs ++ x ∷ []) k d)) (length xs)
+        (λ k below. ap test (get_or_append_left xs (x ∷ []) d k below)) ∙ before)
+        (ap (λ y. one_if (test y)) (get_or_push xs x d (length xs) refl) ∙ single (test x) x)
+        ∙ sym (ap length (filter-append test xs (x ∷ [])) ∙ length-append (filter test xs) (filter test (x ∷ [])))
+
+module _ (limit : ℕ) (r : List Step) (w : FlagAndCount) (seats : List HandleState) (keeps : Keeps limit r w seats) where
+  -- as many seats pass a test as there are handles on the block whose states pass it
+  seats-held : (test : HandleState → Bool) → length (filter test seats) ≡ held (after limit r).handles 0 test
+  seats-held test =
+      ap (λ states. length (filter test states)) keeps.states
+      ∙ length-filter_column test (λ (it : HandleSummary). it.state) (after limit r).handles
+      ∙ sym (count_entries (λ (it : HandleSummary). test it.state) no_handle (after limit r).handles)
+      ∙ count-same (λ h. is_held (after limit r).handles 0 test h) (λ h. test (get_or (after limit r).handles h no_handle).state)
+      (length (after limit r).handles) on_the_block
+    where
+      on_the_block : (h : ℕ) → h < length (after limit r).handles
+          → test (get_or (after limit r).handles h no_handle).state ≡ is_held (after limit r).handles 0 test h
+      on_the_block h born =
+          let below = (lawful_after limit r).made h born in
+          let one = keeps.one_block.made in
+          let here : block_on (after limit r) h ≡ 0 = omega arith in
+          sym (ap (λ b. (b == 0) && test (state_on (after limit r) h)) here)
+
+  says_of_word : SaysOfBlock limit w (λ test. held (after limit r).handles 0 test) (given_in (after limit r) 0)
+  says_of_word = subst (λ v. SaysOfBlock limit v (λ test. held (after limit r).handles 0 test) (given_in (after limit r) 0)) (sym keeps.left)
+      (says limit (after limit r) 0 (lawful_after limit r) (made_one limit r w seats keeps))
 
 -- an unmarked word counts the seats of living handles
 pub seats-counted : (limit : ℕ) (r : List Step) (w : FlagAndCount) (seats : List HandleState) → Keeps limit r w seats
     → IsFalse w.flag → w.count ≡ length (filter lives seats)
-seats-counted limit r w seats keeps unmarked =
-    let on = stands limit r w seats keeps in
-    on.exact (sym on.flag ∙ unmarked) ∙ sym (seats-held limit r w seats lives keeps)
+seats-counted limit r w seats keeps unmarked = (says_of_word limit r w seats keeps).exact unmarked ∙ sym (seats-held limit r w seats keeps lives)
 
 -- a marked word counts at least the seats of dropping handles
 pub seats-covered : (limit : ℕ) (r : List Step) (w : FlagAndCount) (seats : List HandleState) → Keeps limit r w seats
     → w.flag ≡ true → length (filter is_dropping seats) ≤ w.count
 seats-covered limit r w seats keeps marked =
-    let on = stands limit r w seats keeps in
-    let covered = on.covered (sym on.flag ∙ marked) in
-    let same = seats-held limit r w seats is_dropping keeps in
-    omega arith
+    let covered = (says_of_word limit r w seats keeps).covered marked in
+    let same = seats-held limit r w seats keeps is_dropping in omega arith
 
 -- a count is at most limit + 1
 pub seats-bounded : (limit : ℕ) (r : List Step) (w : FlagAndCount) (seats : List HandleState) → Keeps limit r w seats
     → w.count ≤ limit + 1
-seats-bounded limit r w seats keeps =
-    let bounded = count_bounded limit (past_of limit r) 0 (IsPast-past_of limit r) (made_one limit r w seats keeps) in
-    let same = ap (λ (word : FlagAndCount). word.count) keeps.left in
-    omega arith
+seats-bounded limit r w seats keeps = (says_of_word limit r w seats keeps).bounded
 
 -- at most one seat owes
 pub seats-one_owes : (limit : ℕ) (r : List Step) (w : FlagAndCount) (seats : List HandleState) → Keeps limit r w seats
     → length (filter is_owing seats) ≤ 1
 seats-one_owes limit r w seats keeps =
-    let owes = one_owes limit (past_of limit r) 0 (IsPast-past_of limit r) (made_one limit r w seats keeps) in
-    let same = seats-held limit r w seats is_owing keeps in
-    omega arith
+    let one = (says_of_word limit r w seats keeps).one in
+    let same = seats-held limit r w seats keeps is_owing in omega arith
 
 -- where a seat owes, the word is unmarked with count 0, and no seat belongs to a living handle
 pub seats-owed : (limit : ℕ) (r : List Step) (w : FlagAndCount) (seats : List HandleState) → Keeps limit r w seats
     → 0 < length (filter is_owing seats) → IsFalse w.flag × (w.count ≡ 0) × (length (filter lives seats) ≡ 0)
 seats-owed limit r w seats keeps some =
-    let same = seats-held limit r w seats is_owing keeps in
-    let alone = owes_alone limit (past_of limit r) 0 (IsPast-past_of limit r) (made_one limit r w seats keeps) (omega arith) in
-    let on = stands limit r w seats keeps in
-    let unmarked : IsFalse w.flag = on.flag ∙ alone.0 in
-    let none : length (filter lives seats) ≡ 0 = seats-held limit r w seats lives keeps ∙ ap length alone.1 in
-    (unmarked, seats-counted limit r w seats keeps unmarked ∙ none, none)
+    let same = seats-held limit r w seats keeps is_owing in
+    let alone = (says_of_word limit r w seats keeps).alone (omega arith) in
+    let none : length (filter lives seats) ≡ 0 = seats-held limit r w seats keeps lives ∙ alone.1 in
+    (alone.0, seats-counted limit r w seats keeps alone.0 ∙ none, none)
 
 -- the function whose proof uses this ruleset names it
 pub ruleset laws_of_seats = (seats-counted, seats-covered, seats-bounded, seats-one_owes)
+
+-- ==== how a history of one block that ends in a step marks its block
+
+-- the last step of a history of one block was accepted, and leaves the history's state
+module _ (limit : ℕ) (history : List Step) (s : Step) (reply : Reply) (ends : EndsIn limit history s reply) where
+  last_accepted : refusal_in (after limit ends.prefix) s ≡ None
+  last_accepted = none_of (refusal_in (after limit ends.prefix) s)
+      (and_parts (is_none (refusal_in (after limit ends.prefix) s)) true (and_parts (are_accepted limit start ends.prefix)
+      (is_none (refusal_in (after limit ends.prefix) s) && true)
+      (sym (accepted-append limit start ends.prefix (s ∷ [])) ∙ ap (λ r. are_accepted limit start r) (sym ends.ends) ∙ ends.one_block.accepted)).1).0
+    where
+      none_of : (o : Option StepFault) → is_none o ≡ true → o ≡ None
+      none_of None e = refl
+      none_of (Some fault) e = cc
+
+  last_state : after limit history ≡ (accepted limit (after limit ends.prefix) s).0
+  last_state = ap (λ r. after limit r) ends.ends ∙ after-step limit ends.prefix s
+      ∙ ap (λ o. (unless_refused o (after limit ends.prefix) (accepted limit (after limit ends.prefix) s)).0) last_accepted
+
+  last_reply : (accepted limit (after limit ends.prefix) s).1 ≡ reply
+  last_reply = sym (ap (λ o. (unless_refused o (after limit ends.prefix) (accepted limit (after limit ends.prefix) s)).1) last_accepted) ∙ ends.answered
+
+  -- a handle of it is on block 0, if the step makes no block
+  last_on : (h : ℕ) → length (accepted limit (after limit ends.prefix) s).0.blocks ≡ length (after limit ends.prefix).blocks
+      → h < length (after limit ends.prefix).handles → block_on (after limit ends.prefix) h ≡ 0
+  last_on h same born =
+      let one : makes_after limit history ≡ 1 = ends.one_block.made in
+      let made = ap (λ (v : State). length v.blocks) last_state in
+      let below = (lawful_after limit ends.prefix).made h born in
+      omega (arith, same, made, one, below)
+
+-- the one block is marked after a history that ends in a mark
+pub leak_marks : (limit : ℕ) (history : List Step) (h : ℕ) → EndsIn limit history (Leak h) Marked → marked_after limit history 0 ≡ true
+leak_marks limit history h ends =
+    let i = step_finds (after limit ends.prefix) h Free (last_accepted limit history (Leak h) Marked ends) in
+    let on = last_on limit history (Leak h) Marked ends h (length-set (after limit ends.prefix).blocks (block_on (after limit ends.prefix) h) _) i.born in
+    ap (λ (v : State). (word_in v 0).flag) (last_state limit history (Leak h) Marked ends)
+    ∙ ap (λ b. (get_or (blocks_with_word (after limit ends.prefix).blocks (block_on (after limit ends.prefix) h) (marked_of (word_on (after limit ends.prefix) h))) b
+    no_block).word.flag) (sym on)
+    ∙ ap (λ (e : BlockEntry). e.word.flag) (get_or-set_same (after limit ends.prefix).blocks (block_on (after limit ends.prefix) h) _ no_block
+    ((lawful_after limit ends.prefix).made h i.born))
+
+-- a look at the one block that answers `Static` found it marked
+pub static_is_marked : (limit : ℕ) (history : List Step) (h : ℕ) → EndsIn limit history (Look h) Static → marked_after limit history 0 ≡ true
+static_is_marked limit history h ends =
+    let i = step_finds (after limit ends.prefix) h Free (last_accepted limit history (Look h) Static ends) in
+    let on = last_on limit history (Look h) Static ends h refl i.born in
+    ap (λ (v : State). (word_in v 0).flag) (last_state limit history (Look h) Static ends)
+    ∙ ap (λ b. (word_in (after limit ends.prefix) b).flag) (sym on)
+    ∙ static_was (word_on (after limit ends.prefix) h).flag (word_on (after limit ends.prefix) h).count (last_reply limit history (Look h) Static ends)
+  where
+    static_was : (f : Bool) (n : ℕ) → look_reply (if f then None else Some n) ≡ Static → f ≡ true
+    static_was true n e = refl
+    static_was false n e = cc
+
+-- a look at the one block that answers a number found it unmarked
+pub counted_is_unmarked : (limit : ℕ) (history : List Step) (h n : ℕ) → EndsIn limit history (Look h) (Count n) → marked_after limit history 0 ≡ false
+counted_is_unmarked limit history h n ends =
+    let i = step_finds (after limit ends.prefix) h Free (last_accepted limit history (Look h) (Count n) ends) in
+    let on = last_on limit history (Look h) (Count n) ends h refl i.born in
+    ap (λ (v : State). (word_in v 0).flag) (last_state limit history (Look h) (Count n) ends)
+    ∙ ap (λ b. (word_in (after limit ends.prefix) b).flag) (sym on)
+    ∙ count_was (word_on (after limit ends.prefix) h).flag (word_on (after limit ends.prefix) h).count (last_reply limit history (Look h) (Count n) ends)
+  where
+    count_was : (f : Bool) (k : ℕ) → look_reply (if f then None else Some k) ≡ Count n → f ≡ false
+    count_was true k e = cc
+    count_was false k e = refl

@@ -1,86 +1,173 @@
 -- Marked blocks and the handles on a block, as sentences about the prefixes of the history.
-use Rattle.arcstr_count.proofs.Names.{◌≡◌, ◌↔◌, ℕ, ◌<◌, Bool, true, false, ◌&&◌, ◌==◌, nat_lt, IsTrue, IsFalse, List, [], ◌∷◌, length, ◌⊎◌, inl, inr, refl, sym}
-use Rattle.arcstr_count.proofs.Names.{subst, ◌≢◌, zero, suc, ◌+◌, if◌then◌else◌, Some, filter, slice_index, Contains, ◌∙◌, arith, or_cases, or_left, or_right}
-use Rattle.arcstr_count.proofs.Names.{and_parts, and_from, eqb-true, eq-eqb, ltb-true, lt-ltb, cases_order, Step, Clone, Leak, block_of, births, lives}
-use Rattle.arcstr_count.proofs.Names.{numbers_below, is_marked, living, state_of, past_of, marked_after, living_after, dropping_after, owing_after}
-use Rattle.arcstr_count.proofs.Names.{MarkedSentence, block_after, state_after, LivingSentence, UnderWaySentence, IsStrictlyIncreasing, get_or_append_left}
-use Rattle.arcstr_count.proofs.Names.{get_or_push, Contains-append_left, Contains-push, Contains-push_cases, Contains-append_cases, filter-append}
-use Rattle.arcstr_count.proofs.Names.{IsStrictlyIncreasing-filter, HandleState, Free, Raw, Dropping, Owing, handle_state, is_dropping, is_owing}
-use Rattle.arcstr_count.proofs.Pasts.{IsInPast, in_past, in_history}
-use Rattle.arcstr_count.proofs.SentencesState.{handle_state_sentence}
-use Rattle.arcstr_count.proofs.Tables.{length-numbers_below}
-use Rattle.arcstr_count.proofs.LawsOfBlocks.{contains_passing}
+use Rattle.arcstr_count.proofs.Names.{◌≡◌, ◌≢◌, ◌↔◌, ℕ, ◌<◌, ◌+◌, Bool, true, false, ◌&&◌, ◌||◌, ◌==◌, nat_lt, IsTrue, IsFalse, List, [], ◌∷◌, ◌++◌, length, ◌⊎◌, inl, inr}
+use Rattle.arcstr_count.proofs.Names.{refl, sym, ap, subst, zero, suc, if◌then◌else◌, None, Some, filter, slice_index, Contains, ◌∙◌, arith, or_cases, or_left, or_right}
+use Rattle.arcstr_count.proofs.Names.{and_parts, and_from, eqb-true, eq-eqb, ne_eqb, ltb-true, lt-ltb, cases_eq, cases_order, Step, Make, Look, Clone, Begin, Sub, Back, Leak}
+use Rattle.arcstr_count.proofs.Names.{IntoRaw, FromRaw, lives, numbers_below, State, after, accepted, accepted_after, refusal_in, block_on, state_on, state_in, word_in, word_on}
+use Rattle.arcstr_count.proofs.Names.{handles_on, marked_after, block_after, living_after, dropping_after, owing_after, state_after, AcceptedWhere, MarkedSentence, LivingSentence}
+use Rattle.arcstr_count.proofs.Names.{UnderWaySentence, IsStrictlyIncreasing, get_or, get_or_append_left, get_or_push, get_or-set_same, get_or-set_other, set, no_block}
+use Rattle.arcstr_count.proofs.Names.{Contains-append_left, Contains-push, Contains-push_cases, Contains-append_cases, filter-append, BlockEntry, FlagAndCount, cloned_of}
+use Rattle.arcstr_count.proofs.Names.{IsStrictlyIncreasing-filter, HandleState, Free, Raw, Dropping, Owing, is_dropping, is_owing, length_push}
+use Rattle.arcstr_count.proofs.LawsOfBlocks.{contains_passing, IsIn, is_in_state, step_finds, IsLawful, lawful_after}
+use Rattle.arcstr_count.proofs.LawsOfHistories.{says}
+use Rattle.arcstr_count.proofs.LawsOfBlocks.{state_born}
+use Rattle.arcstr_count.proofs.Prefixes.{IsAccepted, by_history, accepted_earlier, accepted_last, accepted_cases, accepted_nowhere}
+use Rattle.arcstr_count.proofs.SentencesHandles.{get_or-push_default, part_kept, blocks-begun}
 
--- the block of h is b
-abbrev IsOn : ℕ → ℕ → List Step → Type 0
-IsOn h b q = block_of q h ≡ b
+-- ---- what each accepted step does to the mark of a block
 
--- the block of h is b, which is unmarked, and more than `limit` handles live on it
-abbrev IsOnFull : ℕ → ℕ → ℕ → List Step → Type 0
-IsOnFull limit h b q = (block_of q h ≡ b) × IsFalse (is_marked limit q b) × (limit < length (living limit q b))
+module _ (limit : ℕ) (w : State) (lawful : IsLawful limit w) (b : ℕ) where
+  -- a step that sets the entry of its handle's block
+  mark_at : (h : ℕ) (s : HandleState) (entry : BlockEntry) (f : Bool) → IsIn w h s → entry.word.flag ≡ (f || (word_on w h).flag)
+      → (get_or (set w.blocks (block_on w h) entry) b no_block).word.flag ≡ (((block_on w h == b) && f) || (word_in w b).flag)
+  mark_at h s entry f i is = by_block (cases_eq (block_on w h) b)
+    where
+      by_block : (block_on w h ≡ b) ⊎ (block_on w h ≢ b)
+          → (get_or (set w.blocks (block_on w h) entry) b no_block).word.flag ≡ (((block_on w h == b) && f) || (word_in w b).flag)
+      by_block (inl on) = subst (λ c. (get_or (set w.blocks (block_on w h) entry) c no_block).word.flag ≡ (((block_on w h == c) && f) || (word_in w c).flag)) on
+          (ap (λ (e : BlockEntry). e.word.flag) (get_or-set_same w.blocks (block_on w h) entry no_block (lawful.made h i.born)) ∙ is
+          ∙ sym (ap (λ t. (t && f) || (word_on w h).flag) (eq-eqb (block_on w h) (block_on w h) refl)))
+      by_block (inr off) = ap (λ (e : BlockEntry). e.word.flag) (get_or-set_other w.blocks (block_on w h) b entry no_block (λ same. off (sym same)))
+          ∙ sym (ap (λ t. (t && f) || (word_in w b).flag) (ne_eqb (block_on w h) b off))
 
--- the sentence, about a past
-abbrev IsMarkedIn : ℕ → List Step → ℕ → Type 0
-IsMarkedIn limit p b = ((h : ℕ) × IsInPast p (Leak h) (IsOn h b)) ⊎ ((h : ℕ) × IsInPast p (Clone h) (IsOnFull limit h b))
+  mark_kept : (h : ℕ) (s : HandleState) (entry : BlockEntry) → IsIn w h s → entry.word.flag ≡ (word_on w h).flag
+      → (get_or (set w.blocks (block_on w h) entry) b no_block).word.flag ≡ (word_in w b).flag
+  mark_kept h s entry i same = part_kept (λ (e : BlockEntry). e.word.flag) w.blocks (block_on w h) entry no_block (lawful.made h i.born) same b
 
-IsMarkedIn-more : (limit : ℕ) (x : Step) (p : List Step) (b : ℕ) → IsMarkedIn limit p b → IsMarkedIn limit (x ∷ p) b
-IsMarkedIn-more limit x p b m = elim m [ inl w ↦ inl (w.0, inr w.1) | inr w ↦ inr (w.0, inr w.1) ]
+  -- a clone marks an unmarked block whose living handles are more than the limit
+  cloned_flag : (h : ℕ) → IsIn w h Free → (cloned_of limit (word_on w h)).flag
+      ≡ (nat_lt limit (length (handles_on w (block_on w h) lives)) || (word_on w h).flag)
+  cloned_flag h i = by_flag (word_on w h).flag refl
+    where
+      by_limit : Bool → FlagAndCount
+      by_limit t = if t then record { flag = true; count = (word_on w h).count } else record { flag = false; count = (word_on w h).count + 1 }
 
-IsMarkedIn-is_marked : (limit : ℕ) (p : List Step) (b : ℕ) → is_marked limit p b ≡ true → IsMarkedIn limit p b
-IsMarkedIn-is_marked limit [] b m = cc
-IsMarkedIn-is_marked limit (Leak h ∷ p) b m = elim (or_cases (block_of p h == b) (is_marked limit p b) m) [
-  | inl e ↦ inl (h, inl (refl, eqb-true (block_of p h) b e))
-  | inr e ↦ IsMarkedIn-more limit (Leak h) p b (IsMarkedIn-is_marked limit p b e)
-]
-IsMarkedIn-is_marked limit (Clone h ∷ p) b m = by_mark (is_marked limit p b) refl (IsMarkedIn-is_marked limit p b)
-  where
-    by_mark : (c : Bool) → is_marked limit p b ≡ c → (is_marked limit p b ≡ true → IsMarkedIn limit p b) → IsMarkedIn limit (Clone h ∷ p) b
-    by_mark true e before = IsMarkedIn-more limit (Clone h) p b (before e)
-    by_mark false e before = elim (or_cases (is_marked limit p b) ((block_of p h == b) && nat_lt limit (length (living limit p b))) m) [
-      | inl t ↦ absurd (cc)
-      | inr t ↦ (let parts = and_parts (block_of p h == b) (nat_lt limit (length (living limit p b))) t in
-          inr (h, inl (refl, (eqb-true (block_of p h) b parts.0, e, ltb-true limit (length (living limit p b)) parts.1))))
-    ]
-IsMarkedIn-is_marked limit (s ∷ p) b m = IsMarkedIn-more limit s p b (IsMarkedIn-is_marked limit p b m)
+      past_limit : (t : Bool) → (by_limit t).flag ≡ (t || false)
+      past_limit true = refl
+      past_limit false = refl
 
--- a mark stays
-is_marked-more : (limit : ℕ) (x : Step) (p : List Step) (b : ℕ) → is_marked limit p b ≡ true → is_marked limit (x ∷ p) b ≡ true
-is_marked-more limit (Leak h) p b m = or_right (block_of p h == b) (is_marked limit p b) m
-is_marked-more limit (Clone h) p b m =
-    or_left (is_marked limit p b) ((block_of p h == b) && nat_lt limit (length (living limit p b))) m
-is_marked-more limit s p b m = m
+      or_true : (t : Bool) → (t || true) ≡ true
+      or_true true = refl
+      or_true false = refl
 
-by_leak : (limit : ℕ) (p : List Step) (h b : ℕ) → IsInPast p (Leak h) (IsOn h b) → is_marked limit p b ≡ true
-by_leak limit [] h b w = absurd w
-by_leak limit (x ∷ p) h b (inl w) =
-    subst (λ s. is_marked limit (s ∷ p) b ≡ true) (sym w.0)
-    (or_left (block_of p h == b) (is_marked limit p b) (eq-eqb (block_of p h) b w.1))
-by_leak limit (x ∷ p) h b (inr w) = is_marked-more limit x p b (by_leak limit p h b w)
+      by_flag : (f : Bool) → (word_on w h).flag ≡ f → (cloned_of limit (word_on w h)).flag
+          ≡ (nat_lt limit (length (handles_on w (block_on w h) lives)) || (word_on w h).flag)
+      by_flag true marked = rw (marked, or_true (nat_lt limit (length (handles_on w (block_on w h) lives)))) marked
+      by_flag false unmarked =
+          let exact = (says limit w (block_on w h) lawful (lawful.made h i.born)).exact unmarked in
+          rw (unmarked, ← exact) (past_limit (nat_lt limit (word_on w h).count))
 
-marked_by_clone : (limit : ℕ) (p : List Step) (h b : ℕ) → IsInPast p (Clone h) (IsOnFull limit h b) → is_marked limit p b ≡ true
-marked_by_clone limit [] h b w = absurd w
-marked_by_clone limit (x ∷ p) h b (inl w) =
-    subst (λ s. is_marked limit (s ∷ p) b ≡ true) (sym w.0)
-    (or_right (is_marked limit p b) ((block_of p h == b) && nat_lt limit (length (living limit p b)))
-    (and_from (block_of p h == b) (nat_lt limit (length (living limit p b)))
-    (eq-eqb (block_of p h) b w.1.0) (lt-ltb limit (length (living limit p b)) w.1.2)))
-marked_by_clone limit (x ∷ p) h b (inr w) = is_marked-more limit x p b (marked_by_clone limit p h b w)
+  -- the mark of a block after an accepted step
+  abbrev marks_by : Step → Bool
+  marks_by (Leak h) = block_on w h == b
+  marks_by (Clone h) = (block_on w h == b) && nat_lt limit (length (handles_on w (block_on w h) lives))
+  marks_by s = false
+
+  and_true : (t m : Bool) → ((t && true) || m) ≡ (t || m)
+  and_true true m = refl
+  and_true false m = refl
+
+  marks : (s : Step) → refusal_in w s ≡ None → (word_in (accepted limit w s).0 b).flag ≡ (marks_by s || (word_in w b).flag)
+  marks Make e = ap (λ (x : BlockEntry). x.word.flag) (get_or-push_default w.blocks b no_block)
+  marks (Look h) e = refl
+  marks (Clone h) e = let i = step_finds w h Free e in mark_at h Free _ _ i (cloned_flag h i)
+  marks (Begin h) e = ap (λ bs. (get_or bs b no_block).word.flag) (blocks-begun w h _)
+  marks (Sub h) e = mark_kept h Dropping _ (step_finds w h Dropping e) refl
+  marks (Back h) e = mark_kept h Owing _ (step_finds w h Owing e) refl
+  marks (Leak h) e = mark_at h Free _ true (step_finds w h Free e) refl ∙ and_true (block_on w h == b) (word_in w b).flag
+  marks (IntoRaw h) e = refl
+  marks (FromRaw h) e = refl
+
+-- ---- the sentence
+
+module _ (limit b : ℕ) where
+  abbrev IsOn : ℕ → List Step → Type 0
+  IsOn h prefix = block_after limit prefix h ≡ b
+
+  abbrev IsOnFull : ℕ → List Step → Type 0
+  IsOnFull h prefix = (block_after limit prefix h ≡ b) × IsFalse (marked_after limit prefix b) × (limit < length (living_after limit prefix b))
+
+  marked_earlier : (history : List Step) (x : Step) → MarkedSentence limit history b → MarkedSentence limit (history ++ x ∷ []) b
+  marked_earlier history x m = elim m [
+    | inl w ↦ inl (w.0, accepted_earlier limit history (Leak w.0) (IsOn w.0) x w.1)
+    | inr w ↦ inr (w.0, accepted_earlier limit history (Clone w.0) (IsOnFull w.0) x w.1)
+  ]
+
+  -- the step that marks the block
+  marked_last : (history : List Step) (x : Step) → IsTrue (accepted_after limit history x) → marked_after limit history b ≡ false
+      → marks_by limit (after limit history) (lawful_after limit history) b x ≡ true → MarkedSentence limit (history ++ x ∷ []) b
+  marked_last history (Leak h) a unmarked e = inl (h, accepted_last limit history (Leak h) (IsOn h) a (eqb-true (block_after limit history h) b e))
+  marked_last history (Clone h) a unmarked e =
+      let parts = and_parts (block_after limit history h == b) (nat_lt limit (length (handles_on (after limit history) (block_after limit history h) lives))) e in
+      let on = eqb-true (block_after limit history h) b parts.0 in
+      let over = ltb-true limit (length (handles_on (after limit history) (block_after limit history h) lives)) parts.1 in
+      inr (
+        h,
+        accepted_last limit history (Clone h) (IsOnFull h) a
+            (on, unmarked, subst (λ c. limit < length (handles_on (after limit history) c lives)) on over),
+      )
+  marked_last history x a unmarked e = absurd (cc)
+
+  to_marked : (history : List Step) → marked_after limit history b ≡ true → MarkedSentence limit history b
+  to_marked = by_history limit (λ history. marked_after limit history b ≡ true → MarkedSentence limit history b)
+      (λ e. absurd (cc))
+      (λ history x r before e. marked_earlier history x (before (sym (ap (λ (w : State). (word_in w b).flag) r.state) ∙ e)))
+      (λ history x a before e.
+      let is = sym (ap (λ (w : State). (word_in w b).flag) a.state
+      ∙ marks limit (after limit history) (lawful_after limit history) b x a.none) ∙ e in
+      by_mark history x a before (marked_after limit history b) refl is)
+    where
+      by_mark : (history : List Step) (x : Step) → IsAccepted limit history x → (marked_after limit history b ≡ true → MarkedSentence limit history b)
+          → (m : Bool) → marked_after limit history b ≡ m
+          → (marks_by limit (after limit history) (lawful_after limit history) b x || marked_after limit history b) ≡ true
+          → MarkedSentence limit (history ++ x ∷ []) b
+      by_mark history x a before true marked is = marked_earlier history x (before marked)
+      by_mark history x a before false unmarked is = marked_last history x a.accepted unmarked
+          (elim (or_cases (marks_by limit (after limit history) (lawful_after limit history) b x) (marked_after limit history b) is) [
+            | inl t ↦ t
+            | inr t ↦ absurd (let no = unmarked in cc)
+          ])
+
+  -- the marks of accepted steps stay
+  from_where : (s : Step) (P : List Step → Type 0)
+      → ((history : List Step) → P history → marks_by limit (after limit history) (lawful_after limit history) b s ≡ true)
+      → (history : List Step) → AcceptedWhere limit history s P → marked_after limit history b ≡ true
+  from_where s P marking = by_history limit (λ history. AcceptedWhere limit history s P → marked_after limit history b ≡ true)
+      (λ w. absurd (accepted_nowhere limit s P w))
+      (λ history x r before w. ap (λ (v : State). (word_in v b).flag) r.state ∙ elim (accepted_cases limit history s P x w) [
+        | inl e ↦ (let no = r.refused in let yes = e.1 in cc)
+        | inr e ↦ before e
+      ])
+      (λ history x a before w. ap (λ (v : State). (word_in v b).flag) a.state
+      ∙ marks limit (after limit history) (lawful_after limit history) b x a.none
+      ∙ elim (accepted_cases limit history s P x w) [
+        | inl e ↦ or_left (marks_by limit (after limit history) (lawful_after limit history) b x) (marked_after limit history b)
+            (subst (λ y. marks_by limit (after limit history) (lawful_after limit history) b y ≡ true) (sym e.0) (marking history e.2))
+        | inr e ↦ or_right (marks_by limit (after limit history) (lawful_after limit history) b x) (marked_after limit history b) (before e)
+      ])
+
+  from_leak : (h : ℕ) (history : List Step) → AcceptedWhere limit history (Leak h) (IsOn h) → marked_after limit history b ≡ true
+  from_leak h = from_where (Leak h) (IsOn h) (λ history on. eq-eqb (block_after limit history h) b on)
+
+  from_clone : (h : ℕ) (history : List Step) → AcceptedWhere limit history (Clone h) (IsOnFull h) → marked_after limit history b ≡ true
+  from_clone h = from_where (Clone h) (IsOnFull h) (λ history full. and_from (block_after limit history h == b)
+      (nat_lt limit (length (handles_on (after limit history) (block_after limit history h) lives)))
+      (eq-eqb (block_after limit history h) b full.0)
+      (lt-ltb limit (length (handles_on (after limit history) (block_after limit history h) lives))
+      (subst (λ c. limit < length (handles_on (after limit history) c lives)) (sym full.0) full.2)))
 
 pub marked_sentence : (limit : ℕ) (history : List Step) (b : ℕ) → IsTrue (marked_after limit history b) ↔ MarkedSentence limit history b
 marked_sentence limit history b = (
-  (λ m. elim (IsMarkedIn-is_marked limit (past_of limit history) b m) [
-    | inl w ↦ inl (w.0, in_history limit (Leak w.0) (IsOn w.0 b) history w.1)
-    | inr w ↦ inr (w.0, in_history limit (Clone w.0) (IsOnFull limit w.0 b) history w.1)
-  ]),
-  elim [
-    | inl w ↦ by_leak limit (past_of limit history) w.0 b (in_past limit (Leak w.0) (IsOn w.0 b) history w.1)
-    | inr w ↦ marked_by_clone limit (past_of limit history) w.0 b (in_past limit (Clone w.0) (IsOnFull limit w.0 b) history w.1)
-  ],
+  to_marked limit b history,
+  elim [ inl w ↦ from_leak limit b w.0 history w.1 | inr w ↦ from_clone limit b w.0 history w.1 ],
 )
 
 -- ==== the handles that live on a block, and those whose drops are under way, as sentences about single handles
 
 -- ---- the numbers below another
+
+length-numbers_below : (n : ℕ) → length (numbers_below n) ≡ n
+length-numbers_below zero = refl
+length-numbers_below (suc n) = let before = length-numbers_below n in omega (arith, length_push (numbers_below n) n)
 
 numbers_below-at : (n k : ℕ) → k < n → slice_index (numbers_below n) k ≡ k
 numbers_below-at zero k lt = absurd (omega arith)
@@ -133,65 +220,63 @@ lives_cases Raw e = inr (inl refl)
 lives_cases Dropping e = inr (inr refl)
 lives_cases s e = absurd (cc)
 
-module _ (limit : ℕ) (p : List Step) (h : ℕ) where
-  born_with : (s : HandleState) → handle_state limit p h ≡ Some s → (h < births p) × (state_of limit p h ≡ s)
-  born_with s = (handle_state_sentence limit p h s).0
+module _ (w : State) (h : ℕ) where
+  born_with : (s : HandleState) → state_in w h ≡ Some s → (h < length w.handles) × (state_on w h ≡ s)
+  born_with s e = let i = is_in_state w h s e in (i.born, i.state)
 
-  in_state : (s : HandleState) → h < births p → state_of limit p h ≡ s → handle_state limit p h ≡ Some s
-  in_state s lt e = (handle_state_sentence limit p h s).1 (lt, e)
+  in_state : (s : HandleState) → h < length w.handles → state_on w h ≡ s → state_in w h ≡ Some s
+  in_state s born e = state_born w h born ∙ ap Some e
 
   -- a handle that was born and whose state passes a test
-  state_passes : (test : HandleState → Bool) (s : HandleState) → test s ≡ true → handle_state limit p h ≡ Some s
-      → (h < births p) × (test (state_of limit p h) ≡ true)
-  state_passes test s e w = let at = born_with s w in (at.0, rw (at.1) e)
+  state_passes : (test : HandleState → Bool) (s : HandleState) → test s ≡ true → state_in w h ≡ Some s
+      → (h < length w.handles) × (test (state_on w h) ≡ true)
+  state_passes test s e found = let at = born_with s found in (at.0, ap test at.1 ∙ e)
 
-  members : (test : HandleState → Bool) (b : ℕ) → Contains (filter (λ k. (block_of p k == b) && test (state_of limit p k)) (numbers_below (births p))) h
-      ↔ ((h < births p) × (block_of p h ≡ b) × (test (state_of limit p h) ≡ true))
+  members : (test : HandleState → Bool) (b : ℕ) → Contains (handles_on w b test) h
+      ↔ ((h < length w.handles) × (block_on w h ≡ b) × (test (state_on w h) ≡ true))
   members test b = (
-    (λ c. let w = (passing_sentence (λ k. (block_of p k == b) && test (state_of limit p k)) (births p) h).0 c in
-        let parts = and_parts (block_of p h == b) (test (state_of limit p h)) w.1 in
-        (w.0, eqb-true (block_of p h) b parts.0, parts.1)),
-    (λ w. (passing_sentence (λ k. (block_of p k == b) && test (state_of limit p k)) (births p) h).1
-        (w.0, and_from (block_of p h == b) (test (state_of limit p h)) (eq-eqb (block_of p h) b w.1) w.2)),
+    (λ c. let found = (passing_sentence (λ k. (block_on w k == b) && test (state_on w k)) (length w.handles) h).0 c in
+        let parts = and_parts (block_on w h == b) (test (state_on w h)) found.1 in
+        (found.0, eqb-true (block_on w h) b parts.0, parts.1)),
+    (λ found. (passing_sentence (λ k. (block_on w k == b) && test (state_on w k)) (length w.handles) h).1
+        (found.0, and_from (block_on w h == b) (test (state_on w h)) (eq-eqb (block_on w h) b found.1) found.2)),
   )
 
-  to_living : (b : ℕ) → Contains (living limit p b) h → (block_of p h ≡ b)
-      × ((handle_state limit p h ≡ Some Free) ⊎ ((handle_state limit p h ≡ Some Raw) ⊎ (handle_state limit p h ≡ Some Dropping)))
-  to_living b c = let w = (members lives b).0 c in (
-    w.1,
-    elim (lives_cases (state_of limit p h) w.2) [
-      | inl e ↦ inl (in_state Free w.0 e)
-      | inr other ↦ elim other [ inl e ↦ inr (inl (in_state Raw w.0 e)) | inr e ↦ inr (inr (in_state Dropping w.0 e)) ]
+  abbrev Alive : Type 0
+  Alive = (state_in w h ≡ Some Free) ⊎ ((state_in w h ≡ Some Raw) ⊎ (state_in w h ≡ Some Dropping))
+
+  to_living : (b : ℕ) → Contains (handles_on w b lives) h → (block_on w h ≡ b) × Alive
+  to_living b c = let found = (members lives b).0 c in (
+    found.1,
+    elim (lives_cases (state_on w h) found.2) [
+      | inl e ↦ inl (in_state Free found.0 e)
+      | inr other ↦ elim other [ inl e ↦ inr (inl (in_state Raw found.0 e)) | inr e ↦ inr (inr (in_state Dropping found.0 e)) ]
     ],
   )
 
-  alive : (handle_state limit p h ≡ Some Free) ⊎ ((handle_state limit p h ≡ Some Raw) ⊎ (handle_state limit p h ≡ Some Dropping))
-      → (h < births p) × (lives (state_of limit p h) ≡ true)
+  alive : Alive → (h < length w.handles) × (lives (state_on w h) ≡ true)
   alive (inl e) = state_passes lives Free refl e
   alive (inr (inl e)) = state_passes lives Raw refl e
   alive (inr (inr e)) = state_passes lives Dropping refl e
 
-  from_living : (b : ℕ) → (block_of p h ≡ b)
-      × ((handle_state limit p h ≡ Some Free) ⊎ ((handle_state limit p h ≡ Some Raw) ⊎ (handle_state limit p h ≡ Some Dropping)))
-      → Contains (living limit p b) h
-  from_living b w = let a = alive w.1 in (members lives b).1 (a.0, w.0, a.1)
+  from_living : (b : ℕ) → (block_on w h ≡ b) × Alive → Contains (handles_on w b lives) h
+  from_living b found = let a = alive found.1 in (members lives b).1 (a.0, found.0, a.1)
 
 pub living_sentence : (limit : ℕ) (history : List Step) (b h : ℕ) → Contains (living_after limit history b) h ↔ LivingSentence limit history b h
-living_sentence limit history b h = (to_living limit (past_of limit history) h b, from_living limit (past_of limit history) h b)
+living_sentence limit history b h = (to_living (after limit history) h b, from_living (after limit history) h b)
 
 pub living_rising : (limit : ℕ) (history : List Step) (b : ℕ) → IsStrictlyIncreasing (living_after limit history b)
 living_rising limit history b = passing_rising
-    (λ h. (block_of (past_of limit history) h == b) && lives (state_of limit (past_of limit history) h)) (births (past_of limit history))
+    (λ h. (block_on (after limit history) h == b) && lives (state_on (after limit history) h)) (length (after limit history).handles)
 
 -- ---- a drop under way
 
 -- the handles on a block that are in one state, which is what the test passes
 one_state_sentence : (test : HandleState → Bool) (s : HandleState) → test s ≡ true → ((t : HandleState) → test t ≡ true → t ≡ s)
-    → (limit : ℕ) (p : List Step) (b h : ℕ) → Contains (filter (λ k. (block_of p k == b) && test (state_of limit p k)) (numbers_below (births p))) h
-    ↔ ((block_of p h ≡ b) × (handle_state limit p h ≡ Some s))
-one_state_sentence test s passes only limit p b h = (
-  (λ c. let w = (members limit p h test b).0 c in (w.1, in_state limit p h s w.0 (only (state_of limit p h) w.2))),
-  (λ w. let a = state_passes limit p h test s passes w.1 in (members limit p h test b).1 (a.0, w.0, a.1)),
+    → (w : State) (b h : ℕ) → Contains (handles_on w b test) h ↔ ((block_on w h ≡ b) × (state_in w h ≡ Some s))
+one_state_sentence test s passes only w b h = (
+  (λ c. let found = (members w h test b).0 c in (found.1, in_state w h s found.0 (only (state_on w h) found.2))),
+  (λ found. let a = state_passes w h test s passes found.1 in (members w h test b).1 (a.0, found.0, a.1)),
 )
 
 is_dropping-true : (s : HandleState) → is_dropping s ≡ true → s ≡ Dropping
@@ -204,11 +289,11 @@ is_owing-true s e = cc
 
 pub dropping_sentence : (limit : ℕ) (history : List Step) (b h : ℕ) → Contains (dropping_after limit history b) h
     ↔ ((block_after limit history h ≡ b) × (state_after limit history h ≡ Some Dropping))
-dropping_sentence limit history b h = one_state_sentence is_dropping Dropping refl is_dropping-true limit (past_of limit history) b h
+dropping_sentence limit history b h = one_state_sentence is_dropping Dropping refl is_dropping-true (after limit history) b h
 
 pub owing_sentence : (limit : ℕ) (history : List Step) (b h : ℕ) → Contains (owing_after limit history b) h
     ↔ ((block_after limit history h ≡ b) × (state_after limit history h ≡ Some Owing))
-owing_sentence limit history b h = one_state_sentence is_owing Owing refl is_owing-true limit (past_of limit history) b h
+owing_sentence limit history b h = one_state_sentence is_owing Owing refl is_owing-true (after limit history) b h
 
 not_empty : (xs : List ℕ) (h : ℕ) → Contains xs h → xs ≢ []
 not_empty xs h c e = let none : Contains [] h = subst (λ ys. Contains ys h) e c in absurd (omega (arith, none.1))

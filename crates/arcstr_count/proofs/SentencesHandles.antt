@@ -1,11 +1,13 @@
--- Births of handles, raw handles, and numbers of accepted steps, as sentences about the prefixes of the history.
-use Rattle.arcstr_count.proofs.Names.{◌≡◌, ℕ, zero, suc, ◌<◌, Bool, true, false, ◌&&◌, if◌then◌else◌, Some, List, [], ◌∷◌, ◌++◌, length, filter, take}
-use Rattle.arcstr_count.proofs.Names.{slice_get, refl, sym, ◌∙◌, ap, arith, ◌↔◌, ◌==◌, ◌⊎◌, inl, inr, subst, append-nil, length_push, get_or_append_left}
-use Rattle.arcstr_count.proofs.Names.{get_or_push, take-append-le, filter-append, slice_get-get_or, take-append_seam, Step, Make, Clone, Back, makes, births}
-use Rattle.arcstr_count.proofs.Names.{block_of, numbers_below, is_make, is_birth, is_accepted, past_of, times_given, given_after, accepted_after, passes_after}
-use Rattle.arcstr_count.proofs.Names.{accepted_count, births_after, makes_after, is_back_on, given_count, block_after, BornSentence, eqb-true, eqb-false}
-use Rattle.arcstr_count.proofs.Names.{eq-eqb, ne_eqb, cond-true, cond-false, ◌≢◌, IsFalse, append_assoc, IntoRaw, FromRaw, is_raw, LastIsIntoRaw}
-use Rattle.arcstr_count.proofs.Pasts.{by_steps, past_of-accepted, past_of-refused, IsInPast, in_past, in_history, none_in_nil, last_or_before}
+-- Births of handles, and numbers of accepted steps, as sentences about the prefixes of the history.
+use Rattle.arcstr_count.proofs.Names.{◌≡◌, ◌≢◌, ℕ, zero, suc, ◌+◌, ◌<◌, Bool, true, false, ◌&&◌, if◌then◌else◌, Some, None, List, [], ◌∷◌, ◌++◌, length, filter, take}
+use Rattle.arcstr_count.proofs.Names.{slice_get, refl, sym, ◌∙◌, ap, arith, ◌↔◌, ◌==◌, ◌⊎◌, inl, inr, subst, append-nil, length_push, length-set, get_or_append_left, set}
+use Rattle.arcstr_count.proofs.Names.{get_or, get_or_push, get_or-set_same, get_or-set_other, take-append-le, filter-append, slice_get-get_or, take-append_seam}
+use Rattle.arcstr_count.proofs.Names.{Step, Make, Look, Clone, Begin, Sub, Back, Leak, IntoRaw, FromRaw, Free, Raw, Dropping, Owing, Gone, HandleState, HandleSummary, BlockEntry}
+use Rattle.arcstr_count.proofs.Names.{State, start, after, accepted, refusal_in, accepted_after, block_on, given_in, handles_with_state, no_handle, no_block, numbers_below}
+use Rattle.arcstr_count.proofs.Names.{is_make, is_birth, births_after, makes_after, block_after, given_after, passes_after, accepted_count, is_back_on, given_count}
+use Rattle.arcstr_count.proofs.Names.{BornSentence, AcceptedWhere, eq-eqb, ne_eqb, cases_eq, IsTrue}
+use Rattle.arcstr_count.proofs.LawsOfBlocks.{IsLawful, lawful_after, IsIn, step_finds, begun_by, length-moved, moved_block, born_last, born_earlier}
+use Rattle.arcstr_count.proofs.Prefixes.{IsRefused, IsAccepted, by_history, accepted_earlier, accepted_last, accepted_cases, accepted_nowhere}
 
 -- ---- the numbers below another
 
@@ -60,244 +62,241 @@ module _ (limit : ℕ) (test : List Step → Step → Bool) where
 
 -- ---- a number that grows by one with each accepted step that passes
 
--- a function that counts the steps of a past that pass counts the accepted steps of a history that pass
-count_sentence : (limit : ℕ) (test : List Step → Step → Bool) (count : List Step → ℕ)
-    → count [] ≡ 0
-    → ((s : Step) (p : List Step) → count (s ∷ p) ≡ (if test p s then suc (count p) else count p))
-    → (history : List Step) → count (past_of limit history) ≡ accepted_count limit history (λ prefix s. test (past_of limit prefix) s)
-count_sentence limit test count nil more = by_steps (λ history. count (past_of limit history) ≡ accepted_count limit history (λ prefix s. test (past_of limit prefix) s))
-    nil
-    step
+-- a number that each accepted step that passes raises by one, and no other step changes, counts the accepted steps of a history that pass
+count_sentence : (limit : ℕ) (test : State → Step → Bool) (count : State → ℕ) → count start ≡ 0
+    → ((w : State) → IsLawful limit w → (s : Step) → refusal_in w s ≡ None → count (accepted limit w s).0 ≡ (if test w s then suc (count w) else count w))
+    → (history : List Step) → count (after limit history) ≡ accepted_count limit history (λ prefix s. test (after limit prefix) s)
+count_sentence limit test count nil more = by_history limit (λ history. count (after limit history) ≡ accepted_count limit history tests) nil refused accepts
   where
-    step : (prefix : List Step) (s : Step) → count (past_of limit prefix) ≡ accepted_count limit prefix (λ q t. test (past_of limit q) t)
-        → count (past_of limit (prefix ++ s ∷ [])) ≡ accepted_count limit (prefix ++ s ∷ []) (λ q t. test (past_of limit q) t)
-    step prefix s before = go (is_accepted limit (past_of limit prefix) s) refl
-      where
-        counted : (b : Bool) → is_accepted limit (past_of limit prefix) s ≡ b → accepted_count limit (prefix ++ s ∷ []) (λ q t. test (past_of limit q) t)
-            ≡ (if b && test (past_of limit prefix) s then suc (count (past_of limit prefix)) else count (past_of limit prefix))
-        counted b e = accepted_count-step limit (λ q t. test (past_of limit q) t) prefix s
-            ∙ ap (λ c. if c && test (past_of limit prefix) s then suc (accepted_count limit prefix (λ q t. test (past_of limit q) t)) else accepted_count limit prefix (λ q t. test (past_of limit q) t)) e
-            ∙ ap (λ n. if b && test (past_of limit prefix) s then suc n else n) (sym before)
+    tests : List Step → Step → Bool
+    tests prefix s = test (after limit prefix) s
 
-        go : (b : Bool) → is_accepted limit (past_of limit prefix) s ≡ b → count (past_of limit (prefix ++ s ∷ [])) ≡ accepted_count limit (prefix ++ s ∷ []) (λ q t. test (past_of limit q) t)
-        go true e = ap count (past_of-accepted limit prefix s e) ∙ more s (past_of limit prefix) ∙ sym (counted true e)
-        go false e = ap count (past_of-refused limit prefix s e) ∙ sym (counted false e)
+    refused : (history : List Step) (s : Step) → IsRefused limit history s → count (after limit history) ≡ accepted_count limit history tests
+        → count (after limit (history ++ s ∷ [])) ≡ accepted_count limit (history ++ s ∷ []) tests
+    refused history s r before = ap count r.state ∙ before ∙ sym (accepted_count-step limit tests history s
+        ∙ ap (λ b. if b && tests history s then suc (accepted_count limit history tests) else accepted_count limit history tests) r.refused)
 
-births-more : (s : Step) (p : List Step) → births (s ∷ p) ≡ (if is_birth s then suc (births p) else births p)
-births-more Make p = refl
-births-more (Clone h) p = refl
-births-more s p = refl
+    accepts : (history : List Step) (s : Step) → IsAccepted limit history s → count (after limit history) ≡ accepted_count limit history tests
+        → count (after limit (history ++ s ∷ [])) ≡ accepted_count limit (history ++ s ∷ []) tests
+    accepts history s a before = ap count a.state ∙ more (after limit history) (lawful_after limit history) s a.none
+        ∙ ap (λ n. if test (after limit history) s then suc n else n) before
+        ∙ sym (accepted_count-step limit tests history s
+        ∙ ap (λ b. if b && tests history s then suc (accepted_count limit history tests) else accepted_count limit history tests) a.accepted)
+
+length-begun : (w : State) (h : ℕ) (f : Bool) → length (begun_by f w h).0.handles ≡ length w.handles
+length-begun w h true = length-set w.handles h _
+length-begun w h false = length-set w.handles h _
+
+pub blocks-begun : (w : State) (h : ℕ) (f : Bool) → (begun_by f w h).0.blocks ≡ w.blocks
+blocks-begun w h true = refl
+blocks-begun w h false = refl
+
+births-more : (limit : ℕ) (w : State) (s : Step) → length (accepted limit w s).0.handles ≡ (if is_birth s then suc (length w.handles) else length w.handles)
+births-more limit w Make = omega (arith, length_push w.handles (record { block = length w.blocks; state = Free }))
+births-more limit w (Look h) = refl
+births-more limit w (Clone h) = omega (arith, length_push w.handles (record { block = block_on w h; state = Free }))
+births-more limit w (Begin h) = length-begun w h _
+births-more limit w (Sub h) = length-set w.handles h _
+births-more limit w (Back h) = length-set w.handles h _
+births-more limit w (Leak h) = refl
+births-more limit w (IntoRaw h) = length-set w.handles h _
+births-more limit w (FromRaw h) = length-set w.handles h _
 
 pub births_sentence : (limit : ℕ) (history : List Step) → births_after limit history ≡ accepted_count limit history (λ prefix s. is_birth s)
-births_sentence limit history = count_sentence limit (λ p s. is_birth s) births refl births-more history
+births_sentence limit history = count_sentence limit (λ w s. is_birth s) (λ w. length w.handles) refl (λ w lawful s e. births-more limit w s) history
 
-makes-more : (s : Step) (p : List Step) → makes (s ∷ p) ≡ (if is_make s then suc (makes p) else makes p)
-makes-more Make p = refl
-makes-more s p = refl
+makes-more : (limit : ℕ) (w : State) (s : Step) → length (accepted limit w s).0.blocks ≡ (if is_make s then suc (length w.blocks) else length w.blocks)
+makes-more limit w Make = omega (arith, length_push w.blocks no_block)
+makes-more limit w (Look h) = refl
+makes-more limit w (Clone h) = length-set w.blocks (block_on w h) _
+makes-more limit w (Begin h) = ap length (blocks-begun w h _)
+makes-more limit w (Sub h) = length-set w.blocks (block_on w h) _
+makes-more limit w (Back h) = length-set w.blocks (block_on w h) _
+makes-more limit w (Leak h) = length-set w.blocks (block_on w h) _
+makes-more limit w (IntoRaw h) = refl
+makes-more limit w (FromRaw h) = refl
 
 pub makes_sentence : (limit : ℕ) (history : List Step) → makes_after limit history ≡ accepted_count limit history (λ prefix s. is_make s)
-makes_sentence limit history = count_sentence limit (λ p s. is_make s) makes refl makes-more history
+makes_sentence limit history = count_sentence limit (λ w s. is_make s) (λ w. length w.blocks) refl (λ w lawful s e. makes-more limit w s) history
 
-times_given-more : (b : ℕ) (s : Step) (p : List Step) → times_given (s ∷ p) b ≡ (if is_back_on (λ h. block_of p h) b s then suc (times_given p b) else times_given p b)
-times_given-more b (Back h) p = refl
-times_given-more b s p = refl
+-- ---- how often a block was freed
+
+-- the default at the end of a list changes no read
+pub get_or-push_default : {X : Type 0} (xs : List X) (k : ℕ) (d : X) → get_or (xs ++ d ∷ []) k d ≡ get_or xs k d
+get_or-push_default [] zero d = refl
+get_or-push_default [] (suc k) d = refl
+get_or-push_default (x ∷ xs) zero d = refl
+get_or-push_default (x ∷ xs) (suc k) d = get_or-push_default xs k d
+
+-- a change of one entry that keeps a part of it keeps that part of each entry
+pub part_kept : {X Y : Type 0} (f : X → Y) (xs : List X) (c : ℕ) (x d : X) → c < length xs → f x ≡ f (get_or xs c d) → (b : ℕ)
+    → f (get_or (set xs c x) b d) ≡ f (get_or xs b d)
+part_kept f xs c x d within same b = by_place (cases_eq b c)
+  where
+    by_place : (b ≡ c) ⊎ (b ≢ c) → f (get_or (set xs c x) b d) ≡ f (get_or xs b d)
+    by_place (inl here) = subst (λ k. f (get_or (set xs c x) k d) ≡ f (get_or xs k d)) (sym here) (ap f (get_or-set_same xs c x d within) ∙ same)
+    by_place (inr apart) = ap f (get_or-set_other xs c b x d apart)
+
+module _ (limit : ℕ) (w : State) (lawful : IsLawful limit w) (b : ℕ) where
+  given_kept : (h : ℕ) (s : HandleState) (entry : BlockEntry) → IsIn w h s → entry.given ≡ given_in w (block_on w h)
+      → (get_or (set w.blocks (block_on w h) entry) b no_block).given ≡ given_in w b
+  given_kept h s entry i same = part_kept (λ (e : BlockEntry). e.given) w.blocks (block_on w h) entry no_block (lawful.made h i.born) same b
+
+  given_back : (h : ℕ) → IsIn w h Owing → given_in (accepted limit w (Back h)).0 b ≡ (if block_on w h == b then suc (given_in w b) else given_in w b)
+  given_back h i = by_block (cases_eq (block_on w h) b)
+    where
+      by_block : (block_on w h ≡ b) ⊎ (block_on w h ≢ b) → given_in (accepted limit w (Back h)).0 b
+          ≡ (if block_on w h == b then suc (given_in w b) else given_in w b)
+      by_block (inl on) = subst (λ c. given_in (accepted limit w (Back h)).0 c ≡ (if block_on w h == c then suc (given_in w c) else given_in w c)) on
+          (ap (λ (e : BlockEntry). e.given) (get_or-set_same w.blocks (block_on w h) _ no_block (lawful.made h i.born))
+          ∙ more (given_in w (block_on w h))
+          ∙ sym (ap (λ t. if t then suc (given_in w (block_on w h)) else given_in w (block_on w h)) (eq-eqb (block_on w h) (block_on w h) refl)))
+        where
+          more : (n : ℕ) → n + 1 ≡ suc n
+          more n = omega arith
+      by_block (inr off) = ap (λ (e : BlockEntry). e.given) (get_or-set_other w.blocks (block_on w h) b _ no_block (λ same. off (sym same)))
+          ∙ sym (ap (λ t. if t then suc (given_in w b) else given_in w b) (ne_eqb (block_on w h) b off))
+
+  given-more : (s : Step) → refusal_in w s ≡ None
+      → given_in (accepted limit w s).0 b ≡ (if is_back_on (λ h. block_on w h) b s then suc (given_in w b) else given_in w b)
+  given-more Make e = ap (λ (x : BlockEntry). x.given) (get_or-push_default w.blocks b no_block)
+  given-more (Look h) e = refl
+  given-more (Clone h) e = given_kept h Free _ (step_finds w h Free e) refl
+  given-more (Begin h) e = ap (λ bs. (get_or bs b no_block).given) (blocks-begun w h _)
+  given-more (Sub h) e = given_kept h Dropping _ (step_finds w h Dropping e) refl
+  given-more (Back h) e = given_back h (step_finds w h Owing e)
+  given-more (Leak h) e = given_kept h Free _ (step_finds w h Free e) refl
+  given-more (IntoRaw h) e = refl
+  given-more (FromRaw h) e = refl
 
 pub given_count_sentence : (limit : ℕ) (history : List Step) (b : ℕ) → given_after limit history b ≡ given_count limit history b
-given_count_sentence limit history b =
-    count_sentence limit (λ p s. is_back_on (λ h. block_of p h) b s) (λ p. times_given p b) refl (times_given-more b) history
+given_count_sentence limit history b = count_sentence limit (λ w s. is_back_on (λ h. block_on w h) b s) (λ w. given_in w b) refl
+    (λ w lawful s e. given-more limit w lawful b s e) history
 
 -- ==== where a handle is born, and on which block
 
--- there are h births in the past, and b is the number of its `Make`s
-abbrev MakesOn : ℕ → ℕ → List Step → Type 0
-MakesOn h b q = (births q ≡ h) × (makes q ≡ b)
+abbrev pub IsBorn : List HandleSummary → ℕ → ℕ → Type 0
+IsBorn hs h b = (h < length hs) × ((get_or hs h no_handle).block ≡ b)
 
--- there are h births in the past, and b is the block of g
-abbrev ClonesOn : ℕ → ℕ → ℕ → List Step → Type 0
-ClonesOn g h b q = (births q ≡ h) × (block_of q g ≡ b)
+-- the step gives birth to h on b
+abbrev Bears : State → Step → ℕ → ℕ → Type 0
+Bears w s h b = ((s ≡ Make) × (length w.handles ≡ h) × (length w.blocks ≡ b))
+    ⊎ ((g : ℕ) × (s ≡ Clone g) × (length w.handles ≡ h) × (block_on w g ≡ b))
 
--- the sentence, about a past
-abbrev IsBornIn : List Step → ℕ → ℕ → Type 0
-IsBornIn p h b = IsInPast p Make (MakesOn h b) ⊎ ((g : ℕ) × IsInPast p (Clone g) (ClonesOn g h b))
-
-IsBornIn-more : (x : Step) (p : List Step) (h b : ℕ) → IsBornIn p h b → IsBornIn (x ∷ p) h b
-IsBornIn-more x p h b m = elim m [ inl w ↦ inl (inr w) | inr w ↦ inr (w.0, inr w.1) ]
-
-born_in : (p : List Step) (h b : ℕ) → h < births p → block_of p h ≡ b → IsBornIn p h b
-born_in [] h b lt e = absurd (omega arith)
-born_in (Make ∷ p) h b lt e = go (h == births p) refl e (born_in p h b)
+pushed_cases : (hs : List HandleSummary) (c h b : ℕ) → IsBorn (hs ++ record { block = c; state = Free } ∷ []) h b → IsBorn hs h b ⊎ ((length hs ≡ h) × (c ≡ b))
+pushed_cases hs c h b w = by_place (cases_eq h (length hs))
   where
-    go : (c : Bool) → (h == births p) ≡ c → (if c then makes p else block_of p h) ≡ b
-        → (h < births p → block_of p h ≡ b → IsBornIn p h b) → IsBornIn (Make ∷ p) h b
-    go true same e before = inl (inl (refl, (sym (eqb-true h (births p) same), e)))
-    go false other e before =
-        let differ : h ≡ births p → ⊥ = eqb-false h (births p) other in
-        IsBornIn-more Make p h b (before (omega (arith, differ)) e)
-born_in (Clone g ∷ p) h b lt e = go (h == births p) refl e (born_in p h b)
-  where
-    go : (c : Bool) → (h == births p) ≡ c → (if c then block_of p g else block_of p h) ≡ b
-        → (h < births p → block_of p h ≡ b → IsBornIn p h b) → IsBornIn (Clone g ∷ p) h b
-    go true same e before = inr (g, inl (refl, (sym (eqb-true h (births p) same), e)))
-    go false other e before =
-        let differ : h ≡ births p → ⊥ = eqb-false h (births p) other in
-        IsBornIn-more (Clone g) p h b (before (omega (arith, differ)) e)
-born_in (s ∷ p) h b lt e = IsBornIn-more s p h b (born_in p h b lt e)
+    by_place : (h ≡ length hs) ⊎ (h ≢ length hs) → IsBorn hs h b ⊎ ((length hs ≡ h) × (c ≡ b))
+    by_place (inl last) = inr (
+      sym last,
+      sym (ap (λ (it : HandleSummary). it.block)
+          (ap (λ k. get_or (hs ++ record { block = c; state = Free } ∷ []) k no_handle) last ∙ born_last hs c)) ∙ w.1,
+    )
+    by_place (inr earlier) =
+        let below : h < length hs = let born = w.0 in omega (arith, length_push hs (record { block = c; state = Free })) in
+        inl (below, ap (λ (it : HandleSummary). it.block) (sym (born_earlier hs c h below)) ∙ w.1)
 
--- ---- a handle that was born keeps its block
+pushed_earlier : (hs : List HandleSummary) (c h b : ℕ) → IsBorn hs h b → IsBorn (hs ++ record { block = c; state = Free } ∷ []) h b
+pushed_earlier hs c h b w =
+    (let born = w.0 in omega (arith, length_push hs (record { block = c; state = Free })), ap (λ (it : HandleSummary). it.block) (born_earlier hs c h w.0) ∙ w.1)
 
-abbrev pub IsBorn : List Step → ℕ → ℕ → Type 0
-IsBorn p h b = (h < births p) × (block_of p h ≡ b)
+pushed_last : (hs : List HandleSummary) (c h b : ℕ) → length hs ≡ h → c ≡ b → IsBorn (hs ++ record { block = c; state = Free } ∷ []) h b
+pushed_last hs c h b last on = subst (λ k. IsBorn (hs ++ record { block = c; state = Free } ∷ []) k b) last
+    (omega (arith, length_push hs (record { block = c; state = Free })), ap (λ (it : HandleSummary). it.block) (born_last hs c) ∙ on)
 
-block_of-older : (p : List Step) (h b new : ℕ) → IsBorn p h b → (if h == births p then new else block_of p h) ≡ b
-block_of-older p h b new w =
-    let older : (h == births p) ≡ false = ne_eqb h (births p) (λ e. let lt = w.0 in omega arith) in
-    cond-false (h == births p) new (block_of p h) older ∙ w.1
+moved_born : (hs : List HandleSummary) (g : ℕ) (new : HandleState) (h b : ℕ) → g < length hs → IsBorn (handles_with_state hs g new) h b ↔ IsBorn hs h b
+moved_born hs g new h b within = (
+  (λ w. (let born = w.0 in omega (arith, length-moved hs g new within), sym (moved_block hs g new within h) ∙ w.1)),
+  (λ w. (let born = w.0 in omega (arith, length-moved hs g new within), moved_block hs g new within h ∙ w.1)),
+)
 
-pub IsBorn-more : (x : Step) (p : List Step) (h b : ℕ) → IsBorn p h b → IsBorn (x ∷ p) h b
-IsBorn-more Make p h b w = (omega (arith, w.0), block_of-older p h b (makes p) w)
-IsBorn-more (Clone g) p h b w = (omega (arith, w.0), block_of-older p h b (block_of p g) w)
-IsBorn-more s p h b w = w
+begun_born : (w : State) (g : ℕ) (h b : ℕ) → g < length w.handles → (f : Bool) → IsBorn (begun_by f w g).0.handles h b ↔ IsBorn w.handles h b
+begun_born w g h b within true = moved_born w.handles g Gone h b within
+begun_born w g h b within false = moved_born w.handles g Dropping h b within
 
-block_of-newest : (p : List Step) (h b new : ℕ) → births p ≡ h → new ≡ b → (if h == births p then new else block_of p h) ≡ b
-block_of-newest p h b new e d = cond-true (h == births p) new (block_of p h) (eq-eqb h (births p) (sym e)) ∙ d
+module _ (limit : ℕ) (w : State) (h b : ℕ) where
+  born_cases : (s : Step) → refusal_in w s ≡ None → IsBorn (accepted limit w s).0.handles h b → IsBorn w.handles h b ⊎ Bears w s h b
+  born_cases Make e born = elim (pushed_cases w.handles (length w.blocks) h b born) [ inl x ↦ inl x | inr x ↦ inr (inl (refl, x.0, x.1)) ]
+  born_cases (Look g) e born = inl born
+  born_cases (Clone g) e born = elim (pushed_cases w.handles (block_on w g) h b born) [ inl x ↦ inl x | inr x ↦ inr (inr (g, refl, x.0, x.1)) ]
+  born_cases (Begin g) e born = inl ((begun_born w g h b (step_finds w g Free e).born _).0 born)
+  born_cases (Sub g) e born = inl ((moved_born w.handles g _ h b (step_finds w g Dropping e).born).0 born)
+  born_cases (Back g) e born = inl ((moved_born w.handles g Gone h b (step_finds w g Owing e).born).0 born)
+  born_cases (Leak g) e born = inl born
+  born_cases (IntoRaw g) e born = inl ((moved_born w.handles g Raw h b (step_finds w g Free e).born).0 born)
+  born_cases (FromRaw g) e born = inl ((moved_born w.handles g Free h b (step_finds w g Raw e).born).0 born)
 
-by_make : (p : List Step) (h b : ℕ) → IsInPast p Make (MakesOn h b) → IsBorn p h b
-by_make [] h b w = absurd w
-by_make (x ∷ p) h b (inl w) = subst (λ s. IsBorn (s ∷ p) h b) (sym w.0)
-    (let e : births p ≡ h = w.1.0 in (omega arith, block_of-newest p h b (makes p) e w.1.1))
-by_make (x ∷ p) h b (inr w) = IsBorn-more x p h b (by_make p h b w)
+  born_more : (s : Step) → refusal_in w s ≡ None → IsBorn w.handles h b → IsBorn (accepted limit w s).0.handles h b
+  born_more Make e born = pushed_earlier w.handles (length w.blocks) h b born
+  born_more (Look g) e born = born
+  born_more (Clone g) e born = pushed_earlier w.handles (block_on w g) h b born
+  born_more (Begin g) e born = (begun_born w g h b (step_finds w g Free e).born _).1 born
+  born_more (Sub g) e born = (moved_born w.handles g _ h b (step_finds w g Dropping e).born).1 born
+  born_more (Back g) e born = (moved_born w.handles g Gone h b (step_finds w g Owing e).born).1 born
+  born_more (Leak g) e born = born
+  born_more (IntoRaw g) e born = (moved_born w.handles g Raw h b (step_finds w g Free e).born).1 born
+  born_more (FromRaw g) e born = (moved_born w.handles g Free h b (step_finds w g Raw e).born).1 born
 
-born_by_clone : (p : List Step) (g h b : ℕ) → IsInPast p (Clone g) (ClonesOn g h b) → IsBorn p h b
-born_by_clone [] g h b w = absurd w
-born_by_clone (x ∷ p) g h b (inl w) = subst (λ s. IsBorn (s ∷ p) h b) (sym w.0)
-    (let e : births p ≡ h = w.1.0 in (omega arith, block_of-newest p h b (block_of p g) e w.1.1))
-born_by_clone (x ∷ p) g h b (inr w) = IsBorn-more x p h b (born_by_clone p g h b w)
+module _ (limit h b : ℕ) where
+  -- there are h births in the history, and its `Make`s are b; or g is on b
+  abbrev MakesOn : List Step → Type 0
+  MakesOn prefix = (births_after limit prefix ≡ h) × (makes_after limit prefix ≡ b)
+
+  abbrev ClonesOn : ℕ → List Step → Type 0
+  ClonesOn g prefix = (births_after limit prefix ≡ h) × (block_after limit prefix g ≡ b)
+
+  sentence_earlier : (history : List Step) (x : Step) → BornSentence limit history h b → BornSentence limit (history ++ x ∷ []) h b
+  sentence_earlier history x m = elim m [
+    | inl w ↦ inl (accepted_earlier limit history Make MakesOn x w)
+    | inr w ↦ inr (w.0, accepted_earlier limit history (Clone w.0) (ClonesOn w.0) x w.1)
+  ]
+
+  to_born : (history : List Step) → IsBorn (after limit history).handles h b → BornSentence limit history h b
+  to_born = by_history limit (λ history. IsBorn (after limit history).handles h b → BornSentence limit history h b)
+      (λ born. let none = born.0 in absurd (omega arith))
+      (λ history x r before born. sentence_earlier history x (before (subst (λ (w : State). IsBorn w.handles h b) r.state born)))
+      (λ history x a before born. elim (born_cases limit (after limit history) h b x a.none (subst (λ (w : State). IsBorn w.handles h b) a.state born)) [
+        | inl older ↦ sentence_earlier history x (before older)
+        | inr newest ↦ elim newest [
+          | inl m ↦ inl (subst (λ s. AcceptedWhere limit (history ++ s ∷ []) Make MakesOn) (sym m.0)
+              (accepted_last limit history Make MakesOn (subst (λ s. IsTrue (accepted_after limit history s)) m.0 a.accepted) (m.1, m.2)))
+          | inr c ↦ inr (
+            c.0,
+            subst (λ s. AcceptedWhere limit (history ++ s ∷ []) (Clone c.0) (ClonesOn c.0)) (sym c.1)
+                (accepted_last limit history (Clone c.0) (ClonesOn c.0) (subst (λ s. IsTrue (accepted_after limit history s)) c.1 a.accepted) (c.2, c.3)),
+          )
+        ]
+      ])
+
+  from_make : (history : List Step) → AcceptedWhere limit history Make MakesOn → IsBorn (after limit history).handles h b
+  from_make = by_history limit (λ history. AcceptedWhere limit history Make MakesOn → IsBorn (after limit history).handles h b)
+      (λ w. absurd (accepted_nowhere limit Make MakesOn w))
+      (λ history x r before w. subst (λ (v : State). IsBorn v.handles h b) (sym r.state) (elim (accepted_cases limit history Make MakesOn x w) [
+        | inl e ↦ (let no = r.refused in let yes = e.1 in cc)
+        | inr e ↦ before e
+      ]))
+      (λ history x a before w. subst (λ (v : State). IsBorn v.handles h b) (sym a.state) (elim (accepted_cases limit history Make MakesOn x w) [
+        | inl e ↦ subst (λ s. IsBorn (accepted limit (after limit history) s).0.handles h b) (sym e.0)
+            (pushed_last (after limit history).handles (makes_after limit history) h b e.2.0 e.2.1)
+        | inr e ↦ born_more limit (after limit history) h b x a.none (before e)
+      ]))
+
+  from_clone : (g : ℕ) (history : List Step) → AcceptedWhere limit history (Clone g) (ClonesOn g) → IsBorn (after limit history).handles h b
+  from_clone g = by_history limit (λ history. AcceptedWhere limit history (Clone g) (ClonesOn g) → IsBorn (after limit history).handles h b)
+      (λ w. absurd (accepted_nowhere limit (Clone g) (ClonesOn g) w))
+      (λ history x r before w. subst (λ (v : State). IsBorn v.handles h b) (sym r.state) (elim (accepted_cases limit history (Clone g) (ClonesOn g) x w) [
+        | inl e ↦ (let no = r.refused in let yes = e.1 in cc)
+        | inr e ↦ before e
+      ]))
+      (λ history x a before w. subst (λ (v : State). IsBorn v.handles h b) (sym a.state) (elim (accepted_cases limit history (Clone g) (ClonesOn g) x w) [
+        | inl e ↦ subst (λ s. IsBorn (accepted limit (after limit history) s).0.handles h b) (sym e.0)
+            (pushed_last (after limit history).handles (block_after limit history g) h b e.2.0 e.2.1)
+        | inr e ↦ born_more limit (after limit history) h b x a.none (before e)
+      ]))
 
 pub born_sentence : (limit : ℕ) (history : List Step) (h b : ℕ)
     → ((h < births_after limit history) × (block_after limit history h ≡ b)) ↔ BornSentence limit history h b
 born_sentence limit history h b = (
-  (λ w. elim (born_in (past_of limit history) h b w.0 w.1) [
-    | inl m ↦ inl (in_history limit Make (MakesOn h b) history m)
-    | inr c ↦ inr (c.0, in_history limit (Clone c.0) (ClonesOn c.0 h b) history c.1)
-  ]),
-  elim [
-    | inl m ↦ by_make (past_of limit history) h b (in_past limit Make (MakesOn h b) history m)
-    | inr c ↦ born_by_clone (past_of limit history) c.0 h b (in_past limit (Clone c.0) (ClonesOn c.0 h b) history c.1)
-  ],
+  to_born limit h b history,
+  elim [ inl m ↦ from_make limit h b history m | inr c ↦ from_clone limit h b c.0 history c.1 ],
 )
-
--- ==== a handle is raw exactly as the sentence about the prefixes of the history says
-
--- ---- one more step of a past
-
--- the latest step made the handle raw, or the handle was raw and the latest step is neither of the two
-pub is_raw-latest : (x : Step) (p : List Step) (h : ℕ) → is_raw (x ∷ p) h ≡ true
-    → (x ≡ IntoRaw h) ⊎ ((is_raw p h ≡ true) × (x ≢ IntoRaw h) × (x ≢ FromRaw h))
-is_raw-latest (IntoRaw g) p h r = go (g == h) refl r
-  where
-    go : (c : Bool) → (g == h) ≡ c → (if c then true else is_raw p h) ≡ true → (IntoRaw g ≡ IntoRaw h) ⊎ ((is_raw p h ≡ true) × (IntoRaw g ≢ IntoRaw h) × (IntoRaw g ≢ FromRaw h))
-    go true e r = inl (ap IntoRaw (eqb-true g h e))
-    go false e r = inr (r, (λ f. eqb-false g h e (cc)), (λ f. cc))
-is_raw-latest (FromRaw g) p h r = go (g == h) refl r
-  where
-    go : (c : Bool) → (g == h) ≡ c → (if c then false else is_raw p h) ≡ true → (FromRaw g ≡ IntoRaw h) ⊎ ((is_raw p h ≡ true) × (FromRaw g ≢ IntoRaw h) × (FromRaw g ≢ FromRaw h))
-    go true e r = absurd (cc)
-    go false e r = inr (r, (λ f. cc), (λ f. eqb-false g h e (cc)))
-is_raw-latest s p h r = inr (r, (λ f. cc), (λ f. cc))
-
-is_raw-into : (p : List Step) (h : ℕ) → is_raw (IntoRaw h ∷ p) h ≡ true
-is_raw-into p h = cond-true (h == h) true (is_raw p h) (eq-eqb h h refl)
-
-is_raw-kept : (x : Step) (p : List Step) (h : ℕ) → is_raw p h ≡ true → x ≢ FromRaw h → is_raw (x ∷ p) h ≡ true
-is_raw-kept (IntoRaw g) p h r n = go (g == h)
-  where
-    go : (c : Bool) → (if c then true else is_raw p h) ≡ true
-    go true = refl
-    go false = r
-is_raw-kept (FromRaw g) p h r n = go (g == h) refl
-  where
-    go : (c : Bool) → (g == h) ≡ c → (if c then false else is_raw p h) ≡ true
-    go true e = absurd (n (ap FromRaw (eqb-true g h e)))
-    go false e = r
-is_raw-kept s p h r n = r
-
--- ---- one more step of a history
-
--- the last one stays the last if the new step is neither of the two or is refused
-LastIsIntoRaw-more : (limit : ℕ) (history : List Step) (x : Step) (h : ℕ) → ((x ≡ IntoRaw h) ⊎ (x ≡ FromRaw h) → IsFalse (accepted_after limit history x))
-    → LastIsIntoRaw limit history h → LastIsIntoRaw limit (history ++ x ∷ []) h
-LastIsIntoRaw-more limit history x h refused w = record {
-  prefix = w.prefix;
-  later = w.later ++ x ∷ [];
-  stands = ap (λ t. t ++ x ∷ []) w.stands ∙ append_assoc w.prefix (IntoRaw h ∷ w.later) (x ∷ []);
-  accepted = w.accepted;
-  last = last;
-}
-  where
-    last : (more rest : List Step) (s : Step) → w.later ++ x ∷ [] ≡ more ++ s ∷ rest → (s ≡ IntoRaw h) ⊎ (s ≡ FromRaw h)
-        → IsFalse (accepted_after limit (w.prefix ++ IntoRaw h ∷ more) s)
-    last more rest s e which = elim (last_or_before w.later x more s rest e) [
-      | inl d ↦ (let same : history ≡ w.prefix ++ IntoRaw h ∷ more = w.stands ∙ ap (λ t. w.prefix ++ IntoRaw h ∷ t) d.1 in
-          subst (λ t. IsFalse (accepted_after limit t s)) same
-          (subst (λ t. IsFalse (accepted_after limit history t)) d.0
-          (refused (subst (λ t. (t ≡ IntoRaw h) ⊎ (t ≡ FromRaw h)) (sym d.0) which))))
-      | inr d ↦ w.last more d.0 s d.1 which
-    ]
-
-LastIsIntoRaw-before : (limit : ℕ) (history : List Step) (x : Step) (h : ℕ) (w : LastIsIntoRaw limit (history ++ x ∷ []) h) (rest : List Step)
-    → history ≡ w.prefix ++ IntoRaw h ∷ rest → w.later ≡ rest ++ x ∷ [] → LastIsIntoRaw limit history h
-LastIsIntoRaw-before limit history x h w rest e f = record {
-  prefix = w.prefix;
-  later = rest;
-  stands = e;
-  accepted = w.accepted;
-  last = λ more r s d which. w.last more (r ++ x ∷ []) s (f ∙ ap (λ t. t ++ x ∷ []) d ∙ append_assoc more (s ∷ r) (x ∷ [])) which;
-}
-
--- ---- the two are the same
-
-raw_from_last : (limit : ℕ) (h : ℕ) (history : List Step) → LastIsIntoRaw limit history h → is_raw (past_of limit history) h ≡ true
-raw_from_last limit h = by_steps (λ history. LastIsIntoRaw limit history h → is_raw (past_of limit history) h ≡ true)
-    (λ w. absurd (none_in_nil w.prefix (IntoRaw h) w.later w.stands))
-    step
-  where
-    step : (prefix : List Step) (x : Step) → (LastIsIntoRaw limit prefix h → is_raw (past_of limit prefix) h ≡ true)
-        → LastIsIntoRaw limit (prefix ++ x ∷ []) h → is_raw (past_of limit (prefix ++ x ∷ [])) h ≡ true
-    step prefix x before w = elim (last_or_before prefix x w.prefix (IntoRaw h) w.later w.stands) [
-      | inl e ↦ (let accepted : is_accepted limit (past_of limit prefix) x ≡ true = rw (e.0, e.1) w.accepted in
-          rw (past_of-accepted limit prefix x accepted) (rw (e.0) (is_raw-into (past_of limit prefix) h)))
-      | inr e ↦ go e.0 e.1 e.2 (before (LastIsIntoRaw-before limit prefix x h w e.0 e.1 e.2)) (is_accepted limit (past_of limit prefix) x) refl
-    ]
-      where
-        go : (rest : List Step) → prefix ≡ w.prefix ++ IntoRaw h ∷ rest → w.later ≡ rest ++ x ∷ [] → is_raw (past_of limit prefix) h ≡ true
-            → (b : Bool) → is_accepted limit (past_of limit prefix) x ≡ b → is_raw (past_of limit (prefix ++ x ∷ [])) h ≡ true
-        go rest e f r false refused = rw (past_of-refused limit prefix x refused) r
-        go rest e f r true accepted = rw (past_of-accepted limit prefix x accepted) (is_raw-kept x (past_of limit prefix) h r
-            (λ d. let no : IsFalse (accepted_after limit prefix x) = rw e (w.last rest [] x f (inr d)) in cc))
-
-last_from_raw : (limit : ℕ) (h : ℕ) (history : List Step) → is_raw (past_of limit history) h ≡ true → LastIsIntoRaw limit history h
-last_from_raw limit h = by_steps (λ history. is_raw (past_of limit history) h ≡ true → LastIsIntoRaw limit history h)
-    (λ r. absurd (cc))
-    step
-  where
-    step : (prefix : List Step) (x : Step) → (is_raw (past_of limit prefix) h ≡ true → LastIsIntoRaw limit prefix h)
-        → is_raw (past_of limit (prefix ++ x ∷ [])) h ≡ true → LastIsIntoRaw limit (prefix ++ x ∷ []) h
-    step prefix x before r = go (is_accepted limit (past_of limit prefix) x) refl
-      where
-        go : (b : Bool) → is_accepted limit (past_of limit prefix) x ≡ b → LastIsIntoRaw limit (prefix ++ x ∷ []) h
-        go false e = LastIsIntoRaw-more limit prefix x h (λ _. e) (before (rw (past_of-refused limit prefix x e) at r))
-        go true e = elim (is_raw-latest x (past_of limit prefix) h (rw (past_of-accepted limit prefix x e) at r)) [
-          | inl f ↦ record {
-            prefix = prefix;
-            later = [];
-            stands = ap (λ t. prefix ++ t ∷ []) f;
-            accepted = rw f at e;
-            last = λ more rest s d which. absurd (none_in_nil more s rest d);
-          }
-          | inr f ↦ LastIsIntoRaw-more limit prefix x h
-              (λ which. absurd (elim which [ inl i ↦ f.1 i | inr o ↦ f.2 o ]))
-              (before f.0)
-        ]
-
-pub raw_sentence : (limit : ℕ) (history : List Step) (h : ℕ) → (is_raw (past_of limit history) h ≡ true) ↔ LastIsIntoRaw limit history h
-raw_sentence limit history h = (last_from_raw limit h history, raw_from_last limit h history)

@@ -1,393 +1,504 @@
 -- The state of a handle, what was done to it, and the reply to a step, as sentences about the prefixes of the history.
-use Rattle.arcstr_count.proofs.Names.{◌∙◌, ◌≡◌, ◌↔◌, ℕ, ◌<◌, is_none, IsTrue, Option, None, Some, IfSome, List, refl, ap, Bool, true, false, not, ◌&&◌}
-use Rattle.arcstr_count.proofs.Names.{if◌then◌else◌, subst, ◌==◌, IsFalse, [], ◌∷◌, ◌⊎◌, inl, inr, sym, Step, HandleState, births, is_raw, has_begun}
-use Rattle.arcstr_count.proofs.Names.{has_subtracted, has_given, block_of, state_of, began_unmarked, was_last, is_marked, living, is_only, Need, needs}
-use Rattle.arcstr_count.proofs.Names.{handle_state, refusal_by, is_accepted, past_of, IsPast, accepted_after, AcceptedSentence, FirstThatHolds, AcceptedWhere}
-use Rattle.arcstr_count.proofs.Names.{HasAccepted, BeganUnmarked, OwesSentence, births_after, state_after, LastIsIntoRaw, StateSentence, false_from_ne_true}
-use Rattle.arcstr_count.proofs.Names.{and_parts, and_from, not-true, not_from_false, eqb-true, eq-eqb, Free, Raw, Dropping, Owing, Gone, Begin, Sub, Back}
-use Rattle.arcstr_count.proofs.Names.{IntoRaw, Look, Reply, Refused, StepFault, reply_by, refusal_of, accepted_answer, answer_after, LivesAlone, ByFact}
+--
+-- We show for each accepted step which state it leaves the handle in (`moves_to`), and that what the history did to a handle is what its state says
+-- (`Did`), by induction on the history. The sentence of the state is read off this.
+use Rattle.arcstr_count.proofs.Names.{◌∙◌, ◌≡◌, ◌≢◌, ◌↔◌, ℕ, zero, suc, ◌<◌, is_none, IsTrue, IsFalse, Option, None, Some, option_map, IfSome, List, [], ◌∷◌, ◌++◌}
+use Rattle.arcstr_count.proofs.Names.{refl, sym, ap, subst, arith, Bool, true, false, not, ◌==◌, if◌then◌else◌, ◌⊎◌, inl, inr, length, set, slice_get, cases_eq}
+use Rattle.arcstr_count.proofs.Names.{slice_get_within, and_parts, and_from, not-true, eqb-true, eq-eqb, ne_eqb, append_assoc, true≢false}
+use Rattle.arcstr_count.proofs.Names.{Step, Make, Look, Clone, Begin, Sub, Back, Leak, IntoRaw, FromRaw, HandleState, Free, Raw, Dropping, Owing, Gone, HandleSummary}
+use Rattle.arcstr_count.proofs.Names.{Need, needs, refusal_by, refusal_unless, Reply, Refused, Ended, Looked, Count, Static, StepFault, looked_of, look_reply, is_last}
+use Rattle.arcstr_count.proofs.Names.{State, after, accepted, accepted_after, refusal_in, unless_refused, block_on, state_on, state_in, word_on, word_in, handles_with_state}
+use Rattle.arcstr_count.proofs.Names.{handles_on, lives, births_after, state_after, marked_after, block_after, living_after, answer_after}
+use Rattle.arcstr_count.proofs.Names.{AcceptedSentence, FirstThatHolds, AcceptedWhere, HasAccepted, BeganUnmarked, OwesSentence, LastIsIntoRaw, StateSentence, LivesAlone, ByFact}
 use Rattle.arcstr_count.proofs.Names.{AcceptedAnswer, AnswerSentence}
-use Rattle.arcstr_count.proofs.LawsOfHandles.{is_in_handle_state, handle_state_is, accepts_needed, needed_state}
-use Rattle.arcstr_count.proofs.Pasts.{IsPast-past_of, IsInPast, in_past, in_history}
-use Rattle.arcstr_count.proofs.SentencesHandles.{IsBorn-more, is_raw-latest, raw_sentence}
+use Rattle.arcstr_count.proofs.LawsOfBlocks.{IsIn, is_in_state, state_born, step_finds, accepts_needed, needed_state, IsLawful, lawful_after, begun_by, is_only, is_only-held, held}
+use Rattle.arcstr_count.proofs.LawsOfHistories.{says}
+use Rattle.arcstr_count.proofs.Prefixes.{IsAccepted, by_history, accepted_earlier, accepted_last, accepted_cases, accepted_unless, accepted_nowhere, none_in_nil, last_or_before}
+
+none_of : (o : Option StepFault) → is_none o ≡ true → o ≡ None
+none_of None e = refl
+none_of (Some fault) e = cc
 
 by_need : (state : ℕ → Option HandleState) (o : Option Need)
     → IsTrue (is_none (refusal_by state o)) ↔ IfSome o (λ need. state need.handle ≡ Some need.state)
 by_need state None = ((λ e. tt), (λ e. refl))
-by_need state (Some need) = (needed_state need.state (state need.handle), λ e. rw e (ap is_none (accepts_needed need.state)))
+by_need state (Some need) = ((λ e. needed_state need.state (state need.handle) (none_of (refusal_unless need.state (state need.handle)) e)), λ e. rw e (ap is_none (accepts_needed need.state)))
 
 pub accepted_sentence : (limit : ℕ) (history : List Step) (s : Step) → IsTrue (accepted_after limit history s) ↔ AcceptedSentence limit history s
-accepted_sentence limit history s = by_need (λ h. handle_state limit (past_of limit history) h) (needs s)
+accepted_sentence limit history s = by_need (λ h. state_in (after limit history) h) (needs s)
 
--- ---- the state of a handle that was born
+-- ==== the state in which an accepted step leaves each handle
 
-pub handle_state_sentence : (limit : ℕ) (p : List Step) (h : ℕ) (s : HandleState) → (handle_state limit p h ≡ Some s) ↔ ((h < births p) × (state_of limit p h ≡ s))
-handle_state_sentence limit p h s = (
-  (λ e. let i = is_in_handle_state limit p h s e in (i.born, i.state)),
-  (λ w. handle_state_is limit p h s (record { born = w.0; state = w.1 })),
-)
+slice_get-set_same : {X : Type 0} (xs : List X) (k : ℕ) (x : X) → k < length xs → slice_get (set xs k x) k ≡ Some x
+slice_get-set_same [] k x within = absurd (omega arith)
+slice_get-set_same (y ∷ xs) zero x within = refl
+slice_get-set_same (y ∷ xs) (suc k) x within = slice_get-set_same xs k x (omega arith)
 
--- ==== the state of a handle by the first test that passes
+slice_get-set_other : {X : Type 0} (xs : List X) (k j : ℕ) (x : X) → k ≢ j → slice_get (set xs k x) j ≡ slice_get xs j
+slice_get-set_other [] k j x apart = refl
+slice_get-set_other (y ∷ xs) zero zero x apart = absurd (apart refl)
+slice_get-set_other (y ∷ xs) zero (suc j) x apart = refl
+slice_get-set_other (y ∷ xs) (suc k) zero x apart = refl
+slice_get-set_other (y ∷ xs) (suc k) (suc j) x apart = slice_get-set_other xs k j x (λ same. apart (ap suc same))
 
-abbrev first_that_passes : (raw free dropping owing : Bool) → HandleState
-first_that_passes raw free dropping owing = if raw then Raw else (if free then Free else (if dropping then Dropping else (if owing then Owing else Gone)))
+slice_get-push_same : {X : Type 0} (xs : List X) (x : X) → slice_get (xs ++ x ∷ []) (length xs) ≡ Some x
+slice_get-push_same [] x = refl
+slice_get-push_same (y ∷ xs) x = slice_get-push_same xs x
 
-abbrev pub FirstTest : (raw free dropping owing : Bool) → HandleState → Type 0
-FirstTest raw free dropping owing s = FirstThatHolds (raw ≡ true) (free ≡ true) (dropping ≡ true) (owing ≡ true) s
+slice_get-push_other : {X : Type 0} (xs : List X) (k : ℕ) (x : X) → length xs ≢ k → slice_get (xs ++ x ∷ []) k ≡ slice_get xs k
+slice_get-push_other [] zero x apart = absurd (apart refl)
+slice_get-push_other [] (suc k) x apart = refl
+slice_get-push_other (y ∷ xs) zero x apart = refl
+slice_get-push_other (y ∷ xs) (suc k) x apart = slice_get-push_other xs k x (λ same. apart (ap suc same))
 
-holds_first : (raw free dropping owing : Bool) → FirstTest raw free dropping owing (first_that_passes raw free dropping owing)
-holds_first true free dropping owing = refl
-holds_first false true dropping owing = ((λ e. cc), refl)
-holds_first false false true owing = ((λ e. cc), (λ e. cc), refl)
-holds_first false false false true = ((λ e. cc), (λ e. cc), (λ e. cc), refl)
-holds_first false false false false = ((λ e. cc), (λ e. cc), (λ e. cc), (λ e. cc))
+abbrev state_at : List HandleSummary → ℕ → Option HandleState
+state_at hs h = option_map (λ (it : HandleSummary). it.state) (slice_get hs h)
 
-is_first : (raw free dropping owing : Bool) (s : HandleState) → FirstTest raw free dropping owing s → first_that_passes raw free dropping owing ≡ s
-is_first raw free dropping owing Raw w = rw w refl
-is_first raw free dropping owing Free w = rw (false_from_ne_true raw w.0, w.1) refl
-is_first raw free dropping owing Dropping w = rw (false_from_ne_true raw w.0, false_from_ne_true free w.1, w.2) refl
-is_first raw free dropping owing Owing w =
-    rw (false_from_ne_true raw w.0, false_from_ne_true free w.1, false_from_ne_true dropping w.2, w.3) refl
-is_first raw free dropping owing Gone w =
-    rw (false_from_ne_true raw w.0, false_from_ne_true free w.1, false_from_ne_true dropping w.2, false_from_ne_true owing w.3) refl
+-- the new state if the two numbers are equal, else the old one
+abbrev if_same : ℕ → ℕ → HandleState → Option HandleState → Option HandleState
+if_same g h new old = if g == h then Some new else old
 
--- the four tests on what was done to a handle
-abbrev pub tests_free : List Step → ℕ → Bool
-tests_free p h = not (has_begun p h)
+moved_state : (hs : List HandleSummary) (g h : ℕ) (new : HandleState) → g < length hs
+    → state_at (handles_with_state hs g new) h ≡ if_same g h new (state_at hs h)
+moved_state hs g h new within = by_place (cases_eq g h)
+  where
+    by_place : (g ≡ h) ⊎ (g ≢ h) → state_at (handles_with_state hs g new) h ≡ if_same g h new (state_at hs h)
+    by_place (inl same) = subst (λ k. state_at (handles_with_state hs g new) k ≡ if_same g k new (state_at hs k)) same
+        (ap (option_map (λ (it : HandleSummary). it.state)) (slice_get-set_same hs g _ within)
+        ∙ sym (ap (λ t. if t then Some new else state_at hs g) (eq-eqb g g refl)))
+    by_place (inr apart) = ap (option_map (λ (it : HandleSummary). it.state)) (slice_get-set_other hs g h _ apart)
+        ∙ sym (ap (λ t. if t then Some new else state_at hs h) (ne_eqb g h apart))
 
-abbrev pub tests_dropping : ℕ → List Step → ℕ → Bool
-tests_dropping limit p h = began_unmarked limit p h && not (has_subtracted p h)
+pushed_state : (hs : List HandleSummary) (c h : ℕ) → state_at (hs ++ record { block = c; state = Free } ∷ []) h ≡ if_same (length hs) h Free (state_at hs h)
+pushed_state hs c h = by_place (cases_eq (length hs) h)
+  where
+    by_place : (length hs ≡ h) ⊎ (length hs ≢ h) → state_at (hs ++ record { block = c; state = Free } ∷ []) h ≡ if_same (length hs) h Free (state_at hs h)
+    by_place (inl same) = subst (λ k. state_at (hs ++ record { block = c; state = Free } ∷ []) k ≡ if_same (length hs) k Free (state_at hs k)) same
+        (ap (option_map (λ (it : HandleSummary). it.state)) (slice_get-push_same hs (record { block = c; state = Free }))
+        ∙ sym (ap (λ t. if t then Some Free else state_at hs (length hs)) (eq-eqb (length hs) (length hs) refl)))
+    by_place (inr apart) = ap (option_map (λ (it : HandleSummary). it.state)) (slice_get-push_other hs h (record { block = c; state = Free }) apart)
+        ∙ sym (ap (λ t. if t then Some Free else state_at hs h) (ne_eqb (length hs) h apart))
 
-abbrev pub tests_owing : ℕ → List Step → ℕ → Bool
-tests_owing limit p h = was_last limit p h && not (has_given p h)
+begun_state : (w : State) (g h : ℕ) (f : Bool) → g < length w.handles
+    → state_in (begun_by f w g).0 h ≡ if_same g h (if f then Gone else Dropping) (state_in w h)
+begun_state w g h true within = moved_state w.handles g h Gone within
+begun_state w g h false within = moved_state w.handles g h Dropping within
 
-abbrev pub StateTest : ℕ → List Step → ℕ → HandleState → Type 0
-StateTest limit p h s = FirstTest (is_raw p h) (tests_free p h) (tests_dropping limit p h) (tests_owing limit p h) s
+abbrev moves_to : State → Step → ℕ → Option HandleState → Option HandleState
+moves_to w Make h old = if_same (length w.handles) h Free old
+moves_to w (Look g) h old = old
+moves_to w (Clone g) h old = if_same (length w.handles) h Free old
+moves_to w (Begin g) h old = if_same g h (if (word_on w g).flag then Gone else Dropping) old
+moves_to w (Sub g) h old = if_same g h (if is_last (word_on w g) then Owing else Gone) old
+moves_to w (Back g) h old = if_same g h Gone old
+moves_to w (Leak g) h old = old
+moves_to w (IntoRaw g) h old = if_same g h Raw old
+moves_to w (FromRaw g) h old = if_same g h Free old
 
--- a handle's state is the first one whose test passes
-pub state_of_test : (limit : ℕ) (p : List Step) (h : ℕ) (s : HandleState) → (state_of limit p h ≡ s) ↔ StateTest limit p h s
-state_of_test limit p h s = (
-  (λ e. subst (λ t. StateTest limit p h t) e (holds_first (is_raw p h) (tests_free p h) (tests_dropping limit p h) (tests_owing limit p h))),
-  is_first (is_raw p h) (tests_free p h) (tests_dropping limit p h) (tests_owing limit p h) s,
-)
+state_moves : (limit : ℕ) (w : State) (s : Step) → refusal_in w s ≡ None → (h : ℕ) → state_in (accepted limit w s).0 h ≡ moves_to w s h (state_in w h)
+state_moves limit w Make e h = pushed_state w.handles (length w.blocks) h
+state_moves limit w (Look g) e h = refl
+state_moves limit w (Clone g) e h = pushed_state w.handles (block_on w g) h
+state_moves limit w (Begin g) e h = begun_state w g h _ (step_finds w g Free e).born
+state_moves limit w (Sub g) e h = moved_state w.handles g h _ (step_finds w g Dropping e).born
+state_moves limit w (Back g) e h = moved_state w.handles g h Gone (step_finds w g Owing e).born
+state_moves limit w (Leak g) e h = refl
+state_moves limit w (IntoRaw g) e h = moved_state w.handles g h Raw (step_finds w g Free e).born
+state_moves limit w (FromRaw g) e h = moved_state w.handles g h Free (step_finds w g Raw e).born
 
--- ==== what was done to a handle, as sentences about the prefixes of the history
+-- ==== the last subtraction
 
--- ---- a test of pasts, and an accepted step
+only_one : (xs : List ℕ) (h : ℕ) → is_only h xs ≡ true → xs ≡ h ∷ []
+only_one [] h e = cc
+only_one (x ∷ []) h e = ap (λ y. y ∷ []) (eqb-true x h e)
+only_one (x ∷ y ∷ xs) h e = cc
 
--- the two steps are the same `Begin`, `Sub` or `Back`
-abbrev is_same : Step → Step → Bool
-is_same (Begin g) (Begin h) = g == h
-is_same (Sub g) (Sub h) = g == h
-is_same (Back g) (Back h) = g == h
-is_same x s = false
+-- the count word says that a dropping handle's subtraction is the last one exactly if its block is unmarked and the handle lives alone on it
+alone_sentence : (limit : ℕ) (w : State) (h : ℕ) → IsLawful limit w → IsIn w h Dropping
+    → (is_last (word_on w h) ≡ true) ↔ (IsFalse (word_on w h).flag × (handles_on w (block_on w h) lives ≡ h ∷ []))
+alone_sentence limit w h lawful i = (to_alone, from_alone)
+  where
+    exact : IsFalse (word_on w h).flag → (word_on w h).count ≡ held w.handles (block_on w h) lives
+    exact = (says limit w (block_on w h) lawful (lawful.made h i.born)).exact
 
-is_same-true : (x s : Step) → is_same x s ≡ true → x ≡ s
-is_same-true (Begin g) (Begin h) e = ap Begin (eqb-true g h e)
-is_same-true (Sub g) (Sub h) e = ap Sub (eqb-true g h e)
-is_same-true (Back g) (Back h) e = ap Back (eqb-true g h e)
-is_same-true x s e = absurd (cc)
+    to_alone : is_last (word_on w h) ≡ true → IsFalse (word_on w h).flag × (handles_on w (block_on w h) lives ≡ h ∷ [])
+    to_alone last =
+        let parts = and_parts (not (word_on w h).flag) ((word_on w h).count == 1) last in
+        let unmarked = not-true (word_on w h).flag parts.0 in (
+          unmarked,
+          only_one (handles_on w (block_on w h) lives) h
+              (is_only-held w.handles h lives i.born (ap lives i.state) ∙ ap (λ n. n == 1) (sym (exact unmarked)) ∙ parts.1),
+        )
 
--- A test of a past says that the step s was accepted after a prefix of which Q holds, if the empty past fails; if a past with s as its latest step
--- passes where Q held before it, and any other past where the past before it does; and if s is not accepted again, or Q then holds again.
-module _ (limit : ℕ) (s : Step) (Q : List Step → Type 0) (holds test : List Step → Bool)
-    (itself : is_same s s ≡ true)
-    (decides : (p : List Step) → (holds p ≡ true) ↔ Q p)
-    (nil : test [] ≡ false)
-    (more : (x : Step) (p : List Step) → test (x ∷ p) ≡ (if is_same x s then holds p else test p))
-    (again : (p : List Step) → is_accepted limit p s ≡ true → test p ≡ true → holds p ≡ true) where
-  -- a past that passes does so by its latest step, or passed before it
-  latest : (x : Step) (p : List Step) → test (x ∷ p) ≡ true → ((x ≡ s) × Q p) ⊎ (test p ≡ true)
-  latest x p e = go (is_same x s) refl (sym (more x p) ∙ e)
-    where
-      go : (b : Bool) → is_same x s ≡ b → (if b then holds p else test p) ≡ true → ((x ≡ s) × Q p) ⊎ (test p ≡ true)
-      go true same e = inl (is_same-true x s same, (decides p).0 e)
-      go false other e = inr e
+    from_alone : IsFalse (word_on w h).flag × (handles_on w (block_on w h) lives ≡ h ∷ []) → is_last (word_on w h) ≡ true
+    from_alone a = and_from (not (word_on w h).flag) ((word_on w h).count == 1) (ap not a.0) (ap (λ n. n == 1) (exact a.0 ∙ ap length a.1))
 
-  kept : (x : Step) (p : List Step) → is_accepted limit p x ≡ true → test p ≡ true → test (x ∷ p) ≡ true
-  kept x p accepted e = more x p ∙ go (is_same x s) refl
-    where
-      go : (b : Bool) → is_same x s ≡ b → (if b then holds p else test p) ≡ true
-      go true same = again p (subst (λ y. is_accepted limit p y ≡ true) (is_same-true x s same) accepted) e
-      go false other = e
+-- ==== what a history did to a handle, by its state
 
-  from_test : (p : List Step) → test p ≡ true → IsInPast p s Q
-  from_test [] e = absurd (cc)
-  from_test (x ∷ p) e = elim (latest x p e) [ inl w ↦ inl w | inr w ↦ inr (from_test p w) ]
+-- the facts are: the handle's last of `IntoRaw` and `FromRaw` is `IntoRaw`; it began; it began where its block was unmarked; it subtracted;
+-- it subtracted where it lived alone on its unmarked block; it freed its block
+abbrev Did : (raw begun unmarked subtracted alone given : Type 0) → Option HandleState → Type 0
+Did raw begun unmarked subtracted alone given None = (¬ raw) × (¬ begun) × (¬ subtracted) × (¬ given)
+Did raw begun unmarked subtracted alone given (Some Free) = (¬ raw) × (¬ begun) × (¬ subtracted) × (¬ given)
+Did raw begun unmarked subtracted alone given (Some Raw) = raw × (¬ begun) × (¬ subtracted) × (¬ given)
+Did raw begun unmarked subtracted alone given (Some Dropping) = (¬ raw) × begun × unmarked × (¬ subtracted) × (¬ given)
+Did raw begun unmarked subtracted alone given (Some Owing) = (¬ raw) × begun × subtracted × alone × (¬ given)
+Did raw begun unmarked subtracted alone given (Some Gone) = (¬ raw) × begun × (¬ (unmarked × (¬ subtracted))) × (¬ (alone × (¬ given)))
 
-  to_test : (p : List Step) → IsPast limit p → IsInPast p s Q → test p ≡ true
-  to_test [] past w = absurd w
-  to_test (x ∷ p) past (inl w) =
-      ap (λ y. test (y ∷ p)) w.0 ∙ more s p ∙ ap (λ b. if b then holds p else test p) itself ∙ (decides p).1 w.1
-  to_test (x ∷ p) past (inr w) = kept x p past.0 (to_test p past.1 w)
+module _ (limit : ℕ) (h : ℕ) where
+  abbrev IsAlone : List Step → Type 0
+  IsAlone prefix = LivesAlone limit prefix h
 
-  test_sentence : (history : List Step) → (test (past_of limit history) ≡ true) ↔ AcceptedWhere limit history s (λ prefix. Q (past_of limit prefix))
-  test_sentence history = (
-    (λ e. in_history limit s Q history (from_test (past_of limit history) e)),
-    (λ w. to_test (past_of limit history) (IsPast-past_of limit history) (in_past limit s Q history w)),
-  )
+  abbrev IsOnUnmarked : List Step → Type 0
+  IsOnUnmarked prefix = IsFalse (marked_after limit prefix (block_after limit prefix h))
 
--- ---- begun, subtracted, given
+  abbrev SubtractedAlone : List Step → Type 0
+  SubtractedAlone history = AcceptedWhere limit history (Sub h) IsAlone
 
-module _ (limit : ℕ) (s : Step) (test : List Step → Bool) (itself : is_same s s ≡ true) (nil : test [] ≡ false)
-    (more : (x : Step) (p : List Step) → test (x ∷ p) ≡ (if is_same x s then true else test p)) where
-  done_latest : (x : Step) (p : List Step) → test (x ∷ p) ≡ true → ((x ≡ s) × Unit {0}) ⊎ (test p ≡ true)
-  done_latest = latest limit s (λ _. Unit {0}) (λ _. true) test itself (λ p. ((λ e. tt), (λ w. refl))) nil more (λ p accepted e. refl)
+  abbrev DidAfter : List Step → Option HandleState → Type 0
+  DidAfter history = Did (LastIsIntoRaw limit history h) (HasAccepted limit history (Begin h)) (BeganUnmarked limit history h)
+      (HasAccepted limit history (Sub h)) (SubtractedAlone history) (HasAccepted limit history (Back h))
 
-  done_kept : (x : Step) (p : List Step) → is_accepted limit p x ≡ true → test p ≡ true → test (x ∷ p) ≡ true
-  done_kept = kept limit s (λ _. Unit {0}) (λ _. true) test itself (λ p. ((λ e. tt), (λ w. refl))) nil more (λ p accepted e. refl)
+  any_where : (history : List Step) (s : Step) (P : List Step → Type 0) → AcceptedWhere limit history s P → HasAccepted limit history s
+  any_where history s P w = record { prefix = w.prefix; later = w.later; stands = w.stands; accepted = w.accepted; there = tt }
 
-  done_sentence : (history : List Step) → (test (past_of limit history) ≡ true) ↔ HasAccepted limit history s
-  done_sentence = test_sentence limit s (λ _. Unit {0}) (λ _. true) test itself (λ p. ((λ e. tt), (λ w. refl))) nil more (λ p accepted e. refl)
+  module _ (history : List Step) (x : Step) where
+    -- ---- `IntoRaw` and `FromRaw`
 
-has_begun-more : (h : ℕ) (x : Step) (p : List Step) → has_begun (x ∷ p) h ≡ (if is_same x (Begin h) then true else has_begun p h)
-has_begun-more h (Begin g) p = refl
-has_begun-more h x p = refl
+    -- the last one stays the last if the new step is neither of the two or is refused
+    raw_more : ((x ≡ IntoRaw h) ⊎ (x ≡ FromRaw h) → IsFalse (accepted_after limit history x)) → LastIsIntoRaw limit history h
+        → LastIsIntoRaw limit (history ++ x ∷ []) h
+    raw_more refused w = record {
+      prefix = w.prefix;
+      later = w.later ++ x ∷ [];
+      stands = ap (λ t. t ++ x ∷ []) w.stands ∙ append_assoc w.prefix (IntoRaw h ∷ w.later) (x ∷ []);
+      accepted = w.accepted;
+      last = last;
+    }
+      where
+        last : (more rest : List Step) (s : Step) → w.later ++ x ∷ [] ≡ more ++ s ∷ rest → (s ≡ IntoRaw h) ⊎ (s ≡ FromRaw h)
+            → IsFalse (accepted_after limit (w.prefix ++ IntoRaw h ∷ more) s)
+        last more rest s e which = elim (last_or_before w.later x more s rest e) [
+          | inl d ↦ (let same : history ≡ w.prefix ++ IntoRaw h ∷ more = w.stands ∙ ap (λ t. w.prefix ++ IntoRaw h ∷ t) d.1 in
+              subst (λ t. IsFalse (accepted_after limit t s)) same
+              (subst (λ t. IsFalse (accepted_after limit history t)) d.0
+              (refused (subst (λ t. (t ≡ IntoRaw h) ⊎ (t ≡ FromRaw h)) (sym d.0) which))))
+          | inr d ↦ w.last more d.0 s d.1 which
+        ]
 
-begun_sentence : (limit : ℕ) (h : ℕ) (history : List Step) → (has_begun (past_of limit history) h ≡ true) ↔ HasAccepted limit history (Begin h)
-begun_sentence limit h = done_sentence limit (Begin h) (λ p. has_begun p h) (eq-eqb h h refl) refl (has_begun-more h)
+    -- the last one was the last before, or is the new step
+    raw_cases : LastIsIntoRaw limit (history ++ x ∷ []) h → ((x ≡ IntoRaw h) × IsTrue (accepted_after limit history x))
+        ⊎ (LastIsIntoRaw limit history h × (x ≡ FromRaw h → IsFalse (accepted_after limit history x)))
+    raw_cases w = elim (last_or_before history x w.prefix (IntoRaw h) w.later w.stands) [
+      | inl e ↦ inl (
+        e.0,
+        subst (λ (t : Step). IsTrue (accepted_after limit history t)) (sym e.0)
+            (subst (λ q. IsTrue (accepted_after limit q (IntoRaw h))) (sym e.1) w.accepted),
+      )
+      | inr e ↦ inr (
+        record {
+          prefix = w.prefix;
+          later = e.0;
+          stands = e.1;
+          accepted = w.accepted;
+          last = λ more r s d which. w.last more (r ++ x ∷ []) s (e.2 ∙ ap (λ t. t ++ x ∷ []) d ∙ append_assoc more (s ∷ r) (x ∷ [])) which;
+        },
+        λ from. subst (λ q. IsFalse (accepted_after limit q x)) (sym e.1) (w.last e.0 [] x e.2 (inr from)),
+      )
+    ]
 
-has_subtracted-more : (h : ℕ) (x : Step) (p : List Step) → has_subtracted (x ∷ p) h ≡ (if is_same x (Sub h) then true else has_subtracted p h)
-has_subtracted-more h (Sub g) p = refl
-has_subtracted-more h x p = refl
+    raw_last : x ≡ IntoRaw h → IsTrue (accepted_after limit history x) → LastIsIntoRaw limit (history ++ x ∷ []) h
+    raw_last is accepted = record {
+      prefix = history;
+      later = [];
+      stands = ap (λ t. history ++ t ∷ []) is;
+      accepted = subst (λ t. IsTrue (accepted_after limit history t)) is accepted;
+      last = λ more rest s d which. absurd (none_in_nil more s rest d);
+    }
 
-subtracted_sentence : (limit : ℕ) (h : ℕ) (history : List Step) → (has_subtracted (past_of limit history) h ≡ true) ↔ HasAccepted limit history (Sub h)
-subtracted_sentence limit h = done_sentence limit (Sub h) (λ p. has_subtracted p h) (eq-eqb h h refl) refl (has_subtracted-more h)
+    -- ---- a step that does nothing to the handle: it is refused, or acts otherwise
 
-has_given-more : (h : ℕ) (x : Step) (p : List Step) → has_given (x ∷ p) h ≡ (if is_same x (Back h) then true else has_given p h)
-has_given-more h (Back g) p = refl
-has_given-more h x p = refl
+    record IsQuiet : Type 0 where
+      begin : x ≡ Begin h → IsTrue (accepted_after limit history x) → ⊥
+      sub : x ≡ Sub h → IsTrue (accepted_after limit history x) → ⊥
+      back : x ≡ Back h → IsTrue (accepted_after limit history x) → ⊥
+      into : x ≡ IntoRaw h → IsTrue (accepted_after limit history x) → ⊥
+      from : x ≡ FromRaw h → IsTrue (accepted_after limit history x) → ⊥
 
-given_sentence : (limit : ℕ) (h : ℕ) (history : List Step) → (has_given (past_of limit history) h ≡ true) ↔ HasAccepted limit history (Back h)
-given_sentence limit h = done_sentence limit (Back h) (λ p. has_given p h) (eq-eqb h h refl) refl (has_given-more h)
+    false_of : (t : Bool) → (t ≡ true → ⊥) → t ≡ false
+    false_of true n = absurd (n refl)
+    false_of false n = refl
 
--- ---- a handle begins once, and subtracts once
+    quiet_raw : IsQuiet → (x ≡ IntoRaw h) ⊎ (x ≡ FromRaw h) → IsFalse (accepted_after limit history x)
+    quiet_raw q which = false_of (accepted_after limit history x) (λ yes. elim which [ inl e ↦ q.into e yes | inr e ↦ q.from e yes ])
 
-begins_once : (limit : ℕ) (p : List Step) (h : ℕ) → is_accepted limit p (Begin h) ≡ true → has_begun p h ≡ false
-begins_once limit p h e =
-    let born = (handle_state_sentence limit p h Free).0 (needed_state Free (handle_state limit p h) e) in
-    let free = (state_of_test limit p h Free).0 born.1 in
-    not-true (has_begun p h) free.1
+    raw_before : IsQuiet → LastIsIntoRaw limit (history ++ x ∷ []) h → LastIsIntoRaw limit history h
+    raw_before q w = elim (raw_cases w) [ inl e ↦ absurd (q.into e.0 e.1) | inr e ↦ e.0 ]
 
-subtracts_once : (limit : ℕ) (p : List Step) (h : ℕ) → is_accepted limit p (Sub h) ≡ true → has_subtracted p h ≡ false
-subtracts_once limit p h e =
-    let born = (handle_state_sentence limit p h Dropping).0 (needed_state Dropping (handle_state limit p h) e) in
-    let dropping = (state_of_test limit p h Dropping).0 born.1 in
-    let parts = and_parts (began_unmarked limit p h) (not (has_subtracted p h)) dropping.2 in
-    not-true (has_subtracted p h) parts.1
+    begin_before : IsQuiet → (P : List Step → Type 0) → AcceptedWhere limit (history ++ x ∷ []) (Begin h) P → AcceptedWhere limit history (Begin h) P
+    begin_before q P = accepted_unless limit history (Begin h) x P q.begin
 
--- ---- begun where the block was unmarked
+    sub_before : IsQuiet → (P : List Step → Type 0) → AcceptedWhere limit (history ++ x ∷ []) (Sub h) P → AcceptedWhere limit history (Sub h) P
+    sub_before q P = accepted_unless limit history (Sub h) x P q.sub
 
-abbrev IsOnUnmarked : ℕ → ℕ → List Step → Type 0
-IsOnUnmarked limit h q = IsFalse (is_marked limit q (block_of q h))
+    back_before : IsQuiet → HasAccepted limit (history ++ x ∷ []) (Back h) → HasAccepted limit history (Back h)
+    back_before q = accepted_unless limit history (Back h) x (λ _. Unit {0}) q.back
 
--- a handle of which a test says that a step was done where a fact held has done the step
-if_then_true : (b holds before done : Bool) → (if b then holds else before) ≡ true → (before ≡ true → done ≡ true) → (if b then true else done) ≡ true
-if_then_true true holds before done e earlier = refl
-if_then_true false holds before done e earlier = earlier e
-
-began_unmarked-begun : (limit : ℕ) (h : ℕ) (p : List Step) → began_unmarked limit p h ≡ true → has_begun p h ≡ true
-began_unmarked-begun limit h [] e = e
-began_unmarked-begun limit h (Begin g ∷ p) e = if_then_true (g == h) _ _ (has_begun p h) e (began_unmarked-begun limit h p)
-began_unmarked-begun limit h (s ∷ p) e = began_unmarked-begun limit h p e
-
-began_unmarked-more : (limit : ℕ) (h : ℕ) (x : Step) (p : List Step)
-    → began_unmarked limit (x ∷ p) h ≡ (if is_same x (Begin h) then not (is_marked limit p (block_of p h)) else began_unmarked limit p h)
-began_unmarked-more limit h (Begin g) p = refl
-began_unmarked-more limit h x p = refl
-
-began_unmarked_sentence : (limit : ℕ) (h : ℕ) (history : List Step) → (began_unmarked limit (past_of limit history) h ≡ true) ↔ BeganUnmarked limit history h
-began_unmarked_sentence limit h = test_sentence limit (Begin h) (IsOnUnmarked limit h) (λ p. not (is_marked limit p (block_of p h)))
-    (λ p. began_unmarked limit p h) (eq-eqb h h refl) (λ p. (not-true (is_marked limit p (block_of p h)), not_from_false (is_marked limit p (block_of p h))))
-    refl (began_unmarked-more limit h)
-    (λ p accepted e. let begun = began_unmarked-begun limit h p e in let not_begun = begins_once limit p h accepted in cc)
-
--- ---- subtracted as the last one
-
--- the block of h is unmarked, and h is the only handle living on it
-abbrev IsAlone : ℕ → ℕ → List Step → Type 0
-IsAlone limit h q = IsFalse (is_marked limit q (block_of q h)) × (living limit q (block_of q h) ≡ h ∷ [])
-
--- what a subtraction requires of the past before it
-abbrev is_alone : ℕ → ℕ → List Step → Bool
-is_alone limit h p = not (is_marked limit p (block_of p h)) && is_only h (living limit p (block_of p h))
-
-only_one : (h : ℕ) (xs : List ℕ) → is_only h xs ≡ true → xs ≡ h ∷ []
-only_one h [] e = cc
-only_one h (x ∷ []) e = ap (λ y. y ∷ []) (eqb-true x h e)
-only_one h (x ∷ y ∷ xs) e = cc
-
-pub alone_sentence : (limit : ℕ) (h : ℕ) (p : List Step) → (is_alone limit h p ≡ true) ↔ IsAlone limit h p
-alone_sentence limit h p =
-    let marked = is_marked limit p (block_of p h) in
-    let others = living limit p (block_of p h) in (
-      (λ e. let parts = and_parts (not marked) (is_only h others) e in (not-true marked parts.0, only_one h others parts.1)),
-      (λ w. and_from (not marked) (is_only h others) (not_from_false marked w.0) (rw (w.1) (eq-eqb h h refl))),
+    quiet : IsQuiet → (o : Option HandleState) → DidAfter history o → DidAfter (history ++ x ∷ []) o
+    quiet q None d = (
+      (λ w. d.0 (raw_before q w)),
+      (λ w. d.1 (begin_before q _ w)),
+      (λ w. d.2 (sub_before q _ w)),
+      (λ w. d.3 (back_before q w)),
+    )
+    quiet q (Some Free) d = (
+      (λ w. d.0 (raw_before q w)),
+      (λ w. d.1 (begin_before q _ w)),
+      (λ w. d.2 (sub_before q _ w)),
+      (λ w. d.3 (back_before q w)),
+    )
+    quiet q (Some Raw) d = (
+      raw_more (quiet_raw q) d.0,
+      (λ w. d.1 (begin_before q _ w)),
+      (λ w. d.2 (sub_before q _ w)),
+      (λ w. d.3 (back_before q w)),
+    )
+    quiet q (Some Dropping) d = (
+      (λ w. d.0 (raw_before q w)),
+      accepted_earlier limit history (Begin h) _ x d.1,
+      accepted_earlier limit history (Begin h) _ x d.2,
+      (λ w. d.3 (sub_before q _ w)),
+      (λ w. d.4 (back_before q w)),
+    )
+    quiet q (Some Owing) d = (
+      (λ w. d.0 (raw_before q w)),
+      accepted_earlier limit history (Begin h) _ x d.1,
+      accepted_earlier limit history (Sub h) _ x d.2,
+      accepted_earlier limit history (Sub h) _ x d.3,
+      (λ w. d.4 (back_before q w)),
+    )
+    quiet q (Some Gone) d = (
+      (λ w. d.0 (raw_before q w)),
+      accepted_earlier limit history (Begin h) _ x d.1,
+      (λ w. d.2 (begin_before q _ w.0, λ s. w.1 (accepted_earlier limit history (Sub h) _ x s))),
+      (λ w. d.3 (sub_before q _ w.0, λ g. w.1 (accepted_earlier limit history (Back h) _ x g))),
     )
 
-was_last-subtracted : (limit : ℕ) (h : ℕ) (p : List Step) → was_last limit p h ≡ true → has_subtracted p h ≡ true
-was_last-subtracted limit h [] e = e
-was_last-subtracted limit h (Sub g ∷ p) e = if_then_true (g == h) _ _ (has_subtracted p h) e (was_last-subtracted limit h p)
-was_last-subtracted limit h (s ∷ p) e = was_last-subtracted limit h p e
+  -- ---- the steps of the handle
 
-was_last-more : (limit : ℕ) (h : ℕ) (x : Step) (p : List Step) → was_last limit (x ∷ p) h ≡ (if is_same x (Sub h) then is_alone limit h p else was_last limit p h)
-was_last-more limit h (Sub g) p = refl
-was_last-more limit h x p = refl
+  module _ (history : List Step) where
+    did_begin : IsTrue (accepted_after limit history (Begin h)) → DidAfter history (Some Free) → (f : Bool)
+        → marked_after limit history (block_after limit history h) ≡ f
+        → DidAfter (history ++ Begin h ∷ []) (Some (if f then Gone else Dropping))
+    did_begin a d true marked = (
+      (λ w. elim (raw_cases history (Begin h) w) [ inl e ↦ (let no = e.0 in cc) | inr e ↦ d.0 e.0 ]),
+      accepted_last limit history (Begin h) _ a tt,
+      (λ w. elim (accepted_cases limit history (Begin h) IsOnUnmarked (Begin h) w.0) [
+        | inl e ↦ true≢false (sym marked ∙ e.2)
+        | inr e ↦ d.1 (any_where history (Begin h) IsOnUnmarked e)
+      ]),
+      (λ w. d.2 (any_where history (Sub h) IsAlone (accepted_unless limit history (Sub h) (Begin h) IsAlone (λ e yes. cc) w.0))),
+    )
+    did_begin a d false unmarked = (
+      (λ w. elim (raw_cases history (Begin h) w) [ inl e ↦ (let no = e.0 in cc) | inr e ↦ d.0 e.0 ]),
+      accepted_last limit history (Begin h) _ a tt,
+      accepted_last limit history (Begin h) IsOnUnmarked a unmarked,
+      (λ w. d.2 (accepted_unless limit history (Sub h) (Begin h) _ (λ e yes. cc) w)),
+      (λ w. d.3 (accepted_unless limit history (Back h) (Begin h) _ (λ e yes. cc) w)),
+    )
 
-was_last_sentence : (limit : ℕ) (h : ℕ) (history : List Step)
-    → (was_last limit (past_of limit history) h ≡ true) ↔ AcceptedWhere limit history (Sub h) (λ prefix. IsAlone limit h (past_of limit prefix))
-was_last_sentence limit h = test_sentence limit (Sub h) (IsAlone limit h) (is_alone limit h) (λ p. was_last limit p h)
-    (eq-eqb h h refl) (alone_sentence limit h) refl (was_last-more limit h)
-    (λ p accepted e. let subtracted = was_last-subtracted limit h p e in let not_subtracted = subtracts_once limit p h accepted in cc)
+    did_sub : IsTrue (accepted_after limit history (Sub h)) → DidAfter history (Some Dropping) → (last : Bool)
+        → (last ≡ true → IsAlone history) → (IsAlone history → last ≡ true)
+        → DidAfter (history ++ Sub h ∷ []) (Some (if last then Owing else Gone))
+    did_sub a d true alone is = (
+      (λ w. elim (raw_cases history (Sub h) w) [ inl e ↦ (let no = e.0 in cc) | inr e ↦ d.0 e.0 ]),
+      accepted_earlier limit history (Begin h) _ (Sub h) d.1,
+      accepted_last limit history (Sub h) _ a tt,
+      accepted_last limit history (Sub h) IsAlone a (alone refl),
+      (λ w. d.4 (accepted_unless limit history (Back h) (Sub h) _ (λ e yes. cc) w)),
+    )
+    did_sub a d false alone is = (
+      (λ w. elim (raw_cases history (Sub h) w) [ inl e ↦ (let no = e.0 in cc) | inr e ↦ d.0 e.0 ]),
+      accepted_earlier limit history (Begin h) _ (Sub h) d.1,
+      (λ w. w.1 (accepted_last limit history (Sub h) _ a tt)),
+      (λ w. elim (accepted_cases limit history (Sub h) IsAlone (Sub h) w.0) [
+        | inl e ↦ true≢false (sym (is e.2))
+        | inr e ↦ d.3 (any_where history (Sub h) IsAlone e)
+      ]),
+    )
 
--- ---- tests and sentences together
+    did_back : IsTrue (accepted_after limit history (Back h)) → DidAfter history (Some Owing) → DidAfter (history ++ Back h ∷ []) (Some Gone)
+    did_back a d = (
+      (λ w. elim (raw_cases history (Back h) w) [ inl e ↦ (let no = e.0 in cc) | inr e ↦ d.0 e.0 ]),
+      accepted_earlier limit history (Begin h) _ (Back h) d.1,
+      (λ w. w.1 (accepted_earlier limit history (Sub h) _ (Back h) d.2)),
+      (λ w. w.1 (accepted_last limit history (Back h) _ a tt)),
+    )
 
-pub not_sentence : (b : Bool) (P : Type 0) → (b ≡ true) ↔ P → (not b ≡ true) ↔ (¬ P)
-not_sentence b P e = (
-  (λ n p. let yes : b ≡ true = e.1 p in let no : b ≡ false = not-true b n in cc),
-  (λ n. not_from_false b (false_from_ne_true b (λ yes. n (e.0 yes)))),
-)
+    did_into_raw : IsTrue (accepted_after limit history (IntoRaw h)) → DidAfter history (Some Free) → DidAfter (history ++ IntoRaw h ∷ []) (Some Raw)
+    did_into_raw a d = (
+      raw_last history (IntoRaw h) refl a,
+      (λ w. d.1 (accepted_unless limit history (Begin h) (IntoRaw h) _ (λ e yes. cc) w)),
+      (λ w. d.2 (accepted_unless limit history (Sub h) (IntoRaw h) _ (λ e yes. cc) w)),
+      (λ w. d.3 (accepted_unless limit history (Back h) (IntoRaw h) _ (λ e yes. cc) w)),
+    )
 
-pub and_not_sentence : (a b : Bool) (P Q : Type 0) → (a ≡ true) ↔ P → (b ≡ true) ↔ Q → ((a && not b) ≡ true) ↔ (P × (¬ Q))
-and_not_sentence a b P Q d e = (
-  (λ w. let parts = and_parts a (not b) w in (d.0 parts.0, (not_sentence b Q e).0 parts.1)),
-  (λ w. and_from a (not b) (d.1 w.0) ((not_sentence b Q e).1 w.1)),
-)
+    did_from_raw : IsTrue (accepted_after limit history (FromRaw h)) → DidAfter history (Some Raw) → DidAfter (history ++ FromRaw h ∷ []) (Some Free)
+    did_from_raw a d = (
+      (λ w. elim (raw_cases history (FromRaw h) w) [ inl e ↦ (let no = e.0 in cc) | inr e ↦ true≢false (sym a ∙ e.1 refl) ]),
+      (λ w. d.1 (accepted_unless limit history (Begin h) (FromRaw h) _ (λ e yes. cc) w)),
+      (λ w. d.2 (accepted_unless limit history (Sub h) (FromRaw h) _ (λ e yes. cc) w)),
+      (λ w. d.3 (accepted_unless limit history (Back h) (FromRaw h) _ (λ e yes. cc) w)),
+    )
 
-pub owes_test : (limit : ℕ) (history : List Step) (h : ℕ) → (tests_owing limit (past_of limit history) h ≡ true) ↔ OwesSentence limit history h
-owes_test limit history h = and_not_sentence (was_last limit (past_of limit history) h) (has_given (past_of limit history) h)
-    (AcceptedWhere limit history (Sub h) (λ prefix. IsAlone limit h (past_of limit prefix))) (HasAccepted limit history (Back h))
-    (was_last_sentence limit h history) (given_sentence limit h history)
+    -- a step of handle g does what it does if g is h, and else nothing to h
+    by_handle : (g : ℕ) (x : Step) (new : HandleState) → (g ≢ h → IsQuiet history x)
+        → DidAfter history (state_in (after limit history) h)
+        → (g ≡ h → DidAfter (history ++ x ∷ []) (Some new))
+        → DidAfter (history ++ x ∷ []) (if_same g h new (state_in (after limit history) h))
+    by_handle g x new others d does = by_place (cases_eq g h)
+      where
+        by_place : (g ≡ h) ⊎ (g ≢ h) → DidAfter (history ++ x ∷ []) (if_same g h new (state_in (after limit history) h))
+        by_place (inl same) = subst (λ t. DidAfter (history ++ x ∷ []) (if t then Some new else state_in (after limit history) h))
+            (sym (eq-eqb g h same)) (does same)
+        by_place (inr apart) = subst (λ t. DidAfter (history ++ x ∷ []) (if t then Some new else state_in (after limit history) h))
+            (sym (ne_eqb g h apart)) (quiet history x (others apart) (state_in (after limit history) h) d)
 
--- ==== the state of a handle is the one that the sentence about the prefixes of the history says
+    -- a handle is born with nothing done to it
+    by_birth : (x : Step) → IsQuiet history x → DidAfter history (state_in (after limit history) h)
+        → DidAfter (history ++ x ∷ []) (if_same (length (after limit history).handles) h Free (state_in (after limit history) h))
+    by_birth x q d = by_handle (length (after limit history).handles) x Free (λ _. q) d (λ same.
+        quiet history x q None (subst (DidAfter history) (unborn (after limit history) h (λ born. omega arith)) d))
+      where
+        unborn : (w : State) (k : ℕ) → (k < length w.handles → ⊥) → state_in w k ≡ None
+        unborn w k none = by_entry (slice_get w.handles k) refl
+          where
+            by_entry : (o : Option HandleSummary) → slice_get w.handles k ≡ o → option_map (λ (it : HandleSummary). it.state) o ≡ None
+            by_entry None e = refl
+            by_entry (Some it) e = absurd (none (slice_get_within w.handles k it e))
 
--- ---- from tests to sentences
+    found : (g : ℕ) (s : HandleState) → refusal_unless s (state_in (after limit history) g) ≡ None → g ≡ h
+        → DidAfter history (state_in (after limit history) h) → DidAfter history (Some s)
+    found g s e same d = subst (DidAfter history)
+        (subst (λ k. state_in (after limit history) k ≡ Some s) same (needed_state s (state_in (after limit history) g) e)) d
 
-FirstThatHolds-along : (R F D O R' F' D' O' : Type 0) → R ↔ R' → F ↔ F' → D ↔ D' → O ↔ O' → (s : HandleState) → FirstThatHolds R F D O s → FirstThatHolds R' F' D' O' s
-FirstThatHolds-along R F D O R' F' D' O' r f d o Raw w = r.0 w
-FirstThatHolds-along R F D O R' F' D' O' r f d o Free w = ((λ x. w.0 (r.1 x)), f.0 w.1)
-FirstThatHolds-along R F D O R' F' D' O' r f d o Dropping w = ((λ x. w.0 (r.1 x)), (λ x. w.1 (f.1 x)), d.0 w.2)
-FirstThatHolds-along R F D O R' F' D' O' r f d o Owing w = ((λ x. w.0 (r.1 x)), (λ x. w.1 (f.1 x)), (λ x. w.2 (d.1 x)), o.0 w.3)
-FirstThatHolds-along R F D O R' F' D' O' r f d o Gone w = ((λ x. w.0 (r.1 x)), (λ x. w.1 (f.1 x)), (λ x. w.2 (d.1 x)), (λ x. w.3 (o.1 x)))
+    does : (x : Step) → IsAccepted limit history x → DidAfter history (state_in (after limit history) h)
+        → DidAfter (history ++ x ∷ []) (moves_to (after limit history) x h (state_in (after limit history) h))
+    does Make a d = by_birth Make (record { begin = λ e yes. cc; sub = λ e yes. cc; back = λ e yes. cc; into = λ e yes. cc; from = λ e yes. cc }) d
+    does (Look g) a d = quiet history (Look g) (record { begin = λ e yes. cc; sub = λ e yes. cc; back = λ e yes. cc; into = λ e yes. cc; from = λ e yes. cc })
+        (state_in (after limit history) h) d
+    does (Clone g) a d = by_birth (Clone g) (record { begin = λ e yes. cc; sub = λ e yes. cc; back = λ e yes. cc; into = λ e yes. cc; from = λ e yes. cc }) d
+    does (Begin g) a d = by_handle g (Begin g) _
+        (λ apart. record { begin = λ e yes. apart (cc); sub = λ e yes. cc; back = λ e yes. cc; into = λ e yes. cc; from = λ e yes. cc }) d
+        (λ same. subst (λ k. DidAfter (history ++ Begin k ∷ []) (Some (if (word_on (after limit history) k).flag then Gone else Dropping))) (sym same)
+        (did_begin (subst (λ k. IsTrue (accepted_after limit history (Begin k))) same a.accepted) (found g Free a.none same d)
+        (word_on (after limit history) h).flag refl))
+    does (Sub g) a d = by_handle g (Sub g) _
+        (λ apart. record { begin = λ e yes. cc; sub = λ e yes. apart (cc); back = λ e yes. cc; into = λ e yes. cc; from = λ e yes. cc }) d
+        (λ same. subst (λ k. DidAfter (history ++ Sub k ∷ []) (Some (if is_last (word_on (after limit history) k) then Owing else Gone))) (sym same)
+        (let i = subst (λ k. IsIn (after limit history) k Dropping) same (step_finds (after limit history) g Dropping a.none) in
+        let alone = alone_sentence limit (after limit history) h (lawful_after limit history) i in
+        did_sub (subst (λ k. IsTrue (accepted_after limit history (Sub k))) same a.accepted) (found g Dropping a.none same d)
+        (is_last (word_on (after limit history) h)) alone.0 alone.1))
+    does (Back g) a d = by_handle g (Back g) Gone
+        (λ apart. record { begin = λ e yes. cc; sub = λ e yes. cc; back = λ e yes. apart (cc); into = λ e yes. cc; from = λ e yes. cc }) d
+        (λ same. subst (λ k. DidAfter (history ++ Back k ∷ []) (Some Gone)) (sym same)
+        (did_back (subst (λ k. IsTrue (accepted_after limit history (Back k))) same a.accepted) (found g Owing a.none same d)))
+    does (Leak g) a d = quiet history (Leak g) (record { begin = λ e yes. cc; sub = λ e yes. cc; back = λ e yes. cc; into = λ e yes. cc; from = λ e yes. cc })
+        (state_in (after limit history) h) d
+    does (IntoRaw g) a d = by_handle g (IntoRaw g) Raw
+        (λ apart. record { begin = λ e yes. cc; sub = λ e yes. cc; back = λ e yes. cc; into = λ e yes. apart (cc); from = λ e yes. cc }) d
+        (λ same. subst (λ k. DidAfter (history ++ IntoRaw k ∷ []) (Some Raw)) (sym same)
+        (did_into_raw (subst (λ k. IsTrue (accepted_after limit history (IntoRaw k))) same a.accepted) (found g Free a.none same d)))
+    does (FromRaw g) a d = by_handle g (FromRaw g) Free
+        (λ apart. record { begin = λ e yes. cc; sub = λ e yes. cc; back = λ e yes. cc; into = λ e yes. cc; from = λ e yes. apart (cc) }) d
+        (λ same. subst (λ k. DidAfter (history ++ FromRaw k ∷ []) (Some Free)) (sym same)
+        (did_from_raw (subst (λ k. IsTrue (accepted_after limit history (FromRaw k))) same a.accepted) (found g Raw a.none same d)))
 
--- ---- the sentence
+  -- what a history did to a handle is what its state says
+  did : (history : List Step) → DidAfter history (state_after limit history h)
+  did = by_history limit (λ history. DidAfter history (state_after limit history h)) (
+    (λ w. none_in_nil w.prefix (IntoRaw h) w.later w.stands),
+    (λ w. accepted_nowhere limit (Begin h) _ w),
+    (λ w. accepted_nowhere limit (Sub h) _ w),
+    (λ w. accepted_nowhere limit (Back h) _ w),
+  )
+      (λ history x r d. subst (DidAfter (history ++ x ∷ [])) (ap (λ (w : State). state_in w h) (sym r.state))
+      (quiet history x (refused history x r.refused) (state_after limit history h) d))
+      (λ history x a d. subst (DidAfter (history ++ x ∷ []))
+      (sym (ap (λ (w : State). state_in w h) a.state ∙ state_moves limit (after limit history) x a.none h)) (does history x a d))
+    where
+      refused : (history : List Step) (x : Step) → IsFalse (accepted_after limit history x) → IsQuiet history x
+      refused history x unaccepted = record {
+        begin = λ e yes. true≢false (sym yes ∙ unaccepted);
+        sub = λ e yes. true≢false (sym yes ∙ unaccepted);
+        back = λ e yes. true≢false (sym yes ∙ unaccepted);
+        into = λ e yes. true≢false (sym yes ∙ unaccepted);
+        from = λ e yes. true≢false (sym yes ∙ unaccepted);
+      }
+
+-- ==== the sentences of the state
+
+-- at most one of the five holds
+one_holds : (R F D O : Type 0) (s t : HandleState) → FirstThatHolds R F D O s → FirstThatHolds R F D O t → s ≡ t
+one_holds R F D O Free Free a b = refl
+one_holds R F D O Free Raw a b = absurd (a.0 b)
+one_holds R F D O Free Dropping a b = absurd (b.1 a.1)
+one_holds R F D O Free Owing a b = absurd (b.1 a.1)
+one_holds R F D O Free Gone a b = absurd (b.1 a.1)
+one_holds R F D O Raw Raw a b = refl
+one_holds R F D O Raw Free a b = absurd (b.0 a)
+one_holds R F D O Raw Dropping a b = absurd (b.0 a)
+one_holds R F D O Raw Owing a b = absurd (b.0 a)
+one_holds R F D O Raw Gone a b = absurd (b.0 a)
+one_holds R F D O Dropping Dropping a b = refl
+one_holds R F D O Dropping Free a b = absurd (a.1 b.1)
+one_holds R F D O Dropping Raw a b = absurd (a.0 b)
+one_holds R F D O Dropping Owing a b = absurd (b.2 a.2)
+one_holds R F D O Dropping Gone a b = absurd (b.2 a.2)
+one_holds R F D O Owing Owing a b = refl
+one_holds R F D O Owing Free a b = absurd (a.1 b.1)
+one_holds R F D O Owing Raw a b = absurd (a.0 b)
+one_holds R F D O Owing Dropping a b = absurd (a.2 b.2)
+one_holds R F D O Owing Gone a b = absurd (b.3 a.3)
+one_holds R F D O Gone Gone a b = refl
+one_holds R F D O Gone Free a b = absurd (a.1 b.1)
+one_holds R F D O Gone Raw a b = absurd (a.0 b)
+one_holds R F D O Gone Dropping a b = absurd (a.2 b.2)
+one_holds R F D O Gone Owing a b = absurd (a.3 b.3)
 
 module _ (limit : ℕ) (history : List Step) (h : ℕ) where
-  abbrev IsRaw : Type 0
-  IsRaw = is_raw (past_of limit history) h ≡ true
+  sentence_of : (s : HandleState) → DidAfter limit h history (Some s) → StateSentence limit history h s
+  sentence_of Free d = (d.0, d.1)
+  sentence_of Raw d = d.0
+  sentence_of Dropping d = (d.0, (λ n. n d.1), (d.2, d.3))
+  sentence_of Owing d = (d.0, (λ n. n d.1), (λ w. w.1 d.2), (d.3, d.4))
+  sentence_of Gone d = (d.0, (λ n. n d.1), d.2, d.3)
 
-  abbrev TestsFree : Type 0
-  TestsFree = tests_free (past_of limit history) h ≡ true
-
-  abbrev TestsDropping : Type 0
-  TestsDropping = tests_dropping limit (past_of limit history) h ≡ true
-
-  abbrev TestsOwing : Type 0
-  TestsOwing = tests_owing limit (past_of limit history) h ≡ true
-
-  abbrev NeverBegan : Type 0
-  NeverBegan = ¬ HasAccepted limit history (Begin h)
-
-  abbrev BeganAndStays : Type 0
-  BeganAndStays = BeganUnmarked limit history h × (¬ HasAccepted limit history (Sub h))
-
-  free_sentence : TestsFree ↔ NeverBegan
-  free_sentence = not_sentence (has_begun (past_of limit history) h) (HasAccepted limit history (Begin h)) (begun_sentence limit h history)
-
-  stays_sentence : TestsDropping ↔ BeganAndStays
-  stays_sentence = and_not_sentence (began_unmarked limit (past_of limit history) h) (has_subtracted (past_of limit history) h)
-      (BeganUnmarked limit history h) (HasAccepted limit history (Sub h))
-      (began_unmarked_sentence limit h history) (subtracted_sentence limit h history)
-
-  state_of_sentence : (s : HandleState) → (state_of limit (past_of limit history) h ≡ s) ↔ StateSentence limit history h s
-  state_of_sentence s = (
-    (λ e. FirstThatHolds-along IsRaw TestsFree TestsDropping TestsOwing
-        (LastIsIntoRaw limit history h) NeverBegan BeganAndStays (OwesSentence limit history h)
-        (raw_sentence limit history h) free_sentence stays_sentence (owes_test limit history h) s
-        ((state_of_test limit (past_of limit history) h s).0 e)),
-    (λ w. (state_of_test limit (past_of limit history) h s).1 (FirstThatHolds-along
-        (LastIsIntoRaw limit history h) NeverBegan BeganAndStays (OwesSentence limit history h)
-        IsRaw TestsFree TestsDropping TestsOwing
-        ((raw_sentence limit history h).1, (raw_sentence limit history h).0) (free_sentence.1, free_sentence.0)
-        (stays_sentence.1, stays_sentence.0) ((owes_test limit history h).1, (owes_test limit history h).0) s w)),
-  )
+  says_state : (s : HandleState) → state_after limit history h ≡ Some s → StateSentence limit history h s
+  says_state s e = sentence_of s (subst (DidAfter limit h history) e (did limit h history))
 
 pub state_sentence : (limit : ℕ) (history : List Step) (h : ℕ) (s : HandleState)
     → (state_after limit history h ≡ Some s) ↔ ((h < births_after limit history) × StateSentence limit history h s)
 state_sentence limit history h s = (
-  (λ e. let w = (handle_state_sentence limit (past_of limit history) h s).0 e in (w.0, (state_of_sentence limit history h s).0 w.1)),
-  (λ w. (handle_state_sentence limit (past_of limit history) h s).1 (w.0, (state_of_sentence limit history h s).1 w.1)),
+  (λ e. ((is_in_state (after limit history) h s e).born, says_state limit history h s e)),
+  (λ w. let is = state_born (after limit history) h w.0 in
+      is ∙ ap Some (one_holds _ _ _ _ (state_on (after limit history) h) s (says_state limit history h _ is) w.1)),
 )
 
--- ---- an owing handle is one that owes its block
-
--- a handle that has subtracted was born, is not raw, and has begun
-subtracted_began : (limit : ℕ) (h : ℕ) (p : List Step) → IsPast limit p → has_subtracted p h ≡ true → (h < births p) × (is_raw p h ≡ false) × (has_begun p h ≡ true)
-subtracted_began limit h [] past e = absurd (cc)
-subtracted_began limit h (x ∷ p) past e =
-    elim (done_latest limit (Sub h) (λ q. has_subtracted q h) (eq-eqb h h refl) refl (has_subtracted-more h) x p e) [
-      | inl d ↦ first d.0
-      | inr d ↦ later (subtracted_began limit h p past.1 d)
-    ]
-  where
-    first : x ≡ Sub h → (h < births (x ∷ p)) × (is_raw (x ∷ p) h ≡ false) × (has_begun (x ∷ p) h ≡ true)
-    first d =
-        let accepted : is_accepted limit p (Sub h) ≡ true = subst (λ s. is_accepted limit p s ≡ true) d past.0 in
-        let born = (handle_state_sentence limit p h Dropping).0 (needed_state Dropping (handle_state limit p h) accepted) in
-        let dropping = (state_of_test limit p h Dropping).0 born.1 in
-        subst (λ s. (h < births (s ∷ p)) × (is_raw (s ∷ p) h ≡ false) × (has_begun (s ∷ p) h ≡ true)) (sym d)
-        (born.0, false_from_ne_true (is_raw p h) dropping.0, began (has_begun p h) dropping.1)
-      where
-        began : (b : Bool) → ¬ (not b ≡ true) → b ≡ true
-        began true n = refl
-        began false n = absurd (n refl)
-
-    later : (h < births p) × (is_raw p h ≡ false) × (has_begun p h ≡ true) → (h < births (x ∷ p)) × (is_raw (x ∷ p) h ≡ false) × (has_begun (x ∷ p) h ≡ true)
-    later w = (
-      (IsBorn-more x p h (block_of p h) (w.0, refl)).0,
-      false_from_ne_true (is_raw (x ∷ p) h) not_raw,
-      done_kept limit (Begin h) (λ q. has_begun q h) (eq-eqb h h refl) refl (has_begun-more h) x p past.0 w.2,
-    )
-      where
-        not_raw : is_raw (x ∷ p) h ≡ true → ⊥
-        not_raw r = elim (is_raw-latest x p h r) [
-          | inl d ↦ (let free : is_accepted limit p (IntoRaw h) ≡ true = subst (λ s. is_accepted limit p s ≡ true) d past.0 in
-              let never : has_begun p h ≡ false = begins_once limit p h free in
-              let began : has_begun p h ≡ true = w.2 in cc)
-          | inr d ↦ (let before : is_raw p h ≡ true = d.0 in let not_before : is_raw p h ≡ false = w.1 in cc)
-        ]
-
-owing_from_owes : (limit : ℕ) (history : List Step) (h : ℕ) → OwesSentence limit history h → state_after limit history h ≡ Some Owing
-owing_from_owes limit history h w = (handle_state_sentence limit (past_of limit history) h Owing).1 (before.0, (state_of_test limit (past_of limit history) h Owing).1 (not_raw, not_free, not_dropping, owing))
-  where
-    owing : tests_owing limit (past_of limit history) h ≡ true
-    owing = (owes_test limit history h).1 w
-
-    subtracted : has_subtracted (past_of limit history) h ≡ true
-    subtracted = was_last-subtracted limit h (past_of limit history)
-        (and_parts (was_last limit (past_of limit history) h) (not (has_given (past_of limit history) h)) owing).0
-
-    before : (h < births (past_of limit history)) × (is_raw (past_of limit history) h ≡ false) × (has_begun (past_of limit history) h ≡ true)
-    before = subtracted_began limit h (past_of limit history) (IsPast-past_of limit history) subtracted
-
-    not_raw : is_raw (past_of limit history) h ≡ true → ⊥
-    not_raw r = let no : is_raw (past_of limit history) h ≡ false = before.1 in cc
-
-    not_free : tests_free (past_of limit history) h ≡ true → ⊥
-    not_free f =
-        let yes : has_begun (past_of limit history) h ≡ true = before.2 in
-        let no : has_begun (past_of limit history) h ≡ false = not-true (has_begun (past_of limit history) h) f in
-        cc
-
-    not_dropping : tests_dropping limit (past_of limit history) h ≡ true → ⊥
-    not_dropping d =
-        let parts = and_parts (began_unmarked limit (past_of limit history) h) (not (has_subtracted (past_of limit history) h)) d in
-        let no : has_subtracted (past_of limit history) h ≡ false = not-true (has_subtracted (past_of limit history) h) parts.1 in
-        let yes : has_subtracted (past_of limit history) h ≡ true = subtracted in
-        cc
+owing_from : (limit : ℕ) (history : List Step) (h : ℕ) (o : Option HandleState) → DidAfter limit h history o → OwesSentence limit history h → o ≡ Some Owing
+owing_from limit history h None d w = absurd (d.2 (any_where limit h history (Sub h) _ w.0))
+owing_from limit history h (Some Free) d w = absurd (d.2 (any_where limit h history (Sub h) _ w.0))
+owing_from limit history h (Some Raw) d w = absurd (d.2 (any_where limit h history (Sub h) _ w.0))
+owing_from limit history h (Some Dropping) d w = absurd (d.3 (any_where limit h history (Sub h) _ w.0))
+owing_from limit history h (Some Owing) d w = refl
+owing_from limit history h (Some Gone) d w = absurd (d.3 w)
 
 pub owes_sentence : (limit : ℕ) (history : List Step) (h : ℕ) → (state_after limit history h ≡ Some Owing) ↔ OwesSentence limit history h
-owes_sentence limit history h = ((λ e. ((state_sentence limit history h Owing).0 e).1.3), owing_from_owes limit history h)
+owes_sentence limit history h = (
+  (λ e. (says_state limit history h Owing e).3),
+  owing_from limit history h (state_after limit history h) (did limit h history),
+)
 
 -- ==== the reply to a step is the one that the sentence about the history says
 
@@ -408,37 +519,64 @@ same : (x y : Reply) → (x ≡ y) ↔ (y ≡ x)
 same x y = ((λ e. sym e), (λ e. sym e))
 
 module _ (limit : ℕ) (history : List Step) where
-  accepted_answer_sentence : (s : Step) (reply : Reply) → (accepted_answer limit (past_of limit history) s ≡ reply) ↔ AcceptedAnswer limit history s reply
-  accepted_answer_sentence (Look h) reply = by_test (is_marked limit (past_of limit history) (block_of (past_of limit history) h)) _ ((λ e. e), (λ e. e)) _ _ reply
-  accepted_answer_sentence (Begin h) reply = by_test (is_marked limit (past_of limit history) (block_of (past_of limit history) h)) _ ((λ e. e), (λ e. e)) _ _ reply
-  accepted_answer_sentence (Sub h) reply = by_test _ (LivesAlone limit history h) (alone_sentence limit h (past_of limit history)) _ _ reply
-  accepted_answer_sentence s reply = same _ reply
+  begun_reply : (h : ℕ) (f : Bool) → (begun_by f (after limit history) h).1 ≡ (if f then Ended else Looked)
+  begun_reply h true = refl
+  begun_reply h false = refl
+
+  looked : (b : ℕ) → b < length (after limit history).blocks → look_reply (looked_of (word_in (after limit history) b))
+      ≡ (if marked_after limit history b then Static else Count (length (living_after limit history b)))
+  looked b made = by_flag (marked_after limit history b) refl
+    where
+      by_flag : (f : Bool) → marked_after limit history b ≡ f → look_reply (looked_of (word_in (after limit history) b))
+          ≡ (if f then Static else Count (length (living_after limit history b)))
+      by_flag true marked = ap (λ t. look_reply (if t then None else Some (word_in (after limit history) b).count)) marked
+      by_flag false unmarked = ap (λ t. look_reply (if t then None else Some (word_in (after limit history) b).count)) unmarked
+          ∙ ap Count ((says limit (after limit history) b (lawful_after limit history) made).exact unmarked)
+
+  through : {x y reply : Reply} {P : Type 0} → x ≡ y → (y ≡ reply) ↔ P → (x ≡ reply) ↔ P
+  through e both = ((λ f. both.0 (sym e ∙ f)), (λ p. e ∙ both.1 p))
+
+  accepted_answer_sentence : (s : Step) (reply : Reply) → refusal_in (after limit history) s ≡ None
+      → ((accepted limit (after limit history) s).1 ≡ reply) ↔ AcceptedAnswer limit history s reply
+  accepted_answer_sentence (Look h) reply e = through
+      (looked (block_on (after limit history) h) ((lawful_after limit history).made h (step_finds (after limit history) h Free e).born))
+      (by_test (marked_after limit history (block_after limit history h)) _ ((λ e. e), (λ e. e)) _ _ reply)
+  accepted_answer_sentence (Begin h) reply e = through (begun_reply h (word_on (after limit history) h).flag)
+      (by_test (marked_after limit history (block_after limit history h)) _ ((λ e. e), (λ e. e)) _ _ reply)
+  accepted_answer_sentence (Sub h) reply e = by_test (is_last (word_on (after limit history) h)) (LivesAlone limit history h)
+      (alone_sentence limit (after limit history) h (lawful_after limit history) (step_finds (after limit history) h Dropping e)) _ _ reply
+  accepted_answer_sentence Make reply e = same _ reply
+  accepted_answer_sentence (Clone h) reply e = same _ reply
+  accepted_answer_sentence (Back h) reply e = same _ reply
+  accepted_answer_sentence (Leak h) reply e = same _ reply
+  accepted_answer_sentence (IntoRaw h) reply e = same _ reply
+  accepted_answer_sentence (FromRaw h) reply e = same _ reply
 
 -- ---- both
 
--- the reply, given a refusal or none
-by_refusal : (o : Option StepFault) (answer reply : Reply) → (reply_by o answer ≡ reply)
-    ↔ ((IsTrue (is_none o) × (answer ≡ reply)) ⊎ ((fault : StepFault) × (o ≡ Some fault) × (reply ≡ Refused fault)))
-by_refusal None answer reply = (
-  (λ e. inl (refl, e)),
-  elim [ inl w ↦ w.1 | inr w ↦ (let no = w.1 in cc) ],
-)
-by_refusal (Some fault) answer reply = (
-  (λ e. inr (fault, refl, sym e)),
-  elim [ inl w ↦ (let no = w.0 in cc) | inr w ↦ (let is = w.1 in let said = w.2 in cc) ],
-)
+same_fault : (x y : StepFault) → Some x ≡ Some y → x ≡ y
+same_fault x y e = cc
 
 pub answer_sentence : (limit : ℕ) (history : List Step) (s : Step) (reply : Reply) → (answer_after limit history s ≡ reply) ↔ AnswerSentence limit history s reply
-answer_sentence limit history s reply =
-    let accepted = accepted_sentence limit history s in
-    let answered = accepted_answer_sentence limit history s reply in
-    let replied = by_refusal (refusal_of limit (past_of limit history) s) (accepted_answer limit (past_of limit history) s) reply in (
-      (λ e. elim (replied.0 e) [
-        | inl w ↦ inl (accepted.0 w.0, answered.0 w.1)
-        | inr w ↦ inr w
-      ]),
-      elim [
-        | inl w ↦ replied.1 (inl (accepted.1 w.0, answered.1 w.1))
-        | inr w ↦ replied.1 (inr w)
-      ],
-    )
+answer_sentence limit history s reply = by_refusal (refusal_in (after limit history) s) refl
+  where
+    by_refusal : (o : Option StepFault) → refusal_in (after limit history) s ≡ o → (answer_after limit history s ≡ reply) ↔ AnswerSentence limit history s reply
+    by_refusal None e =
+        let is : answer_after limit history s ≡ (accepted limit (after limit history) s).1 =
+        ap (λ r. (unless_refused r (after limit history) (accepted limit (after limit history) s)).1) e in
+        let answered = accepted_answer_sentence limit history s reply e in (
+          (λ f. inl ((accepted_sentence limit history s).0 (ap is_none e), answered.0 (sym is ∙ f))),
+          elim [
+            | inl w ↦ is ∙ answered.1 w.1
+            | inr w ↦ (let no = sym e ∙ w.1 in cc)
+          ],
+        )
+    by_refusal (Some fault) e =
+        let is : answer_after limit history s ≡ Refused fault =
+        ap (λ r. (unless_refused r (after limit history) (accepted limit (after limit history) s)).1) e in (
+          (λ f. inr (fault, e, sym f ∙ is)),
+          elim [
+            | inl w ↦ (let no = sym (ap is_none e) ∙ (accepted_sentence limit history s).1 w.0 in cc)
+            | inr w ↦ is ∙ ap Refused (same_fault fault w.0 (sym e ∙ w.1)) ∙ sym w.2
+          ],
+        )

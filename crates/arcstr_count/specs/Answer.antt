@@ -1,24 +1,15 @@
--- Which steps are accepted, what each step answers after a history, and the numbers and the texts of the faults.
-use Rattle.std.specs.Prelude.{ℕ, Bool, not, ◌&&◌, nat_lt, if◌then◌else◌, is_none, Option, None, Some, List, length, codes}
+-- The table of refusals, and the numbers and the texts of the faults.
+use Rattle.std.specs.Prelude.{ℕ, Option, None, Some, List, codes}
 use Rattle.std.specs.declared.io.ErrorKind.{ErrorKind}
 use Rattle.std.specs.declared.io.ErrorKind.TheVariants.{InvalidInput, OutOfMemory}
 use Rattle.arcstr_count.specs.declared.steps.Step.{Step}
 use Rattle.arcstr_count.specs.declared.steps.Step.TheVariants.{Make, Look, Clone, Begin, Sub, Back, Leak, IntoRaw, FromRaw}
 use Rattle.arcstr_count.specs.declared.steps.HandleState.{HandleState}
 use Rattle.arcstr_count.specs.declared.steps.HandleState.TheVariants.{Free, Raw, Dropping, Owing, Gone}
-use Rattle.arcstr_count.specs.declared.steps.Reply.{Reply}
-use Rattle.arcstr_count.specs.declared.steps.Reply.TheVariants.{Made, Count, Static, Handle, Looked, Ended, Left, Owes}
-use Rattle.arcstr_count.specs.declared.steps.Reply.TheVariants.{Given, Marked, Raw as RawReply, Unraw, Refused}
 use Rattle.arcstr_count.specs.declared.faults.StepFault.{StepFault}
 use Rattle.arcstr_count.specs.declared.faults.StepFault.TheVariants.{NoHandle, InDrop, NotInDrop, NotOwing, IsRaw, NotRaw}
 use Rattle.arcstr_count.specs.declared.faults.RunFault.{RunFault}
 use Rattle.arcstr_count.specs.declared.faults.RunFault.TheVariants.{LimitTooLarge, Memory}
-use Rattle.arcstr_count.specs.History.{births, block_of}
-use Rattle.arcstr_count.specs.Marks.{is_marked, state_of, living, is_only}
-
--- the state of a handle; `None` for one that was never born
-abbrev pub handle_state : ℕ → List Step → ℕ → Option HandleState
-handle_state limit p h = if nat_lt h (births p) then Some (state_of limit p h) else None
 
 -- ---- the table of refusals
 
@@ -60,38 +51,6 @@ refusal_unless needed state = Some NoHandle
 abbrev pub refusal_by : (ℕ → Option HandleState) → Option Need → Option StepFault
 refusal_by state None = None
 refusal_by state (Some need) = refusal_unless need.state (state need.handle)
-
--- why a step is refused after a past; `None` where it is accepted
-abbrev pub refusal_of : ℕ → List Step → Step → Option StepFault
-refusal_of limit p s = refusal_by (λ h. handle_state limit p h) (needs s)
-
-abbrev pub is_accepted : ℕ → List Step → Step → Bool
-is_accepted limit p s = is_none (refusal_of limit p s)
-
--- ---- answers
-
--- what an accepted step answers
-abbrev pub accepted_answer : ℕ → List Step → Step → Reply
-accepted_answer limit p Make = Made (births p)
-accepted_answer limit p (Look h) =
-    if is_marked limit p (block_of p h) then Static else Count (length (living limit p (block_of p h)))
-accepted_answer limit p (Clone h) = Handle (births p)
-accepted_answer limit p (Begin h) = if is_marked limit p (block_of p h) then Ended else Looked
-accepted_answer limit p (Sub h) =
-    if not (is_marked limit p (block_of p h)) && is_only h (living limit p (block_of p h)) then Owes else Left
-accepted_answer limit p (Back h) = Given
-accepted_answer limit p (Leak h) = Marked
-accepted_answer limit p (IntoRaw h) = RawReply
-accepted_answer limit p (FromRaw h) = Unraw
-
--- the refusal, if there is one, else the answer of the accepted step
-abbrev pub reply_by : Option StepFault → Reply → Reply
-reply_by None reply = reply
-reply_by (Some fault) reply = Refused fault
-
--- what a step answers after a past
-abbrev pub answer_of : ℕ → List Step → Step → Reply
-answer_of limit p s = reply_by (refusal_of limit p s) (accepted_answer limit p s)
 
 -- ---- the faults
 

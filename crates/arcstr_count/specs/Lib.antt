@@ -1,10 +1,6 @@
+pub mod Model
 pub mod Word
-pub mod History
-pub mod Marks
 pub mod Answer
-pub mod Past
-pub mod Summary
-pub mod OneBlock
 pub mod Laws
+pub mod OneBlock
 pub mod Sentences
-pub mod Tables

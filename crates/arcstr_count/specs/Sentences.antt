@@ -1,7 +1,7 @@
--- What the definitions on histories mean, each as a sentence about the prefixes of a history.
+-- What the model means, each as a sentence about the prefixes of a history.
 --
 -- A history is the list of its steps in their natural order. A prefix of it has its first n steps, for some n.
--- The laws in `src/sentences.rt` prove each sentence equal to its definition.
+-- The laws in `src/sentences.rt` prove each sentence equal to what the step function gives.
 use Rattle.std.specs.Prelude.{◌≡◌, ℕ, ◌<◌, Bool, false, ◌&&◌, ◌==◌, ◌⊎◌, IsTrue, IsFalse, Option, None, Some, IfSome}
 use Rattle.std.specs.Prelude.{List, [], ◌∷◌, ◌++◌, length, filter, take, slice_get}
 use Rattle.arcstr_count.specs.declared.steps.Step.{Step}
@@ -12,30 +12,8 @@ use Rattle.arcstr_count.specs.declared.steps.Reply.{Reply}
 use Rattle.arcstr_count.specs.declared.steps.Reply.TheVariants.{Made, Count, Static, Handle, Looked, Ended, Left, Owes}
 use Rattle.arcstr_count.specs.declared.steps.Reply.TheVariants.{Given, Marked, Raw as RawReply, Unraw, Refused}
 use Rattle.arcstr_count.specs.declared.faults.StepFault.{StepFault}
-use Rattle.arcstr_count.specs.History.{makes, births, block_of, numbers_below}
-use Rattle.arcstr_count.specs.Answer.{needs, handle_state, refusal_by, is_accepted}
-use Rattle.arcstr_count.specs.Past.{past_of, marked_after, living_after}
-
--- ---- the definitions, after a history in its natural order
-
--- the step is accepted after the history
-abbrev pub accepted_after : ℕ → List Step → Step → Bool
-accepted_after limit history s = is_accepted limit (past_of limit history) s
-
--- how many blocks were made, and how many handles were born
-abbrev pub makes_after : ℕ → List Step → ℕ
-makes_after limit history = makes (past_of limit history)
-
-abbrev pub births_after : ℕ → List Step → ℕ
-births_after limit history = births (past_of limit history)
-
--- the block of a handle
-abbrev pub block_after : ℕ → List Step → ℕ → ℕ
-block_after limit history h = block_of (past_of limit history) h
-
--- the state of a handle; `None` for one that was never born
-abbrev pub state_after : ℕ → List Step → ℕ → Option HandleState
-state_after limit history h = handle_state limit (past_of limit history) h
+use Rattle.arcstr_count.specs.Answer.{needs, refusal_by}
+use Rattle.arcstr_count.specs.Model.{numbers_below, accepted_after, makes_after, births_after, block_after, state_after, marked_after, living_after}
 
 -- ---- steps in a history
 

@@ -2,9 +2,8 @@
 //! purpose. The seats of a block are the states of the handles that were born on it, in the order of their births.
 
 ghost use Rattle.std.specs.Prelude.{◌≡◌, ◌+◌, ◌<◌, ◌≤◌, IsTrue, IsFalse, length, filter};
-ghost use Rattle.arcstr_count.specs.History.{lives};
 ghost use Rattle.arcstr_count.specs.Laws.{HoldsInEveryInterleaving};
-ghost use Rattle.arcstr_count.specs.Marks.{is_dropping, is_owing};
+ghost use Rattle.arcstr_count.specs.Model.{lives, is_dropping, is_owing};
 ghost use Rattle.arcstr_count.specs.OneBlock.{Keeps};
 
 use crate::steps::{HandleState, Step};

@@ -1,8 +1,7 @@
 //! The replies to a whole list of steps.
 
 ghost use Rattle.std.specs.Prelude.{◌≡◌, ◌<◌, ◌↔◌, [], IfOk, IfErr};
-ghost use Rattle.arcstr_count.specs.Summary.{StandsFor};
-ghost use Rattle.arcstr_count.specs.Past.{AnswersEach};
+ghost use Rattle.arcstr_count.specs.Model.{WorldView, replies_from, replies, start};
 ghost use Rattle.arcstr_count.specs.Laws.{HoldsInEveryInterleaving};
 
 use crate::faults::RunFault;
@@ -30,9 +29,8 @@ pub fn run<A: Allocator + Copy>(
     // Promise: It fails with `LimitTooLarge` exactly if the limit is above `RC_MAX`.
     ensures too_large { (result ≡ Err RunFault.LimitTooLarge) ↔ (RC_MAX < limit) }
 
-    // Each reply is the answer to its step after the steps before it.
     // Promise: The steps before a step decide its reply.
-    ensures replies { IfOk result (λ replies. AnswersEach limit steps.now replies.items) }
+    ensures replies { IfOk result (λ found. found.items ≡ replies limit steps.now) }
 
     // What holds after every prefix of the steps, for every block made in it.
     // Promise: Every interleaving keeps the six laws.
@@ -49,9 +47,8 @@ fn replies_of<A: Allocator + Copy>(
     mut world: World<A>,
     steps: &[Step],
 ) -> Result<Vec<Reply, A>, RunFault>
-    requires { StandsFor world [] }
     ensures memory { IfErr result (λ fault. fault ≡ RunFault.Memory) }
-    ensures replies { IfOk result (λ replies. AnswersEach world.summary.limit steps.now replies.items) }
+    ensures replies { IfOk result (λ found. found.items ≡ replies_from world.limit world.state steps.now) }
 {
     let mut replies = Vec::new(alloc);
     for step in steps {

@@ -1,14 +1,13 @@
-//! What the definitions on histories mean, each as a sentence about the prefixes of a history.
+//! What the model means, as sentences about the prefixes of a history.
 //!
 //! A history is the list of its steps in their natural order. A prefix of it has its first n steps, for some n. Each function here does nothing: its contract
-//! is the law that a definition and its sentence are equal, for each limit and history. No function here has a precondition.
+//! is the law that the step function and a sentence are equal, for each limit and history. No function here has a precondition.
 
 ghost use Rattle.std.specs.Prelude.{◌≡◌, ◌≢◌, ◌↔◌, ◌<◌, ◌⊎◌, IsTrue, Some, Contains, []};
 ghost use Rattle.std.specs.List.Sorted.{IsStrictlyIncreasing};
 ghost use Rattle.arcstr_count.specs.declared.steps.HandleState.TheVariants.{Dropping, Owing};
-ghost use Rattle.arcstr_count.specs.History.{is_make, is_birth};
-ghost use Rattle.arcstr_count.specs.Past.{marked_after, living_after, dropping_after, owing_after, given_after, answer_after};
-ghost use Rattle.arcstr_count.specs.Sentences.{accepted_after, makes_after, births_after, block_after, state_after};
+ghost use Rattle.arcstr_count.specs.Model.{is_make, is_birth, accepted_after, makes_after, births_after, block_after, state_after};
+ghost use Rattle.arcstr_count.specs.Model.{marked_after, living_after, dropping_after, owing_after, given_after, answer_after};
 ghost use Rattle.arcstr_count.specs.Sentences.{accepted_count, given_count, AcceptedSentence, BornSentence, MarkedSentence};
 ghost use Rattle.arcstr_count.specs.Sentences.{StateSentence, OwesSentence, LivingSentence, UnderWaySentence, AnswerSentence};
 
@@ -68,7 +67,6 @@ pub fn marked_is(limit: u64, history: &[Step], block: u64)
 /// let history = [Step::Make, Step::IntoRaw(0)];
 /// sentences::state_is(2, &history, handle, HandleState::Raw);
 /// ```
-#[tactic(auto, using(crate::proofs::SentencesState::state_sentence))]
 pub fn state_is(limit: u64, history: &[Step], handle: u64, state: HandleState)
     ensures { (state_after limit history.now handle ≡ Some state)
         ↔ ((handle < births_after limit history.now) × StateSentence limit history.now handle state) }

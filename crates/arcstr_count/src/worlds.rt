@@ -1,13 +1,13 @@
-//! The world of counted blocks, which answers one step at a time by the meaning of its history.
+//! The world of counted blocks, which answers one step at a time as the model's step function says.
 
-ghost use Rattle.std.specs.Prelude.{◌≡◌, ◌<◌, ◌≤◌, ◌↔◌, ◌+◌, ◌++◌, if◌then◌else◌, [], ◌∷◌, List, length};
-ghost use Rattle.std.specs.Prelude.{IsTrue, IfOk, IfErr, OnOk, OnErr, IsOk, IfSome, IsNone, Some, slice_get, vec_len, vec_capacity};
+ghost use Rattle.std.specs.Prelude.{ℕ, ◌≡◌, ◌<◌, ◌≤◌, ◌↔◌, ◌+◌, ◌++◌, if◌then◌else◌, [], ◌∷◌, List, length};
+ghost use Rattle.std.specs.Prelude.{IsTrue, IfOk, IfErr, OnErr, IsOk, IsNone, IsSome, None, slice_get, slice_index_or, vec_len, vec_capacity};
 ghost use Rattle.arcstr_count.specs.declared.steps.Step.{Step};
-ghost use Rattle.arcstr_count.specs.History.{is_birth};
-ghost use Rattle.arcstr_count.specs.Summary.{StandsFor, IsRefusal, IsAcceptedBy, Answers, Follows, Takes, HasHistory, state_at, IsAt};
-ghost use Rattle.arcstr_count.specs.Past.{given_after};
-ghost use Rattle.arcstr_count.specs.Tables.{handles_with_state, blocks_with_word, blocks_with_mark, blocks_with_given};
+ghost use Rattle.arcstr_count.specs.Model.{State, WorldView, step, after, start, state_of_tables, refusal_in, state_in, no_block, no_handle};
+ghost use Rattle.arcstr_count.specs.Model.{is_birth, handles_with_state, blocks_with_word, blocks_with_given, given_in, HasHistory, IsSound};
 ghost use Rattle.arcstr_count.specs.Answer.{refusal_unless};
+ghost use Rattle.arcstr_count.specs.Word.{marked_of};
+ghost use Rattle.arcstr_count.specs.declared.words.TheConstants.{RC_MAX};
 ghost use Rattle.arcstr_count.specs.Laws.{HoldsInEveryInterleaving};
 
 use crate::faults::{RunFault, StepFault};
@@ -35,16 +35,15 @@ pub struct World<A: Allocator> {
     blocks: Vec<BlockEntry, A>,
 }
 
-/// The count word of a block, and whether the block was freed.
+/// The count word of a block, and how often the block was freed.
 #[derive(Clone, Copy)]
 struct BlockEntry {
     word: Word,
-    given: bool,
+    given: u64,
 }
 
 impl<A: Allocator> Model for World<A> {
-    ghost use Rattle.arcstr_count.specs.Summary.{WorldView};
-    ghost use Rattle.arcstr_count.specs.Tables.{view_of, IsWorld};
+    ghost use Rattle.arcstr_count.specs.Model.{WorldView, view_of, IsWorld};
 
     ghost Value = { WorldView };
 
@@ -66,8 +65,8 @@ impl<A: Allocator + Copy> World<A> {
         // Promise: It fails exactly if the limit is above `RC_MAX`.
         ensures too_large { (result ≡ Err RunFault.LimitTooLarge) ↔ (RC_MAX < limit) }
         ensures made { limit ≤ RC_MAX → IsOk result }
-        // Promise: A new world stands for the empty history, with this limit.
-        ensures fresh { IfOk result (λ world. (world.summary.limit ≡ limit) × StandsFor world []) }
+        // Promise: A new world has this limit, and has taken no step.
+        ensures fresh { IfOk result (λ world. world ≡ record { limit = limit; state = start }) }
     {
         if limit > RC_MAX {
             return Err(RunFault::LimitTooLarge);
@@ -89,31 +88,18 @@ impl<A: Allocator + Copy> World<A> {
     /// let refused = Reply::Refused(StepFault::NotInDrop);
     /// assert_eq!(rt; world.step(Step::Sub(0))?, refused);
     /// ```
-    pub fn step(&mut self, step: Step) -> Result<Reply, RunFault>
-        // Promise: It answers as each history of the world says, and extends each by the step.
-        ensures answers { IfOk result (Answers self.old step) }
-        ensures stands { OnOk result (Follows self.old step self.new) }
-        // Promise: A refused step changes nothing.
-        ensures refused { IfOk result (λ reply. IsRefusal reply → self.new ≡ self.old) }
+    pub fn step(&mut self, act: Step) -> Result<Reply, RunFault>
+        // Promise: Its reply and the new state are those of the model's step function.
+        ensures stepped { IfOk result (λ reply. step self.old.limit self.old.state act ≡ (self.new.state, reply)) }
 
         // Promise: Only an accepted `Make` or `Clone` runs out of memory, which changes nothing.
         ensures memory { IfErr result (λ fault. (fault ≡ RunFault.Memory) × (self.new ≡ self.old)) }
-        ensures memory_only_to_births { OnErr result (IsTrue (is_birth step) × IsAcceptedBy self.old step) }
+        ensures memory_only_to_births { OnErr result (IsTrue (is_birth act) × (refusal_in self.old.state act ≡ None)) }
 
         // Promise: The limit stays the same.
-        ensures limit { self.new.summary.limit ≡ self.old.summary.limit }
+        ensures limit { self.new.limit ≡ self.old.limit }
     {
-        match step {
-            Step::Make => self.make(),
-            Step::Look(handle) => Ok(self.look(handle)),
-            Step::Clone(handle) => self.clone(handle),
-            Step::Begin(handle) => Ok(self.begin(handle)),
-            Step::Sub(handle) => Ok(self.sub(handle)),
-            Step::Back(handle) => Ok(self.back(handle)),
-            Step::Leak(handle) => Ok(self.leak(handle)),
-            Step::IntoRaw(handle) => Ok(self.into_raw(handle)),
-            Step::FromRaw(handle) => Ok(self.from_raw(handle)),
-        }
+        take(self.limit, &mut self.handles, &mut self.blocks, act)
     }
 
     /// Returns how often the block with this number was freed: 0 or 1 times, and 0 for a block that was never made. The call does not allocate.
@@ -126,15 +112,17 @@ impl<A: Allocator + Copy> World<A> {
     /// assert_eq!(rt; world.given(0), 1);
     /// ```
     pub fn given(&self, block: u64) -> u64
-        ensures value { (history : List Step) → StandsFor self.now history
-            → result ≡ given_after self.now.summary.limit history block }
+        ensures value { result ≡ given_in self.now.state block }
         ensures at_most_once { result ≤ 1 }
     {
-        given_by_entry(entry_at(&self.blocks, block))
+        match entry_at(&self.blocks, block) {
+            None => 0,
+            Some(entry) => entry.given,
+        }
     }
 
-    /// The law that each world stands for at least one history, and the laws of every interleaving for each history that it stands for: what holds after every
-    /// prefix of it, for every block made in it. It does nothing when it runs: its clauses are its purpose.
+    /// The law that the state of each world is that after at least one history, and the laws of every interleaving for each such history: what holds after
+    /// every prefix of it, for every block made in it. It does nothing when it runs: its clauses are its purpose.
     ///
     /// ```
     /// let mut world = World::new(rt.alloc(), 2)?;
@@ -143,153 +131,238 @@ impl<A: Allocator + Copy> World<A> {
     /// ```
     pub fn stands_for_a_history(&self)
         ensures some { HasHistory self.now }
-        ensures laws { (history : List Step) → StandsFor self.now history
-            → HoldsInEveryInterleaving self.now.summary.limit history }
+        ensures laws { (history : List Step) → self.now.state ≡ after self.now.limit history
+            → HoldsInEveryInterleaving self.now.limit history }
     {
         // A clause knows the invariant of a value behind a `&` once the body reads the value. Without this read nothing is known of the world.
         let _limit = self.limit;
     }
+}
 
-    /// What the world keeps of a handle; `None` for one that was never born.
-    fn known_handle(&self, handle: u64) -> Option<HandleSummary>
-        ensures value { result ≡ slice_get self.now.summary.handles handle }
-        ensures found { IfSome result (λ found. IsAt self.now handle found.block found.state) }
-    {
-        entry_at(&self.handles, handle)
+/// Answers a step from the two tables of a world, and takes it if it is accepted.
+fn take<A: Allocator>(
+    limit: u64,
+    handles: &mut Vec<HandleSummary, A>,
+    blocks: &mut Vec<BlockEntry, A>,
+    act: Step,
+) -> Result<Reply, RunFault>
+    requires sound { IsSound (state_of_tables handles.old.items blocks.old.items) }
+    requires limited { limit ≤ RC_MAX }
+    ensures stepped { IfOk result (λ reply. step limit (state_of_tables handles.old.items blocks.old.items) act
+        ≡ (state_of_tables handles.new.items blocks.new.items, reply)) }
+    ensures memory { IfErr result (λ fault. (fault ≡ RunFault.Memory) × (handles.new.items ≡ handles.old.items) × (blocks.new.items ≡ blocks.old.items)) }
+    ensures memory_only_to_births { OnErr result (IsTrue (is_birth act)
+        × (refusal_in (state_of_tables handles.old.items blocks.old.items) act ≡ None)) }
+{
+    match act {
+        Step::Make => make(handles, blocks),
+        Step::Look(handle) => Ok(look(handles, blocks, handle)),
+        Step::Clone(handle) => clone(limit, handles, blocks, handle),
+        Step::Begin(handle) => Ok(begin(handles, blocks, handle)),
+        Step::Sub(handle) => Ok(sub(handles, blocks, handle)),
+        Step::Back(handle) => Ok(back(handles, blocks, handle)),
+        Step::Leak(handle) => Ok(leak(handles, blocks, handle)),
+        Step::IntoRaw(handle) => Ok(into_raw(handles, blocks, handle)),
+        Step::FromRaw(handle) => Ok(from_raw(handles, blocks, handle)),
     }
+}
 
-    /// Why a step that needs a handle in this state is refused, or the block of the handle.
-    fn handle_in(&self, needed: HandleState, handle: u64) -> Result<u64, StepFault>
-        ensures refused { IfErr result (λ fault. refusal_unless needed (state_at self.now handle) ≡ Some fault) }
-        ensures found { IfOk result (λ block. IsAt self.now handle block needed) }
-    {
-        match self.known_handle(handle) {
-            None => Err(StepFault::NoHandle),
-            Some(found) => match refusal(needed, found.state) {
-                None => Ok(found.block),
-                Some(fault) => Err(fault),
-            },
-        }
+/// Why a step that needs a handle in this state is refused, or the block of the handle.
+fn handle_in<A: Allocator>(
+    handles: &Vec<HandleSummary, A>,
+    needed: HandleState,
+    handle: u64,
+) -> Result<u64, StepFault>
+    ensures refused { IfErr result (λ fault. refusal_unless needed (state_in (state_of_tables handles.now.items []) handle) ≡ Some fault) }
+    ensures found { IfOk result (λ block. slice_get handles.now.items handle ≡ Some (record { block = block; state = needed })) }
+{
+    match entry_at(handles, handle) {
+        None => Err(StepFault::NoHandle),
+        Some(found) => match refusal(needed, found.state) {
+            None => Ok(found.block),
+            Some(fault) => Err(fault),
+        },
     }
+}
 
-    fn make(&mut self) -> Result<Reply, RunFault>
-        ensures takes { IfOk result (λ reply. Takes self.old Step.Make reply self.new) }
-        ensures memory { IfErr result (λ fault. (fault ≡ RunFault.Memory) × (self.new ≡ self.old)) }
-    {
-        make_room(&mut self.handles, &mut self.blocks)?;
-        let block = self.blocks.len() as u64;
-        let handle = push_handle(&mut self.handles, block);
-        push_entry(
-            &mut self.blocks,
-            BlockEntry {
-                word: Word::one(),
-                given: false,
-            },
-        );
-        Ok(Reply::Made(handle))
-    }
+fn make<A: Allocator>(
+    handles: &mut Vec<HandleSummary, A>,
+    blocks: &mut Vec<BlockEntry, A>,
+) -> Result<Reply, RunFault>
+    ensures stepped { (limit : ℕ) → IfOk result (λ reply. step limit (state_of_tables handles.old.items blocks.old.items) Step.Make
+        ≡ (state_of_tables handles.new.items blocks.new.items, reply)) }
+    ensures memory { IfErr result (λ fault. (fault ≡ RunFault.Memory) × (handles.new.items ≡ handles.old.items) × (blocks.new.items ≡ blocks.old.items)) }
+{
+    make_room(handles, blocks)?;
+    let block = blocks.len() as u64;
+    let handle = push_handle(handles, block);
+    push_entry(
+        blocks,
+        BlockEntry {
+            word: Word::one(),
+            given: 0,
+        },
+    );
+    Ok(Reply::Made(handle))
+}
 
-    fn look(&self, handle: u64) -> Reply
-        ensures { Takes self.now (Step.Look handle) result self.now }
-    {
-        match self.handle_in(HandleState::Free, handle) {
-            Err(fault) => Reply::Refused(fault),
-            Ok(block) => match self.blocks[block as usize].word.looked() {
-                None => Reply::Static,
-                Some(count) => Reply::Count(count),
-            },
-        }
+#[tactic(auto, using(std::proofs::lemmas::Option::slice_get_within, std::proofs::lemmas::Option::get_or_from_slice_get))]
+fn look<A: Allocator>(
+    handles: &Vec<HandleSummary, A>,
+    blocks: &Vec<BlockEntry, A>,
+    handle: u64,
+) -> Reply
+    requires { IsSound (state_of_tables handles.now.items blocks.now.items) }
+    ensures { (limit : ℕ) → step limit (state_of_tables handles.now.items blocks.now.items) (Step.Look handle)
+        ≡ (state_of_tables handles.now.items blocks.now.items, result) }
+{
+    let block = match handle_in(handles, HandleState::Free, handle) {
+        Ok(block) => block,
+        Err(fault) => return Reply::Refused(fault),
+    };
+    match blocks[block as usize].word.looked() {
+        None => Reply::Static,
+        Some(count) => Reply::Count(count),
     }
+}
 
-    fn clone(&mut self, handle: u64) -> Result<Reply, RunFault>
-        ensures takes { IfOk result (λ reply. Takes self.old (Step.Clone handle) reply self.new) }
-        ensures memory { IfErr result (λ fault. (fault ≡ RunFault.Memory) × (self.new ≡ self.old)) }
-        ensures accepted { OnErr result (IsAcceptedBy self.old (Step.Clone handle)) }
-    {
-        let block = match self.handle_in(HandleState::Free, handle) {
-            Ok(block) => block,
-            Err(fault) => return Ok(Reply::Refused(fault)),
-        };
-        if self.handles.reserve(1).is_err() {
-            return Err(RunFault::Memory);
-        }
-        let word = self.blocks[block as usize].word;
-        set_word(&mut self.blocks, block, word.cloned(self.limit));
-        Ok(Reply::Handle(push_handle(&mut self.handles, block)))
+#[tactic(auto, using(std::proofs::lemmas::Option::slice_get_within, std::proofs::lemmas::Option::get_or_from_slice_get))]
+fn clone<A: Allocator>(
+    limit: u64,
+    handles: &mut Vec<HandleSummary, A>,
+    blocks: &mut Vec<BlockEntry, A>,
+    handle: u64,
+) -> Result<Reply, RunFault>
+    requires sound { IsSound (state_of_tables handles.old.items blocks.old.items) }
+    requires limited { limit ≤ RC_MAX }
+    ensures stepped { IfOk result (λ reply. step limit (state_of_tables handles.old.items blocks.old.items) (Step.Clone handle)
+        ≡ (state_of_tables handles.new.items blocks.new.items, reply)) }
+    ensures memory { IfErr result (λ fault. (fault ≡ RunFault.Memory) × (handles.new.items ≡ handles.old.items) × (blocks.new.items ≡ blocks.old.items)) }
+    ensures accepted { OnErr result (refusal_in (state_of_tables handles.old.items blocks.old.items) (Step.Clone handle) ≡ None) }
+{
+    let block = match handle_in(handles, HandleState::Free, handle) {
+        Ok(block) => block,
+        Err(fault) => return Ok(Reply::Refused(fault)),
+    };
+    if handles.reserve(1).is_err() {
+        return Err(RunFault::Memory);
     }
+    let word = blocks[block as usize].word;
+    set_word(blocks, block, word.cloned(limit));
+    Ok(Reply::Handle(push_handle(handles, block)))
+}
 
-    fn begin(&mut self, handle: u64) -> Reply
-        ensures { Takes self.old (Step.Begin handle) result self.new }
-    {
-        let block = match self.handle_in(HandleState::Free, handle) {
-            Ok(block) => block,
-            Err(fault) => return Reply::Refused(fault),
-        };
-        let (state, reply) = after_begin(self.blocks[block as usize].word);
-        set_state(&mut self.handles, handle, state);
-        reply
-    }
+#[tactic(auto, using(std::proofs::lemmas::Option::slice_get_within, std::proofs::lemmas::Option::get_or_from_slice_get))]
+fn begin<A: Allocator>(
+    handles: &mut Vec<HandleSummary, A>,
+    blocks: &Vec<BlockEntry, A>,
+    handle: u64,
+) -> Reply
+    requires { IsSound (state_of_tables handles.old.items blocks.now.items) }
+    ensures { (limit : ℕ) → step limit (state_of_tables handles.old.items blocks.now.items) (Step.Begin handle)
+        ≡ (state_of_tables handles.new.items blocks.now.items, result) }
+{
+    let block = match handle_in(handles, HandleState::Free, handle) {
+        Ok(block) => block,
+        Err(fault) => return Reply::Refused(fault),
+    };
+    let (state, reply) = after_begin(blocks[block as usize].word);
+    set_state(handles, handle, state);
+    reply
+}
 
-    fn sub(&mut self, handle: u64) -> Reply
-        ensures { Takes self.old (Step.Sub handle) result self.new }
-    {
-        let block = match self.handle_in(HandleState::Dropping, handle) {
-            Ok(block) => block,
-            Err(fault) => return Reply::Refused(fault),
-        };
-        let (word, last) = self.blocks[block as usize].word.dropped();
-        let (state, reply) = after_sub(last);
-        set_word(&mut self.blocks, block, word);
-        set_state(&mut self.handles, handle, state);
-        reply
-    }
+#[tactic(auto, using(std::proofs::lemmas::Option::slice_get_within, std::proofs::lemmas::Option::get_or_from_slice_get))]
+fn sub<A: Allocator>(
+    handles: &mut Vec<HandleSummary, A>,
+    blocks: &mut Vec<BlockEntry, A>,
+    handle: u64,
+) -> Reply
+    requires { IsSound (state_of_tables handles.old.items blocks.old.items) }
+    ensures { (limit : ℕ) → step limit (state_of_tables handles.old.items blocks.old.items) (Step.Sub handle)
+        ≡ (state_of_tables handles.new.items blocks.new.items, result) }
+{
+    let block = match handle_in(handles, HandleState::Dropping, handle) {
+        Ok(block) => block,
+        Err(fault) => return Reply::Refused(fault),
+    };
+    let (word, last) = blocks[block as usize].word.dropped();
+    let (state, reply) = after_sub(last);
+    set_word(blocks, block, word);
+    set_state(handles, handle, state);
+    reply
+}
 
-    fn back(&mut self, handle: u64) -> Reply
-        ensures { Takes self.old (Step.Back handle) result self.new }
-    {
-        let block = match self.handle_in(HandleState::Owing, handle) {
-            Ok(block) => block,
-            Err(fault) => return Reply::Refused(fault),
-        };
-        set_given(&mut self.blocks, block);
-        set_state(&mut self.handles, handle, HandleState::Gone);
-        Reply::Given
-    }
+#[tactic(auto, using(std::proofs::lemmas::Option::slice_get_within, std::proofs::lemmas::Option::get_or_from_slice_get))]
+fn back<A: Allocator>(
+    handles: &mut Vec<HandleSummary, A>,
+    blocks: &mut Vec<BlockEntry, A>,
+    handle: u64,
+) -> Reply
+    requires { IsSound (state_of_tables handles.old.items blocks.old.items) }
+    ensures { (limit : ℕ) → step limit (state_of_tables handles.old.items blocks.old.items) (Step.Back handle)
+        ≡ (state_of_tables handles.new.items blocks.new.items, result) }
+{
+    let block = match handle_in(handles, HandleState::Owing, handle) {
+        Ok(block) => block,
+        Err(fault) => return Reply::Refused(fault),
+    };
+    set_given(blocks, block);
+    set_state(handles, handle, HandleState::Gone);
+    Reply::Given
+}
 
-    fn leak(&mut self, handle: u64) -> Reply
-        ensures { Takes self.old (Step.Leak handle) result self.new }
-    {
-        let block = match self.handle_in(HandleState::Free, handle) {
-            Ok(block) => block,
-            Err(fault) => return Reply::Refused(fault),
-        };
-        set_mark(&mut self.blocks, block);
-        Reply::Marked
-    }
+#[tactic(auto, using(std::proofs::lemmas::Option::slice_get_within, std::proofs::lemmas::Option::get_or_from_slice_get))]
+fn leak<A: Allocator>(
+    handles: &Vec<HandleSummary, A>,
+    blocks: &mut Vec<BlockEntry, A>,
+    handle: u64,
+) -> Reply
+    requires { IsSound (state_of_tables handles.now.items blocks.old.items) }
+    ensures { (limit : ℕ) → step limit (state_of_tables handles.now.items blocks.old.items) (Step.Leak handle)
+        ≡ (state_of_tables handles.now.items blocks.new.items, result) }
+{
+    let block = match handle_in(handles, HandleState::Free, handle) {
+        Ok(block) => block,
+        Err(fault) => return Reply::Refused(fault),
+    };
+    set_mark(blocks, block);
+    Reply::Marked
+}
 
-    fn into_raw(&mut self, handle: u64) -> Reply
-        ensures { Takes self.old (Step.IntoRaw handle) result self.new }
-    {
-        match self.handle_in(HandleState::Free, handle) {
-            Err(fault) => Reply::Refused(fault),
-            Ok(_) => {
-                set_state(&mut self.handles, handle, HandleState::Raw);
-                Reply::Raw
-            }
-        }
-    }
+#[tactic(auto, using(std::proofs::lemmas::Option::slice_get_within, std::proofs::lemmas::Option::get_or_from_slice_get))]
+fn into_raw<A: Allocator>(
+    handles: &mut Vec<HandleSummary, A>,
+    blocks: &Vec<BlockEntry, A>,
+    handle: u64,
+) -> Reply
+    requires { IsSound (state_of_tables handles.old.items blocks.now.items) }
+    ensures { (limit : ℕ) → step limit (state_of_tables handles.old.items blocks.now.items) (Step.IntoRaw handle)
+        ≡ (state_of_tables handles.new.items blocks.now.items, result) }
+{
+    let _block = match handle_in(handles, HandleState::Free, handle) {
+        Ok(block) => block,
+        Err(fault) => return Reply::Refused(fault),
+    };
+    set_state(handles, handle, HandleState::Raw);
+    Reply::Raw
+}
 
-    fn from_raw(&mut self, handle: u64) -> Reply
-        ensures { Takes self.old (Step.FromRaw handle) result self.new }
-    {
-        match self.handle_in(HandleState::Raw, handle) {
-            Err(fault) => Reply::Refused(fault),
-            Ok(_) => {
-                set_state(&mut self.handles, handle, HandleState::Free);
-                Reply::Unraw
-            }
-        }
-    }
+#[tactic(auto, using(std::proofs::lemmas::Option::slice_get_within, std::proofs::lemmas::Option::get_or_from_slice_get))]
+fn from_raw<A: Allocator>(
+    handles: &mut Vec<HandleSummary, A>,
+    blocks: &Vec<BlockEntry, A>,
+    handle: u64,
+) -> Reply
+    requires { IsSound (state_of_tables handles.old.items blocks.now.items) }
+    ensures { (limit : ℕ) → step limit (state_of_tables handles.old.items blocks.now.items) (Step.FromRaw handle)
+        ≡ (state_of_tables handles.new.items blocks.now.items, result) }
+{
+    let _block = match handle_in(handles, HandleState::Raw, handle) {
+        Ok(block) => block,
+        Err(fault) => return Reply::Refused(fault),
+    };
+    set_state(handles, handle, HandleState::Free);
+    Reply::Unraw
 }
 
 /// The table of refusals: why a step that needs a handle in one state is refused for a handle in another.
@@ -308,17 +381,6 @@ fn refusal(needed: HandleState, state: HandleState) -> Option<StepFault>
         (HandleState::Dropping, HandleState::Free | HandleState::Raw) => Some(StepFault::NotInDrop),
         (HandleState::Owing, _) => Some(StepFault::NotOwing),
         _ => Some(StepFault::NoHandle),
-    }
-}
-
-/// How often a block was freed, according to its entry; 0 if it has no entry.
-fn given_by_entry(entry: Option<BlockEntry>) -> u64
-    ensures made { IfSome entry (λ found. result ≡ (if found.given then 1 else 0)) }
-    ensures unmade { IsNone entry → result ≡ 0 }
-{
-    match entry {
-        Some(entry) if entry.given => 1,
-        _ => 0,
     }
 }
 
@@ -414,16 +476,17 @@ fn set_word<A: Allocator>(blocks: &mut Vec<BlockEntry, A>, block: u64, word: Wor
 /// Marks a block. Its count stays.
 fn set_mark<A: Allocator>(blocks: &mut Vec<BlockEntry, A>, block: u64)
     requires { block < vec_len blocks.old }
-    ensures { blocks.new.items ≡ blocks_with_mark blocks.old.items block }
+    ensures { blocks.new.items ≡ blocks_with_word blocks.old.items block (marked_of (slice_index_or blocks.old.items block no_block).word) }
 {
     let word = blocks[block as usize].word;
     set_word(blocks, block, word.with_mark());
 }
 
-/// Records that a block was freed.
+/// Records that a block was freed once more.
 fn set_given<A: Allocator>(blocks: &mut Vec<BlockEntry, A>, block: u64)
-    requires { block < vec_len blocks.old }
+    requires made { block < vec_len blocks.old }
+    requires unfreed { (slice_index_or blocks.old.items block no_block).given ≡ 0 }
     ensures { blocks.new.items ≡ blocks_with_given blocks.old.items block }
 {
-    blocks[block as usize].given = true;
+    blocks[block as usize].given += 1;
 }

@@ -1,9 +1,8 @@
 //! The answer to a script of steps.
-ghost use Rattle.std.specs.Prelude.{◌≡◌, ◌++◌, ◌∷◌, [], ◌↔◌, List, Ok, IfOk, IfErr, OnOk, string_bytes};
-ghost use Rattle.arcstr_count.specs.declared.steps.Step.{Step};
-ghost use Rattle.arcstr_count.specs.Summary.{StandsFor};
+ghost use Rattle.std.specs.Prelude.{◌≡◌, ◌++◌, ◌∷◌, [], ◌↔◌, Ok, IfOk, IfErr, OnOk, string_bytes};
+ghost use Rattle.arcstr_count.specs.Model.{start};
 ghost use Rattle.arcbench_core.specs.Line.{newline, script_lines, step_of};
-ghost use Rattle.arcbench_core.specs.Script.{reply_text, answer_by, answer_to, answer_under, answers, bad_limit, history_with};
+ghost use Rattle.arcbench_core.specs.Script.{reply_text, answer_by, answer_to, answer_under, answers, bad_limit, state_with};
 
 use super::line::{first_line, limit_in, step_of};
 use arcstr::count::{Reply, RunFault, World};
@@ -66,9 +65,9 @@ fn answer_lines<A: Allocator + Copy>(
     out: &mut String<A>,
     bytes: &[u8],
 ) -> Result<(), RunFault>
-    requires { StandsFor world.old [] }
+    requires { world.old.state ≡ start }
     ensures text { OnOk result (string_bytes out.new
-        ≡ string_bytes out.old ++ answers world.old.summary.limit (script_lines bytes.now)) }
+        ≡ string_bytes out.old ++ answers world.old.limit (script_lines bytes.now)) }
     ensures memory { IfErr result (λ fault. fault ≡ RunFault.Memory) }
 {
     let mut rest = bytes;
@@ -86,12 +85,11 @@ fn answer_line<A: Allocator + Copy>(
     out: &mut String<A>,
     line: &[u8],
 ) -> Result<(), RunFault>
-    ensures text { OnOk result ((history : List Step) → StandsFor world.old history
-        → string_bytes out.new ≡ string_bytes out.old
-        ++ (answer_by world.old.summary.limit history (step_of line.now) ++ newline ∷ [])) }
-    ensures stands { OnOk result ((history : List Step) → StandsFor world.old history
-        → StandsFor world.new (history_with history (step_of line.now))) }
-    ensures limit { world.new.summary.limit ≡ world.old.summary.limit }
+    ensures text { OnOk result (string_bytes out.new
+        ≡ string_bytes out.old ++ (answer_by world.old.limit world.old.state (step_of line.now) ++ newline ∷ [])) }
+    ensures state { OnOk result (world.new.state
+        ≡ state_with world.old.limit world.old.state (step_of line.now)) }
+    ensures limit { world.new.limit ≡ world.old.limit }
     ensures memory { IfErr result (λ fault. fault ≡ RunFault.Memory) }
 {
     let pushed = match step_of(line) {

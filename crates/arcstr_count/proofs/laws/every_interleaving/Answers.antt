@@ -1,4 +1,4 @@
-use Rattle.arcstr_count.proofs.LawsOfPasts.{holds_in_every_interleaving}
+use Rattle.arcstr_count.proofs.LawsOfHistories.{holds_in_every_interleaving}
 use Rattle.arcstr_count.proofs.laws.every_interleaving.Goals as goal
 
 pub returns : goal.returns

@@ -1,5 +1,4 @@
 use Rattle.std.proofs.Common.{[], ◌∷◌, ◌++◌}
-use Rattle.arcbench_core.specs.Script.{steps_of}
 use Rattle.arcbench_core.proofs.AnsweredLines.{one_more_done}
 use Rattle.arcbench_core.proofs.script.answers.answer_lines.Goals as goal
 
@@ -9,5 +8,5 @@ loop-rest-preserved g c =
     let so_far = rw c.first_line.ensures.lines at c.loop-rest.invariant.1 in (
       done ++ c.first_line.result.0.now ∷ [],
       one_more_done _ done _ _ _ c.loop-rest.world _ _ _ _ so_far c.in_ok-answer_line.ensures.limit
-          (c.in_ok-answer_line.ensures.stands (steps_of done) so_far.stands) (c.in_ok-answer_line.ensures.text (steps_of done) so_far.stands),
+          c.in_ok-answer_line.ensures.state c.in_ok-answer_line.ensures.text,
     )

@@ -1,0 +1,316 @@
+-- The laws of every interleaving, over the prefixes of a history, and what the step function keeps of every state after a history.
+--
+-- Each state after a history is lawful: each of its blocks is balanced. Each law is read off this balance, for an unmarked block and a marked one.
+use Rattle.arcstr_count.proofs.Names.{◌≡◌, ◌≢◌, ◌↔◌, ℕ, zero, suc, ◌+◌, ◌<◌, ◌≤◌, Bool, true, false, IsFalse, IsTrue, Some, None, Option}
+use Rattle.arcstr_count.proofs.Names.{List, [], ◌∷◌, ◌++◌, length, refl, sym, ◌∙◌, ap, subst, subst₂, arith, true≢false, nil_from_length, get_or, get_or_past, nat_lt}
+use Rattle.arcstr_count.proofs.Names.{ltb-true, ltb-false, slice_get, slice_get_within, get_or_from_slice_get, ∥∥₁_elim, ∥∥₁_map, props, ap₂, ◌⊎◌, inl, inr, cases_eq, set}
+use Rattle.arcstr_count.proofs.Names.{get_or-set_same, get_or-set_other, get_or_append_left, length-set, length_push, Reply, StepFault}
+use Rattle.arcstr_count.proofs.Names.{Step, Make, Look, Clone, Begin, Sub, Back, Leak, IntoRaw, FromRaw, Dropping, Owing, HandleSummary, BlockEntry, FlagAndCount}
+use Rattle.arcstr_count.proofs.Names.{cloned_of, lives, is_dropping, is_owing, HoldsInEveryInterleaving, StandsAfter}
+use Rattle.arcstr_count.proofs.Names.{State, WorldView, start, no_block, no_handle, block_on, state_on, word_in, word_on, given_in, state_of_tables, accepted, refusal_in}
+use Rattle.arcstr_count.proofs.Names.{unless_refused, step, after_from, after, replies_from, word_after, living_after}
+use Rattle.arcstr_count.proofs.Names.{makes_after, IsWorld, IsSound, handles_on}
+use Rattle.arcstr_count.proofs.LawsOfBlocks.{begun_by, Counts, held, IsBalanced, IsLawful, some_held, lawful_from, lawful_after}
+use Rattle.std.specs.Prelude.{Result, Ok, Err, IfOk, IfErr}
+use Rattle.arcstr_count.specs.declared.faults.RunFault.{RunFault}
+use Rattle.arcstr_count.specs.declared.faults.RunFault.TheVariants.{Memory}
+
+-- ---- one block of a lawful state
+
+-- t is 0 while l is above 0, and 1 once l is 0
+ended_or_not : (l t : ℕ) → (0 < l → t ≡ 0) → (l ≡ 0 → t ≡ 1) → (t ≤ 1) × (0 < t → l ≡ 0)
+ended_or_not zero t some none = (omega (arith, none refl), λ h. refl)
+ended_or_not (suc l) t some none = let no = some (omega arith) in (omega arith, λ h. omega arith)
+
+-- what the balance of a block says, by its mark
+pub record SaysOfBlock (limit : ℕ) (w : FlagAndCount) (n : Counts) (g : ℕ) : Type 0 where
+  pub exact : IsFalse w.flag → w.count ≡ n lives
+  pub covered : IsTrue w.flag → n is_dropping ≤ w.count
+  pub bounded : w.count ≤ limit + 1
+  pub one : n is_owing + g ≤ 1
+  pub alone : 0 < n is_owing + g → IsFalse w.flag × (n lives ≡ 0)
+  pub exactly : n lives ≡ 0 → n is_owing ≡ 0 → (g ≡ 1) ↔ IsFalse w.flag
+
+says_of_block : (limit : ℕ) (w : FlagAndCount) (m : Bool) (n : Counts) (g : ℕ) → IsBalanced limit w m n g → SaysOfBlock limit w n g
+says_of_block limit w true n g b = record {
+  exact = λ unmarked. absurd (true≢false (sym b.flag ∙ unmarked));
+  covered = λ _. b.covered;
+  bounded = b.bounded;
+  one = omega (arith, b.held);
+  alone = λ some. absurd (omega (arith, b.held));
+  exactly = λ none settled. (λ given. absurd (omega (arith, b.held)), λ unmarked. absurd (true≢false (sym b.flag ∙ unmarked)));
+}
+says_of_block limit w false n g b =
+    let ends = ended_or_not (n lives) (n is_owing + g) b.held b.ended in record {
+      exact = λ _. b.count;
+      covered = λ marked. absurd (true≢false (sym marked ∙ b.flag));
+      bounded = omega (arith, b.count, b.few);
+      one = ends.0;
+      alone = λ some. (b.flag, ends.1 some);
+      exactly = λ none settled. (λ given. b.flag, λ unmarked. omega (arith, b.ended none));
+    }
+
+pub says : (limit : ℕ) (w : State) (b : ℕ) → IsLawful limit w → b < length w.blocks
+    → SaysOfBlock limit (word_in w b) (λ test. held w.handles b test) (given_in w b)
+says limit w b lawful made = let balance = lawful.balanced b made in says_of_block limit _ balance.0 _ _ balance.1
+
+pub stands : (limit : ℕ) (history : List Step) (b : ℕ) → b < makes_after limit history → StandsAfter limit history b (word_after limit history b)
+stands limit history b made = let all = says limit (after limit history) b (lawful_after limit history) made in record {
+  flag = refl;
+  exact = all.exact;
+  covered = all.covered;
+  bounded = λ _. all.bounded;
+}
+
+-- ---- histories that go on
+
+pub after_from-append : (limit : ℕ) (w : State) (xs ys : List Step) → after_from limit w (xs ++ ys) ≡ after_from limit (after_from limit w xs) ys
+after_from-append limit w [] ys = refl
+after_from-append limit w (x ∷ xs) ys = after_from-append limit (step limit w x).0 xs ys
+
+-- one more step at the end
+pub after_from-step : (limit : ℕ) (w : State) (xs : List Step) (s : Step) → after_from limit w (xs ++ s ∷ []) ≡ (step limit (after_from limit w xs) s).0
+after_from-step limit w xs s = after_from-append limit w xs (s ∷ [])
+
+pub after-step : (limit : ℕ) (history : List Step) (s : Step) → after limit (history ++ s ∷ []) ≡ (step limit (after limit history) s).0
+after-step limit history s = after_from-step limit start history s
+
+pub replies_from-step : (limit : ℕ) (w : State) (xs : List Step) (s : Step)
+    → replies_from limit w (xs ++ s ∷ []) ≡ replies_from limit w xs ++ (step limit (after_from limit w xs) s).1 ∷ []
+replies_from-step limit w [] s = refl
+replies_from-step limit w (x ∷ xs) s = ap (λ later. (step limit w x).1 ∷ later) (replies_from-step limit (step limit w x).0 xs s)
+
+-- what each accepted step keeps, a list of steps keeps
+kept_from : (limit : ℕ) (P : State → Type 0) → ((w : State) (s : Step) → P w → P (accepted limit w s).0) → (w : State) (later : List Step)
+    → P w → P (after_from limit w later)
+kept_from limit P keeps w [] now = now
+kept_from limit P keeps w (s ∷ later) now = kept_from limit P keeps (step limit w s).0 later (by_refusal (refusal_in w s))
+  where
+    by_refusal : (o : Option StepFault) → P (unless_refused o w (accepted limit w s)).0
+    by_refusal None = keeps w s now
+    by_refusal (Some fault) = now
+
+-- ---- a block that was made stays made, its mark stays, and what was freed stays freed
+
+record Grows (old new : List BlockEntry) : Type 0 where
+  made : length old ≤ length new
+  marked : (b : ℕ) → b < length old → (get_or old b no_block).word.flag ≡ true → (get_or new b no_block).word.flag ≡ true
+  freed : (b : ℕ) → b < length old → (get_or old b no_block).given ≤ (get_or new b no_block).given
+
+grows_not : (bs : List BlockEntry) → Grows bs bs
+grows_not bs = record { made = omega arith; marked = λ b made e. e; freed = λ b made. omega arith }
+
+-- the entry of one block changes, and keeps its mark and its frees
+grows_at : (bs : List BlockEntry) (c : ℕ) (entry : BlockEntry)
+    → ((get_or bs c no_block).word.flag ≡ true → entry.word.flag ≡ true) → (get_or bs c no_block).given ≤ entry.given
+    → Grows bs (set bs c entry)
+grows_at bs c entry mark free = record {
+  made = omega (arith, length-set bs c entry);
+  marked = λ b made. by_block_mark b made (cases_eq b c);
+  freed = λ b made. by_block_free b made (cases_eq b c);
+}
+  where
+    by_block_mark : (b : ℕ) → b < length bs → (b ≡ c) ⊎ (b ≢ c) → (get_or bs b no_block).word.flag ≡ true → (get_or (set bs c entry) b no_block).word.flag ≡ true
+    by_block_mark b made (inl same) e = rw (same, get_or-set_same bs c entry no_block (rw same at made)) (mark (rw same at e))
+    by_block_mark b made (inr apart) e = rw (get_or-set_other bs c b entry no_block apart) e
+
+    by_block_free : (b : ℕ) → b < length bs → (b ≡ c) ⊎ (b ≢ c) → (get_or bs b no_block).given ≤ (get_or (set bs c entry) b no_block).given
+    by_block_free b made (inl same) = rw (same, get_or-set_same bs c entry no_block (rw same at made)) free
+    by_block_free b made (inr apart) = rw (get_or-set_other bs c b entry no_block apart) (omega arith)
+
+cloned_marked : (limit : ℕ) (w : FlagAndCount) → w.flag ≡ true → (cloned_of limit w).flag ≡ true
+cloned_marked limit w e = rw e refl
+
+grows : (limit : ℕ) (w : State) (s : Step) → Grows w.blocks (accepted limit w s).0.blocks
+grows limit w Make = record {
+  made = omega (arith, length_push w.blocks no_block);
+  marked = λ b made e. rw (get_or_append_left w.blocks (no_block ∷ []) no_block b made) e;
+  freed = λ b made. rw (get_or_append_left w.blocks (no_block ∷ []) no_block b made) (omega arith);
+}
+grows limit w (Look h) = grows_not w.blocks
+grows limit w (Clone h) = grows_at w.blocks (block_on w h) _ (cloned_marked limit (word_on w h)) (omega arith)
+grows limit w (Begin h) = by_flag (word_on w h).flag
+  where
+    by_flag : (f : Bool) → Grows w.blocks (begun_by f w h).0.blocks
+    by_flag true = grows_not w.blocks
+    by_flag false = grows_not w.blocks
+grows limit w (Sub h) = grows_at w.blocks (block_on w h) _ (λ e. e) (omega arith)
+grows limit w (Back h) = grows_at w.blocks (block_on w h) _ (λ e. e) (omega arith)
+grows limit w (Leak h) = grows_at w.blocks (block_on w h) _ (λ e. refl) (omega arith)
+grows limit w (IntoRaw h) = grows_not w.blocks
+grows limit w (FromRaw h) = grows_not w.blocks
+
+pub made_stays : (limit : ℕ) (w : State) (later : List Step) (b : ℕ) → b < length w.blocks → b < length (after_from limit w later).blocks
+made_stays limit w later b = kept_from limit (λ v. b < length v.blocks) (λ v s made. let more = (grows limit v s).made in omega arith) w later
+
+pub mark_stays : (limit : ℕ) (w : State) (later : List Step) (b : ℕ) → b < length w.blocks → (word_in w b).flag ≡ true
+    → (word_in (after_from limit w later) b).flag ≡ true
+mark_stays limit w later b made marked =
+    (kept_from limit (λ v. (b < length v.blocks) × ((word_in v b).flag ≡ true))
+    (λ v s now. let more = (grows limit v s).made in let below : b < length (accepted limit v s).0.blocks = let first = now.0 in omega arith in
+    (below, (grows limit v s).marked b now.0 now.1)) w later (made, marked)).1
+
+given_grows : (limit : ℕ) (w : State) (later : List Step) (b : ℕ) → b < length w.blocks → given_in w b ≤ given_in (after_from limit w later) b
+given_grows limit w later b made =
+    (kept_from limit (λ v. (b < length v.blocks) × (given_in w b ≤ given_in v b))
+    (λ v s now. let more = (grows limit v s).made in let below : b < length (accepted limit v s).0.blocks = let first = now.0 in omega arith in
+    let before = now.1 in let freed = (grows limit v s).freed b now.0 in
+    (below, omega arith)) w later (made, omega arith)).1
+
+-- ==== the laws of every interleaving
+
+-- once a block is freed, no handle lives on it
+given_alone : (limit : ℕ) (w : State) (b : ℕ) → IsLawful limit w → b < length w.blocks → given_in w b ≡ 1 → held w.handles b lives ≡ 0
+given_alone limit w b lawful made given = ((says limit w b lawful made).alone (omega (arith, given))).1
+
+given_permanently : (limit : ℕ) (w : State) (later : List Step) (b : ℕ) → IsLawful limit w → b < length w.blocks → given_in w b ≡ 1
+    → held (after_from limit w later).handles b lives ≡ 0
+given_permanently limit w later b lawful made given =
+    let later_lawful = lawful_from limit w later lawful in
+    let still = made_stays limit w later b made in
+    let least = given_grows limit w later b made in
+    let most = (says limit (after_from limit w later) b later_lawful still).one in
+    given_alone limit (after_from limit w later) b later_lawful still (omega (arith, given))
+
+pub holds_in_every_interleaving : (limit : ℕ) (steps : List Step) → HoldsInEveryInterleaving limit steps
+holds_in_every_interleaving limit steps = record {
+  words_stand = λ prefix later b _ made. stands limit prefix b made;
+  looks_exact = λ prefix later b _ made unmarked.
+      let all = says limit (after limit prefix) b (lawful_after limit prefix) made in
+      let exact = all.exact unmarked in
+      (omega (arith, all.bounded), rw (unmarked, exact) refl);
+  marks_stay = λ prefix more later b _ made marked.
+      subst (λ (w : State). (word_in w b).flag ≡ true) (sym (after_from-append limit start prefix more))
+      (mark_stays limit (after limit prefix) more b made marked);
+  one_owes = λ prefix later b _ made.
+      let all = says limit (after limit prefix) b (lawful_after limit prefix) made in
+      (omega (arith, all.one), λ owes. let alone = all.alone (omega arith) in (alone.0, nil_from_length (living_after limit prefix b) alone.1));
+  given_once = λ prefix more later b _ made.
+      let all = says limit (after limit prefix) b (lawful_after limit prefix) made in (
+        omega (arith, all.one),
+        λ given. (
+          nil_from_length (living_after limit prefix b) (given_alone limit (after limit prefix) b (lawful_after limit prefix) made given),
+          subst (λ (w : State). handles_on w b lives ≡ []) (sym (after_from-append limit start prefix more))
+              (nil_from_length _ (given_permanently limit (after limit prefix) more b (lawful_after limit prefix) made given)),
+        ),
+      );
+  given_exactly = λ prefix later b _ made none quiet settled.
+      (says limit (after limit prefix) b (lawful_after limit prefix) made).exactly (ap length none) (ap length settled);
+}
+
+-- ==== worlds
+
+-- while a handle is dropping, the count of its block's word is not 0, also on a marked block
+pub dropping_counted : (limit : ℕ) (history : List Step) (h : ℕ) → h < length (after limit history).handles
+    → state_on (after limit history) h ≡ Dropping → 0 < (word_on (after limit history) h).count
+dropping_counted limit history h born state =
+    let all = says limit (after limit history) (block_on (after limit history) h) (lawful_after limit history) ((lawful_after limit history).made h born) in
+    let alive = some_held (after limit history).handles h lives born (ap lives state) in
+    let drops = some_held (after limit history).handles h is_dropping born (ap is_dropping state) in
+    by_flag (word_on (after limit history) h).flag refl (λ unmarked. omega (arith, all.exact unmarked)) (λ marked. omega (arith, all.covered marked))
+  where
+    by_flag : (f : Bool) → (word_on (after limit history) h).flag ≡ f
+        → ((word_on (after limit history) h).flag ≡ false → 0 < (word_on (after limit history) h).count)
+        → ((word_on (after limit history) h).flag ≡ true → 0 < (word_on (after limit history) h).count)
+        → 0 < (word_on (after limit history) h).count
+    by_flag true e exact covered = covered e
+    by_flag false e exact covered = exact e
+
+sound_after : (limit : ℕ) (history : List Step) → IsSound (after limit history)
+sound_after limit history = record {
+  made = λ h it found. subst (λ (x : HandleSummary). x.block < length (after limit history).blocks) (here h it found) (lawful.made h (slice_get_within (after limit history).handles h it found));
+  counted = λ h it found state. subst (λ (x : HandleSummary). 0 < (word_in (after limit history) x.block).count) (here h it found)
+      (dropping_counted limit history h (slice_get_within (after limit history).handles h it found) (ap (λ (x : HandleSummary). x.state) (here h it found) ∙ state));
+  unfreed = λ h it found state. subst (λ (x : HandleSummary). given_in (after limit history) x.block ≡ 0) (here h it found)
+      (unfreed h (slice_get_within (after limit history).handles h it found) (ap (λ (x : HandleSummary). x.state) (here h it found) ∙ state));
+  once = λ b. by_made b (nat_lt b (length (after limit history).blocks)) refl;
+}
+  where
+    lawful : IsLawful limit (after limit history)
+    lawful = lawful_after limit history
+
+    here : (h : ℕ) (it : HandleSummary) → slice_get (after limit history).handles h ≡ Some it → get_or (after limit history).handles h no_handle ≡ it
+    here h it found = get_or_from_slice_get (after limit history).handles h it no_handle found
+
+    unfreed : (h : ℕ) → h < length (after limit history).handles → state_on (after limit history) h ≡ Owing
+        → given_in (after limit history) (block_on (after limit history) h) ≡ 0
+    unfreed h born state =
+        let all = says limit (after limit history) (block_on (after limit history) h) lawful (lawful.made h born) in
+        let owes = some_held (after limit history).handles h is_owing born (ap is_owing state) in
+        omega (arith, all.one)
+
+    by_made : (b : ℕ) (t : Bool) → nat_lt b (length (after limit history).blocks) ≡ t → given_in (after limit history) b ≤ 1
+    by_made b true test =
+        let all = says limit (after limit history) b lawful (ltb-true b (length (after limit history).blocks) test) in omega (arith, all.one)
+    by_made b false test =
+        let none = ap (λ (e : BlockEntry). e.given) (get_or_past (after limit history).blocks b no_block (ltb-false b (length (after limit history).blocks) test)) in
+        omega arith
+
+pub sound_world : (limit : ℕ) (handles : List HandleSummary) (blocks : List BlockEntry) → IsWorld limit handles blocks
+    → IsSound (state_of_tables handles blocks)
+sound_world limit handles blocks world = record {
+  made = λ h it found. ∥∥₁_elim world.has_history (hlevel props) (λ known. (sound known).made h it found);
+  counted = λ h it found state. ∥∥₁_elim world.has_history (hlevel props) (λ known. (sound known).counted h it found state);
+  unfreed = λ h it found state. ∥∥₁_elim world.has_history (hlevel props) (λ known. (sound known).unfreed h it found state);
+  once = λ b. ∥∥₁_elim world.has_history (hlevel props) (λ known. (sound known).once b);
+}
+  where
+    sound : (history : List Step) × (state_of_tables handles blocks ≡ after limit history) → IsSound (state_of_tables handles blocks)
+    sound known = subst IsSound (sym known.1) (sound_after limit known.0)
+
+-- a world that takes a step is a world
+pub world_stepped : (limit : ℕ) (handles new_handles : List HandleSummary) (blocks new_blocks : List BlockEntry) (s : Step) (reply : Reply)
+    → IsWorld limit handles blocks → step limit (state_of_tables handles blocks) s ≡ (state_of_tables new_handles new_blocks, reply)
+    → IsWorld limit new_handles new_blocks
+world_stepped limit handles new_handles blocks new_blocks s reply world stepped = record {
+  limited = world.limited;
+  has_history = ∥∥₁_map world.has_history (λ known. (
+    known.0 ++ s ∷ [],
+    sym (ap (λ (t : State × Reply). t.0) stepped) ∙ ap (λ w. (step limit w s).0) known.1 ∙ sym (after_from-step limit start known.0 s),
+  ));
+}
+
+-- a world that answers a step, or runs out of memory, is a world
+pub world_taken : (limit : ℕ) (handles new_handles : List HandleSummary) (blocks new_blocks : List BlockEntry) (s : Step) (result : Result Reply RunFault)
+    → IsWorld limit handles blocks
+    → IfOk result (λ reply. step limit (state_of_tables handles blocks) s ≡ (state_of_tables new_handles new_blocks, reply))
+    → IfErr result (λ fault. (fault ≡ Memory) × (new_handles ≡ handles) × (new_blocks ≡ blocks))
+    → IsWorld limit new_handles new_blocks
+world_taken limit handles new_handles blocks new_blocks s (Ok reply) world stepped same =
+    world_stepped limit handles new_handles blocks new_blocks s reply world stepped
+world_taken limit handles new_handles blocks new_blocks s (Err fault) world stepped same =
+    subst₂ (λ hs bs. IsWorld limit hs bs) (sym same.1) (sym same.2) world
+
+-- an entry that was read, whatever the default
+pub get_or_any : {X : Type 0} (xs : List X) (k : ℕ) (d e : X) → k < length xs → get_or xs k d ≡ get_or xs k e
+get_or_any [] k d e within = absurd (omega arith)
+get_or_any (x ∷ xs) zero d e within = refl
+get_or_any (x ∷ xs) (suc k) d e within = get_or_any xs k d e (omega arith)
+
+-- a world in the course of a list of steps: it has taken these steps, with these replies
+pub record HasTaken (first : WorldView) (done : List Step) (world : WorldView) (replies : List Reply) : Type 0 where
+  pub limited : world.limit ≡ first.limit
+  pub state : world.state ≡ after_from first.limit first.state done
+  pub replied : replies ≡ replies_from first.limit first.state done
+
+pub takes_more : (first : WorldView) (done : List Step) (old new : WorldView) (replies : List Reply) (s : Step) (reply : Reply)
+    → HasTaken first done old replies → step old.limit old.state s ≡ (new.state, reply) → new.limit ≡ old.limit
+    → HasTaken first (done ++ s ∷ []) new (replies ++ reply ∷ [])
+takes_more first done old new replies s reply before stepped same_limit = record {
+  limited = same_limit ∙ before.limited;
+  state = ap (λ (t : State × Reply). t.0) took ∙ sym (after_from-step first.limit first.state done s);
+  replied = ap₂ (λ rs r. rs ++ r ∷ []) before.replied (ap (λ (t : State × Reply). t.1) took)
+      ∙ sym (replies_from-step first.limit first.state done s);
+}
+  where
+    took : (new.state, reply) ≡ step first.limit (after_from first.limit first.state done) s
+    took = sym stepped ∙ λ i. step (before.limited i) (before.state i) s
+
+-- how often a block was freed, by the entry that was found
+pub given_found : (blocks : List BlockEntry) (b : ℕ) (e : BlockEntry) → slice_get blocks b ≡ Some e → e.given ≡ (get_or blocks b no_block).given
+given_found blocks b e found = ap (λ (x : BlockEntry). x.given) (sym (get_or_from_slice_get blocks b e no_block found))
+
+pub given_absent : (blocks : List BlockEntry) (b : ℕ) → slice_get blocks b ≡ None → 0 ≡ (get_or blocks b no_block).given
+given_absent [] b absent = refl
+given_absent (x ∷ blocks) zero absent = cc
+given_absent (x ∷ blocks) (suc b) absent = given_absent blocks b absent
