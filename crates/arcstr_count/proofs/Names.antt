@@ -17,7 +17,8 @@ pub use Rattle.std.proofs.lemmas.Option.{get_or_from_slice_get, slice_get-get_or
 pub use Rattle.std.proofs.lemmas.Simd.{map-map}
 pub use Rattle.std.specs.List.Sorted.{IsStrictlyIncreasing}
 pub use Rattle.arcstr_count.specs.Answer.{Need, needs, refusal_by, refusal_unless}
-pub use Rattle.arcstr_count.specs.Laws.{HoldsInEveryInterleaving, StandsAfter}
+pub use Rattle.arcstr_count.specs.Laws.{HoldsInEveryInterleaving}
+pub use Rattle.arcstr_count.specs.Model.{StandsAfter}
 pub use Rattle.arcstr_count.specs.Model.{HasHistory, IsSound, IsWorld, State, WorldView, accepted, accepted_after, after, after_from, answer_after, births_after}
 pub use Rattle.arcstr_count.specs.Model.{block_after, block_on, blocks_with_given, blocks_with_word, dropping_after, given_after, given_in, handles_on}
 pub use Rattle.arcstr_count.specs.Model.{handles_with_state, is_birth, is_dropping, is_make, is_owing, lives, living_after, look_reply, makes_after, marked_after}

@@ -1,16 +1,8 @@
 -- What holds in every interleaving: a block is freed at most once, never while a handle lives, and exactly if it is unmarked.
 use Rattle.std.specs.Prelude.{◌≡◌, ℕ, ◌+◌, ◌<◌, ◌≤◌, ◌↔◌, IsTrue, IsFalse, Some, List, [], ◌++◌, length}
 use Rattle.arcstr_count.specs.declared.steps.Step.{Step}
-use Rattle.arcstr_count.specs.Word.{FlagAndCount, looked_of}
-use Rattle.arcstr_count.specs.Model.{IsMade, marked_after, living_after, dropping_after, owing_after, given_after, word_after}
-
--- A count word stands for a block after a history: its flag says whether the block is marked; unmarked, its count is the number
--- of living handles; marked, its count is at least the number of dropping ones and at most limit + 1.
-pub record StandsAfter (limit : ℕ) (history : List Step) (b : ℕ) (w : FlagAndCount) : Type 0 where
-  pub flag : w.flag ≡ marked_after limit history b
-  pub exact : IsFalse (marked_after limit history b) → w.count ≡ length (living_after limit history b)
-  pub covered : IsTrue (marked_after limit history b) → length (dropping_after limit history b) ≤ w.count
-  pub bounded : IsTrue (marked_after limit history b) → w.count ≤ limit + 1
+use Rattle.arcstr_count.specs.Word.{looked_of}
+use Rattle.arcstr_count.specs.Model.{IsMade, StandsAfter, marked_after, living_after, dropping_after, owing_after, given_after, word_after}
 
 -- P holds of every prefix of the steps and every block made in it
 abbrev pub AtEachPrefix : ℕ → List Step → (List Step → ℕ → Type 0) → Type 0

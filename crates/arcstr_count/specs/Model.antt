@@ -2,9 +2,9 @@
 --
 -- A state has an entry for each handle that was born, in the order of their births, with its block and its own state, and an
 -- entry for each block that was made, in the order of their making, with its count word and how often it was freed. The count
--- word of an unmarked block is the number of the handles that live on it: `words_stand` of Laws.antt, for every history.
+-- word of an unmarked block is the number of the handles that live on it, after every history: `StandsAfter` below.
 use Rattle.std.specs.Prelude.{◌≡◌, ℕ, ◌+◌, ◌<◌, ◌≤◌, Bool, true, false, ◌&&◌, ◌==◌, if◌then◌else◌, List, [], ◌∷◌, ◌++◌, length}
-use Rattle.std.specs.Prelude.{zero, suc, filter, Option, None, Some, option_map, is_none, slice_get, slice_index_or, slice_set}
+use Rattle.std.specs.Prelude.{zero, suc, filter, Option, None, Some, option_map, is_none, slice_get, slice_index_or, slice_set, IsTrue, IsFalse}
 use Rattle.arcstr_count.specs.declared.steps.Step.{Step}
 use Rattle.arcstr_count.specs.declared.steps.Step.TheVariants.{Make, Look, Clone, Begin, Sub, Back, Leak, IntoRaw, FromRaw}
 use Rattle.arcstr_count.specs.declared.steps.HandleState.{HandleState}
@@ -229,6 +229,15 @@ dropping_after limit history b = handles_on (after limit history) b is_dropping
 
 abbrev pub owing_after : ℕ → List Step → ℕ → List ℕ
 owing_after limit history b = handles_on (after limit history) b is_owing
+
+-- A count word stands for a block after a history: its flag says whether the block is marked; unmarked, its count is the number
+-- of living handles; marked, its count is at least the number of dropping ones and at most limit + 1. The law `words_stand` of
+-- Laws.antt is that the count word of each block that was made does so after every history.
+pub record StandsAfter (limit : ℕ) (history : List Step) (b : ℕ) (w : FlagAndCount) : Type 0 where
+  pub flag : w.flag ≡ marked_after limit history b
+  pub exact : IsFalse (marked_after limit history b) → w.count ≡ length (living_after limit history b)
+  pub covered : IsTrue (marked_after limit history b) → length (dropping_after limit history b) ≤ w.count
+  pub bounded : IsTrue (marked_after limit history b) → w.count ≤ limit + 1
 
 -- ---- worlds
 
