@@ -33,7 +33,10 @@ fn a_long_text_is_made(rt: HostRuntime) {
     check_long(&rt, ArcStr::from_str(alloc, text.as_str()));
     check_long(&rt, ArcStr::try_alloc(alloc, text.as_str()));
     check_long(&rt, ArcStr::from_utf8(alloc, bytes));
-    check_long(&rt, ArcStr::init_with(alloc, LONG, |room| room.fill(b'7')));
+    check_long(
+        &rt,
+        ArcStr::init_with(alloc, text.len(), |room| room.fill(b'7')),
+    );
     check_long(&rt, ArcStr::try_repeat(alloc, "0123456789", LONG / 10));
     check_long(&rt, ArcStr::repeat(alloc, text.as_str(), 1));
     check_long(&rt, ArcStr::join(alloc, &[text.as_str(), ""], ""));
