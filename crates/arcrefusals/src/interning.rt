@@ -17,6 +17,8 @@ pub(crate) fn run<R: Machine>(rt: &R) -> io::Result<()> {
     again::<Handles, Interner, R>(rt, "Interner::intern_arc", 0, "foobar", 3)?;
     again::<Handles, Interner, R>(rt, "Interner::intern_substr", 1, "foo", 1)?;
     again::<Listed<0>, WordList, R>(rt, "WordList::intern", 0, "foobar", 0)?;
+    again::<(), WordList, R>(rt, "WordList::with_capacity", 0, "", 0)?;
+    again::<ListRoom, WordList, R>(rt, "WordList::intern where there is room", 0, DIGITS, 0)?;
     let line = "WordList::intern with a full table";
     again::<Listed<FULL>, WordList, R>(rt, line, 0, "foobar", 0)?;
     again::<Mapped, SymbolMap<u64>, R>(rt, "SymbolMap::insert", 0, "", 0)?;
@@ -166,6 +168,38 @@ impl Made for WordList {
     }
 }
 
+impl Calls<()> for WordList {
+    fn call<R: Machine>(rt: &R, _: &mut (), _: usize) -> Result<WordList, Stop> {
+        Ok(WordList::with_capacity(rt.alloc(), 50, 1275)?)
+    }
+}
+
+/// A text of 50 bytes. Its 50 prefixes have 1,275 bytes.
+const DIGITS: &str = "01234567890123456789012345678901234567890123456789";
+
+/// A list with room for these prefixes.
+#[derive(Drop)]
+struct ListRoom(WordList);
+
+impl Given for ListRoom {
+    fn prepare<R: Machine>(rt: &R) -> Result<ListRoom, Stop> {
+        Ok(ListRoom(WordList::with_capacity(rt.alloc(), 50, 1275)?))
+    }
+
+    fn is_unchanged<R: Machine>(&self, _rt: &R) -> bool {
+        self.0.is_empty()
+    }
+}
+
+impl Calls<ListRoom> for WordList {
+    fn call<R: Machine>(rt: &R, room: &mut ListRoom, _: usize) -> Result<WordList, Stop> {
+        for end in 1..51 {
+            room.0.intern(DIGITS.get(..end).ok_or(Stop::Differs)?)?;
+        }
+        Ok(mem::replace(&mut room.0, WordList::new(rt.alloc())))
+    }
+}
+
 /// A list with so many texts. A call that succeeds takes it.
 #[derive(Drop)]
 struct Listed<const TEXTS: usize>(Option<WordList>);
@@ -266,7 +300,7 @@ impl Made for SharedInterner {
 impl Calls<()> for SharedInterner {
     fn call<R: Machine>(rt: &R, _: &mut (), number: usize) -> Result<SharedInterner, Stop> {
         let interner = match number {
-            0 => SharedInterner::new(rt.alloc(), 2)?,
+            0 => SharedInterner::new(rt.alloc(), 64)?,
             _ => SharedInterner::with_capacity(rt.alloc(), 2, 100)?,
         };
         check(interner.is_empty())?;

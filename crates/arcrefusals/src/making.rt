@@ -11,12 +11,12 @@ type Block = Shared<5, Global>;
 pub(crate) fn run<R: Machine>(rt: &R) -> io::Result<()> {
     again::<(), ArcStr, R>(rt, "ArcStr::from_str", 0, "foobar", 1)?;
     again::<(), ArcStr, R>(rt, "ArcStr::try_alloc", 1, "foo bar.", 1)?;
-    again::<(), ArcStr, R>(rt, "ArcStr::from_utf8", 2, "foo, bar.", 1)?;
+    again::<(), ArcStr, R>(rt, "ArcStr::from_utf8", 2, "foobar", 1)?;
     let four_times = "0123456789abcdef0123456789abcdef0123456789abcdef0123456789abcdef";
-    again::<(), ArcStr, R>(rt, "ArcStr::try_repeat", 3, four_times, 1)?;
-    again::<(), ArcStr, R>(rt, "ArcStr::repeat", 4, "ababab", 1)?;
+    again::<(), ArcStr, R>(rt, "ArcStr::try_repeat", 3, "ababab", 1)?;
+    again::<(), ArcStr, R>(rt, "ArcStr::repeat", 4, four_times, 1)?;
     again::<(), ArcStr, R>(rt, "ArcStr::join", 5, "foo, , bar", 1)?;
-    again::<(), ArcStr, R>(rt, "ArcStr::init_with", 6, "abc", 1)?;
+    again::<(), ArcStr, R>(rt, "ArcStr::init_with", 6, "foobar", 1)?;
     again::<(), ArcStr, R>(rt, "ArcStr::try_from of a String", 11, "foobar", 1)?;
     again::<(), ArcStr, R>(rt, "ArcStr::try_from of a Vec", 12, "foobar", 1)?;
     again::<(), ArcStr, R>(rt, "ArcStr::from_iter of characters", 13, "foobar", 1)?;
@@ -44,9 +44,9 @@ impl Calls<()> for ArcStr {
         Ok(match number {
             0 => ArcStr::from_str(alloc, "foobar"),
             1 => ArcStr::try_alloc(alloc, "foo bar."),
-            2 => ArcStr::from_utf8(alloc, b"foo, bar."),
-            3 => ArcStr::try_repeat(alloc, "0123456789abcdef", 4),
-            4 => ArcStr::repeat(alloc, "ab", 3),
+            2 => ArcStr::from_utf8(alloc, b"foobar"),
+            3 => ArcStr::try_repeat(alloc, "ab", 3),
+            4 => ArcStr::repeat(alloc, "0123456789abcdef", 4),
             5 => ArcStr::join(alloc, &["foo", "", "bar"], ", "),
             6 => return filled_text(alloc),
             // What is formatted is longer than the room that it first has.
@@ -73,9 +73,9 @@ fn joined_strings(alloc: Global) -> Result<ArcStr, Stop> {
 /// Fills a text with a closure, which runs exactly if the call is not refused.
 fn filled_text(alloc: Global) -> Result<ArcStr, Stop> {
     let mut ran = false;
-    let made = ArcStr::init_with(alloc, 3, |bytes| {
+    let made = ArcStr::init_with(alloc, 6, |bytes| {
         ran = true;
-        bytes.copy_from_slice(b"abc");
+        bytes.copy_from_slice(b"foobar");
     });
     check(ran == made.is_ok())?;
     Ok(made?)

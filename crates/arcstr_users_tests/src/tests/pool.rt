@@ -2,9 +2,11 @@ use crate::tests::checks::check_eq;
 use arcbench_core::pool::{Gate, PoolFault, callers};
 use arcstr::ArcStr;
 use std::sync::atomic::{AtomicU64, Ordering};
+use std::thread::yield_now;
 
-/// How often a worker looks for the others: for many seconds, since other programs may keep them from starting.
-const LOOKS: u64 = 10_000_000_000;
+/// How often a worker looks for the others at most. After each look it lets another thread run, since
+/// other programs may keep the workers from starting.
+pub(crate) const LOOKS: u64 = 100_000_000;
 
 /// A gate at which no worker waits.
 struct OpenGate;
@@ -34,6 +36,7 @@ impl Gate for Meeting {
                 }
                 break;
             }
+            yield_now();
         }
     }
 }

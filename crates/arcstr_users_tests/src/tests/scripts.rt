@@ -223,6 +223,19 @@ fn answers_and_runs_a_long_script(rt: HostRuntime) {
     check_eq!(rt; written.as_slice(), wanted.as_bytes());
 }
 
+/// A script whose last line is long, which the reader gives three bytes at a time.
+#[test]
+fn a_script_of_a_million_reads_is_answered(rt: HostRuntime) {
+    let mut script = String::from_str(rt.alloc(), FIRST_SCRIPT).expect(&rt, "no memory");
+    let line = "x".repeat(rt.alloc(), 3_000_000).expect(&rt, "no memory");
+    script.push_str(&line).expect(&rt, "no memory");
+    let mut written = Vec::new(rt.alloc());
+    let mut input = Port::new(FakeReader::new(script.as_bytes(), NEVER));
+    let mut output = Port::new(&mut written);
+    copy(rt.alloc(), &mut input, &mut output).expect(&rt, "refused");
+    check!(rt; written.starts_with(FIRST_ANSWER.as_bytes()) && written.ends_with(b"bad\n"));
+}
+
 #[test]
 fn prints_each_fault(rt: HostRuntime) {
     let faults = [CopyFault::LimitTooLarge, CopyFault::Memory, CopyFault::Io];

@@ -1,15 +1,13 @@
 //! Interners of a few words and of many, and the counts of the texts that they keep.
 use crate::tests::checks::{check, check_eq};
+use crate::tests::interning::{WORDS, check_absent, letters, word_at};
 use crate::tests::made;
 use arcintern::{InternFault, Interner, Symbol};
 use arcstr::ArcStr;
-use std::alloc::{AllocFailed, AllocGlobal};
+use std::alloc::AllocFailed;
 use std::io;
 use std::process::Abort;
 use std::sync::Wait;
-
-/// How many words the large interner has.
-const WORDS: usize = 100_000;
 
 /// Interns a word, where memory is there.
 fn interned(rt: &impl Abort, interner: &mut Interner, word: &str) -> Symbol {
@@ -33,25 +31,22 @@ fn an_empty_word_is_a_text_too(rt: HostRuntime) {
     check!(rt; ArcStr::is_static(&interner[symbol]));
 }
 
-/// The word of a number.
-fn word_of(rt: &(impl Abort + AllocGlobal), number: usize) -> String {
-    format!(in rt.alloc(); "word {number}").expect(rt, "no memory")
-}
-
 #[test]
 fn many_words_are_numbered_as_they_come(rt: HostRuntime) {
+    let letters = &letters(&rt);
     let mut interner = Interner::new(rt.alloc());
     for number in 0..WORDS {
-        let word = word_of(&rt, number);
-        check_eq!(rt; interned(&rt, &mut interner, &word).index(), number);
+        let symbol = interned(&rt, &mut interner, word_at(&rt, letters, number));
+        check_eq!(rt; symbol.index(), number);
     }
     for number in 0..WORDS / 2 {
-        let word = word_of(&rt, number * 2);
-        check_eq!(rt; interned(&rt, &mut interner, &word).index(), number * 2);
+        let symbol = interned(&rt, &mut interner, word_at(&rt, letters, number * 2));
+        check_eq!(rt; symbol.index(), number * 2);
     }
+    check_absent(&rt, letters, |word: &str| interner.get(word).is_some());
     check_eq!(rt; interner.len(), WORDS);
     for (number, text) in interner.iter().enumerate() {
-        check_eq!(rt; text.as_str(), word_of(&rt, number).as_str());
+        check!(rt; text.eq_str(word_at(&rt, letters, number)));
         check_eq!(rt; ArcStr::strong_count(text), Some(1));
     }
 }

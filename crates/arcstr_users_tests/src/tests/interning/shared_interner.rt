@@ -2,7 +2,9 @@
 ghost use Rattle.std.specs.Prelude.{◌≤◌};
 
 use crate::tests::checks::{check, check_eq};
+use crate::tests::interning::{check_absent, letters, word_at};
 use crate::tests::made;
+use crate::tests::pool::LOOKS;
 use arcintern::{InternFault, SharedInterner, SharedSymbol, Symbol};
 use arcstr::{ArcStr, literal};
 use std::alloc::{AllocError, AllocGlobal, Global};
@@ -11,7 +13,7 @@ use std::process::Abort;
 use std::sync::Wait;
 use std::sync::atomic::{AtomicU64, Ordering};
 use std::thread;
-use std::thread::Threads;
+use std::thread::{Threads, yield_now};
 
 /// How many threads intern at once.
 const THREADS: usize = 8;
@@ -179,6 +181,17 @@ fn words_are_told_apart(ref rt: HostRuntime) {
     check_eq!(rt; interner.len(), 7);
 }
 
+/// Waits until all threads have arrived.
+fn wait_for_all(arrived: &AtomicU64) {
+    arrived.fetch_add(1, Ordering::SeqCst);
+    for _ in 0..LOOKS {
+        if arrived.load(Ordering::SeqCst) == THREADS as u64 {
+            break;
+        }
+        yield_now();
+    }
+}
+
 /// Waits until all threads have arrived, and then interns the same words in the same order.
 fn intern_together(
     rt: &impl Wait,
@@ -186,12 +199,7 @@ fn intern_together(
     interner: &SharedInterner,
     arrived: &AtomicU64,
 ) -> Result<Vec<Symbol>, InternFault> {
-    arrived.fetch_add(1, Ordering::SeqCst);
-    for _ in 0..10_000_000_000_u64 {
-        if arrived.load(Ordering::SeqCst) == THREADS as u64 {
-            break;
-        }
-    }
+    wait_for_all(arrived);
     let mut symbols = Vec::new(alloc);
     for number in 0..TOGETHER {
         let symbol = interner.intern(rt, &word_of(alloc, number)?)?;
@@ -225,6 +233,52 @@ fn threads_at_one_word_agree(rt: HostRuntime) {
     }
 }
 
+/// Waits until all threads have arrived, and then interns texts of this thread's own. Each text stays
+/// alive.
+fn intern_own_texts(
+    rt: &impl Wait,
+    alloc: Global,
+    interner: &SharedInterner,
+    arrived: &AtomicU64,
+) -> Result<Vec<ArcStr>, InternFault> {
+    let mut texts = Vec::new(alloc);
+    for number in 0..TOGETHER {
+        let Ok(text) = ArcStr::from_str(alloc, &word_of(alloc, number)?) else {
+            return Err(InternFault::Memory);
+        };
+        texts.push(text)?;
+    }
+    wait_for_all(arrived);
+    for text in &texts {
+        interner.intern_arc(rt, text)?;
+    }
+    Ok(texts)
+}
+
+/// Asserts that no text has another handle once its interner is gone: neither one that the interner
+/// kept, nor one for a word that another thread added first.
+fn check_handles_end<R: Abort + AllocGlobal + Threads + Wait + Sync>(rt: &R) {
+    let alloc = rt.alloc();
+    let interner = SharedInterner::new(alloc, 2).expect(rt, "refused");
+    let gate = &AtomicU64::new(0);
+    let work = |_: usize| intern_own_texts(rt, alloc, &interner, gate);
+    let lists = thread::map_indices(rt, alloc, THREADS, &work).expect(rt, "refused");
+    check_eq!(*rt; interner.len(), TOGETHER);
+    drop(interner);
+    for list in lists {
+        for text in &list.expect(rt, "refused") {
+            check_eq!(*rt; ArcStr::strong_count(text), Some(1));
+        }
+    }
+}
+
+#[test]
+fn texts_of_threads_end_with_their_interner(rt: HostRuntime) {
+    for _ in 0..200 {
+        check_handles_end(&rt);
+    }
+}
+
 /// Interns more words than the first rows of the list have, and asserts that the numbers are 0, 1, 2 and so on.
 fn check_order<R: Abort + AllocGlobal + Wait>(rt: &R, shards: usize)
     requires { (1 ≤ shards) × (shards ≤ 64) }
@@ -244,6 +298,25 @@ fn words_are_numbered_as_they_come(rt: HostRuntime) {
     check_order(&rt, 8);
     check_order(&rt, 37);
     check_order(&rt, 64);
+}
+
+/// How many words one shard gets: one less than a power of two.
+const MANY: usize = (1 << 17) - 1;
+
+#[test]
+fn many_words_of_one_shard_are_numbered_as_they_come(rt: HostRuntime) {
+    let letters = &letters(&rt);
+    let interner = SharedInterner::new(rt.alloc(), 1).expect(&rt, "refused");
+    for number in 0..MANY {
+        let word = word_at(&rt, letters, number);
+        check_eq!(rt; interned(&rt, &interner, word).index(), number);
+    }
+    let last = interner
+        .get(word_at(&rt, letters, MANY - 1))
+        .expect(&rt, "not found");
+    check!(rt; interner.symbol_at(last.number()).is_some());
+    check_absent(&rt, letters, |word: &str| interner.get(word).is_some());
+    check_eq!(rt; (interner.len(), interner.iter().count()), (MANY, MANY));
 }
 
 #[test]

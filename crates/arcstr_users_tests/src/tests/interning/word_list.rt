@@ -1,12 +1,12 @@
 //! Word lists of a few words, of many and of words of one hash, and symbol maps.
 use crate::tests::checks::{check, check_eq};
 use crate::tests::interning::collisions::Collides;
+use crate::tests::interning::{WORDS, check_absent, letters, word_at};
+use crate::tests::made;
 use arcintern::{Symbol, SymbolMap, WordList};
+use arcstr::ArcStr;
 use std::alloc::AllocGlobal;
 use std::process::Abort;
-
-/// How many words the large list has.
-const WORDS: usize = 100_000;
 
 /// Asserts that the word has this number, and that its text is the word.
 fn check_number(rt: &impl Abort, words: &mut WordList, word: &str, number: usize) {
@@ -39,18 +39,26 @@ fn word_of(rt: &(impl Abort + AllocGlobal), number: usize) -> String {
 
 #[test]
 fn words_of_a_list_are_numbered_as_they_come(rt: HostRuntime) {
+    let letters = &letters(&rt);
     let mut words = WordList::new(rt.alloc());
     for number in 0..WORDS {
-        let symbol = words.intern(&word_of(&rt, number)).expect(&rt, "refused");
+        let symbol = words
+            .intern(word_at(&rt, letters, number))
+            .expect(&rt, "refused");
         check_eq!(rt; symbol.index(), number);
     }
     for number in 0..WORDS {
-        let word = word_of(&rt, number);
-        let symbol = words.get(&word).expect(&rt, "not found");
+        let word = word_at(&rt, letters, number);
+        let symbol = words.get(word).expect(&rt, "not found");
         check_eq!(rt; symbol.index(), number);
-        check!(rt; words.resolve(symbol) == Some(word.as_str()));
+        check!(rt; words.resolve(symbol) == Some(word));
     }
+    check_absent(&rt, letters, |word: &str| words.get(word).is_some());
     check_eq!(rt; words.len(), WORDS);
+    let last = words.symbol_at(WORDS - 1).expect(&rt, "no symbol");
+    let mut map: SymbolMap<u64> = SymbolMap::new(rt.alloc());
+    check_eq!(rt; *map.or_insert(last, 7).expect(&rt, "refused"), 7);
+    check!(rt; map.iter().last() == Some((last, &7)));
 }
 
 #[test]
@@ -92,4 +100,25 @@ fn a_symbol_map_grows_where_a_value_is_stored(rt: HostRuntime) {
     check!(rt; pairs.next() == Some((third, &4)));
     check!(rt; pairs.next() == Some((tenth, &12)));
     check!(rt; pairs.next().is_none());
+}
+
+#[test]
+fn a_symbol_map_keeps_one_handle_of_each_value(rt: HostRuntime) {
+    let (first, second) = (&made(&rt, "foo"), &made(&rt, "bar"));
+    let symbol = symbol_of(&rt, 3);
+    let mut map: SymbolMap<ArcStr> = SymbolMap::new(rt.alloc());
+    let stored = map
+        .or_insert(symbol, first.clone(&rt))
+        .expect(&rt, "refused");
+    check!(rt; stored.eq_str("foo"));
+    let stored = map
+        .or_insert(symbol, second.clone(&rt))
+        .expect(&rt, "refused");
+    check!(rt; stored.eq_str("foo"));
+    check_eq!(rt; ArcStr::strong_count(first), Some(2));
+    check_eq!(rt; ArcStr::strong_count(second), Some(1));
+    check!(rt; map.insert(symbol, second.clone(&rt)).expect(&rt, "refused").is_some());
+    check_eq!(rt; ArcStr::strong_count(first), Some(1));
+    drop(map);
+    check_eq!(rt; ArcStr::strong_count(second), Some(1));
 }

@@ -4,13 +4,14 @@ ghost use Rattle.std.specs.Prelude.{◌≤◌};
 use super::{check_count, check_tokens};
 use crate::tests::checks::{check, check_eq};
 use crate::tests::made;
+use crate::tests::pool::LOOKS;
 use arcstr::{ArcStr, Substr};
 use arctokens::{Gate, tokens, tokens_all, tokens_all_with};
 use std::alloc::{AllocError, AllocGlobal};
 use std::process::Abort;
 use std::sync::Wait;
 use std::sync::atomic::{AtomicU64, Ordering};
-use std::thread::Threads;
+use std::thread::{Threads, yield_now};
 
 /// A gate at which no worker waits.
 struct OpenGate;
@@ -18,9 +19,6 @@ struct OpenGate;
 impl Gate for OpenGate {
     fn pass(&self, _worker: usize) {}
 }
-
-/// How often a worker checks for the others: for many seconds, since other programs can delay their start.
-const LOOKS: u64 = 10_000_000_000;
 
 /// Returns two texts: one with two words, and one without words.
 fn two_texts(rt: &(impl Abort + AllocGlobal)) -> [ArcStr; 2] {
@@ -136,6 +134,7 @@ impl Gate for Meeting {
                 self.met.fetch_add(1, Ordering::SeqCst);
                 break;
             }
+            yield_now();
         }
     }
 }

@@ -1,8 +1,8 @@
-use super::{Wanted, check_count, check_tokens};
+use super::{Wanted, check_count, check_token, check_tokens};
 use crate::tests::checks::{check, check_eq};
 use crate::tests::made;
 use arcstr::ArcStr;
-use arctokens::tokens;
+use arctokens::{tokens, tokens_all};
 use std::alloc::AllocGlobal;
 use std::ops::Range;
 use std::process::Abort;
@@ -40,8 +40,8 @@ fn words_of_characters_of_several_bytes(rt: HostRuntime) {
 #[test]
 fn a_text_of_one_word(rt: HostRuntime) {
     check_words(&rt, "foobar", &[(0, 6, "foobar")]);
-    let long = &ArcStr::repeat(rt.alloc(), "foobar", 100_000).expect(&rt, "no memory");
-    check_words(&rt, long.as_str(), &[(0, 600_000, long.as_str())]);
+    let long = &ArcStr::repeat(rt.alloc(), "foobar", 3_000_000).expect(&rt, "no memory");
+    check_words(&rt, long.as_str(), &[(0, 18_000_000, long.as_str())]);
     check_words(&rt, "é", &[(0, 2, "é")]);
 }
 
@@ -50,16 +50,27 @@ fn words_are_not_cut_at_signs(rt: HostRuntime) {
     check_words(&rt, "a,b. c\0d", &[(0, 4, "a,b."), (5, 8, "c\0d")]);
 }
 
+/// How many words a long text has.
+const WORDS: usize = 250_000;
+
 #[test]
-fn a_text_of_20_000_words(rt: HostRuntime) {
-    let mut text = String::new(rt.alloc());
-    for _ in 0..20_000 {
-        text.push_str("ab ").expect(&rt, "refused");
+fn a_text_of_250_000_words_after_as_many_spaces(rt: HostRuntime) {
+    let spaces = " ".repeat(rt.alloc(), WORDS).expect(&rt, "no memory");
+    let words = "ab ".repeat(rt.alloc(), WORDS).expect(&rt, "no memory");
+    let text = ArcStr::join(rt.alloc(), &[&spaces, &words], "").expect(&rt, "no memory");
+    let texts = [text, made(&rt, "ab")];
+    let words = &tokens(&rt, rt.alloc(), &texts[0]).expect(&rt, "refused");
+    check_eq!(rt; words.len(), WORDS);
+    check_token(
+        &rt,
+        words.last().expect(&rt, "no token"),
+        (999_997, 999_999, "ab"),
+    );
+    let lists = tokens_all(&rt, rt.alloc(), &texts, 2).expect(&rt, "refused");
+    for (list, count) in lists.iter().zip([WORDS, 1]) {
+        check_eq!(rt; list.len(), count);
     }
-    let words = &tokens(&rt, rt.alloc(), &made(&rt, text.as_str())).expect(&rt, "refused");
-    check_eq!(rt; words.len(), 20_000);
-    let last = words.last().expect(&rt, "no token");
-    check_eq!(rt; last.range(), 59_997..59_999);
+    check_count(&rt, &texts[0], Some(1 + 2 * WORDS));
 }
 
 /// The characters that are white space in Unicode.
