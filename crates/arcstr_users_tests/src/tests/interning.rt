@@ -58,6 +58,7 @@ fn a_long_word_is_found_by_each_interner(rt: HostRuntime) {
     let alloc = rt.alloc();
     let line = "foobar, ".repeat(alloc, 125).expect(&rt, "no memory");
     let long = &ArcStr::repeat(alloc, &line, 17_000).expect(&rt, "no memory");
+    check_eq!(rt; long.len(), 17_000_000);
     let mut words = WordList::new(alloc);
     words.intern("foo").expect(&rt, "refused");
     words.intern(long.as_str()).expect(&rt, "refused");

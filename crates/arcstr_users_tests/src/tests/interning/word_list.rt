@@ -54,7 +54,7 @@ fn words_of_a_list_are_numbered_as_they_come(rt: HostRuntime) {
         check!(rt; words.resolve(symbol) == Some(word));
     }
     check_absent(&rt, letters, |word: &str| words.get(word).is_some());
-    check_eq!(rt; words.len(), WORDS);
+    check_eq!(rt; words.len(), 262_143);
     let last = words.symbol_at(WORDS - 1).expect(&rt, "no symbol");
     let mut map: SymbolMap<u64> = SymbolMap::new(rt.alloc());
     check_eq!(rt; *map.or_insert(last, 7).expect(&rt, "refused"), 7);
