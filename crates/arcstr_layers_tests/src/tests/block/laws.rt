@@ -197,7 +197,8 @@ fn mark_and_look(handle: &Shared<5, Global>) -> Option<u64>
 
 /// Of two looks, the second has seen all that the first saw.
 fn looked_in_order(handle: &Shared<5, Global>) -> (Seen, Seen)
-    ensures { IsPrefix result.0.history result.1.history }
+    ensures order { IsPrefix result.0.history result.1.history }
+    ensures block { result.1.block ≡ handle.now.block }
 {
     let (_, first) = handle.look();
     let (_, second) = handle.look_after(&first);
