@@ -9,8 +9,6 @@ use arcintern::{Interner, SharedInterner, Symbol, SymbolMap, WordList};
 use arcstr::{ArcStr, Substr};
 use arctokens::{tokens, tokens_all};
 
-/// The number of shards of an interner that is also used through a cache, which takes longer.
-const WITH_CACHE: usize = 8;
 
 fn say_tokens(answer: &mut Answer, slices: &[Substr]) -> Result<()> {
     answer.say(slices.len())?;
@@ -100,16 +98,9 @@ pub(crate) fn listed<R: Machine>(rt: &R, question: &Question, answer: &mut Answe
 pub(crate) fn shared<R: Machine>(rt: &R, question: &Question, answer: &mut Answer) -> Result<()> {
     let words = question.texts(rt.alloc(), 2)?;
     let interner = SharedInterner::new(rt.alloc(), question.number(1)?)?;
-    let mut local = match question.number(1)? {
-        WITH_CACHE => Some(interner.local(rt.alloc())?),
-        _ => None,
-    };
     let mut numbers: Vec<usize> = Vec::new(rt.alloc());
-    for (at, word) in words.iter().enumerate().take(words.len().saturating_sub(2)) {
-        let symbol = match &mut local {
-            Some(local) if at % 2 == 1 => local.intern(rt, word)?,
-            _ => interner.intern(rt, word)?,
-        };
+    for word in words.iter().take(words.len().saturating_sub(2)) {
+        let symbol = interner.intern(rt, word)?;
         let number = symbol.number().index();
         let place = match numbers.iter().position(|known| *known == number) {
             Some(place) => place,
@@ -122,10 +113,7 @@ pub(crate) fn shared<R: Machine>(rt: &R, question: &Question, answer: &mut Answe
         answer.say(place)?;
     }
     for word in words.iter() {
-        answer.say(match &mut local {
-            Some(local) => local.get(word).is_some(),
-            None => interner.get(word).is_some(),
-        })?;
+        answer.say(interner.get(word).is_some())?;
     }
     answer.say(interner.len())
 }
