@@ -9,7 +9,6 @@ use arcintern::{Interner, SharedInterner, Symbol, SymbolMap, WordList};
 use arcstr::{ArcStr, Substr};
 use arctokens::{tokens, tokens_all};
 
-
 fn say_tokens(answer: &mut Answer, slices: &[Substr]) -> Result<()> {
     answer.say(slices.len())?;
     for slice in slices {
