@@ -2,7 +2,7 @@
 use Rattle.std.proofs.Common.{◌≡◌, ℕ, List, [], ◌∷◌, ◌++◌, map, refl}
 use Rattle.std.specs.Prelude.{None, Some, Ok, Err, codes}
 use Rattle.arcstr_count.specs.declared.steps.Step.TheVariants.{Look}
-use Rattle.arcstr_count.specs.declared.faults.RunFault.TheVariants.{LimitTooLarge}
+use Rattle.arcstr_world.specs.declared.faults.RunFault.TheVariants.{LimitTooLarge}
 use Rattle.arcbench_core.specs.Line.{script_lines, number_of, step_of}
 use Rattle.arcbench_core.specs.Script.{answer_to}
 

@@ -4,8 +4,8 @@ use Rattle.std.specs.List.{concat, filter_map}
 use Rattle.std.specs.Fmt.{decimal}
 use Rattle.std.specs.Io.KnownBytes.{Appends}
 use Rattle.arcstr_count.specs.declared.steps.Step.{Step}
-use Rattle.arcstr_count.specs.declared.faults.RunFault.{RunFault}
-use Rattle.arcstr_count.specs.declared.faults.RunFault.TheVariants.{LimitTooLarge as RunLimitTooLarge, Memory as RunMemory}
+use Rattle.arcstr_world.specs.declared.faults.RunFault.{RunFault}
+use Rattle.arcstr_world.specs.declared.faults.RunFault.TheVariants.{LimitTooLarge as RunLimitTooLarge, Memory as RunMemory}
 use Rattle.arcstr_count.specs.declared.words.TheConstants.{RC_MAX}
 use Rattle.arcstr_count.specs.Model.{State, step, after, numbers_below}
 use Rattle.arcstr_count.specs.declared.steps.Reply.{Reply}

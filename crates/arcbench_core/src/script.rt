@@ -1,14 +1,14 @@
 //! Scripts of steps on counted blocks, their answers, and the run of a script from a reader to a writer.
 ghost use Rattle.std.specs.Prelude.{◌≡◌, ◌≢◌, ◌↔◌, ◌⊎◌, false, IsTrue, IfErr, OnOk, IfSome, Some, Err};
 ghost use Rattle.std.specs.Io.KnownBytes.{IsAtEnd};
-ghost use Rattle.arcstr_count.specs.declared.faults.RunFault.TheVariants.{LimitTooLarge as RunLimitTooLarge};
+ghost use Rattle.arcstr_world.specs.declared.faults.RunFault.TheVariants.{LimitTooLarge as RunLimitTooLarge};
 ghost use Rattle.arcbench_core.specs.Script.{answer_to, WritesAnswer, copy_fault_from, copy_fault_number, copy_fault_of_input, copy_fault_text};
 
 use crate::input::{InputFault, read_to_end};
 pub use crate::numbers::number_of;
 use crate::port::Port;
 pub use answers::answer;
-use arcstr::count::RunFault;
+use arcstr_world::RunFault;
 use std::alloc::Allocator;
 use std::error::Error;
 use std::fmt;
@@ -22,7 +22,7 @@ mod line;
 /// Plain data of 1 byte: it may be copied, sent and shared, and its drop does nothing.
 ///
 /// ```
-/// use arcstr::count::RunFault;
+/// use arcstr_world::RunFault;
 /// assert_eq!(rt; CopyFault::from(RunFault::Memory), CopyFault::Memory);
 /// ```
 #[derive(Clone, Copy, Debug, PartialEq, Eq)]

@@ -2,8 +2,8 @@
 use crate::calls::{Calls, Machine, Made, Stop, TRIES, again, again_whole, check, mark};
 use arcbench_core::port::Port;
 use arcbench_core::script::{answer, copy};
-use arcstr::count;
-use arcstr::count::{Reply, Step, World};
+use arcstr::count::{Reply, Step};
+use arcstr_world::World;
 use std::alloc::Global;
 use std::io;
 
@@ -63,7 +63,7 @@ impl Made for Vec<Reply> {
 
 impl Calls<()> for Vec<Reply> {
     fn call<R: Machine>(rt: &R, _: &mut (), _: usize) -> Result<Vec<Reply>, Stop> {
-        Ok(count::run(rt.alloc(), LIMIT, &STEPS)?)
+        Ok(arcstr_world::run(rt.alloc(), LIMIT, &STEPS)?)
     }
 }
 

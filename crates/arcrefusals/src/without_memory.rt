@@ -1,7 +1,7 @@
 //! Calls that do not allocate, and so succeed whatever is refused.
 use crate::calls::{Calls, Machine, Made, Stop, again, again_whole, check, count, mark};
-use arcstr::count::World;
 use arcstr::{ArcStr, RangeFault, StrRange, StrView, Substr};
+use arcstr_world::World;
 use std::alloc::Global;
 use std::cmp::Ordering;
 use std::hash::{DefaultHasher, Hash, Hasher};

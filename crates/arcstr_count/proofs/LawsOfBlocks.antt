@@ -8,7 +8,7 @@ use Rattle.arcstr_count.proofs.Names.{eqb-true, ltb-true, ltb-false, length-appe
 use Rattle.arcstr_count.proofs.Names.{get_or-set_same, get_or-set_other, set-get_or, length-set, get_or_push, get_or_append_left, Option, Some, None, option_map, slice_get}
 use Rattle.arcstr_count.proofs.Names.{slice_get_within, get_or_from_slice_get, slice_get-get_or, StepFault, numbers_below, lives, is_dropping, is_owing}
 use Rattle.arcstr_count.proofs.Names.{Step, Make, Clone, Look, Begin, Sub, Back, Leak, IntoRaw, FromRaw, HandleState, Free, Raw, Dropping, Owing, Gone, HandleSummary}
-use Rattle.arcstr_count.proofs.Names.{FlagAndCount, fresh_word, cloned_of, dropped_of, marked_of, is_last, BlockEntry, refusal_unless, Reply, Ended, Looked}
+use Rattle.arcstr_count.proofs.Names.{FlagAndCount, fresh_word, cloned_of, dropped_of, marked_of, is_last, BlockSummary, refusal_unless, Reply, Ended, Looked}
 use Rattle.arcstr_count.proofs.Names.{State, start, no_handle, no_block, block_on, state_on, state_in, word_on, given_in, handles_with_state}
 use Rattle.arcstr_count.proofs.Names.{accepted, refusal_in, unless_refused, step, after_from, after}
 
@@ -76,29 +76,10 @@ contains_passing f (suc n) i below passes = by_place (cases_eq i n) (λ inner. c
     by_place (inr inner) earlier =
         rw (filter-push f n) (Contains-append_left (filter f (numbers_below n)) (filter f (n ∷ [])) i (earlier (omega arith)))
 
--- h is the only member of the set
-abbrev pub is_only : ℕ → List ℕ → Bool
-is_only h [] = false
-is_only h (x ∷ []) = x == h
-is_only h (x ∷ y ∷ xs) = false
-
-one_place : (k x h : ℕ) → k < 1 → get_or (x ∷ []) k h ≡ h → x ≡ h
-one_place zero x h within here = here
-one_place (suc k) x h within here = absurd (omega arith)
-
--- a member is the only member exactly if the list has length 1
-pub is_only-member : (xs : List ℕ) (h : ℕ) → Contains xs h → is_only h xs ≡ (length xs == 1)
-is_only-member [] h member = let none = member.1 in absurd (omega arith)
-is_only-member (x ∷ []) h member = eq-eqb x h (one_place member.0 x h member.1 member.2)
-is_only-member (x ∷ y ∷ xs) h member = sym (ne_eqb (suc (suc (length xs))) 1 (λ same. omega arith))
-
 -- ---- tests on numbers
 
 pub same_test : (n : ℕ) → (n == n) ≡ true
 same_test n = eq-eqb n n refl
-
-pub other_test : (n m : ℕ) → m ≢ n → (n == m) ≡ false
-other_test n m apart = ne_eqb n m (λ same. apart (sym same))
 
 -- ---- the handles on a block in a table of handles, by their states
 
@@ -121,9 +102,6 @@ off_it c b x apart = ap (λ (t : Bool). one_if (t && x)) (ne_eqb c b apart)
 -- ---- a handle goes from one state to another
 
 module _ (hs : List HandleSummary) (h : ℕ) (new : HandleState) (born : h < length hs) where
-  moved : List HandleSummary
-  moved = handles_with_state hs h new
-
   pub length-moved : length (handles_with_state hs h new) ≡ length hs
   length-moved = length-set hs h (record { block = (get_or hs h no_handle).block; state = new })
 
@@ -169,9 +147,6 @@ module _ (hs : List HandleSummary) (h : ℕ) (new : HandleState) (born : h < len
 -- ---- a handle is born free on block c
 
 module _ (hs : List HandleSummary) (c : ℕ) where
-  abbrev with_birth : List HandleSummary
-  with_birth = hs ++ record { block = c; state = Free } ∷ []
-
   pub born_last : get_or (hs ++ record { block = c; state = Free } ∷ []) (length hs) no_handle ≡ record { block = c; state = Free }
   born_last = get_or_push hs (record { block = c; state = Free }) no_handle (length hs) refl
 
@@ -227,10 +202,6 @@ module _ (hs : List HandleSummary) (h : ℕ) (test : HandleState → Bool) (born
 
   pub some_held : 0 < held hs (get_or hs h no_handle).block test
   some_held = let within = contains_held.1 in omega arith
-
-  pub is_only-held : is_only h (filter (λ k. is_held hs (get_or hs h no_handle).block test k) (numbers_below (length hs)))
-      ≡ (held hs (get_or hs h no_handle).block test == 1)
-  is_only-held = is_only-member (filter (λ k. is_held hs (get_or hs h no_handle).block test k) (numbers_below (length hs))) h contains_held
 
 -- ==== the count word of a block against the counts of its handles, and what each step on the block does to them
 
@@ -329,7 +300,7 @@ after_Leak limit w n g false some fewer b = grind arith
 -- ==== each state after a history is balanced
 
 -- the count word of a block is balanced with the handles on the block
-abbrev pub Balance : ℕ → List HandleSummary → ℕ → BlockEntry → Type 0
+abbrev pub Balance : ℕ → List HandleSummary → ℕ → BlockSummary → Type 0
 Balance limit hs b entry = (m : Bool) × IsBalanced limit entry.word m (λ test. held hs b test) entry.given
 
 -- each handle stands on a block that was made, and each block is balanced
@@ -343,13 +314,13 @@ flag_is limit w true n g b = b.flag
 flag_is limit w false n g b = b.flag
 
 -- equal counts are balanced alike
-same_counts : (limit : ℕ) (hs hs' : List HandleSummary) (b : ℕ) (entry : BlockEntry) → ((test : HandleState → Bool) → held hs' b test ≡ held hs b test)
+same_counts : (limit : ℕ) (hs hs' : List HandleSummary) (b : ℕ) (entry : BlockSummary) → ((test : HandleState → Bool) → held hs' b test ≡ held hs b test)
     → Balance limit hs b entry → Balance limit hs' b entry
 same_counts limit hs hs' b entry same before =
     (before.0, subst (λ (n : Counts). IsBalanced limit entry.word before.0 n entry.given) (λ i test. sym (same test) i) before.1)
 
 -- a step on block c, which leaves these handles and this entry of c
-acts : (limit : ℕ) (w : State) (c : ℕ) (hs : List HandleSummary) (entry : BlockEntry) → IsLawful limit w → c < length w.blocks
+acts : (limit : ℕ) (w : State) (c : ℕ) (hs : List HandleSummary) (entry : BlockSummary) → IsLawful limit w → c < length w.blocks
     → ((k : ℕ) → k < length hs → (get_or hs k no_handle).block < length w.blocks)
     → ((b : ℕ) → c ≢ b → (test : HandleState → Bool) → held hs b test ≡ held w.handles b test)
     → (Balance limit w.handles c (get_or w.blocks c no_block) → Balance limit hs c entry)
@@ -411,7 +382,7 @@ step_finds w h s e = is_in_state w h s (needed_state s (state_in w h) e)
 
 module _ (limit : ℕ) (w : State) (lawful : IsLawful limit w) where
   -- a step that brings a handle from one state to another, and leaves this entry of its block
-  changes : (h : ℕ) (old new : HandleState) (entry : BlockEntry) → IsIn w h old
+  changes : (h : ℕ) (old new : HandleState) (entry : BlockSummary) → IsIn w h old
       → ((m : Bool) (after : Counts) → Moves (λ test. held w.handles (block_on w h) test) after old new
       → IsBalanced limit (word_on w h) m (λ test. held w.handles (block_on w h) test) (given_in w (block_on w h))
       → (m' : Bool) × IsBalanced limit entry.word m' after entry.given)
@@ -448,7 +419,7 @@ module _ (limit : ℕ) (w : State) (lawful : IsLawful limit w) where
       first : HandleSummary
       first = record { block = length w.blocks; state = Free }
 
-      fresh : BlockEntry
+      fresh : BlockSummary
       fresh = record { word = fresh_word; given = 0 }
 
       on_made : (h : ℕ) → h < length (w.handles ++ record { block = length w.blocks; state = Free } ∷ []) → (h ≡ length w.handles) ⊎ (h ≢ length w.handles)

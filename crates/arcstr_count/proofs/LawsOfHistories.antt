@@ -1,19 +1,13 @@
 -- The laws of every interleaving, over the prefixes of a history, and what the step function keeps of every state after a history.
 --
 -- Each state after a history is lawful: each of its blocks is balanced. Each law is read off this balance, for an unmarked block and a marked one.
-use Rattle.arcstr_count.proofs.Names.{◌≡◌, ◌≢◌, ◌↔◌, ℕ, zero, suc, ◌+◌, ◌<◌, ◌≤◌, Bool, true, false, IsFalse, IsTrue, Some, None, Option}
-use Rattle.arcstr_count.proofs.Names.{List, [], ◌∷◌, ◌++◌, length, refl, sym, ◌∙◌, ap, subst, subst₂, arith, true≢false, nil_from_length, get_or, get_or_past, nat_lt}
-use Rattle.arcstr_count.proofs.Names.{ltb-true, ltb-false, slice_get, slice_get_within, get_or_from_slice_get, ∥∥₁_elim, ∥∥₁_map, props, ap₂, ◌⊎◌, inl, inr, cases_eq, set}
-use Rattle.arcstr_count.proofs.Names.{get_or-set_same, get_or-set_other, get_or_append_left, length-set, length_push, Reply, StepFault}
-use Rattle.arcstr_count.proofs.Names.{Step, Make, Look, Clone, Begin, Sub, Back, Leak, IntoRaw, FromRaw, Dropping, Owing, HandleSummary, BlockEntry, FlagAndCount}
-use Rattle.arcstr_count.proofs.Names.{cloned_of, lives, is_dropping, is_owing, HoldsInEveryInterleaving, StandsAfter}
-use Rattle.arcstr_count.proofs.Names.{State, WorldView, start, no_block, no_handle, block_on, state_on, word_in, word_on, given_in, state_of_tables, accepted, refusal_in}
-use Rattle.arcstr_count.proofs.Names.{unless_refused, step, after_from, after, replies_from, word_after, living_after}
-use Rattle.arcstr_count.proofs.Names.{makes_after, IsWorld, IsSound, handles_on}
+use Rattle.arcstr_count.proofs.Names.{◌≡◌, ◌≢◌, ◌↔◌, ℕ, zero, suc, ◌+◌, ◌<◌, ◌≤◌, Bool, true, false, IsFalse, IsTrue, Some, None, Option, List, [], ◌∷◌, ◌++◌}
+use Rattle.arcstr_count.proofs.Names.{length, append-nil, append_assoc, refl, sym, ◌∙◌, ap, subst, arith, true≢false, nil_from_length, get_or, ◌⊎◌, inl, inr, cases_eq, set}
+use Rattle.arcstr_count.proofs.Names.{get_or-set_same, get_or-set_other, get_or_append_left, length-set, length_push, StepFault, Step, Make, Look, Clone, Begin}
+use Rattle.arcstr_count.proofs.Names.{Sub, Back, Leak, IntoRaw, FromRaw, Dropping, BlockSummary, FlagAndCount, cloned_of, lives, is_dropping, is_owing}
+use Rattle.arcstr_count.proofs.Names.{HoldsInEveryInterleaving, StandsAfter, State, start, no_block, block_on, state_on, word_in, word_on, given_in, accepted}
+use Rattle.arcstr_count.proofs.Names.{refusal_in, unless_refused, step, after_from, after, replies_from, word_after, living_after, makes_after, handles_on}
 use Rattle.arcstr_count.proofs.LawsOfBlocks.{begun_by, Counts, held, IsBalanced, IsLawful, some_held, lawful_from, lawful_after}
-use Rattle.std.specs.Prelude.{Result, Ok, Err, IfOk, IfErr}
-use Rattle.arcstr_count.specs.declared.faults.RunFault.{RunFault}
-use Rattle.arcstr_count.specs.declared.faults.RunFault.TheVariants.{Memory}
 
 -- ---- one block of a lawful state
 
@@ -80,6 +74,15 @@ pub replies_from-step : (limit : ℕ) (w : State) (xs : List Step) (s : Step)
 replies_from-step limit w [] s = refl
 replies_from-step limit w (x ∷ xs) s = ap (λ later. (step limit w x).1 ∷ later) (replies_from-step limit (step limit w x).0 xs s)
 
+module _ {X : Type 0} (P : List X → Type 0) where
+  further : ((prefix : List X) (x : X) → P prefix → P (prefix ++ x ∷ [])) → (prefix later : List X) → P prefix → P (prefix ++ later)
+  further push prefix [] h = rw append-nil h
+  further push prefix (x ∷ later) h = subst P (append_assoc prefix (x ∷ []) later) (further push (prefix ++ x ∷ []) later (push prefix x h))
+
+  -- what holds of the empty list, and still holds with each further entry, holds of each list
+  pub by_pushes : P [] → ((prefix : List X) (x : X) → P prefix → P (prefix ++ x ∷ [])) → (xs : List X) → P xs
+  by_pushes nil push xs = further push [] xs nil
+
 -- what each accepted step keeps, a list of steps keeps
 kept_from : (limit : ℕ) (P : State → Type 0) → ((w : State) (s : Step) → P w → P (accepted limit w s).0) → (w : State) (later : List Step)
     → P w → P (after_from limit w later)
@@ -92,16 +95,16 @@ kept_from limit P keeps w (s ∷ later) now = kept_from limit P keeps (step limi
 
 -- ---- a block that was made stays made, its mark stays, and what was freed stays freed
 
-record Grows (old new : List BlockEntry) : Type 0 where
+record Grows (old new : List BlockSummary) : Type 0 where
   made : length old ≤ length new
   marked : (b : ℕ) → b < length old → (get_or old b no_block).word.flag ≡ true → (get_or new b no_block).word.flag ≡ true
   freed : (b : ℕ) → b < length old → (get_or old b no_block).given ≤ (get_or new b no_block).given
 
-grows_not : (bs : List BlockEntry) → Grows bs bs
+grows_not : (bs : List BlockSummary) → Grows bs bs
 grows_not bs = record { made = omega arith; marked = λ b made e. e; freed = λ b made. omega arith }
 
 -- the entry of one block changes, and keeps its mark and its frees
-grows_at : (bs : List BlockEntry) (c : ℕ) (entry : BlockEntry)
+grows_at : (bs : List BlockSummary) (c : ℕ) (entry : BlockSummary)
     → ((get_or bs c no_block).word.flag ≡ true → entry.word.flag ≡ true) → (get_or bs c no_block).given ≤ entry.given
     → Grows bs (set bs c entry)
 grows_at bs c entry mark free = record {
@@ -198,8 +201,6 @@ holds_in_every_interleaving limit steps = record {
       (says limit (after limit prefix) b (lawful_after limit prefix) made).exactly (ap length none) (ap length settled);
 }
 
--- ==== worlds
-
 -- while a handle is dropping, the count of its block's word is not 0, also on a marked block
 pub dropping_counted : (limit : ℕ) (history : List Step) (h : ℕ) → h < length (after limit history).handles
     → state_on (after limit history) h ≡ Dropping → 0 < (word_on (after limit history) h).count
@@ -215,102 +216,3 @@ dropping_counted limit history h born state =
         → 0 < (word_on (after limit history) h).count
     by_flag true e exact covered = covered e
     by_flag false e exact covered = exact e
-
-sound_after : (limit : ℕ) (history : List Step) → IsSound (after limit history)
-sound_after limit history = record {
-  made = λ h it found. subst (λ (x : HandleSummary). x.block < length (after limit history).blocks) (here h it found) (lawful.made h (slice_get_within (after limit history).handles h it found));
-  counted = λ h it found state. subst (λ (x : HandleSummary). 0 < (word_in (after limit history) x.block).count) (here h it found)
-      (dropping_counted limit history h (slice_get_within (after limit history).handles h it found) (ap (λ (x : HandleSummary). x.state) (here h it found) ∙ state));
-  unfreed = λ h it found state. subst (λ (x : HandleSummary). given_in (after limit history) x.block ≡ 0) (here h it found)
-      (unfreed h (slice_get_within (after limit history).handles h it found) (ap (λ (x : HandleSummary). x.state) (here h it found) ∙ state));
-  once = λ b. by_made b (nat_lt b (length (after limit history).blocks)) refl;
-}
-  where
-    lawful : IsLawful limit (after limit history)
-    lawful = lawful_after limit history
-
-    here : (h : ℕ) (it : HandleSummary) → slice_get (after limit history).handles h ≡ Some it → get_or (after limit history).handles h no_handle ≡ it
-    here h it found = get_or_from_slice_get (after limit history).handles h it no_handle found
-
-    unfreed : (h : ℕ) → h < length (after limit history).handles → state_on (after limit history) h ≡ Owing
-        → given_in (after limit history) (block_on (after limit history) h) ≡ 0
-    unfreed h born state =
-        let all = says limit (after limit history) (block_on (after limit history) h) lawful (lawful.made h born) in
-        let owes = some_held (after limit history).handles h is_owing born (ap is_owing state) in
-        omega (arith, all.one)
-
-    by_made : (b : ℕ) (t : Bool) → nat_lt b (length (after limit history).blocks) ≡ t → given_in (after limit history) b ≤ 1
-    by_made b true test =
-        let all = says limit (after limit history) b lawful (ltb-true b (length (after limit history).blocks) test) in omega (arith, all.one)
-    by_made b false test =
-        let none = ap (λ (e : BlockEntry). e.given) (get_or_past (after limit history).blocks b no_block (ltb-false b (length (after limit history).blocks) test)) in
-        omega arith
-
-pub sound_world : (limit : ℕ) (handles : List HandleSummary) (blocks : List BlockEntry) → IsWorld limit handles blocks
-    → IsSound (state_of_tables handles blocks)
-sound_world limit handles blocks world = record {
-  made = λ h it found. ∥∥₁_elim world.has_history (hlevel props) (λ known. (sound known).made h it found);
-  counted = λ h it found state. ∥∥₁_elim world.has_history (hlevel props) (λ known. (sound known).counted h it found state);
-  unfreed = λ h it found state. ∥∥₁_elim world.has_history (hlevel props) (λ known. (sound known).unfreed h it found state);
-  once = λ b. ∥∥₁_elim world.has_history (hlevel props) (λ known. (sound known).once b);
-}
-  where
-    sound : (history : List Step) × (state_of_tables handles blocks ≡ after limit history) → IsSound (state_of_tables handles blocks)
-    sound known = subst IsSound (sym known.1) (sound_after limit known.0)
-
--- a world that takes a step is a world
-pub world_stepped : (limit : ℕ) (handles new_handles : List HandleSummary) (blocks new_blocks : List BlockEntry) (s : Step) (reply : Reply)
-    → IsWorld limit handles blocks → step limit (state_of_tables handles blocks) s ≡ (state_of_tables new_handles new_blocks, reply)
-    → IsWorld limit new_handles new_blocks
-world_stepped limit handles new_handles blocks new_blocks s reply world stepped = record {
-  limited = world.limited;
-  has_history = ∥∥₁_map world.has_history (λ known. (
-    known.0 ++ s ∷ [],
-    sym (ap (λ (t : State × Reply). t.0) stepped) ∙ ap (λ w. (step limit w s).0) known.1 ∙ sym (after_from-step limit start known.0 s),
-  ));
-}
-
--- a world that answers a step, or runs out of memory, is a world
-pub world_taken : (limit : ℕ) (handles new_handles : List HandleSummary) (blocks new_blocks : List BlockEntry) (s : Step) (result : Result Reply RunFault)
-    → IsWorld limit handles blocks
-    → IfOk result (λ reply. step limit (state_of_tables handles blocks) s ≡ (state_of_tables new_handles new_blocks, reply))
-    → IfErr result (λ fault. (fault ≡ Memory) × (new_handles ≡ handles) × (new_blocks ≡ blocks))
-    → IsWorld limit new_handles new_blocks
-world_taken limit handles new_handles blocks new_blocks s (Ok reply) world stepped same =
-    world_stepped limit handles new_handles blocks new_blocks s reply world stepped
-world_taken limit handles new_handles blocks new_blocks s (Err fault) world stepped same =
-    subst₂ (λ hs bs. IsWorld limit hs bs) (sym same.1) (sym same.2) world
-
--- an entry that was read, whatever the default
-pub get_or_any : {X : Type 0} (xs : List X) (k : ℕ) (d e : X) → k < length xs → get_or xs k d ≡ get_or xs k e
-get_or_any [] k d e within = absurd (omega arith)
-get_or_any (x ∷ xs) zero d e within = refl
-get_or_any (x ∷ xs) (suc k) d e within = get_or_any xs k d e (omega arith)
-
--- a world in the course of a list of steps: it has taken these steps, with these replies
-pub record HasTaken (first : WorldView) (done : List Step) (world : WorldView) (replies : List Reply) : Type 0 where
-  pub limited : world.limit ≡ first.limit
-  pub state : world.state ≡ after_from first.limit first.state done
-  pub replied : replies ≡ replies_from first.limit first.state done
-
-pub takes_more : (first : WorldView) (done : List Step) (old new : WorldView) (replies : List Reply) (s : Step) (reply : Reply)
-    → HasTaken first done old replies → step old.limit old.state s ≡ (new.state, reply) → new.limit ≡ old.limit
-    → HasTaken first (done ++ s ∷ []) new (replies ++ reply ∷ [])
-takes_more first done old new replies s reply before stepped same_limit = record {
-  limited = same_limit ∙ before.limited;
-  state = ap (λ (t : State × Reply). t.0) took ∙ sym (after_from-step first.limit first.state done s);
-  replied = ap₂ (λ rs r. rs ++ r ∷ []) before.replied (ap (λ (t : State × Reply). t.1) took)
-      ∙ sym (replies_from-step first.limit first.state done s);
-}
-  where
-    took : (new.state, reply) ≡ step first.limit (after_from first.limit first.state done) s
-    took = sym stepped ∙ λ i. step (before.limited i) (before.state i) s
-
--- how often a block was freed, by the entry that was found
-pub given_found : (blocks : List BlockEntry) (b : ℕ) (e : BlockEntry) → slice_get blocks b ≡ Some e → e.given ≡ (get_or blocks b no_block).given
-given_found blocks b e found = ap (λ (x : BlockEntry). x.given) (sym (get_or_from_slice_get blocks b e no_block found))
-
-pub given_absent : (blocks : List BlockEntry) (b : ℕ) → slice_get blocks b ≡ None → 0 ≡ (get_or blocks b no_block).given
-given_absent [] b absent = refl
-given_absent (x ∷ blocks) zero absent = cc
-given_absent (x ∷ blocks) (suc b) absent = given_absent blocks b absent

@@ -2,8 +2,4 @@ mod Names
 mod WorkedExamples
 pub mod LawsOfBlocks
 pub mod LawsOfHistories
-pub mod Prefixes
 pub mod OneBlock
-pub mod SentencesHandles
-pub mod SentencesBlocks
-pub mod SentencesState

@@ -5,14 +5,13 @@
 use Rattle.arcstr_count.proofs.Names.{◌≡◌, ℕ, ◌+◌, ◌<◌, ◌≤◌, ◌==◌, ◌&&◌, Bool, true, false, if◌then◌else◌, IsFalse, is_none, Option, None, Some, option_map}
 use Rattle.arcstr_count.proofs.Names.{List, [], ◌∷◌, ◌++◌, map, length, filter, slice_get, get_or, set, refl, sym, ◌∙◌, ap, subst, arith, zero, suc, ap₂, filter-append, length-append, get_or_append_left, get_or_push}
 use Rattle.arcstr_count.proofs.Names.{map_push, map-set, length-map, length-set, length_push, get_or-set_same}
-use Rattle.arcstr_count.proofs.Names.{Step, Make, Look, Clone, Begin, Sub, Back, Leak, HandleState, Free, Dropping, Owing, Gone, HandleSummary, BlockEntry, Reply}
+use Rattle.arcstr_count.proofs.Names.{Step, Make, Look, Clone, Begin, Sub, Back, Leak, HandleState, Free, Dropping, Owing, Gone, HandleSummary, BlockSummary, Reply}
 use Rattle.arcstr_count.proofs.Names.{Count, Handle, Looked, Ended, Left, Owes, Given, Marked, Static, StepFault, FlagAndCount, fresh_word, looked_of, cloned_of, dropped_of, is_last, marked_of}
 use Rattle.arcstr_count.proofs.Names.{needs, refusal_by, refusal_unless, State, after, start, no_handle, no_block, block_on, state_on, state_in, word_in, word_on, given_in}
 use Rattle.arcstr_count.proofs.Names.{handles_with_state, blocks_with_word, blocks_with_given, accepted, refusal_in, unless_refused, step, look_reply, lives, is_dropping}
 use Rattle.arcstr_count.proofs.Names.{is_owing, makes_after, marked_after, are_accepted, Keeps, EndsIn, after_from, and_parts}
 use Rattle.arcstr_count.proofs.LawsOfBlocks.{is_in_state, step_finds, accepts_needed, lawful_after, held, is_held, count, count-same, count-push, one_if, begun_by}
-use Rattle.arcstr_count.proofs.LawsOfHistories.{SaysOfBlock, after-step, says, dropping_counted}
-use Rattle.arcstr_count.proofs.Prefixes.{by_pushes}
+use Rattle.arcstr_count.proofs.LawsOfHistories.{SaysOfBlock, after-step, by_pushes, says, dropping_counted}
 
 -- ---- what a seat says
 
@@ -65,11 +64,11 @@ accepted-append limit w (x ∷ xs) ys =
     both false b c = refl
 
 -- what an accepted step leaves of the one block and the seats, with its reply
-record StepLeaves (limit : ℕ) (p : State) (s : Step) (reply : Reply) (w : FlagAndCount) (seats : List HandleState) : Type 0 where
-  answer : (accepted limit p s).1 ≡ reply
-  blocks : length (accepted limit p s).0.blocks ≡ length p.blocks
-  word : w ≡ word_in (accepted limit p s).0 0
-  states : seats ≡ map (λ (it : HandleSummary). it.state) (accepted limit p s).0.handles
+record Leaves (p : State) (taken : State × Reply) (reply : Reply) (w : FlagAndCount) (seats : List HandleState) : Type 0 where
+  answer : taken.1 ≡ reply
+  blocks : length taken.0.blocks ≡ length p.blocks
+  word : w ≡ word_in taken.0 0
+  states : seats ≡ map (λ (it : HandleSummary). it.state) taken.0.handles
 
 states-with_state : (hs : List HandleSummary) (h : ℕ) (new : HandleState)
     → set (map (λ (it : HandleSummary). it.state) hs) h new ≡ map (λ (it : HandleSummary). it.state) (handles_with_state hs h new)
@@ -82,7 +81,7 @@ module _ (limit : ℕ) (r : List Step) (w : FlagAndCount) (seats : List HandleSt
   -- a step of a handle whose seat has the state that the step needs
   keeps-step : (s : Step) (needed : HandleState) (reply : Reply) (new : FlagAndCount) (new_seats : List HandleState)
       → needs s ≡ Some (record { handle = h; state = needed }) → slice_get seats h ≡ Some needed
-      → StepLeaves limit p s reply new new_seats → Prolongs limit r s reply new new_seats
+      → Leaves p (accepted limit p s) reply new new_seats → Prolongs limit r s reply new new_seats
   keeps-step s needed reply new new_seats need seat leaves = record {
     keeps = record {
       one_block = one;
@@ -107,7 +106,7 @@ module _ (limit : ℕ) (r : List Step) (w : FlagAndCount) (seats : List HandleSt
       }
 
   -- where the word of the handle's block changes
-  abbrev with_word : FlagAndCount → List BlockEntry
+  abbrev with_word : FlagAndCount → List BlockSummary
   with_word new = blocks_with_word (after limit r).blocks (block_on (after limit r) h) new
 
   length-with_word : (new : FlagAndCount) → length (with_word new) ≡ length (after limit r).blocks
@@ -118,7 +117,7 @@ module _ (limit : ℕ) (r : List Step) (w : FlagAndCount) (seats : List HandleSt
   word_changed state seat F =
       let on = on_first_block limit r w seats keeps h state seat in
       ap F (sym (word_is limit r w seats keeps h state seat))
-      ∙ sym (ap (λ (e : BlockEntry). e.word) (ap (λ b. get_or (with_word (F (word_on (after limit r) h))) b no_block) (sym on)
+      ∙ sym (ap (λ (e : BlockSummary). e.word) (ap (λ b. get_or (with_word (F (word_on (after limit r) h))) b no_block) (sym on)
       ∙ get_or-set_same (after limit r).blocks (block_on (after limit r) h)
       (record { word = F (word_on (after limit r) h); given = (get_or (after limit r).blocks (block_on (after limit r) h) no_block).given }) no_block
       ((lawful_after limit r).made h (is_in_state (after limit r) h state (seat_is limit r w seats keeps h state seat)).born)))
@@ -143,26 +142,16 @@ module _ (limit : ℕ) (r : List Step) (w : FlagAndCount) (seats : List HandleSt
     states = keeps.states;
   })
 
-  begin_leaves : (f : Bool) → slice_get seats h ≡ Some Free → w.flag ≡ f
-      → StepLeaves limit (after limit r) (Begin h) (if f then Ended else Looked) w (set seats h (if f then Gone else Dropping))
-  begin_leaves true seat marked =
-      let flag = ap (λ (v : FlagAndCount). v.flag) (word_is limit r w seats keeps h Free seat) ∙ marked in record {
-        answer = ap (λ x. (begun_by x (after limit r) h).1) flag;
-        blocks = ap (λ x. length (begun_by x (after limit r) h).0.blocks) flag;
-        word = keeps.left ∙ sym (ap (λ x. word_in (begun_by x (after limit r) h).0 0) flag);
-        states = seats_changed Gone ∙ sym (ap (λ x. map (λ (it : HandleSummary). it.state) (begun_by x (after limit r) h).0.handles) flag);
-      }
-  begin_leaves false seat unmarked =
-      let flag = ap (λ (v : FlagAndCount). v.flag) (word_is limit r w seats keeps h Free seat) ∙ unmarked in record {
-        answer = ap (λ x. (begun_by x (after limit r) h).1) flag;
-        blocks = ap (λ x. length (begun_by x (after limit r) h).0.blocks) flag;
-        word = keeps.left ∙ sym (ap (λ x. word_in (begun_by x (after limit r) h).0 0) flag);
-        states = seats_changed Dropping ∙ sym (ap (λ x. map (λ (it : HandleSummary). it.state) (begun_by x (after limit r) h).0.handles) flag);
-      }
+  begun_leaves : (f : Bool)
+      → Leaves p (begun_by f p h) (if f then Ended else Looked) w (set seats h (if f then Gone else Dropping))
+  begun_leaves true = record { answer = refl; blocks = refl; word = keeps.left; states = seats_changed Gone }
+  begun_leaves false = record { answer = refl; blocks = refl; word = keeps.left; states = seats_changed Dropping }
 
   pub keeps-begin : slice_get seats h ≡ Some Free
       → Prolongs limit r (Begin h) (if w.flag then Ended else Looked) w (set seats h (if w.flag then Gone else Dropping))
-  keeps-begin seat = keeps-step (Begin h) Free _ w _ refl seat (begin_leaves w.flag seat refl)
+  keeps-begin seat = keeps-step (Begin h) Free _ w _ refl seat
+      (subst (λ f. Leaves p (begun_by (word_on p h).flag p h) (if f then Ended else Looked) w (set seats h (if f then Gone else Dropping)))
+      (ap (λ (v : FlagAndCount). v.flag) (word_is limit r w seats keeps h Free seat)) (begun_leaves (word_on p h).flag))
 
   pub keeps-clone : slice_get seats h ≡ Some Free
       → Prolongs limit r (Clone h) (Handle (length seats)) (cloned_of limit w) (seats ++ Free ∷ [])
@@ -204,7 +193,7 @@ module _ (limit : ℕ) (r : List Step) (w : FlagAndCount) (seats : List HandleSt
         answer = refl;
         blocks = length-set (after limit r).blocks (block_on (after limit r) h) _;
         word = sym (word_is limit r w seats keeps h Owing seat)
-            ∙ sym (ap (λ (e : BlockEntry). e.word) (ap (λ b. get_or (blocks_with_given (after limit r).blocks (block_on (after limit r) h)) b no_block) (sym on)
+            ∙ sym (ap (λ (e : BlockSummary). e.word) (ap (λ b. get_or (blocks_with_given (after limit r).blocks (block_on (after limit r) h)) b no_block) (sym on)
             ∙ get_or-set_same (after limit r).blocks (block_on (after limit r) h) _ no_block ((lawful_after limit r).made h i.born)));
         states = seats_changed Gone;
       })
@@ -264,38 +253,29 @@ module _ (limit : ℕ) (r : List Step) (w : FlagAndCount) (seats : List HandleSt
   says_of_word = subst (λ v. SaysOfBlock limit v (λ test. held (after limit r).handles 0 test) (given_in (after limit r) 0)) (sym keeps.left)
       (says limit (after limit r) 0 (lawful_after limit r) (made_one limit r w seats keeps))
 
--- an unmarked word counts the seats of living handles
-pub seats-counted : (limit : ℕ) (r : List Step) (w : FlagAndCount) (seats : List HandleState) → Keeps limit r w seats
-    → IsFalse w.flag → w.count ≡ length (filter lives seats)
-seats-counted limit r w seats keeps unmarked = (says_of_word limit r w seats keeps).exact unmarked ∙ sym (seats-held limit r w seats keeps lives)
+  -- an unmarked word counts the seats of living handles
+  pub seats-counted : IsFalse w.flag → w.count ≡ length (filter lives seats)
+  seats-counted unmarked = says_of_word.exact unmarked ∙ sym (seats-held lives)
 
--- a marked word counts at least the seats of dropping handles
-pub seats-covered : (limit : ℕ) (r : List Step) (w : FlagAndCount) (seats : List HandleState) → Keeps limit r w seats
-    → w.flag ≡ true → length (filter is_dropping seats) ≤ w.count
-seats-covered limit r w seats keeps marked =
-    let covered = (says_of_word limit r w seats keeps).covered marked in
-    let same = seats-held limit r w seats keeps is_dropping in omega arith
+  -- a marked word counts at least the seats of dropping handles
+  pub seats-covered : w.flag ≡ true → length (filter is_dropping seats) ≤ w.count
+  seats-covered marked = let covered = says_of_word.covered marked in let same = seats-held is_dropping in omega arith
 
--- a count is at most limit + 1
-pub seats-bounded : (limit : ℕ) (r : List Step) (w : FlagAndCount) (seats : List HandleState) → Keeps limit r w seats
-    → w.count ≤ limit + 1
-seats-bounded limit r w seats keeps = (says_of_word limit r w seats keeps).bounded
+  -- a count is at most limit + 1
+  pub seats-bounded : w.count ≤ limit + 1
+  seats-bounded = says_of_word.bounded
 
--- at most one seat owes
-pub seats-one_owes : (limit : ℕ) (r : List Step) (w : FlagAndCount) (seats : List HandleState) → Keeps limit r w seats
-    → length (filter is_owing seats) ≤ 1
-seats-one_owes limit r w seats keeps =
-    let one = (says_of_word limit r w seats keeps).one in
-    let same = seats-held limit r w seats keeps is_owing in omega arith
+  -- at most one seat owes
+  pub seats-one_owes : length (filter is_owing seats) ≤ 1
+  seats-one_owes = let one = says_of_word.one in let same = seats-held is_owing in omega arith
 
--- where a seat owes, the word is unmarked with count 0, and no seat belongs to a living handle
-pub seats-owed : (limit : ℕ) (r : List Step) (w : FlagAndCount) (seats : List HandleState) → Keeps limit r w seats
-    → 0 < length (filter is_owing seats) → IsFalse w.flag × (w.count ≡ 0) × (length (filter lives seats) ≡ 0)
-seats-owed limit r w seats keeps some =
-    let same = seats-held limit r w seats keeps is_owing in
-    let alone = (says_of_word limit r w seats keeps).alone (omega arith) in
-    let none : length (filter lives seats) ≡ 0 = seats-held limit r w seats keeps lives ∙ alone.1 in
-    (alone.0, seats-counted limit r w seats keeps alone.0 ∙ none, none)
+  -- where a seat owes, the word is unmarked with count 0, and no seat belongs to a living handle
+  pub seats-owed : 0 < length (filter is_owing seats) → IsFalse w.flag × (w.count ≡ 0) × (length (filter lives seats) ≡ 0)
+  seats-owed some =
+      let same = seats-held is_owing in
+      let alone = says_of_word.alone (omega arith) in
+      let none : length (filter lives seats) ≡ 0 = seats-held lives ∙ alone.1 in
+      (alone.0, seats-counted alone.0 ∙ none, none)
 
 -- the function whose proof uses this ruleset names it
 pub ruleset laws_of_seats = (seats-counted, seats-covered, seats-bounded, seats-one_owes)
@@ -338,30 +318,30 @@ leak_marks limit history h ends =
     ap (λ (v : State). (word_in v 0).flag) (last_state limit history (Leak h) Marked ends)
     ∙ ap (λ b. (get_or (blocks_with_word (after limit ends.prefix).blocks (block_on (after limit ends.prefix) h) (marked_of (word_on (after limit ends.prefix) h))) b
     no_block).word.flag) (sym on)
-    ∙ ap (λ (e : BlockEntry). e.word.flag) (get_or-set_same (after limit ends.prefix).blocks (block_on (after limit ends.prefix) h) _ no_block
+    ∙ ap (λ (e : BlockSummary). e.word.flag) (get_or-set_same (after limit ends.prefix).blocks (block_on (after limit ends.prefix) h) _ no_block
     ((lawful_after limit ends.prefix).made h i.born))
 
--- a look at the one block that answers `Static` found it marked
+-- a look at the one block answers by the count word that the history leaves
+look_found : (limit : ℕ) (history : List Step) (h : ℕ) (reply : Reply) → EndsIn limit history (Look h) reply
+    → look_reply (looked_of (word_in (after limit history) 0)) ≡ reply
+look_found limit history h reply ends =
+    let i = step_finds (after limit ends.prefix) h Free (last_accepted limit history (Look h) reply ends) in
+    let on = last_on limit history (Look h) reply ends h refl i.born in
+    ap (λ (v : State). look_reply (looked_of (word_in v 0))) (last_state limit history (Look h) reply ends)
+    ∙ ap (λ b. look_reply (looked_of (word_in (after limit ends.prefix) b))) (sym on)
+    ∙ last_reply limit history (Look h) reply ends
+
+-- so one that answers `Static` found it marked
 pub static_is_marked : (limit : ℕ) (history : List Step) (h : ℕ) → EndsIn limit history (Look h) Static → marked_after limit history 0 ≡ true
-static_is_marked limit history h ends =
-    let i = step_finds (after limit ends.prefix) h Free (last_accepted limit history (Look h) Static ends) in
-    let on = last_on limit history (Look h) Static ends h refl i.born in
-    ap (λ (v : State). (word_in v 0).flag) (last_state limit history (Look h) Static ends)
-    ∙ ap (λ b. (word_in (after limit ends.prefix) b).flag) (sym on)
-    ∙ static_was (word_on (after limit ends.prefix) h).flag (word_on (after limit ends.prefix) h).count (last_reply limit history (Look h) Static ends)
+static_is_marked limit history h ends = static_was (marked_after limit history 0) _ (look_found limit history h Static ends)
   where
     static_was : (f : Bool) (n : ℕ) → look_reply (if f then None else Some n) ≡ Static → f ≡ true
     static_was true n e = refl
     static_was false n e = cc
 
--- a look at the one block that answers a number found it unmarked
+-- and one that answers a number found it unmarked
 pub counted_is_unmarked : (limit : ℕ) (history : List Step) (h n : ℕ) → EndsIn limit history (Look h) (Count n) → marked_after limit history 0 ≡ false
-counted_is_unmarked limit history h n ends =
-    let i = step_finds (after limit ends.prefix) h Free (last_accepted limit history (Look h) (Count n) ends) in
-    let on = last_on limit history (Look h) (Count n) ends h refl i.born in
-    ap (λ (v : State). (word_in v 0).flag) (last_state limit history (Look h) (Count n) ends)
-    ∙ ap (λ b. (word_in (after limit ends.prefix) b).flag) (sym on)
-    ∙ count_was (word_on (after limit ends.prefix) h).flag (word_on (after limit ends.prefix) h).count (last_reply limit history (Look h) (Count n) ends)
+counted_is_unmarked limit history h n ends = count_was (marked_after limit history 0) _ (look_found limit history h (Count n) ends)
   where
     count_was : (f : Bool) (k : ℕ) → look_reply (if f then None else Some k) ≡ Count n → f ≡ false
     count_was true k e = cc

@@ -1,15 +1,11 @@
--- The table of refusals, and the numbers and the texts of the faults.
+-- The table of refusals, and the numbers and the names of its faults.
 use Rattle.std.specs.Prelude.{ℕ, Option, None, Some, List, codes}
-use Rattle.std.specs.declared.io.ErrorKind.{ErrorKind}
-use Rattle.std.specs.declared.io.ErrorKind.TheVariants.{InvalidInput, OutOfMemory}
 use Rattle.arcstr_count.specs.declared.steps.Step.{Step}
 use Rattle.arcstr_count.specs.declared.steps.Step.TheVariants.{Make, Look, Clone, Begin, Sub, Back, Leak, IntoRaw, FromRaw}
 use Rattle.arcstr_count.specs.declared.steps.HandleState.{HandleState}
 use Rattle.arcstr_count.specs.declared.steps.HandleState.TheVariants.{Free, Raw, Dropping, Owing, Gone}
 use Rattle.arcstr_count.specs.declared.faults.StepFault.{StepFault}
 use Rattle.arcstr_count.specs.declared.faults.StepFault.TheVariants.{NoHandle, InDrop, NotInDrop, NotOwing, IsRaw, NotRaw}
-use Rattle.arcstr_count.specs.declared.faults.RunFault.{RunFault}
-use Rattle.arcstr_count.specs.declared.faults.RunFault.TheVariants.{LimitTooLarge, Memory}
 
 -- ---- the table of refusals
 
@@ -69,16 +65,3 @@ step_fault_text NotInDrop = codes "NotInDrop"
 step_fault_text NotOwing = codes "NotOwing"
 step_fault_text IsRaw = codes "IsRaw"
 step_fault_text NotRaw = codes "NotRaw"
-
-abbrev pub run_fault_number : RunFault → ℕ
-run_fault_number LimitTooLarge = 1
-run_fault_number Memory = 2
-
-abbrev pub run_fault_text : RunFault → List ℕ
-run_fault_text LimitTooLarge = codes "limit too large"
-run_fault_text Memory = codes "out of memory"
-
--- the kind of a fault as an `io::Error`
-abbrev pub run_fault_kind : RunFault → ErrorKind
-run_fault_kind LimitTooLarge = InvalidInput
-run_fault_kind Memory = OutOfMemory

@@ -3,4 +3,3 @@ pub mod Word
 pub mod Answer
 pub mod Laws
 pub mod OneBlock
-pub mod Sentences

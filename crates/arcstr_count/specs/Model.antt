@@ -4,7 +4,7 @@
 -- entry for each block that was made, in the order of their making, with its count word and how often it was freed. The count
 -- word of an unmarked block is the number of the handles that live on it, after every history: `StandsAfter` below.
 use Rattle.std.specs.Prelude.{◌≡◌, ℕ, ◌+◌, ◌<◌, ◌≤◌, Bool, true, false, ◌&&◌, ◌==◌, if◌then◌else◌, List, [], ◌∷◌, ◌++◌, length}
-use Rattle.std.specs.Prelude.{zero, suc, filter, Option, None, Some, option_map, is_none, slice_get, slice_index_or, slice_set, IsTrue, IsFalse}
+use Rattle.std.specs.Prelude.{zero, suc, filter, Option, None, Some, option_map, slice_get, slice_index_or, slice_set, IsTrue, IsFalse}
 use Rattle.arcstr_count.specs.declared.steps.Step.{Step}
 use Rattle.arcstr_count.specs.declared.steps.Step.TheVariants.{Make, Look, Clone, Begin, Sub, Back, Leak, IntoRaw, FromRaw}
 use Rattle.arcstr_count.specs.declared.steps.HandleState.{HandleState}
@@ -14,16 +14,15 @@ use Rattle.arcstr_count.specs.declared.steps.Reply.{Reply}
 use Rattle.arcstr_count.specs.declared.steps.Reply.TheVariants.{Made, Count, Static, Handle, Looked, Ended, Left, Owes}
 use Rattle.arcstr_count.specs.declared.steps.Reply.TheVariants.{Given, Marked, Raw as RawReply, Unraw, Refused}
 use Rattle.arcstr_count.specs.declared.faults.StepFault.{StepFault}
-use Rattle.arcstr_count.specs.declared.words.TheConstants.{RC_MAX}
-use Rattle.arcstr_count.specs.declared.worlds.BlockEntry.{BlockEntry}
+use Rattle.arcstr_count.specs.declared.steps.BlockSummary.{BlockSummary}
 use Rattle.arcstr_count.specs.Word.{FlagAndCount, fresh_word, looked_of, cloned_of, dropped_of, is_last, marked_of}
 use Rattle.arcstr_count.specs.Answer.{needs, refusal_by}
 
 pub record State : Type 0 where
   pub handles : List HandleSummary
-  pub blocks : List BlockEntry
+  pub blocks : List BlockSummary
 
-abbrev pub state_of_tables : List HandleSummary → List BlockEntry → State
+abbrev pub state_of_tables : List HandleSummary → List BlockSummary → State
 state_of_tables handles blocks = record { handles = handles; blocks = blocks }
 
 -- before the first step
@@ -36,7 +35,7 @@ start = state_of_tables [] []
 abbrev pub no_handle : HandleSummary
 no_handle = record { block = 0; state = Gone }
 
-abbrev pub no_block : BlockEntry
+abbrev pub no_block : BlockSummary
 no_block = record { word = fresh_word; given = 0 }
 
 -- the block and the state of a handle
@@ -67,11 +66,11 @@ handles_with_state handles h state =
     slice_set handles h (record { block = (slice_index_or handles h no_handle).block; state = state })
 
 -- the block has another count word
-abbrev pub blocks_with_word : List BlockEntry → ℕ → FlagAndCount → List BlockEntry
+abbrev pub blocks_with_word : List BlockSummary → ℕ → FlagAndCount → List BlockSummary
 blocks_with_word blocks b word = slice_set blocks b (record { word = word; given = (slice_index_or blocks b no_block).given })
 
 -- the block was freed once more
-abbrev pub blocks_with_given : List BlockEntry → ℕ → List BlockEntry
+abbrev pub blocks_with_given : List BlockSummary → ℕ → List BlockSummary
 blocks_with_given blocks b =
     slice_set blocks b (record { word = (slice_index_or blocks b no_block).word; given = (slice_index_or blocks b no_block).given + 1 })
 
@@ -146,17 +145,6 @@ replies_from limit w (s ∷ later) = (step limit w s).1 ∷ replies_from limit (
 abbrev pub replies : ℕ → List Step → List Reply
 replies limit history = replies_from limit start history
 
--- `Make` makes a block
-abbrev pub is_make : Step → Bool
-is_make Make = true
-is_make s = false
-
--- `Make` and `Clone` give birth to a handle
-abbrev pub is_birth : Step → Bool
-is_birth Make = true
-is_birth (Clone h) = true
-is_birth s = false
-
 -- ---- the handles on a block
 
 -- a handle lives while it is free, raw or dropping
@@ -185,28 +173,14 @@ handles_on w b test = filter (λ h. (block_on w h == b) && test (state_on w h)) 
 
 -- ---- what a history means for blocks and handles
 
--- the step is accepted after the history, and what it answers
-abbrev pub accepted_after : ℕ → List Step → Step → Bool
-accepted_after limit history s = is_none (refusal_in (after limit history) s)
-
+-- what a step answers after the history
 abbrev pub answer_after : ℕ → List Step → Step → Reply
 answer_after limit history s = (step limit (after limit history) s).1
 
--- how many blocks were made, and how many handles were born
+-- how many blocks were made, and whether a block was
 abbrev pub makes_after : ℕ → List Step → ℕ
 makes_after limit history = length (after limit history).blocks
 
-abbrev pub births_after : ℕ → List Step → ℕ
-births_after limit history = length (after limit history).handles
-
--- the block of a handle, and its state; `None` for one that was never born
-abbrev pub block_after : ℕ → List Step → ℕ → ℕ
-block_after limit history h = block_on (after limit history) h
-
-abbrev pub state_after : ℕ → List Step → ℕ → Option HandleState
-state_after limit history h = state_in (after limit history) h
-
--- the block was made in the history
 abbrev pub IsMade : ℕ → List Step → ℕ → Type 0
 IsMade limit history b = b < makes_after limit history
 
@@ -238,30 +212,3 @@ pub record StandsAfter (limit : ℕ) (history : List Step) (b : ℕ) (w : FlagAn
   pub exact : IsFalse (marked_after limit history b) → w.count ≡ length (living_after limit history b)
   pub covered : IsTrue (marked_after limit history b) → length (dropping_after limit history b) ≤ w.count
   pub bounded : IsTrue (marked_after limit history b) → w.count ≤ limit + 1
-
--- ---- worlds
-
--- what contracts see of a world: its limit and its state
-pub record WorldView : Type 0 where
-  pub limit : ℕ
-  pub state : State
-
--- the state is that after at least one history
-abbrev pub HasHistory : WorldView → Type 0
-HasHistory world = ∥ ((history : List Step) × (world.state ≡ after world.limit history)) ∥₁
-
-abbrev pub view_of : ℕ → List HandleSummary → List BlockEntry → WorldView
-view_of limit handles blocks = record { limit = limit; state = state_of_tables handles blocks }
-
--- what every world keeps: its limit is at most `RC_MAX`, and its state is that after a history
-pub record IsWorld (limit : ℕ) (handles : List HandleSummary) (blocks : List BlockEntry) : Type 0 where
-  pub limited : limit ≤ RC_MAX
-  pub has_history : HasHistory (view_of limit handles blocks)
-
--- what the laws give of each state after a history: a handle stands on a block that was made; the count word of a dropping
--- handle's block counts it; the block of an owing handle was not freed; no block was freed twice
-pub record IsSound (w : State) : Type 0 where
-  pub made : (h : ℕ) (it : HandleSummary) → slice_get w.handles h ≡ Some it → it.block < length w.blocks
-  pub counted : (h : ℕ) (it : HandleSummary) → slice_get w.handles h ≡ Some it → it.state ≡ Dropping → 0 < (word_in w it.block).count
-  pub unfreed : (h : ℕ) (it : HandleSummary) → slice_get w.handles h ≡ Some it → it.state ≡ Owing → given_in w it.block ≡ 0
-  pub once : (b : ℕ) → given_in w b ≤ 1

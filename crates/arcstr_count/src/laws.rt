@@ -9,7 +9,7 @@ ghost use Rattle.arcstr_count.specs.OneBlock.{Keeps};
 use crate::steps::{HandleState, Step};
 use crate::words::Word;
 
-/// The laws of every interleaving: for any limit, any list of steps, any prefix of the list and any block made in that prefix. It has no precondition.
+/// Proves the laws of every interleaving: for any limit, any list of steps, any prefix of the list and any block made in that prefix. It has no precondition.
 ///
 /// ```
 /// let steps = [Step::Make, Step::Clone(0), Step::Leak(1), Step::Begin(0)];
@@ -19,7 +19,7 @@ pub fn every_interleaving(limit: u64, steps: &[Step])
     ensures laws { HoldsInEveryInterleaving limit steps.now }
 {}
 
-/// The law of a running block, whose count word and seats are those of a history of one block: it has as many
+/// Proves the law of a running block, whose count word and seats are those of a history of one block: it has as many
 /// handles as the history. Its clauses say nothing where the count word and the seats are not the history's.
 ///
 /// An unmarked count word counts the seats of living handles. A marked count word counts at least those of dropping handles. No count exceeds limit + 1. At

@@ -1,7 +1,8 @@
-//! What handles do, what each act answers, and the state in which it leaves the handle. Each type is plain
+//! What handles do, what each act answers, and what it leaves of the handle and its block. Each type is plain
 //! data: it may be copied, sent and shared, and its drop does nothing.
 
 use crate::faults::StepFault;
+use crate::words::Word;
 
 /// One act of one handle. The number is that of the handle that acts.
 ///
@@ -11,8 +12,7 @@ use crate::faults::StepFault;
 ///
 /// ```
 /// let steps = [Step::Make, Step::Begin(0), Step::Sub(0)];
-/// let replies = run(rt.alloc(), 2, &steps)?;
-/// assert_eq!(rt; replies.last(), Some(&Reply::Owes));
+/// every_interleaving(RC_MAX, &steps);
 /// ```
 #[derive(Clone, Copy, Debug, PartialEq, Eq)]
 pub enum Step {
@@ -41,10 +41,9 @@ pub enum Step {
 /// Takes 16 bytes.
 ///
 /// ```
-/// let mut world = World::new(rt.alloc(), 2)?;
-/// assert_eq!(rt; world.step(Step::Make)?, Reply::Made(0));
-/// assert_eq!(rt; world.step(Step::Leak(0))?, Reply::Marked);
-/// assert_eq!(rt; world.step(Step::Look(0))?, Reply::Static);
+/// let replies = [Reply::Made(0), Reply::Refused(StepFault::NotInDrop)];
+/// let refused = replies.iter().filter(|reply| matches!(reply, Reply::Refused(_)));
+/// assert_eq!(rt; refused.count(), 1);
 /// ```
 #[derive(Clone, Copy, Debug, PartialEq, Eq)]
 pub enum Reply {
@@ -99,7 +98,7 @@ pub enum HandleState {
     Gone,
 }
 
-/// What the summary of a history keeps of a handle that was born. Contracts use it; no call returns one.
+/// What a state of the model keeps of a handle that was born. Contracts use it; no call returns one.
 ///
 /// Takes 16 bytes.
 ///
@@ -114,4 +113,20 @@ pub struct HandleSummary {
     pub block: u64,
     /// The state of the handle.
     pub state: HandleState,
+}
+
+/// What a state of the model keeps of a block that was made. Contracts use it; no call returns one.
+///
+/// Takes 16 bytes.
+///
+/// ```
+/// let first = BlockSummary { word: Word::one(), given: 0 };
+/// assert_eq!(rt; first.word.count(), 1);
+/// ```
+#[derive(Clone, Copy, Debug, PartialEq, Eq)]
+pub struct BlockSummary {
+    /// The count word of the block.
+    pub word: Word,
+    /// How often the block was freed.
+    pub given: u64,
 }

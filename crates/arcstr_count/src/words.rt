@@ -10,7 +10,7 @@ use std::marker::Model;
 ///
 /// ```
 /// assert_eq!(rt; RC_MAX, (1 << 62) - 1);
-/// assert!(rt; World::new(rt.alloc(), RC_MAX).is_ok());
+/// assert_eq!(rt; Word::one().cloned(RC_MAX).count(), 2);
 /// ```
 pub const RC_MAX: u64 = (1 << 62) - 1;
 

@@ -2,3 +2,4 @@ mod block;
 mod checks;
 mod count;
 mod range;
+mod world;

@@ -5,7 +5,8 @@ ghost use Rattle.arcbench_core.specs.Line.{newline, script_lines, step_of};
 ghost use Rattle.arcbench_core.specs.Script.{reply_text, answer_by, answer_to, answer_under, answers, bad_limit, state_with};
 
 use super::line::{first_line, limit_in, step_of};
-use arcstr::count::{Reply, RunFault, World};
+use arcstr::count::Reply;
+use arcstr_world::{RunFault, World};
 use std::alloc::{AllocError, Allocator};
 
 /// Returns the answer to a script: `bad limit` if its first line sets no limit, else a line for each of the other lines, with the reply to its step or `bad`.

@@ -1,5 +1,0 @@
-use Rattle.arcstr_count.proofs.SentencesHandles.{born_sentence}
-use Rattle.arcstr_count.proofs.sentences.born_is.Goals as goal
-
-pub returns : goal.returns
-returns c = born_sentence c.args.limit c.args.history.now c.args.handle c.args.block

@@ -1,9 +1,0 @@
-use Rattle.arcstr_count.proofs.Names.{◌∙◌, sym, subst, refl, ◌<◌, BlockEntry, no_block}
-use Rattle.arcstr_count.proofs.LawsOfHistories.{get_or_any}
-use Rattle.arcstr_count.proofs.worlds.sub.Goals as goal
-
-pub dropped-word-requires : goal.dropped-word-requires
-dropped-word-requires g c =
-    let made = c.requires.made c.args.handle _ c.in-Ok.ensures.found in
-    subst (λ (e : BlockEntry). 0 < e.word.count) (get_or_any c.args.blocks.now.items c.in-Ok.block no_block c.index.result.now made ∙ sym c.index.ensures)
-    (c.requires.counted c.args.handle _ c.in-Ok.ensures.found refl)

@@ -1,0 +1,6 @@
+mod Names
+mod Prefixes
+mod LawsOfWorlds
+mod SentencesHandles
+mod SentencesBlocks
+mod SentencesState
