@@ -13,7 +13,7 @@ from sources import ROOT, files_of
 from reference.items import public_lines
 from reference.names import source_address
 
-EMPTY = {"meta", "link", "input", "br", "hr", "img"}
+EMPTY = {"meta", "link", "input", "br", "hr", "img", "wbr"}
 BLOCKS = {"p", "pre", "ul", "ol", "table", "div", "h1", "h2", "h3", "h4", "h5", "h6", "details"}
 BLOCKS |= {"blockquote", "section", "main", "nav", "header", "footer"}
 # What a page has once.

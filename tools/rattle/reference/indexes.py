@@ -8,7 +8,7 @@ from html import escape
 from sources import ROOT
 
 from reference.definitions import head_of
-from reference.items import Library, first_sentence
+from reference.items import Library, first_sentence, short_header
 from reference.kit_names import KIT_PAGE, methods_of_str
 from reference.libraries import STR_PAGE, definition_html, unique
 from reference.names import (
@@ -20,7 +20,7 @@ from reference.names import (
     library_address,
     relative,
 )
-from reference.page import INDEX, Entry, Site, comment_html, list_of
+from reference.page import INDEX, Entry, Site, comment_html, list_of, markdown_in
 
 
 def first_page(site: Site, names: Names, every: list[Library]) -> None:
@@ -42,8 +42,16 @@ def first_page(site: Site, names: Names, every: list[Library]) -> None:
     lists += [("definitions.html", "definitions of contracts"), (STR_PAGE, "methods of str")]
     lists += [(KIT_PAGE, "definitions of the kit that contracts cite")]
     body += ['<h2 id="lists">Lists</h2>', list_of(lists, INDEX)]
-    said = "<p>The key <kbd>/</kbd> searches names, contracts, comments and pages.</p>"
-    site.write(INDEX, site.name, said + "\n".join(body))
+    site.write(INDEX, site.name, introduction(site, scope) + "\n".join(body))
+
+
+def introduction(site: Site, scope: Scope) -> str:
+    """The first paragraph of README.md, and how to search."""
+    page = ROOT / "README.md"
+    paragraphs = page.read_text().split("\n\n") if page.is_file() else []
+    first = next((it for it in paragraphs if not it.startswith("#")), "")
+    said = "<p>The key <kbd>/</kbd> searches names, contracts, comments and pages.</p>\n"
+    return markdown_in(site, scope, ".").html(first) + said
 
 
 def title_of(text: str) -> str:
@@ -68,23 +76,27 @@ def items_page(site: Site, every: list[Library]) -> None:
 def traits_page(site: Site, every: list[Library]) -> None:
     """Each trait with the types that it is implemented for."""
     page = "traits.html"
-    types: dict[str, dict[str, str]] = defaultdict(dict)
+    types: dict[str, list[tuple[str, str]]] = defaultdict(list)
     for library in every:
         for item in library.types():
             for trait in item.derived:
-                types[trait.split("::")[-1]][f"{item.name} (derived)"] = item_address(item)
+                types[trait.split("::")[-1]].append((item_address(item), item.name))
         for part in library.implementations:
-            head = part.trait.split("<")[0].split("::")[-1]
-            is_plain = part.header.endswith(f" for {part.page}")
-            name = part.page if is_plain else re.sub(r"^(unsafe )?impl(<.*?>)? ", "", part.header)
+            whole = short_header(part.header)
+            name = whole if re.search(r"<[^']", part.trait) else whole.partition(" for ")[2]
             address = f"crates/{part.crate}/{part.page}.html#{part.anchor}"
-            types[head].setdefault(name, address)
-    body = []
+            types[part.trait.split("<")[0].split("::")[-1]].append((address, name))
+    rows = []
     for trait, found in sorted(types.items(), key=lambda it: it[0].lower()):
-        links = ((address, f"<code>{escape(name)}</code>") for name, address in found.items())
-        body.append(f'<h2 id="{trait}"><code>{trait}</code></h2>{list_of(links, page)}')
-    side = list_of(((f"{page}#{it}", it) for it in sorted(types, key=str.lower)), page)
-    site.write(page, "Traits", "\n".join(body), side)
+        links = ", ".join(
+            f'<a href="{relative(page, address)}"><code>{escape(name)}</code></a>'
+            for address, name in found
+        )
+        head = f'<th scope="row" id="{trait}"><code>{trait}</code></th>'
+        rows.append(f"<tr>{head}<td>{links}</td></tr>\n")
+    said = "<p>Each trait with what it is implemented for, by hand or derived.</p>"
+    table = f'<table class="names"><tbody>{"".join(rows)}</tbody></table>'
+    site.write(page, "Traits", f"{said}{table}")
 
 
 def definitions_page(site: Site, names: Names) -> None:
@@ -109,16 +121,20 @@ def definitions_page(site: Site, names: Names) -> None:
 def kit_page(site: Site, names: Names) -> None:
     """The kit's definitions that contracts cite. It comes last, when all of them are known."""
     body, side = [], []
-    said = "Contracts and definitions cite these definitions of the kit. Each stands here as the"
-    body.append(f"<p>{said} kit has it; what it cites itself is not linked.</p>")
-    scope = Scope(names, KIT_PAGE)
+    said = "Contracts and definitions cite these definitions of the kit."
+    body.append(f"<p>{said} What one cites itself is linked if it stands here too.</p>")
     cited = sorted(names.kit.cited.values(), key=lambda it: (it.place, it.found.line))
+    others = {name: f"{KIT_PAGE}#{it.anchor}" for it in cited for name in it.found.names()}
+    scope = Scope(names, KIT_PAGE, others=others)
     place = ""
     for it in cited:
         if it.place != place:
             place = it.place
-            body.append(f'<h2 id="{place}">{place}</h2>')
-            side.append((f"{KIT_PAGE}#{place}", place.removeprefix("Rattle.")))
+            anchor = place.replace(" ", "-")
+            body.append(f'<h2 id="{anchor}">{place}</h2>')
+            side.append(
+                (f"{KIT_PAGE}#{anchor}", place.removeprefix("Rattle.").replace(".", ".<wbr>"))
+            )
         body.append(definition_html(site, scope, it.found, it.anchor, ""))
         entry = Entry(it.name, "kit definition", f"{KIT_PAGE}#{it.anchor}", it.found.comment)
         entry.text = it.found.text

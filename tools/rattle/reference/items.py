@@ -3,6 +3,7 @@ import re
 from collections import Counter
 from collections.abc import Iterator
 from dataclasses import dataclass, field
+from functools import cache
 from pathlib import Path
 
 from sources import CRATES, OWNER, Function, end_of_group, files_of, functions, without_comments
@@ -56,8 +57,8 @@ class Item:
 
 @dataclass(eq=False)
 class Implementation:
-    """A trait that is implemented for a type. `page` is the type or trait on whose page it
-    stands."""
+    """A trait that is implemented for a type. `page` is the type or trait on whose page it stands,
+    and `plain` has the signatures of functions that have neither a doc comment nor a contract."""
 
     crate: str
     trait: str
@@ -69,6 +70,7 @@ class Implementation:
     page: str
     anchor: str
     functions: list[Item]
+    plain: list[str]
 
 
 @dataclass(eq=False)
@@ -93,6 +95,11 @@ class Library:
 
 def first_sentence(comment: str) -> str:
     return re.split(r"(?<=[.]) |\n\n|\n```", comment)[0].replace("\n", " ").strip()
+
+
+def short_header(header: str) -> str:
+    """The trait and the type of an implementation."""
+    return re.sub(r"^(?:unsafe )?impl(?:<.*?>)? ", "", header).split(" where ")[0]
 
 
 def anchor_of(title: str) -> str:
@@ -142,17 +149,22 @@ def split_header(function: Function, source: str) -> tuple[str, str]:
     return header[:first], without_margin(header[first + 1 :])
 
 
+def end_of_statement(code: str, start: int) -> int:
+    """The place after the semicolon that ends what begins at `start`. `code` has no comments."""
+    place = start
+    while place < len(code) and code[place] != ";":
+        place = end_of_group(code, place) if code[place] == "{" else place + 1
+    return place + 1
+
+
 def ghosts_of(body: str, blanked: str) -> str:
     """What the body of a trait or of an implementation states, but for imports, each with its
     comment. `blanked` is the body without comments and literals."""
     shown = []
     for found in GHOST.finditer(blanked):
-        place = found.end()
-        while blanked[place] != ";":
-            place = end_of_group(blanked, place) if blanked[place] == "{" else place + 1
         comment = re.search(r"(?:^ *//.*\n)*\Z", body[: found.start()], re.M)
         start = comment.start() if comment else found.start()
-        shown.append(without_margin(body[start : place + 1]))
+        shown.append(without_margin(body[start : end_of_statement(blanked, found.end())]))
     return "\n".join(shown)
 
 
@@ -251,27 +263,34 @@ class Reader:
         page = self.page_for(header, name)
         if not page:
             return
-        whole = re.sub(r"^(?:unsafe )?impl(?:<.*?>)? ", "", header).split(" where ")[0]
-        short = whole if page != name or found["lent"] else trait
+        short = short_header(header) if page != name or found["lent"] else trait
         anchor = self.anchor(page, short)
         code = without_comments(source, literals=False)
         ghosts = ghosts_of(source[found.end() : end], code[found.end() : end])
         line = line_at(source, found.start())
         comment = comment_above(source, found.start())
-        shown = [
-            self.item_of(
-                file,
-                it,
-                f"<{found['type'] or found['lent']} as {trait}>::{it.name}",
-                page,
-                self.anchor(page, f"{anchor}.{it.name}"),
-            )
-            for it in parts
-        ]
-        shown = [item for item in shown if item.comment or item.contract]
+        shown, plain = [], []
+        for it in parts:
+            title = f"<{found['type'] or found['lent']} as {trait}>::{it.name}"
+            item = self.item_of(file, it, title, page, f"{anchor}.{it.name}")
+            if item.comment or item.contract:
+                item.anchor = self.anchor(page, item.anchor)
+                shown.append(item)
+            else:
+                plain.append(item.signature)
         self.library.implementations.append(
             Implementation(
-                self.library.crate, trait, header, file, line, comment, ghosts, page, anchor, shown
+                self.library.crate,
+                trait,
+                header,
+                file,
+                line,
+                comment,
+                ghosts,
+                page,
+                anchor,
+                shown,
+                plain,
             )
         )
 
@@ -307,23 +326,26 @@ def read_library(crate: str) -> Library:
 
 
 def public_lines(file: Path) -> Iterator[tuple[str, int]]:
-    """The names and lines of what a source declares as public, but for what a type has that is not
-    public itself. Read apart from the items, to compare them."""
+    """The names and lines of what a source declares as public, and of what it implements, but for
+    what a type has that is not public itself. Read apart from the items, to compare them."""
     code = without_comments(file.read_text(), literals=False)
-    hidden = [
-        (found.start(), end_of_group(code, found.end() - 1))
-        for found in OWNER.finditer(code)
-        if found["type"]
-        and re.search(
-            rf"^(?:pub\([a-z]+\) )?(?:struct|enum) {found['type']}\b", every_code(file), re.M
-        )
-    ]
+    hidden = []
+    for found in OWNER.finditer(code):
+        name = found["type"] or ""
+        if re.search(rf"^(?:pub\([a-z]+\) )?(?:struct|enum) {name}\b", every_code(file), re.M):
+            hidden.append((found.start(), end_of_group(code, found.end() - 1)))
+        elif found["trait"] or found["own"]:
+            yield " ".join(found[0][:-1].split()), line_at(code, found.start())
     for item in PUBLIC.finditer(code):
         if not any(start < item.start() < end for start, end in hidden):
             yield item[1], line_at(code, item.start(1))
 
 
-def every_code(file: Path) -> str:
-    """All code of the crate of a file."""
-    crate = file.relative_to(CRATES).parts[0]
+@cache
+def code_of(crate: str) -> str:
+    """All code of a crate."""
     return "\n".join(without_comments(it.read_text(), literals=False) for it in files_of(crate)[0])
+
+
+def every_code(file: Path) -> str:
+    return code_of(file.relative_to(CRATES).parts[0])

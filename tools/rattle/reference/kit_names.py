@@ -5,10 +5,10 @@ from dataclasses import dataclass
 from pathlib import Path
 
 import kit
-from sources import functions
+from sources import end_of_group, functions, without_comments
 
 from reference.definitions import Definition, definitions_of, imports_of
-from reference.items import comment_above, first_sentence, split_header
+from reference.items import comment_above, end_of_statement, first_sentence, split_header
 
 KIT_PAGE = "kit.html"
 # Where the files of a part of the logic lie, by the first word of a place.
@@ -16,6 +16,10 @@ PARTS = {"mathlib": "antt/port/mathlib/src", "lib": "logic/Lib", "base": "logic/
 PARTS |= {"denote": "logic/Denote", "mir": "logic/Mir"}
 # The crates whose definitions `std` passes on.
 BELOW_STD = ("core", "std_alloc", "std_heap", "std_collections", "std_io")
+
+
+TRAIT = re.compile(r"^pub (?:unsafe )?trait (\w+)[^;{]*\{", re.M)
+GHOST = re.compile(r"^ +ghost (\w+): ", re.M)
 
 
 @dataclass(eq=False)
@@ -38,6 +42,7 @@ class KitNames:
         self.known: dict[tuple[str, str], Cited | None] = {}
         self.anchors: set[str] = set()
         self.texts: dict[str, str] = {}
+        self.ghosts = {(it.place, it.name): it for it in ghosts_of_traits(self.root)}
 
     def file_of(self, place: str) -> Path:
         first, *rest = place.split(".")
@@ -79,19 +84,47 @@ class KitNames:
         if not (found := self.find(place, name)):
             return None
         source, definition = found
-        if (source, definition.name) not in self.cited:
+        return self.keep(source, definition)
+
+    def keep(self, place: str, definition: Definition) -> Cited:
+        """A definition that is shown, with an anchor of its own."""
+        if (place, definition.name) not in self.cited:
             anchor, many = definition.name, 1
             while anchor in self.anchors:
                 many += 1
                 anchor = f"{definition.name}-{many}"
             self.anchors.add(anchor)
-            cited = Cited(definition.name, source, anchor, definition)
-            self.cited[source, definition.name] = cited
-        return self.cited[source, definition.name]
+            self.cited[place, definition.name] = Cited(definition.name, place, anchor, definition)
+        return self.cited[place, definition.name]
+
+    def ghost(self, name: str, words: set[str]) -> str | None:
+        """Where the page has what a trait states under a name. The trait is one of these words."""
+        for (place, known), it in self.ghosts.items():
+            if known == name and place.split()[-1] in words:
+                return f"{KIT_PAGE}#{self.keep(place, it.found).anchor}"
+        return None
+
+
+def ghosts_of_traits(root: Path) -> Iterator[Cited]:
+    """What the traits of the kit's standard library state, each with its comment."""
+    for crate in ("std", *BELOW_STD):
+        for file in sorted((root / crate / "src").rglob("*.rt")):
+            source = file.read_text()
+            code = without_comments(source, literals=False) if "trait " in source else ""
+            for trait in TRAIT.finditer(code):
+                end = end_of_group(code, trait.end() - 1)
+                for found in GHOST.finditer(code, trait.end(), end):
+                    text = source[found.start() : end_of_statement(code, found.end())].strip()
+                    above = re.search(r"(?:^ *//.*\n)*\Z", source[: found.start()], re.M)
+                    comment = re.sub(r"^ *//+ ?", "", above[0] if above else "", flags=re.M)
+                    line = source.count("\n", 0, found.start()) + 1
+                    made = Definition(found[1], comment.strip(), text, line, "", "")
+                    yield Cited(found[1], f"trait {trait[1]}", "", made)
 
 
 def methods_of_str(root: Path | None = None) -> Iterator[tuple[str, str, str]]:
-    """The public methods of the kit's `str`: their names, their signatures and what they do."""
+    """The public methods of the kit's `str` that are not `unsafe`: their names, their signatures
+    and what they do."""
     root = root or kit.folder() / "rattle"
     seen = set()
     for crate in ("core", "std_alloc", "std"):
@@ -102,7 +135,8 @@ def methods_of_str(root: Path | None = None) -> Iterator[tuple[str, str, str]]:
             for it in functions(file, source):
                 if it.owner != "str" or not it.is_public or it.trait or it.name in seen:
                     continue
-                seen.add(it.name)
                 signature, _ = split_header(it, source)
-                said = first_sentence(comment_above(source, it.start))
-                yield it.name, " ".join(signature.split()), said
+                if "self" in signature and not re.search(r"\bunsafe fn\b", signature):
+                    seen.add(it.name)
+                    said = first_sentence(comment_above(source, it.start))
+                    yield it.name, " ".join(signature.split()), said

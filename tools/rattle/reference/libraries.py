@@ -1,4 +1,5 @@
 """Writes the pages of a library: its own, one for each type and trait, and those of definitions."""
+import re
 from collections import defaultdict
 from html import escape
 from pathlib import Path
@@ -6,7 +7,7 @@ from pathlib import Path
 from sources import CRATES
 
 from reference.definitions import Definition, files_of_specs, head_of, imports_of
-from reference.items import Implementation, Item, Library, first_sentence
+from reference.items import Implementation, Item, Library, first_sentence, short_header
 from reference.kit_names import methods_of_str
 from reference.names import (
     Names,
@@ -22,6 +23,8 @@ from reference.page import Entry, Site, comment_html, crumbs, list_of
 
 KINDS = {"struct": "Struct", "enum": "Enum", "trait": "Trait"}
 PLAIN = {"macro": "Macros", "const": "Constants", "static": "Constants", "type": "Types"}
+# The trait by which a type says what it is in a contract.
+MODEL = "Model"
 # What makes the methods of `str` callable, and the page that lists them.
 DEREF, STR_PAGE = "DerefStr", "str.html"
 
@@ -47,11 +50,15 @@ class LibraryPages:
     def __init__(self, site: Site, names: Names, library: Library):
         self.site, self.names, self.library = site, names, library
         self.crate = library.crate
-        self.imports = {file: imports_of(file.read_text()) for file in library.modules}
+        self.imports, self.words = {}, {}
+        for file in library.modules:
+            text = file.read_text()
+            self.imports[file] = imports_of(text)
+            self.words[file] = {*re.findall(r"\b[A-Z]\w*", text)}
 
     def scope(self, page: str, file: Path | None = None, owner: str = "") -> Scope:
-        imports = self.imports.get(file, {}) if file else {}
-        return Scope(self.names, page, self.crate, owner, imports)
+        imports, words = (self.imports[file], self.words[file]) if file else ({}, set())
+        return Scope(self.names, page, self.crate, owner, imports, words=words)
 
     def source(self, page: str, file: Path, line: int, name: str) -> str:
         """The link to the source of an item."""
@@ -88,9 +95,11 @@ class LibraryPages:
         """What is implemented: its header, what it states, and its functions."""
         scope = self.scope(page, part.file, part.page)
         source = self.source(page, part.file, part.line, part.header)
-        title = part.anchor if part.anchor == part.trait else part.header
+        title = part.anchor if part.anchor == part.trait else short_header(part.header)
         head = f'<h3 id="{escape(part.anchor)}"><code>{escape(title)}</code>{source}</h3>'
-        parts = [head, scope.block(part.header, kind="signature")]
+        plain = "".join(f"\n{signature};" for signature in part.plain).replace("\n", "\n    ")
+        shown = f"{part.header} {{{plain}\n}}" if plain else part.header
+        parts = [head, scope.block(shown, kind="signature")]
         parts.append(comment_html(self.site, scope, part.comment))
         if part.contract:
             parts.append(self.contract(scope, part.contract))
@@ -129,12 +138,24 @@ class LibraryPages:
             side.append(f'<h2><a href="#{anchor}">{subject}</a></h2>')
             side.append(list_of(((f"{page}#{it.anchor}", it.name) for it in calls), page))
         parts = [it for it in self.library.implementations if it.page == item.name]
+        for part in (it for it in parts if it.trait == MODEL):
+            body.insert(2, self.model(page, part))
+        parts = [it for it in parts if it.trait != MODEL]
         if any(it.trait == DEREF for it in parts):
             body.append(self.methods_of_str(page, item.name))
             side.append('<h2><a href="#of-str">Methods of str</a></h2>')
         body += self.traits(page, item, parts, side)
         way = crumbs(page, (library_address(self.crate), self.crate))
         self.site.write(page, item.name, "\n".join(body), "".join(side), way)
+
+    def model(self, page: str, part: Implementation) -> str:
+        """What a type is in a contract."""
+        stated = part.contract.replace("\n", "\n    ")
+        scope = self.scope(page, part.file, part.page)
+        shown = scope.block(f"{part.header} {{\n    {stated}\n}}", ghost=True)
+        source = self.source(page, part.file, part.line, part.header)
+        anchor = escape(part.anchor)
+        return f'<h2 id="{anchor}">In a contract{source}</h2>\n{shown}'
 
     def methods_of_str(self, page: str, owner: str) -> str:
         names = sorted(name for name, *_ in methods_of_str())
@@ -149,15 +170,14 @@ class LibraryPages:
     def traits(
         self, page: str, item: Item, parts: list[Implementation], side: list[str]
     ) -> list[str]:
-        """What is implemented for a type. Its model, which says what it is in a contract, comes
-        first."""
+        """What is implemented for a type, but for its model."""
         if not parts and not item.derived:
             return []
         body = ['<h2 id="of-traits">Traits</h2>']
         if item.derived:
             names = ", ".join(f"<code>{escape(it)}</code>" for it in item.derived)
             body.append(f"<p>Derived: {names}.</p>")
-        parts = sorted(parts, key=lambda it: (it.trait != "Model", it.anchor.lower()))
+        parts = sorted(parts, key=lambda it: it.anchor.lower())
         body += [self.implementation(page, it) for it in parts]
         links = [(f"{page}#{it.anchor}", escape(it.anchor.replace("-", " "))) for it in parts]
         side.append('<h2><a href="#of-traits">Traits</a></h2>')
@@ -186,8 +206,11 @@ class LibraryPages:
         side = []
         types = [(item_address(it), it.name, it.said) for it in self.library.types()]
         if types:
-            body += ['<h2 id="types">Types and traits</h2>', self.table(page, sorted(types), scope)]
-            side.append('<h2><a href="#types">Types and traits</a></h2>')
+            body += [
+                '<h2 id="of-types">Types and traits</h2>',
+                self.table(page, sorted(types), scope),
+            ]
+            side.append('<h2><a href="#of-types">Types and traits</a></h2>')
             side.append(list_of(((it[0], it[1]) for it in sorted(types)), page))
         groups: dict[str, list[Item]] = defaultdict(list)
         for it in self.library.items:
@@ -201,8 +224,8 @@ class LibraryPages:
         body += self.definition_list(page, scope, side)
         if self.library.exports:
             shown = scope.block("\n".join(self.library.exports))
-            body += ['<h2 id="exports">What the library exports</h2>', shown]
-            side.append('<h2><a href="#exports">Exports</a></h2>')
+            body += ['<h2 id="of-exports">What the library exports</h2>', shown]
+            side.append('<h2><a href="#of-exports">Exports</a></h2>')
         self.site.entries.append(
             Entry(self.crate, "library", page, first_sentence(self.library.modules[root]))
         )
@@ -216,10 +239,10 @@ class LibraryPages:
             (definitions_address(it), it.stem, first_sentence(head_of(it.read_text())))
             for it in files
         ]
-        side.append('<h2><a href="#definitions">Definitions</a></h2>')
+        side.append('<h2><a href="#of-definitions">Definitions</a></h2>')
         side.append(list_of(((it[0], it[1]) for it in rows), page))
         said = "<p>The contracts cite the definitions of these files.</p>"
-        title = '<h2 id="definitions">Definitions</h2>'
+        title = '<h2 id="of-definitions">Definitions</h2>'
         return [title, said, self.table(page, rows, scope)]
 
     def definition_pages(self) -> None:

@@ -16,10 +16,13 @@ from reference.kit_names import KitNames
 TOKEN = re.compile(
     r"(?P<comment>//[^\n]*|--[^\n]*)"
     r"|(?P<literal>\"(?:\\.|[^\"\\])*\"|b?'(?:\\[^'\n]+|[^'\\\n])')"
+    r"|(?P<stated>(?<![\w.'])[A-Z]\w*\.[a-z]\w*)"
     r"|(?P<name>(?<![\w.'])[^\W\d]\w*(?:::\w+)*!?)"
     r"|(?P<other>\s+|\w+|->|.)",
     re.S,
 )
+STATED = re.compile(r"^ghost (\w+):", re.M)
+VARIANT = re.compile(r"^    ([A-Z]\w*)", re.M)
 QUOTED = re.compile(r"(`[^`\n]+`)")
 CALL = re.compile(r"&?(?P<name>[\w:]+!?)(?:\(.*\))?")
 SPEC = re.compile(r"Rattle\.(?P<crate>\w+)\.specs\.(?P<module>[\w.]+)")
@@ -81,10 +84,16 @@ class Names:
         self.items: dict[str, list[tuple[str, str]]] = defaultdict(list)
         self.definitions: dict[tuple[str, str], dict[str, str]] = defaultdict(dict)
         self.files: dict[Path, list[Definition]] = {}
+        self.ghosts: dict[tuple[str, str], str] = {}
         for library in libraries:
             for item in library.items:
                 known = self.items[f"{item.name}!" if item.kind == "macro" else item.title]
                 known.append((item.crate, item_address(item)))
+                for name in VARIANT.findall(item.signature if item.kind == "enum" else ""):
+                    for title in (f"{item.name}::{name}", f"::{name}"):
+                        self.items[title].append((item.crate, item_address(item)))
+                for name in STATED.findall(item.contract if item.kind == "trait" else ""):
+                    self.ghosts[name, item.name] = item_address(item)
             folder = CRATES / library.crate / "specs"
             for file in files_of_specs(folder):
                 self.files[file] = list(definitions_of(file.read_text()))
@@ -116,6 +125,11 @@ class Names:
                     return address
         return self.kit.address(place, name)
 
+    def stated(self, name: str, words: set[str]) -> str | None:
+        """The address of what a trait states under a name. The trait is one of these words."""
+        own = (it for (known, trait), it in self.ghosts.items() if known == name and trait in words)
+        return next(own, None) or self.kit.ghost(name, words)
+
     def definition(self, name: str) -> str | None:
         """The address of a definition by its name alone, where only one has it."""
         found = {it[name] for it in self.definitions.values() if name in it}
@@ -125,7 +139,8 @@ class Names:
 @dataclass
 class Scope:
     """Where code or text stands: on which page, in which crate, under which type, and below which
-    imports. `others` has further names with their addresses."""
+    imports. `others` has further names with their addresses, and `words` those that code near it
+    has, such as traits."""
 
     names: Names
     page: str
@@ -133,6 +148,7 @@ class Scope:
     owner: str = ""
     imports: dict[str, tuple[str, str]] = field(default_factory=dict)
     others: dict[str, str] = field(default_factory=dict)
+    words: set[str] = field(default_factory=set)
 
     def link(self, address: str | None, html: str, kind: str = "") -> str:
         if address is None or address == self.page:
@@ -169,6 +185,10 @@ class Scope:
                     for at, it in enumerate(parts)
                 )
                 html = f'<span class="comment">{html}</span>'
+            elif found["stated"]:
+                head, _, name = found[0].partition(".")
+                whose = self.link(self.title(head), head)
+                html = f"{whose}.{self.link(self.names.stated(name, self.words), name)}"
             elif found["name"]:
                 address = self.defined(found[0]) if ghost else None
                 html = self.link(address or self.title(found[0]), html)
@@ -190,6 +210,8 @@ class Scope:
         if not address and self.crate:
             own = [it for crate, it in self.names.items.get(name, ()) if crate == self.crate]
             address = own[0] if own else None
+        if not address and name[0].isupper():
+            address = self.names.item(f"::{name}", self.crate)
         if not address and (name[:1].isupper() or "_" in name):
             address = self.names.definition(name)
         return address

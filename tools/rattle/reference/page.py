@@ -56,8 +56,8 @@ class Site:
             return f'<a href="{relative(page, address)}"{here}>{escape(text)}</a>'
 
         root = "../" * page.count("/")
-        side = f'<nav class="side" id="contents" aria-label="On this page">{aside}</nav>'
-        jump = '<a class="jump" href="#contents">On this page</a>' if aside else ""
+        side = f'<nav class="side" id="page-list" aria-label="On this page">{aside}</nav>'
+        jump = '<a class="jump" href="#page-list">On this page</a>' if aside else ""
         html = f"""<!doctype html>
 <html lang="en" data-root="{root}">
 <head>
@@ -68,17 +68,17 @@ class Site:
 <script src="{root}search.js" defer></script>
 </head>
 <body>
-<a class="skip" href="#content">Skip to the content</a>
+<a class="skip" href="#page-content">Skip to the content</a>
 <header>
 <nav aria-label="All pages">{link(INDEX, self.name)}
 {chr(10).join(link(*it) for it in HEAD.items())}</nav>
-<form role="search" hidden><label for="q">Search</label>
-<input id="q" name="q" type="search" autocomplete="off" placeholder="Press / to search">
+<form role="search" hidden><label for="page-search">Search</label>
+<input id="page-search" name="q" type="search" autocomplete="off" placeholder="Press / to search">
 </form>
 </header>
-<section id="results" aria-label="Found" aria-live="polite" hidden></section>
+<section id="page-results" aria-label="Found" aria-live="polite" hidden></section>
 <div class="{"frame" if aside else "whole"}">
-<main id="content">
+<main id="page-content">
 <p class="above">{above}{jump}</p>
 <h1>{escape(title)}</h1>
 {body}

@@ -5,8 +5,8 @@
 const MOST = 100;
 const root = document.documentElement.dataset.root;
 const form = document.querySelector("header form");
-const field = document.getElementById("q");
-const results = document.getElementById("results");
+const field = document.getElementById("page-search");
+const results = document.getElementById("page-results");
 form.hidden = false;
 
 let loading;
