@@ -191,7 +191,11 @@ class Scope:
                 html = f"{whose}.{self.link(self.names.stated(name, self.words), name)}"
             elif found["name"]:
                 address = self.defined(found[0]) if ghost else None
-                html = self.link(address or self.title(found[0]), html)
+                address = address or self.title(found[0])
+                before, after = text[: found.start()], text[found.end() : found.end() + 1]
+                if not address and not ghost and after == "(" and not before.endswith("fn "):
+                    address = self.names.item(found[0].split("::")[-1], self.crate)
+                html = self.link(address, html)
             shown.append(html)
         return "".join(shown)
 

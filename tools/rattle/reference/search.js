@@ -37,7 +37,7 @@ function rank(entry, words) {
   for (const word of words) {
     if (!entry.all.includes(word)) return null;
     if (entry.last === word || entry.name === word) sum += 0;
-    else if (entry.last.startsWith(word)) sum += 1;
+    else if (entry.last.startsWith(word) || entry.last.split("_").includes(word)) sum += 1;
     else if (entry.name.includes(word)) sum += 2;
     else if (entry.said.toLowerCase().includes(word)) sum += 4;
     else sum += 6;

@@ -53,6 +53,37 @@ module _ (limit : ℕ) where
 """
 
 
+KIT_SOURCE = """pub trait States: Sized {
+    ghost use Rattle.core.specs.Prelude.{◌≡◌};
+
+    // What holds; by default nothing.
+    ghost state: { Self → Type 0 } = { λ _. ⊤ };
+}
+
+pub trait Others {
+    ghost state: { Self → ℕ };
+}
+
+impl str {
+    /// The first character. There may be none.
+    pub fn first(&self) -> Option<char> {
+        None
+    }
+
+    pub unsafe fn first_unchecked(&self) -> char {}
+
+    pub fn from(text: &str) -> &str {}
+
+    fn hidden(&self) {}
+}
+"""
+
+
+def write(file: Path, text: str) -> None:
+    file.parent.mkdir(parents=True, exist_ok=True)
+    file.write_text(text)
+
+
 class ItemsTest(unittest.TestCase):
     def test_signatures_and_contracts(self) -> None:
         first, clone = sources.functions(Path("pair.rt"), SOURCE)
@@ -127,8 +158,7 @@ class DefinitionsTest(unittest.TestCase):
                 ("std/specs/Prelude", "pub use Rattle.core.specs.Pairs.{Side, left as west}\n"),
                 ("core/specs/Pairs", SPECS),
             ):
-                (root / name).parent.mkdir(parents=True, exist_ok=True)
-                (root / name).with_suffix(".antt").write_text(text)
+                write((root / name).with_suffix(".antt"), text)
             kit = kit_names.KitNames(root)
             self.assertEqual(kit.address("Rattle.std.specs.Prelude", "west"), "kit.html#Side")
             self.assertEqual(kit.address("Rattle.std.specs.Pairs", "IsSmall"), "kit.html#IsSmall")
@@ -137,6 +167,23 @@ class DefinitionsTest(unittest.TestCase):
             places = [it.place for it in kit.cited.values()]
             self.assertEqual(places, ["Rattle.core.specs.Pairs"] * 2)
 
+    def test_what_traits_of_the_kit_state(self) -> None:
+        with tempfile.TemporaryDirectory() as folder:
+            write(Path(folder) / "core/src/states.rt", KIT_SOURCE)
+            kit = kit_names.KitNames(Path(folder))
+            self.assertEqual(kit.ghost("state", {"States"}), "kit.html#state")
+            self.assertEqual(kit.ghost("state", {"Others"}), "kit.html#state-2")
+            self.assertIsNone(kit.ghost("state", {"Sized"}))
+            first, other = (it.found for it in kit.cited.values())
+            self.assertEqual(first.comment, "What holds; by default nothing.")
+            self.assertEqual(other.text, "ghost state: { Self → ℕ };")
+
+    def test_methods_of_str(self) -> None:
+        with tempfile.TemporaryDirectory() as folder:
+            write(Path(folder) / "std/src/text.rt", KIT_SOURCE)
+            wanted = ("first", "pub fn first(&self) -> Option<char>", "The first character.")
+            self.assertEqual([*kit_names.methods_of_str(Path(folder))], [wanted])
+
 
 class LinksTest(unittest.TestCase):
     """Names of a crate `up` that uses nothing, and of its contracts."""
@@ -144,8 +191,12 @@ class LinksTest(unittest.TestCase):
     def setUp(self) -> None:
         folder = tempfile.TemporaryDirectory()
         self.addCleanup(folder.cleanup)
+        write(Path(folder.name) / "core/src/states.rt", KIT_SOURCE)
         known = names.Names([], kit_names.KitNames(Path(folder.name)))
+        known.ghosts["passed", "Gate"] = "crates/up/Side.html"
         for title, page_of in (
+            ("Side::Left", "Side.html"),
+            ("::Left", "Side.html"),
             ("Pair", "Pair.html"),
             ("Pair::first", "Pair.html#first"),
             ("pair!", "index.html#pair"),
@@ -154,7 +205,8 @@ class LinksTest(unittest.TestCase):
             known.items[title].append(("up", f"crates/up/{page_of}"))
         known.definitions["up", "Pairs"]["AreAlike"] = "crates/up/specs/Pairs.html#AreAlike"
         imports = {"same": ("Rattle.up.specs.Pairs", "AreAlike")}
-        self.scope = names.Scope(known, "crates/up/Pair.html", "up", "Pair", imports)
+        words = {"Gate", "States"}
+        self.scope = names.Scope(known, "crates/up/Pair.html", "up", "Pair", imports, words=words)
 
     def test_names_in_code(self) -> None:
         for code, is_contract, linked in (
@@ -163,7 +215,14 @@ class LinksTest(unittest.TestCase):
             ("Pair::first(&pair)", False, "#first"),
             ("Self::first(&pair)", False, "#first"),
             ("up::Pair::first", False, "#first"),
-            ("swap(first)", False, ""),
+            ("swap(first)", False, "index.html#swap"),
+            ("up::swap(first)", False, "index.html#swap"),
+            ("fn swap(a: u8)", False, ""),
+            ("swap.first", False, ""),
+            ("Side::Left", False, "Side.html"),
+            ("S.passed a", True, "Side.html"),
+            ("T.state a", True, "../../kit.html#state"),
+            ("S.other a", True, ""),
             ("same a b", True, "specs/Pairs.html#AreAlike"),
             ("same a b", False, ""),
             ("a.same", True, ""),
@@ -180,6 +239,7 @@ class LinksTest(unittest.TestCase):
             ("first()", "#first"),
             ("swap", "index.html#swap"),
             ("AreAlike", "specs/Pairs.html#AreAlike"),
+            ("Left", "Side.html"),
             ("other", ""),
             ("a + b", ""),
         ):
