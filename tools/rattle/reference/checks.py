@@ -2,15 +2,16 @@
 and each public item has its entry."""
 import re
 from collections import Counter
-from collections.abc import Iterable
+from collections.abc import Iterable, Iterator
+from functools import cache
 from html.parser import HTMLParser
 from pathlib import Path
 from posixpath import dirname, join, normpath
 from urllib.parse import unquote
 
-from sources import ROOT, files_of
+from sources import CRATES, OWNER, ROOT, end_of_group, files_of, without_comments
 
-from reference.items import public_lines
+from reference.items import line_at
 from reference.names import source_address
 
 EMPTY = {"meta", "link", "input", "br", "hr", "img", "wbr"}
@@ -18,6 +19,11 @@ BLOCKS = {"p", "pre", "ul", "ol", "table", "div", "h1", "h2", "h3", "h4", "h5", 
 BLOCKS |= {"blockquote", "section", "main", "nav", "header", "footer"}
 # What a page has once.
 ONCE = ("html", "title", "main", "h1", "header", "footer")
+PUBLIC = re.compile(
+    r"^ *(?:#\[macro_export\]\n *|pub )(?:const (?=fn)|unsafe )*"
+    r"(?:fn|struct|enum|trait|type|static|const|macro_rules!) (\w+)",
+    re.M,
+)
 
 
 class Page(HTMLParser):
@@ -100,6 +106,29 @@ def broken_links(pages: Iterable[Page], files: set[str]) -> tuple[int, list[str]
             if not is_there:
                 wrong.append(f"{page.name}: the link to {unquote(link)} leads nowhere")
     return count, wrong
+
+
+@cache
+def code_of(crate: str) -> str:
+    """All code of a crate."""
+    return "\n".join(without_comments(it.read_text(), literals=False) for it in files_of(crate)[0])
+
+
+def public_lines(file: Path) -> Iterator[tuple[str, int]]:
+    """The names and lines of what a source declares as public, and of what it implements, but for
+    what a type has that is not public itself. Read apart from the items, to compare them."""
+    code = without_comments(file.read_text(), literals=False)
+    whole = code_of(file.relative_to(CRATES).parts[0])
+    hidden = []
+    for found in OWNER.finditer(code):
+        name = found["type"] or ""
+        if re.search(rf"^(?:pub\([a-z]+\) )?(?:struct|enum) {name}\b", whole, re.M):
+            hidden.append((found.start(), end_of_group(code, found.end() - 1)))
+        elif found["trait"] or found["own"]:
+            yield " ".join(found[0][:-1].split()), line_at(code, found.start())
+    for item in PUBLIC.finditer(code):
+        if not any(start < item.start() < end for start, end in hidden):
+            yield item[1], line_at(code, item.start(1))
 
 
 def missing_items(crates: Iterable[str], pages: Iterable[Page]) -> list[str]:

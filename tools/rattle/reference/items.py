@@ -3,7 +3,6 @@ import re
 from collections import Counter
 from collections.abc import Iterator
 from dataclasses import dataclass, field
-from functools import cache
 from pathlib import Path
 
 from sources import CRATES, OWNER, Function, end_of_group, files_of, functions, without_comments
@@ -11,11 +10,6 @@ from sources import CRATES, OWNER, Function, end_of_group, files_of, functions, 
 TYPE = re.compile(
     r"^(?:#\[macro_export\]\n|pub )"
     r"(?P<kind>struct|enum|trait|type|static|const(?! fn)|macro_rules!) (?P<name>\w+)",
-    re.M,
-)
-PUBLIC = re.compile(
-    r"^ *(?:#\[macro_export\]\n *|pub )(?:const (?=fn)|unsafe )*"
-    r"(?:fn|struct|enum|trait|type|static|const|macro_rules!) (\w+)",
     re.M,
 )
 DECLARED = re.compile(r"\b(?:struct|enum|trait) (\w+)")
@@ -269,30 +263,18 @@ class Reader:
         ghosts = ghosts_of(source[found.end() : end], code[found.end() : end])
         line = line_at(source, found.start())
         comment = comment_above(source, found.start())
-        shown, plain = [], []
+        made = Implementation(
+            self.library.crate, trait, header, file, line, comment, ghosts, page, anchor, [], []
+        )
         for it in parts:
             title = f"<{found['type'] or found['lent']} as {trait}>::{it.name}"
             item = self.item_of(file, it, title, page, f"{anchor}.{it.name}")
             if item.comment or item.contract:
                 item.anchor = self.anchor(page, item.anchor)
-                shown.append(item)
+                made.functions.append(item)
             else:
-                plain.append(item.signature)
-        self.library.implementations.append(
-            Implementation(
-                self.library.crate,
-                trait,
-                header,
-                file,
-                line,
-                comment,
-                ghosts,
-                page,
-                anchor,
-                shown,
-                plain,
-            )
-        )
+                made.plain.append(item.signature)
+        self.library.implementations.append(made)
 
     def read_file(self, file: Path) -> None:
         source = self.sources[file]
@@ -323,29 +305,3 @@ class Reader:
 
 def read_library(crate: str) -> Library:
     return Reader(crate).read()
-
-
-def public_lines(file: Path) -> Iterator[tuple[str, int]]:
-    """The names and lines of what a source declares as public, and of what it implements, but for
-    what a type has that is not public itself. Read apart from the items, to compare them."""
-    code = without_comments(file.read_text(), literals=False)
-    hidden = []
-    for found in OWNER.finditer(code):
-        name = found["type"] or ""
-        if re.search(rf"^(?:pub\([a-z]+\) )?(?:struct|enum) {name}\b", every_code(file), re.M):
-            hidden.append((found.start(), end_of_group(code, found.end() - 1)))
-        elif found["trait"] or found["own"]:
-            yield " ".join(found[0][:-1].split()), line_at(code, found.start())
-    for item in PUBLIC.finditer(code):
-        if not any(start < item.start() < end for start, end in hidden):
-            yield item[1], line_at(code, item.start(1))
-
-
-@cache
-def code_of(crate: str) -> str:
-    """All code of a crate."""
-    return "\n".join(without_comments(it.read_text(), literals=False) for it in files_of(crate)[0])
-
-
-def every_code(file: Path) -> str:
-    return code_of(file.relative_to(CRATES).parts[0])

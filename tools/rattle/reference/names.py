@@ -7,7 +7,7 @@ from html import escape
 from pathlib import Path
 from urllib.parse import quote
 
-from sources import CRATES, ROOT, below
+from sources import CRATES, ROOT, below, libraries
 
 from reference.definitions import Definition, definitions_of, files_of_specs
 from reference.items import Item, Library
@@ -227,13 +227,8 @@ class Scope:
         return f"<code>{self.said(text)}</code>"
 
     def library(self, text: str) -> str | None:
-        """The address of a library, of a file of one, or of a page."""
-        if re.fullmatch(r"\w+", text) and (CRATES / text / "src/lib.rt").exists():
-            is_shown = any(
-                crate == text for found in self.names.items.values() for crate, _ in found
-            )
-            return library_address(text) if is_shown else None
-        return None
+        """The address of a library."""
+        return library_address(text) if text in libraries() else None
 
     def block(self, text: str, ghost: bool = False, kind: str = "") -> str:
         """A block of code."""

@@ -6,6 +6,7 @@ from dataclasses import dataclass, field
 from html import escape
 from pathlib import Path
 from posixpath import normpath
+from string import Template
 
 from sources import ROOT
 
@@ -13,6 +14,7 @@ from reference.markdown import Markdown
 from reference.names import Scope, file_address, relative
 
 ASSETS = ("style.css", "search.js")
+TEMPLATE = Template(Path(__file__).with_name("page.html").read_text())
 INDEX = "index.html"
 # The pages that each page names at its head.
 HEAD = {"all.html": "Items", "traits.html": "Traits", "definitions.html": "Definitions"}
@@ -55,40 +57,19 @@ class Site:
             here = ' aria-current="page"' if address == page else ""
             return f'<a href="{relative(page, address)}"{here}>{escape(text)}</a>'
 
-        root = "../" * page.count("/")
+        jump = '<a class="jump" href="#page-list">On this page</a>'
         side = f'<nav class="side" id="page-list" aria-label="On this page">{aside}</nav>'
-        jump = '<a class="jump" href="#page-list">On this page</a>' if aside else ""
-        html = f"""<!doctype html>
-<html lang="en" data-root="{root}">
-<head>
-<meta charset="utf-8">
-<meta name="viewport" content="width=device-width, initial-scale=1">
-<title>{escape(title)} - {escape(self.name)}</title>
-<link rel="stylesheet" href="{root}style.css">
-<script src="{root}search.js" defer></script>
-</head>
-<body>
-<a class="skip" href="#page-content">Skip to the content</a>
-<header>
-<nav aria-label="All pages">{link(INDEX, self.name)}
-{chr(10).join(link(*it) for it in HEAD.items())}</nav>
-<form role="search" hidden><label for="page-search">Search</label>
-<input id="page-search" name="q" type="search" autocomplete="off" placeholder="Press / to search">
-</form>
-</header>
-<section id="page-results" aria-label="Found" aria-live="polite" hidden></section>
-<div class="{"frame" if aside else "whole"}">
-<main id="page-content">
-<p class="above">{above}{jump}</p>
-<h1>{escape(title)}</h1>
-{body}
-</main>
-{side if aside else ""}
-</div>
-<footer><p>{escape(self.version)}</p></footer>
-</body>
-</html>
-"""
+        html = TEMPLATE.substitute(
+            root="../" * page.count("/"),
+            title=escape(title),
+            site=escape(self.name),
+            links="\n".join(link(*it) for it in [(INDEX, self.name), *HEAD.items()]),
+            frame="frame" if aside else "whole",
+            above=above + (jump if aside else ""),
+            body=body,
+            aside=side if aside else "",
+            version=escape(self.version),
+        )
         file = self.folder / page
         file.parent.mkdir(parents=True, exist_ok=True)
         file.write_text(html)
@@ -96,7 +77,7 @@ class Site:
     def show(self, path: str) -> str | None:
         """The address of a file or a folder of the repository, which gets a page. None if there is
         none."""
-        file = ROOT / normpath(path)
+        file = ROOT / path
         if (file / "README.md").is_file():
             file /= "README.md"
         if not file.exists():
@@ -119,8 +100,8 @@ def markdown_in(site: Site, scope: Scope, folder: str, above: int = 0) -> Markdo
         if re.match(r"[a-z]+:|#", target):
             return target
         path, mark, anchor = target.partition("#")
-        found = site.show(f"{folder}/{path}")
-        return relative(scope.page, f"{found or path}{mark}{anchor}")
+        whole = normpath(f"{folder}/{path}")
+        return relative(scope.page, f"{site.show(whole) or whole}{mark}{anchor}")
 
     return Markdown(
         lambda text, language: code_in(scope, text, language), scope.span, address, above

@@ -96,12 +96,10 @@ function show(entries, query) {
   results.hidden = words.length === 0;
   if (results.hidden) return;
   const found = find(entries, words);
-  const head = document.createElement("p");
-  head.textContent = found.length > MOST ? `${found.length} found, ${MOST} shown`
-    : `${found.length} found`;
-  const list = document.createElement("ol");
-  list.append(...found.slice(0, MOST).map(entry => row(entry, words)));
-  results.replaceChildren(head, list);
+  results.querySelector("p").textContent =
+    found.length > MOST ? `${found.length} found, ${MOST} shown` : `${found.length} found`;
+  results.querySelector("ol").replaceChildren(
+    ...found.slice(0, MOST).map(entry => row(entry, words)));
 }
 
 function search() {
@@ -116,7 +114,7 @@ function search() {
   }
   load().then(entries => show(entries, query), () => {
     results.hidden = false;
-    results.textContent = "search-index.js is missing";
+    results.querySelector("p").textContent = "search-index.js is missing";
   });
 }
 

@@ -338,7 +338,7 @@ class ChecksTest(unittest.TestCase):
         lines = [
             (file, line)
             for file in sources.files_of(crate)[0]
-            for _, line in items.public_lines(file)
+            for _, line in checks.public_lines(file)
         ]
         links = [f'<a href="{names.source_address(*it)}">source</a>' for it in lines]
         self.assertEqual(checks.missing_items([crate], [self.page("".join(links))]), [])
