@@ -4,7 +4,7 @@ import re
 from html import escape
 from pathlib import Path
 
-from sources import CRATES, ROOT
+from sources import CRATES, EXAMPLE_PAGES, ROOT
 
 from reference.indexes import title_of
 from reference.names import Names, Scope, file_address, library_address
@@ -35,9 +35,7 @@ def source_page(site: Site, file: Path) -> None:
 
 def markdown_page(site: Site, names: Names, file: Path) -> None:
     page, text = file_address(file), file.read_text()
-    parts = file.relative_to(ROOT).parts
-    crate = parts[1] if parts[0] == "crates" else ""
-    scope = Scope(names, page, crate if (CRATES / crate / "src/lib.rt").exists() else "")
+    scope = Scope(names, page, EXAMPLE_PAGES.get(file, ""))
     head, title = "", title_of(text)
     if text.startswith("# "):
         head, _, text = text.partition("\n")

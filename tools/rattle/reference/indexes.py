@@ -9,7 +9,7 @@ from sources import ROOT
 
 from reference.definitions import head_of
 from reference.items import Library, first_sentence, short_header
-from reference.kit_names import KIT_PAGE, methods_of_str
+from reference.kit_names import KIT_PAGE
 from reference.libraries import STR_PAGE, definition_html, unique
 from reference.names import (
     Names,
@@ -146,7 +146,7 @@ def str_page(site: Site, names: Names) -> None:
     """The methods of `str`, as the kit has them."""
     scope = Scope(names, STR_PAGE)
     body = []
-    found = sorted(methods_of_str())
+    found = names.kit.methods
     for name, signature, said in found:
         body.append(f'<h2 id="{name}"><code>{name}</code></h2>')
         body.append(scope.block(signature, kind="signature"))

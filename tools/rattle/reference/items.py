@@ -87,6 +87,13 @@ class Library:
             yield from part.functions
 
 
+def traits_of(library: Library) -> set[str]:
+    """The names of the traits that are implemented or derived."""
+    derived = (trait for item in library.items for trait in item.derived)
+    named = (part.trait.split("<")[0] for part in library.implementations)
+    return {trait.split("::")[-1] for trait in (*derived, *named)}
+
+
 def first_sentence(comment: str) -> str:
     return re.split(r"(?<=[.]) |\n\n|\n```", comment)[0].replace("\n", " ").strip()
 

@@ -42,7 +42,12 @@ class KitNames:
         self.known: dict[tuple[str, str], Cited | None] = {}
         self.anchors: set[str] = set()
         self.texts: dict[str, str] = {}
+        self.methods = sorted(methods_of_str(self.root))
         self.ghosts = {(it.place, it.name): it for it in ghosts_of_traits(self.root)}
+
+    def names_of_str(self) -> set[str]:
+        """The names of the methods of `str`."""
+        return {name for name, *_ in self.methods}
 
     def file_of(self, place: str) -> Path:
         first, *rest = place.split(".")
@@ -122,10 +127,9 @@ def ghosts_of_traits(root: Path) -> Iterator[Cited]:
                     yield Cited(found[1], f"trait {trait[1]}", "", made)
 
 
-def methods_of_str(root: Path | None = None) -> Iterator[tuple[str, str, str]]:
+def methods_of_str(root: Path) -> Iterator[tuple[str, str, str]]:
     """The public methods of the kit's `str` that are not `unsafe`: their names, their signatures
     and what they do."""
-    root = root or kit.folder() / "rattle"
     seen = set()
     for crate in ("core", "std_alloc", "std"):
         for file in sorted((root / crate / "src").rglob("*.rt")):

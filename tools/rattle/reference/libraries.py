@@ -8,7 +8,6 @@ from sources import CRATES
 
 from reference.definitions import Definition, files_of_specs, head_of, imports_of
 from reference.items import Implementation, Item, Library, first_sentence, short_header
-from reference.kit_names import methods_of_str
 from reference.names import (
     Names,
     Scope,
@@ -158,7 +157,7 @@ class LibraryPages:
         return f'<h2 id="{anchor}">In a contract{source}</h2>\n{shown}'
 
     def methods_of_str(self, page: str, owner: str) -> str:
-        names = sorted(name for name, *_ in methods_of_str())
+        names = sorted(self.names.kit.names_of_str())
         links = ", ".join(
             f'<a href="{relative(page, f"{STR_PAGE}#{name}")}"><code>{name}</code></a>'
             for name in names

@@ -10,7 +10,7 @@ from urllib.parse import quote
 from sources import CRATES, ROOT, below, libraries
 
 from reference.definitions import Definition, definitions_of, files_of_specs
-from reference.items import Item, Library
+from reference.items import TWIN, Item, Library, traits_of
 from reference.kit_names import KitNames
 
 TOKEN = re.compile(
@@ -18,13 +18,14 @@ TOKEN = re.compile(
     r"|(?P<literal>\"(?:\\.|[^\"\\])*\"|b?'(?:\\[^'\n]+|[^'\\\n])')"
     r"|(?P<stated>(?<![\w.'])[A-Z]\w*\.[a-z]\w*)"
     r"|(?P<name>(?<![\w.'])[^\W\d]\w*(?:::\w+)*!?)"
+    r"|(?P<method>\.[a-z]\w*(?=\())"
     r"|(?P<other>\s+|\w+|->|.)",
     re.S,
 )
 STATED = re.compile(r"^ghost (\w+):", re.M)
 VARIANT = re.compile(r"^    ([A-Z]\w*)", re.M)
 QUOTED = re.compile(r"(`[^`\n]+`)")
-CALL = re.compile(r"&?(?P<name>[\w:]+!?)(?:\(.*\))?")
+CALL = re.compile(r"&?(?:(?P<on>\w+)\.)?(?P<name>[\w:]+!?)(?P<given>\(.*\))?\??")
 SPEC = re.compile(r"Rattle\.(?P<crate>\w+)\.specs\.(?P<module>[\w.]+)")
 DECLARED = re.compile(r"Rattle\.(?P<crate>\w+)\.specs\.declared\.(?P<module>[\w.]+)")
 
@@ -85,23 +86,34 @@ class Names:
         self.definitions: dict[tuple[str, str], dict[str, str]] = defaultdict(dict)
         self.files: dict[Path, list[Definition]] = {}
         self.ghosts: dict[tuple[str, str], str] = {}
+        self.calls: dict[str, list[tuple[str, str]]] = defaultdict(list)
+        self.traits = {name for library in libraries for name in traits_of(library)}
         for library in libraries:
             for item in library.items:
-                known = self.items[f"{item.name}!" if item.kind == "macro" else item.title]
-                known.append((item.crate, item_address(item)))
-                for name in VARIANT.findall(item.signature if item.kind == "enum" else ""):
-                    for title in (f"{item.name}::{name}", f"::{name}"):
-                        self.items[title].append((item.crate, item_address(item)))
-                for name in STATED.findall(item.contract if item.kind == "trait" else ""):
-                    self.ghosts[name, item.name] = item_address(item)
-            folder = CRATES / library.crate / "specs"
-            for file in files_of_specs(folder):
-                self.files[file] = list(definitions_of(file.read_text()))
-                module = ".".join(file.relative_to(folder).with_suffix("").parts)
-                for it in self.files[file]:
-                    for name in it.names():
-                        place = definitions_address(file, it.name)
-                        self.definitions[library.crate, module].setdefault(name, place)
+                self.add_item(item)
+            self.add_definitions(library.crate)
+
+    def add_item(self, item: Item) -> None:
+        where = (item.crate, item_address(item))
+        self.items[f"{item.name}!" if item.kind == "macro" else item.title].append(where)
+        if item.owner and not TWIN.match(item.comment):
+            self.calls[item.name].append(where)
+        for name in VARIANT.findall(item.signature if item.kind == "enum" else ""):
+            self.items[f"{item.name}::{name}"].append(where)
+            if name not in self.traits:
+                self.items[f"::{name}"].append(where)
+        for name in STATED.findall(item.contract if item.kind == "trait" else ""):
+            self.ghosts[name, item.name] = item_address(item)
+
+    def add_definitions(self, crate: str) -> None:
+        folder = CRATES / crate / "specs"
+        for file in files_of_specs(folder):
+            self.files[file] = list(definitions_of(file.read_text()))
+            module = ".".join(file.relative_to(folder).with_suffix("").parts)
+            for it in self.files[file]:
+                for name in it.names():
+                    place = definitions_address(file, it.name)
+                    self.definitions[crate, module].setdefault(name, place)
 
     def item(self, title: str, crate: str) -> str | None:
         """The address of an item that code of this crate can name, or of any where the crate is
@@ -111,6 +123,19 @@ class Names:
         if not known:
             return None
         return min(known, key=lambda it: near.index(it[0]) if near else 0)[1]
+
+    def variant(self, name: str, crate: str) -> str | None:
+        """The address of the only type with this variant that code of this crate can name."""
+        near = [crate, *below(crate)] if crate else []
+        known = {it[1] for it in self.items.get(f"::{name}", ()) if not near or it[0] in near}
+        return known.pop() if len(known) == 1 else None
+
+    def call(self, name: str, crate: str) -> str | None:
+        """The address of a call by its name alone: where the crate and those below it have one of
+        this name, but for twins, and `str` has none."""
+        near = [crate, *below(crate)] if crate else []
+        known = [it[1] for it in self.calls.get(name, ()) if it[0] in near]
+        return known[0] if len(known) == 1 and name not in self.kit.names_of_str() else None
 
     def imported(self, place: str, name: str) -> str | None:
         """The address of a name that is imported from a place of the logic."""
@@ -189,6 +214,8 @@ class Scope:
                 head, _, name = found[0].partition(".")
                 whose = self.link(self.title(head), head)
                 html = f"{whose}.{self.link(self.names.stated(name, self.words), name)}"
+            elif found["method"]:
+                html = f".{self.link(self.names.call(found[0][1:], self.crate), html[1:])}"
             elif found["name"]:
                 address = self.defined(found[0]) if ghost else None
                 address = address or self.title(found[0])
@@ -202,7 +229,12 @@ class Scope:
     def said(self, text: str) -> str:
         """What stands between backquotes, linked where it is a name."""
         found = CALL.fullmatch(text)
-        address = self.find(found["name"]) if found else None
+        if not found:
+            return plain(text)
+        name = found["name"]
+        address = None if found["on"] else self.find(name)
+        if not address and (found["given"] or "_" in name):
+            address = self.names.call(name, self.crate)
         return self.link(address, plain(text))
 
     def find(self, name: str) -> str | None:
@@ -215,7 +247,7 @@ class Scope:
             own = [it for crate, it in self.names.items.get(name, ()) if crate == self.crate]
             address = own[0] if own else None
         if not address and name[0].isupper():
-            address = self.names.item(f"::{name}", self.crate)
+            address = self.names.variant(name, self.crate)
         if not address and (name[:1].isupper() or "_" in name):
             address = self.names.definition(name)
         return address

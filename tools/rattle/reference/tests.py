@@ -193,10 +193,14 @@ class LinksTest(unittest.TestCase):
         self.addCleanup(folder.cleanup)
         write(Path(folder.name) / "core/src/states.rt", KIT_SOURCE)
         known = names.Names([], kit_names.KitNames(Path(folder.name)))
+        known.calls["turn"].append(("up", "crates/up/Pair.html#turn"))
+        known.calls["first"].append(("up", "crates/up/Pair.html#first"))
         known.ghosts["passed", "Gate"] = "crates/up/Side.html"
         for title, page_of in (
             ("Side::Left", "Side.html"),
             ("::Left", "Side.html"),
+            ("::Right", "Side.html"),
+            ("::Right", "Turn.html"),
             ("Pair", "Pair.html"),
             ("Pair::first", "Pair.html#first"),
             ("pair!", "index.html#pair"),
@@ -219,6 +223,9 @@ class LinksTest(unittest.TestCase):
             ("up::swap(first)", False, "index.html#swap"),
             ("fn swap(a: u8)", False, ""),
             ("swap.first", False, ""),
+            ("pair.turn(1)", False, "#turn"),
+            ("pair.first(1)", False, ""),
+            ("pair.other(1)", False, ""),
             ("Side::Left", False, "Side.html"),
             ("S.passed a", True, "Side.html"),
             ("T.state a", True, "../../kit.html#state"),
@@ -237,9 +244,13 @@ class LinksTest(unittest.TestCase):
         for text, linked in (
             ("first", "#first"),
             ("first()", "#first"),
+            ("pair.turn(1)?", "#turn"),
+            ("pair.turn", ""),
+            ("pair.first()", ""),
             ("swap", "index.html#swap"),
             ("AreAlike", "specs/Pairs.html#AreAlike"),
             ("Left", "Side.html"),
+            ("Right", ""),
             ("other", ""),
             ("a + b", ""),
         ):
