@@ -31,7 +31,9 @@ class Definition:
 
 
 def without_dashes(lines: list[str]) -> str:
-    return "\n".join(re.sub(r"^ *--+ ?", "", line) for line in lines)
+    """The text of a comment. Lines that are set in stand apart, as a block of code does."""
+    text = "\n".join(re.sub(r"^ *--+ ?", "", line) for line in lines)
+    return re.sub(r"((?:^    .*\n?)+)", r"\n\1\n", text, flags=re.M).strip("\n")
 
 
 def head_of(text: str) -> str:

@@ -37,7 +37,8 @@ def subject_of(file: Path, owner: str) -> str:
 
 def definition_html(site: Site, scope: Scope, it: Definition, anchor: str, source: str) -> str:
     """A definition with its comment."""
-    comment = comment_html(site, scope, it.comment[:1].upper() + it.comment[1:])
+    comment = re.sub(r"^(?:[a-z](?=[a-z])|a(?= ))", lambda found: found[0].upper(), it.comment)
+    comment = comment_html(site, scope, comment)
     given = f"<p>Given <code>{scope.code(it.given, ghost=True)}</code>:</p>" if it.given else ""
     head = f'<h3 id="{escape(anchor)}"><code>{escape(it.name)}</code>{source}</h3>'
     return f"{head}\n{comment}{given}{scope.block(it.text, ghost=True)}"

@@ -30,6 +30,8 @@ impl Clone for Pair {
 }
 """
 SPECS = """-- What pairs are.
+--     a   the first
+--     b   the second
 -- Read it first.
 use Rattle.std.specs.Prelude.{◌≡◌, List as list}
 
@@ -146,7 +148,8 @@ class DefinitionsTest(unittest.TestCase):
         self.assertEqual(SPECS.splitlines()[small.line - 1].strip(), small.text.splitlines()[0])
 
     def test_heads_and_imports(self) -> None:
-        self.assertEqual(definitions.head_of(SPECS), "What pairs are.\nRead it first.")
+        head = "What pairs are.\n\n    a   the first\n    b   the second\n\nRead it first."
+        self.assertEqual(definitions.head_of(SPECS), head)
         place = "Rattle.std.specs.Prelude"
         wanted = {"◌≡◌": (place, "◌≡◌"), "list": (place, "List")}
         self.assertEqual(definitions.imports_of(SPECS), wanted)
