@@ -10,6 +10,8 @@ from reference.indexes import title_of
 from reference.names import Names, Scope, file_address, library_address
 from reference.page import INDEX, Entry, Site, crumbs, list_of, markdown_in
 
+# Folders of what is built.
+BUILT = {"out", "target"}
 HEADING = re.compile(r"^#{1,6} ", re.M)
 
 
@@ -57,9 +59,15 @@ def markdown_page(site: Site, names: Names, file: Path) -> None:
 def folder_page(site: Site, folder: Path) -> None:
     """The files of a folder."""
     page = file_address(folder)
-    files = [it for it in sorted(folder.rglob("*")) if it.is_file()]
-    site.shown.update(files)
-    links = ((file_address(it), escape(str(it.relative_to(folder)))) for it in files)
+    files = [
+        it
+        for it in sorted(folder.rglob("*"))
+        if it.is_file() and not BUILT & {*it.relative_to(folder).parts}
+    ]
+    links = [
+        (site.show(str(it.relative_to(ROOT))) or "", escape(str(it.relative_to(folder))))
+        for it in files
+    ]
     site.write(page, str(folder.relative_to(ROOT)), list_of(links, page), "", way_to(folder, page))
 
 

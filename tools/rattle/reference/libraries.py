@@ -28,11 +28,10 @@ MODEL = "Model"
 DEREF, STR_PAGE = "DerefStr", "str.html"
 
 
-def subject_of(file: Path, owner: str) -> str:
-    """What a file is about: the methods that stand with their type are its first calls."""
+def subject_of(file: Path) -> str:
+    """What a file is about."""
     words = file.stem.replace("_", " ")
-    is_own = file.stem.replace("_", "") == owner.lower()
-    return "Calls" if is_own else words[0].upper() + words[1:]
+    return words[0].upper() + words[1:]
 
 
 def definition_html(site: Site, scope: Scope, it: Definition, anchor: str, source: str) -> str:
@@ -116,7 +115,7 @@ class LibraryPages:
         calls = [it for it in self.library.items if it.kind == "fn" and it.owner == owner]
         home = next(it.file for it in self.library.types() if it.name == owner)
         for it in sorted(calls, key=lambda it: (it.file != home, it.file, it.line)):
-            subject = "Calls" if it.file == home else subject_of(it.file, owner)
+            subject = "Calls" if it.file == home else subject_of(it.file)
             groups[subject].append(it)
         return groups
 

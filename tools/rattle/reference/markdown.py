@@ -14,7 +14,8 @@ RAW = re.compile(r"^ *</?(?:details|summary)\b.*>$")
 NOTE = re.compile(r"^ *<!--.*?-->\s*?$", re.M | re.S)
 SPAN = re.compile(
     r"(?P<ticks>`+)(?P<code>.+?)(?P=ticks)(?!`)"
-    r"|\[(?P<text>(?:`[^`]*`|[^\]`])*)\]\((?P<target>[^()\s]*(?:\([^()\s]*\)[^()\s]*)*)\)"
+    r"|(?P<image>!?)\[(?P<text>(?:`[^`]*`|[^\]`])*)\]"
+    r"\((?P<target>[^()\s]*(?:\([^()\s]*\)[^()\s]*)*)\)"
     r"|<(?P<address>https?://[^>\s]+)>"
     r"|\\(?P<plain>[\\`*_{}\[\]()#+.!|<>-])"
     r"|\*\*(?P<strong>(?:`[^`]*`|[^*`]|\*(?!\*))+)\*\*"
@@ -38,8 +39,9 @@ def cells_of(row: str) -> list[str]:
 @dataclass
 class Markdown:
     """A text that becomes HTML. `code` shows a block of code in a language, `span` what stands
-    between backquotes, and `link` gives the address of a link. `above` is the level of the heading
-    above the text. `headings` has the level, the anchor and the title of each heading."""
+    between backquotes, and `link` gives the address of a link or of a picture. `above` is the
+    level of the heading above the text, if it is a part of a page. Else `headings` has the level,
+    the anchor and the title of each heading."""
 
     code: Callable[[str, str], str]
     span: Callable[[str], str]
@@ -57,6 +59,9 @@ class Markdown:
             if found["code"]:
                 code = found["code"].strip() or found["code"]
                 shown.append(f"<code>{escape(code)}</code>" if in_link else self.span(code))
+            elif found["image"]:
+                address, text_of = escape(self.link(found["target"])), escape(found["text"])
+                shown.append(f'<img src="{address}" alt="{text_of}">')
             elif found["target"] is not None:
                 inner = self.line(found["text"], in_link=True)
                 shown.append(f'<a href="{escape(self.link(found["target"]))}">{inner}</a>')
@@ -116,11 +121,13 @@ class Markdown:
         return self.code("\n".join(inner), language), end + 1
 
     def heading(self, level: int, title: str) -> str:
+        if self.above:
+            level = min(level + self.above, 6)
+            return f"<h{level}>{self.line(title)}</h{level}>"
         anchor = slug(title)
         many = self.anchors[anchor]
         self.anchors[anchor] += 1
         anchor = f"{anchor}-{many}" if many else anchor
-        level = min(level + self.above, 6)
         self.headings.append((level, anchor, re.sub(r"[`*]", "", title)))
         return f'<h{level} id="{anchor}">{self.line(title)}</h{level}>'
 

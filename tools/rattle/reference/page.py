@@ -16,6 +16,7 @@ from reference.names import Scope, file_address, relative
 ASSETS = ("style.css", "search.js")
 TEMPLATE = Template(Path(__file__).with_name("page.html").read_text())
 INDEX = "index.html"
+PICTURES = (".svg", ".png", ".jpg", ".gif")
 # The pages that each page names at its head.
 HEAD = {"all.html": "Items", "traits.html": "Traits", "definitions.html": "Definitions"}
 HEAD |= {f"{INDEX}#pages": "Pages"}
@@ -75,15 +76,27 @@ class Site:
         file.write_text(html)
 
     def show(self, path: str) -> str | None:
-        """The address of a file or a folder of the repository, which gets a page. None if there is
-        none."""
+        """The address of a file or a folder of the repository, which gets a page. A file that is no
+        text, or a picture, is copied. None if there is none."""
         file = ROOT / path
         if (file / "README.md").is_file():
             file /= "README.md"
         if not file.exists():
             return None
+        if file.is_file() and (file.suffix in PICTURES or not is_text(file)):
+            (self.folder / path).parent.mkdir(parents=True, exist_ok=True)
+            shutil.copy(file, self.folder / path)
+            return path
         self.shown.add(file)
         return file_address(file)
+
+
+def is_text(file: Path) -> bool:
+    try:
+        file.read_text()
+    except UnicodeDecodeError:
+        return False
+    return True
 
 
 def code_in(scope: Scope, text: str, language: str) -> str:

@@ -302,6 +302,7 @@ class MarkdownTest(unittest.TestCase):
             ("2 * 3 * 4, a_b_c", "2 * 3 * 4, a_b_c"),
             ("[a `b`](c.md#d)", '<a href="to/c.md#d">a <code>b</code></a>'),
             ("[no link]", "[no link]"),
+            ('![a "b"](c.svg)', '<img src="to/c.svg" alt="a &quot;b&quot;">'),
             ("<https://a.b>", '<a href="https://a.b">https://a.b</a>'),
             ("\\*a\\*", "*a*"),
             ("``a`b``", "<code>a`b</code>"),
@@ -370,3 +371,9 @@ class ChecksTest(unittest.TestCase):
             self.assertEqual(files, {"index.html", "style.css", "search.js"})
             _, broken = checks.broken_links([found], files)
             self.assertEqual(len(broken), 4)
+            self.assertEqual(site.show("README.md"), "README.md.html")
+            self.assertEqual(site.show("tools"), "tools/README.md.html")
+            self.assertEqual(site.show("tools/tests"), "tools/tests.html")
+            self.assertEqual(site.show("tools/rattle"), "tools/rattle.html")
+            self.assertIsNone(site.show("tools/none"))
+            self.assertEqual(len(site.shown), 4)
