@@ -5,7 +5,7 @@ import re
 from collections import defaultdict
 from html import escape
 
-from sources import ROOT
+from sources import CRATES, ROOT
 
 from reference.definitions import head_of
 from reference.items import Library, first_sentence, short_header
@@ -34,6 +34,9 @@ def first_page(site: Site, names: Names, every: list[Library]) -> None:
         body.append(f'<tr><th scope="row">{link}</th><td>{said}</td></tr>')
     body.append("</tbody></table>")
     pages = [ROOT / "README.md", *sorted((ROOT / "docs").glob("*.md")), *ROOT.glob("C*.md")]
+    for library in every:
+        own = sorted((CRATES / library.crate).glob("*.md"))
+        pages += [page for page in own if page.name != "README.md"]
     pages = [page for page in pages if page.is_file()]
     site.shown.update(pages)
     links = [(file_address(page), escape(title_of(page.read_text()))) for page in pages]

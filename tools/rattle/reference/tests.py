@@ -1,11 +1,12 @@
 """Tests of the reference: what its parsers read, what it links, and the mistakes that it finds."""
+import json
 import tempfile
 import unittest
 from pathlib import Path
 
 import sources
 
-from reference import checks, definitions, items, kit_names, markdown, names, page
+from reference import checks, definitions, indexes, items, kit_names, markdown, names, page
 
 SOURCE = """//! A crate.
 impl Pair {
@@ -377,3 +378,15 @@ class ChecksTest(unittest.TestCase):
             self.assertEqual(site.show("tools/rattle"), "tools/rattle.html")
             self.assertIsNone(site.show("tools/none"))
             self.assertEqual(len(site.shown), 4)
+
+    def test_what_the_search_reads(self) -> None:
+        with tempfile.TemporaryDirectory() as folder:
+            site = page.Site(Path(folder), "a", "version 1")
+            site.entries.append(page.Entry("A::b", "a fn", "a/A.html#b", 'Has "≡".', "b\n`c`"))
+            site.entries.append(page.Entry("c", "page", "c.html", ""))
+            indexes.search_index(site)
+            text = (Path(folder) / "search-index.js").read_text()
+            self.assertTrue(text.startswith("window.entries = [") and text.endswith("];\n"))
+            rows = json.loads(text[text.index("[") : -2])
+            self.assertEqual(rows[0], ["A::b", "a fn", "a/A.html#b", 'Has "≡".', "b\n`c`"])
+            self.assertEqual(len(rows), 2)
