@@ -139,6 +139,7 @@ class LibraryPages:
         parts = [it for it in self.library.implementations if it.page == item.name]
         for part in (it for it in parts if it.trait == MODEL):
             body.insert(2, self.model(page, part))
+            side.insert(0, f'<h2><a href="#{part.anchor}">In a contract</a></h2>')
         parts = [it for it in parts if it.trait != MODEL]
         if any(it.trait == DEREF for it in parts):
             body.append(self.methods_of_str(page, item.name))
