@@ -7,9 +7,9 @@ from html import escape
 from pathlib import Path
 from urllib.parse import quote
 
-from sources import CRATES, ROOT, below, libraries
+from sources import CRATES, ROOT, below, end_of_group, libraries
 
-from reference.definitions import Definition, definitions_of, files_of_specs
+from reference.definitions import Definition, definitions_of, files_of_specs, imports_of
 from reference.items import TWIN, Item, Library, traits_of
 from reference.kit_names import KitNames
 
@@ -24,6 +24,7 @@ TOKEN = re.compile(
 )
 STATED = re.compile(r"^ghost (\w+):", re.M)
 VARIANT = re.compile(r"^    ([A-Z]\w*)", re.M)
+CLAUSE = re.compile(r"\b(?:ensures|requires|invariant)\*?(?: \w+)? (?=\{)")
 QUOTED = re.compile(r"(`[^`\n]+`)")
 CALL = re.compile(r"&?(?:(?P<on>\w+)\.)?(?P<name>[\w:]+!?)(?P<given>\(.*\))?\??")
 SPEC = re.compile(r"Rattle\.(?P<crate>\w+)\.specs\.(?P<module>[\w.]+)")
@@ -92,6 +93,20 @@ class Names:
             for item in library.items:
                 self.add_item(item)
             self.add_definitions(library.crate)
+        self.common = self.common_imports(libraries)
+
+    def common_imports(self, libraries: list[Library]) -> dict[str, tuple[str, str]]:
+        """What the sources import under a name that means the same in all of them."""
+        places: dict[str, set[tuple[str, str]]] = defaultdict(set)
+        for library in libraries:
+            for file in library.modules:
+                for name, place in imports_of(file.read_text()).items():
+                    places[name].add(place)
+        return {
+            name: min(found)
+            for name, found in places.items()
+            if len({self.imported(*place) for place in found}) == 1
+        }
 
     def add_item(self, item: Item) -> None:
         where = (item.crate, item_address(item))
@@ -132,9 +147,14 @@ class Names:
 
     def call(self, name: str, crate: str) -> str | None:
         """The address of a call by its name alone: where the crate and those below it have one of
-        this name, but for twins, and `str` has none."""
+        this name, but for twins, and `str` has none. Without a crate all count, and the name has to
+        have two words, since others have short names too."""
         near = [crate, *below(crate)] if crate else []
-        known = [it[1] for it in self.calls.get(name, ()) if it[0] in near]
+        known = [
+            address
+            for other, address in self.calls.get(name, ())
+            if other in near or not crate and "_" in name
+        ]
         return known[0] if len(known) == 1 and name not in self.kit.names_of_str() else None
 
     def imported(self, place: str, name: str) -> str | None:
@@ -226,6 +246,17 @@ class Scope:
             shown.append(html)
         return "".join(shown)
 
+    def source(self, text: str) -> str:
+        """Code with its names linked, those of its clauses as in a contract."""
+        shown, place = [], 0
+        for found in CLAUSE.finditer(text):
+            if found.start() >= place:
+                end = end_of_group(text, found.end())
+                shown.append(self.code(text[place : found.end()]))
+                shown.append(self.code(text[found.end() : end], ghost=True))
+                place = end
+        return "".join([*shown, self.code(text[place:])])
+
     def said(self, text: str) -> str:
         """What stands between backquotes, linked where it is a name."""
         found = CALL.fullmatch(text)
@@ -265,4 +296,5 @@ class Scope:
     def block(self, text: str, ghost: bool = False, kind: str = "") -> str:
         """A block of code."""
         kind = f' class="{kind}"' if kind else ""
-        return f"<pre{kind}><code>{in_lines(self.code(text, ghost))}</code></pre>"
+        shown = self.code(text, ghost) if ghost else self.source(text)
+        return f"<pre{kind}><code>{in_lines(shown)}</code></pre>"

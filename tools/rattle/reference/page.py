@@ -2,7 +2,7 @@
 import re
 import shutil
 from collections.abc import Iterable
-from dataclasses import dataclass, field
+from dataclasses import dataclass, field, replace
 from html import escape
 from pathlib import Path
 from posixpath import normpath
@@ -10,6 +10,7 @@ from string import Template
 
 from sources import ROOT
 
+from reference.definitions import imports_of
 from reference.markdown import Markdown
 from reference.names import Scope, file_address, relative
 
@@ -100,9 +101,12 @@ def is_text(file: Path) -> bool:
 
 
 def code_in(scope: Scope, text: str, language: str) -> str:
-    """A block of code in Markdown. A picture stays as it is written."""
+    """A block of code in Markdown, with what it imports or what all sources import. A picture stays
+    as it is written."""
     if language in ("rust", ""):
-        return scope.block(text)
+        imports = scope.imports or {**scope.names.common, **imports_of(text)}
+        words = scope.words or {*re.findall(r"\b[A-Z]\w*", text)}
+        return replace(scope, imports=imports, words=words).block(text)
     return f'<pre><code class="language-{language}">{escape(text, quote=False)}</code></pre>'
 
 

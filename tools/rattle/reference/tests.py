@@ -244,6 +244,12 @@ class LinksTest(unittest.TestCase):
             self.assertEqual(shown.count("<a "), int(bool(linked)), code)
             self.assertIn(f'href="{linked}"' if linked else code[-4:-2], shown)
 
+    def test_names_in_clauses(self) -> None:
+        code = "fn f(same: u8)\n    ensures a { same {0} result }\n{\n    same(1)\n}"
+        shown = self.scope.source(code)
+        self.assertEqual(shown.count("<a "), 1)
+        self.assertIn('ensures a { <a href="specs/Pairs.html#AreAlike">same</a> {0}', shown)
+
     def test_names_in_text(self) -> None:
         for text, linked in (
             ("first", "#first"),
@@ -260,6 +266,19 @@ class LinksTest(unittest.TestCase):
         ):
             shown = self.scope.span(text)
             self.assertIn(f'href="{linked}"' if linked else f"<code>{text}</code>", shown)
+
+    def test_calls_by_their_names_alone(self) -> None:
+        known = self.scope.names
+        known.calls["turn_left"].append(("up", "crates/up/Pair.html#turn_left"))
+        for name, crate, is_known in (
+            ("turn", "up", True),
+            ("turn", "", False),
+            ("turn", "other", False),
+            ("turn_left", "", True),
+        ):
+            self.assertEqual(known.call(name, crate) is not None, is_known, name)
+        known.calls["turn_left"].append(("down", "crates/down/Pair.html#turn_left"))
+        self.assertIsNone(known.call("turn_left", ""))
 
     def test_lines_keep_their_margin(self) -> None:
         wanted = '<span class="line" style="--margin:4ch">    a\n</span>'
