@@ -50,7 +50,6 @@ def load(path: Path) -> ModuleType:
     return module
 
 
-apidoc = load(Path(__file__).with_name("apidoc"))
 examples = load(Path(__file__).with_name("examples"))
 wrong_bodies = load(Path(__file__).with_name("wrong-bodies"))
 
@@ -337,49 +336,3 @@ class Examples(Folder):
             if "f0" in said:
                 self.assertIn(f"{source.file}:", faults[0])
             self.assertNotIn("planted", "".join(faults))
-
-
-class Reference(Folder):
-    """tools/rattle/apidoc reads items and pictures."""
-
-    def test_signatures_and_contracts(self) -> None:
-        first, clone, _ = sources.functions(self.crate / "src/lib.rt")
-        signature, contract = apidoc.split_header(first, SOURCE)
-        self.assertEqual(signature, "pub fn first(&self) -> u8")
-        self.assertEqual(contract, "ensures value { result ≡ self.now.first }")
-        self.assertEqual(apidoc.split_header(clone, SOURCE)[0], "fn clone(&self) -> Pair")
-
-    def test_types_without_private_fields(self) -> None:
-        source = "pub struct A {\n    pub b: u8,\n    c: u8,\n}\npub struct D {\n    e: u8,\n}\n"
-        shown = {name: said for name, _, said in apidoc.types_of(source)}
-        self.assertEqual(shown["A"].split(), "pub struct A { pub b: u8, }".split())
-        self.assertEqual(shown["D"], "pub struct D { .. }")
-
-    def test_items_without_an_example(self) -> None:
-        def item(title: str, comment: str, body: str = "work()") -> tuple:
-            owner, _, name = title.rpartition("::")
-            function = sources.Function(name, owner or None, True, [], Path("a.rt"), body=body)
-            by = apidoc.shown_by(title, comment, f"pub fn {name}()", function)
-            return apidoc.Item(title, title, comment, by)
-
-        items = [
-            item("A::shown", "Makes.\n```\nmake()\n```"),
-            item("A::twin", "As `A::shown`, for another."),
-            item("A::twin_of_twin", "As `twin`, for another."),
-            item("A::len", "The length.", "self.len"),
-            item("A::bare", "Makes."),
-            item("A::twin_of_bare", "As `bare`."),
-        ]
-        self.assertEqual(apidoc.without_example(items), ["A::bare", "A::twin_of_bare"])
-
-    def test_pictures(self) -> None:
-        dot, wrong = apidoc.as_dot('flowchart LR\n    a["A"]\n    a -->|"to"| b\n    a ==> b\n')
-        self.assertIn('"a" -> "b" [label="to" style=solid arrowhead=normal]', dot)
-        self.assertEqual(wrong, ["this line of a picture is not drawn: a ==> b"])
-
-    def test_links(self) -> None:
-        pages = {"a.html": "<h3 id='b'><a href='c.html#d'>", "c.html": "<a href=a.html#b><p id=e>"}
-        self.assertEqual(apidoc.broken_links(pages)[0], 2)
-        self.assertEqual(len(apidoc.broken_links(pages)[1]), 1)
-        pages["c.html"] += "<p id=d>"
-        self.assertEqual(apidoc.broken_links(pages)[1], [])
