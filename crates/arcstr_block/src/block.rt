@@ -4,7 +4,7 @@ ghost use Rattle.std.specs.Prelude.{◌≡◌, ℕ, List, length, replicate, IfO
 ghost use Rattle.std.specs.Borrow.{sem};
 ghost use Rattle.core.specs.Mem.Slots.{slots_ptr, slots_len, slots_items, slots_filled};
 ghost use Rattle.core.specs.Mem.Slots.Ownership.{Filled};
-ghost use Rattle.arcstr_block.specs.Memory.{Fits, word_offset, block_size, blank_owns, sole_owns};
+ghost use Rattle.arcstr_block.specs.Memory.{Fits, word_offset, block_size, blank_owns, sole_owns, sole_shares};
 
 use core::slots::Slots;
 use std::alloc::{AllocError, Allocator};
@@ -42,6 +42,8 @@ pub(crate) struct Sole<A: Allocator> {
 
 impl<A: Allocator> Model for Sole<A> {
     ghost also_owns = { λ s. sole_owns (A.dealloc_token s.home) s.at s.word s.text };
+
+    ghost also_shares = { λ s _ κ. sole_shares s.at s.text κ };
 }
 
 impl<A: Allocator> Blank<A> {
@@ -96,6 +98,14 @@ impl<A: Allocator> Blank<A> {
 
 impl<A: Allocator> Sole<A> {
     ghost use Rattle.arcstr_block.specs.Lends.{sole_follows};
+
+    /// The bytes of the text.
+    pub(crate) fn bytes(&self, len: usize) -> &[u8]
+        requires { len ≡ length self.now.text }
+        ensures { result.now ≡ self.now.text }
+    {
+        unsafe { slice::from_raw_parts(self.at, len) }
+    }
 
     /// Lends the bytes of the text for writing.
     pub(crate) fn lend(&mut self, len: usize) -> &mut [u8]
