@@ -1,3 +1,4 @@
+pub mod Builders
 pub mod Differences
 pub mod FirstMatches
 pub mod Orders

@@ -8,11 +8,13 @@ pub use arcstr_count as count;
 pub use arcstr_range::range::{RangeFault, StrRange};
 pub use arcstr_range::view::StrView;
 pub use arcstr_range::{range, view};
+pub use builder::ArcStrBuilder;
 pub use json::JsonFault;
 pub use static_str::StaticStr;
 pub use substr::Substr;
 
 mod arc_str;
+mod builder;
 mod collecting;
 mod cow;
 mod json;

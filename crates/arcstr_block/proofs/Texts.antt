@@ -1,7 +1,7 @@
 -- Texts that are copied one after another, and texts joined by a separator.
 use Rattle.arcstr_block.proofs.Names.{◌≡◌, ℕ, [], ◌∷◌, refl, arith, List, sym, ap, length, zero, suc, ◌+◌, ◌<◌, ◌++◌, ◌∙◌, ◌≤◌, ◌*◌, append_assoc}
 use Rattle.arcstr_block.proofs.Names.{length-append, get_or, take-append_seam, append-nil, length-take-le, nil_from_length, IsUtf8-append, IsUtf8-nil, repeat}
-use Rattle.arcstr_block.proofs.Names.{join_by, flat_map, take, IsUtf8, suc-mul}
+use Rattle.arcstr_block.proofs.Names.{join_by, flat_map, take, IsUtf8, subst, suc-mul}
 use Rattle.std_alloc.proofs.Concat.{separated_first, separated_more}
 
 -- copies of the empty text are empty
@@ -63,3 +63,7 @@ module _ {X : Type 0} (f : X → List ℕ) (sep : List ℕ) where
   joined_room xs i d gap within first later =
       let prefix : List ℕ = join_by f sep (take i xs) in let last : List ℕ = f (get_or xs i d) in
       omega (arith, joined_within xs (i + 1), ap length (joined_more xs i d gap within first later), length-append (prefix ++ gap) last, length-append prefix gap)
+
+-- a text after a text is a text
+pub two_texts : (xs ys zs : List ℕ) → zs ≡ xs ++ ys → IsUtf8 xs → IsUtf8 ys → IsUtf8 zs
+two_texts xs ys zs e first second = subst IsUtf8 (sym e) (IsUtf8-append xs ys first second)

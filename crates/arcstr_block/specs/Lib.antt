@@ -6,4 +6,5 @@ pub mod Ledger
 pub mod Steps
 pub mod Book
 pub mod Making
+pub mod Building
 pub mod Handle

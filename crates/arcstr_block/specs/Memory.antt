@@ -8,7 +8,7 @@ use mir.Raw.{raw}
 use denote.RawPtr.{Ptr, InBlock, block_of, count_of, lies_at, ◌+ₚ◌}
 use denote.Builtin.{u8, usize}
 use denote.Array.{Array}
-use denote.Sharing.{beside}
+use denote.Sharing.{beside, said}
 use denote.Struct.Lending.{lent_at}
 use Rattle.core.specs.Sync.RawAtomic.{word}
 
@@ -86,3 +86,7 @@ module _ (holds : Ty → Ptr → Fml) where
 -- what is shared of a block: the length and the bytes
 abbrev pub block_shares : Ptr → List ℕ → Lft → Fml
 block_shares p xs = beside (lent_at usize (length_at p (length xs)) (length xs)) (lent_at (Array u8 (length xs)) p xs)
+
+-- what is shared of a block that has one owner
+abbrev pub sole_shares : Ptr → List ℕ → Lft → Fml
+sole_shares p xs = beside (said (in_memory p (Fits (length xs)))) (block_shares p xs)

@@ -1,10 +1,10 @@
 //! The memory of a block, in one piece: the bytes of its text, then its count word and the length of the text in bytes.
 //! In this module one owner has all of it: its maker, or whoever frees it.
-ghost use Rattle.std.specs.Prelude.{◌≡◌, ℕ, List, length, replicate, IfOk};
+ghost use Rattle.std.specs.Prelude.{◌≡◌, ◌≤◌, ℕ, List, length, take, replicate, IfOk, IsUtf8};
 ghost use Rattle.std.specs.Borrow.{sem};
 ghost use Rattle.core.specs.Mem.Slots.{slots_ptr, slots_len, slots_items, slots_filled};
 ghost use Rattle.core.specs.Mem.Slots.Ownership.{Filled};
-ghost use Rattle.arcstr_block.specs.Memory.{Fits, word_offset, block_size, blank_owns, sole_owns};
+ghost use Rattle.arcstr_block.specs.Memory.{Fits, word_offset, block_size, blank_owns, sole_owns, sole_shares};
 
 use core::slots::Slots;
 use std::alloc::{AllocError, Allocator};
@@ -42,6 +42,8 @@ pub(crate) struct Sole<A: Allocator> {
 
 impl<A: Allocator> Model for Sole<A> {
     ghost also_owns = { λ s. sole_owns (A.dealloc_token s.home) s.at s.word s.text };
+
+    ghost also_shares = { λ s _ κ. sole_shares s.at s.text κ };
 }
 
 impl<A: Allocator> Blank<A> {
@@ -96,6 +98,25 @@ impl<A: Allocator> Blank<A> {
 
 impl<A: Allocator> Sole<A> {
     ghost use Rattle.arcstr_block.specs.Lends.{sole_follows};
+
+    /// The bytes of the text, of which there are `len`.
+    pub(crate) fn bytes(&self, len: usize) -> &[u8]
+        requires { len ≡ length self.now.text }
+        ensures { result.now ≡ self.now.text }
+    {
+        unsafe { slice::from_raw_parts(self.at, len) }
+    }
+
+    /// The first `end` bytes, which are a text. It stands apart from `bytes`, which alone has a whole proof by hand.
+    pub(crate) fn text(&self, len: usize, end: usize) -> &str
+        requires length { len ≡ length self.now.text }
+        requires inside { end ≤ len }
+        requires utf8 { IsUtf8 (take end self.now.text) }
+        ensures { result.now ≡ take end self.now.text }
+    {
+        let bytes = self.bytes(len);
+        unsafe { str::from_utf8_unchecked(&bytes[..end]) }
+    }
 
     /// Lends the bytes of the text for writing.
     pub(crate) fn lend(&mut self, len: usize) -> &mut [u8]

@@ -136,7 +136,7 @@ pub(crate) fn blank_block<A: Allocator + Copy>(
 }
 
 /// Writes 0 in each slot.
-fn write_zeros(bytes: &mut Slots<u8>)
+pub(crate) fn write_zeros(bytes: &mut Slots<u8>)
     requires { slots_items bytes.old ≡ replicate (slots_len bytes.old) 0 }
     ensures items { slots_items bytes.new ≡ replicate (slots_len bytes.old) 0 }
     ensures written { Filled (slots_filled bytes.new) 0 (slots_len bytes.old) }

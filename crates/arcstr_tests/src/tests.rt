@@ -1,3 +1,4 @@
+mod builder;
 mod checks;
 mod cloning;
 mod collecting;

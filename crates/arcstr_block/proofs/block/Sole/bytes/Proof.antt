@@ -1,0 +1,62 @@
+-- `bytes` shows the bytes of the text, for as long as the block is borrowed.
+use Rattle.arcstr_block.proofs.Names.{◌≡◌, ℕ, ◌^◌, [], ◌∷◌, refl, arith, List, sym, ap, length, ◌<◌, ◌∙◌, ◌*◌, w64, inst_fn, dcons, dnil, a_type, named}
+use Rattle.arcstr_block.proofs.Names.{Val, vint, vptr, WT, Lft, Share, Fml, fsep, flft, ftrue, fhide, emp, SProp, fact, fact_i}
+use Rattle.arcstr_block.proofs.Names.{tables, Array, u8, usize, RefOf, yes, Is, shows, cell_at, hidden_shr, unhide, hide, param, bounded, uint_vals, uint_Tells}
+use Rattle.arcstr_block.proofs.Names.{RattleType, owns, block_of, Ptr, block_ptr, count_of, at_block, shr_vals, shr_Tells, types_at, plain, slice_val, nothing}
+use Rattle.arcstr_block.proofs.Names.{heard, peeks, looks, shuts, lent_at, lent_out, Stays, stay_dropped, walk_of, Goes-dropped, alloc_all, pass_all, free_all}
+use Rattle.arcstr_block.proofs.Names.{look_at, get, sets, env, through, sets_last, ‵, ◌⊛◌, ◌$◌, ◌∵◌, !, qed, move, use0, use1, use2, split, split3, join}
+use Rattle.arcstr_block.proofs.Names.{fsplit, fjoin, fpick, raw, by, keep, drop, rewrite, feq_i, flt_i, at_ret, sub, whole, agg, look_in, stop, fld, of_opd}
+use Rattle.arcstr_block.proofs.Names.{no_more, and_then, first, blocks, exec, returns, enter, load, tail, leaves, proved, sole_shares}
+use Rattle.arcstr_block.proofs.Pointers.{pointer_val, Words, told, opened}
+use Rattle.arcstr_block.specs.contracts.block.Sole.bytes.{ended, clauses}
+use Rattle.arcstr_block.specs.contracts.block.Sole.bytes.Key.{name as #self}
+use Rattle.arcstr_block.proofs.block.Sole.bytes.Statement.{statement}
+use Rattle.core.specs.contracts.marker.PhantomData as Marker
+use Rattle.arcstr_block.specs.contracts.block.Sole as C
+use Rattle.arcstr_block.proofs.block.Sole.bytes.Code as code
+
+pub bytes_spec : {M : Type 1} → statement M
+bytes_spec 𝓤 𝓛 𝓜 𝓡 wired Y K g d dd met md =
+    let H = 𝓛.H in let 𝓣 = tables 𝓤 H 𝓜 𝓡 𝓡.env in let B : RattleType = param 0 Y in let En = ended Y g d dd in let c = clauses Y g d dd 𝓛 𝓜.mem 𝓡.returns in
+    let inst = bounded (a_type ∷ []) (Y, tt) (dcons d (dcons dd dnil)) in let fn = inst_fn inst code.function in
+    let closed = code.unfolded 𝓤 H 𝓜 𝓡 wired (Y, tt) d dd in
+    let Row : RattleType = C.the_row B g in let D : RattleType = Words B g in let self = RefOf (0 ∷ []) tt (plain (λ _. Row)) (λ _. tt) in
+    let number = plain (λ _. usize) in
+    let hs : Stays En.signature.params En.kept = (stay_dropped self yes, (stay_dropped number yes, tt)) in
+    proved 𝓛 En hs c 𝓜 𝓡 (Goes-dropped 𝓛 2 self yes (λ κs x f. refl), (Goes-dropped 𝓛 2 number yes (λ κs x f. refl), tt)) (#self inst) fn closed
+    (λ κs. (shr_vals, (uint_vals w64, tt))) (λ κs. (shr_Tells (named 0) κs.0 Row, (uint_Tells w64, tt))) (λ κs qs bounds a gh are.
+    let b : ℕ = a.0.ref_ptr.0 in let o : ℕ = a.0.ref_ptr.1 in let κ : Lft = κs.0 in let q : Share = qs.0 in
+    let others : Fml = fsep (flft κs.1.0 qs.1.0) ftrue in
+    let h : Row.Denot = a.0.now in let p : Ptr = h.at in
+    let len : ℕ = a.1.0 in let xs : List ℕ = h.text in let n : ℕ = length xs in let fits : len < 2 ^ 64 = are.1.0.1 in let pb : ℕ = block_of p in
+    let y : (walk_of 𝓛 En hs c).Ghost = ((κs, qs, bounds, a, (vptr b o ∷ [], (vint w64 len ∷ [], tt))), gh) in
+    let Post : Val → SProp 𝓤 = (walk_of 𝓛 En hs c).post y in
+    qed 𝓛 (((‵ (flft κ q) ⊛ ‵ others) ⊛ ‵ (owns (types_at En.signature.params κs) a y.0.4)) ∷ raw (fact 𝓤 _) ∷ raw (fact 𝓤 (len ≡ n)) ∷ []) ∵
+    keep ! (2 ∷ 0 ∷ []) $ heard ! (len ≡ n) (λ long. split ! $ split ! $ move ! (2 ∷ []) $ fsplit ! $ fsplit ! $
+    keep ! (1 ∷ 3 ∷ 4 ∷ []) $
+    enter ! 𝓣.C 𝓣.Λ fn (vptr b o ∷ vint w64 len ∷ []) Post $ alloc_all ! (λ l. pass_all ! refl ((tt, tt), ((tt, record { fits = fits }), tt)) $
+    let Ev = env fn.locals l in
+    use1 𝓛 (‵ (hidden_shr D κ (p, (tt, tt)) b o) ⊛ ‵ (fhide (sole_shares p xs κ)))
+    (lent_out 𝓛 (C.struct B g) (C.the_codes Y.Denot B.coded (Marker.the_row B).coded) (C.the_heap B g) (C.the_lent B g) κ h b o) $
+    split ! $ move ! (1 ∷ []) $ unhide ! $ fsplit ! $ fpick ! (λ inb. drop ! $ let at : p ≡ block_ptr pb (count_of p) = at_block p inb.0 in
+    -- [what is shared; the fields; κ; the others]
+    fsplit ! $ drop ! $
+    rewrite ! 0 (λ (r : Ptr). ‵ (lent_at (Array u8 n) r xs κ)) at refl $ fsplit ! $ drop ! $ fsplit ! $ drop ! $ hide ! $
+    -- [what is shown; the fields; κ; the others]
+    move ! (1 ∷ 2 ∷ []) $ looks ! tt D (opened B g 𝓛) (p, (tt, tt)) b o (λ e vs. move ! (1 ∷ []) $ peeks ! D (Is D) (shows 𝓛 D) (p, (tt, tt)) vs (λ so.
+    let ev : vs ≡ pointer_val (block_ptr pb (count_of p)) ∷ [] = told B g p vs so ∙ ap (λ (r : Ptr). pointer_val r ∷ []) at in
+    let there : ℕ = count_of p in let whole_len : WT (vint w64 len) = record { fits = fits } in
+    rewrite ! 1 (λ (ws : List Val). ‵ (cell_at e D.mir ws b o)) ev refl $ first ! $ blocks ! $
+    sets ! (of_opd ! (load ! (through ! refl (fld ! refl (stop !))) (look_in ! 1 (sub ! 0 refl (whole !))))) refl (tt, tt) $
+    sets_last ! (agg ! (and_then ! (get ! refl) (and_then ! (get ! refl) (no_more !)))) refl (tt, (tt, (whole_len, tt))) $
+    exec ! 𝓣.C 𝓣.Λ Ev (tail fn.body) (at_ret Ev Post) $
+    sets ! (of_opd ! (get ! refl)) refl (tt, (tt, (whole_len, tt))) $ rewrite ! 1 (λ (ws : List Val). ‵ (cell_at e D.mir ws b o)) (sym ev) refl $
+    move ! (1 ∷ 0 ∷ 2 ∷ []) $ shuts ! tt D e (p, (tt, tt)) vs b o $
+    -- [κ; the fields; what is shown; the others]
+    move ! (0 ∷ 3 ∷ []) $ join ! $ move ! (2 ∷ []) $ flt_i ! (n * 1) (2 ^ 63) (let x = inb.1 in omega arith) $
+    flt_i ! n (2 ^ 64) (let x = inb.1 in omega arith) $ fjoin ! $
+    feq_i ! (List Val) (slice_val (pb, there) len ∷ []) (slice_val (pb, there) n ∷ []) (ap (λ k. slice_val (pb, there) k ∷ []) long) $ fjoin ! $ fjoin ! $
+    use0 𝓛 (raw (fact 𝓤 (xs ≡ xs))) (fact_i 𝓤 (xs ≡ xs) (emp 𝓤) refl) $
+    nothing ! $ nothing ! $ fjoin ! $ nothing ! $ fjoin ! $
+    returns ! (look_at ! 0 refl) $ free_all ! refl $ keep ! (3 ∷ 0 ∷ 2 ∷ 1 ∷ []) $
+    by ! (leaves 𝓛 En hs c y (slice_val (pb, there) len) (record { ref_ptr = (pb, there); now = xs }) (tt, (tt, tt)) (tt, (tt, tt)))))))))

@@ -1,0 +1,220 @@
+//! Builds a text in the memory of its block: the block is made first, and the text is appended to it.
+ghost use Rattle.std.specs.Prelude.{◌≡◌, ◌↔◌, ◌+◌, ◌*◌, ◌≤◌, [], ◌++◌, length, take, drop, IfOk, IfErr, IsErrOf, IsOk, IsUtf8};
+ghost use Rattle.std.proofs.Props.{props};
+ghost use Rattle.arcstr_count.specs.Word.{bits_of, fresh_word};
+ghost use Rattle.arcstr_block.specs.Memory.{Fits};
+ghost use Rattle.arcstr_block.specs.Making.{IsTooLong, IsFaultOfMaking};
+ghost use Rattle.arcstr_block.specs.Building.{Unfinished};
+
+use crate::block::{Sole, size_of_block};
+use crate::fault::{TOO_LONG, TextFault};
+use crate::making::{blank_block, write_zeros};
+use crate::shared::Shared;
+use arcstr_count::RC_MAX;
+use std::alloc::Allocator;
+use std::marker::Model;
+use std::mem;
+
+/// A text that is being built in the block that is to hold it. Contracts see the text so far, and the capacity: the number of bytes that the block has
+/// room for. Its drop frees the block.
+///
+/// ```
+/// let mut draft = Draft::new(rt.alloc(), 3)?;
+/// draft.append("a");
+/// draft.append("é");
+/// let text: Shared<5, _> = draft.fill("");
+/// assert_eq!(rt; text.as_str(), "aé");
+/// ```
+pub struct Draft<A: Allocator + Copy> {
+    block: Sole<A>,
+    len: usize,
+    capacity: usize,
+    alloc: A,
+    ghost inside: { len ≤ capacity },
+    ghost text: { IsUtf8 (take len block.text) } by { Prim.hlevel props },
+    ghost room: { length block.text ≡ capacity },
+    ghost fits: { Fits capacity },
+    ghost word: { block.word ≡ bits_of fresh_word },
+    ghost home: { block.home ≡ alloc },
+}
+
+impl<A: Allocator + Copy> Model for Draft<A> {
+    ghost Value = { Unfinished };
+
+    ghost view = { λ d. record { text = take d.len d.block.text; capacity = d.capacity } };
+}
+
+impl<A: Allocator + Copy> Draft<A> {
+    /// Makes the block for a text of at most `capacity` bytes, which is empty so far. The call makes one allocation. Errors, in this order: `Length`, for a
+    /// capacity of `2^63 - 25` bytes or more; `Memory`, for an allocation failure.
+    pub fn new(alloc: A, capacity: usize) -> Result<Draft<A>, TextFault>
+        ensures empty { IfOk result (λ made. made.text ≡ []) }
+        ensures capacity { IfOk result (λ made. made.capacity ≡ capacity) }
+        // Promise: It fails with `Length` exactly if the capacity is too long, and otherwise only with `Memory`.
+        ensures too_long { IsErrOf result TextFault.Length ↔ IsTooLong capacity }
+        ensures refused { IfErr result (IsFaultOfMaking capacity) }
+    {
+        if capacity >= TOO_LONG {
+            return Err(TextFault::Length);
+        }
+        let (blank, mut bytes) = blank_block(alloc, capacity)?;
+        write_zeros(&mut bytes);
+        let block = blank.close(bytes);
+        Ok(Draft {
+            block,
+            len: 0,
+            capacity,
+            alloc,
+        })
+    }
+
+    /// Returns the text so far.
+    pub fn as_str(&self) -> &str
+        ensures { result.now ≡ self.now.text }
+    {
+        self.block.text(self.capacity, self.len)
+    }
+
+    /// Returns the number of bytes of the text so far.
+    pub fn len(&self) -> usize
+        ensures { result ≡ length self.now.text }
+    {
+        self.len
+    }
+
+    /// Returns the number of bytes that the block has room for, which is less than `2^63 - 25`.
+    pub fn capacity(&self) -> usize
+        ensures capacity { result ≡ self.now.capacity }
+        ensures fits { Fits result }
+    {
+        self.capacity
+    }
+
+    /// Appends a text for which there is room. It cannot fail.
+    pub fn append(&mut self, text: &str)
+        requires room { length self.old.text + length text.now ≤ self.old.capacity }
+        ensures text { self.new.text ≡ self.old.text ++ text.now }
+        ensures capacity { self.new.capacity ≡ self.old.capacity }
+    {
+        write_at(self.block.lend(self.capacity), self.len, text);
+        self.len += text.len();
+    }
+
+    /// Makes room for `additional` bytes more. If there is none, the call moves the text to a new block of at least twice the capacity, by one allocation, so
+    /// that the bytes copied by all such moves are fewer than twice those appended. Errors, in this order: `Length`, for a text of `2^63 - 25` bytes or more;
+    /// `Memory`, for an allocation failure. The text then stays where it is.
+    pub fn reserve(&mut self, additional: usize) -> Result<(), TextFault>
+        ensures text { self.new.text ≡ self.old.text }
+        ensures room { IfOk result (λ _. length self.old.text + additional ≤ self.new.capacity) }
+        // Promise: If there is room, it does nothing and cannot fail.
+        ensures within { length self.old.text + additional ≤ self.old.capacity → IsOk result × (self.new.capacity ≡ self.old.capacity) }
+        ensures left { IfErr result (λ _. self.new.capacity ≡ self.old.capacity) }
+        // Promise: It fails with `Length` exactly if the text would be too long, and otherwise only with `Memory`.
+        ensures too_long { IsErrOf result TextFault.Length ↔ IsTooLong (length self.old.text + additional) }
+        ensures refused { IfErr result (IsFaultOfMaking (length self.old.text + additional)) }
+    {
+        match self.len.checked_add(additional) {
+            Some(needed) if needed <= self.capacity => Ok(()),
+            Some(needed) if needed < TOO_LONG => self.grow(doubled(self.capacity, needed)),
+            _ => Err(TextFault::Length),
+        }
+    }
+
+    /// Moves the text to a new block of this capacity, and frees the old one. The call makes one allocation. Errors as `new` does; the text then stays where
+    /// it is.
+    fn grow(&mut self, capacity: usize) -> Result<(), TextFault>
+        requires room { length self.old.text ≤ capacity }
+        ensures text { self.new.text ≡ self.old.text }
+        ensures grown { IfOk result (λ _. self.new.capacity ≡ capacity) }
+        ensures left { IfErr result (λ _. self.new.capacity ≡ self.old.capacity) }
+        // Promise: It fails with `Length` exactly if the capacity is too long, and otherwise only with `Memory`.
+        ensures too_long { IsErrOf result TextFault.Length ↔ IsTooLong capacity }
+        ensures refused { IfErr result (IsFaultOfMaking capacity) }
+    {
+        let mut larger = Draft::new(self.alloc, capacity)?;
+        larger.append(self.as_str());
+        let smaller = mem::replace(self, larger);
+        drop(smaller);
+        Ok(())
+    }
+
+    /// Appends the text that fills the block, and returns the first handle on it. It copies only that text, does not allocate and cannot fail.
+    pub fn fill<const LIMIT: u64>(mut self, rest: &str) -> Shared<LIMIT, A>
+        requires limit { LIMIT ≤ RC_MAX }
+        requires full { length self.text + length rest.now ≡ self.capacity }
+        ensures text { result.text ≡ self.text ++ rest.now }
+        ensures limit { result.limit ≡ LIMIT }
+        // Promise: The handle is the first of its block.
+        ensures first { result.seat ≡ 0 }
+    {
+        self.append(rest);
+        self.close()
+    }
+
+    /// Returns the first handle on the text. If the text fills its block, the call neither copies nor allocates, and cannot fail. Otherwise it copies the text
+    /// to a block of its length, by one allocation, and frees the old one. Fails only with `Memory`.
+    pub fn finish<const LIMIT: u64>(self) -> Result<Shared<LIMIT, A>, TextFault>
+        requires limit { LIMIT ≤ RC_MAX }
+        ensures made { IfOk result (λ made. made.text ≡ self.text) }
+        ensures limit { IfOk result (λ made. made.limit ≡ LIMIT) }
+        // Promise: The handle is the first of its block.
+        ensures first { IfOk result (λ made. made.seat ≡ 0) }
+        // Promise: A text that fills its block is always made.
+        ensures full { length self.text ≡ self.capacity → IsOk result }
+        ensures refused { IfErr result (λ fault. fault ≡ TextFault.Memory) }
+    {
+        if self.len == self.capacity {
+            return Ok(self.close());
+        }
+        Shared::from_text(self.alloc, self.as_str())
+    }
+
+    /// The first handle on a text that fills its block.
+    fn close<const LIMIT: u64>(self) -> Shared<LIMIT, A>
+        requires limit { LIMIT ≤ RC_MAX }
+        requires full { length self.text ≡ self.capacity }
+        ensures text { result.text ≡ self.text }
+        ensures limit { result.limit ≡ LIMIT }
+        ensures first { result.seat ≡ 0 }
+    {
+        let Draft {
+            block,
+            len,
+            capacity: _,
+            alloc,
+        } = self;
+        Shared::first_handle(block, len, alloc)
+    }
+}
+
+impl<A: Allocator + Copy> Drop for Draft<A> {
+    /// Frees the block.
+    fn drop(self) {
+        let Draft {
+            block,
+            len: _,
+            capacity,
+            alloc,
+        } = self;
+        block.give_back(&alloc, size_of_block(capacity));
+    }
+}
+
+/// The capacity after a move: twice the one before, but at least what is needed, and below the least that is too long.
+fn doubled(capacity: usize, needed: usize) -> usize
+    requires capacity { Fits capacity }
+    requires needed { Fits needed }
+    ensures fits { Fits result }
+    ensures enough { needed ≤ result }
+{
+    needed.max((2 * capacity).min(TOO_LONG - 1))
+}
+
+/// Writes a text over the bytes from `at` on, after a text that ends there.
+fn write_at(bytes: &mut [u8], at: usize, text: &str)
+    requires { at + length text.now ≤ length bytes.old }
+    ensures text { take (at + length text.now) bytes.new ≡ take at bytes.old ++ text.now }
+    ensures long { length bytes.new ≡ length bytes.old }
+{
+    bytes[at..at + text.len()].copy_from_slice(text.as_bytes());
+}
