@@ -1,6 +1,6 @@
 -- Results of the slicing calls. Each definition takes the receiver's own text, and the slice between two byte offsets of that text: `slice_of` for a shared
 -- text, `slice_within` for a shared slice.
-use Rattle.std.specs.Prelude.{◌≡◌, ◌≢◌, ◌↔◌, ℕ, List, [], map, Option, Result, Ok, IsOk, IsErrOf, IsSome, IfOk, IfSome, ◌+◌, length}
+use Rattle.std.specs.Prelude.{◌≡◌, ◌≢◌, ◌↔◌, ◌≤◌, ℕ, List, [], map, Option, Result, Ok, IsOk, IsErrOf, IsSome, IfOk, IfSome, ◌+◌, length}
 use Rattle.std.specs.declared.ops.Range.{Range}
 use Rattle.arcstr_range.specs.declared.range.StrRange.{StrRange}
 use Rattle.arcstr_range.specs.declared.range.StrRange.TheVariants.{Between}
@@ -9,6 +9,12 @@ use Rattle.arcstr_range.specs.Ends.{ends_in, cut_by, IsLawfulRange, IsFirstRange
 use Rattle.arcstr_range.specs.Text.{SpellsBetween}
 use Rattle.arcstr_range.specs.View.{View, end_of, view_at}
 use Rattle.arcstr.specs.Substr.{SubstrView, empty_slice, text_of}
+
+-- the slice lies between two byte offsets of its parent's text
+pub record LiesBetween (start end : ℕ) (slice : SubstrView) : Type 0 where
+  pub from : start ≤ slice.start
+  pub ordered : slice.start ≤ slice.end
+  pub to : slice.end ≤ end
 
 -- the result for a range: the slice between its ends, with the text between them, exactly if the range is valid in the text, and otherwise its first fault
 pub record AnswersRange (text : List ℕ) (between : ℕ → ℕ → SubstrView) (range : StrRange) (answer : Result SubstrView RangeFault) : Type 0 where

@@ -1,6 +1,6 @@
 -- Results of the calls that split a text. As in `Slicing`, `between` maps two byte offsets of the receiver's own text to its slice. Definitions of std say
 -- what a search for a pattern finds, and the parts around it.
-use Rattle.std.specs.Prelude.{◌≡◌, ◌↔◌, ℕ, ◌+◌, ◌-◌, List, ◌∷◌, ◌++◌, length, take, drop, Contains, encode_utf8, encode_utf8_all}
+use Rattle.std.specs.Prelude.{◌≡◌, ◌↔◌, ◌≤◌, ℕ, ◌+◌, ◌-◌, List, ◌∷◌, ◌++◌, length, take, drop, Contains, encode_utf8, encode_utf8_all}
 use Rattle.std.specs.Prelude.{Option, Result, IsSome, IfSome, IsOk, IfOk, IsErrOf}
 use Rattle.std.specs.Char.{len_utf8}
 use Rattle.std.specs.Str.{chars}
@@ -17,6 +17,14 @@ LiesAtStart between slice = slice ≡ between 0 (length (text_of slice))
 -- the slice lies at the end of the receiver's text
 abbrev pub LiesAtEnd : List ℕ → (ℕ → ℕ → SubstrView) → SubstrView → Type 0
 LiesAtEnd text between slice = slice ≡ between (length text - length (text_of slice)) (length text)
+
+-- two slices lie one after the other between two byte offsets of their parent's text: the first starts at the first offset, and the second ends at the other
+pub record AreInOrder (start end : ℕ) (parts : SubstrView × SubstrView) : Type 0 where
+  pub starts : parts.0.start ≡ start
+  pub before : parts.0.start ≤ parts.0.end
+  pub between : parts.0.end ≤ parts.1.start
+  pub after : parts.1.start ≤ parts.1.end
+  pub ends : parts.1.end ≡ end
 
 -- the result of `substr_split_at`: the slices before and after the offset, exactly if the range up to it is valid, and otherwise that range's first fault
 pub record AnswersSplitAt (text : List ℕ) (between : ℕ → ℕ → SubstrView) (place : ℕ) (answer : Result (SubstrView × SubstrView) RangeFault) : Type 0 where

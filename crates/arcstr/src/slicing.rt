@@ -2,7 +2,7 @@
 //!
 //! A call that returns a slice clones the handle once, and so can wait. It takes no atomic step if it fails or returns `Substr::new()`. The calls of `Substr`
 //! take byte offsets of the slice's own text, and their slices have its parent.
-ghost use Rattle.std.specs.Prelude.{◌≡◌, ◌↔◌, ℕ, IsSome, IfSome};
+ghost use Rattle.std.specs.Prelude.{◌≡◌, ◌≢◌, ◌↔◌, ◌+◌, ℕ, [], length, IsSome, IfOk, IfSome};
 ghost use Rattle.std.specs.Fn.{FnOnceReturnsAt, FnOnceTakesAt};
 ghost use Rattle.std.specs.Option.{option_copied};
 ghost use Rattle.std.specs.declared.ops.Range.{Range};
@@ -10,7 +10,7 @@ ghost use Rattle.arcstr_range.specs.declared.range.StrRange.{StrRange};
 ghost use Rattle.arcstr_range.specs.Ends.{IsLawful};
 ghost use Rattle.arcstr_range.specs.Text.{cut};
 ghost use Rattle.arcstr_range.specs.View.{IsFoundAt, view_at};
-ghost use Rattle.arcstr.specs.Slicing.{AnswersFoundRange, AnswersGet, AnswersRange, IsSliceOfView};
+ghost use Rattle.arcstr.specs.Slicing.{AnswersFoundRange, AnswersGet, AnswersRange, IsSliceOfView, LiesBetween};
 ghost use Rattle.arcstr.specs.Substr.{slice_of, slice_within, text_of};
 
 use crate::arc_str::ArcStr;
@@ -67,8 +67,10 @@ impl ArcStr {
     #[inline]
     pub fn substr<R: Into<StrRange>>(&self, rt: &impl Wait, range: R) -> Result<Substr, RangeFault>
         // Promise: The call succeeds exactly if the range is lawful, and otherwise returns the first fault.
-        ensures { (given : StrRange) × R.converts range given
+        ensures answer { (given : StrRange) × R.converts range given
             × AnswersRange self.now.text (slice_of self.now) given result }
+        // Promise: The slice lies inside the text.
+        ensures within { IfOk result (LiesBetween 0 (length self.now.text)) }
     {
         match checked_ends(self.as_str(), range.into()) {
             Ok((start, end)) => Ok(self.clone_between(rt, start..end)),
@@ -89,6 +91,7 @@ impl ArcStr {
         // Promise: There is a slice exactly if the view is found in the text.
         ensures found { IsSome result ↔ IsFoundAt self.now.text view.entry.text view.entry.place }
         ensures value { IfSome result (IsSliceOfView (slice_of self.now) view.entry) }
+        ensures within { IfSome result (LiesBetween 0 (length self.now.text)) }
     {
         if !view.is_found_in(self.as_str()) {
             return None;
@@ -107,12 +110,13 @@ impl ArcStr {
     /// ```
     pub fn substr_from(&self, rt: &impl Wait, view: StrView<'_>) -> Substr
         requires { IsFoundAt self.now.text view.text view.place }
-        ensures { IsSliceOfView (slice_of self.now) view.entry result }
+        ensures slice { IsSliceOfView (slice_of self.now) view.entry result }
+        ensures within { LiesBetween 0 (length self.now.text) result }
     {
         if view.text().is_empty() {
             return Substr::new();
         }
-        Substr::from_parts_unchecked(self.clone(rt), view.range())
+        self.clone_between(rt, view.range())
     }
 
     /// Returns the slice of this text between the byte offsets that the closure returns for it. Calls the closure once, first; the caller must ensure that it
@@ -135,8 +139,9 @@ impl ArcStr {
     ) -> Result<Substr, RangeFault>
         requires { FnOnceTakesAt F.FnOnce find self.now.text }
         // Promise: The call succeeds exactly if the offsets are equal or their range is lawful, and otherwise returns the first fault.
-        ensures { (found : Range ℕ) × FnOnceReturnsAt F.FnOnce find self.now.text found
+        ensures answer { (found : Range ℕ) × FnOnceReturnsAt F.FnOnce find self.now.text found
             × AnswersFoundRange self.now.text (slice_of self.now) found result }
+        ensures within { IfOk result (LiesBetween 0 (length self.now.text)) }
     {
         let found = find(self.as_str());
         if found.start == found.end {
@@ -158,8 +163,9 @@ impl ArcStr {
         find: F,
     ) -> Result<Substr, RangeFault>
         requires { FnOnceTakesAt F.FnOnce find self.now.text }
-        ensures { (found : Range ℕ) × FnOnceReturnsAt F.FnOnce find self.now.text found
+        ensures answer { (found : Range ℕ) × FnOnceReturnsAt F.FnOnce find self.now.text found
             × AnswersFoundRange self.now.text (slice_of self.now) found result }
+        ensures within { IfOk result (LiesBetween 0 (length self.now.text)) }
     {
         self.substr_using(rt, find)
     }
@@ -169,6 +175,7 @@ impl ArcStr {
         requires { IsLawful self.now.text range.start range.end }
         ensures slice { result ≡ slice_of self.now range.start range.end }
         ensures text { text_of result ≡ cut self.now.text range.start range.end }
+        ensures within { LiesBetween 0 (length self.now.text) result }
     {
         Substr::from_parts_unchecked(self.clone(rt), range)
     }
@@ -193,15 +200,17 @@ impl Substr {
 
     /// As `ArcStr::substr`, for the slice's own text. The range is measured in bytes of that text, and the new slice has the same parent.
     pub fn substr<R: Into<StrRange>>(&self, rt: &impl Wait, range: R) -> Result<Substr, RangeFault>
-        ensures { (given : StrRange) × R.converts range given
+        ensures answer { (given : StrRange) × R.converts range given
             × AnswersRange (text_of self.now) (slice_within self.now) given result }
+        ensures within { IfOk result (LiesBetween self.now.start self.now.end) }
     {
         self.slice_in(rt, range.into())
     }
 
     /// Returns the slice of the same parent in the range.
     fn slice_in(&self, rt: &impl Wait, range: StrRange) -> Result<Substr, RangeFault>
-        ensures { AnswersRange (text_of self.now) (slice_within self.now) range result }
+        ensures answer { AnswersRange (text_of self.now) (slice_within self.now) range result }
+        ensures within { IfOk result (LiesBetween self.now.start self.now.end) }
     {
         match checked_ends(self.as_str(), range) {
             Ok((start, end)) => Ok(self.clone_between(rt, start..end)),
@@ -213,6 +222,7 @@ impl Substr {
     pub fn try_substr_from(&self, rt: &impl Wait, view: StrView<'_>) -> Option<Substr>
         ensures found { IsSome result ↔ IsFoundAt (text_of self.now) view.entry.text view.entry.place }
         ensures value { IfSome result (IsSliceOfView (slice_within self.now) view.entry) }
+        ensures within { view.entry.text ≢ [] → IfSome result (LiesBetween self.now.start self.now.end) }
     {
         if !view.is_found_in(self.as_str()) {
             return None;
@@ -223,7 +233,8 @@ impl Substr {
     /// As `ArcStr::substr_from`, for the slice's own text: the view's place is a byte offset of that text.
     pub fn substr_from(&self, rt: &impl Wait, view: StrView<'_>) -> Substr
         requires { IsFoundAt (text_of self.now) view.text view.place }
-        ensures { IsSliceOfView (slice_within self.now) view.entry result }
+        ensures slice { IsSliceOfView (slice_within self.now) view.entry result }
+        ensures within { view.entry.text ≢ [] → LiesBetween self.now.start self.now.end result }
     {
         if view.text().is_empty() {
             return Substr::new();
@@ -238,8 +249,9 @@ impl Substr {
         find: F,
     ) -> Result<Substr, RangeFault>
         requires { FnOnceTakesAt F.FnOnce find (text_of self.now) }
-        ensures { (found : Range ℕ) × FnOnceReturnsAt F.FnOnce find (text_of self.now) found
+        ensures answer { (found : Range ℕ) × FnOnceReturnsAt F.FnOnce find (text_of self.now) found
             × AnswersFoundRange (text_of self.now) (slice_within self.now) found result }
+        ensures within { IfOk result (λ slice. text_of slice ≢ [] → LiesBetween self.now.start self.now.end slice) }
     {
         let found = find(self.as_str());
         if found.start == found.end {
@@ -255,8 +267,9 @@ impl Substr {
         find: F,
     ) -> Result<Substr, RangeFault>
         requires { FnOnceTakesAt F.FnOnce find (text_of self.now) }
-        ensures { (found : Range ℕ) × FnOnceReturnsAt F.FnOnce find (text_of self.now) found
+        ensures answer { (found : Range ℕ) × FnOnceReturnsAt F.FnOnce find (text_of self.now) found
             × AnswersFoundRange (text_of self.now) (slice_within self.now) found result }
+        ensures within { IfOk result (λ slice. text_of slice ≢ [] → LiesBetween self.now.start self.now.end slice) }
     {
         self.substr_using(rt, find)
     }
@@ -267,6 +280,8 @@ impl Substr {
         requires { IsLawful (text_of self.now) range.start range.end }
         ensures slice { result ≡ slice_within self.now range.start range.end }
         ensures text { text_of result ≡ cut (text_of self.now) range.start range.end }
+        ensures within { LiesBetween self.now.start self.now.end result }
+        ensures own_length { self.now.start + length (text_of self.now) ≡ self.now.end }
     {
         let start = self.range().start;
         let places = start + range.start..start + range.end;

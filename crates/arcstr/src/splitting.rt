@@ -3,12 +3,13 @@
 //!
 //! Each call clones the handle once for each slice that it returns, and so can wait. A call that returns none takes no atomic step. Each slice keeps the text
 //! alive, even if it is empty. The calls of `Substr` take byte offsets of the slice's own text, and their slices have its parent.
-ghost use Rattle.std.specs.Prelude.{◌≡◌, ◌-◌, ◌≤◌, length, take, drop, IfSome, MatchOption, None};
+ghost use Rattle.std.specs.Prelude.{◌≡◌, ◌-◌, ◌≤◌, length, take, drop, IfOk, IfSome, MatchOption, None};
 ghost use Rattle.std.specs.Str.{IsCharBoundary};
 ghost use Rattle.std.specs.Str.Pattern.{SplitsAroundMatch, StripsPrefix, StripsSuffix};
 ghost use Rattle.arcstr_range.specs.Ends.{IsLawful};
 ghost use Rattle.arcstr_range.specs.Text.{cut};
-ghost use Rattle.arcstr.specs.Splitting.{AnswersSplit, AnswersSplitAt, FindsCharacter, LiesAtEnd, LiesAtStart};
+ghost use Rattle.arcstr.specs.Slicing.{LiesBetween};
+ghost use Rattle.arcstr.specs.Splitting.{AnswersSplit, AnswersSplitAt, AreInOrder, FindsCharacter, LiesAtEnd, LiesAtStart};
 ghost use Rattle.arcstr.specs.Substr.{slice_of, slice_within, text_of};
 
 use crate::arc_str::ArcStr;
@@ -36,7 +37,8 @@ impl ArcStr {
         place: usize,
     ) -> Result<(Substr, Substr), RangeFault>
         // Promise: The call succeeds exactly if the range is lawful, and otherwise returns the first fault.
-        ensures { AnswersSplitAt self.now.text (slice_of self.now) place result }
+        ensures answer { AnswersSplitAt self.now.text (slice_of self.now) place result }
+        ensures spans { IfOk result (AreInOrder 0 (length self.now.text)) }
     {
         match checked_ends(self.as_str(), StrRange::To(place)) {
             Ok((start, end)) => {
@@ -72,6 +74,8 @@ impl ArcStr {
         // Promise: The first slice starts where the text starts, and the second ends where the text ends.
         ensures before { IfSome result (λ parts. LiesAtStart (slice_of self.now) parts.0) }
         ensures after { IfSome result (λ parts. LiesAtEnd self.now.text (slice_of self.now) parts.1) }
+        // Promise: The slices lie in order, and the separator between them.
+        ensures spans { IfSome result (AreInOrder 0 (length self.now.text)) }
         // Promise: A text is split at a character exactly if it has that character, and the parts with it between them are the text.
         ensures at_a_character { IfSome (P.single_char separator) (λ character. FindsCharacter (P.find_in_gives separator) character
             → AnswersSplit self.now.text (slice_of self.now) character result) }
@@ -105,6 +109,8 @@ impl ArcStr {
         // Promise: The first slice starts where the text starts, and the second ends where the text ends.
         ensures before { IfSome result (λ parts. LiesAtStart (slice_of self.now) parts.0) }
         ensures after { IfSome result (λ parts. LiesAtEnd self.now.text (slice_of self.now) parts.1) }
+        // Promise: The slices lie in order, and the separator between them.
+        ensures spans { IfSome result (AreInOrder 0 (length self.now.text)) }
     {
         let (before, after) = self.as_str().rsplit_once(separator)?;
         Some((
@@ -129,6 +135,8 @@ impl ArcStr {
             (λ rest. StripsPrefix (P.prefix_len_gives prefix) self.now.text (text_of rest)) }
         // Promise: It ends where the text ends.
         ensures slice { IfSome result (LiesAtEnd self.now.text (slice_of self.now)) }
+        ensures within { IfSome result (LiesBetween 0 (length self.now.text)) }
+        ensures end { IfSome result (λ rest. rest.end ≡ length self.now.text) }
     {
         let rest = self.as_str().strip_prefix(prefix)?;
         Some(self.substr_of_suffix(rt, rest))
@@ -150,6 +158,8 @@ impl ArcStr {
             (λ rest. StripsSuffix (P.suffix_len_gives suffix) self.now.text (text_of rest)) }
         // Promise: It starts where the text starts.
         ensures slice { IfSome result (LiesAtStart (slice_of self.now)) }
+        ensures within { IfSome result (LiesBetween 0 (length self.now.text)) }
+        ensures start { IfSome result (λ rest. rest.start ≡ 0) }
     {
         let rest = self.as_str().strip_suffix(suffix)?;
         Some(self.substr_of_prefix(rt, rest))
@@ -169,6 +179,8 @@ impl ArcStr {
         requires prefix { prefix.now ≡ take (length prefix.now) self.now.text }
         ensures slice { result ≡ slice_of self.now 0 (length prefix.now) }
         ensures text { text_of result ≡ prefix.now }
+        ensures within { LiesBetween 0 (length self.now.text) result }
+        ensures start { result.start ≡ 0 }
         ensures boundary { IsCharBoundary self.now.text (length prefix.now) }
     {
         self.clone_between(rt, prefix_range(self.as_str(), prefix))
@@ -190,6 +202,8 @@ impl ArcStr {
         requires suffix { suffix.now ≡ drop (length self.now.text - length suffix.now) self.now.text }
         ensures slice { result ≡ slice_of self.now (length self.now.text - length suffix.now) (length self.now.text) }
         ensures text { text_of result ≡ suffix.now }
+        ensures within { LiesBetween 0 (length self.now.text) result }
+        ensures end { result.end ≡ length self.now.text }
         ensures boundary { IsCharBoundary self.now.text (length self.now.text - length suffix.now) }
     {
         self.clone_between(rt, suffix_range(self.as_str(), suffix))
@@ -203,7 +217,8 @@ impl Substr {
         rt: &impl Wait,
         place: usize,
     ) -> Result<(Substr, Substr), RangeFault>
-        ensures { AnswersSplitAt (text_of self.now) (slice_within self.now) place result }
+        ensures answer { AnswersSplitAt (text_of self.now) (slice_within self.now) place result }
+        ensures spans { IfOk result (AreInOrder self.now.start self.now.end) }
     {
         match checked_ends(self.as_str(), StrRange::To(place)) {
             Ok((start, end)) => {
@@ -229,6 +244,7 @@ impl Substr {
             (λ parts. SplitsAroundMatch (P.find_in_gives separator) (text_of self.now) (text_of parts.0) (text_of parts.1)) }
         ensures before { IfSome result (λ parts. LiesAtStart (slice_within self.now) parts.0) }
         ensures after { IfSome result (λ parts. LiesAtEnd (text_of self.now) (slice_within self.now) parts.1) }
+        ensures spans { IfSome result (AreInOrder self.now.start self.now.end) }
         ensures at_a_character { IfSome (P.single_char separator) (λ character. FindsCharacter (P.find_in_gives separator) character
             → AnswersSplit (text_of self.now) (slice_within self.now) character result) }
     {
@@ -252,6 +268,7 @@ impl Substr {
             (λ parts. SplitsAroundMatch (P.rfind_in_gives separator) (text_of self.now) (text_of parts.0) (text_of parts.1)) }
         ensures before { IfSome result (λ parts. LiesAtStart (slice_within self.now) parts.0) }
         ensures after { IfSome result (λ parts. LiesAtEnd (text_of self.now) (slice_within self.now) parts.1) }
+        ensures spans { IfSome result (AreInOrder self.now.start self.now.end) }
     {
         let (before, after) = self.as_str().rsplit_once(separator)?;
         Some((
@@ -268,6 +285,8 @@ impl Substr {
         ensures text { MatchOption result (P.prefix_len_gives prefix (text_of self.now) None)
             (λ rest. StripsPrefix (P.prefix_len_gives prefix) (text_of self.now) (text_of rest)) }
         ensures slice { IfSome result (LiesAtEnd (text_of self.now) (slice_within self.now)) }
+        ensures within { IfSome result (LiesBetween self.now.start self.now.end) }
+        ensures end { IfSome result (λ rest. rest.end ≡ self.now.end) }
     {
         let rest = self.as_str().strip_prefix(prefix)?;
         Some(self.substr_of_suffix(rt, rest))
@@ -281,6 +300,8 @@ impl Substr {
         ensures text { MatchOption result (P.suffix_len_gives suffix (text_of self.now) None)
             (λ rest. StripsSuffix (P.suffix_len_gives suffix) (text_of self.now) (text_of rest)) }
         ensures slice { IfSome result (LiesAtStart (slice_within self.now)) }
+        ensures within { IfSome result (LiesBetween self.now.start self.now.end) }
+        ensures start { IfSome result (λ rest. rest.start ≡ self.now.start) }
     {
         let rest = self.as_str().strip_suffix(suffix)?;
         Some(self.substr_of_prefix(rt, rest))
@@ -292,6 +313,8 @@ impl Substr {
         requires prefix { prefix.now ≡ take (length prefix.now) (text_of self.now) }
         ensures slice { result ≡ slice_within self.now 0 (length prefix.now) }
         ensures text { text_of result ≡ prefix.now }
+        ensures within { LiesBetween self.now.start self.now.end result }
+        ensures start { result.start ≡ self.now.start }
         ensures boundary { IsCharBoundary (text_of self.now) (length prefix.now) }
     {
         self.clone_between(rt, prefix_range(self.as_str(), prefix))
@@ -303,6 +326,8 @@ impl Substr {
         requires suffix { suffix.now ≡ drop (length (text_of self.now) - length suffix.now) (text_of self.now) }
         ensures slice { result ≡ slice_within self.now (length (text_of self.now) - length suffix.now) (length (text_of self.now)) }
         ensures text { text_of result ≡ suffix.now }
+        ensures within { LiesBetween self.now.start self.now.end result }
+        ensures end { result.end ≡ self.now.end }
         ensures boundary { IsCharBoundary (text_of self.now) (length (text_of self.now) - length suffix.now) }
     {
         self.clone_between(rt, suffix_range(self.as_str(), suffix))

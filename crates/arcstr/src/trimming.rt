@@ -5,7 +5,7 @@ ghost use Rattle.arcstr_range.specs.Ends.{IsLawful};
 ghost use Rattle.arcstr_range.specs.Text.{cut};
 ghost use Rattle.arcstr_range.specs.Trim.{Trims, TrimsEnd, TrimsStart};
 ghost use Rattle.arcstr_range.specs.View.{view_at};
-ghost use Rattle.arcstr.specs.Slicing.{IsTrimmed};
+ghost use Rattle.arcstr.specs.Slicing.{IsTrimmed, LiesBetween};
 ghost use Rattle.arcstr.specs.Substr.{slice_of, slice_within, text_of};
 
 use crate::arc_str::ArcStr;
@@ -26,6 +26,7 @@ impl ArcStr {
     pub fn substr_trim(&self, rt: &impl Wait) -> Substr
         ensures slice { IsTrimmed Trims self.now.text (slice_of self.now) result }
         ensures text { text_of result ≡ trim self.now.text }
+        ensures within { LiesBetween 0 (length self.now.text) result }
     {
         self.clone_between(rt, trim_range(self.as_str()))
     }
@@ -41,6 +42,8 @@ impl ArcStr {
     pub fn substr_trim_start(&self, rt: &impl Wait) -> Substr
         ensures slice { IsTrimmed TrimsStart self.now.text (slice_of self.now) result }
         ensures text { text_of result ≡ trim_start self.now.text }
+        ensures within { LiesBetween 0 (length self.now.text) result }
+        ensures end { result.end ≡ length self.now.text }
     {
         self.clone_between(rt, trim_start_range(self.as_str()))
     }
@@ -56,6 +59,8 @@ impl ArcStr {
     pub fn substr_trim_end(&self, rt: &impl Wait) -> Substr
         ensures slice { IsTrimmed TrimsEnd self.now.text (slice_of self.now) result }
         ensures text { text_of result ≡ trim_end self.now.text }
+        ensures within { LiesBetween 0 (length self.now.text) result }
+        ensures start { result.start ≡ 0 }
     {
         self.clone_between(rt, trim_end_range(self.as_str()))
     }
@@ -66,6 +71,7 @@ impl Substr {
     pub fn substr_trim(&self, rt: &impl Wait) -> Substr
         ensures slice { IsTrimmed Trims (text_of self.now) (slice_within self.now) result }
         ensures text { text_of result ≡ trim (text_of self.now) }
+        ensures within { LiesBetween self.now.start self.now.end result }
     {
         self.clone_between(rt, trim_range(self.as_str()))
     }
@@ -74,6 +80,8 @@ impl Substr {
     pub fn substr_trim_start(&self, rt: &impl Wait) -> Substr
         ensures slice { IsTrimmed TrimsStart (text_of self.now) (slice_within self.now) result }
         ensures text { text_of result ≡ trim_start (text_of self.now) }
+        ensures within { LiesBetween self.now.start self.now.end result }
+        ensures end { result.end ≡ self.now.end }
     {
         self.clone_between(rt, trim_start_range(self.as_str()))
     }
@@ -82,6 +90,8 @@ impl Substr {
     pub fn substr_trim_end(&self, rt: &impl Wait) -> Substr
         ensures slice { IsTrimmed TrimsEnd (text_of self.now) (slice_within self.now) result }
         ensures text { text_of result ≡ trim_end (text_of self.now) }
+        ensures within { LiesBetween self.now.start self.now.end result }
+        ensures start { result.start ≡ self.now.start }
     {
         self.clone_between(rt, trim_end_range(self.as_str()))
     }
@@ -94,6 +104,7 @@ fn trim_start_range(text: &str) -> Range<usize>
     ensures longest { TrimsStart (view_at text.now 0) (view_at (cut text.now result.start result.end) result.start) }
     ensures end { result.end ≡ result.start + length (cut text.now result.start result.end) }
     ensures text { cut text.now result.start result.end ≡ trim_start text.now }
+    ensures last { result.end ≡ length text.now }
 {
     StrView::whole(text).trim_start().range()
 }
@@ -105,6 +116,7 @@ fn trim_end_range(text: &str) -> Range<usize>
     ensures longest { TrimsEnd (view_at text.now 0) (view_at (cut text.now result.start result.end) result.start) }
     ensures end { result.end ≡ result.start + length (cut text.now result.start result.end) }
     ensures text { cut text.now result.start result.end ≡ trim_end text.now }
+    ensures first { result.start ≡ 0 }
 {
     StrView::whole(text).trim_end().range()
 }

@@ -206,6 +206,17 @@ lawful_start text new utf8 trims = (stands_start text new utf8 trims).lawful
 pub cut_start : (text : List ℕ) (new : View) → IsUtf8 text → TrimsStart (view_at text 0) new → cut text new.place (end_of new) ≡ new.text
 cut_start text new utf8 trims = (stands_start text new utf8 trims).same
 
+-- a trim of the start leaves the end
+pub ends_start : (text : List ℕ) (new : View) → IsUtf8 text → TrimsStart (view_at text 0) new → end_of new ≡ length text
+ends_start text new utf8 trims =
+    omega (
+      arith,
+      trims.place,
+      ap length trims.text,
+      ap length (halves_join_to_text text trims.prefix trims.rest utf8 trims.removed.split),
+      length-append (encode_utf8_all trims.prefix) (encode_utf8_all trims.rest),
+    )
+
 pub lawful_end : (text : List ℕ) (new : View) → IsUtf8 text → TrimsEnd (view_at text 0) new → IsLawful text new.place (end_of new)
 lawful_end text new utf8 trims = (stands_end text new utf8 trims).lawful
 
@@ -219,7 +230,7 @@ pub cut_both : (text : List ℕ) (new : View) → IsUtf8 text → Trims (view_at
 cut_both text new utf8 trims = (stands_both text new utf8 trims).same
 
 -- the functions whose proofs use these rulesets name them
-pub ruleset trimmed_starts = (lawful_start, cut_start)
+pub ruleset trimmed_starts = (lawful_start, cut_start, ends_start)
 
 pub ruleset trimmed_ends = (lawful_end, cut_end)
 
