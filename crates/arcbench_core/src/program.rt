@@ -3,7 +3,7 @@ ghost use Rattle.std.specs.Prelude.{◌≡◌, ◌≢◌, ◌≤◌, ◌↔◌, 
 ghost use Rattle.std.specs.Io.KnownBytes.{IsAtEnd, Appends};
 ghost use Rattle.std.specs.IoError.{error_kind};
 ghost use Rattle.std.specs.Str.{IsUtf8};
-ghost use Rattle.arcstr_count.specs.declared.faults.RunFault.TheVariants.{LimitTooLarge};
+ghost use Rattle.arcstr_world.specs.declared.faults.RunFault.TheVariants.{LimitTooLarge};
 ghost use Rattle.arcbench_core.specs.Script.{answer_to};
 ghost use Rattle.arcbench_core.specs.Threads.{ReadSharedText, threads_answer};
 ghost use Rattle.arcbench_core.specs.TokenLines.{WritesTokens};

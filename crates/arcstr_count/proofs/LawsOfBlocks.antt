@@ -3,14 +3,16 @@
 -- We show for each step what it does to the number of handles on each block in a state that passes a test, then that each block stays balanced with
 -- these numbers, and then that each state after a history is balanced.
 use Rattle.arcstr_count.proofs.Names.{◌≡◌, ◌≢◌, ℕ, zero, suc, ◌+◌, ◌<◌, ◌≤◌, Bool, true, false, ◌&&◌, ◌==◌, if◌then◌else◌, List, [], ◌∷◌, ◌++◌, get_or, length}
-use Rattle.arcstr_count.proofs.Names.{filter, refl, sym, ◌∙◌, ap, ap₂, ◌⊎◌, inl, inr, arith, ne_eqb, eq-eqb, Contains, not, ◌||◌, nat_lt, subst, set}
-use Rattle.arcstr_count.proofs.Names.{eqb-true, ltb-true, ltb-false, length-append, filter-append, Contains-append_left, Contains-push, cases_eq, eqb-false, length_push}
+use Rattle.arcstr_count.proofs.Names.{filter, refl, sym, ◌∙◌, ap, ap₂, ◌⊎◌, inl, inr, arith, ne_eqb, eq-eqb, not, ◌||◌, nat_lt, subst, set}
+use Rattle.arcstr_count.proofs.Names.{length-append, filter-append, cases_eq, length_push}
 use Rattle.arcstr_count.proofs.Names.{get_or-set_same, get_or-set_other, set-get_or, length-set, get_or_push, get_or_append_left, Option, Some, None, option_map, slice_get}
 use Rattle.arcstr_count.proofs.Names.{slice_get_within, get_or_from_slice_get, slice_get-get_or, StepFault, numbers_below, lives, is_dropping, is_owing}
 use Rattle.arcstr_count.proofs.Names.{Step, Make, Clone, Look, Begin, Sub, Back, Leak, IntoRaw, FromRaw, HandleState, Free, Raw, Dropping, Owing, Gone, HandleSummary}
 use Rattle.arcstr_count.proofs.Names.{FlagAndCount, fresh_word, cloned_of, dropped_of, marked_of, is_last, BlockSummary, refusal_unless, Reply, Ended, Looked}
 use Rattle.arcstr_count.proofs.Names.{State, start, no_handle, no_block, block_on, state_on, state_in, word_on, given_in, handles_with_state}
-use Rattle.arcstr_count.proofs.Names.{accepted, refusal_in, unless_refused, step, after_from, after}
+use Rattle.arcstr_count.proofs.Names.{accepted, refusal_in, unless_refused, step, after_from, after, handles_on, append-nil, append_assoc}
+use Rattle.std.specs.Prelude.{sum_by}
+use Rattle.std.proofs.lemmas.List.Sums.{sum_by-cons, sum_by_push, sum_by-set, sum_by-le-sum_by, get_or-le-sum_by}
 
 -- ---- how many numbers below n pass a test
 
@@ -39,42 +41,31 @@ count-same f g (suc n) agree =
     let before = count-same f g n (λ k below. agree k (omega arith)) in
     rw (count-push g n, count-push f n, before, agree n (omega arith)) refl
 
--- two tests that agree at all numbers but one
-pub count-set : (f g : ℕ → Bool) (n i : ℕ) → i < n → ((k : ℕ) → k ≢ i → g k ≡ f k) → count g n + one_if (f i) ≡ count f n + one_if (g i)
-count-set f g zero i below agree = absurd (omega arith)
-count-set f g (suc n) i below agree = by_place (cases_eq i n) (λ inner. count-set f g n i inner agree)
+-- what holds of the empty list, and still holds with each further entry, holds of each list
+module _ {X : Type 0} (P : List X → Type 0) where
+  further : ((prefix : List X) (x : X) → P prefix → P (prefix ++ x ∷ [])) → (prefix later : List X) → P prefix → P (prefix ++ later)
+  further push prefix [] h = rw append-nil h
+  further push prefix (x ∷ later) h = subst P (append_assoc prefix (x ∷ []) later) (further push (prefix ++ x ∷ []) later (push prefix x h))
+
+  pub by_pushes : P [] → ((prefix : List X) (x : X) → P prefix → P (prefix ++ x ∷ [])) → (xs : List X) → P xs
+  by_pushes nil push xs = further push [] xs nil
+
+-- as many indices of a list have an entry that passes as there are such entries
+count_entries : {X : Type 0} (test : X → Bool) (d : X) (xs : List X)
+    → count (λ k. test (get_or xs k d)) (length xs) ≡ sum_by (λ x. one_if (test x)) xs
+count_entries {X} test d = by_pushes (λ xs. count (λ k. test (get_or xs k d)) (length xs) ≡ sum_by (λ x. one_if (test x)) xs) refl push
   where
-    by_place : (i ≡ n) ⊎ (i ≢ n) → (i < n → count g n + one_if (f i) ≡ count f n + one_if (g i))
-        → count g (suc n) + one_if (f i) ≡ count f (suc n) + one_if (g i)
-    by_place (inl last) earlier =
-        let prefix = count-same f g n (λ k lower. agree k (λ same. omega arith)) in
-        rw (count-push g n, count-push f n, last, prefix) (omega arith)
-    by_place (inr inner) earlier =
-        let before = earlier (omega arith) in
-        let here : g n ≡ f n = agree n (λ same. inner (sym same)) in
-        rw (count-push g n, count-push f n, here) (omega arith)
-
-one_if-le : (a b : Bool) → (a ≡ true → b ≡ true) → one_if a ≤ one_if b
-one_if-le true b more = rw (more refl) (omega arith)
-one_if-le false b more = omega arith
-
--- a weaker test passes no fewer
-pub count-le : (f g : ℕ → Bool) (n : ℕ) → ((k : ℕ) → f k ≡ true → g k ≡ true) → count f n ≤ count g n
-count-le f g zero weaker = omega arith
-count-le f g (suc n) weaker =
-    let before = count-le f g n weaker in
-    let here = one_if-le (f n) (g n) (weaker n) in
-    rw (count-push f n, count-push g n) (omega arith)
-
--- a number that passes is in the list of the numbers that do
-pub contains_passing : (f : ℕ → Bool) (n i : ℕ) → i < n → f i ≡ true → Contains (filter f (numbers_below n)) i
-contains_passing f zero i below passes = absurd (omega arith)
-contains_passing f (suc n) i below passes = by_place (cases_eq i n) (λ inner. contains_passing f n i inner passes)
-  where
-    by_place : (i ≡ n) ⊎ (i ≢ n) → (i < n → Contains (filter f (numbers_below n)) i) → Contains (filter f (numbers_below (suc n))) i
-    by_place (inl last) earlier = rw (filter-push f n, ← last, passes) (Contains-push (filter f (numbers_below i)) i)
-    by_place (inr inner) earlier =
-        rw (filter-push f n) (Contains-append_left (filter f (numbers_below n)) (filter f (n ∷ [])) i (earlier (omega arith)))
+    push : (xs : List X) (x : X) → count (λ k. test (get_or xs k d)) (length xs) ≡ sum_by (λ y. one_if (test y)) xs
+        → count (λ k. test (get_or (xs ++ x ∷ []) k d)) (length (xs ++ x ∷ [])) ≡ sum_by (λ y. one_if (test y)) (xs ++ x ∷ [])
+    push xs x before =
+        let more : length (xs ++ x ∷ []) ≡ suc (length xs) = omega (arith, length_push xs x) in
+        ap (λ n. count (λ k. test (get_or (xs ++ x ∷ []) k d)) n) more
+        ∙ count-push (λ k. test (get_or (xs ++ x ∷ []) k d)) (length xs)
+        ∙ ap₂ (λ a b. a + b)
+        (count-same (λ k. test (get_or xs k d)) (λ k. test (get_or (xs ++ x ∷ []) k d)) (length xs)
+        (λ k below. ap test (get_or_append_left xs (x ∷ []) d k below)) ∙ before)
+        (ap (λ y. one_if (test y)) (get_or_push xs x d (length xs) refl))
+        ∙ sym (sum_by_push (λ y. one_if (test y)) xs x)
 
 -- ---- tests on numbers
 
@@ -83,17 +74,17 @@ same_test n = eq-eqb n n refl
 
 -- ---- the handles on a block in a table of handles, by their states
 
--- h is on the block, in a state that passes
-abbrev pub is_held : List HandleSummary → ℕ → (HandleState → Bool) → ℕ → Bool
-is_held hs b test h = ((get_or hs h no_handle).block == b) && test (get_or hs h no_handle).state
+-- whether a handle is on the block, in a state that passes, and how many are
+abbrev pub passes_on : ℕ → (HandleState → Bool) → HandleSummary → Bool
+passes_on b test it = (it.block == b) && test it.state
 
 abbrev pub held : List HandleSummary → ℕ → (HandleState → Bool) → ℕ
-held hs b test = count (λ h. is_held hs b test h) (length hs)
+held hs b test = sum_by (λ it. one_if (passes_on b test it)) hs
 
-is_held_by : (x y : HandleSummary) (b : ℕ) (test : HandleState → Bool) → x ≡ y → ((x.block == b) && test x.state) ≡ ((y.block == b) && test y.state)
-is_held_by x y b test same = ap (λ (it : HandleSummary). (it.block == b) && test it.state) same
+pub length-handles_on : (w : State) (b : ℕ) (test : HandleState → Bool) → length (handles_on w b test) ≡ held w.handles b test
+length-handles_on w b test = count_entries (passes_on b test) no_handle w.handles
 
-on_it : (c b : ℕ) (x : Bool) → c ≡ b → one_if ((c == b) && x) ≡ one_if x
+pub on_it : (c b : ℕ) (x : Bool) → c ≡ b → one_if ((c == b) && x) ≡ one_if x
 on_it c b x same = ap (λ (t : Bool). one_if (t && x)) (eq-eqb c b same)
 
 off_it : (c b : ℕ) (x : Bool) → c ≢ b → one_if ((c == b) && x) ≡ 0
@@ -121,14 +112,9 @@ module _ (hs : List HandleSummary) (h : ℕ) (new : HandleState) (born : h < len
       by_place (inr apart) = ap (λ (it : HandleSummary). it.block) (moved_other k apart)
 
   moved_count : (b : ℕ) (test : HandleState → Bool)
-      → held (handles_with_state hs h new) b test + one_if (((get_or hs h no_handle).block == b) && test (get_or hs h no_handle).state)
+      → held (handles_with_state hs h new) b test + one_if (passes_on b test (get_or hs h no_handle))
       ≡ held hs b test + one_if (((get_or hs h no_handle).block == b) && test new)
-  moved_count b test =
-      let changed = count-set (λ k. is_held hs b test k) (λ k. is_held (handles_with_state hs h new) b test k) (length hs) h born
-      (λ k apart. is_held_by _ _ b test (moved_other k apart)) in
-      let long = ap (λ n. count (λ k. is_held (handles_with_state hs h new) b test k) n) length-moved in
-      let here = ap one_if (is_held_by _ _ b test moved_same) in
-      omega (arith, changed, long, here)
+  moved_count b test = sum_by-set (λ it. one_if (passes_on b test it)) hs h _ no_handle born
 
   pub moved_here : (b : ℕ) → (get_or hs h no_handle).block ≡ b → (test : HandleState → Bool)
       → held (handles_with_state hs h new) b test + one_if (test (get_or hs h no_handle).state) ≡ held hs b test + one_if (test new)
@@ -155,14 +141,7 @@ module _ (hs : List HandleSummary) (c : ℕ) where
 
   born_count : (b : ℕ) (test : HandleState → Bool)
       → held (hs ++ record { block = c; state = Free } ∷ []) b test ≡ held hs b test + one_if ((c == b) && test Free)
-  born_count b test =
-      let long : length (hs ++ record { block = c; state = Free } ∷ []) ≡ suc (length hs) = omega (arith, length_push hs (record { block = c; state = Free })) in
-      ap (λ n. count (λ k. is_held (hs ++ record { block = c; state = Free } ∷ []) b test k) n) long
-      ∙ count-push (λ k. is_held (hs ++ record { block = c; state = Free } ∷ []) b test k) (length hs)
-      ∙ ap₂ (λ x y. x + one_if y)
-      (count-same (λ k. is_held hs b test k) (λ k. is_held (hs ++ record { block = c; state = Free } ∷ []) b test k) (length hs)
-      (λ k below. is_held_by _ _ b test (born_earlier k below)))
-      (is_held_by _ _ b test born_last)
+  born_count b test = sum_by_push (λ it. one_if (passes_on b test it)) hs (record { block = c; state = Free })
 
   pub born_here : (test : HandleState → Bool) → held (hs ++ record { block = c; state = Free } ∷ []) c test ≡ held hs c test + one_if (test Free)
   born_here test = let on = on_it c c (test Free) refl in omega (arith, born_count c test, on)
@@ -172,36 +151,33 @@ module _ (hs : List HandleSummary) (c : ℕ) where
 
 -- ---- how many are held
 
-count-none : (n : ℕ) → count (λ k. false) n ≡ 0
-count-none zero = refl
-count-none (suc n) = count-push (λ k. false) n ∙ omega (arith, count-none n)
-
 -- no handle is on a block that is above those of all handles
 held-none : (hs : List HandleSummary) (b : ℕ) (test : HandleState → Bool) → ((k : ℕ) → k < length hs → (get_or hs k no_handle).block < b) → held hs b test ≡ 0
-held-none hs b test below = count-same (λ k. false) (λ k. is_held hs b test k) (length hs) nowhere ∙ count-none (length hs)
-  where
-    nowhere : (k : ℕ) → k < length hs → is_held hs b test k ≡ false
-    nowhere k born =
-        let made = below k born in
-        let elsewhere : ((get_or hs k no_handle).block == b) ≡ false = ne_eqb (get_or hs k no_handle).block b (λ same. omega arith) in
-        rw elsewhere refl
+held-none [] b test below = refl
+held-none (it ∷ hs) b test below =
+    let later = held-none hs b test (λ k born. below (suc k) (omega arith)) in
+    let lower = below 0 (omega arith) in
+    let first = off_it it.block b (test it.state) (λ same. omega arith) in
+    sum_by-cons (λ x. one_if (passes_on b test x)) it hs ∙ omega (arith, first, later)
 
-dropping_lives : (x : Bool) (s : HandleState) → (x && is_dropping s) ≡ true → (x && lives s) ≡ true
-dropping_lives x s e = grind arith
+dropping_lives : (x : Bool) (s : HandleState) → one_if (x && is_dropping s) ≤ one_if (x && lives s)
+dropping_lives x s = grind arith
 
-pub dropping-le-living : (hs : List HandleSummary) (b : ℕ) → held hs b is_dropping ≤ held hs b lives
-dropping-le-living hs b =
-    count-le (λ h. is_held hs b is_dropping h) (λ h. is_held hs b lives h) (length hs)
-    (λ h. dropping_lives ((get_or hs h no_handle).block == b) (get_or hs h no_handle).state)
+dropping-le-living : (hs : List HandleSummary) (b : ℕ) → held hs b is_dropping ≤ held hs b lives
+dropping-le-living hs b = sum_by-le-sum_by (λ it. one_if (passes_on b is_dropping it)) (λ it. one_if (passes_on b lives it)) hs
+    (λ it. dropping_lives (it.block == b) it.state)
 
--- a handle in a state that passes is in the list of those that pass on its block
-module _ (hs : List HandleSummary) (h : ℕ) (test : HandleState → Bool) (born : h < length hs) (passes : test (get_or hs h no_handle).state ≡ true) where
-  pub contains_held : Contains (filter (λ k. is_held hs (get_or hs h no_handle).block test k) (numbers_below (length hs))) h
-  contains_held = contains_passing (λ k. is_held hs (get_or hs h no_handle).block test k) (length hs) h born
-      (rw (same_test (get_or hs h no_handle).block, passes) refl)
+-- a handle in a state that passes is one of those on its block
+some_held : (hs : List HandleSummary) (h : ℕ) (test : HandleState → Bool) → h < length hs → test (get_or hs h no_handle).state ≡ true
+    → 0 < held hs (get_or hs h no_handle).block test
+some_held hs h test born passes =
+    let one : one_if (passes_on (get_or hs h no_handle).block test (get_or hs h no_handle)) ≡ 1 = rw (same_test (get_or hs h no_handle).block, passes) refl in
+    let least = get_or-le-sum_by (λ it. one_if (passes_on (get_or hs h no_handle).block test it)) hs h no_handle born in
+    omega (arith, one)
 
-  pub some_held : 0 < held hs (get_or hs h no_handle).block test
-  some_held = let within = contains_held.1 in omega arith
+pub some_on : (w : State) (h : ℕ) (test : HandleState → Bool) → h < length w.handles → test (state_on w h) ≡ true
+    → 0 < length (handles_on w (block_on w h) test)
+some_on w h test born passes = rw (length-handles_on w (block_on w h) test) (some_held w.handles h test born passes)
 
 -- ==== the count word of a block against the counts of its handles, and what each step on the block does to them
 
@@ -258,44 +234,28 @@ bears n after step = record {
 module _ (limit : ℕ) (w : FlagAndCount) (n after : Counts) (g : ℕ) where
   after_Clone : (m : Bool) → Bears n after → 0 < n lives → n is_dropping ≤ n lives
       → IsBalanced limit w m n g → IsBalanced limit (cloned_of limit w) (m || nat_lt limit (n lives)) after g
-  after_Clone true step some fewer b = rw b.flag (grind arith)
-  after_Clone false step some fewer b = by_limit (nat_lt limit (n lives)) refl
-    where
-      by_limit : (t : Bool) → nat_lt limit (n lives) ≡ t → IsBalanced limit (cloned_of limit w) t after g
-      by_limit true over =
-          let over_limit = ltb-true limit (n lives) over in
-          rw (b.flag, b.count, over) (grind arith)
-      by_limit false within =
-          let within_limit = ltb-false limit (n lives) within in
-          rw (b.flag, b.count, within) (grind arith)
+  after_Clone m step some fewer b = grind arith
 
   after_Begin : (m : Bool) → Moves n after Free (if m then Gone else Dropping) → IsBalanced limit w m n g → IsBalanced limit w m after g
-  after_Begin true step b = grind arith
-  after_Begin false step b = grind arith
+  after_Begin m step b = grind arith
 
   after_Sub : (m only : Bool) → only ≡ (n lives == 1) → Moves n after Dropping (if not m && only then Owing else Gone)
       → IsBalanced limit w m n g → IsBalanced limit (dropped_of w) m after g
-  after_Sub true only e step b = grind arith
-  after_Sub false true e step b = let last = eqb-true (n lives) 1 (sym e) in grind arith
-  after_Sub false false e step b = let more : n lives ≢ 1 = eqb-false (n lives) 1 (sym e) in grind arith
+  after_Sub m only e step b = grind arith
 
   after_Back : (m : Bool) (g' : ℕ) → g' ≡ g + 1 → Moves n after Owing Gone → IsBalanced limit w m n g → IsBalanced limit w m after g'
-  after_Back true g' e step b = grind arith
-  after_Back false g' e step b = grind arith
+  after_Back m g' e step b = grind arith
 
   -- between a free handle and a raw one
   after_IntoRaw : (m : Bool) → Moves n after Free Raw → IsBalanced limit w m n g → IsBalanced limit w m after g
-  after_IntoRaw true step b = grind arith
-  after_IntoRaw false step b = grind arith
+  after_IntoRaw m step b = grind arith
 
   after_FromRaw : (m : Bool) → Moves n after Raw Free → IsBalanced limit w m n g → IsBalanced limit w m after g
-  after_FromRaw true step b = grind arith
-  after_FromRaw false step b = grind arith
+  after_FromRaw m step b = grind arith
 
 after_Leak : (limit : ℕ) (w : FlagAndCount) (n : Counts) (g : ℕ) (m : Bool) → 0 < n lives → n is_dropping ≤ n lives
     → IsBalanced limit w m n g → IsBalanced limit (marked_of w) true n g
-after_Leak limit w n g true some fewer b = grind arith
-after_Leak limit w n g false some fewer b = grind arith
+after_Leak limit w n g m some fewer b = grind arith
 
 -- ==== each state after a history is balanced
 
@@ -310,8 +270,7 @@ pub record IsLawful (limit : ℕ) (w : State) : Type 0 where
 
 -- the mark of a balance is the flag of its word
 pub flag_is : (limit : ℕ) (w : FlagAndCount) (m : Bool) (n : Counts) (g : ℕ) → IsBalanced limit w m n g → w.flag ≡ m
-flag_is limit w true n g b = b.flag
-flag_is limit w false n g b = b.flag
+flag_is limit w m n g b = grind arith
 
 -- equal counts are balanced alike
 same_counts : (limit : ℕ) (hs hs' : List HandleSummary) (b : ℕ) (entry : BlockSummary) → ((test : HandleState → Bool) → held hs' b test ≡ held hs b test)
@@ -362,19 +321,10 @@ state_born w h born = ap (option_map (λ (it : HandleSummary). it.state)) (slice
 
 -- the table of refusals accepts a handle in the state that a step needs, and no other
 pub accepts_needed : (s : HandleState) → refusal_unless s (Some s) ≡ None
-accepts_needed Free = refl
-accepts_needed Raw = refl
-accepts_needed Dropping = refl
-accepts_needed Owing = refl
-accepts_needed Gone = refl
+accepts_needed s = grind arith
 
 pub needed_state : (s : HandleState) (o : Option HandleState) → refusal_unless s o ≡ None → o ≡ Some s
-needed_state Free (Some Free) e = refl
-needed_state Raw (Some Raw) e = refl
-needed_state Dropping (Some Dropping) e = refl
-needed_state Owing (Some Owing) e = refl
-needed_state Gone (Some Gone) e = refl
-needed_state s o e = cc
+needed_state s o e = grind arith
 
 -- so an accepted step finds its handle in the state that it needs
 pub step_finds : (w : State) (h : ℕ) (s : HandleState) → refusal_unless s (state_in w h) ≡ None → IsIn w h s
@@ -500,8 +450,7 @@ module _ (limit : ℕ) (w : State) (lawful : IsLawful limit w) where
     where
       last_is : (m : Bool) → IsBalanced limit (word_on w h) m (λ test. held w.handles (block_on w h) test) (given_in w (block_on w h))
           → is_last (word_on w h) ≡ (not m && (held w.handles (block_on w h) lives == 1))
-      last_is true b = rw b.flag refl
-      last_is false b = rw (b.flag, b.count) refl
+      last_is m b = grind arith
 
   lawful_accepted : (s : Step) → refusal_in w s ≡ None → IsLawful limit (accepted limit w s).0
   lawful_accepted Make e = lawful_make

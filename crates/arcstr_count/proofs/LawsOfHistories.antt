@@ -1,20 +1,15 @@
 -- The laws of every interleaving, over the prefixes of a history, and what the step function keeps of every state after a history.
 --
 -- Each state after a history is lawful: each of its blocks is balanced. Each law is read off this balance, for an unmarked block and a marked one.
-use Rattle.arcstr_count.proofs.Names.{◌≡◌, ◌≢◌, ◌↔◌, ℕ, zero, suc, ◌+◌, ◌<◌, ◌≤◌, Bool, true, false, IsFalse, IsTrue, Some, None, Option, List, [], ◌∷◌, ◌++◌}
-use Rattle.arcstr_count.proofs.Names.{length, append-nil, append_assoc, refl, sym, ◌∙◌, ap, subst, arith, true≢false, nil_from_length, get_or, ◌⊎◌, inl, inr, cases_eq, set}
+use Rattle.arcstr_count.proofs.Names.{◌≡◌, ◌≢◌, ◌↔◌, ℕ, ◌+◌, ◌<◌, ◌≤◌, Bool, true, false, IsFalse, IsTrue, Some, None, Option, List, [], ◌∷◌, ◌++◌}
+use Rattle.arcstr_count.proofs.Names.{length, refl, sym, ap, subst, arith, nil_from_length, get_or, ◌⊎◌, inl, inr, cases_eq, set}
 use Rattle.arcstr_count.proofs.Names.{get_or-set_same, get_or-set_other, get_or_append_left, length-set, length_push, StepFault, Step, Make, Look, Clone, Begin}
 use Rattle.arcstr_count.proofs.Names.{Sub, Back, Leak, IntoRaw, FromRaw, Dropping, BlockSummary, FlagAndCount, cloned_of, lives, is_dropping, is_owing}
 use Rattle.arcstr_count.proofs.Names.{HoldsInEveryInterleaving, StandsAfter, State, start, no_block, block_on, state_on, word_in, word_on, given_in, accepted}
 use Rattle.arcstr_count.proofs.Names.{refusal_in, unless_refused, step, after_from, after, replies_from, word_after, living_after, makes_after, handles_on}
-use Rattle.arcstr_count.proofs.LawsOfBlocks.{begun_by, Counts, held, IsBalanced, IsLawful, some_held, lawful_from, lawful_after}
+use Rattle.arcstr_count.proofs.LawsOfBlocks.{begun_by, Counts, IsBalanced, IsLawful, length-handles_on, some_on, lawful_from, lawful_after}
 
 -- ---- one block of a lawful state
-
--- t is 0 while l is above 0, and 1 once l is 0
-ended_or_not : (l t : ℕ) → (0 < l → t ≡ 0) → (l ≡ 0 → t ≡ 1) → (t ≤ 1) × (0 < t → l ≡ 0)
-ended_or_not zero t some none = (omega (arith, none refl), λ h. refl)
-ended_or_not (suc l) t some none = let no = some (omega arith) in (omega arith, λ h. omega arith)
 
 -- what the balance of a block says, by its mark
 pub record SaysOfBlock (limit : ℕ) (w : FlagAndCount) (n : Counts) (g : ℕ) : Type 0 where
@@ -26,27 +21,14 @@ pub record SaysOfBlock (limit : ℕ) (w : FlagAndCount) (n : Counts) (g : ℕ) :
   pub exactly : n lives ≡ 0 → n is_owing ≡ 0 → (g ≡ 1) ↔ IsFalse w.flag
 
 says_of_block : (limit : ℕ) (w : FlagAndCount) (m : Bool) (n : Counts) (g : ℕ) → IsBalanced limit w m n g → SaysOfBlock limit w n g
-says_of_block limit w true n g b = record {
-  exact = λ unmarked. absurd (true≢false (sym b.flag ∙ unmarked));
-  covered = λ _. b.covered;
-  bounded = b.bounded;
-  one = omega (arith, b.held);
-  alone = λ some. absurd (omega (arith, b.held));
-  exactly = λ none settled. (λ given. absurd (omega (arith, b.held)), λ unmarked. absurd (true≢false (sym b.flag ∙ unmarked)));
-}
-says_of_block limit w false n g b =
-    let ends = ended_or_not (n lives) (n is_owing + g) b.held b.ended in record {
-      exact = λ _. b.count;
-      covered = λ marked. absurd (true≢false (sym marked ∙ b.flag));
-      bounded = omega (arith, b.count, b.few);
-      one = ends.0;
-      alone = λ some. (b.flag, ends.1 some);
-      exactly = λ none settled. (λ given. b.flag, λ unmarked. omega (arith, b.ended none));
-    }
+says_of_block limit w m n g b = grind arith
 
 pub says : (limit : ℕ) (w : State) (b : ℕ) → IsLawful limit w → b < length w.blocks
-    → SaysOfBlock limit (word_in w b) (λ test. held w.handles b test) (given_in w b)
-says limit w b lawful made = let balance = lawful.balanced b made in says_of_block limit _ balance.0 _ _ balance.1
+    → SaysOfBlock limit (word_in w b) (λ test. length (handles_on w b test)) (given_in w b)
+says limit w b lawful made =
+    let balance = lawful.balanced b made in
+    subst (λ (n : Counts). SaysOfBlock limit (word_in w b) n (given_in w b)) (λ i test. sym (length-handles_on w b test) i)
+    (says_of_block limit _ balance.0 _ _ balance.1)
 
 pub stands : (limit : ℕ) (history : List Step) (b : ℕ) → b < makes_after limit history → StandsAfter limit history b (word_after limit history b)
 stands limit history b made = let all = says limit (after limit history) b (lawful_after limit history) made in record {
@@ -73,15 +55,6 @@ pub replies_from-step : (limit : ℕ) (w : State) (xs : List Step) (s : Step)
     → replies_from limit w (xs ++ s ∷ []) ≡ replies_from limit w xs ++ (step limit (after_from limit w xs) s).1 ∷ []
 replies_from-step limit w [] s = refl
 replies_from-step limit w (x ∷ xs) s = ap (λ later. (step limit w x).1 ∷ later) (replies_from-step limit (step limit w x).0 xs s)
-
-module _ {X : Type 0} (P : List X → Type 0) where
-  further : ((prefix : List X) (x : X) → P prefix → P (prefix ++ x ∷ [])) → (prefix later : List X) → P prefix → P (prefix ++ later)
-  further push prefix [] h = rw append-nil h
-  further push prefix (x ∷ later) h = subst P (append_assoc prefix (x ∷ []) later) (further push (prefix ++ x ∷ []) later (push prefix x h))
-
-  -- what holds of the empty list, and still holds with each further entry, holds of each list
-  pub by_pushes : P [] → ((prefix : List X) (x : X) → P prefix → P (prefix ++ x ∷ [])) → (xs : List X) → P xs
-  by_pushes nil push xs = further push [] xs nil
 
 -- what each accepted step keeps, a list of steps keeps
 kept_from : (limit : ℕ) (P : State → Type 0) → ((w : State) (s : Step) → P w → P (accepted limit w s).0) → (w : State) (later : List Step)
@@ -163,11 +136,11 @@ given_grows limit w later b made =
 -- ==== the laws of every interleaving
 
 -- once a block is freed, no handle lives on it
-given_alone : (limit : ℕ) (w : State) (b : ℕ) → IsLawful limit w → b < length w.blocks → given_in w b ≡ 1 → held w.handles b lives ≡ 0
+given_alone : (limit : ℕ) (w : State) (b : ℕ) → IsLawful limit w → b < length w.blocks → given_in w b ≡ 1 → length (handles_on w b lives) ≡ 0
 given_alone limit w b lawful made given = ((says limit w b lawful made).alone (omega (arith, given))).1
 
 given_permanently : (limit : ℕ) (w : State) (later : List Step) (b : ℕ) → IsLawful limit w → b < length w.blocks → given_in w b ≡ 1
-    → held (after_from limit w later).handles b lives ≡ 0
+    → length (handles_on (after_from limit w later) b lives) ≡ 0
 given_permanently limit w later b lawful made given =
     let later_lawful = lawful_from limit w later lawful in
     let still = made_stays limit w later b made in
@@ -206,13 +179,9 @@ pub dropping_counted : (limit : ℕ) (history : List Step) (h : ℕ) → h < len
     → state_on (after limit history) h ≡ Dropping → 0 < (word_on (after limit history) h).count
 dropping_counted limit history h born state =
     let all = says limit (after limit history) (block_on (after limit history) h) (lawful_after limit history) ((lawful_after limit history).made h born) in
-    let alive = some_held (after limit history).handles h lives born (ap lives state) in
-    let drops = some_held (after limit history).handles h is_dropping born (ap is_dropping state) in
-    by_flag (word_on (after limit history) h).flag refl (λ unmarked. omega (arith, all.exact unmarked)) (λ marked. omega (arith, all.covered marked))
+    let alive = some_on (after limit history) h lives born (ap lives state) in
+    let drops = some_on (after limit history) h is_dropping born (ap is_dropping state) in
+    by_flag _ _ _ _ all.exact all.covered alive drops
   where
-    by_flag : (f : Bool) → (word_on (after limit history) h).flag ≡ f
-        → ((word_on (after limit history) h).flag ≡ false → 0 < (word_on (after limit history) h).count)
-        → ((word_on (after limit history) h).flag ≡ true → 0 < (word_on (after limit history) h).count)
-        → 0 < (word_on (after limit history) h).count
-    by_flag true e exact covered = covered e
-    by_flag false e exact covered = exact e
+    by_flag : (f : Bool) (n living dropping : ℕ) → (IsFalse f → n ≡ living) → (IsTrue f → dropping ≤ n) → 0 < living → 0 < dropping → 0 < n
+    by_flag f n living dropping exact covered alive drops = grind arith

@@ -1,11 +1,11 @@
 -- The names that the proofs share, in one place.
-pub use Rattle.std.proofs.Common.{Bool, Contains, IsFalse, IsTrue, List, None, Option, Some, [], ap, append_assoc, ap₂, arith, eq-eqb, eqb-true, false, filter}
-pub use Rattle.std.proofs.Common.{get_or, if◌then◌else◌, inl, inr, is_none, length, ltb-false, ltb-true, map, nat_lt, ne_eqb, not, option_map, refl, set}
-pub use Rattle.std.proofs.Common.{slice_get, subst, suc, sym, true, true≢false, zero, ℕ, ◌&&◌, ◌++◌, ◌+◌, ◌<◌, ◌==◌, ◌||◌, ◌↔◌, ◌∙◌, ◌∷◌, ◌≡◌, ◌≢◌, ◌≤◌, ◌⊎◌}
-pub use Rattle.std.proofs.lemmas.Bool.{and_parts, cases_eq, eqb-false}
+pub use Rattle.std.proofs.Common.{Bool, IsFalse, IsTrue, List, None, Option, Some, [], ap, append_assoc, ap₂, arith, eq-eqb, false, filter, get_or}
+pub use Rattle.std.proofs.Common.{if◌then◌else◌, inl, inr, is_none, length, map, nat_lt, ne_eqb, not, option_map, refl, set, slice_get, subst, suc, sym, true}
+pub use Rattle.std.proofs.Common.{zero, ℕ, ◌&&◌, ◌++◌, ◌+◌, ◌<◌, ◌==◌, ◌||◌, ◌↔◌, ◌∙◌, ◌∷◌, ◌≡◌, ◌≢◌, ◌≤◌, ◌⊎◌}
+pub use Rattle.std.proofs.lemmas.Bool.{and_parts, cases_eq}
 pub use Rattle.std.proofs.lemmas.List.{get_or-set_other, get_or-set_same, length-set, set-get_or, get_or_append_left, get_or_push, length-append, length-map}
 pub use Rattle.std.proofs.lemmas.List.{append-nil, length_push, map-set, map_push, nil_from_length}
-pub use Rattle.std.proofs.lemmas.List.Elements.{Contains-append_left, Contains-push, filter-append}
+pub use Rattle.std.proofs.lemmas.List.Elements.{filter-append}
 pub use Rattle.std.proofs.lemmas.Option.{get_or_from_slice_get, slice_get-get_or, slice_get_within}
 pub use Rattle.arcstr_count.specs.Answer.{needs, refusal_by, refusal_unless}
 pub use Rattle.arcstr_count.specs.Laws.{HoldsInEveryInterleaving}

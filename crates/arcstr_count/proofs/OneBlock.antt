@@ -2,23 +2,20 @@
 --
 -- We show for each step of a handle whose seat has the state that the step needs that the step is accepted and keeps the history: the step function
 -- computes its reply, the new count word and the new seats from those that the history leaves.
-use Rattle.arcstr_count.proofs.Names.{◌≡◌, ℕ, ◌+◌, ◌<◌, ◌≤◌, ◌==◌, ◌&&◌, Bool, true, false, if◌then◌else◌, IsFalse, is_none, Option, None, Some, option_map}
-use Rattle.arcstr_count.proofs.Names.{List, [], ◌∷◌, ◌++◌, map, length, filter, slice_get, get_or, set, refl, sym, ◌∙◌, ap, subst, arith, zero, suc, ap₂, filter-append, length-append, get_or_append_left, get_or_push}
-use Rattle.arcstr_count.proofs.Names.{map_push, map-set, length-map, length-set, length_push, get_or-set_same}
+use Rattle.arcstr_count.proofs.Names.{◌≡◌, ℕ, ◌+◌, ◌<◌, ◌≤◌, ◌&&◌, Bool, true, false, if◌then◌else◌, IsFalse, is_none, Option, None, Some}
+use Rattle.arcstr_count.proofs.Names.{List, [], ◌∷◌, ◌++◌, map, length, filter, slice_get, get_or, set, refl, sym, ◌∙◌, ap, subst, arith, suc}
+use Rattle.arcstr_count.proofs.Names.{map_push, map-set, length-map, length-set, get_or-set_same}
 use Rattle.arcstr_count.proofs.Names.{Step, Make, Look, Clone, Begin, Sub, Back, Leak, HandleState, Free, Dropping, Owing, Gone, HandleSummary, BlockSummary, Reply}
 use Rattle.arcstr_count.proofs.Names.{Count, Handle, Looked, Ended, Left, Owes, Given, Marked, Static, StepFault, FlagAndCount, fresh_word, looked_of, cloned_of, dropped_of, is_last, marked_of}
-use Rattle.arcstr_count.proofs.Names.{needs, refusal_by, refusal_unless, State, after, start, no_handle, no_block, block_on, state_on, state_in, word_in, word_on, given_in}
+use Rattle.arcstr_count.proofs.Names.{needs, refusal_by, refusal_unless, State, after, start, no_handle, no_block, block_on, state_in, word_in, word_on, given_in}
 use Rattle.arcstr_count.proofs.Names.{handles_with_state, blocks_with_word, blocks_with_given, accepted, refusal_in, unless_refused, step, look_reply, lives, is_dropping}
-use Rattle.arcstr_count.proofs.Names.{is_owing, makes_after, marked_after, are_accepted, Keeps, EndsIn, after_from, and_parts}
-use Rattle.arcstr_count.proofs.LawsOfBlocks.{is_in_state, step_finds, accepts_needed, lawful_after, held, is_held, count, count-same, count-push, one_if, begun_by}
-use Rattle.arcstr_count.proofs.LawsOfHistories.{SaysOfBlock, after-step, by_pushes, says, dropping_counted}
+use Rattle.arcstr_count.proofs.Names.{is_owing, makes_after, marked_after, handles_on, are_accepted, Keeps, EndsIn, after_from, and_parts}
+use Rattle.arcstr_count.proofs.LawsOfBlocks.{is_in_state, step_finds, accepts_needed, lawful_after, held, length-handles_on, passes_on, on_it, one_if, begun_by}
+use Rattle.arcstr_count.proofs.LawsOfHistories.{SaysOfBlock, after-step, says, dropping_counted}
+use Rattle.std.proofs.lemmas.List.Sums.{sum_by-cons}
+use Rattle.std.proofs.lemmas.Option.{slice_get-map}
 
 -- ---- what a seat says
-
-slice_get-map : {X Y : Type 0} (f : X → Y) (xs : List X) (k : ℕ) → slice_get (map f xs) k ≡ option_map f (slice_get xs k)
-slice_get-map f [] k = refl
-slice_get-map f (x ∷ xs) zero = refl
-slice_get-map f (x ∷ xs) (suc k) = slice_get-map f xs k
 
 module _ (limit : ℕ) (r : List Step) (w : FlagAndCount) (seats : List HandleState) (keeps : Keeps limit r w seats) where
   -- a handle that has a seat is in the state that the seat holds
@@ -60,8 +57,7 @@ accepted-append limit w (x ∷ xs) ys =
     ∙ both (is_none (refusal_in w x)) (are_accepted limit (step limit w x).0 xs) (are_accepted limit (after_from limit (step limit w x).0 xs) ys)
   where
     both : (a b c : Bool) → (a && (b && c)) ≡ ((a && b) && c)
-    both true b c = refl
-    both false b c = refl
+    both a b c = grind arith
 
 -- what an accepted step leaves of the one block and the seats, with its reply
 record Leaves (p : State) (taken : State × Reply) (reply : Reply) (w : FlagAndCount) (seats : List HandleState) : Type 0 where
@@ -200,57 +196,35 @@ module _ (limit : ℕ) (r : List Step) (w : FlagAndCount) (seats : List HandleSt
 
 -- ==== how many seats of a history of one block are in which states: their numbers agree with the count of the word
 
-length-filter_column : {X Y : Type 0} (test : Y → Bool) (f : X → Y) (xs : List X)
-    → length (filter test (map f xs)) ≡ length (filter (λ x. test (f x)) xs)
-length-filter_column test f [] = refl
-length-filter_column test f (x ∷ xs) = by_test (test (f x)) (length-filter_column test f xs)
+-- in a table of handles that are all on one block, as many are on the block as states pass
+held-states : (hs : List HandleSummary) (b : ℕ) (test : HandleState → Bool) → ((k : ℕ) → k < length hs → (get_or hs k no_handle).block ≡ b)
+    → length (filter test (map (λ (it : HandleSummary). it.state) hs)) ≡ held hs b test
+held-states [] b test on = refl
+held-states (it ∷ hs) b test on =
+    let later = held-states hs b test (λ k born. on (suc k) (omega arith)) in
+    let first = on_it it.block b (test it.state) (on 0 (omega arith)) in
+    by_test (test it.state) refl ∙ omega (arith, first, later, sum_by-cons (λ x. one_if (passes_on b test x)) it hs)
   where
-    by_test : (t : Bool) → length (filter test (map f xs)) ≡ length (filter (λ y. test (f y)) xs)
-        → length (if t then f x ∷ filter test (map f xs) else filter test (map f xs))
-        ≡ length (if t then x ∷ filter (λ y. test (f y)) xs else filter (λ y. test (f y)) xs)
-    by_test true later = omega arith
-    by_test false later = later
-
--- the entries of a list that pass a test are as many as their indices
-count_entries : {X : Type 0} (test : X → Bool) (d : X) (xs : List X) → count (λ k. test (get_or xs k d)) (length xs) ≡ length (filter test xs)
-count_entries {X} test d = by_pushes (λ xs. count (λ k. test (get_or xs k d)) (length xs) ≡ length (filter test xs)) refl push
-  where
-    single : (t : Bool) (x : X) → one_if t ≡ length (if t then x ∷ [] else [])
-    single true x = refl
-    single false x = refl
-
-    push : (xs : List X) (x : X) → count (λ k. test (get_or xs k d)) (length xs) ≡ length (filter test xs)
-        → count (λ k. test (get_or (xs ++ x ∷ []) k d)) (length (xs ++ x ∷ [])) ≡ length (filter test (xs ++ x ∷ []))
-    push xs x before =
-        let more : length (xs ++ x ∷ []) ≡ suc (length xs) = omega (arith, length_push xs x) in
-        ap (λ n. count (λ k. test (get_or (xs ++ x ∷ []) k d)) n) more
-        ∙ count-push (λ k. test (get_or (xs ++ x ∷ []) k d)) (length xs)
-        ∙ ap₂ (λ a b. a + b)
-        (count-same (λ k. test (get_or xs k d)) (λ k. test (get_or (xs ++ x ∷ []) k d)) (length xs)
-        (λ k below. ap test (get_or_append_left xs (x ∷ []) d k below)) ∙ before)
-        (ap (λ y. one_if (test y)) (get_or_push xs x d (length xs) refl) ∙ single (test x) x)
-        ∙ sym (ap length (filter-append test xs (x ∷ [])) ∙ length-append (filter test xs) (filter test (x ∷ [])))
+    by_test : (t : Bool) → test it.state ≡ t → length (filter test (map (λ (x : HandleSummary). x.state) (it ∷ hs)))
+        ≡ one_if (test it.state) + length (filter test (map (λ (x : HandleSummary). x.state) hs))
+    by_test true e = rw e (omega arith)
+    by_test false e = rw e (omega arith)
 
 module _ (limit : ℕ) (r : List Step) (w : FlagAndCount) (seats : List HandleState) (keeps : Keeps limit r w seats) where
   -- as many seats pass a test as there are handles on the block whose states pass it
-  seats-held : (test : HandleState → Bool) → length (filter test seats) ≡ held (after limit r).handles 0 test
+  seats-held : (test : HandleState → Bool) → length (filter test seats) ≡ length (handles_on (after limit r) 0 test)
   seats-held test =
       ap (λ states. length (filter test states)) keeps.states
-      ∙ length-filter_column test (λ (it : HandleSummary). it.state) (after limit r).handles
-      ∙ sym (count_entries (λ (it : HandleSummary). test it.state) no_handle (after limit r).handles)
-      ∙ count-same (λ h. is_held (after limit r).handles 0 test h) (λ h. test (get_or (after limit r).handles h no_handle).state)
-      (length (after limit r).handles) on_the_block
+      ∙ held-states (after limit r).handles 0 test on_the_block
+      ∙ sym (length-handles_on (after limit r) 0 test)
     where
-      on_the_block : (h : ℕ) → h < length (after limit r).handles
-          → test (get_or (after limit r).handles h no_handle).state ≡ is_held (after limit r).handles 0 test h
+      on_the_block : (h : ℕ) → h < length (after limit r).handles → block_on (after limit r) h ≡ 0
       on_the_block h born =
           let below = (lawful_after limit r).made h born in
-          let one = keeps.one_block.made in
-          let here : block_on (after limit r) h ≡ 0 = omega arith in
-          sym (ap (λ b. (b == 0) && test (state_on (after limit r) h)) here)
+          let one = keeps.one_block.made in omega arith
 
-  says_of_word : SaysOfBlock limit w (λ test. held (after limit r).handles 0 test) (given_in (after limit r) 0)
-  says_of_word = subst (λ v. SaysOfBlock limit v (λ test. held (after limit r).handles 0 test) (given_in (after limit r) 0)) (sym keeps.left)
+  says_of_word : SaysOfBlock limit w (λ test. length (handles_on (after limit r) 0 test)) (given_in (after limit r) 0)
+  says_of_word = subst (λ v. SaysOfBlock limit v (λ test. length (handles_on (after limit r) 0 test)) (given_in (after limit r) 0)) (sym keeps.left)
       (says limit (after limit r) 0 (lawful_after limit r) (made_one limit r w seats keeps))
 
   -- an unmarked word counts the seats of living handles
@@ -336,13 +310,11 @@ pub static_is_marked : (limit : ℕ) (history : List Step) (h : ℕ) → EndsIn 
 static_is_marked limit history h ends = static_was (marked_after limit history 0) _ (look_found limit history h Static ends)
   where
     static_was : (f : Bool) (n : ℕ) → look_reply (if f then None else Some n) ≡ Static → f ≡ true
-    static_was true n e = refl
-    static_was false n e = cc
+    static_was f n e = grind arith
 
 -- and one that answers a number found it unmarked
 pub counted_is_unmarked : (limit : ℕ) (history : List Step) (h n : ℕ) → EndsIn limit history (Look h) (Count n) → marked_after limit history 0 ≡ false
 counted_is_unmarked limit history h n ends = count_was (marked_after limit history 0) _ (look_found limit history h (Count n) ends)
   where
     count_was : (f : Bool) (k : ℕ) → look_reply (if f then None else Some k) ≡ Count n → f ≡ false
-    count_was true k e = cc
-    count_was false k e = refl
+    count_was f k e = grind arith

@@ -4,7 +4,7 @@ use Rattle.arcstr_world.proofs.Names.{subst₂, arith, get_or, get_or_past, nat_
 use Rattle.arcstr_world.proofs.Names.{∥∥₁_elim, ∥∥₁_map, props, ap₂, Reply, Step, Owing, HandleSummary, BlockSummary, is_owing, State, WorldView, start}
 use Rattle.arcstr_world.proofs.Names.{no_block, no_handle, block_on, state_on, word_in, given_in, state_of_tables, step, after_from, after, replies_from}
 use Rattle.arcstr_world.proofs.Names.{IsWorld, IsSound}
-use Rattle.arcstr_count.proofs.LawsOfBlocks.{IsLawful, some_held, lawful_after}
+use Rattle.arcstr_count.proofs.LawsOfBlocks.{IsLawful, some_on, lawful_after}
 use Rattle.std.specs.Prelude.{Result, Ok, Err, IfOk, IfErr}
 use Rattle.arcstr_world.specs.declared.faults.RunFault.{RunFault}
 use Rattle.arcstr_world.specs.declared.faults.RunFault.TheVariants.{Memory}
@@ -30,7 +30,7 @@ sound_after limit history = record {
         → given_in (after limit history) (block_on (after limit history) h) ≡ 0
     unfreed h born state =
         let all = says limit (after limit history) (block_on (after limit history) h) lawful (lawful.made h born) in
-        let owes = some_held (after limit history).handles h is_owing born (ap is_owing state) in
+        let owes = some_on (after limit history) h is_owing born (ap is_owing state) in
         omega (arith, all.one)
 
     by_made : (b : ℕ) (t : Bool) → nat_lt b (length (after limit history).blocks) ≡ t → given_in (after limit history) b ≤ 1
@@ -74,12 +74,6 @@ world_taken limit handles new_handles blocks new_blocks s (Ok reply) world stepp
     world_stepped limit handles new_handles blocks new_blocks s reply world stepped
 world_taken limit handles new_handles blocks new_blocks s (Err fault) world stepped same =
     subst₂ (λ hs bs. IsWorld limit hs bs) (sym same.1) (sym same.2) world
-
--- an entry that was read, whatever the default
-pub get_or_any : {X : Type 0} (xs : List X) (k : ℕ) (d e : X) → k < length xs → get_or xs k d ≡ get_or xs k e
-get_or_any [] k d e within = absurd (omega arith)
-get_or_any (x ∷ xs) zero d e within = refl
-get_or_any (x ∷ xs) (suc k) d e within = get_or_any xs k d e (omega arith)
 
 -- a world in the course of a list of steps: it has taken these steps, with these replies
 pub record HasTaken (first : WorldView) (done : List Step) (world : WorldView) (replies : List Reply) : Type 0 where

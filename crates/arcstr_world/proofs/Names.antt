@@ -7,18 +7,18 @@ pub use Rattle.std.proofs.Math.Logic.{∥∥₁_elim, ∥∥₁_map}
 pub use Rattle.std.proofs.Math.Seq.{take-append_seam}
 pub use Rattle.std.proofs.Props.{props}
 pub use Rattle.std.proofs.lemmas.Bool.{and_from, and_parts, cases_eq, cases_order, not-true, or_cases, or_left, or_right}
-pub use Rattle.std.proofs.lemmas.List.{append-nil, get_or-set_other, get_or-set_same, get_or_append_left, get_or_past, get_or_push, length-set, length_push}
-pub use Rattle.std.proofs.lemmas.List.{take-append-le, take_all, take_more}
+pub use Rattle.std.proofs.lemmas.List.{get_or-set_other, get_or-set_same, get_or_append_left, get_or_past, get_or_push, length-set, length_push, take-append-le}
+pub use Rattle.std.proofs.lemmas.List.{take_all, take_more}
 pub use Rattle.std.proofs.lemmas.List.Elements.{Contains-append_cases, Contains-append_left, Contains-push, Contains-push_cases, filter-append}
 pub use Rattle.std.proofs.lemmas.List.Kept.{IsStrictlyIncreasing-filter}
-pub use Rattle.std.proofs.lemmas.Option.{get_or_from_slice_get, slice_get-get_or, slice_get_within}
+pub use Rattle.std.proofs.lemmas.Option.{get_or_from_slice_get, slice_get_within}
 pub use Rattle.std.specs.List.Sorted.{IsStrictlyIncreasing}
 pub use Rattle.arcstr_count.specs.Answer.{Need, needs, refusal_by, refusal_unless}
 pub use Rattle.arcstr_count.specs.Model.{State, accepted, after, after_from, answer_after, block_on, dropping_after, given_after, given_in, handles_on}
 pub use Rattle.arcstr_count.specs.Model.{handles_with_state, is_dropping, is_owing, lives, living_after, look_reply, makes_after, marked_after, no_block}
 pub use Rattle.arcstr_count.specs.Model.{no_handle, numbers_below, owing_after, refusal_in, replies_from, start, state_in, state_of_tables, state_on, step}
 pub use Rattle.arcstr_count.specs.Model.{unless_refused, word_in, word_on}
-pub use Rattle.arcstr_count.specs.Word.{FlagAndCount, cloned_of, is_last, looked_of}
+pub use Rattle.arcstr_count.specs.Word.{cloned_of, is_last, looked_of}
 pub use Rattle.arcstr_count.specs.declared.faults.StepFault.{StepFault}
 pub use Rattle.arcstr_count.specs.declared.steps.BlockSummary.{BlockSummary}
 pub use Rattle.arcstr_count.specs.declared.steps.HandleState.{HandleState}

@@ -2,7 +2,8 @@
 use Rattle.arcstr_world.proofs.Names.{◌≡◌, ℕ, List, [], ◌∷◌, ◌++◌, refl, sym, ◌⊎◌, inl, inr, ◌∙◌, ap, subst, append_assoc, Step}
 use Rattle.arcstr_world.proofs.Names.{IsTrue, IsFalse, Option, None, Some, is_none, StepFault, State, after, accepted, accepted_after, refusal_in, unless_refused}
 use Rattle.arcstr_world.proofs.Names.{AcceptedWhere}
-use Rattle.arcstr_count.proofs.LawsOfHistories.{after-step, by_pushes}
+use Rattle.arcstr_count.proofs.LawsOfHistories.{after-step}
+use Rattle.arcstr_count.proofs.LawsOfBlocks.{by_pushes}
 
 -- ---- histories with one more step
 

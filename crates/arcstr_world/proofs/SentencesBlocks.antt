@@ -1,13 +1,16 @@
 -- Marked blocks and the handles on a block, as sentences about the prefixes of the history.
+--
+-- We show what each accepted step does to the mark of a block (`marks`), and by induction on the history that a block is marked exactly if the history has a
+-- step that marks it. Then we show which handles are in the list of those on a block whose states pass a test (`members`), and read the other sentences off.
 use Rattle.arcstr_world.proofs.Names.{◌≡◌, ◌≢◌, ◌↔◌, ℕ, ◌<◌, ◌+◌, Bool, true, false, ◌&&◌, ◌||◌, ◌==◌, nat_lt, IsTrue, IsFalse, List, [], ◌∷◌, ◌++◌, length, ◌⊎◌, inl, inr}
 use Rattle.arcstr_world.proofs.Names.{refl, sym, ap, subst, zero, suc, if◌then◌else◌, None, Some, filter, slice_index, Contains, ◌∙◌, arith, or_cases, or_left, or_right}
 use Rattle.arcstr_world.proofs.Names.{and_parts, and_from, eqb-true, eq-eqb, ne_eqb, ltb-true, lt-ltb, cases_eq, cases_order, Step, Make, Look, Clone, Begin, Sub, Back, Leak}
 use Rattle.arcstr_world.proofs.Names.{IntoRaw, FromRaw, lives, numbers_below, State, after, accepted, accepted_after, refusal_in, block_on, state_on, state_in, word_in, word_on}
 use Rattle.arcstr_world.proofs.Names.{handles_on, marked_after, block_after, living_after, dropping_after, owing_after, state_after, AcceptedWhere, MarkedSentence, LivingSentence}
 use Rattle.arcstr_world.proofs.Names.{UnderWaySentence, IsStrictlyIncreasing, get_or, get_or_append_left, get_or_push, get_or-set_same, get_or-set_other, set, no_block}
-use Rattle.arcstr_world.proofs.Names.{Contains-append_left, Contains-push, Contains-push_cases, Contains-append_cases, filter-append, BlockSummary, FlagAndCount, cloned_of}
+use Rattle.arcstr_world.proofs.Names.{Contains-append_left, Contains-push, Contains-push_cases, Contains-append_cases, filter-append, BlockSummary, cloned_of}
 use Rattle.arcstr_world.proofs.Names.{IsStrictlyIncreasing-filter, HandleState, Free, Raw, Dropping, Owing, is_dropping, is_owing, length_push}
-use Rattle.arcstr_count.proofs.LawsOfBlocks.{contains_passing, IsIn, is_in_state, step_finds, IsLawful, lawful_after}
+use Rattle.arcstr_count.proofs.LawsOfBlocks.{IsIn, is_in_state, step_finds, IsLawful, lawful_after}
 use Rattle.arcstr_count.proofs.LawsOfHistories.{says}
 use Rattle.arcstr_count.proofs.LawsOfBlocks.{state_born}
 use Rattle.arcstr_world.proofs.Prefixes.{IsAccepted, by_history, accepted_earlier, accepted_last, from_where}
@@ -36,25 +39,13 @@ module _ (limit : ℕ) (w : State) (lawful : IsLawful limit w) (b : ℕ) where
   -- a clone marks an unmarked block whose living handles are more than the limit
   cloned_flag : (h : ℕ) → IsIn w h Free → (cloned_of limit (word_on w h)).flag
       ≡ (nat_lt limit (length (handles_on w (block_on w h) lives)) || (word_on w h).flag)
-  cloned_flag h i = by_flag (word_on w h).flag refl
+  cloned_flag h i =
+      let exact = (says limit w (block_on w h) lawful (lawful.made h i.born)).exact in
+      by_word (word_on w h).flag (word_on w h).count (length (handles_on w (block_on w h) lives)) exact
     where
-      by_limit : Bool → FlagAndCount
-      by_limit t = if t then record { flag = true; count = (word_on w h).count } else record { flag = false; count = (word_on w h).count + 1 }
-
-      past_limit : (t : Bool) → (by_limit t).flag ≡ (t || false)
-      past_limit true = refl
-      past_limit false = refl
-
-      or_true : (t : Bool) → (t || true) ≡ true
-      or_true true = refl
-      or_true false = refl
-
-      by_flag : (f : Bool) → (word_on w h).flag ≡ f → (cloned_of limit (word_on w h)).flag
-          ≡ (nat_lt limit (length (handles_on w (block_on w h) lives)) || (word_on w h).flag)
-      by_flag true marked = rw (marked, or_true (nat_lt limit (length (handles_on w (block_on w h) lives)))) marked
-      by_flag false unmarked =
-          let exact = (says limit w (block_on w h) lawful (lawful.made h i.born)).exact unmarked in
-          rw (unmarked, ← exact) (past_limit (nat_lt limit (word_on w h).count))
+      by_word : (f : Bool) (n living : ℕ) → (IsFalse f → n ≡ living)
+          → (cloned_of limit (record { flag = f; count = n })).flag ≡ (nat_lt limit living || f)
+      by_word f n living exact = grind arith
 
   -- the mark of a block after an accepted step
   abbrev marks_by : Step → Bool
@@ -63,8 +54,7 @@ module _ (limit : ℕ) (w : State) (lawful : IsLawful limit w) (b : ℕ) where
   marks_by s = false
 
   and_true : (t m : Bool) → ((t && true) || m) ≡ (t || m)
-  and_true true m = refl
-  and_true false m = refl
+  and_true t m = grind arith
 
   marks : (s : Step) → refusal_in w s ≡ None → (word_in (accepted limit w s).0 b).flag ≡ (marks_by s || (word_in w b).flag)
   marks Make e = ap (λ (x : BlockSummary). x.word.flag) (get_or-push_default w.blocks b no_block)
@@ -191,6 +181,14 @@ Contains-filter_one test n h c = go (test n) refl c
     go true e w = elim (Contains-push_cases [] n h w) [ inl none ↦ absurd (omega (arith, none.1)) | inr same ↦ (same, e) ]
     go false e w = absurd (omega (arith, w.1))
 
+contains_passing : (f : ℕ → Bool) (n i : ℕ) → i < n → f i ≡ true → Contains (filter f (numbers_below n)) i
+contains_passing f zero i below passes = absurd (omega arith)
+contains_passing f (suc n) i below passes = rw (filter-append f (numbers_below n) (n ∷ [])) (by_place (cases_eq i n) (λ inner. contains_passing f n i inner passes))
+  where
+    by_place : (i ≡ n) ⊎ (i ≢ n) → (i < n → Contains (filter f (numbers_below n)) i) → Contains (filter f (numbers_below n) ++ filter f (n ∷ [])) i
+    by_place (inl last) earlier = rw (← last, passes) (Contains-push (filter f (numbers_below i)) i)
+    by_place (inr inner) earlier = Contains-append_left (filter f (numbers_below n)) (filter f (n ∷ [])) i (earlier (omega arith))
+
 passing_below : (test : ℕ → Bool) (n h : ℕ) → Contains (filter test (numbers_below n)) h → (h < n) × (test h ≡ true)
 passing_below test zero h c = absurd (omega (arith, c.1))
 passing_below test (suc n) h c = elim (Contains-append_cases (filter test (numbers_below n)) (filter test (n ∷ [])) h (rw (filter-append test (numbers_below n) (n ∷ [])) at c)) [
@@ -207,10 +205,7 @@ passing_rising test n = IsStrictlyIncreasing-filter test (numbers_below n) (numb
 -- ---- living
 
 lives_cases : (s : HandleState) → lives s ≡ true → (s ≡ Free) ⊎ ((s ≡ Raw) ⊎ (s ≡ Dropping))
-lives_cases Free e = inl refl
-lives_cases Raw e = inr (inl refl)
-lives_cases Dropping e = inr (inr refl)
-lives_cases s e = absurd (cc)
+lives_cases s e = grind arith
 
 module _ (w : State) (h : ℕ) where
   born_with : (s : HandleState) → state_in w h ≡ Some s → (h < length w.handles) × (state_on w h ≡ s)
@@ -224,7 +219,7 @@ module _ (w : State) (h : ℕ) where
       → (h < length w.handles) × (test (state_on w h) ≡ true)
   state_passes test s e found = let at = born_with s found in (at.0, ap test at.1 ∙ e)
 
-  members : (test : HandleState → Bool) (b : ℕ) → Contains (handles_on w b test) h
+  pub members : (test : HandleState → Bool) (b : ℕ) → Contains (handles_on w b test) h
       ↔ ((h < length w.handles) × (block_on w h ≡ b) × (test (state_on w h) ≡ true))
   members test b = (
     (λ c. let found = (passing_sentence (λ k. (block_on w k == b) && test (state_on w k)) (length w.handles) h).0 c in
@@ -272,12 +267,10 @@ one_state_sentence test s passes only w b h = (
 )
 
 is_dropping-true : (s : HandleState) → is_dropping s ≡ true → s ≡ Dropping
-is_dropping-true Dropping e = refl
-is_dropping-true s e = cc
+is_dropping-true s e = grind arith
 
 is_owing-true : (s : HandleState) → is_owing s ≡ true → s ≡ Owing
-is_owing-true Owing e = refl
-is_owing-true s e = cc
+is_owing-true s e = grind arith
 
 pub dropping_sentence : (limit : ℕ) (history : List Step) (b h : ℕ) → Contains (dropping_after limit history b) h
     ↔ ((block_after limit history h ≡ b) × (state_after limit history h ≡ Some Dropping))

@@ -1,38 +1,29 @@
 -- Births of handles, and numbers of accepted steps, as sentences about the prefixes of the history.
-use Rattle.arcstr_world.proofs.Names.{◌≡◌, ◌≢◌, ℕ, zero, suc, ◌+◌, ◌<◌, Bool, true, false, ◌&&◌, if◌then◌else◌, Some, None, List, [], ◌∷◌, ◌++◌, length, filter, take}
-use Rattle.arcstr_world.proofs.Names.{slice_get, refl, sym, ◌∙◌, ap, arith, ◌↔◌, ◌==◌, ◌⊎◌, inl, inr, subst, append-nil, length_push, length-set, get_or_append_left, set}
-use Rattle.arcstr_world.proofs.Names.{get_or, get_or_push, get_or-set_same, get_or-set_other, take-append-le, filter-append, slice_get-get_or, take-append_seam}
+--
+-- We show for each number what an accepted step adds to it, and by induction on the history that it counts accepted steps (`count_sentence`). Then we show
+-- which handle each accepted step gives birth to, and by induction where each was born.
+use Rattle.arcstr_world.proofs.Names.{◌≡◌, ◌≢◌, ℕ, zero, suc, ◌+◌, ◌<◌, Bool, true, false, ◌&&◌, if◌then◌else◌, Some, None, List, [], ◌∷◌, ◌++◌, length, take}
+use Rattle.arcstr_world.proofs.Names.{slice_get, refl, sym, ◌∙◌, ap, arith, ◌↔◌, ◌==◌, ◌⊎◌, inl, inr, subst, length_push, length-set, set}
+use Rattle.arcstr_world.proofs.Names.{get_or, get_or-set_same, get_or-set_other, take-append-le, take-append_seam}
 use Rattle.arcstr_world.proofs.Names.{Step, Make, Look, Clone, Begin, Sub, Back, Leak, IntoRaw, FromRaw, Free, Raw, Dropping, Owing, Gone, HandleState, HandleSummary, BlockSummary}
-use Rattle.arcstr_world.proofs.Names.{State, start, after, accepted, refusal_in, accepted_after, block_on, given_in, handles_with_state, no_handle, no_block, numbers_below}
+use Rattle.arcstr_world.proofs.Names.{State, start, after, accepted, refusal_in, accepted_after, block_on, given_in, handles_with_state, no_handle, no_block}
 use Rattle.arcstr_world.proofs.Names.{is_make, is_birth, births_after, makes_after, block_after, given_after, passes_after, accepted_count, is_back_on, given_count}
 use Rattle.arcstr_world.proofs.Names.{BornSentence, AcceptedWhere, eq-eqb, ne_eqb, cases_eq, IsTrue}
-use Rattle.arcstr_count.proofs.LawsOfBlocks.{IsLawful, lawful_after, IsIn, step_finds, begun_by, length-moved, moved_block, born_last, born_earlier}
+use Rattle.std.proofs.Common.{ap₂}
+use Rattle.arcstr_count.proofs.LawsOfBlocks.{count, count-push, count-same, one_if, IsLawful, lawful_after, IsIn, step_finds, begun_by, length-moved, moved_block, born_last, born_earlier}
 use Rattle.arcstr_world.proofs.Prefixes.{IsRefused, IsAccepted, by_history, accepted_earlier, accepted_last, from_where}
-
--- ---- the numbers below another
-
-filter_same_below : (f g : ℕ → Bool) (n : ℕ) → ((i : ℕ) → i < n → f i ≡ g i) → filter f (numbers_below n) ≡ filter g (numbers_below n)
-filter_same_below f g zero same = refl
-filter_same_below f g (suc n) same =
-    let last : filter f (n ∷ []) ≡ filter g (n ∷ []) = ap (λ b. if b then n ∷ [] else []) (same n (omega arith)) in
-    let before : filter f (numbers_below n) ≡ filter g (numbers_below n) = filter_same_below f g n (λ i lt. same i (omega arith)) in
-    rw (filter-append f (numbers_below n) (n ∷ []), filter-append g (numbers_below n) (n ∷ []), last, before) refl
-
-length_push_if : (xs : List ℕ) (x : ℕ) (b : Bool) → length (xs ++ (if b then x ∷ [] else [])) ≡ (if b then suc (length xs) else length xs)
-length_push_if xs x true = omega (arith, length_push xs x)
-length_push_if xs x false = ap length (append-nil xs)
 
 -- ---- the indices of a history with one more step
 
-slice_get-before : (prefix : List Step) (s : Step) (i : ℕ) → i < length prefix → slice_get (prefix ++ s ∷ []) i ≡ slice_get prefix i
-slice_get-before prefix s i lt =
-    let more : i < length (prefix ++ s ∷ []) = omega (arith, length_push prefix s) in
-    slice_get-get_or (prefix ++ s ∷ []) i s more ∙ ap Some (get_or_append_left prefix (s ∷ []) s i lt) ∙ sym (slice_get-get_or prefix i s lt)
+pub slice_get-push_same : {X : Type 0} (xs : List X) (x : X) → slice_get (xs ++ x ∷ []) (length xs) ≡ Some x
+slice_get-push_same [] x = refl
+slice_get-push_same (y ∷ xs) x = slice_get-push_same xs x
 
-slice_get-last : (prefix : List Step) (s : Step) → slice_get (prefix ++ s ∷ []) (length prefix) ≡ Some s
-slice_get-last prefix s =
-    let more : length prefix < length (prefix ++ s ∷ []) = omega (arith, length_push prefix s) in
-    slice_get-get_or (prefix ++ s ∷ []) (length prefix) s more ∙ ap Some (get_or_push prefix s s (length prefix) refl)
+pub slice_get-push_other : {X : Type 0} (xs : List X) (k : ℕ) (x : X) → length xs ≢ k → slice_get (xs ++ x ∷ []) k ≡ slice_get xs k
+slice_get-push_other [] zero x apart = absurd (apart refl)
+slice_get-push_other [] (suc k) x apart = refl
+slice_get-push_other (y ∷ xs) zero x apart = refl
+slice_get-push_other (y ∷ xs) (suc k) x apart = slice_get-push_other xs k x (λ same. apart (ap suc same))
 
 module _ (limit : ℕ) (test : List Step → Step → Bool) where
   -- the step at index i is accepted and passes
@@ -42,23 +33,25 @@ module _ (limit : ℕ) (test : List Step → Step → Bool) where
   passes_at-before : (prefix : List Step) (s : Step) (i : ℕ) → i < length prefix → passes_at (prefix ++ s ∷ []) i ≡ passes_at prefix i
   passes_at-before prefix s i lt =
       let there : take i (prefix ++ s ∷ []) ≡ take i prefix = take-append-le i prefix (s ∷ []) (omega arith) in
-      rw (there, slice_get-before prefix s i lt) refl
+      rw (there, slice_get-push_other prefix i s (λ same. omega arith)) refl
 
   passes_at-last : (prefix : List Step) (s : Step) → passes_at (prefix ++ s ∷ []) (length prefix) ≡ (accepted_after limit prefix s && test prefix s)
-  passes_at-last prefix s = rw (take-append_seam prefix (s ∷ []), slice_get-last prefix s) refl
+  passes_at-last prefix s = rw (take-append_seam prefix (s ∷ []), slice_get-push_same prefix s) refl
 
   accepted_count-step : (prefix : List Step) (s : Step) → accepted_count limit (prefix ++ s ∷ []) test
       ≡ (if accepted_after limit prefix s && test prefix s then suc (accepted_count limit prefix test) else accepted_count limit prefix test)
   accepted_count-step prefix s =
-      let count : List ℕ → ℕ = λ below. length (filter (λ i. passes_at (prefix ++ s ∷ []) i) below) in
       let places : length (prefix ++ s ∷ []) ≡ suc (length prefix) = omega (arith, length_push prefix s) in
-      let before : filter (λ i. passes_at (prefix ++ s ∷ []) i) (numbers_below (length prefix)) ≡ filter (λ i. passes_at prefix i) (numbers_below (length prefix))
-      = filter_same_below (λ i. passes_at (prefix ++ s ∷ []) i) (λ i. passes_at prefix i) (length prefix) (passes_at-before prefix s) in
-      ap (λ n. count (numbers_below n)) places
-      ∙ ap length (filter-append (λ i. passes_at (prefix ++ s ∷ []) i) (numbers_below (length prefix)) (length prefix ∷ []))
-      ∙ ap (λ xs. length (xs ++ (if passes_at (prefix ++ s ∷ []) (length prefix) then length prefix ∷ [] else []))) before
-      ∙ ap (λ b. length (filter (λ i. passes_at prefix i) (numbers_below (length prefix)) ++ (if b then length prefix ∷ [] else []))) (passes_at-last prefix s)
-      ∙ length_push_if (filter (λ i. passes_at prefix i) (numbers_below (length prefix))) (length prefix) (accepted_after limit prefix s && test prefix s)
+      ap (λ n. count (λ i. passes_at (prefix ++ s ∷ []) i) n) places
+      ∙ count-push (λ i. passes_at (prefix ++ s ∷ []) i) (length prefix)
+      ∙ ap₂ (λ n t. n + one_if t)
+      (count-same (λ i. passes_at prefix i) (λ i. passes_at (prefix ++ s ∷ []) i) (length prefix) (passes_at-before prefix s))
+      (passes_at-last prefix s)
+      ∙ more (accepted_count limit prefix test) (accepted_after limit prefix s && test prefix s)
+    where
+      more : (n : ℕ) (t : Bool) → n + one_if t ≡ (if t then suc n else n)
+      more n true = omega arith
+      more n false = omega arith
 
 -- ---- a number that grows by one with each accepted step that passes
 

@@ -11,8 +11,10 @@ use Rattle.arcstr_world.proofs.Names.{State, after, accepted, accepted_after, re
 use Rattle.arcstr_world.proofs.Names.{handles_on, lives, births_after, state_after, marked_after, block_after, living_after, answer_after}
 use Rattle.arcstr_world.proofs.Names.{AcceptedSentence, FirstThatHolds, AcceptedWhere, HasAccepted, BeganUnmarked, OwesSentence, LastIsIntoRaw, StateSentence, LivesAlone, ByFact}
 use Rattle.arcstr_world.proofs.Names.{AcceptedAnswer, AnswerSentence, Contains, get_or}
-use Rattle.arcstr_count.proofs.LawsOfBlocks.{IsIn, is_in_state, state_born, step_finds, accepts_needed, needed_state, IsLawful, lawful_after, begun_by, contains_held, held}
+use Rattle.arcstr_count.proofs.LawsOfBlocks.{IsIn, is_in_state, state_born, step_finds, accepts_needed, needed_state, IsLawful, lawful_after, begun_by}
 use Rattle.arcstr_count.proofs.LawsOfHistories.{says}
+use Rattle.arcstr_world.proofs.SentencesBlocks.{members}
+use Rattle.arcstr_world.proofs.SentencesHandles.{slice_get-push_same, slice_get-push_other}
 use Rattle.arcstr_world.proofs.Prefixes.{IsAccepted, by_history, accepted_earlier, accepted_last, accepted_cases, accepted_unless, accepted_nowhere, none_in_nil, last_or_before}
 
 none_of : (o : Option StepFault) → is_none o ≡ true → o ≡ None
@@ -41,16 +43,6 @@ slice_get-set_other (y ∷ xs) zero (suc j) x apart = refl
 slice_get-set_other (y ∷ xs) (suc k) zero x apart = refl
 slice_get-set_other (y ∷ xs) (suc k) (suc j) x apart = slice_get-set_other xs k j x (λ same. apart (ap suc same))
 
-slice_get-push_same : {X : Type 0} (xs : List X) (x : X) → slice_get (xs ++ x ∷ []) (length xs) ≡ Some x
-slice_get-push_same [] x = refl
-slice_get-push_same (y ∷ xs) x = slice_get-push_same xs x
-
-slice_get-push_other : {X : Type 0} (xs : List X) (k : ℕ) (x : X) → length xs ≢ k → slice_get (xs ++ x ∷ []) k ≡ slice_get xs k
-slice_get-push_other [] zero x apart = absurd (apart refl)
-slice_get-push_other [] (suc k) x apart = refl
-slice_get-push_other (y ∷ xs) zero x apart = refl
-slice_get-push_other (y ∷ xs) (suc k) x apart = slice_get-push_other xs k x (λ same. apart (ap suc same))
-
 abbrev state_at : List HandleSummary → ℕ → Option HandleState
 state_at hs h = option_map (λ (it : HandleSummary). it.state) (slice_get hs h)
 
@@ -58,26 +50,26 @@ state_at hs h = option_map (λ (it : HandleSummary). it.state) (slice_get hs h)
 abbrev if_same : ℕ → ℕ → HandleState → Option HandleState → Option HandleState
 if_same g h new old = if g == h then Some new else old
 
+-- what is found at h, by whether h is g
+found_by : (g h : ℕ) (new : HandleState) (found old : Option HandleState) → (g ≡ h → found ≡ Some new) → (g ≢ h → found ≡ old) → found ≡ if_same g h new old
+found_by g h new found old here elsewhere = by_place (cases_eq g h)
+  where
+    by_place : (g ≡ h) ⊎ (g ≢ h) → found ≡ if_same g h new old
+    by_place (inl same) = here same ∙ sym (ap (λ t. if t then Some new else old) (eq-eqb g h same))
+    by_place (inr apart) = elsewhere apart ∙ sym (ap (λ t. if t then Some new else old) (ne_eqb g h apart))
+
 moved_state : (hs : List HandleSummary) (g h : ℕ) (new : HandleState) → g < length hs
     → state_at (handles_with_state hs g new) h ≡ if_same g h new (state_at hs h)
-moved_state hs g h new within = by_place (cases_eq g h)
-  where
-    by_place : (g ≡ h) ⊎ (g ≢ h) → state_at (handles_with_state hs g new) h ≡ if_same g h new (state_at hs h)
-    by_place (inl same) = subst (λ k. state_at (handles_with_state hs g new) k ≡ if_same g k new (state_at hs k)) same
-        (ap (option_map (λ (it : HandleSummary). it.state)) (slice_get-set_same hs g _ within)
-        ∙ sym (ap (λ t. if t then Some new else state_at hs g) (eq-eqb g g refl)))
-    by_place (inr apart) = ap (option_map (λ (it : HandleSummary). it.state)) (slice_get-set_other hs g h _ apart)
-        ∙ sym (ap (λ t. if t then Some new else state_at hs h) (ne_eqb g h apart))
+moved_state hs g h new within = found_by g h new _ _
+    (λ same. subst (λ k. state_at (handles_with_state hs g new) k ≡ Some new) same
+    (ap (option_map (λ (it : HandleSummary). it.state)) (slice_get-set_same hs g _ within)))
+    (λ apart. ap (option_map (λ (it : HandleSummary). it.state)) (slice_get-set_other hs g h _ apart))
 
 pushed_state : (hs : List HandleSummary) (c h : ℕ) → state_at (hs ++ record { block = c; state = Free } ∷ []) h ≡ if_same (length hs) h Free (state_at hs h)
-pushed_state hs c h = by_place (cases_eq (length hs) h)
-  where
-    by_place : (length hs ≡ h) ⊎ (length hs ≢ h) → state_at (hs ++ record { block = c; state = Free } ∷ []) h ≡ if_same (length hs) h Free (state_at hs h)
-    by_place (inl same) = subst (λ k. state_at (hs ++ record { block = c; state = Free } ∷ []) k ≡ if_same (length hs) k Free (state_at hs k)) same
-        (ap (option_map (λ (it : HandleSummary). it.state)) (slice_get-push_same hs (record { block = c; state = Free }))
-        ∙ sym (ap (λ t. if t then Some Free else state_at hs (length hs)) (eq-eqb (length hs) (length hs) refl)))
-    by_place (inr apart) = ap (option_map (λ (it : HandleSummary). it.state)) (slice_get-push_other hs h (record { block = c; state = Free }) apart)
-        ∙ sym (ap (λ t. if t then Some Free else state_at hs h) (ne_eqb (length hs) h apart))
+pushed_state hs c h = found_by (length hs) h Free _ _
+    (λ same. subst (λ k. state_at (hs ++ record { block = c; state = Free } ∷ []) k ≡ Some Free) same
+    (ap (option_map (λ (it : HandleSummary). it.state)) (slice_get-push_same hs (record { block = c; state = Free }))))
+    (λ apart. ap (option_map (λ (it : HandleSummary). it.state)) (slice_get-push_other hs h (record { block = c; state = Free }) apart))
 
 begun_state : (w : State) (g h : ℕ) (f : Bool) → g < length w.handles
     → state_in (begun_by f w g).0 h ≡ if_same g h (if f then Gone else Dropping) (state_in w h)
@@ -123,7 +115,7 @@ alone_sentence : (limit : ℕ) (w : State) (h : ℕ) → IsLawful limit w → Is
     → (is_last (word_on w h) ≡ true) ↔ (IsFalse (word_on w h).flag × (handles_on w (block_on w h) lives ≡ h ∷ []))
 alone_sentence limit w h lawful i = (to_alone, from_alone)
   where
-    exact : IsFalse (word_on w h).flag → (word_on w h).count ≡ held w.handles (block_on w h) lives
+    exact : IsFalse (word_on w h).flag → (word_on w h).count ≡ length (handles_on w (block_on w h) lives)
     exact = (says limit w (block_on w h) lawful (lawful.made h i.born)).exact
 
     to_alone : is_last (word_on w h) ≡ true → IsFalse (word_on w h).flag × (handles_on w (block_on w h) lives ≡ h ∷ [])
@@ -131,7 +123,7 @@ alone_sentence limit w h lawful i = (to_alone, from_alone)
         let parts = and_parts (not (word_on w h).flag) ((word_on w h).count == 1) last in
         let unmarked = not-true (word_on w h).flag parts.0 in (
           unmarked,
-          only_member (handles_on w (block_on w h) lives) h (contains_held w.handles h lives i.born (ap lives i.state))
+          only_member (handles_on w (block_on w h) lives) h ((members w h lives (block_on w h)).1 (i.born, refl, ap lives i.state))
               (sym (exact unmarked) ∙ eqb-true (word_on w h).count 1 parts.1),
         )
 
@@ -158,6 +150,11 @@ Did raw begun unmarked subtracted alone given (Some Raw) = raw × (¬ begun) × 
 Did raw begun unmarked subtracted alone given (Some Dropping) = (¬ raw) × begun × unmarked × (¬ subtracted) × (¬ given)
 Did raw begun unmarked subtracted alone given (Some Owing) = (¬ raw) × begun × subtracted × alone × (¬ given)
 Did raw begun unmarked subtracted alone given (Some Gone) = (¬ raw) × begun × (¬ (unmarked × (¬ subtracted))) × (¬ (alone × (¬ given)))
+
+-- facts that hold before exactly if they hold after say the same of a state
+did_kept : (R B U S A G R' B' U' S' A' G' : Type 0) → (R' → R) → (R → R') → (B' → B) → (B → B') → (U' → U) → (U → U') → (S' → S) → (S → S')
+    → (A' → A) → (A → A') → (G' → G) → (G → G') → (o : Option HandleState) → Did R B U S A G o → Did R' B' U' S' A' G' o
+did_kept R B U S A G R' B' U' S' A' G' r r' b b' u u' s s' a a' g g' o d = grind arith
 
 module _ (limit : ℕ) (h : ℕ) where
   abbrev IsAlone : List Step → Type 0
@@ -263,44 +260,12 @@ module _ (limit : ℕ) (h : ℕ) where
     back_before q = accepted_unless limit history (Back h) x (λ _. Unit {0}) (other_than q (Back h) own)
 
     quiet : IsQuiet → (o : Option HandleState) → DidAfter history o → DidAfter (history ++ x ∷ []) o
-    quiet q None d = (
-      (λ w. d.0 (raw_before q w)),
-      (λ w. d.1 (begin_before q _ w)),
-      (λ w. d.2 (sub_before q _ w)),
-      (λ w. d.3 (back_before q w)),
-    )
-    quiet q (Some Free) d = (
-      (λ w. d.0 (raw_before q w)),
-      (λ w. d.1 (begin_before q _ w)),
-      (λ w. d.2 (sub_before q _ w)),
-      (λ w. d.3 (back_before q w)),
-    )
-    quiet q (Some Raw) d = (
-      raw_more (quiet_raw q) d.0,
-      (λ w. d.1 (begin_before q _ w)),
-      (λ w. d.2 (sub_before q _ w)),
-      (λ w. d.3 (back_before q w)),
-    )
-    quiet q (Some Dropping) d = (
-      (λ w. d.0 (raw_before q w)),
-      accepted_earlier limit history (Begin h) _ x d.1,
-      accepted_earlier limit history (Begin h) _ x d.2,
-      (λ w. d.3 (sub_before q _ w)),
-      (λ w. d.4 (back_before q w)),
-    )
-    quiet q (Some Owing) d = (
-      (λ w. d.0 (raw_before q w)),
-      accepted_earlier limit history (Begin h) _ x d.1,
-      accepted_earlier limit history (Sub h) _ x d.2,
-      accepted_earlier limit history (Sub h) _ x d.3,
-      (λ w. d.4 (back_before q w)),
-    )
-    quiet q (Some Gone) d = (
-      (λ w. d.0 (raw_before q w)),
-      accepted_earlier limit history (Begin h) _ x d.1,
-      (λ w. d.2 (begin_before q _ w.0, λ s. w.1 (accepted_earlier limit history (Sub h) _ x s))),
-      (λ w. d.3 (sub_before q _ w.0, λ g. w.1 (accepted_earlier limit history (Back h) _ x g))),
-    )
+    quiet q = did_kept _ _ _ _ _ _ _ _ _ _ _ _ (raw_before q) (raw_more (quiet_raw q))
+        (begin_before q (λ _. Unit {0})) (accepted_earlier limit history (Begin h) (λ _. Unit {0}) x)
+        (begin_before q IsOnUnmarked) (accepted_earlier limit history (Begin h) IsOnUnmarked x)
+        (sub_before q (λ _. Unit {0})) (accepted_earlier limit history (Sub h) (λ _. Unit {0}) x)
+        (sub_before q IsAlone) (accepted_earlier limit history (Sub h) IsAlone x)
+        (back_before q) (accepted_earlier limit history (Back h) (λ _. Unit {0}) x)
 
   -- ---- the steps of the handle
 
@@ -453,42 +418,13 @@ module _ (limit : ℕ) (h : ℕ) where
 
 -- at most one of the five holds
 one_holds : (R F D O : Type 0) (s t : HandleState) → FirstThatHolds R F D O s → FirstThatHolds R F D O t → s ≡ t
-one_holds R F D O Free Free a b = refl
-one_holds R F D O Free Raw a b = absurd (a.0 b)
-one_holds R F D O Free Dropping a b = absurd (b.1 a.1)
-one_holds R F D O Free Owing a b = absurd (b.1 a.1)
-one_holds R F D O Free Gone a b = absurd (b.1 a.1)
-one_holds R F D O Raw Raw a b = refl
-one_holds R F D O Raw Free a b = absurd (b.0 a)
-one_holds R F D O Raw Dropping a b = absurd (b.0 a)
-one_holds R F D O Raw Owing a b = absurd (b.0 a)
-one_holds R F D O Raw Gone a b = absurd (b.0 a)
-one_holds R F D O Dropping Dropping a b = refl
-one_holds R F D O Dropping Free a b = absurd (a.1 b.1)
-one_holds R F D O Dropping Raw a b = absurd (a.0 b)
-one_holds R F D O Dropping Owing a b = absurd (b.2 a.2)
-one_holds R F D O Dropping Gone a b = absurd (b.2 a.2)
-one_holds R F D O Owing Owing a b = refl
-one_holds R F D O Owing Free a b = absurd (a.1 b.1)
-one_holds R F D O Owing Raw a b = absurd (a.0 b)
-one_holds R F D O Owing Dropping a b = absurd (a.2 b.2)
-one_holds R F D O Owing Gone a b = absurd (b.3 a.3)
-one_holds R F D O Gone Gone a b = refl
-one_holds R F D O Gone Free a b = absurd (a.1 b.1)
-one_holds R F D O Gone Raw a b = absurd (a.0 b)
-one_holds R F D O Gone Dropping a b = absurd (a.2 b.2)
-one_holds R F D O Gone Owing a b = absurd (a.3 b.3)
+one_holds R F D O s t a b = grind arith
 
-module _ (limit : ℕ) (history : List Step) (h : ℕ) where
-  sentence_of : (s : HandleState) → DidAfter limit h history (Some s) → StateSentence limit history h s
-  sentence_of Free d = (d.0, d.1)
-  sentence_of Raw d = d.0
-  sentence_of Dropping d = (d.0, (λ n. n d.1), (d.2, d.3))
-  sentence_of Owing d = (d.0, (λ n. n d.1), (λ w. w.1 d.2), (d.3, d.4))
-  sentence_of Gone d = (d.0, (λ n. n d.1), d.2, d.3)
+first_holds : (R B U S A G : Type 0) (s : HandleState) → Did R B U S A G (Some s) → FirstThatHolds R (¬ B) (U × (¬ S)) (A × (¬ G)) s
+first_holds R B U S A G s d = grind arith
 
-  says_state : (s : HandleState) → state_after limit history h ≡ Some s → StateSentence limit history h s
-  says_state s e = sentence_of s (subst (DidAfter limit h history) e (did limit h history))
+says_state : (limit : ℕ) (history : List Step) (h : ℕ) (s : HandleState) → state_after limit history h ≡ Some s → StateSentence limit history h s
+says_state limit history h s e = first_holds _ _ _ _ _ _ s (subst (DidAfter limit h history) e (did limit h history))
 
 pub state_sentence : (limit : ℕ) (history : List Step) (h : ℕ) (s : HandleState)
     → (state_after limit history h ≡ Some s) ↔ ((h < births_after limit history) × StateSentence limit history h s)
@@ -499,12 +435,7 @@ state_sentence limit history h s = (
 )
 
 owing_from : (limit : ℕ) (history : List Step) (h : ℕ) (o : Option HandleState) → DidAfter limit h history o → OwesSentence limit history h → o ≡ Some Owing
-owing_from limit history h None d w = absurd (d.2 (any_where limit h history (Sub h) _ w.0))
-owing_from limit history h (Some Free) d w = absurd (d.2 (any_where limit h history (Sub h) _ w.0))
-owing_from limit history h (Some Raw) d w = absurd (d.2 (any_where limit h history (Sub h) _ w.0))
-owing_from limit history h (Some Dropping) d w = absurd (d.3 (any_where limit h history (Sub h) _ w.0))
-owing_from limit history h (Some Owing) d w = refl
-owing_from limit history h (Some Gone) d w = absurd (d.3 w)
+owing_from limit history h o d w = let subtracted = any_where limit h history (Sub h) _ w.0 in grind arith
 
 pub owes_sentence : (limit : ℕ) (history : List Step) (h : ℕ) → (state_after limit history h ≡ Some Owing) ↔ OwesSentence limit history h
 owes_sentence limit history h = (
