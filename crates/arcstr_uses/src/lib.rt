@@ -214,7 +214,8 @@ pub fn with_clone(rt: &impl Wait, text: ArcStr) -> (ArcStr, ArcStr)
     (text, other)
 }
 
-/// Returns the payload of a packet behind a head of this many bytes, without the white space around it. A slice of a slice lies in the block of the packet.
+/// Returns the payload of a packet behind a head of this many bytes, without the white space
+/// around it. A slice of a slice lies in the block of the packet.
 ///
 /// ```
 /// let packet = ArcStr::from_str(rt.alloc(), "01  ready ")?;
@@ -260,7 +261,8 @@ pub fn register(rt: &impl Wait, names: &mut Interner, name: &ArcStr) -> Result<S
     names.intern_arc(rt, name)
 }
 
-/// Makes two copies of a text, which lie in two blocks. The law of two handles says so, since each is the first handle on its block.
+/// Makes two copies of a text, which lie in two blocks. The law of two handles says so, since
+/// each is the first handle on its block.
 ///
 /// ```
 /// let (one, other) = two_copies(rt.alloc(), "foo")?;
