@@ -40,7 +40,7 @@ pub record AddsCopy (word : List ℕ) (old new : List TextView) : Type 0 where
   pub made : IsMadeOf word text
   pub added : AddsText text old new
 
--- what interning a word does to the texts: for a new word `adds` holds, which says of the old and the new texts which one was added
+-- what interning a word does to the texts: if the word is new, `adds` says which text is added
 pub record Interns (old new : List TextView) (word : List ℕ) (adds : List TextView → List TextView → Type 0) (answer : Result ℕ InternFault) : Type 0 where
   -- the answer is the symbol of a text that spells the word
   pub found : IfOk answer (λ symbol. IsWordAt new symbol word)

@@ -5,7 +5,8 @@ use Rattle.arcstr_block.specs.Book.{BlockName}
 use Rattle.arcstr.specs.declared.arc_str.Form.{Form}
 use Rattle.arcstr.specs.declared.arc_str.Form.TheVariants.{Literal, Counted, Fixed}
 
--- where the bytes of a text lie: in the program, in the counted block of this name, or in the permanent block of this name
+-- where the bytes of a text lie: in the program, in the counted block of this name, or in the
+-- permanent block of this name
 pub data Kind : Type 0 where
   literal : Kind
   block : BlockName → Kind
@@ -42,7 +43,8 @@ IsCounted kind = IsSome (counted_block kind)
 abbrev pub IsStatic : Kind → Type 0
 IsStatic kind = IsNone (counted_block kind)
 
--- a text that a making call returns for these bytes: the empty literal, or a text in a counted block, whichever block that is
+-- a text that a making call returns for these bytes: the empty literal, or a text in some counted
+-- block
 pub record IsMadeOf (bytes : List ℕ) (made : TextView) : Type 0 where
   pub text : made.text ≡ bytes
   pub empty : bytes ≡ [] → made.kind ≡ literal
