@@ -4,11 +4,12 @@ use Rattle.arcstr_block.proofs.Names.{◌≤◌, IsPrefix, cons≢nil, head-eq_o
 use Rattle.arcstr_block.proofs.Names.{SProp, ent, sep, fact, fact_i, heard, at_least_join, ‵, some, ◌$◌, ◌∵◌, !, qed, pick, use2, raw, by, given, learn}
 use Rattle.arcstr_block.proofs.Names.{rewrite, Logic, sem, EndsIn, look_reply, FlagAndCount, looked_of, Marked, Static, Step, Look}
 use Rattle.arcstr_block.proofs.Names.{Leak, reached, steps, IsMarkedIn, word_of, IsMarked}
-use Rattle.arcstr_block.proofs.Names.{true, false, ◌<◌, Option, None, Some, Count}
+use Rattle.arcstr_block.proofs.Names.{true, false, ◌<◌, Option, None, Some, Count, Begin, Ended, IsLater, IsOneBlock, length-append}
 use Rattle.std.specs.Prelude.{IsNone}
 use Rattle.arcstr_count.specs.Model.{start, marked_after, makes_after, word_in, State, after}
 use Rattle.arcstr_count.proofs.LawsOfHistories.{after_from-append, mark_stays}
-use Rattle.arcstr_count.proofs.OneBlock.{counted_is_unmarked, leak_marks, static_is_marked}
+use Rattle.arcstr_count.proofs.OneBlock.{counted_is_unmarked, ended_is_marked, free_is_last, leak_marks, left_is_used, static_is_marked}
+use Rattle.arcstr_block.specs.Handle.{SawBack}
 use Rattle.arcstr_block.proofs.Words.{marked_word}
 
 -- ---- the mark
@@ -40,6 +41,22 @@ pub stays_marked : (limit : ℕ) (before history : List Step) (h : ℕ) (count :
     → EndsIn limit history (Look h) (look_reply count) → IsNone count
 stays_marked limit before history h None marked starts ends = refl
 stays_marked limit before history h (Some n) marked starts ends = absurd (marked_is_not_counted limit before history h n marked starts ends)
+
+-- a drop whose look ended it found the mark
+pub marked_by_end : (limit : ℕ) (history : List Step) (h : ℕ) → EndsIn limit history (Begin h) Ended → IsMarkedIn limit history
+marked_by_end limit history h ends = record { one_block = ends.one_block; marked = ended_is_marked limit history h ends }
+
+-- how a drop that frees nothing leaves its block; the function whose proof uses this ruleset names it
+pub ruleset how_drops_leave = (marked_by_end, left_is_used)
+
+-- ---- later histories
+
+-- no history of one block is later than one that ends in the free
+pub nothing_follows_the_free : (limit : ℕ) (history later : List Step) (h : ℕ) → SawBack limit history h → IsOneBlock limit later → IsLater history later → ⊥
+nothing_follows_the_free limit history later h freed whole more =
+    let rest : List Step = more.0.0 in
+    let is : history ++ rest ≡ later = more.0.1 in
+    free_is_last limit history h freed rest (omega (arith, length-append history rest, ap length is, more.1)) (subst (IsOneBlock limit) (sym is) whole)
 
 -- ---- two prefixes of one history
 

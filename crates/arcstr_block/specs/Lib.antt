@@ -7,3 +7,4 @@ pub mod Steps
 pub mod Book
 pub mod Making
 pub mod Handle
+pub mod Ending

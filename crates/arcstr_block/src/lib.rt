@@ -4,6 +4,7 @@
 //! marked block each is the load alone. A mark, which is a fetch-or, makes the block permanent. Whoever subtracts last takes the whole memory, as `Owed`.
 #![tactic(auto)]
 
+pub use ending::End;
 pub use fault::TextFault;
 pub use fixed::Fixed;
 pub use joining::joined_len;
@@ -12,6 +13,7 @@ pub use seen::Seen;
 pub use shared::Shared;
 
 mod block;
+mod ending;
 mod fault;
 mod fixed;
 mod joining;

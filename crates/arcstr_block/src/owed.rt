@@ -101,14 +101,3 @@ impl<A: Allocator> Owed<A> {
         seen
     }
 }
-
-impl<A: Allocator> Down<A> {
-    /// Frees what is owed.
-    pub(crate) fn free_owed(self) {
-        match self {
-            Down::Ended => {}
-            Down::Left => {}
-            Down::Owes(owed) => owed.give_back(),
-        }
-    }
-}

@@ -492,7 +492,6 @@ impl<const LIMIT: u64, A: Allocator + Copy> Counted<LIMIT, A> {
 impl<const LIMIT: u64, A: Allocator + Copy> Drop for Shared<LIMIT, A> {
     /// Ends the handle, and frees what it owes.
     fn drop(self) {
-        let (down, _) = self.down();
-        down.free_owed();
+        self.end();
     }
 }

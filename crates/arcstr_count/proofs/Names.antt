@@ -24,7 +24,7 @@ pub use Rattle.arcstr_count.specs.Model.{block_after, block_on, blocks_with_give
 pub use Rattle.arcstr_count.specs.Model.{handles_with_state, is_birth, is_dropping, is_make, is_owing, lives, living_after, look_reply, makes_after, marked_after}
 pub use Rattle.arcstr_count.specs.Model.{no_block, no_handle, numbers_below, owing_after, refusal_in, replies, replies_from, start, state_after, state_in, state_of_tables}
 pub use Rattle.arcstr_count.specs.Model.{state_on, step, unless_refused, view_of, word_after, word_in, word_on}
-pub use Rattle.arcstr_count.specs.OneBlock.{EndsIn, Keeps, are_accepted, states_after}
+pub use Rattle.arcstr_count.specs.OneBlock.{EndsIn, IsInUse, IsOneBlock, Keeps, are_accepted, states_after}
 pub use Rattle.arcstr_count.specs.Sentences.{AcceptedAnswer, AcceptedSentence, AcceptedWhere, AnswerSentence, BeganUnmarked, BornSentence, ByFact}
 pub use Rattle.arcstr_count.specs.Sentences.{FirstThatHolds, HasAccepted, LastIsIntoRaw, LivesAlone, LivingSentence, MarkedSentence, OwesSentence}
 pub use Rattle.arcstr_count.specs.Sentences.{StateSentence, UnderWaySentence, accepted_count, given_count, is_back_on, passes_after}
