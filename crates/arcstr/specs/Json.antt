@@ -8,28 +8,28 @@ use Rattle.serde_json.specs.declared.value.Value.{Value}
 use Rattle.arcstr.specs.Making.{IsTooLong}
 use Rattle.arcstr.specs.declared.json.JsonFault.{JsonFault}
 use Rattle.arcstr.specs.declared.json.JsonFault.TheVariants.{NotText, Length, Memory}
-use Rattle.arcstr.specs.Substr.{SubstrView, empty_slice, whole_of}
-use Rattle.arcstr.specs.TextView.{TextView, literal_of, made_of}
+use Rattle.arcstr.specs.Substr.{SubstrView, IsWholeOfMade, empty_slice}
+use Rattle.arcstr.specs.TextView.{TextView, IsMadeOf, literal_of}
 
 -- the text of a JSON value, if it is a string
 abbrev pub text_in : Value → Option (List ℕ)
 text_in value = as_str (view value)
 
--- the result of reading a value's text into a handle: the handle on the text, or the one on nothing if the text is empty; an error if the value is not a
+-- the result of reading a value's text into a handle: a handle on the text, or the one on nothing if the text is empty; an error if the value is not a
 -- string, if its text is too long for a block, or if the allocation fails
-pub record ReadsText {T : Type 0} (value : Value) (handle_on : List ℕ → T) (nothing : T) (answer : Result T JsonFault) : Type 0 where
-  pub made : IfOk answer (λ made. IsSomeAnd (text_in value) (λ text. made ≡ handle_on text))
+pub record ReadsText {T : Type 0} (value : Value) (is_on : List ℕ → T → Type 0) (nothing : T) (answer : Result T JsonFault) : Type 0 where
+  pub made : IfOk answer (λ made. IsSomeAnd (text_in value) (λ text. is_on text made))
   pub not_text : IsErrOf answer NotText ↔ (text_in value ≡ None)
   pub empty : text_in value ≡ Some [] → answer ≡ Ok nothing
   pub too_long : IsErrOf answer Length ↔ IsSomeAnd (text_in value) (λ text. IsTooLong (length text))
 
 -- the result for a shared text
 abbrev pub ReadsArcStr : Value → Result TextView JsonFault → Type 0
-ReadsArcStr value answer = ReadsText value made_of (literal_of []) answer
+ReadsArcStr value answer = ReadsText value IsMadeOf (literal_of []) answer
 
 -- the result for a shared slice, which is all of the value's text
 abbrev pub ReadsSubstr : Value → Result SubstrView JsonFault → Type 0
-ReadsSubstr value answer = ReadsText value (λ text. whole_of (made_of text)) empty_slice answer
+ReadsSubstr value answer = ReadsText value IsWholeOfMade empty_slice answer
 
 -- ---- the faults
 

@@ -1,8 +1,8 @@
 -- How contracts see a shared slice: its parent, and its byte range in the parent's text.
-use Rattle.std.specs.Prelude.{ℕ, ◌+◌, List, [], length}
+use Rattle.std.specs.Prelude.{◌≡◌, ℕ, ◌+◌, List, [], length}
 use Rattle.arcstr_range.specs.Ends.{IsLawful}
 use Rattle.arcstr_range.specs.Text.{cut}
-use Rattle.arcstr.specs.TextView.{TextView, literal_of}
+use Rattle.arcstr.specs.TextView.{TextView, IsMadeOf, literal_of}
 
 -- a shared slice in a contract, with byte offsets in the parent's text
 pub record SubstrView : Type 0 where
@@ -17,6 +17,11 @@ slice_of parent start end = record { parent = parent; start = start; end = end }
 -- the slice of all of a parent's text
 abbrev pub whole_of : TextView → SubstrView
 whole_of parent = slice_of parent 0 (length parent.text)
+
+-- the slice of all of a text that a making call returns for these bytes
+pub record IsWholeOfMade (bytes : List ℕ) (slice : SubstrView) : Type 0 where
+  pub made : IsMadeOf bytes slice.parent
+  pub whole : slice ≡ whole_of slice.parent
 
 -- the slice of nothing: of the empty literal, from 0 to 0
 abbrev pub empty_slice : SubstrView

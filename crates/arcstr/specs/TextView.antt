@@ -1,14 +1,15 @@
 -- How contracts see a shared text, its bytes and where they lie, and the forms of a shared text.
-use Rattle.std.specs.Prelude.{◌≢◌, ◌==◌, if◌then◌else◌, ℕ, List, length, ◌≡◌}
+use Rattle.std.specs.Prelude.{◌≡◌, ◌≢◌, ℕ, List, [], Option, Some, None, IsSome, IsNone}
 use Rattle.arcstr_count.specs.declared.words.TheConstants.{RC_MAX}
+use Rattle.arcstr_block.specs.Book.{BlockName}
 use Rattle.arcstr.specs.declared.arc_str.Form.{Form}
 use Rattle.arcstr.specs.declared.arc_str.Form.TheVariants.{Literal, Counted, Fixed}
 
--- where the bytes of a text lie: in the program, in a counted block, or in a permanent block
+-- where the bytes of a text lie: in the program, in the counted block of this name, or in the permanent block of this name
 pub data Kind : Type 0 where
   literal : Kind
-  block : Kind
-  fixed_block : Kind
+  block : BlockName → Kind
+  fixed_block : BlockName → Kind
 
 -- a shared text in a contract
 pub record TextView : Type 0 where
@@ -19,38 +20,56 @@ pub record TextView : Type 0 where
 abbrev pub literal_of : List ℕ → TextView
 literal_of bytes = record { text = bytes; kind = literal }
 
--- the text of these bytes in a counted block
-abbrev pub counted_of : List ℕ → TextView
-counted_of bytes = record { text = bytes; kind = block }
+-- the text of these bytes in this counted block
+abbrev pub counted_of : BlockName → List ℕ → TextView
+counted_of name bytes = record { text = bytes; kind = block name }
 
--- the text of these bytes in a permanent block
-abbrev pub fixed_of : List ℕ → TextView
-fixed_of bytes = record { text = bytes; kind = fixed_block }
+-- the text of these bytes in this permanent block
+abbrev pub fixed_of : BlockName → List ℕ → TextView
+fixed_of name bytes = record { text = bytes; kind = fixed_block name }
 
--- the text that a making call returns for these bytes: the empty literal, or a text in a counted block
-abbrev pub made_of : List ℕ → TextView
-made_of bytes = record { text = bytes; kind = if length bytes == 0 then literal else block }
+-- the counted block in which the bytes lie, if they lie in one
+abbrev pub counted_block : Kind → Option BlockName
+counted_block literal = None
+counted_block (block name) = Some name
+counted_block (fixed_block name) = None
+
+-- the bytes lie in a counted block
+abbrev pub IsCounted : Kind → Type 0
+IsCounted kind = IsSome (counted_block kind)
 
 -- no call on a text of this kind takes an atomic step
 abbrev pub IsStatic : Kind → Type 0
-IsStatic kind = kind ≢ block
+IsStatic kind = IsNone (counted_block kind)
 
--- where the bytes lie after the text is leaked
+-- a text that a making call returns for these bytes: the empty literal, or a text in a counted block, whichever block that is
+pub record IsMadeOf (bytes : List ℕ) (made : TextView) : Type 0 where
+  pub text : made.text ≡ bytes
+  pub empty : bytes ≡ [] → made.kind ≡ literal
+  pub counted : bytes ≢ [] → IsCounted made.kind
+
+-- where the bytes lie after the text is leaked: in the same block, which is then permanent
 abbrev pub leaked_kind : Kind → Kind
 leaked_kind literal = literal
-leaked_kind block = fixed_block
-leaked_kind fixed_block = fixed_block
+leaked_kind (block name) = fixed_block name
+leaked_kind (fixed_block name) = fixed_block name
 
 -- the same text after it is leaked
 abbrev pub leaked : TextView → TextView
 leaked view = record { text = view.text; kind = leaked_kind view.kind }
 
+-- the block in which the bytes lie, counted or permanent, if they do not lie in the program
+abbrev pub block_of : Kind → Option BlockName
+block_of literal = None
+block_of (block name) = Some name
+block_of (fixed_block name) = Some name
+
 -- ---- the forms of a shared text
 
 abbrev pub text_view : Form → TextView
 text_view (Literal text) = record { text = text.now; kind = literal }
-text_view (Counted shared) = record { text = shared.text; kind = block }
-text_view (Fixed fixed) = record { text = fixed.text; kind = fixed_block }
+text_view (Counted shared) = record { text = shared.text; kind = block shared.block }
+text_view (Fixed fixed) = record { text = fixed.text; kind = fixed_block fixed.block }
 
 -- the limit above which a clone marks the block static, or `RC_MAX` if there is no counted block
 abbrev pub limit_of : Form → ℕ

@@ -1,6 +1,6 @@
 //! `ArcStr`: a reference-counted immutable text that threads share.
 ghost use Rattle.std.specs.Prelude.{◌≡◌, ◌+◌, ◌≤◌, ◌↔◌, [], length, IsTrue, IsSome, IsNone, IfSome, MatchResult};
-ghost use Rattle.arcstr.specs.TextView.{IsLimited, IsStatic, literal, literal_of, fixed_of, counted_of, leaked};
+ghost use Rattle.arcstr.specs.TextView.{IsLimited, IsStatic, block, counted_of, fixed_of, leaked, literal, literal_of};
 
 use crate::static_str::StaticStr;
 use arcstr_block::{Fixed, Shared};
@@ -116,7 +116,7 @@ impl ArcStr {
     /// assert_eq!(rt; ArcStr::strong_count(&text), Some(2));
     /// ```
     pub fn clone(&self, rt: &impl Wait) -> ArcStr
-        // Promise: The clone is the same value.
+        // Promise: The clone has the same text in the same block.
         ensures { result ≡ self.now }
     {
         // What a clone seldom does is a call of its own, so that the usual one makes no call that can wait.
@@ -236,6 +236,8 @@ impl ArcStr {
     /// ```
     pub fn counted(&self) -> Option<&Shared<RC_MAX, Global>>
         ensures text { IfSome result (λ handle. handle.now.text ≡ self.now.text) }
+        // Promise: It is a handle on the text's own block.
+        ensures block { IfSome result (λ handle. self.now.kind ≡ block handle.now.block) }
         // Promise: Exactly a literal or a permanent block has none.
         ensures none { IsNone result ↔ IsStatic self.now.kind }
     {
@@ -273,7 +275,7 @@ impl ArcStr {
     /// assert_eq!(rt; kept.as_str(), "foo");
     /// ```
     pub fn leak(&self) -> StaticStr
-        // Promise: The text stays the same, and a literal stays a literal.
+        // Promise: The text stays the same, in the same block, and a literal stays a literal.
         ensures { result ≡ leaked self.now }
     {
         let text = match &self.form {
@@ -317,7 +319,7 @@ impl ArcStr {
     /// assert_eq!(rt; ArcStr::strong_count(&text), Some(1));
     /// ```
     pub fn into_raw(this: ArcStr) -> RawArcStr
-        // Promise: `from_raw` returns the same text.
+        // Promise: `from_raw` returns the same text, in the same block.
         ensures { result ≡ this }
     {
         RawArcStr { text: this }
@@ -362,7 +364,7 @@ impl ArcStr {
 
     pub(crate) fn from_shared(shared: Shared<RC_MAX, Global>) -> ArcStr
         requires { shared.limit ≡ RC_MAX }
-        ensures { result ≡ counted_of shared.text }
+        ensures { result ≡ counted_of shared.block shared.text }
     {
         ArcStr {
             form: Form::Counted(shared),
@@ -370,7 +372,7 @@ impl ArcStr {
     }
 
     fn from_fixed(fixed: Fixed<Global>) -> ArcStr
-        ensures { result ≡ fixed_of fixed.text }
+        ensures { result ≡ fixed_of fixed.block fixed.text }
     {
         ArcStr {
             form: Form::Fixed(fixed),

@@ -3,7 +3,7 @@
 ghost use Rattle.std.specs.Prelude.{◌≡◌, ◌++◌, IfOk, encode_utf8_all, flat_map, string_bytes};
 ghost use Rattle.std.specs.Iterator.{ExtendsWithItems, IsFinite};
 ghost use Rattle.arcstr.specs.Substr.{text_of};
-ghost use Rattle.arcstr.specs.TextView.{made_of};
+ghost use Rattle.arcstr.specs.TextView.{IsMadeOf};
 
 use crate::arc_str::ArcStr;
 use crate::substr::Substr;
@@ -15,7 +15,7 @@ use std::iter::{Extend, FromIterator};
 impl FromIterator<char> for ArcStr {
     type Alloc = Global;
 
-    ghost from_iter_gives = { λ characters made. made ≡ made_of (encode_utf8_all characters) };
+    ghost from_iter_gives = { λ characters made. IsMadeOf (encode_utf8_all characters) made };
 
     /// Collects the characters into a `String`, which may be allocated anew as it grows, and copies that into a block, as `ArcStr::from_str` does.
     ///
@@ -34,7 +34,7 @@ impl FromIterator<char> for ArcStr {
 impl FromIterator<String> for ArcStr {
     type Alloc = Global;
 
-    ghost from_iter_gives = { λ texts made. made ≡ made_of (flat_map string_bytes texts) };
+    ghost from_iter_gives = { λ texts made. IsMadeOf (flat_map string_bytes texts) made };
 
     /// Joins the strings into a text, as the characters are collected.
     fn from_iter<I: IntoIterator<Item = String>>(
@@ -48,7 +48,7 @@ impl FromIterator<String> for ArcStr {
 impl FromIterator<ArcStr> for ArcStr {
     type Alloc = Global;
 
-    ghost from_iter_gives = { λ texts made. made ≡ made_of (flat_map (λ shared. shared.text) texts) };
+    ghost from_iter_gives = { λ texts made. IsMadeOf (flat_map (λ shared. shared.text) texts) made };
 
     /// Joins the texts into one, as the characters are collected. Drops each handle once its text is copied. Where the texts lie in a list, `ArcStr::join`
     /// makes one allocation.
@@ -63,7 +63,7 @@ impl FromIterator<ArcStr> for ArcStr {
 impl FromIterator<Substr> for ArcStr {
     type Alloc = Global;
 
-    ghost from_iter_gives = { λ slices made. made ≡ made_of (flat_map text_of slices) };
+    ghost from_iter_gives = { λ slices made. IsMadeOf (flat_map text_of slices) made };
 
     /// Joins the slices' own texts, as those of `ArcStr`s are.
     fn from_iter<I: IntoIterator<Item = Substr>>(
@@ -132,7 +132,7 @@ impl<A: Allocator> FromIterator<Substr> for String<A> {
 
 /// Copies the string into a block, as `ArcStr::from_str` does.
 fn copied(alloc: Global, text: String) -> Result<ArcStr, AllocError>
-    ensures { IfOk result (λ made. made ≡ made_of (string_bytes text)) }
+    ensures { IfOk result (IsMadeOf (string_bytes text)) }
 {
     match ArcStr::from_str(alloc, text.as_str()) {
         Ok(made) => Ok(made),

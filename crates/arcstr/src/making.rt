@@ -2,10 +2,10 @@
 ghost use Rattle.std.specs.Prelude.{◌≡◌, ◌↔◌, [], length, replicate, string_bytes, Ok, IsUtf8, OnOk, IfOk, IfErr, IsErrOf};
 ghost use Rattle.std.specs.Fn.{FnOnceReturnsAtMut, FnOnceTakesAtMut};
 ghost use Rattle.std.specs.Str.Lossy.{utf8_valid_len};
-ghost use Rattle.arcstr.specs.TextView.{literal_of, made_of};
+ghost use Rattle.arcstr.specs.TextView.{IsMadeOf, literal_of};
 ghost use Rattle.arcstr.specs.Making.{AnswersCopies, AnswersCopy, AnswersMaking, AnswersUtf8, IsFaultOfCopying, IsFaultOfFilling, IsTooLong};
 ghost use Rattle.std.specs.List.{join_by};
-ghost use Rattle.arcstr.specs.Substr.{empty_slice, text_of, whole_of};
+ghost use Rattle.arcstr.specs.Substr.{IsWholeOfMade, empty_slice, text_of};
 
 use crate::arc_str::ArcStr;
 use crate::substr::Substr;
@@ -57,7 +57,7 @@ impl ArcStr {
     /// assert_eq!(rt; fault, Some(TextFault::Utf8(1)));
     /// ```
     pub fn from_utf8(alloc: Global, bytes: &[u8]) -> Result<ArcStr, TextFault>
-        ensures made { IfOk result (λ made. made ≡ made_of bytes.now) }
+        ensures made { IfOk result (IsMadeOf bytes.now) }
         // Promise: Without bytes the text is the empty literal.
         ensures empty { bytes.now ≡ [] → result ≡ Ok (literal_of []) }
         // Promise: Bytes that are not UTF-8 give `Utf8` with the length of their longest prefix that is.
@@ -98,7 +98,7 @@ impl ArcStr {
         // Promise: The text is UTF-8 and has the length that was asked for. An empty one is a literal.
         ensures text { IfOk result (λ made. IsUtf8 made.text) }
         ensures as_long { IfOk result (λ made. length made.text ≡ n) }
-        ensures kind { IfOk result (λ made. made ≡ made_of made.text) }
+        ensures kind { IfOk result (λ made. IsMadeOf made.text made) }
         ensures empty { n ≡ 0 → result ≡ Ok (literal_of []) }
         // Promise: The call fails with `Length` exactly if `n` is too long, and with `Utf8` only if the closure leaves no UTF-8.
         ensures too_long { IsErrOf result TextFault.Length ↔ IsTooLong n }
@@ -179,7 +179,7 @@ impl ArcStr {
 impl Substr {
     /// As `ArcStr::from_str`. Returns the slice of all of the new text.
     pub fn from_str(alloc: Global, text: &str) -> Result<Substr, TextFault>
-        ensures { AnswersMaking text.now (whole_of (made_of text.now)) empty_slice result }
+        ensures { AnswersMaking text.now (IsWholeOfMade text.now) empty_slice result }
     {
         Ok(Substr::full(ArcStr::from_str(alloc, text)?))
     }
@@ -221,7 +221,7 @@ impl TryFrom<String> for ArcStr {
 impl TryFrom<Vec<u8>> for ArcStr {
     type Error = TextFault;
 
-    ghost try_from_gives = { λ bytes answer. AnswersUtf8 bytes.items (made_of bytes.items) (literal_of []) answer };
+    ghost try_from_gives = { λ bytes answer. AnswersUtf8 bytes.items (IsMadeOf bytes.items) (literal_of []) answer };
 
     /// Converts the bytes to an `ArcStr` by their own allocator, as `ArcStr::from_utf8` does, and drops the bytes.
     ///
@@ -237,7 +237,7 @@ impl TryFrom<Vec<u8>> for ArcStr {
 impl TryFrom<String> for Substr {
     type Error = TextFault;
 
-    ghost try_from_gives = { λ text answer. AnswersMaking (string_bytes text) (whole_of (made_of (string_bytes text))) empty_slice answer };
+    ghost try_from_gives = { λ text answer. AnswersMaking (string_bytes text) (IsWholeOfMade (string_bytes text)) empty_slice answer };
 
     /// As for `ArcStr`. Returns the slice of all of the new text.
     fn try_from(text: String) -> Result<Substr, TextFault> {
@@ -248,7 +248,7 @@ impl TryFrom<String> for Substr {
 impl TryFrom<Vec<u8>> for Substr {
     type Error = TextFault;
 
-    ghost try_from_gives = { λ bytes answer. AnswersUtf8 bytes.items (whole_of (made_of bytes.items)) empty_slice answer };
+    ghost try_from_gives = { λ bytes answer. AnswersUtf8 bytes.items (IsWholeOfMade bytes.items) empty_slice answer };
 
     /// As for `ArcStr`. Returns the slice of all of the new text.
     fn try_from(bytes: Vec<u8>) -> Result<Substr, TextFault> {

@@ -4,7 +4,7 @@ ghost use Rattle.std.specs.Prelude.{◌≡◌, IfOk, OnOk};
 ghost use Rattle.serde.specs.Event.{Logs, text};
 ghost use Rattle.serde.specs.Steps.{Gives};
 ghost use Rattle.arcstr.specs.Substr.{text_of, whole_of};
-ghost use Rattle.arcstr.specs.TextView.{made_of};
+ghost use Rattle.arcstr.specs.TextView.{IsMadeOf};
 
 use crate::arc_str::ArcStr;
 use crate::substr::Substr;
@@ -49,7 +49,7 @@ impl DeserializeOwned for ArcStr {
         from: &mut Deserializer<'_, '_, F>,
     ) -> Result<ArcStr, F::Error>
         ensures read { IfOk result (λ made. Gives F.gives from.old (text made.text) from.new) }
-        ensures kind { IfOk result (λ made. made ≡ made_of made.text) }
+        ensures kind { IfOk result (λ made. IsMadeOf made.text made) }
     {
         let read = from.string(alloc)?;
         match ArcStr::from_str(alloc, read.as_str()) {
@@ -68,7 +68,7 @@ impl<'de> Deserialize<'de> for ArcStr {
         from: &mut Deserializer<'de, '_, F>,
     ) -> Result<ArcStr, F::Error>
         ensures read { IfOk result (λ made. Gives F.gives from.old (text made.text) from.new) }
-        ensures kind { IfOk result (λ made. made ≡ made_of made.text) }
+        ensures kind { IfOk result (λ made. IsMadeOf made.text made) }
     {
         DeserializeOwned::deserialize_owned(alloc, from)
     }
