@@ -9,7 +9,7 @@ use Rattle.arcstr_count.proofs.Names.{Step, Make, Look, Clone, Begin, Sub, Back,
 use Rattle.arcstr_count.proofs.Names.{Count, Handle, Looked, Ended, Left, Owes, Given, Marked, Static, StepFault, FlagAndCount, fresh_word, looked_of, cloned_of, dropped_of, is_last, marked_of}
 use Rattle.arcstr_count.proofs.Names.{needs, refusal_by, refusal_unless, State, after, start, no_handle, no_block, block_on, state_on, state_in, word_in, word_on, given_in}
 use Rattle.arcstr_count.proofs.Names.{handles_with_state, blocks_with_word, blocks_with_given, accepted, refusal_in, unless_refused, step, look_reply, lives, is_dropping}
-use Rattle.arcstr_count.proofs.Names.{is_owing, makes_after, marked_after, are_accepted, Keeps, EndsIn, after_from, and_parts, ◌⊎◌, inl, inr}
+use Rattle.arcstr_count.proofs.Names.{is_owing, makes_after, marked_after, are_accepted, Keeps, EndsIn, after_from, and_parts, ◌⊎◌, inl, inr, nil_from_length}
 use Rattle.std.specs.Prelude.{◌-◌}
 use Rattle.arcstr_count.proofs.Names.{IntoRaw, FromRaw, Raw, word_after, living_after, IsOneBlock, IsInUse}
 use Rattle.arcstr_count.proofs.LawsOfBlocks.{IsIn, some_held, is_in_state, step_finds, accepts_needed, lawful_after, held, is_held, count, count-same, count-push, one_if, begun_by}
@@ -369,6 +369,22 @@ counted_is_unmarked limit history h n ends =
     count_was true k e = cc
     count_was false k e = refl
 
+-- a look at the one block that answers a number counted its living handles
+pub counted_is_living : (limit : ℕ) (history : List Step) (h n : ℕ) → EndsIn limit history (Look h) (Count n) → n ≡ length (living_after limit history 0)
+counted_is_living limit history h n ends =
+    let i = step_finds (after limit ends.prefix) h Free (last_accepted limit history (Look h) (Count n) ends) in
+    let on = last_on limit history (Look h) (Count n) ends h refl i.born in
+    let same : word_after limit history 0 ≡ word_on (after limit ends.prefix) h =
+        ap (λ (v : State). word_in v 0) (last_state limit history (Look h) (Count n) ends) ∙ ap (λ b. word_in (after limit ends.prefix) b) (sym on) in
+    let one = ends.one_block.made in
+    count_was (word_on (after limit ends.prefix) h).flag (word_on (after limit ends.prefix) h).count (last_reply limit history (Look h) (Count n) ends)
+    ∙ sym (ap (λ (w : FlagAndCount). w.count) same)
+    ∙ (stands limit history 0 (omega arith)).exact (counted_is_unmarked limit history h n ends)
+  where
+    count_was : (f : Bool) (k : ℕ) → look_reply (if f then None else Some k) ≡ Count n → n ≡ k
+    count_was true k e = cc
+    count_was false k e = cc
+
 -- ==== how a history of one block ends with a handle of it
 
 -- a drop that ended at its look found the one block marked
@@ -426,6 +442,21 @@ left_is_used limit history h ends =
         let same : v.count ≡ suc (suc n) - 1 = ap (λ (w : FlagAndCount). w.count) left in
         let counts : v.count ≡ living = exact (ap (λ (w : FlagAndCount). w.flag) left) in
         inr (omega (arith, same, counts))
+
+-- a block that was freed is not marked, and no handle on it lives
+pub freed_is_alone : (limit : ℕ) (history : List Step) (h : ℕ) → EndsIn limit history (Back h) Given
+    → (marked_after limit history 0 ≡ false) × (living_after limit history 0 ≡ [])
+freed_is_alone limit history h ends =
+    let old : State = after limit ends.prefix in
+    let found = step_finds old h Owing (last_accepted limit history (Back h) Given ends) in
+    let on = last_on limit history (Back h) Given ends h (length-set old.blocks (block_on old h) _) found.born in
+    let one = ends.one_block.made in
+    let is : given_in (after limit history) 0 ≡ (get_or old.blocks (block_on old h) no_block).given + 1 =
+        ap (λ (v : State). given_in v 0) (last_state limit history (Back h) Given ends)
+        ∙ ap (λ b. (get_or (blocks_with_given old.blocks (block_on old h)) b no_block).given) (sym on)
+        ∙ ap (λ (e : BlockEntry). e.given) (get_or-set_same old.blocks (block_on old h) _ no_block ((lawful_after limit ends.prefix).made h found.born)) in
+    let alone = (says limit (after limit history) 0 (lawful_after limit history) (omega (arith, one))).alone (omega (arith, is)) in
+    (alone.0, nil_from_length (living_after limit history 0) alone.1)
 
 -- nothing follows the free: no history of one block goes on after it
 pub free_is_last : (limit : ℕ) (history : List Step) (h : ℕ) → EndsIn limit history (Back h) Given
