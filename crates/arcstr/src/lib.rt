@@ -15,6 +15,7 @@ pub use substr::Substr;
 mod arc_str;
 mod collecting;
 mod cow;
+mod history;
 mod json;
 mod keys;
 mod macros;
