@@ -4,7 +4,7 @@ use Rattle.std.specs.Prelude.{Result, IfOk, IsErrOf, IsOk, OnErr, OnOk}
 use Rattle.std.specs.declared.io.ErrorKind.{ErrorKind}
 use Rattle.std.specs.declared.io.ErrorKind.TheVariants.{InvalidInput, OutOfMemory}
 use Rattle.arcstr.specs.Substr.{SubstrView}
-use Rattle.arcstr.specs.TextView.{TextView}
+use Rattle.arcstr.specs.TextView.{TextView, IsMadeOf}
 use Rattle.boxcar.specs.Table.{Shelves, id_at}
 use Rattle.arcintern.specs.declared.fault.InternFault.{InternFault}
 use Rattle.arcintern.specs.declared.fault.InternFault.TheVariants.{Full, Length, Memory}
@@ -30,15 +30,25 @@ KeepsTexts old new = (index : ℕ) → index < length old → slice_get new inde
 abbrev pub IsWhole : SubstrView → Type 0
 IsWhole slice = (slice.start ≡ 0) × (slice.end ≡ length slice.parent.text)
 
--- what interning a word does to the texts: a new word is kept as `text`, with the next number
-pub record Interns (old new : List TextView) (word : List ℕ) (text : TextView) (answer : Result ℕ InternFault) : Type 0 where
+-- this text is added at the end
+abbrev pub AddsText : TextView → List TextView → List TextView → Type 0
+AddsText text old new = new ≡ old ++ text ∷ []
+
+-- a new text of this word is added at the end
+pub record AddsCopy (word : List ℕ) (old new : List TextView) : Type 0 where
+  pub text : TextView
+  pub made : IsMadeOf word text
+  pub added : AddsText text old new
+
+-- what interning a word does to the texts: for a new word `adds` holds, which says of the old and the new texts which one was added
+pub record Interns (old new : List TextView) (word : List ℕ) (adds : List TextView → List TextView → Type 0) (answer : Result ℕ InternFault) : Type 0 where
   -- the answer is the symbol of a text that spells the word
   pub found : IfOk answer (λ symbol. IsWordAt new symbol word)
   -- a known word is never refused, and changes nothing
   pub known : HasWord old word → IsOk answer
   pub same : HasWord old word → new ≡ old
   -- a new word adds its text at the end
-  pub added : (¬ HasWord old word) → OnOk answer (new ≡ old ++ text ∷ [])
+  pub added : (¬ HasWord old word) → OnOk answer (adds old new)
   -- each text keeps its symbol, and stands once
   pub kept : KeepsTexts old new
   pub once : HasEachOnce new

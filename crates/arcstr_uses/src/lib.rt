@@ -1,4 +1,4 @@
-//! Nine uses of `arcstr`, as a caller writes them.
+//! Uses of `arcstr`, as a caller writes them.
 //! Each has a contract of its own, and none has a proof file. The first is the one to read.
 #![tactic(auto)]
 
@@ -189,4 +189,90 @@ pub fn link(names: &mut Interner, from: &str, to: &str) -> Result<(Symbol, Symbo
     let from = names.intern(from)?;
     let to = names.intern(to)?;
     Ok((from, to))
+}
+
+// ---- which texts share a block
+ghost use Rattle.std.specs.Prelude.{◌≢◌, slice_get};
+ghost use Rattle.arcstr.specs.TextView.{IsStatic, block_of};
+ghost use Rattle.arcintern.specs.Texts.{HasWord};
+
+use arcstr::block::Shared;
+use arcstr::count::RC_MAX;
+
+/// Returns the text and a clone of it. Both lie in one block.
+///
+/// ```
+/// let (text, other) = with_clone(&rt, ArcStr::from_str(rt.alloc(), "foo")?);
+/// assert_eq!(rt; (text.as_str(), other.as_str()), ("foo", "foo"));
+/// assert_eq!(rt; ArcStr::strong_count(&text), Some(2));
+/// ```
+pub fn with_clone(rt: &impl Wait, text: ArcStr) -> (ArcStr, ArcStr)
+    ensures same { result.0 ≡ text }
+    ensures shared { block_of result.1.kind ≡ block_of text.kind }
+{
+    let other = text.clone(rt);
+    (text, other)
+}
+
+/// Returns the payload of a packet behind a head of this many bytes, without the white space around it. A slice of a slice lies in the block of the packet.
+///
+/// ```
+/// let packet = ArcStr::from_str(rt.alloc(), "01  ready ")?;
+/// let payload = payload(&rt, &packet, 2)?;
+/// assert_eq!(rt; payload.as_str(), "ready");
+/// assert_eq!(rt; ArcStr::strong_count(&packet), Some(2));
+/// ```
+pub fn payload(rt: &impl Wait, packet: &ArcStr, head: usize) -> Result<Substr, RangeFault>
+    ensures shared { IfOk result (λ slice. block_of slice.parent.kind ≡ block_of packet.now.kind) }
+{
+    Ok(packet.substr(rt, head..)?.substr_trim(rt))
+}
+
+/// Makes the text permanent, and returns another handle on it, which lies in the same block.
+///
+/// ```
+/// let text = ArcStr::from_str(rt.alloc(), "foo")?;
+/// let kept = permanent(&text);
+/// drop(text);
+/// assert_eq!(rt; kept.as_str(), "foo");
+/// assert!(rt; ArcStr::is_static(&kept));
+/// ```
+pub fn permanent(text: &ArcStr) -> ArcStr
+    ensures text { result.text ≡ text.now.text }
+    ensures shared { block_of result.kind ≡ block_of text.now.kind }
+    ensures permanent { IsStatic result.kind }
+{
+    text.leak().to_arc_str()
+}
+
+/// Interns the name. A new name becomes a clone of it, in the same block.
+///
+/// ```
+/// let mut names = arcintern::Interner::new(rt.alloc());
+/// let name = ArcStr::from_str(rt.alloc(), "foo")?;
+/// let symbol = register(&rt, &mut names, &name)?;
+/// assert_eq!(rt; names[symbol].as_str(), "foo");
+/// assert_eq!(rt; ArcStr::strong_count(&name), Some(2));
+/// ```
+pub fn register(rt: &impl Wait, names: &mut Interner, name: &ArcStr) -> Result<Symbol, InternFault>
+    ensures shared { (¬ HasWord names.old name.now.text) → OnOk result (slice_get names.new (length names.old) ≡ Some name.now) }
+{
+    names.intern_arc(rt, name)
+}
+
+/// Makes two copies of a text, which lie in two blocks. The law of two handles says so, since each is the first handle on its block.
+///
+/// ```
+/// let (one, other) = two_copies(rt.alloc(), "foo")?;
+/// assert_eq!(rt; (one.look().0, other.look().0), (Some(1), Some(1)));
+/// ```
+pub fn two_copies(
+    alloc: Global,
+    text: &str,
+) -> Result<(Shared<RC_MAX, Global>, Shared<RC_MAX, Global>), TextFault>
+    ensures apart { IfOk result (λ copies. copies.0.block ≢ copies.1.block) }
+{
+    let one = Shared::from_text(alloc, text)?;
+    let other = Shared::from_text(alloc, text)?;
+    Ok(one.two_handles_have_two_seats(other))
 }

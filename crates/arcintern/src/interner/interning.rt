@@ -2,8 +2,8 @@
 ghost use Rattle.std.specs.Prelude.{◌≡◌, ◌<◌, ◌↔◌, length, IfErr, IfOk, IsErrOf, IsTrue};
 ghost use Rattle.arcstr.specs.Making.{IsTooLong};
 ghost use Rattle.arcstr.specs.Substr.{text_of};
-ghost use Rattle.arcstr.specs.TextView.{literal_of, made_of};
-ghost use Rattle.arcintern.specs.Texts.{HasWord, Interns, IsWhole};
+ghost use Rattle.arcstr.specs.TextView.{IsMadeOf, literal_of};
+ghost use Rattle.arcintern.specs.Texts.{AddsCopy, AddsText, HasWord, Interns, IsWhole};
 
 use crate::fault::InternFault;
 use crate::interner::{Interner, MOST_TEXTS};
@@ -29,7 +29,7 @@ impl<S: BuildHasher> Interner<S> {
     pub fn intern(&mut self, word: &str) -> Result<Symbol, InternFault>
         // Promise: A known word is found, and nothing changes. A new one is added at the end.
         // A refused call changes nothing.
-        ensures interns { Interns self.old self.new word.now (made_of word.now) result }
+        ensures interns { Interns self.old self.new word.now (AddsCopy word.now) result }
         // Promise: `Length` comes exactly for a new word that is too long, in an interner that is not full.
         ensures too_long { IsErrOf result InternFault.Length ↔ ((¬ HasWord self.old word.now) × (length self.old < MOST_TEXTS) × IsTooLong (length word.now)) }
     {
@@ -57,9 +57,9 @@ impl<S: BuildHasher> Interner<S> {
     /// assert_eq!(rt; ArcStr::strong_count(&text), Some(2));
     /// ```
     pub fn intern_arc(&mut self, rt: &impl Wait, text: &ArcStr) -> Result<Symbol, InternFault>
-        // Promise: A known word is found, and nothing changes. A new one is added at the end.
+        // Promise: A known word is found, and nothing changes. For a new one a text in the same block is added at the end.
         // A refused call changes nothing.
-        ensures interns { Interns self.old self.new text.now.text text.now result }
+        ensures interns { Interns self.old self.new text.now.text (AddsText text.now) result }
         // Promise: `Length` never comes.
         ensures never_too_long { ¬ (IsErrOf result InternFault.Length) }
     {
@@ -83,7 +83,7 @@ impl<S: BuildHasher> Interner<S> {
     pub fn intern_static(&mut self, word: &'static str) -> Result<Symbol, InternFault>
         // Promise: A known word is found, and nothing changes. A new one is added at the end.
         // A refused call changes nothing.
-        ensures interns { Interns self.old self.new word.now (literal_of word.now) result }
+        ensures interns { Interns self.old self.new word.now (AddsText (literal_of word.now)) result }
         // Promise: `Length` never comes.
         ensures never_too_long { ¬ (IsErrOf result InternFault.Length) }
     {
@@ -109,9 +109,9 @@ impl<S: BuildHasher> Interner<S> {
     pub fn intern_substr(&mut self, rt: &impl Wait, slice: &Substr) -> Result<Symbol, InternFault>
         // Promise: As `intern_arc` for a whole text, and as `intern` for a part.
         ensures whole { IsWhole slice.now
-            → Interns self.old self.new (text_of slice.now) slice.now.parent result }
+            → Interns self.old self.new (text_of slice.now) (AddsText slice.now.parent) result }
         ensures part { (¬ IsWhole slice.now)
-            → Interns self.old self.new (text_of slice.now) (made_of (text_of slice.now)) result }
+            → Interns self.old self.new (text_of slice.now) (AddsCopy (text_of slice.now)) result }
         // Promise: `Length` comes exactly for the copy of a new part that is too long, in an interner that is not full.
         ensures too_long_part { (¬ IsWhole slice.now) → (IsErrOf result InternFault.Length
             ↔ ((¬ HasWord self.old (text_of slice.now)) × (length self.old < MOST_TEXTS) × IsTooLong (length (text_of slice.now)))) }
@@ -127,7 +127,7 @@ impl<S: BuildHasher> Interner<S> {
 
 /// Returns a copy of the word.
 pub(crate) fn copy_of(alloc: Global, word: &str) -> Result<ArcStr, InternFault>
-    ensures made { IfOk result (λ text. text ≡ made_of word.now) }
+    ensures made { IfOk result (IsMadeOf word.now) }
     ensures too_long { IsErrOf result InternFault.Length ↔ IsTooLong (length word.now) }
     ensures never_full { IfErr result (λ fault. ¬ (fault ≡ InternFault.Full)) }
 {
