@@ -6,6 +6,7 @@ pub mod Slicing
 pub mod Splitting
 pub mod TextOrder
 pub mod Json
+pub mod History
 pub use Rattle.arcstr_range.specs.Ends
 pub use Rattle.arcstr_range.specs.Text
 pub use Rattle.arcstr_range.specs.Trim

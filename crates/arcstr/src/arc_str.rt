@@ -362,6 +362,18 @@ impl ArcStr {
         }
     }
 
+    /// Consumes the handle. Returns the one on the text's counted block, or `None` for a literal or a permanent block.
+    pub(crate) fn into_counted(self) -> Option<Shared<RC_MAX, Global>>
+        ensures block { IfSome result (λ handle. self.kind ≡ block handle.block) }
+        ensures none { IsNone result ↔ IsStatic self.kind }
+    {
+        let ArcStr { form } = self;
+        match form {
+            Form::Counted(shared) => Some(shared),
+            Form::Literal(_) | Form::Fixed(_) => None,
+        }
+    }
+
     pub(crate) fn from_shared(shared: Shared<RC_MAX, Global>) -> ArcStr
         requires { shared.limit ≡ RC_MAX }
         ensures { result ≡ counted_of shared.block shared.text }
@@ -371,7 +383,7 @@ impl ArcStr {
         }
     }
 
-    fn from_fixed(fixed: Fixed<Global>) -> ArcStr
+    pub(crate) fn from_fixed(fixed: Fixed<Global>) -> ArcStr
         ensures { result ≡ fixed_of fixed.block fixed.text }
     {
         ArcStr {

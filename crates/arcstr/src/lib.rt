@@ -17,6 +17,7 @@ mod arc_str;
 mod builder;
 mod collecting;
 mod cow;
+mod history;
 mod json;
 mod keys;
 mod macros;

@@ -110,6 +110,14 @@ impl Substr {
         &self.parent
     }
 
+    /// Consumes the slice. Returns its parent.
+    pub(crate) fn into_parent(self) -> ArcStr
+        ensures { result ≡ self.parent }
+    {
+        let Substr { parent, .. } = self;
+        parent
+    }
+
     /// Returns the byte range of the slice in its parent's text.
     ///
     /// ```

@@ -9,7 +9,7 @@ use Rattle.arcstr_block.proofs.Names.{check, rewrite, suffices, settle, show, Lo
 use Rattle.arcstr_block.proofs.Names.{looked_of, cloned_of, is_last, HandleState, Free, Dropping, Owing, Gone, Ended, Looked, Owes, Left, Handle, Marked, Given}
 use Rattle.arcstr_block.proofs.Names.{Step, Make, Look, Clone, Begin, Sub, Back, Leak, BlockName, Book, reached, seat, steps, state_code, seat_share, book}
 use Rattle.arcstr_block.proofs.Names.{Ends, reached_ending, word_of, IsMarked, IsClone, operators}
-use Rattle.arcstr_block.proofs.Names.{IsPrefix, latest_bounds}
+use Rattle.arcstr_block.proofs.Names.{IsPrefix, IsLater, latest_bounds, length-append}
 use mathlib.Core.Path.{Path}
 use mathlib.Mathlib.Data.Part.{◌∈◌}
 use seplogic.Ra.Pcs.{OpDef, OpDef-comm}
@@ -168,6 +168,11 @@ module _ {M : Type 1} {𝓤 : Ura M} (𝓛 : Logic 𝓤) where
     book_in n r vs keeps = qed 𝓛 (‵ (Now r) ∷ ‵ (Seats vs) ∷ []) ∵ nothing ! $ fpack ! (Keeps L r (word_of n) vs) (λ _. ftrue) keeps $ fjoin3 ! $
         fpack ! (List Step × List HandleState) (book L γ δ n) (r, vs) $ done !
 
+    -- with one more step, the history is later than each of its prefixes
+    one_later : (before r : List Step) (s : Step) → IsPrefix before r → IsLater before (r ++ s ∷ [])
+    one_later before r s starts = (steps.trans before r (r ++ s ∷ []) starts (s ∷ [], refl),
+        omega (arith, length-append before starts.0, ap length starts.1, length-append r (s ∷ [])))
+
     -- the history with one more step, and what the core answered
     turns : (n : ℕ) (r before : List Step) (s : Step) (reply : Reply) (vs : List HandleState) → IsPrefix before r → Prolongs L r s reply (word_of n) vs
         → ⟦ Now r ⟧ ∗ ⟦ Seats vs ⟧ ⊢ upd 𝓤 (⟦ Bk n ⟧ ∗ ⟦ Said before s reply ⟧)
@@ -175,7 +180,7 @@ module _ {M : Type 1} {𝓤 : Ura M} (𝓛 : Logic 𝓤) where
         qed 𝓛 (‵ (Now r) ∷ ‵ (Seats vs) ∷ []) ∵ use1 𝓛 (raw (upd 𝓤 ⟦ Now r' ⟧)) (latest_grows steps 𝓛 γ r r' (s ∷ [], refl)) $ settle 𝓛 Z (‵ (Now r')) $
         suffices ! _ (upd_i 𝓤 Z) $
         use1 𝓛 (‵ (Now r') ⊛ ‵ (reached γ r')) (latest_shows steps 𝓛 full_share γ r' r' (steps.same r')) $ split ! $ move ! (1 ∷ []) $
-        nothing ! $ fpack ! (EndsIn L r' s reply × IsPrefix before r') (λ _. ftrue) (on.ends, steps.trans before r r' starts (s ∷ [], refl)) $ fjoin ! $
+        nothing ! $ fpack ! (EndsIn L r' s reply × IsLater before r') (λ _. ftrue) (on.ends, one_later before r s starts) $ fjoin ! $
         fpack ! (List Step) (reached_ending L γ δ before s reply) r' $
         move ! (1 ∷ 2 ∷ []) $ use2 𝓛 (‵ (Bk n)) (book_in n r' vs on.keeps) $ done !
 

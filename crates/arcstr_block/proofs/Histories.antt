@@ -2,13 +2,14 @@
 use Rattle.arcstr_block.proofs.Names.{◌≡◌, ℕ, [], ◌∷◌, refl, arith, List, sym, subst, ap, length, ◌++◌, ◌∙◌}
 use Rattle.arcstr_block.proofs.Names.{◌≤◌, IsPrefix, cons≢nil, head-eq_of_cons-eq, tail-eq_of_cons-eq, ℕ_discrete, Ura, Fml, GName, Least}
 use Rattle.arcstr_block.proofs.Names.{SProp, ent, sep, fact, fact_i, heard, at_least_join, ‵, some, ◌$◌, ◌∵◌, !, qed, pick, use2, raw, by, given, learn}
-use Rattle.arcstr_block.proofs.Names.{rewrite, Logic, sem, EndsIn, look_reply, FlagAndCount, looked_of, Marked, Static, Step, Look}
+use Rattle.arcstr_block.proofs.Names.{rewrite, Logic, sem, EndsIn, look_reply, FlagAndCount, looked_of, Marked, Step, Look}
 use Rattle.arcstr_block.proofs.Names.{Leak, reached, steps, IsMarkedIn, word_of, IsMarked}
-use Rattle.arcstr_block.proofs.Names.{true, false, ◌<◌, Option, None, Some, Count}
+use Rattle.arcstr_block.proofs.Names.{true, false, ◌<◌, Option, None, Some, Count, Begin, Ended, IsLater, IsOneBlock, length-append}
 use Rattle.std.specs.Prelude.{IsNone}
-use Rattle.arcstr_count.specs.Model.{start, marked_after, makes_after, word_in, State, after}
+use Rattle.arcstr_count.specs.Model.{start, marked_after, living_after, makes_after, word_in, State, after}
 use Rattle.arcstr_count.proofs.LawsOfHistories.{after_from-append, mark_stays}
-use Rattle.arcstr_count.proofs.OneBlock.{counted_is_unmarked, leak_marks, static_is_marked}
+use Rattle.arcstr_count.proofs.OneBlock.{counted_is_living, counted_is_unmarked, ended_is_marked, free_is_last, freed_is_alone, leak_marks, left_is_used, static_is_marked}
+use Rattle.arcstr_block.specs.Handle.{SawBack, SawCount, SawMark}
 use Rattle.arcstr_block.proofs.Words.{marked_word}
 
 -- ---- the mark
@@ -16,7 +17,7 @@ use Rattle.arcstr_block.proofs.Words.{marked_word}
 pub marked_by_leak : (limit : ℕ) (history : List Step) (h : ℕ) → EndsIn limit history (Leak h) Marked → IsMarkedIn limit history
 marked_by_leak limit history h ends = record { one_block = ends.one_block; marked = leak_marks limit history h ends }
 
-marked_by_look : (limit : ℕ) (history : List Step) (h : ℕ) → EndsIn limit history (Look h) Static → IsMarkedIn limit history
+pub marked_by_look : (limit : ℕ) (history : List Step) (h : ℕ) → SawMark limit history h → IsMarkedIn limit history
 marked_by_look limit history h ends = record { one_block = ends.one_block; marked = static_is_marked limit history h ends }
 
 -- a look that found the marked word n
@@ -25,21 +26,61 @@ pub marked_by_word : (limit n : ℕ) (history : List Step) (h : ℕ) → EndsIn 
 marked_by_word limit n history h ends odd =
     marked_by_look limit history h (subst (EndsIn limit history (Look h)) (ap (λ (w : FlagAndCount). look_reply (looked_of w)) (marked_word n odd)) ends)
 
+-- a block that was marked stays marked
+remains_marked : (limit : ℕ) (before history : List Step) → IsMarkedIn limit before → IsPrefix before history → marked_after limit history 0 ≡ true
+remains_marked limit before history marked starts =
+    let made : 0 < makes_after limit before = omega (arith, marked.one_block.made) in
+    let later : marked_after limit (before ++ starts.0) 0 ≡ true = subst (λ (w : State). (word_in w 0).flag ≡ true)
+    (sym (after_from-append limit start before starts.0)) (mark_stays limit (after limit before) starts.0 0 made marked.marked) in
+    subst (λ r. marked_after limit r 0 ≡ true) starts.1 later
+
 -- a block that was marked before a look is not counted by it
 marked_is_not_counted : (limit : ℕ) (before history : List Step) (h n : ℕ) → IsMarkedIn limit before → IsPrefix before history
     → EndsIn limit history (Look h) (Count n) → ⊥
 marked_is_not_counted limit before history h n marked starts ends =
-    let made : 0 < makes_after limit before = omega (arith, marked.one_block.made) in
-    let later : marked_after limit (before ++ starts.0) 0 ≡ true = subst (λ (w : State). (word_in w 0).flag ≡ true)
-    (sym (after_from-append limit start before starts.0)) (mark_stays limit (after limit before) starts.0 0 made marked.marked) in
-    let stays : marked_after limit history 0 ≡ true = subst (λ r. marked_after limit r 0 ≡ true) starts.1 later in
-    let both : true ≡ false = sym stays ∙ counted_is_unmarked limit history h n ends in cc
+    let both : true ≡ false = sym (remains_marked limit before history marked starts) ∙ counted_is_unmarked limit history h n ends in cc
 
 -- a look at a block that was marked before has no count
 pub stays_marked : (limit : ℕ) (before history : List Step) (h : ℕ) (count : Option ℕ) → IsMarkedIn limit before → IsPrefix before history
     → EndsIn limit history (Look h) (look_reply count) → IsNone count
 stays_marked limit before history h None marked starts ends = refl
 stays_marked limit before history h (Some n) marked starts ends = absurd (marked_is_not_counted limit before history h n marked starts ends)
+
+-- a look that counts did not find the mark
+pub unmarked_by_look : (limit : ℕ) (history : List Step) (h n : ℕ) → SawCount limit history h n → IsMarkedIn limit history → ⊥
+unmarked_by_look limit history h n ends marked = let both : true ≡ false = sym marked.marked ∙ counted_is_unmarked limit history h n ends in cc
+
+-- what it counts are the living handles
+pub living_by_look : (limit : ℕ) (history : List Step) (h n : ℕ) → SawCount limit history h n → n ≡ length (living_after limit history 0)
+living_by_look limit history h n ends = counted_is_living limit history h n ends
+
+-- what a look says of the block; the function whose proof uses this ruleset names it
+pub ruleset what_looks_say = (marked_by_look, unmarked_by_look, living_by_look)
+
+-- a drop whose look ended it found the mark
+pub marked_by_end : (limit : ℕ) (history : List Step) (h : ℕ) → EndsIn limit history (Begin h) Ended → IsMarkedIn limit history
+marked_by_end limit history h ends = record { one_block = ends.one_block; marked = ended_is_marked limit history h ends }
+
+-- a drop that freed the block left no handle on it
+pub alone_by_free : (limit : ℕ) (history : List Step) (h : ℕ) → SawBack limit history h → living_after limit history 0 ≡ []
+alone_by_free limit history h freed = (freed_is_alone limit history h freed).1
+
+-- how a drop that frees nothing leaves its block; the function whose proof uses this ruleset names it
+pub ruleset how_drops_leave = (marked_by_end, left_is_used)
+
+-- ---- later histories
+
+-- no history of one block is later than one that ends in the free
+pub nothing_follows_the_free : (limit : ℕ) (history later : List Step) (h : ℕ) → SawBack limit history h → IsOneBlock limit later → IsLater history later → ⊥
+nothing_follows_the_free limit history later h freed whole more =
+    let rest : List Step = more.0.0 in
+    let is : history ++ rest ≡ later = more.0.1 in
+    free_is_last limit history h freed rest (omega (arith, length-append history rest, ap length is, more.1)) (subst (IsOneBlock limit) (sym is) whole)
+
+-- a block that is marked is never freed
+pub a_marked_block_stays : (limit : ℕ) (before history : List Step) (h : ℕ) → IsMarkedIn limit before → SawBack limit history h → IsLater before history → ⊥
+a_marked_block_stays limit before history h marked freed later =
+    let both : true ≡ false = sym (remains_marked limit before history marked later.0) ∙ (freed_is_alone limit history h freed).0 in cc
 
 -- ---- two prefixes of one history
 

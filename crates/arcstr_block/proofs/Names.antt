@@ -99,7 +99,7 @@ pub use Rattle.arcstr_count.specs.declared.steps.HandleState.TheVariants.{Free, 
 pub use Rattle.arcstr_count.specs.declared.steps.Reply.TheVariants.{Ended, Looked, Owes, Left, Handle, Marked, Given, Count, Static}
 pub use Rattle.arcstr_count.specs.declared.steps.Step.{Step}
 pub use Rattle.arcstr_count.specs.declared.steps.Step.TheVariants.{Make, Look, Clone, Begin, Sub, Back, Leak}
-pub use Rattle.arcstr_block.specs.Book.{BlockName, Book, reached, seat, steps, state_code, seat_share, book, Ends, reached_ending}
+pub use Rattle.arcstr_block.specs.Book.{BlockName, IsLater, Book, reached, seat, steps, state_code, seat_share, book, Ends, reached_ending}
 pub use Rattle.arcstr_block.specs.Handle.{IsMarkedIn}
 pub use Rattle.arcstr_block.specs.Ledger.{Id, parts, unmarked, Ledger, counting, if_alive, Inv, knows, free, held_with, some_share, Phase, marked, IsPhaseOf}
 pub use Rattle.arcstr_block.specs.Ledger.{rest, phase, right_to, of_block, shown, free_shown, known, permanent, with_share, seen, stated, of_block_shown}

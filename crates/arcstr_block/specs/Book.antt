@@ -1,5 +1,5 @@
 -- The history of a block, kept beside its count word: the steps so far, which only grow, and a seat for each handle that was ever born.
-use Rattle.std.specs.Prelude.{ℕ, List, refl}
+use Rattle.std.specs.Prelude.{ℕ, ◌<◌, List, length, refl}
 use Rattle.std.specs.Coded.{Coded, code_by, coded×, coded_ℕ}
 use base.Fraction.{full_share}
 use base.Share.{three_quarters}
@@ -37,6 +37,10 @@ state_code = state_row.coded.code
 abbrev pub reached : GName → List Step → Fml
 reached γ history = at_least steps γ history
 
+-- the history begins with `before`, and is longer: it has a step that `before` does not have
+abbrev pub IsLater : List Step → List Step → Type 0
+IsLater before history = IsPrefix before history × (length before < length history)
+
 -- a share of the seat of handle h, which is in this state
 abbrev pub seat_share : GName → ℕ → Share → HandleState → Fml
 seat_share δ h q state = share_of_seat state_code δ h q state
@@ -54,10 +58,10 @@ module _ (L : ℕ) (γ δ : GName) where
   abbrev pub Book : ℕ → Fml
   Book n = fex (List Step × List HandleState) (book n)
 
-  -- the history has reached one that begins with `before` and ends in this step, and this reply is the core's answer to it
+  -- the history has reached one that is later than `before` and ends in this step, and this reply is the core's answer to it
   abbrev pub reached_ending : List Step → Step → Reply → List Step → Fml
-  reached_ending before s reply r = fsep (fex (EndsIn L r s reply × IsPrefix before r) (λ _. ftrue)) (reached γ r)
+  reached_ending before s reply r = fsep (fex (EndsIn L r s reply × IsLater before r) (λ _. ftrue)) (reached γ r)
 
-  -- some prefix that was reached begins with `before` and ends in this step, with this reply
+  -- some prefix that was reached is later than `before` and ends in this step, with this reply
   abbrev pub Ends : List Step → Step → Reply → Fml
   Ends before s reply = fex (List Step) (reached_ending before s reply)

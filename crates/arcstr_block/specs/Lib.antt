@@ -8,3 +8,4 @@ pub mod Book
 pub mod Making
 pub mod Building
 pub mod Handle
+pub mod Ending

@@ -1,6 +1,5 @@
 -- What the steps of a handle say: of another pointer to its block, and of how the handle ended.
 use Rattle.std.specs.Prelude.{◌≡◌, ℕ, Bool, true, false, List}
-use mathlib.Core.List.{IsPrefix}
 use Rattle.arcstr_count.specs.declared.steps.Step.{Step}
 use Rattle.arcstr_count.specs.declared.steps.Step.TheVariants.{Look, Begin, Sub, Leak}
 use Rattle.arcstr_count.specs.declared.steps.Reply.{Reply}
@@ -9,17 +8,18 @@ use Rattle.arcstr_count.specs.Word.{looked_of}
 use Rattle.arcstr_count.specs.Model.{look_reply}
 use Rattle.arcstr_count.specs.OneBlock.{EndsIn}
 use Rattle.arcstr_block.specs.Word.{word_of, IsMarked, IsUnmarked, IsLast}
+use Rattle.arcstr_block.specs.Book.{IsLater}
 use Rattle.arcstr_block.specs.Handle.{Handle, IsMarkedIn}
 use Rattle.arcstr_block.specs.declared.pointer.Pointer.{Pointer}
 use Rattle.arcstr_block.specs.declared.owed.Down.{Down}
 use Rattle.arcstr_block.specs.declared.owed.Down.TheVariants.{Ended, Left, Owes}
 
--- the history begins with `before`, ends in a look of handle h that found the count word, and has marked its block if the count word is marked;
+-- the history is later than `before`, ends in a look of handle h that found the count word, and has marked its block if the count word is marked;
 -- the load of a clone, which gives birth to a handle, says nothing
 abbrev pub LoadEnds : Bool → ℕ → ℕ → List Step → ℕ → List Step → Type 0
 LoadEnds true limit h before word history = Unit {0}
 LoadEnds false limit h before word history =
-    EndsIn limit history (Look h) (look_reply (looked_of (word_of word))) × (IsMarked word → IsMarkedIn limit history) × IsPrefix before history
+    EndsIn limit history (Look h) (look_reply (looked_of (word_of word))) × (IsMarked word → IsMarkedIn limit history) × IsLater before history
 
 module _ {A : Type 0} where
   -- the two have one allocator, one content, one limit and one history
@@ -44,17 +44,17 @@ module _ {A : Type 0} where
 
   -- the mark by p, which marks the block, after the history `before`
   abbrev pub LeakedAs : Pointer A → List Step → Pointer A → Type 0
-  LeakedAs p before q = SawStep p q (Leak p.seat) Marked × IsMarkedIn q.limit q.history × IsPrefix before q.history
+  LeakedAs p before q = SawStep p q (Leak p.seat) Marked × IsMarkedIn q.limit q.history × IsLater before q.history
 
   -- the look of p's drop, after the history `before`
   abbrev pub BegunAs : Pointer A → List Step → ℕ → Pointer A → Type 0
   BegunAs p before word q = (q.seat ≡ p.seat) × (IsMarked word → SawStep p q (Begin p.seat) EndedReply)
-      × (IsUnmarked word → SawStep p q (Begin p.seat) LookedReply) × IsPrefix before q.history
+      × (IsUnmarked word → SawStep p q (Begin p.seat) LookedReply) × IsLater before q.history
 
   -- the subtraction of p's drop, after what p has seen
   abbrev pub SubtractedAs : Pointer A → ℕ → Pointer A → Type 0
   SubtractedAs p word q = (q.seat ≡ p.seat) × (IsLast word → SawStep p q (Sub p.seat) OwesReply)
-      × ((¬ IsLast word) → SawStep p q (Sub p.seat) LeftReply) × IsPrefix p.history q.history
+      × ((¬ IsLast word) → SawStep p q (Sub p.seat) LeftReply) × IsLater p.history q.history
 
 -- the history ends in the look of the drop of handle h, or in its subtraction, and the core's answer has the same name
 abbrev pub EndsAs : {A : Type 0} → ℕ → List Step → ℕ → Down A → Type 0

@@ -1,10 +1,12 @@
 //! The laws of blocks. A law does nothing when it runs: it takes no atomic step, and does not allocate.
 ghost use Rattle.std.specs.Prelude.{◌≡◌, ◌≢◌};
+ghost use Rattle.arcstr_block.specs.Ending.{IsFreeLast};
 ghost use Rattle.arcstr_block.specs.Rights.{owed, HasSeat, MaySee};
 
 use crate::fixed::Fixed;
 use crate::owed::Owed;
 use crate::pointer::Pointer;
+use crate::seen::Seen;
 use crate::shared::{Counted, Shared};
 use std::alloc::Allocator;
 
@@ -130,6 +132,20 @@ impl<A: Allocator + Copy> Owed<A> {
     {
         self.has_no_reader(&fixed.pointer)
     }
+}
+
+impl Seen {
+    /// The law that nothing follows the free: where a history ends in the free, no handle on the block lives, and no history of the block is later. So a
+    /// block is freed at most once, and no call through a handle on it comes after that. A block that is marked static is never freed.
+    ///
+    /// ```
+    /// let (_, first) = Shared::<5, _>::from_text(rt.alloc(), "a")?.end();
+    /// let (_, other) = Shared::<5, _>::from_text(rt.alloc(), "a")?.end();
+    /// first.nothing_follows_the_free(&other);
+    /// ```
+    pub fn nothing_follows_the_free(&self, other: &Seen)
+        ensures law { IsFreeLast self.now.history other.now.history }
+    {}
 }
 
 impl<A: Allocator> Owed<A> {

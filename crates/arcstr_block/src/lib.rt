@@ -5,6 +5,7 @@
 #![tactic(auto)]
 
 pub use building::Draft;
+pub use ending::End;
 pub use fault::TextFault;
 pub use fixed::Fixed;
 pub use joining::joined_len;
@@ -14,6 +15,7 @@ pub use shared::Shared;
 
 mod block;
 mod building;
+mod ending;
 mod fault;
 mod fixed;
 mod joining;

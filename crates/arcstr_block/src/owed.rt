@@ -1,7 +1,7 @@
 //! What remains after the end of a handle.
 ghost use Rattle.std.specs.Prelude.{◌≡◌, length};
-ghost use mathlib.Core.List.{IsPrefix};
 ghost use Rattle.arcstr_block.specs.Rights.{owed};
+ghost use Rattle.arcstr_block.specs.Book.{IsLater};
 ghost use Rattle.arcstr_block.specs.Handle.{Debt, SawBack};
 ghost use Rattle.arcstr_block.specs.Memory.{word_offset};
 
@@ -87,8 +87,8 @@ impl<A: Allocator> Owed<A> {
     pub fn free(self) -> Seen
         // Promise: The history of the block says that this handle freed it.
         ensures step { SawBack self.limit result.history self.seat }
-        // Promise: It begins with the history of the drop that owed the block.
-        ensures after { IsPrefix self.history result.history }
+        // Promise: It begins with the history of the drop that owed the block, and is longer.
+        ensures after { IsLater self.history result.history }
         ensures block { result.block ≡ self.block }
     {
         let Owed {
@@ -99,16 +99,5 @@ impl<A: Allocator> Owed<A> {
         let (block, len, seen) = pointer.back(offset);
         block.give_back(&alloc, size_of_block(len));
         seen
-    }
-}
-
-impl<A: Allocator> Down<A> {
-    /// Frees what is owed.
-    pub(crate) fn free_owed(self) {
-        match self {
-            Down::Ended => {}
-            Down::Left => {}
-            Down::Owes(owed) => owed.give_back(),
-        }
     }
 }

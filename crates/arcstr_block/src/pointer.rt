@@ -5,7 +5,6 @@
 //! (`proofs/pointer/Pointer/NAME/Proof.antt`) moves them, so a body shows only the machine's step. Each step gets the word
 //! offset, `offset`: how many bytes past the address the count word lies. `make` begins the history with `Make`, and `back`
 //! ends it with `Back`; `IntoRaw` and `FromRaw` never occur in it.
-ghost use mathlib.Core.List.{IsPrefix};
 ghost use Rattle.std.specs.Prelude.{◌≡◌, ℕ, Bool, List, length, IsUtf8};
 ghost use Rattle.std.specs.Coded.{coded_list};
 ghost use Rattle.arcstr_count.specs.declared.steps.Step.{Step};
@@ -16,7 +15,7 @@ ghost use Rattle.arcstr_block.specs.Rights.{Right, right_code, nothing, counted,
 ghost use Rattle.arcstr_block.specs.Rights.{IsFree, MaySee, IsIdle, Loads, Gains, Begins, Leaves};
 ghost use Rattle.arcstr_block.specs.Handle.{SawBack};
 ghost use Rattle.arcstr_block.specs.Memory.{Fits, word_offset};
-ghost use Rattle.arcstr_block.specs.Book.{BlockName, name_code};
+ghost use Rattle.arcstr_block.specs.Book.{BlockName, IsLater, name_code};
 ghost use Rattle.arcstr_block.specs.Ledger.{pointer_owns, pointer_shares};
 
 use crate::block::{Sole, Tail};
@@ -89,7 +88,7 @@ impl<A: Allocator> Pointer<A> {
     }
 
     /// Loads the count word, for a clone or for a look. A clone that finds the block marked succeeds.
-    /// What a look has seen begins with `before`.
+    /// What a look has seen is later than `before`.
     pub(crate) fn load(&self, offset: usize, before: &Seen) -> (u64, Pointer<A>)
         ghost clones: { Bool }
         requires right { IsFree self.now.right }
@@ -137,7 +136,7 @@ impl<A: Allocator> Pointer<A> {
         )
     }
 
-    /// One fetch-or, which sets the static flag. What it has seen begins with `before`.
+    /// One fetch-or, which sets the static flag. What it has seen is later than `before`.
     pub(crate) fn leak(&self, offset: usize, before: &Seen) -> Pointer<A>
         requires right { IsFree self.now.right }
         requires offset { offset ≡ word_offset (length self.now.text) }
@@ -157,7 +156,7 @@ impl<A: Allocator> Pointer<A> {
         }
     }
 
-    /// The look of a drop: one load. What it has seen begins with `before`.
+    /// The look of a drop: one load. What it has seen is later than `before`.
     pub(crate) fn begin(self, offset: usize, before: &Seen) -> (u64, Pointer<A>)
         requires right { IsFree self.right }
         requires offset { offset ≡ word_offset (length self.text) }
@@ -213,7 +212,7 @@ impl<A: Allocator> Pointer<A> {
         ensures length { result.1 ≡ length self.text }
         ensures fits { Fits result.1 }
         ensures history { SawBack self.limit result.2.history self.seat }
-        ensures after { IsPrefix self.history result.2.history }
+        ensures after { IsLater self.history result.2.history }
         ensures block { result.2.block ≡ self.block }
     {
         let Pointer { at, marker } = self;

@@ -9,7 +9,7 @@ ghost use Rattle.arcstr_block.specs.Book.{reached, BlockName, name_code};
 use std::marker::{Model, PhantomData};
 
 /// A prefix of a block's history, which stays one. A `Seen` has no bytes, can be sent and shared, and its drop does nothing.
-/// Its one function is a law: it does nothing when it runs.
+/// Its functions are laws: they do nothing when they run.
 ///
 /// `history` lists the steps in their order, and `block` names the block: its history, and the seats of its handles.
 ///

@@ -1,7 +1,7 @@
 //! One handle on a block. No call here allocates, and only `up` may wait.
 ghost use Rattle.std.specs.Prelude.{◌≡◌, ℕ, length, IsUtf8, ◌<◌, ◌≤◌, ◌+◌, MatchOption, IfOk, IfErr, IfSome, IsNone, IsSome};
-ghost use mathlib.Core.List.{IsPrefix};
 ghost use Rattle.arcstr_count.specs.Word.{bits_of, fresh_word};
+ghost use Rattle.arcstr_block.specs.Book.{IsLater};
 ghost use Rattle.arcstr_block.specs.Memory.{Fits};
 ghost use Rattle.arcstr_block.specs.Word.{IsLimit, IsUnmarked, IsCountWord, IsOtherWord};
 ghost use Rattle.arcstr_block.specs.Rights.{IsFree, is_free_once};
@@ -136,8 +136,8 @@ impl<const LIMIT: u64, A: Allocator + Copy> Shared<LIMIT, A> {
         ensures count { IfSome result.0 (λ count. (0 < count) × (count ≤ LIMIT + 1)) }
         ensures seen { MatchOption result.0 (SawMark LIMIT result.1.history self.now.seat) (λ count. SawCount LIMIT result.1.history self.now.seat count) }
         ensures block { result.1.block ≡ self.now.block }
-        // Promise: The history seen begins with what the caller had seen.
-        ensures after { IsPrefix before.now.history result.1.history }
+        // Promise: The history seen begins with what the caller had seen, and is longer.
+        ensures after { IsLater before.now.history result.1.history }
         // Promise: A block that was marked before stays marked.
         ensures marked { IsMarkedIn LIMIT before.now.history → IsNone result.0 }
     {
@@ -179,8 +179,8 @@ impl<const LIMIT: u64, A: Allocator + Copy> Shared<LIMIT, A> {
         ensures kept { IfSome result.0 (λ fixed. fixed ≡ kept_of LIMIT self.now result.1.history) }
         ensures seen { MatchOption result.0 ((n : ℕ) × SawCount LIMIT result.1.history self.now.seat n) (λ _. SawMark LIMIT result.1.history self.now.seat) }
         ensures block { result.1.block ≡ self.now.block }
-        // Promise: The history seen begins with what the caller had seen.
-        ensures after { IsPrefix before.now.history result.1.history }
+        // Promise: The history seen begins with what the caller had seen, and is longer.
+        ensures after { IsLater before.now.history result.1.history }
         // Promise: A block that was marked before stays marked.
         ensures marked { IsMarkedIn LIMIT before.now.history → IsSome result.0 }
     {
@@ -233,8 +233,8 @@ impl<const LIMIT: u64, A: Allocator + Copy> Shared<LIMIT, A> {
         requires before { before.now.block ≡ self.now.block }
         ensures kept { result ≡ kept_of LIMIT self.now result.history }
         ensures step { SawLeak LIMIT result.history self.now.seat }
-        // Promise: The history seen begins with what the caller had seen.
-        ensures after { IsPrefix before.now.history result.history }
+        // Promise: The history seen begins with what the caller had seen, and is longer.
+        ensures after { IsLater before.now.history result.history }
     {
         let offset = offset_of_word(self.handle.len);
         Fixed {
@@ -387,8 +387,8 @@ impl<const LIMIT: u64, A: Allocator + Copy> Shared<LIMIT, A> {
         ensures seen { EndsAs LIMIT result.1.history self.seat result.0 }
         ensures owes { OwesAs self result.1.history result.0 }
         ensures block { result.1.block ≡ self.block }
-        // Promise: The history seen begins with what the caller had seen.
-        ensures after { IsPrefix before.now.history result.1.history }
+        // Promise: The history seen begins with what the caller had seen, and is longer.
+        ensures after { IsLater before.now.history result.1.history }
     {
         let Shared { handle } = self;
         let Counted {
@@ -492,7 +492,6 @@ impl<const LIMIT: u64, A: Allocator + Copy> Counted<LIMIT, A> {
 impl<const LIMIT: u64, A: Allocator + Copy> Drop for Shared<LIMIT, A> {
     /// Ends the handle, and frees what it owes.
     fn drop(self) {
-        let (down, _) = self.down();
-        down.free_owed();
+        self.end();
     }
 }

@@ -13,7 +13,7 @@ pub use Rattle.arcstr_count.specs.Model.{StandsAfter, State, accepted, after, af
 pub use Rattle.arcstr_count.specs.Model.{given_after, given_in, handles_on, handles_with_state, is_dropping, is_owing, lives, living_after, look_reply}
 pub use Rattle.arcstr_count.specs.Model.{makes_after, marked_after, no_block, no_handle, numbers_below, owing_after, refusal_in, replies, replies_from, start}
 pub use Rattle.arcstr_count.specs.Model.{state_in, state_on, step, unless_refused, word_after, word_in, word_on}
-pub use Rattle.arcstr_count.specs.OneBlock.{EndsIn, Keeps, are_accepted}
+pub use Rattle.arcstr_count.specs.OneBlock.{EndsIn, IsInUse, IsOneBlock, Keeps, are_accepted}
 pub use Rattle.arcstr_count.specs.Word.{FlagAndCount, cloned_of, dropped_of, fresh_word, is_last, looked_of, marked_of}
 pub use Rattle.arcstr_count.specs.declared.faults.StepFault.{StepFault}
 pub use Rattle.arcstr_count.specs.declared.faults.StepFault.TheVariants.{InDrop, IsRaw, NoHandle, NotInDrop, NotOwing, NotRaw}

@@ -9,9 +9,11 @@ use Rattle.arcstr_count.proofs.Names.{Step, Make, Look, Clone, Begin, Sub, Back,
 use Rattle.arcstr_count.proofs.Names.{Count, Handle, Looked, Ended, Left, Owes, Given, Marked, Static, StepFault, FlagAndCount, fresh_word, looked_of, cloned_of, dropped_of, is_last, marked_of}
 use Rattle.arcstr_count.proofs.Names.{needs, refusal_by, refusal_unless, State, after, start, no_handle, no_block, block_on, state_in, word_in, word_on, given_in}
 use Rattle.arcstr_count.proofs.Names.{handles_with_state, blocks_with_word, blocks_with_given, accepted, refusal_in, unless_refused, step, look_reply, lives, is_dropping}
-use Rattle.arcstr_count.proofs.Names.{is_owing, makes_after, marked_after, handles_on, are_accepted, Keeps, EndsIn, after_from, and_parts}
-use Rattle.arcstr_count.proofs.LawsOfBlocks.{is_in_state, step_finds, accepts_needed, lawful_after, held, length-handles_on, passes_on, on_it, one_if, begun_by}
-use Rattle.arcstr_count.proofs.LawsOfHistories.{SaysOfBlock, after-step, says, dropping_counted}
+use Rattle.std.specs.Prelude.{◌-◌}
+use Rattle.arcstr_count.proofs.Names.{is_owing, makes_after, marked_after, handles_on, are_accepted, Keeps, EndsIn, after_from, and_parts, ◌⊎◌, inl, inr}
+use Rattle.arcstr_count.proofs.Names.{nil_from_length, IntoRaw, FromRaw, Raw, word_after, living_after, word_on, IsOneBlock, IsInUse}
+use Rattle.arcstr_count.proofs.LawsOfBlocks.{IsIn, some_on, is_in_state, step_finds, accepts_needed, lawful_after, held, length-handles_on, passes_on, on_it, one_if, begun_by}
+use Rattle.arcstr_count.proofs.LawsOfHistories.{SaysOfBlock, after-step, after_from-append, says, stands, dropping_counted, made_stays}
 use Rattle.std.proofs.lemmas.List.Sums.{sum_by-cons}
 use Rattle.std.proofs.lemmas.Option.{slice_get-map}
 
@@ -318,3 +320,165 @@ counted_is_unmarked limit history h n ends = count_was (marked_after limit histo
   where
     count_was : (f : Bool) (k : ℕ) → look_reply (if f then None else Some k) ≡ Count n → f ≡ false
     count_was f k e = grind arith
+
+-- a look at the one block that answers a number counted its living handles
+pub counted_is_living : (limit : ℕ) (history : List Step) (h n : ℕ) → EndsIn limit history (Look h) (Count n) → n ≡ length (living_after limit history 0)
+counted_is_living limit history h n ends =
+    let i = step_finds (after limit ends.prefix) h Free (last_accepted limit history (Look h) (Count n) ends) in
+    let on = last_on limit history (Look h) (Count n) ends h refl i.born in
+    let same : word_after limit history 0 ≡ word_on (after limit ends.prefix) h =
+        ap (λ (v : State). word_in v 0) (last_state limit history (Look h) (Count n) ends) ∙ ap (λ b. word_in (after limit ends.prefix) b) (sym on) in
+    let one = ends.one_block.made in
+    count_was (word_on (after limit ends.prefix) h).flag (word_on (after limit ends.prefix) h).count (last_reply limit history (Look h) (Count n) ends)
+    ∙ sym (ap (λ (w : FlagAndCount). w.count) same)
+    ∙ (stands limit history 0 (omega arith)).exact (counted_is_unmarked limit history h n ends)
+  where
+    count_was : (f : Bool) (k : ℕ) → look_reply (if f then None else Some k) ≡ Count n → n ≡ k
+    count_was true k e = cc
+    count_was false k e = cc
+
+-- ==== how a history of one block ends with a handle of it
+
+-- a drop that ended at its look found the one block marked
+pub ended_is_marked : (limit : ℕ) (history : List Step) (h : ℕ) → EndsIn limit history (Begin h) Ended → marked_after limit history 0 ≡ true
+ended_is_marked limit history h ends =
+    let old : State = after limit ends.prefix in
+    let i = step_finds old h Free (last_accepted limit history (Begin h) Ended ends) in
+    let on = last_on limit history (Begin h) Ended ends h (same_blocks (word_on old h).flag old) i.born in
+    ap (λ (v : State). (word_in v 0).flag) (last_state limit history (Begin h) Ended ends)
+    ∙ same_flag (word_on old h).flag old
+    ∙ ap (λ b. (word_in old b).flag) (sym on)
+    ∙ ended_was (word_on old h).flag old (last_reply limit history (Begin h) Ended ends)
+  where
+    ended_was : (f : Bool) (v : State) → (begun_by f v h).1 ≡ Ended → f ≡ true
+    ended_was true v e = refl
+    ended_was false v e = cc
+
+    same_blocks : (f : Bool) (v : State) → length (begun_by f v h).0.blocks ≡ length v.blocks
+    same_blocks true v = refl
+    same_blocks false v = refl
+
+    same_flag : (f : Bool) (v : State) → (word_in (begun_by f v h).0 0).flag ≡ (word_in v 0).flag
+    same_flag true v = refl
+    same_flag false v = refl
+
+-- a subtraction that was not the last one leaves a marked block or a living handle
+pub left_is_used : (limit : ℕ) (history : List Step) (h : ℕ) → EndsIn limit history (Sub h) Left → IsInUse limit history
+left_is_used limit history h ends =
+    let old : State = after limit ends.prefix in
+    let i = step_finds old h Dropping (last_accepted limit history (Sub h) Left ends) in
+    let on = last_on limit history (Sub h) Left ends h (length-set old.blocks (block_on old h) _) i.born in
+    let left : word_after limit history 0 ≡ dropped_of (word_on old h) =
+        ap (λ (v : State). word_in v 0) (last_state limit history (Sub h) Left ends)
+        ∙ ap (λ b. (get_or (blocks_with_word old.blocks (block_on old h) (dropped_of (word_on old h))) b no_block).word) (sym on)
+        ∙ ap (λ (e : BlockSummary). e.word) (get_or-set_same old.blocks (block_on old h) _ no_block ((lawful_after limit ends.prefix).made h i.born)) in
+    let some : 0 < (word_on old h).count = dropping_counted limit ends.prefix h i.born i.state in
+    let more = left_was (is_last (word_on old h)) (last_reply limit history (Sub h) Left ends) in
+    let one = ends.one_block.made in
+    let exact = (stands limit history 0 (omega arith)).exact in
+    record {
+      one_block = ends.one_block;
+      used = by_flag (word_on old h).flag (word_on old h).count (word_after limit history 0) (length (living_after limit history 0)) left some more exact;
+    }
+  where
+    left_was : (last : Bool) → (if last then Owes else Left) ≡ Left → last ≡ false
+    left_was true e = cc
+    left_was false e = refl
+
+    by_flag : (f : Bool) (n : ℕ) (v : FlagAndCount) (living : ℕ) → v ≡ record { flag = f; count = n - 1 } → 0 < n
+        → is_last (record { flag = f; count = n }) ≡ false → (v.flag ≡ false → v.count ≡ living) → (v.flag ≡ true) ⊎ (0 < living)
+    by_flag true n v living left some more exact = inl (ap (λ (w : FlagAndCount). w.flag) left)
+    by_flag false zero v living left some more exact = absurd (omega arith)
+    by_flag false (suc zero) v living left some more exact = cc
+    by_flag false (suc (suc n)) v living left some more exact =
+        let same : v.count ≡ suc (suc n) - 1 = ap (λ (w : FlagAndCount). w.count) left in
+        let counts : v.count ≡ living = exact (ap (λ (w : FlagAndCount). w.flag) left) in
+        inr (omega (arith, same, counts))
+
+-- a block that was freed is not marked, and no handle on it lives
+pub freed_is_alone : (limit : ℕ) (history : List Step) (h : ℕ) → EndsIn limit history (Back h) Given
+    → (marked_after limit history 0 ≡ false) × (living_after limit history 0 ≡ [])
+freed_is_alone limit history h ends =
+    let old : State = after limit ends.prefix in
+    let found = step_finds old h Owing (last_accepted limit history (Back h) Given ends) in
+    let on = last_on limit history (Back h) Given ends h (length-set old.blocks (block_on old h) _) found.born in
+    let one = ends.one_block.made in
+    let is : given_in (after limit history) 0 ≡ (get_or old.blocks (block_on old h) no_block).given + 1 =
+        ap (λ (v : State). given_in v 0) (last_state limit history (Back h) Given ends)
+        ∙ ap (λ b. (get_or (blocks_with_given old.blocks (block_on old h)) b no_block).given) (sym on)
+        ∙ ap (λ (e : BlockSummary). e.given) (get_or-set_same old.blocks (block_on old h) _ no_block ((lawful_after limit ends.prefix).made h found.born)) in
+    let alone = (says limit (after limit history) 0 (lawful_after limit history) (omega (arith, one))).alone (omega (arith, is)) in
+    (alone.0, nil_from_length (living_after limit history 0) alone.1)
+
+-- nothing follows the free: no history of one block goes on after it
+pub free_is_last : (limit : ℕ) (history : List Step) (h : ℕ) → EndsIn limit history (Back h) Given
+    → (rest : List Step) → 0 < length rest → IsOneBlock limit (history ++ rest) → ⊥
+free_is_last limit history h ends [] more whole = omega arith
+free_is_last limit history h ends (s ∷ rest) more whole = no_step s rest (none_of (refusal_in now s) accepts) whole
+  where
+    old : State
+    old = after limit ends.prefix
+
+    now : State
+    now = after limit history
+
+    accepts : is_none (refusal_in now s) ≡ true
+    accepts = (and_parts (is_none (refusal_in now s)) (are_accepted limit (step limit now s).0 rest) (and_parts (are_accepted limit start history)
+        (are_accepted limit now (s ∷ rest)) (sym (accepted-append limit start history (s ∷ rest)) ∙ whole.accepted)).1).0
+
+    none_of : (o : Option StepFault) → is_none o ≡ true → o ≡ None
+    none_of None e = refl
+    none_of (Some fault) e = cc
+
+    found : IsIn old h Owing
+    found = step_finds old h Owing (last_accepted limit history (Back h) Given ends)
+
+    on : block_on old h ≡ 0
+    on = last_on limit history (Back h) Given ends h (length-set old.blocks (block_on old h) _) found.born
+
+    freed : 0 < given_in now 0
+    freed =
+        let is : given_in now 0 ≡ (get_or old.blocks (block_on old h) no_block).given + 1 =
+            ap (λ (v : State). given_in v 0) (last_state limit history (Back h) Given ends)
+            ∙ ap (λ b. (get_or (blocks_with_given old.blocks (block_on old h)) b no_block).given) (sym on)
+            ∙ ap (λ (e : BlockSummary). e.given) (get_or-set_same old.blocks (block_on old h) _ no_block ((lawful_after limit ends.prefix).made h found.born)) in
+        omega (arith, is)
+
+    one : length now.blocks ≡ 1
+    one = ends.one_block.made
+
+    all : SaysOfBlock limit (word_in now 0) (λ test. length (handles_on now 0 test)) (given_in now 0)
+    all = says limit now 0 (lawful_after limit history) (omega (arith, one))
+
+    none : (test : HandleState → Bool) → length (handles_on now 0 test) ≡ 0 → (k : ℕ) (state : HandleState) → IsIn now k state → test state ≡ true → ⊥
+    none test nobody k state i passes =
+        let below = (lawful_after limit history).made k i.born in
+        let here : block_on now k ≡ 0 = omega (arith, below, one) in
+        let some : 0 < length (handles_on now 0 test) =
+            subst (λ b. 0 < length (handles_on now b test)) here (some_on now k test i.born (ap test i.state ∙ passes)) in
+        omega (arith, nobody, some)
+
+    lives_not : (k : ℕ) (state : HandleState) → IsIn now k state → lives state ≡ true → ⊥
+    lives_not = none lives (all.alone (omega (arith, freed))).1
+
+    owes_not : (k : ℕ) (state : HandleState) → IsIn now k state → is_owing state ≡ true → ⊥
+    owes_not = none is_owing (omega (arith, all.one, freed))
+
+    second : (later : List Step) → IsOneBlock limit (history ++ Make ∷ later) → ⊥
+    second later two =
+        let many : 1 < length (after_from limit (step limit now Make).0 later).blocks =
+            made_stays limit (step limit now Make).0 later 1 (omega (arith, length_push now.blocks (record { word = fresh_word; given = 0 }), one)) in
+        let same : makes_after limit (history ++ Make ∷ later) ≡ length (after_from limit (step limit now Make).0 later).blocks =
+            ap (λ (v : State). length v.blocks) (after_from-append limit start history (Make ∷ later)) in
+        omega (arith, many, same, two.made)
+
+    no_step : (s : Step) (later : List Step) → refusal_in now s ≡ None → IsOneBlock limit (history ++ s ∷ later) → ⊥
+    no_step Make later e two = second later two
+    no_step (Look k) later e two = lives_not k Free (step_finds now k Free e) refl
+    no_step (Clone k) later e two = lives_not k Free (step_finds now k Free e) refl
+    no_step (Begin k) later e two = lives_not k Free (step_finds now k Free e) refl
+    no_step (Sub k) later e two = lives_not k Dropping (step_finds now k Dropping e) refl
+    no_step (Back k) later e two = owes_not k Owing (step_finds now k Owing e) refl
+    no_step (Leak k) later e two = lives_not k Free (step_finds now k Free e) refl
+    no_step (IntoRaw k) later e two = lives_not k Free (step_finds now k Free e) refl
+    no_step (FromRaw k) later e two = lives_not k Raw (step_finds now k Raw e) refl

@@ -1,11 +1,11 @@
 -- Histories of one block, beside its count word and the states of its handles: what a running block keeps.
-use Rattle.std.specs.Prelude.{◌≡◌, ℕ, Bool, true, ◌&&◌, is_none, List, [], ◌∷◌, ◌++◌, map}
+use Rattle.std.specs.Prelude.{◌≡◌, ◌⊎◌, ◌<◌, ℕ, Bool, true, ◌&&◌, is_none, IsTrue, List, [], ◌∷◌, ◌++◌, length, map}
 use Rattle.arcstr_count.specs.declared.steps.Step.{Step}
 use Rattle.arcstr_count.specs.declared.steps.HandleState.{HandleState}
 use Rattle.arcstr_count.specs.declared.steps.HandleSummary.{HandleSummary}
 use Rattle.arcstr_count.specs.declared.steps.Reply.{Reply}
 use Rattle.arcstr_count.specs.Word.{FlagAndCount}
-use Rattle.arcstr_count.specs.Model.{State, start, step, refusal_in, after, makes_after, answer_after, word_after}
+use Rattle.arcstr_count.specs.Model.{State, start, step, refusal_in, after, makes_after, answer_after, word_after, marked_after, living_after}
 
 -- no step of the list is refused, one after another from the state
 abbrev pub are_accepted : ℕ → State → List Step → Bool
@@ -33,3 +33,8 @@ pub record EndsIn (limit : ℕ) (history : List Step) (s : Step) (reply : Reply)
   pub prefix : List Step
   pub ends : history ≡ prefix ++ s ∷ []
   pub answered : answer_after limit prefix s ≡ reply
+
+-- The one block of the history is in use after it: the block is marked, or a handle on it lives.
+pub record IsInUse (limit : ℕ) (history : List Step) : Type 0 where
+  pub one_block : IsOneBlock limit history
+  pub used : IsTrue (marked_after limit history 0) ⊎ (0 < length (living_after limit history 0))

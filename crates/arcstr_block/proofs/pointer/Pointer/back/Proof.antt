@@ -9,7 +9,7 @@ use Rattle.arcstr_block.proofs.Names.{flt_i, at_ret, basic, sub, whole, agg, loo
 use Rattle.arcstr_block.proofs.Names.{load, bin, tail, word_out, word_in, word, leaves, proved, Gone, Given, Back, Book, seat, Ends, held_with, block_owns}
 use Rattle.arcstr_block.proofs.Names.{block_shares, Fits, word_offset, length_lies, Right, owed}
 use Rattle.arcstr_block.proofs.Book.{book_back}
-use Rattle.arcstr_block.proofs.Names.{BlockName, IsPrefix, reached, Token, token_made, unit, use3}
+use Rattle.arcstr_block.proofs.Names.{BlockName, IsLater, reached, Token, token_made, unit, use3}
 use Rattle.arcstr_block.specs.Handle.{SawBack}
 use Rattle.arcstr_block.proofs.Pointers.{pointer_val, typed, seen_val, measured_val, measured_typed, Words, told, made}
 use Rattle.arcstr_block.specs.contracts.pointer.Pointer.back.{ended, clauses}
@@ -78,7 +78,7 @@ back_spec 𝓤 𝓛 𝓜 𝓡 wired Y K g d dd met md =
     fpack ! (Valss (Alone ∷ usize ∷ H' ∷ [])) (λ uss. fsep (feq (List Val) (r ∷ []) (vstruct (of_list (uss.0 ++ (uss.1.0 ++ (uss.1.1.0 ++ [])))) ∷ []))
     (owns (Alone ∷ usize ∷ H' ∷ []) (v, (n, (s', tt))) uss)) (pointer_val p ∷ [], (vint w64 n ∷ [], (seen_val ∷ [], tt))) $
     use0 𝓛 (raw (fact 𝓤 (h.block ≡ h.block))) (fact_i 𝓤 (h.block ≡ h.block) (emp 𝓤) refl) $
-    use0 𝓛 (raw (fact 𝓤 (IsPrefix h.history r'))) (fact_i 𝓤 (IsPrefix h.history r') (emp 𝓤) ends.1) $ join ! $
+    use0 𝓛 (raw (fact 𝓤 (IsLater h.history r'))) (fact_i 𝓤 (IsLater h.history r') (emp 𝓤) ends.1) $ join ! $
     use0 𝓛 (raw (fact 𝓤 (SawBack lim r' h.seat))) (fact_i 𝓤 (SawBack lim r' h.seat) (emp 𝓤) ends.0) $ join ! $
     use0 𝓛 (raw (fact 𝓤 (Fits n))) (fact_i 𝓤 (Fits n) (emp 𝓤) inb.1.0) $ join ! $ use0 𝓛 (raw (fact 𝓤 (n ≡ n))) (fact_i 𝓤 (n ≡ n) (emp 𝓤) refl) $ join ! $
     use0 𝓛 (raw (fact 𝓤 (xs ≡ xs))) (fact_i 𝓤 (xs ≡ xs) (emp 𝓤) refl) $ join ! $

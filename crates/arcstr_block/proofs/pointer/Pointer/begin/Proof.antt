@@ -8,7 +8,7 @@ use Rattle.arcstr_block.proofs.Names.{raw, by, keep, fsplit3, drop, use3, at_ret
 use Rattle.arcstr_block.proofs.Names.{blocks, exec, returns, enter, addr, bin, Calls-last, tail, found, fm, seq_cst, finds, loads, leaves, proved, EndsIn}
 use Rattle.arcstr_block.proofs.Names.{FlagAndCount, Free, Ended, Looked, Begin, seat, Ends, Inv, free, right_to, block_owns, block_shares, word_at, word_offset}
 use Rattle.arcstr_block.proofs.Names.{Right, IsFree, Begins, IsMarked, IsUnmarked}
-use Rattle.arcstr_block.proofs.Names.{BlockName, IsPrefix, List, RefOf, Step, Token, fhide, hidden_shr, lent_out, named, reached, rewrite, shr_Tells, shr_vals, unhide, unit}
+use Rattle.arcstr_block.proofs.Names.{BlockName, IsLater, List, RefOf, Step, Token, fhide, hidden_shr, lent_out, named, reached, rewrite, shr_Tells, shr_vals, unhide, unit}
 use Rattle.arcstr_block.proofs.Memory.{shares_laws}
 use Rattle.arcstr_block.proofs.Pointers.{pointer_val, typed, found_val, found_typed, Words, told}
 use Rattle.arcstr_block.proofs.Book.{book_begin, begun, begin_reply}
@@ -103,7 +103,7 @@ begin_spec 𝓤 𝓛 𝓜 𝓡 wired Y K g d dd met md =
     use1 𝓛 (‵ (fex (Valss (u64 ∷ Row ∷ [])) (framed.found_as 𝓛 B g h' n))) (framed.found_in 𝓛 B g h' n fits) $
     let Same : Type 0 = (h.home ≡ h.home) × (h.text ≡ h.text) × (lim ≡ lim) × (h.block ≡ h.block) in
     let Saw : Type 0 = (h.seat ≡ h.seat) × (IsMarked n → EndsIn lim r' (Begin h.seat) Ended) × (IsUnmarked n → EndsIn lim r' (Begin h.seat) Looked)
-    × IsPrefix before r' in
+    × IsLater before r' in
     use0 𝓛 (raw (fact 𝓤 (Begins n k)) ⊛ raw (fact 𝓤 Saw) ⊛ raw (fact 𝓤 Same))
     (framed.three 𝓛 got.said (
       refl,

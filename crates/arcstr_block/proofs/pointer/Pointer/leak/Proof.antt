@@ -9,7 +9,7 @@ use Rattle.arcstr_block.proofs.Names.{fsplit3, drop, rewrite, use3, at_ret, mean
 use Rattle.arcstr_block.proofs.Names.{blocks, exec, returns, enter, load, addr, bin, Calls-last, tail, found, fm, seq_cst, finds, ors, leaves, proved, EndsIn}
 use Rattle.arcstr_block.proofs.Names.{Free, Marked, Leak, seat_share, Ends, IsMarkedIn, Inv, knows, right_to, pointer_shares, block_owns, block_shares, word_at}
 use Rattle.arcstr_block.proofs.Names.{word_offset, Right, IsFree, fixed}
-use Rattle.arcstr_block.proofs.Names.{BlockName, IsPrefix, Step, Token, reached, unit}
+use Rattle.arcstr_block.proofs.Names.{BlockName, IsLater, Step, Token, reached, unit}
 use Rattle.arcstr_block.proofs.Memory.{shares_laws}
 use Rattle.arcstr_block.proofs.Pointers.{pointer_val, typed, Words, told, opened}
 use Rattle.arcstr_block.proofs.Book.{book_mark}
@@ -120,7 +120,7 @@ leak_spec 𝓤 𝓛 𝓜 𝓡 wired Y K g d dd met md =
     let h' : Row.Denot = record h { right = k; seat = 0; history = r' } in let r : Val = pointer_val p in
     move ! (1 ∷ 3 ∷ 0 ∷ []) $ use3 𝓛 (‵ (Row.own_val h' (pointer_val p ∷ []))) (framed.pointer_in 𝓛 B g h' t named inb) $
     let Same : Type 0 = (h.home ≡ h.home) × (h.text ≡ h.text) × (lim ≡ lim) × (h.block ≡ h.block) in
-    let Saw : Type 0 = EndsIn lim r' (Leak h.seat) Marked × IsMarkedIn lim r' × IsPrefix before r' in
+    let Saw : Type 0 = EndsIn lim r' (Leak h.seat) Marked × IsMarkedIn lim r' × IsLater before r' in
     use0 𝓛 (raw (fact 𝓤 (k ≡ fixed)) ⊛ raw (fact 𝓤 Saw) ⊛ raw (fact 𝓤 Same))
     (framed.three 𝓛 got.said (ends.0, marked_by_leak lim r' h.seat ends.0, ends.1) (refl, refl, refl, refl)) $
     nothing ! $ nothing ! $ fjoin ! $ nothing ! $ fjoin ! $ nothing ! $ fjoin ! $ returns ! (look_at ! 0 refl) $ free_all ! refl $ keep ! (3 ∷ 0 ∷ 2 ∷ 1 ∷ []) $

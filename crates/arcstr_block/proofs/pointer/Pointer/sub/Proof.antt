@@ -8,7 +8,7 @@ use Rattle.arcstr_block.proofs.Names.{raw, by, keep, fsplit3, drop, rewrite, use
 use Rattle.arcstr_block.proofs.Names.{first, blocks, exec, returns, enter, addr, bin, Calls-last, tail, found, fm, seq_cst, finds, subs, leaves, proved, EndsIn}
 use Rattle.arcstr_block.proofs.Names.{Dropping, Owes, Left, Sub, seat, Ends, Inv, held_with, right_to, block_owns, block_shares, word_at, word_offset, Right}
 use Rattle.arcstr_block.proofs.Names.{dropping, Leaves}
-use Rattle.arcstr_block.proofs.Names.{IsPrefix, reached}
+use Rattle.arcstr_block.proofs.Names.{IsLater, reached}
 use Rattle.arcstr_block.proofs.Memory.{shares_laws}
 use Rattle.arcstr_block.proofs.Pointers.{pointer_val, typed, found_val, found_typed, Words, told}
 use Rattle.arcstr_block.proofs.Book.{book_sub, left_in, sub_reply}
@@ -83,7 +83,7 @@ sub_spec 𝓤 𝓛 𝓜 𝓡 wired Y K g d dd met md =
     use1 𝓛 (‵ (fex (Valss (u64 ∷ Row ∷ [])) (framed.found_as 𝓛 B g h' n))) (framed.found_in 𝓛 B g h' n fits) $
     let Same : Type 0 = (h.home ≡ h.home) × (h.text ≡ h.text) × (lim ≡ lim) × (h.block ≡ h.block) in
     let Saw : Type 0 = (h.seat ≡ h.seat) × (n ≡ 2 → EndsIn lim r' (Sub h.seat) Owes) × (n ≢ 2 → EndsIn lim r' (Sub h.seat) Left)
-    × IsPrefix h.history r' in
+    × IsLater h.history r' in
     use0 𝓛 (raw (fact 𝓤 (Leaves n k)) ⊛ raw (fact 𝓤 Saw) ⊛ raw (fact 𝓤 Same))
     (framed.three 𝓛 got.said (
       refl,

@@ -1,0 +1,196 @@
+//! Answers that are in order: each call has seen all that its caller had seen of the block's history, and more.
+//!
+//! A `Seen` has no bytes. `None` stands for nothing seen, as of a literal or a permanent block, on which no call here takes an atomic step. No call allocates
+//! or waits.
+ghost use Rattle.std.specs.Prelude.{◌≡◌, ◌↔◌, ◌+◌, ◌≤◌, IfSome, IsNone, IsTrue, None, length};
+ghost use Rattle.arcstr_count.specs.Model.{living_after};
+ghost use Rattle.arcstr_block.specs.Book.{IsLater};
+ghost use Rattle.arcstr_block.specs.Handle.{IsMarkedIn, kept_of};
+ghost use Rattle.arcstr_block.specs.Ending.{EndedAs};
+ghost use Rattle.arcstr_block.specs.declared.ending.End.TheVariants.{Ended};
+ghost use Rattle.arcstr.specs.TextView.{IsStatic, leaked};
+ghost use Rattle.arcstr.specs.History.{IsSeenEnd, IsSeenOf, IsSeenStatic, SeesAfter};
+
+use crate::arc_str::ArcStr;
+use crate::static_str::StaticStr;
+use crate::substr::Substr;
+use arcstr_block::{End, Fixed, Seen, Shared};
+use arcstr_count::RC_MAX;
+use std::alloc::Global;
+
+impl ArcStr {
+    /// As `ArcStr::is_static`, after what the caller has seen of the block. Returns the answer and what this call has seen.
+    ///
+    /// ```
+    /// let text = ArcStr::from_str(rt.alloc(), "foo")?;
+    /// let (_, seen) = ArcStr::is_static_after(&text, &None);
+    /// text.leak();
+    /// assert!(rt; ArcStr::is_static_after(&text, &seen).0);
+    /// ```
+    pub fn is_static_after(this: &ArcStr, before: &Option<Seen>) -> (bool, Option<Seen>)
+        requires before { IsSeenOf this.now.kind before.now }
+        ensures seen { SeesAfter this.now.kind before.now result.1 }
+        // Promise: The answer is that of the history seen.
+        ensures exact { IsTrue result.0 ↔ IsSeenStatic this.now.kind result.1 }
+        // Promise: What was seen static stays static.
+        ensures stays { IsSeenStatic this.now.kind before.now → IsTrue result.0 }
+    {
+        let (count, seen) = ArcStr::strong_count_after(this, before);
+        (count.is_none(), seen)
+    }
+
+    /// As `ArcStr::strong_count`, after what the caller has seen of the block. Returns the answer and what this call has seen.
+    ///
+    /// ```
+    /// let text = ArcStr::from_str(rt.alloc(), "foo")?;
+    /// let (count, seen) = ArcStr::strong_count_after(&text, &None);
+    /// assert_eq!(rt; (count, seen.is_some()), (Some(1), true));
+    /// assert_eq!(rt; ArcStr::strong_count_after(&text, &seen).0, Some(1));
+    /// ```
+    pub fn strong_count_after(this: &ArcStr, before: &Option<Seen>) -> (Option<usize>, Option<Seen>)
+        requires before { IsSeenOf this.now.kind before.now }
+        ensures seen { SeesAfter this.now.kind before.now result.1 }
+        // Promise: There is no count exactly if the text is static in the history seen.
+        ensures exact { IsNone result.0 ↔ IsSeenStatic this.now.kind result.1 }
+        // Promise: A count is the number of handles that live in the history seen.
+        ensures living { IfSome result.0 (λ count. IfSome result.1 (λ seen. count ≡ length (living_after RC_MAX seen.history 0))) }
+        // Promise: What was seen static stays static.
+        ensures stays { IsSeenStatic this.now.kind before.now → IsNone result.0 }
+    {
+        let Some(shared) = this.counted() else {
+            return (None, None);
+        };
+        let (count, seen) = look(shared, before);
+        (count.map(|count| count as usize), Some(seen))
+    }
+
+    /// As `ArcStr::leak`, after what the caller has seen of the block. Returns the permanent text and what this call has seen, in which the block is marked
+    /// static.
+    ///
+    /// ```
+    /// let text = ArcStr::from_str(rt.alloc(), "foo")?;
+    /// let (kept, seen) = text.leak_after(&None);
+    /// assert_eq!(rt; kept.as_str(), "foo");
+    /// assert_eq!(rt; ArcStr::strong_count_after(&text, &seen).0, None);
+    /// ```
+    pub fn leak_after(&self, before: &Option<Seen>) -> (StaticStr, Option<Seen>)
+        requires before { IsSeenOf self.now.kind before.now }
+        ensures same { result.0 ≡ leaked self.now }
+        ensures seen { SeesAfter self.now.kind before.now result.1 }
+        // Promise: The text is static in the history seen.
+        ensures marked { IsSeenStatic self.now.kind result.1 }
+    {
+        let Some(shared) = self.counted() else {
+            return (self.leak(), None);
+        };
+        let fixed = mark(shared, before);
+        let seen = fixed.seen();
+        (StaticStr::new(ArcStr::from_fixed(fixed)), Some(seen))
+    }
+
+    /// Drops the handle. Returns how it ended, and what the drop has seen: `End::Freed` means that it was the last handle and the memory of the block is
+    /// freed, `End::Left` that the count was decremented and the block stays, and `End::Ended` that the block is marked static, or that the text was a literal
+    /// or permanent. The implicit drop runs the same code.
+    ///
+    /// ```
+    /// let text = ArcStr::from_str(rt.alloc(), "foo")?;
+    /// let other = text.clone(&rt);
+    /// assert_eq!(rt; (text.end().0, other.end().0), (End::Left, End::Freed));
+    /// assert_eq!(rt; ArcStr::new().end().0, End::Ended);
+    /// ```
+    pub fn end(self) -> (End, Option<Seen>)
+        ensures seen { SeesAfter self.kind None result.1 }
+        // Promise: The handle ended as the history seen says.
+        ensures ends { IsSeenEnd result.0 result.1 }
+        // Promise: A literal or a permanent block is never freed.
+        ensures never_freed { IsStatic self.kind → result.0 ≡ Ended }
+    {
+        self.end_after(&None)
+    }
+
+    /// As `end`, after what the caller has seen of the block.
+    ///
+    /// ```
+    /// let text = ArcStr::from_str(rt.alloc(), "foo")?;
+    /// let other = text.clone(&rt);
+    /// let (_, seen) = text.end();
+    /// assert_eq!(rt; other.end_after(&seen).0, End::Freed);
+    /// ```
+    pub fn end_after(self, before: &Option<Seen>) -> (End, Option<Seen>)
+        requires before { IsSeenOf self.kind before.now }
+        ensures seen { SeesAfter self.kind before.now result.1 }
+        // Promise: The handle ended as the history seen says.
+        ensures ends { IsSeenEnd result.0 result.1 }
+        // Promise: A literal or a permanent block is never freed.
+        ensures never_freed { IsStatic self.kind → result.0 ≡ Ended }
+    {
+        let Some(shared) = self.into_counted() else {
+            return (End::Ended, None);
+        };
+        let (end, seen) = end(shared, before);
+        (end, Some(seen))
+    }
+}
+
+impl Substr {
+    /// As `ArcStr::end`, for the parent.
+    pub fn end(self) -> (End, Option<Seen>)
+        ensures seen { SeesAfter self.parent.kind None result.1 }
+        ensures ends { IsSeenEnd result.0 result.1 }
+        ensures never_freed { IsStatic self.parent.kind → result.0 ≡ Ended }
+    {
+        self.into_parent().end()
+    }
+
+    /// As `ArcStr::end_after`, for the parent.
+    pub fn end_after(self, before: &Option<Seen>) -> (End, Option<Seen>)
+        requires before { IsSeenOf self.parent.kind before.now }
+        ensures seen { SeesAfter self.parent.kind before.now result.1 }
+        ensures ends { IsSeenEnd result.0 result.1 }
+        ensures never_freed { IsStatic self.parent.kind → result.0 ≡ Ended }
+    {
+        self.into_parent().end_after(before)
+    }
+}
+
+/// A look through a handle on a block, after what the caller has seen of it.
+#[tactic(auto, using(arcstr_block::proofs::Histories::what_looks_say))]
+fn look(shared: &Shared<RC_MAX, Global>, before: &Option<Seen>) -> (Option<u64>, Seen)
+    requires before { IfSome before.now (λ old. old.block ≡ shared.now.block) }
+    ensures block { result.1.block ≡ shared.now.block }
+    ensures later { IfSome before.now (λ old. IsLater old.history result.1.history) }
+    ensures none { IsNone result.0 ↔ IsMarkedIn RC_MAX result.1.history }
+    ensures stays { IfSome before.now (λ old. IsMarkedIn RC_MAX old.history → IsNone result.0) }
+    ensures living { IfSome result.0 (λ count. count ≡ length (living_after RC_MAX result.1.history 0)) }
+    ensures count { IfSome result.0 (λ count. count ≤ RC_MAX + 1) }
+{
+    match before {
+        Some(before) => shared.look_after(before),
+        None => shared.look(),
+    }
+}
+
+/// A mark through a handle on a block, after what the caller has seen of it.
+fn mark(shared: &Shared<RC_MAX, Global>, before: &Option<Seen>) -> Fixed<Global>
+    requires before { IfSome before.now (λ old. old.block ≡ shared.now.block) }
+    ensures kept { result ≡ kept_of RC_MAX shared.now result.history }
+    ensures later { IfSome before.now (λ old. IsLater old.history result.history) }
+{
+    match before {
+        Some(before) => shared.mark_after(before),
+        None => shared.mark(),
+    }
+}
+
+/// The drop of a handle on a block, after what the caller has seen of it.
+fn end(shared: Shared<RC_MAX, Global>, before: &Option<Seen>) -> (End, Seen)
+    requires before { IfSome before.now (λ old. old.block ≡ shared.block) }
+    ensures block { result.1.block ≡ shared.block }
+    ensures later { IfSome before.now (λ old. IsLater old.history result.1.history) }
+    ensures ends { EndedAs RC_MAX result.1.history shared.seat result.0 }
+{
+    match before {
+        Some(before) => shared.end_after(before),
+        None => shared.end(),
+    }
+}
