@@ -50,6 +50,11 @@ impl<A: Allocator + Copy> Draft<A> {
     /// Makes the block for a text of at most `capacity` bytes, which is empty so far. The call
     /// makes one allocation. Errors, in this order: `Length`, for a capacity of `2^63 - 25` bytes
     /// or more; `Memory`, for an allocation failure.
+    ///
+    /// ```
+    /// let draft = Draft::new(rt.alloc(), 3)?;
+    /// assert_eq!(rt; (draft.as_str(), draft.capacity()), ("", 3));
+    /// ```
     pub fn new(alloc: A, capacity: usize) -> Result<Draft<A>, TextFault>
         ensures empty { IfOk result (λ made. made.text ≡ []) }
         ensures capacity { IfOk result (λ made. made.capacity ≡ capacity) }
@@ -72,6 +77,12 @@ impl<A: Allocator + Copy> Draft<A> {
     }
 
     /// Returns the text so far.
+    ///
+    /// ```
+    /// let mut draft = Draft::new(rt.alloc(), 3)?;
+    /// draft.append("a");
+    /// assert_eq!(rt; draft.as_str(), "a");
+    /// ```
     pub fn as_str(&self) -> &str
         ensures { result.now ≡ self.now.text }
     {
@@ -94,6 +105,13 @@ impl<A: Allocator + Copy> Draft<A> {
     }
 
     /// Appends a text for which there is room. It cannot fail.
+    ///
+    /// ```
+    /// let mut draft = Draft::new(rt.alloc(), 3)?;
+    /// draft.append("a");
+    /// draft.append("é");
+    /// assert_eq!(rt; draft.as_str(), "aé");
+    /// ```
     pub fn append(&mut self, text: &str)
         requires room { HasRoom self.old (length text.now) }
         ensures text { self.new.text ≡ self.old.text ++ text.now }
@@ -108,6 +126,13 @@ impl<A: Allocator + Copy> Draft<A> {
     /// such moves are fewer than twice those appended. Errors, in this order: `Length`, for a text
     /// of `2^63 - 25` bytes or more; `Memory`, for an allocation failure. The text then stays where
     /// it is.
+    ///
+    /// ```
+    /// let mut draft = Draft::new(rt.alloc(), 3)?;
+    /// draft.append("aé");
+    /// draft.reserve(1)?;
+    /// assert_eq!(rt; (draft.as_str(), draft.capacity()), ("aé", 6));
+    /// ```
     pub fn reserve(&mut self, additional: usize) -> Result<(), TextFault>
         ensures text { self.new.text ≡ self.old.text }
         ensures room { IfOk result (λ _. length self.old.text + additional ≤ self.new.capacity) }
@@ -147,6 +172,12 @@ impl<A: Allocator + Copy> Draft<A> {
 
     /// Appends the text that fills the block, and returns the first handle on it. It copies only
     /// that text, does not allocate and cannot fail.
+    ///
+    /// ```
+    /// let draft = Draft::new(rt.alloc(), 3)?;
+    /// let text: Shared<5, _> = draft.fill("aé");
+    /// assert_eq!(rt; text.as_str(), "aé");
+    /// ```
     pub fn fill<const LIMIT: u64>(mut self, rest: &str) -> Shared<LIMIT, A>
         requires limit { LIMIT ≤ RC_MAX }
         requires full { length self.text + length rest.now ≡ self.capacity }
@@ -162,6 +193,13 @@ impl<A: Allocator + Copy> Draft<A> {
     /// Returns the first handle on the text. If the text fills its block, the call neither copies
     /// nor allocates, and cannot fail. Otherwise it copies the text to a block of its length, by
     /// one allocation, and frees the old one. Fails only with `Memory`.
+    ///
+    /// ```
+    /// let mut draft = Draft::new(rt.alloc(), 8)?;
+    /// draft.append("aé");
+    /// let text: Shared<5, _> = draft.finish()?;
+    /// assert_eq!(rt; text.as_str(), "aé");
+    /// ```
     pub fn finish<const LIMIT: u64>(self) -> Result<Shared<LIMIT, A>, TextFault>
         requires limit { LIMIT ≤ RC_MAX }
         ensures made { IfOk result (λ made. made.text ≡ self.text) }
