@@ -1,7 +1,9 @@
 //! Builds a text piece by piece in the block that is to hold it. No call here takes an atomic step.
-ghost use Rattle.std.specs.Prelude.{◌≡◌, ◌↔◌, ◌+◌, ◌*◌, ◌≤◌, [], ◌++◌, length, encode_utf8, IsTrue, Ok, IsOk, IfSome, IfOk, IfErr, IsErrOf, OnOk};
+ghost use Rattle.std.specs.Prelude.{◌≡◌, ◌↔◌, ◌+◌, ◌≤◌, [], ◌++◌, length, encode_utf8, IsTrue};
+ghost use Rattle.std.specs.Prelude.{Ok, IsOk, IfSome, IfOk, IfErr, IsErrOf, OnOk};
 ghost use Rattle.std.specs.Fmt.{with_newline};
 ghost use Rattle.arcstr.specs.TextView.{literal_of};
+ghost use Rattle.arcstr.specs.Building.{HasRoom};
 ghost use Rattle.arcstr.specs.Making.{IsTooLong, IsFaultOfMaking};
 
 use crate::arc_str::ArcStr;
@@ -14,11 +16,14 @@ use std::marker::Model;
 /// The capacity in bytes of the first block that a push makes.
 const FIRST: usize = 8;
 
-/// An `ArcStr` that is being built. In a contract it has the text so far, and a capacity: the number of bytes that its block has room for. It appends as a
-/// `String` does, and `write!` and `writeln!` write to it. Its size is 48 bytes, and it is `Send`.
+/// An `ArcStr` that is being built. In a contract it has the text so far, and a capacity: the
+/// number of bytes that its block has room for. It appends as a `String` does, and `write!` and
+/// `writeln!` write to it. Its size is 32 bytes.
 ///
-/// The bytes are written to the block that the finished text keeps. So a text that fills its capacity is finished without a copy and without an allocation.
-/// A shorter one is copied once, to a block of its length: the count word lies behind the text, at a place that follows from the length.
+/// The bytes are written to the block that the finished text keeps. So a text that fills its
+/// capacity is finished without a copy and without an allocation. A shorter one is copied once, to
+/// a block of its length: the count word lies behind the text, at a place that follows from the
+/// length.
 ///
 /// ```
 /// let mut builder = ArcStrBuilder::with_capacity(rt.alloc(), 6)?;
@@ -56,9 +61,11 @@ impl ArcStrBuilder {
         ArcStrBuilder { draft: None, alloc }
     }
 
-    /// Creates a builder of an empty text with room for exactly `capacity` bytes. Makes one allocation, or none if the capacity is 0.
+    /// Creates a builder of an empty text with room for exactly `capacity` bytes. Makes one
+    /// allocation, or none if the capacity is 0.
     ///
-    /// Errors, in this order: `Length` if the capacity is `2^63 - 25` bytes or more; `Memory` if the allocation fails.
+    /// Errors, in this order: `Length` if the capacity is `2^63 - 25` bytes or more; `Memory` if
+    /// the allocation fails.
     ///
     /// ```
     /// let builder = ArcStrBuilder::with_capacity(rt.alloc(), 6)?;
@@ -120,10 +127,12 @@ impl ArcStrBuilder {
         }
     }
 
-    /// Makes room for at least `additional` bytes more: after it, pushes of so many bytes cannot fail. If there is no room yet, moves the text to a block of
-    /// at least twice the capacity, by one allocation.
+    /// Makes room for at least `additional` bytes more: after it, pushes of so many bytes cannot
+    /// fail. If there is no room yet, moves the text to a block of at least twice the capacity, by
+    /// one allocation.
     ///
-    /// Errors, in this order: `Length` if the text would have `2^63 - 25` bytes or more; `Memory` if the allocation fails. The builder is unchanged then.
+    /// Errors, in this order: `Length` if the text would have `2^63 - 25` bytes or more; `Memory`
+    /// if the allocation fails. The builder is unchanged then.
     ///
     /// ```
     /// let mut builder = ArcStrBuilder::new(rt.alloc());
@@ -134,10 +143,12 @@ impl ArcStrBuilder {
         ensures text { self.new.text ≡ self.old.text }
         ensures room { IfOk result (λ _. length self.old.text + additional ≤ self.new.capacity) }
         // Promise: If there is room already, the call does nothing and cannot fail.
-        ensures within { length self.old.text + additional ≤ self.old.capacity → IsOk result × (self.new.capacity ≡ self.old.capacity) }
+        ensures within { HasRoom self.old additional → IsOk result }
+        ensures stays { HasRoom self.old additional → self.new.capacity ≡ self.old.capacity }
         ensures left { IfErr result (λ _. self.new.capacity ≡ self.old.capacity) }
         // Promise: The call fails with `Length` exactly if the text would be too long.
-        ensures too_long { IsErrOf result TextFault.Length ↔ IsTooLong (length self.old.text + additional) }
+        ensures too_long { IsErrOf result TextFault.Length
+            ↔ IsTooLong (length self.old.text + additional) }
         ensures refused { IfErr result (IsFaultOfMaking (length self.old.text + additional)) }
     {
         match &mut self.draft {
@@ -150,9 +161,11 @@ impl ArcStrBuilder {
         }
     }
 
-    /// Appends a text. If there is room for it, cannot fail, and does not allocate; otherwise makes room as `reserve` does.
+    /// Appends a text. If there is room for it, cannot fail, and does not allocate; otherwise makes
+    /// room as `reserve` does.
     ///
-    /// Errors, in this order: `Length` if the text would have `2^63 - 25` bytes or more; `Memory` if the allocation fails. The text so far stays then.
+    /// Errors, in this order: `Length` if the text would have `2^63 - 25` bytes or more; `Memory`
+    /// if the allocation fails. The text so far stays then.
     ///
     /// ```
     /// let mut builder = ArcStrBuilder::new(rt.alloc());
@@ -164,11 +177,14 @@ impl ArcStrBuilder {
         ensures pushed { IfOk result (λ _. self.new.text ≡ self.old.text ++ text.now) }
         ensures kept { IfErr result (λ _. self.new.text ≡ self.old.text) }
         // Promise: If there is room, the call cannot fail, and the block stays.
-        ensures within { length self.old.text + length text.now ≤ self.old.capacity → IsOk result × (self.new.capacity ≡ self.old.capacity) }
+        ensures within { HasRoom self.old (length text.now) → IsOk result }
+        ensures stays { HasRoom self.old (length text.now) → self.new.capacity ≡ self.old.capacity }
         ensures left { IfErr result (λ _. self.new.capacity ≡ self.old.capacity) }
         // Promise: The call fails with `Length` exactly if the text would be too long.
-        ensures too_long { IsErrOf result TextFault.Length ↔ IsTooLong (length self.old.text + length text.now) }
-        ensures refused { IfErr result (IsFaultOfMaking (length self.old.text + length text.now)) }
+        ensures too_long { IsErrOf result TextFault.Length
+            ↔ IsTooLong (length self.old.text + length text.now) }
+        ensures refused { IfErr result
+            (IsFaultOfMaking (length self.old.text + length text.now)) }
     {
         self.reserve(text.len())?;
         if let Some(draft) = &mut self.draft {
@@ -187,19 +203,25 @@ impl ArcStrBuilder {
     pub fn push(&mut self, character: char) -> Result<(), TextFault>
         ensures pushed { IfOk result (λ _. self.new.text ≡ self.old.text ++ encode_utf8 character) }
         ensures kept { IfErr result (λ _. self.new.text ≡ self.old.text) }
-        ensures within { length self.old.text + length (encode_utf8 character) ≤ self.old.capacity → IsOk result × (self.new.capacity ≡ self.old.capacity) }
+        ensures within { HasRoom self.old (length (encode_utf8 character)) → IsOk result }
+        ensures stays { HasRoom self.old (length (encode_utf8 character))
+            → self.new.capacity ≡ self.old.capacity }
         ensures left { IfErr result (λ _. self.new.capacity ≡ self.old.capacity) }
-        ensures too_long { IsErrOf result TextFault.Length ↔ IsTooLong (length self.old.text + length (encode_utf8 character)) }
-        ensures refused { IfErr result (IsFaultOfMaking (length self.old.text + length (encode_utf8 character))) }
+        ensures too_long { IsErrOf result TextFault.Length
+            ↔ IsTooLong (length self.old.text + length (encode_utf8 character)) }
+        ensures refused { IfErr result
+            (IsFaultOfMaking (length self.old.text + length (encode_utf8 character))) }
     {
         let mut bytes = [0u8; 4];
         self.push_str(character.encode_utf8(&mut bytes))
     }
 
-    /// Appends what is formatted. `write!` calls this method, so that its error is a `TextFault`; `writeln!` calls `writeln`.
+    /// Appends what is formatted. `write!` calls this method, so that its error is a `TextFault`;
+    /// `writeln!` calls `writeln`.
     ///
-    /// Fails with `Memory` if an allocation fails, if the text would have `2^63 - 25` bytes or more, or if the `fmt` of a value fails. The pieces that were
-    /// appended before that stay, as in a `String`.
+    /// Fails with `Memory` if an allocation fails, if the text would have `2^63 - 25` bytes or
+    /// more, or if the `fmt` of a value fails. The pieces that were appended before that stay, as
+    /// in a `String`.
     ///
     /// ```
     /// let mut builder = ArcStrBuilder::new(rt.alloc());
@@ -207,7 +229,8 @@ impl ArcStrBuilder {
     /// assert_eq!(rt; builder.as_str(), "cool 123");
     /// ```
     pub fn write_fmt<D: Display + Drop>(&mut self, value: D) -> Result<(), TextFault>
-        ensures written { OnOk result (IfSome (D.output value) (λ bytes. self.new.text ≡ self.old.text ++ bytes)) }
+        ensures written { OnOk result (IfSome (D.output value)
+            (λ bytes. self.new.text ≡ self.old.text ++ bytes)) }
     {
         match Write::write(self, value) {
             Ok(()) => Ok(()),
@@ -217,7 +240,8 @@ impl ArcStrBuilder {
 
     /// As `write_fmt`, with a newline after it.
     pub fn writeln<D: Display + Drop>(&mut self, value: D) -> Result<(), TextFault>
-        ensures written { OnOk result (IfSome (with_newline (D.output value)) (λ bytes. self.new.text ≡ self.old.text ++ bytes)) }
+        ensures written { OnOk result (IfSome (with_newline (D.output value))
+            (λ bytes. self.new.text ≡ self.old.text ++ bytes)) }
     {
         match Write::writeln(self, value) {
             Ok(()) => Ok(()),
@@ -225,10 +249,12 @@ impl ArcStrBuilder {
         }
     }
 
-    /// Returns the built text. An empty one is a literal. If the text fills its capacity, the call neither copies nor allocates, and cannot fail. Otherwise it
-    /// copies the text once, to a block of its length, and frees the old one.
+    /// Returns the built text. An empty one is a literal. If the text fills its capacity, the call
+    /// neither copies nor allocates, and cannot fail. Otherwise it copies the text once, to a block
+    /// of its length, and frees the old one.
     ///
-    /// Fails only with `Memory`, if the allocation for a text that does not fill its capacity fails.
+    /// Fails only with `Memory`, if the allocation for a text that does not fill its capacity
+    /// fails.
     ///
     /// ```
     /// let mut builder = ArcStrBuilder::new(rt.alloc());
@@ -255,8 +281,9 @@ impl ArcStrBuilder {
         }
     }
 
-    /// Appends the rest of the text, which fills the capacity exactly, and returns the whole. It does not allocate and cannot fail, so the memory for a text
-    /// can be taken before a change begins.
+    /// Appends the rest of the text, which fills the capacity exactly, and returns the whole. It
+    /// does not allocate and cannot fail, so the memory for a text can be taken before a change
+    /// begins.
     ///
     /// ```
     /// let room = ArcStrBuilder::with_capacity(rt.alloc(), 3)?;

@@ -1,7 +1,11 @@
 -- How contracts see a text that is being built.
-use Rattle.std.specs.Prelude.{ℕ, List}
+use Rattle.std.specs.Prelude.{ℕ, ◌+◌, ◌≤◌, List, length}
 
 -- the text so far, and how many bytes its block has room for
 pub record Unfinished : Type 0 where
   pub text : List ℕ
   pub capacity : ℕ
+
+-- there is room for n bytes more
+abbrev pub HasRoom : Unfinished → ℕ → Type 0
+HasRoom draft n = length draft.text + n ≤ draft.capacity

@@ -1,10 +1,12 @@
-//! Builds a text in the memory of its block: the block is made first, and the text is appended to it.
-ghost use Rattle.std.specs.Prelude.{◌≡◌, ◌↔◌, ◌+◌, ◌*◌, ◌≤◌, [], ◌++◌, length, take, drop, IfOk, IfErr, IsErrOf, IsOk, IsUtf8};
+//! Builds a text in the memory of its block: the block is made first, and the text is appended to
+//! it.
+ghost use Rattle.std.specs.Prelude.{◌≡◌, ◌↔◌, ◌+◌, ◌≤◌, [], ◌++◌, length, take};
+ghost use Rattle.std.specs.Prelude.{IfOk, IfErr, IsErrOf, IsOk, IsUtf8};
 ghost use Rattle.std.proofs.Props.{props};
 ghost use Rattle.arcstr_count.specs.Word.{bits_of, fresh_word};
 ghost use Rattle.arcstr_block.specs.Memory.{Fits};
 ghost use Rattle.arcstr_block.specs.Making.{IsTooLong, IsFaultOfMaking};
-ghost use Rattle.arcstr_block.specs.Building.{Unfinished};
+ghost use Rattle.arcstr_block.specs.Building.{Unfinished, HasRoom};
 
 use crate::block::{Sole, size_of_block};
 use crate::fault::{TOO_LONG, TextFault};
@@ -15,8 +17,8 @@ use std::alloc::Allocator;
 use std::marker::Model;
 use std::mem;
 
-/// A text that is being built in the block that is to hold it. Contracts see the text so far, and the capacity: the number of bytes that the block has
-/// room for. Its drop frees the block.
+/// A text that is being built in the block that is to hold it. Contracts see the text so far, and
+/// the capacity: the number of bytes that the block has room for. Its drop frees the block.
 ///
 /// ```
 /// let mut draft = Draft::new(rt.alloc(), 3)?;
@@ -45,12 +47,18 @@ impl<A: Allocator + Copy> Model for Draft<A> {
 }
 
 impl<A: Allocator + Copy> Draft<A> {
-    /// Makes the block for a text of at most `capacity` bytes, which is empty so far. The call makes one allocation. Errors, in this order: `Length`, for a
-    /// capacity of `2^63 - 25` bytes or more; `Memory`, for an allocation failure.
+    /// Makes the block for a text of at most `capacity` bytes, which is empty so far. The call
+    /// makes one allocation. Errors, in this order: `Length`, for a capacity of `2^63 - 25` bytes
+    /// or more; `Memory`, for an allocation failure.
+    ///
+    /// ```
+    /// let draft = Draft::new(rt.alloc(), 3)?;
+    /// assert_eq!(rt; (draft.as_str(), draft.capacity()), ("", 3));
+    /// ```
     pub fn new(alloc: A, capacity: usize) -> Result<Draft<A>, TextFault>
         ensures empty { IfOk result (λ made. made.text ≡ []) }
         ensures capacity { IfOk result (λ made. made.capacity ≡ capacity) }
-        // Promise: It fails with `Length` exactly if the capacity is too long, and otherwise only with `Memory`.
+        // Promise: It fails with `Length` exactly if the capacity is too long.
         ensures too_long { IsErrOf result TextFault.Length ↔ IsTooLong capacity }
         ensures refused { IfErr result (IsFaultOfMaking capacity) }
     {
@@ -69,6 +77,12 @@ impl<A: Allocator + Copy> Draft<A> {
     }
 
     /// Returns the text so far.
+    ///
+    /// ```
+    /// let mut draft = Draft::new(rt.alloc(), 3)?;
+    /// draft.append("a");
+    /// assert_eq!(rt; draft.as_str(), "a");
+    /// ```
     pub fn as_str(&self) -> &str
         ensures { result.now ≡ self.now.text }
     {
@@ -91,8 +105,15 @@ impl<A: Allocator + Copy> Draft<A> {
     }
 
     /// Appends a text for which there is room. It cannot fail.
+    ///
+    /// ```
+    /// let mut draft = Draft::new(rt.alloc(), 3)?;
+    /// draft.append("a");
+    /// draft.append("é");
+    /// assert_eq!(rt; draft.as_str(), "aé");
+    /// ```
     pub fn append(&mut self, text: &str)
-        requires room { length self.old.text + length text.now ≤ self.old.capacity }
+        requires room { HasRoom self.old (length text.now) }
         ensures text { self.new.text ≡ self.old.text ++ text.now }
         ensures capacity { self.new.capacity ≡ self.old.capacity }
     {
@@ -100,17 +121,28 @@ impl<A: Allocator + Copy> Draft<A> {
         self.len += text.len();
     }
 
-    /// Makes room for `additional` bytes more. If there is none, the call moves the text to a new block of at least twice the capacity, by one allocation, so
-    /// that the bytes copied by all such moves are fewer than twice those appended. Errors, in this order: `Length`, for a text of `2^63 - 25` bytes or more;
-    /// `Memory`, for an allocation failure. The text then stays where it is.
+    /// Makes room for `additional` bytes more. If there is none, the call moves the text to a new
+    /// block of at least twice the capacity, by one allocation, so that the bytes copied by all
+    /// such moves are fewer than twice those appended. Errors, in this order: `Length`, for a text
+    /// of `2^63 - 25` bytes or more; `Memory`, for an allocation failure. The text then stays where
+    /// it is.
+    ///
+    /// ```
+    /// let mut draft = Draft::new(rt.alloc(), 3)?;
+    /// draft.append("aé");
+    /// draft.reserve(1)?;
+    /// assert_eq!(rt; (draft.as_str(), draft.capacity()), ("aé", 6));
+    /// ```
     pub fn reserve(&mut self, additional: usize) -> Result<(), TextFault>
         ensures text { self.new.text ≡ self.old.text }
         ensures room { IfOk result (λ _. length self.old.text + additional ≤ self.new.capacity) }
         // Promise: If there is room, it does nothing and cannot fail.
-        ensures within { length self.old.text + additional ≤ self.old.capacity → IsOk result × (self.new.capacity ≡ self.old.capacity) }
+        ensures within { HasRoom self.old additional → IsOk result }
+        ensures stays { HasRoom self.old additional → self.new.capacity ≡ self.old.capacity }
         ensures left { IfErr result (λ _. self.new.capacity ≡ self.old.capacity) }
-        // Promise: It fails with `Length` exactly if the text would be too long, and otherwise only with `Memory`.
-        ensures too_long { IsErrOf result TextFault.Length ↔ IsTooLong (length self.old.text + additional) }
+        // Promise: It fails with `Length` exactly if the text would be too long.
+        ensures too_long { IsErrOf result TextFault.Length
+            ↔ IsTooLong (length self.old.text + additional) }
         ensures refused { IfErr result (IsFaultOfMaking (length self.old.text + additional)) }
     {
         match self.len.checked_add(additional) {
@@ -120,14 +152,14 @@ impl<A: Allocator + Copy> Draft<A> {
         }
     }
 
-    /// Moves the text to a new block of this capacity, and frees the old one. The call makes one allocation. Errors as `new` does; the text then stays where
-    /// it is.
+    /// Moves the text to a new block of this capacity, and frees the old one. The call makes one
+    /// allocation. Errors as `new` does; the text then stays where it is.
     fn grow(&mut self, capacity: usize) -> Result<(), TextFault>
         requires room { length self.old.text ≤ capacity }
         ensures text { self.new.text ≡ self.old.text }
         ensures grown { IfOk result (λ _. self.new.capacity ≡ capacity) }
         ensures left { IfErr result (λ _. self.new.capacity ≡ self.old.capacity) }
-        // Promise: It fails with `Length` exactly if the capacity is too long, and otherwise only with `Memory`.
+        // Promise: It fails with `Length` exactly if the capacity is too long.
         ensures too_long { IsErrOf result TextFault.Length ↔ IsTooLong capacity }
         ensures refused { IfErr result (IsFaultOfMaking capacity) }
     {
@@ -138,7 +170,14 @@ impl<A: Allocator + Copy> Draft<A> {
         Ok(())
     }
 
-    /// Appends the text that fills the block, and returns the first handle on it. It copies only that text, does not allocate and cannot fail.
+    /// Appends the text that fills the block, and returns the first handle on it. It copies only
+    /// that text, does not allocate and cannot fail.
+    ///
+    /// ```
+    /// let draft = Draft::new(rt.alloc(), 3)?;
+    /// let text: Shared<5, _> = draft.fill("aé");
+    /// assert_eq!(rt; text.as_str(), "aé");
+    /// ```
     pub fn fill<const LIMIT: u64>(mut self, rest: &str) -> Shared<LIMIT, A>
         requires limit { LIMIT ≤ RC_MAX }
         requires full { length self.text + length rest.now ≡ self.capacity }
@@ -151,8 +190,16 @@ impl<A: Allocator + Copy> Draft<A> {
         self.close()
     }
 
-    /// Returns the first handle on the text. If the text fills its block, the call neither copies nor allocates, and cannot fail. Otherwise it copies the text
-    /// to a block of its length, by one allocation, and frees the old one. Fails only with `Memory`.
+    /// Returns the first handle on the text. If the text fills its block, the call neither copies
+    /// nor allocates, and cannot fail. Otherwise it copies the text to a block of its length, by
+    /// one allocation, and frees the old one. Fails only with `Memory`.
+    ///
+    /// ```
+    /// let mut draft = Draft::new(rt.alloc(), 8)?;
+    /// draft.append("aé");
+    /// let text: Shared<5, _> = draft.finish()?;
+    /// assert_eq!(rt; text.as_str(), "aé");
+    /// ```
     pub fn finish<const LIMIT: u64>(self) -> Result<Shared<LIMIT, A>, TextFault>
         requires limit { LIMIT ≤ RC_MAX }
         ensures made { IfOk result (λ made. made.text ≡ self.text) }
@@ -200,7 +247,8 @@ impl<A: Allocator + Copy> Drop for Draft<A> {
     }
 }
 
-/// The capacity after a move: twice the one before, but at least what is needed, and below the least that is too long.
+/// The capacity after a move: twice the one before, but at least what is needed, and below the
+/// least that is too long.
 fn doubled(capacity: usize, needed: usize) -> usize
     requires capacity { Fits capacity }
     requires needed { Fits needed }

@@ -4,7 +4,7 @@ use crate::tests::steps::{
     check_bytes, check_count, check_empty, check_nothing, check_part, check_slice, check_text,
     made, part,
 };
-use arcstr::{ArcStr, RawArcStr, StaticStr, Substr, literal};
+use arcstr::{ArcStr, ArcStrBuilder, RawArcStr, StaticStr, Substr, literal};
 use std::mem::size_of;
 use std::process::Abort;
 
@@ -14,6 +14,7 @@ fn a_text_is_three_words_and_a_slice_five(rt: HostRuntime) {
     check_eq!(rt; size_of::<RawArcStr>(), 24);
     check_eq!(rt; size_of::<StaticStr>(), 24);
     check_eq!(rt; size_of::<Substr>(), 40);
+    check_eq!(rt; size_of::<ArcStrBuilder>(), 32);
 }
 
 #[test]
