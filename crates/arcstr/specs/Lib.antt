@@ -6,6 +6,7 @@ pub mod Splitting
 pub mod TextOrder
 pub mod Json
 pub use Rattle.arcstr_range.specs.Ends
+pub use Rattle.arcstr_range.specs.Matches
 pub use Rattle.arcstr_range.specs.Text
 pub use Rattle.arcstr_range.specs.Trim
 pub use Rattle.arcstr_range.specs.View
