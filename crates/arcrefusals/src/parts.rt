@@ -5,10 +5,12 @@ use std::io;
 
 pub(crate) fn run<R: Machine>(rt: &R) -> io::Result<()> {
     again::<ArcStr, List, R>(rt, "ArcStr::substr_split", 0, "bar", 4)?;
+    again::<ArcStr, List, R>(rt, "ArcStr::substr_split at a text", 3, "ar", 3)?;
     again::<ArcStr, List, R>(rt, "ArcStr::substr_lines", 1, "foobar", 2)?;
     again::<ArcStr, List, R>(rt, "ArcStr::substr_split_whitespace", 2, "foobar", 2)?;
     again::<Fields, List, R>(rt, "ArcStr::substr_split of five parts", 0, "5", 6)?;
     again::<Substr, List, R>(rt, "Substr::substr_split", 0, "r", 3)?;
+    again::<Substr, List, R>(rt, "Substr::substr_split at a text", 3, "", 3)?;
     again::<Substr, List, R>(rt, "Substr::substr_lines", 1, "bar", 2)?;
     again::<Substr, List, R>(rt, "Substr::substr_split_whitespace", 2, "bar", 2)
 }
@@ -47,6 +49,7 @@ impl Calls<ArcStr> for List {
         Ok(List(match number {
             0 => text.substr_split(rt, alloc, 'o'),
             1 => text.substr_lines(rt, alloc),
+            3 => text.substr_split(rt, alloc, "ob"),
             _ => text.substr_split_whitespace(rt, alloc),
         }?))
     }
@@ -64,6 +67,7 @@ impl Calls<Substr> for List {
         Ok(List(match number {
             0 => slice.substr_split(rt, alloc, 'a'),
             1 => slice.substr_lines(rt, alloc),
+            3 => slice.substr_split(rt, alloc, "ar"),
             _ => slice.substr_split_whitespace(rt, alloc),
         }?))
     }

@@ -1,5 +1,5 @@
 -- The results of the calls that slice a text at a range, from the tests of the range's ends.
-use Rattle.std.proofs.Common.{◌≡◌, ℕ, List, length, refl, sym, ap, subst, ◌∙◌}
+use Rattle.std.proofs.Common.{◌≡◌, ◌≤◌, ℕ, List, length, refl, sym, ap, subst, ◌∙◌}
 use Rattle.std.specs.Prelude.{Result, Ok, Err}
 use Rattle.arcstr_range.proofs.Affixes.{cut_is_drop, cut_is_take, lawful_rest}
 use Rattle.arcstr_range.specs.declared.range.StrRange.{StrRange}
@@ -83,3 +83,12 @@ module _ (text read : List ℕ) (between : ℕ → ℕ → SubstrView) where
         text_before = tt;
         text_after = tt;
       }
+
+-- ---- the slice from the start of one slice to the end of another of the same text
+
+pub lawful_span : (text : List ℕ) (start end other last : ℕ) → IsLawful text start end → IsLawful text other last → start ≤ last → IsLawful text start last
+lawful_span text start end other last own others in_order =
+    record { in_order = in_order; within = others.within; at_boundaries = (own.at_boundaries.0, others.at_boundaries.1) }
+
+-- the functions whose proofs use this ruleset name it
+pub ruleset spans_of_slices = (lawful_span)

@@ -8,6 +8,7 @@ pub mod TextOrder
 pub mod Json
 pub mod History
 pub use Rattle.arcstr_range.specs.Ends
+pub use Rattle.arcstr_range.specs.Matches
 pub use Rattle.arcstr_range.specs.Text
 pub use Rattle.arcstr_range.specs.Trim
 pub use Rattle.arcstr_range.specs.View

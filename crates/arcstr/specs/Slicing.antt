@@ -1,12 +1,13 @@
 -- Results of the slicing calls. Each definition takes the receiver's own text, and the slice between two byte offsets of that text: `slice_of` for a shared
 -- text, `slice_within` for a shared slice.
-use Rattle.std.specs.Prelude.{◌≡◌, ◌≢◌, ◌↔◌, ◌≤◌, ℕ, List, [], map, Option, Result, Ok, IsOk, IsErrOf, IsSome, IfOk, IfSome, ◌+◌, length}
+use Rattle.std.specs.Prelude.{◌≡◌, ◌≢◌, ◌↔◌, ◌≤◌, ℕ, false, List, [], map, Option, Result, Ok, IsOk, IsErrOf, IsSome, IfOk, IfSome, ◌+◌, length}
 use Rattle.std.specs.declared.ops.Range.{Range}
 use Rattle.arcstr_range.specs.declared.range.StrRange.{StrRange}
 use Rattle.arcstr_range.specs.declared.range.StrRange.TheVariants.{Between}
 use Rattle.arcstr_range.specs.declared.range.fault.RangeFault.{RangeFault}
 use Rattle.arcstr_range.specs.Ends.{ends_in, cut_by, IsLawfulRange, IsFirstRangeFault}
 use Rattle.arcstr_range.specs.Text.{SpellsBetween}
+use Rattle.arcstr_range.specs.Matches.{AreParts}
 use Rattle.arcstr_range.specs.View.{View, end_of, view_at}
 use Rattle.arcstr.specs.Substr.{SubstrView, empty_slice, text_of}
 
@@ -37,6 +38,12 @@ pub record IsSliceOfView (between : ℕ → ℕ → SubstrView) (view : View) (s
 -- the slices that views show, one after another, even of empty ones
 abbrev pub slices_of : (ℕ → ℕ → SubstrView) → List View → List SubstrView
 slices_of between views = map (λ view. between view.place (end_of view)) views
+
+-- the slices are those of the parts of the text between the matches that the searches find
+pub record AreSlicesOfParts (finds : List ℕ → Option (ℕ × ℕ) → Type 0) (text : List ℕ) (between : ℕ → ℕ → SubstrView) (slices : List SubstrView) : Type 0 where
+  pub parts : List View
+  pub cut : AreParts finds false (view_at text 0) parts
+  pub shown : slices ≡ slices_of between parts
 
 -- the bytes that `get` returns for a range: those between its ends, exactly if Rust's `str` has a slice there
 pub record AnswersGet (text : List ℕ) (range : StrRange) (answer : Option (List ℕ)) : Type 0 where

@@ -1,45 +1,72 @@
-//! Lists of slices: the parts of a text between the occurrences of a character, its lines and its words, as the iterators of `str` give them.
+//! Lists of slices: the parts of a text between the matches of a pattern, its lines and its words,
+//! as the iterators of `str` give them.
 //!
 //! Each call allocates the list, and clones the handle once for each slice, so it can wait. A call that fails drops the slices that it made. Each slice keeps
 //! the text alive, even if it is empty. The slices of a `Substr` have its parent.
-ghost use Rattle.std.specs.Prelude.{◌≡◌, ◌≢◌, ◌==◌, [], map, IfOk, IsErr};
+ghost use Rattle.std.specs.Prelude.{◌≡◌, ◌≢◌, ◌==◌, ℕ, All, List, [], length, map, IfOk, IfSome, IsErr};
 ghost use Rattle.std.specs.Char.{is_whitespace};
-ghost use Rattle.std.specs.List.{filter};
+ghost use Rattle.std.specs.List.{filter, join_by};
 ghost use Rattle.std.specs.Str.Lines.{lines};
+ghost use Rattle.arcstr_range.specs.Matches.{FindsOnly};
 ghost use Rattle.arcstr_range.specs.Pieces.{is_not_empty, lines_of, parts_at, texts_between, words_of};
 ghost use Rattle.arcstr_range.specs.View.{StandsAt, end_of, view_at};
-ghost use Rattle.arcstr.specs.Slicing.{slices_of};
+ghost use Rattle.arcstr.specs.Slicing.{AreSlicesOfParts, LiesBetween, slices_of};
+ghost use Rattle.arcstr.specs.Splitting.{FindsCharacter};
 ghost use Rattle.arcstr.specs.Substr.{slice_of, slice_within, text_of};
 
 use crate::arc_str::ArcStr;
 use crate::substr::Substr;
 use arcstr_range::view::StrView;
 use std::alloc::{AllocError, Global};
+use std::str::pattern::Pattern;
 use std::sync::Wait;
 
 impl ArcStr {
-    /// Returns the slices of this text between the occurrences of the separator, in order, as `str::split` does. There is one slice more than there are
-    /// separators; those before a first, after a last and between two adjacent separators are empty. Fails only if an allocation fails.
+    /// Returns the slices of this text between the matches of the separator, in order, as
+    /// `str::split` does. A separator is a `char`, a `&str`, a set of characters, a closure, or
+    /// another of std's patterns that is `Copy`. The caller must ensure that it can search, as it
+    /// must ensure that a closure can be called.
+    ///
+    /// There is one slice more than there are matches. Those before a first, after a last and
+    /// between two adjacent matches are empty. An empty separator matches before, between and
+    /// behind all characters. Fails only if an allocation fails.
     ///
     /// ```
     /// let text = ArcStr::from_str(rt.alloc(), "a,,b")?;
     /// let fields = text.substr_split(&rt, rt.alloc(), ',')?;
     /// assert_eq!(rt; fields.len(), 3);
     /// assert_eq!(rt; (fields[2].as_str(), fields[2].range()), ("b", 3..4));
+    /// let paragraphs = literal!("a\n\nb").substr_split(&rt, rt.alloc(), "\n\n")?;
+    /// assert_eq!(rt; paragraphs[1].as_str(), "b");
     /// ```
-    #[tactic(auto, using(crate::proofs::SliceLists::slice_lists))]
-    pub fn substr_split(
+    pub fn substr_split<P: Pattern + Copy>(
         &self,
         rt: &impl Wait,
         alloc: Global,
-        separator: char,
+        separator: P,
     ) -> Result<Vec<Substr>, AllocError>
-        ensures slices { IfOk result (λ slices. slices.items ≡ slices_of (slice_of self.now) (parts_at separator (view_at self.now.text 0))) }
-        // Promise: Their texts are those of the parts of the text between the separators.
-        ensures texts { IfOk result (λ slices. map text_of slices.items ≡ texts_between (λ c. c == separator) self.now.text) }
+    where
+        P: Drop,
+        requires { P.can_search separator }
+        // Promise: The slices are those of the parts between the matches, in order.
+        ensures parts { IfOk result (λ slices. AreSlicesOfParts (P.find_in_gives separator)
+            self.now.text (slice_of self.now) slices.items) }
+        // Promise: They lie inside the text.
+        ensures within { IfOk result (λ slices.
+            All (LiesBetween 0 (length self.now.text)) slices.items) }
+        // Promise: Around a text, they join with it to the whole text.
+        ensures joined { (wanted : List ℕ) → FindsOnly (P.find_in_gives separator) wanted
+            → IfOk result (λ slices. join_by text_of wanted slices.items ≡ self.now.text) }
+        // Promise: Around a character, their texts are those between its occurrences.
+        ensures at_a_character { IfSome (P.single_char separator) (λ character.
+            FindsCharacter (P.find_in_gives separator) character → IfOk result (λ slices.
+            (slices.items ≡ slices_of (slice_of self.now)
+            (parts_at character (view_at self.now.text 0)))
+            × (map text_of slices.items
+            ≡ texts_between (λ c. c == character) self.now.text))) }
     {
         let mut slices = Vec::new(alloc);
-        for part in self.view().split(separator) {
+        for part in StrView::whole(self.as_str()).split_by(separator) {
             slices.push(self.slice_at(rt, part))?;
         }
         Ok(slices)
@@ -59,6 +86,9 @@ impl ArcStr {
         ensures slices { IfOk result (λ slices. slices.items ≡ slices_of (slice_of self.now) (lines_of (view_at self.now.text 0))) }
         // Promise: Their texts are those of the lines of the text.
         ensures texts { IfOk result (λ slices. map text_of slices.items ≡ lines self.now.text) }
+        // Promise: They lie inside the text.
+        ensures within { IfOk result (λ slices.
+            All (LiesBetween 0 (length self.now.text)) slices.items) }
         // Promise: A text without lines is never refused.
         ensures refused { IsErr result → lines self.now.text ≢ [] }
     {
@@ -86,6 +116,9 @@ impl ArcStr {
         ensures slices { IfOk result (λ slices. slices.items ≡ slices_of (slice_of self.now) (words_of (view_at self.now.text 0))) }
         // Promise: Their texts are those of the words of the text.
         ensures texts { IfOk result (λ slices. map text_of slices.items ≡ filter is_not_empty (texts_between is_whitespace self.now.text)) }
+        // Promise: They lie inside the text.
+        ensures within { IfOk result (λ slices.
+            All (LiesBetween 0 (length self.now.text)) slices.items) }
         // Promise: A text without words is never refused.
         ensures refused { IsErr result → filter is_not_empty (texts_between is_whitespace self.now.text) ≢ [] }
     {
@@ -101,6 +134,7 @@ impl ArcStr {
         requires { StandsAt self.now.text view.text view.place }
         ensures slice { result ≡ slice_of self.now view.entry.place (end_of view.entry) }
         ensures text { text_of result ≡ view.entry.text }
+        ensures within { LiesBetween 0 (length self.now.text) result }
     {
         self.clone_between(rt, view.range())
     }
@@ -108,18 +142,30 @@ impl ArcStr {
 
 impl Substr {
     /// As `ArcStr::substr_split`, for the slice's own text.
-    #[tactic(auto, using(crate::proofs::SliceLists::slice_lists))]
-    pub fn substr_split(
+    pub fn substr_split<P: Pattern + Copy>(
         &self,
         rt: &impl Wait,
         alloc: Global,
-        separator: char,
+        separator: P,
     ) -> Result<Vec<Substr>, AllocError>
-        ensures slices { IfOk result (λ slices. slices.items ≡ slices_of (slice_within self.now) (parts_at separator (view_at (text_of self.now) 0))) }
-        ensures texts { IfOk result (λ slices. map text_of slices.items ≡ texts_between (λ c. c == separator) (text_of self.now)) }
+    where
+        P: Drop,
+        requires { P.can_search separator }
+        ensures parts { IfOk result (λ slices. AreSlicesOfParts (P.find_in_gives separator)
+            (text_of self.now) (slice_within self.now) slices.items) }
+        ensures within { IfOk result (λ slices.
+            All (LiesBetween self.now.start self.now.end) slices.items) }
+        ensures joined { (wanted : List ℕ) → FindsOnly (P.find_in_gives separator) wanted
+            → IfOk result (λ slices. join_by text_of wanted slices.items ≡ text_of self.now) }
+        ensures at_a_character { IfSome (P.single_char separator) (λ character.
+            FindsCharacter (P.find_in_gives separator) character → IfOk result (λ slices.
+            (slices.items ≡ slices_of (slice_within self.now)
+            (parts_at character (view_at (text_of self.now) 0)))
+            × (map text_of slices.items
+            ≡ texts_between (λ c. c == character) (text_of self.now)))) }
     {
         let mut slices = Vec::new(alloc);
-        for part in self.view().split(separator) {
+        for part in StrView::whole(self.as_str()).split_by(separator) {
             slices.push(self.slice_at(rt, part))?;
         }
         Ok(slices)
@@ -130,6 +176,8 @@ impl Substr {
     pub fn substr_lines(&self, rt: &impl Wait, alloc: Global) -> Result<Vec<Substr>, AllocError>
         ensures slices { IfOk result (λ slices. slices.items ≡ slices_of (slice_within self.now) (lines_of (view_at (text_of self.now) 0))) }
         ensures texts { IfOk result (λ slices. map text_of slices.items ≡ lines (text_of self.now)) }
+        ensures within { IfOk result (λ slices.
+            All (LiesBetween self.now.start self.now.end) slices.items) }
         ensures refused { IsErr result → lines (text_of self.now) ≢ [] }
     {
         let mut slices = Vec::new(alloc);
@@ -148,6 +196,8 @@ impl Substr {
     ) -> Result<Vec<Substr>, AllocError>
         ensures slices { IfOk result (λ slices. slices.items ≡ slices_of (slice_within self.now) (words_of (view_at (text_of self.now) 0))) }
         ensures texts { IfOk result (λ slices. map text_of slices.items ≡ filter is_not_empty (texts_between is_whitespace (text_of self.now))) }
+        ensures within { IfOk result (λ slices.
+            All (LiesBetween self.now.start self.now.end) slices.items) }
         ensures refused { IsErr result → filter is_not_empty (texts_between is_whitespace (text_of self.now)) ≢ [] }
     {
         let mut slices = Vec::new(alloc);
@@ -162,6 +212,7 @@ impl Substr {
         requires { StandsAt (text_of self.now) view.text view.place }
         ensures slice { result ≡ slice_within self.now view.entry.place (end_of view.entry) }
         ensures text { text_of result ≡ view.entry.text }
+        ensures within { LiesBetween self.now.start self.now.end result }
     {
         self.clone_between(rt, view.range())
     }

@@ -3,6 +3,7 @@ pub mod Boundaries
 pub mod Faults
 pub mod FoundParts
 pub mod Lines
+pub mod Matches
 pub mod Pieces
 pub mod Trims
 pub mod WordPlaces

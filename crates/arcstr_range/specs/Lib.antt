@@ -1,4 +1,5 @@
 pub mod Ends
+pub mod Matches
 pub mod Pieces
 pub mod Text
 pub mod Trim

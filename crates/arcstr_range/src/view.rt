@@ -11,6 +11,7 @@ ghost use Rattle.arcstr_range.specs.View.{IsFoundAt, IsFoundWith, end_of, part_o
 pub mod lines;
 mod parts;
 pub mod split;
+pub mod split_by;
 pub mod words;
 
 use crate::range::{StrRange, checked_ends, slice};

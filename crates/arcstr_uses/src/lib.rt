@@ -33,10 +33,12 @@ pub fn key_and_value(rt: &impl Wait, line: &ArcStr) -> Option<(Substr, Substr)>
 }
 
 // ---- more uses
-ghost use Rattle.std.specs.Prelude.{◌==◌, ◌++◌, Some, bytes_eq, codes, length, map, IfOk, OnOk};
+ghost use Rattle.std.specs.Prelude.{◌==◌, ◌≤◌, ◌++◌, All, Some, bytes_eq, codes, length, map, IfOk, OnOk};
 ghost use Rattle.std.specs.HashMap.{Updates, get, get_by};
+ghost use Rattle.std.specs.List.{join_by};
 ghost use Rattle.arcstr_range.specs.Pieces.{lines_of, texts_between};
 ghost use Rattle.arcstr_range.specs.View.{view_at};
+ghost use Rattle.arcstr.specs.Slicing.{LiesBetween};
 ghost use Rattle.arcstr.specs.TextView.{TextView};
 ghost use Rattle.arcintern.specs.Texts.{IsWordAt};
 
@@ -60,6 +62,61 @@ pub fn fields(rt: &impl Wait, alloc: Global, row: &ArcStr) -> Result<Vec<Substr>
     ensures { IfOk result (λ fields. map text_of fields.items ≡ texts_between (λ c. c == COMMA) row.now.text) }
 {
     row.substr_split(rt, alloc, COMMA)
+}
+
+/// Returns the items of a list as slices of it. With `", "` between them they are the list, so none
+/// is lost.
+///
+/// ```
+/// let list = ArcStr::from_static("a, b c");
+/// let items = items(&rt, rt.alloc(), &list)?;
+/// assert_eq!(rt; items.len(), 2);
+/// assert_eq!(rt; items[1].as_str(), "b c");
+/// ```
+pub fn items(rt: &impl Wait, alloc: Global, list: &ArcStr) -> Result<Vec<Substr>, AllocError>
+    ensures joined { IfOk result (λ items.
+        join_by text_of (codes ", ") items.items ≡ list.now.text) }
+    ensures within { IfOk result (λ items. All (LiesBetween 0 (length list.now.text)) items.items) }
+{
+    list.substr_split(rt, alloc, ", ")
+}
+
+/// Splits a template around its first hole, `{{name}}`: what is before it, the name without the
+/// white space around it, and what is after it. The three lie in order in the template.
+///
+/// ```
+/// let template = Substr::from_static("Hello {{ name }}!");
+/// let (before, name, after) = hole(&rt, &template).ok_or("no hole")?;
+/// assert_eq!(rt; (before.as_str(), name.as_str(), after.as_str()), ("Hello ", "name", "!"));
+/// ```
+pub fn hole(rt: &impl Wait, template: &Substr) -> Option<(Substr, Substr, Substr)>
+    ensures starts { IfSome result (λ parts. parts.0.start ≡ template.now.start) }
+    ensures before { IfSome result (λ parts. parts.0.end ≤ parts.1.start) }
+    ensures behind { IfSome result (λ parts. parts.1.end ≤ parts.2.start) }
+    ensures ends { IfSome result (λ parts. parts.2.end ≡ template.now.end) }
+{
+    let (before, rest) = template.substr_split_once(rt, "{{")?;
+    let (name, after) = rest.substr_split_once(rt, "}}")?;
+    Some((before, name.substr_trim(rt), after))
+}
+
+/// Returns the line without the white space around it, or `None` if nothing else is in it. A view
+/// finds it, and the slice is made at the end.
+///
+/// ```
+/// let line = Substr::from_static("  a b ");
+/// let content = content(&rt, &line).ok_or("nothing")?;
+/// assert_eq!(rt; (content.as_str(), content.range()), ("a b", 2..5));
+/// ```
+pub fn content(rt: &impl Wait, line: &Substr) -> Option<Substr>
+    ensures text { IfSome result (λ content. text_of content ≡ trim (text_of line.now)) }
+    ensures within { IfSome result (LiesBetween line.now.start line.now.end) }
+{
+    let view = line.view().trim();
+    if view.text().is_empty() {
+        return None;
+    }
+    Some(line.substr_from(rt, view))
 }
 
 /// Returns the number of lines of a text.

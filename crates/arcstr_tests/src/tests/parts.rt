@@ -89,6 +89,57 @@ fn texts_are_listed_as_str_lists_them(rt: HostRuntime) {
     }
 }
 
+/// Texts, separators of several bytes or of none, and the parts between them.
+const SPLITS: [(&str, &str, Wanted); 7] = [
+    ("a, b,c", ", ", &[("a", 0), ("b,c", 3)]),
+    ("a\n\nb\n\n", "\n\n", &[("a", 0), ("b", 3), ("", 6)]),
+    ("::", "::", &[("", 0), ("", 2)]),
+    ("a:::b", "::", &[("a", 0), (":b", 3)]),
+    ("é😀", "", &[("", 0), ("é", 0), ("😀", 2), ("", 6)]),
+    ("ab", "ba", &[("ab", 0)]),
+    ("x\r\né\r\n", "\r\n", &[("x", 0), ("é", 3), ("", 7)]),
+];
+
+/// Asserts that `str` splits the text into these parts.
+fn check_split_of_str(rt: &impl Abort, text: &str, separator: &str, parts: Wanted) {
+    check_eq!(rt; text.split(separator).count(), parts.len());
+    for (number, part) in text.split(separator).enumerate() {
+        check_eq!(rt; parts.get(number).map(|part| part.0), Some(part));
+    }
+}
+
+#[test]
+fn texts_are_split_at_a_text_as_str_splits_them(rt: HostRuntime) {
+    let alloc = rt.alloc();
+    for (text, separator, parts) in SPLITS {
+        check_split_of_str(&rt, text, separator, parts);
+        let own = made(&rt, text);
+        check_list(&rt, &own, 0, own.substr_split(&rt, alloc, separator), parts);
+        let slice = middle(&rt, text);
+        let (parent, start) = (slice.parent(), slice.range().start);
+        let list = slice.substr_split(&rt, alloc, separator);
+        check_list(&rt, parent, start, list, parts);
+    }
+}
+
+#[test]
+fn a_text_is_split_at_a_set_of_characters(rt: HostRuntime) {
+    let alloc = rt.alloc();
+    let text = made(&rt, "a,b;é");
+    let parts: Wanted = &[("a", 0), ("b", 2), ("é", 4)];
+    check_list(
+        &rt,
+        &text,
+        0,
+        text.substr_split(&rt, alloc, [',', ';']),
+        parts,
+    );
+    let list = text.substr_split(&rt, alloc, |c: char| c == ',' || c == ';');
+    check_list(&rt, &text, 0, list, parts);
+    let list = text.substr_split(&rt, alloc, char::is_alphabetic);
+    check_list(&rt, &text, 0, list, &[("", 0), (",", 1), (";", 3), ("", 6)]);
+}
+
 /// How often the text of a long list has a comma and a line.
 const LINES: usize = 200_000;
 

@@ -129,6 +129,48 @@ fn splits_as_a_str(rt: HostRuntime) {
     }
 }
 
+/// Texts, separators of several bytes or of none, and the byte offsets of the parts.
+const PARTS_AT_TEXTS: [(&str, &str, &[usize]); 8] = [
+    ("", "", &[0, 0]),
+    ("", "::", &[0]),
+    ("aé😀", "", &[0, 0, 1, 3, 7]),
+    ("a::b::", "::", &[0, 3, 6]),
+    ("::::", "::", &[0, 2, 4]),
+    (":::", "::", &[0, 2]),
+    ("é, è", ", ", &[0, 4]),
+    ("a\r\n\r\nb", "\r\n", &[0, 3, 5]),
+];
+
+/// Asserts that the parts of a view of the text at `start` are those of the text, at these offsets.
+fn check_split_by(rt: &impl Abort, text: &str, separator: &str, offsets: &[usize], start: usize) {
+    let mut parts = view_at(rt, text, start).split_by(separator);
+    for (offset, wanted) in offsets.iter().zip(text.split(separator)) {
+        check_part(rt, parts.next(), wanted, *offset, start);
+    }
+    check!(rt; parts.next().is_none());
+    check!(rt; parts.next().is_none());
+}
+
+#[test]
+fn splits_at_texts_as_a_str(rt: HostRuntime) {
+    for (text, separator, offsets) in PARTS_AT_TEXTS {
+        check_eq!(rt; text.split(separator).count(), offsets.len());
+        check_split_by(&rt, text, separator, offsets, 0);
+        check_split_by(&rt, text, separator, offsets, 7);
+        check_split_by(&rt, text, separator, offsets, NEAR_MAX);
+    }
+}
+
+#[test]
+fn splits_at_sets_of_characters_as_a_str(rt: HostRuntime) {
+    let text = "a,b;é";
+    let mut parts = view_at(&rt, text, 7).split_by(|c: char| c == ',' || c == ';');
+    for (offset, wanted) in [0, 2, 4].iter().zip(text.split([',', ';'])) {
+        check_part(&rt, parts.next(), wanted, *offset, 7);
+    }
+    check!(rt; parts.next().is_none());
+}
+
 /// Texts, patterns to find in them, and the byte offsets of the first and the last matches.
 const PATTERNS: [(&str, &str, Option<usize>, Option<usize>); 12] = [
     ("", "", Some(0), Some(0)),

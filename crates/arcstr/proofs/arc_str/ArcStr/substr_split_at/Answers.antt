@@ -13,4 +13,5 @@ returns-in-Ok-clause-answer g c =
     c.clone_between-before.ensures.text c.clone_between-after.ensures.slice c.clone_between-after.ensures.text
 
 pub returns-in-Err-clause-answer : goal.returns-in-Err-clause-answer
-returns-in-Err-clause-answer g c = no_parts c.args.self.now.text c.as_str.result.now (slice_of c.args.self.now) c.args.place c.in-Err.fault c.in-Err.ensures c.as_str.ensures
+returns-in-Err-clause-answer g c =
+    no_parts c.args.self.now.text c.as_str.result.now (slice_of c.args.self.now) c.args.place c.in-Err.fault c.in-Err.ensures c.as_str.ensures

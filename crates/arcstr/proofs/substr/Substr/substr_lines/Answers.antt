@@ -5,15 +5,19 @@ use Rattle.arcstr.proofs.substr.Substr.substr_lines.Goals as goal
 
 pub loop-line-init : goal.loop-line-init
 loop-line-init g c =
-    listed_none (slice_within c.args.self.now) (text_of c.args.self.now) c.view.result c.lines-line-items.result c.into_iter-line-iterator.result c.new-slices.result.items
+    listed_none (slice_within c.args.self.now) (text_of c.args.self.now) c.args.self.now.start c.args.self.now.end c.view.result c.lines-line-items.result
+    c.into_iter-line-iterator.result c.new-slices.result.items
     c.view.ensures.value c.view.ensures.found c.lines-line-items.ensures.found (cc) (cc)
 
 pub slice_at-requires : goal.slice_at-requires
 slice_at-requires g c =
-    next_stands (slice_within c.args.self.now) (text_of c.args.self.now) c.into_iter-line-iterator.result c.loop-line.slices.items c.loop-line.line-iterator c.next.new.self c.in-Some.line c.loop-line.invariant
+    next_stands (slice_within c.args.self.now) (text_of c.args.self.now) c.args.self.now.start c.args.self.now.end c.into_iter-line-iterator.result
+    c.loop-line.slices.items c.loop-line.line-iterator c.next.new.self c.in-Some.line c.loop-line.invariant
     c.in-Some.ensures.steps
 
 pub loop-line-preserved : goal.loop-line-preserved
 loop-line-preserved g c =
-    listed_more (slice_within c.args.self.now) (text_of c.args.self.now) c.into_iter-line-iterator.result c.loop-line.slices.items c.loop-line.line-iterator c.next.new.self c.in-Some.line c.loop-line.invariant
-    c.in-Some.ensures.steps c.slice_at.result c.push.new.self.items c.slice_at.ensures.slice c.slice_at.ensures.text c.in_ok-push.ensures.items
+    listed_more (slice_within c.args.self.now) (text_of c.args.self.now) c.args.self.now.start c.args.self.now.end c.into_iter-line-iterator.result
+    c.loop-line.slices.items c.loop-line.line-iterator c.next.new.self c.in-Some.line c.loop-line.invariant
+    c.in-Some.ensures.steps c.slice_at.result c.push.new.self.items c.slice_at.ensures.slice c.slice_at.ensures.text c.slice_at.ensures.within
+    c.in_ok-push.ensures.items
