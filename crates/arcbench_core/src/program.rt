@@ -76,17 +76,14 @@ impl From<InputFault> for Fault {
     }
 }
 
-/// Runs the program, and returns its status: 0 if it is done, 1 for arguments that mean no command,
-/// 2 for a limit that is too large, 3 for out of memory, 4 for a fault of reading or writing, 5 if
-/// a thread could not be started, 6 if the input of `tokens` is not UTF-8.
+/// Runs the program, and returns its status: 0 if it is done, 1 for arguments that mean no command, 2 for a limit that is too large, 3 for out of memory, 4 for
+/// a fault of reading or writing, 5 if a thread could not be started, 6 if the input of `tokens` is not UTF-8.
 ///
-/// A status above 0 has a line, which goes to `errors`; a fault in writing it does not change the
-/// status. `rt` permits it to start threads and to wait, and provides the machine's allocator for
-/// the texts of threads.
+/// A status above 0 has a line, which goes to `errors`; a fault in writing it does not change the status.
+/// `rt` permits it to start threads and to wait, and provides the machine's allocator for the texts of threads.
 ///
 /// The contract does not say that memory is available: the tests `answers_a_script`,
-/// `two_workers_print_their_texts` and `prints_the_words_of_each_line` catch a body that always
-/// answers 3 to a command.
+/// `two_workers_print_their_texts` and `prints_the_words_of_each_line` catch a body that always answers 3 to a command.
 ///
 /// ```
 /// let args = [String::from_str(rt.alloc(), "script")?];
@@ -115,8 +112,7 @@ where
     ensures done { result ≡ 0 → IfSome (command_in arguments.now) (λ command. IsDone command
         (R.remaining input.old.value) (W.contents output.old.value) (W.contents output.new.value)) }
     ensures at_end { result ≡ 0 → ReadsInput arguments.now → IsAtEnd (R.remaining input.new.value) }
-    // Promise: Status 2 comes only to `script`. Unless memory or a stream fails, it comes exactly
-    // if the script's limit is too large.
+    // Promise: Status 2 comes only to `script`. Unless memory or a stream fails, it comes exactly if the script's limit is too large.
     ensures too_large { result ≢ 3 → result ≢ 4 → IsForScript arguments.now → IfSome (R.remaining input.old.value)
         (λ script. (result ≡ 2) ↔ (answer_to script ≡ Err LimitTooLarge)) }
     ensures too_large_of_scripts { result ≡ 2 → IsForScript arguments.now }
@@ -126,8 +122,7 @@ where
     ensures io { (result ≡ 4) ↔ (IsTrue input.new.failed ⊎ IsTrue output.new.failed) }
     // Promise: Status 5 comes only to `threads`.
     ensures no_thread { result ≡ 5 → IsForThreads arguments.now }
-    // Promise: Status 6 comes only to `tokens`. Unless memory or a stream fails, it comes exactly
-    // if the input is not UTF-8.
+    // Promise: Status 6 comes only to `tokens`. Unless memory or a stream fails, it comes exactly if the input is not UTF-8.
     ensures not_utf8 { result ≢ 3 → result ≢ 4 → IsForTokens arguments.now → IfSome (R.remaining input.old.value)
         (λ bytes. (result ≡ 6) ↔ ¬ (IsUtf8 bytes)) }
     ensures not_utf8_of_tokens { result ≡ 6 → IsForTokens arguments.now }
@@ -153,8 +148,7 @@ where
     status_after(errors, done)
 }
 
-/// Returns the status if the program's own arguments could not be read: out of memory, or an
-/// argument that is not a text, which counts as no command.
+/// Returns the status if the program's own arguments could not be read: out of memory, or an argument that is not a text, which counts as no command.
 ///
 /// ```
 /// use std::io::{self, ErrorKind};
@@ -202,8 +196,7 @@ fn worker_count(argument: &[u8]) -> Option<usize>
     }
 }
 
-/// Writes the lines of callers once all lines are there. If there are no callers, returns the fault
-/// of the pool.
+/// Writes the lines of callers once all lines are there. If there are no callers, returns the fault of the pool.
 pub(crate) fn tell_threads<W: Write>(
     alloc: Global,
     handles: Result<Vec<ArcStr>, PoolFault>,
@@ -230,8 +223,7 @@ pub(crate) fn tell_threads<W: Write>(
     }
 }
 
-/// Reads the input to its end, and writes the lines of its words once all lines are there. `rt`
-/// provides the machine's allocator for the texts and their words.
+/// Reads the input to its end, and writes the lines of its words once all lines are there. `rt` provides the machine's allocator for the texts and their words.
 fn tell_tokens<H, A: Allocator + Copy, R: Read, W: Write>(
     rt: &H,
     alloc: A,

@@ -13,8 +13,8 @@ use std::sync::Wait;
 /// The character between a key and its value.
 const EQUALS: char = '=';
 
-/// Splits a line at its first `=`. The key and the value are slices of the line, without the white
-/// space around them. Returns `None` exactly if the line has no `=`.
+/// Splits a line at its first `=`. The key and the value are slices of the line, without the white space around them. Returns `None` exactly if the line has
+/// no `=`.
 ///
 /// ```
 /// let line = ArcStr::from_static("name = value");
@@ -57,8 +57,7 @@ const COMMA: char = ',';
 /// assert_eq!(rt; fields[2].as_str(), "b");
 /// ```
 pub fn fields(rt: &impl Wait, alloc: Global, row: &ArcStr) -> Result<Vec<Substr>, AllocError>
-    ensures { IfOk result (λ fields. map text_of fields.items
-        ≡ texts_between (λ c. c == COMMA) row.now.text) }
+    ensures { IfOk result (λ fields. map text_of fields.items ≡ texts_between (λ c. c == COMMA) row.now.text) }
 {
     row.substr_split(rt, alloc, COMMA)
 }
@@ -87,8 +86,7 @@ pub fn greeting(alloc: Global, name: &str) -> Result<ArcStr, TextFault>
     ArcStr::join(alloc, &["hello ", name], "")
 }
 
-/// A message: its topic is a text that many messages share, and its payload a slice of the packet
-/// that brought it.
+/// A message: its topic is a text that many messages share, and its payload a slice of the packet that brought it.
 ///
 /// ```
 /// let packet = ArcStr::from_str(rt.alloc(), "01 ready")?;
@@ -102,8 +100,7 @@ pub struct Message {
 }
 
 impl Message {
-    /// Reads the message of a packet, whose payload starts behind a head of this many bytes. Copies
-    /// neither text.
+    /// Reads the message of a packet, whose payload starts behind a head of this many bytes. Copies neither text.
     ///
     /// ```
     /// let packet = ArcStr::from_static("01 ready");
@@ -117,8 +114,7 @@ impl Message {
         head: usize,
     ) -> Result<Message, RangeFault>
         ensures topic { IfOk result (λ message. message.topic ≡ topic.now) }
-        ensures payload { IfOk result (λ message.
-            message.payload ≡ slice_of packet.now head (length packet.now.text)) }
+        ensures payload { IfOk result (λ message. message.payload ≡ slice_of packet.now head (length packet.now.text)) }
     {
         let payload = packet.substr(rt, head..)?;
         Ok(Message {
@@ -127,8 +123,7 @@ impl Message {
         })
     }
 
-    /// Copies the payload into a block of its own, so that the message does not keep the packet
-    /// alive.
+    /// Copies the payload into a block of its own, so that the message does not keep the packet alive.
     ///
     /// ```
     /// let packet = ArcStr::from_str(rt.alloc(), "01 ready")?;
@@ -160,10 +155,9 @@ pub fn set(
     key: ArcStr,
     value: u64,
 ) -> Result<(), AllocFailed<(ArcStr, u64)>>
-    ensures found { OnOk result (get (λ (one : TextView) (other : TextView).
-        bytes_eq one.text other.text) settings.new key ≡ Some value) }
-    ensures others { OnOk result (Updates (λ (one : TextView) (other : TextView).
-        bytes_eq one.text other.text) settings.old settings.new key (Some value)) }
+    ensures found { OnOk result (get (λ (one : TextView) (other : TextView). bytes_eq one.text other.text) settings.new key ≡ Some value) }
+    ensures others { OnOk result (Updates (λ (one : TextView) (other : TextView). bytes_eq one.text other.text)
+        settings.old settings.new key (Some value)) }
 {
     settings.insert(key, value)?;
     Ok(())

@@ -8,11 +8,10 @@ use super::line::{first_line, limit_in, step_of};
 use arcstr::count::{Reply, RunFault, World};
 use std::alloc::{AllocError, Allocator};
 
-/// Returns the answer to a script: `bad limit` if its first line sets no limit, else a line for
-/// each of the other lines, with the reply to its step or `bad`.
+/// Returns the answer to a script: `bad limit` if its first line sets no limit, else a line for each of the other lines, with the reply to its step or `bad`.
 ///
-/// The call fails with `LimitTooLarge` exactly if the limit is above `RC_MAX`, and with `Memory`
-/// only if an allocation fails. The time is linear in the length of the script.
+/// The call fails with `LimitTooLarge` exactly if the limit is above `RC_MAX`, and with `Memory` only if an
+/// allocation fails. The time is linear in the length of the script.
 ///
 /// ```
 /// let answer = script::answer(rt.alloc(), b"limit 5\nmake\nlook 0\n")?;
