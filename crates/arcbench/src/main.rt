@@ -1,6 +1,6 @@
-//! `arcbench script` runs the script in its input, a script of steps on counted blocks; `arcbench threads N`
-//! starts callers of one text in threads of their own; `arcbench tokens N` prints the words of each line of
-//! its input.
+//! `arcbench script` runs the script in its input, a script of steps on counted blocks;
+//! `arcbench threads N` starts callers of one text in threads of their own; `arcbench tokens N`
+//! prints the words of each line of its input.
 #![tactic(auto)]
 
 use arcbench_core::port::Port;

@@ -18,7 +18,8 @@ pub(crate) enum InputFault {
 /// How many bytes one read asks for.
 const CHUNK: usize = 8192;
 
-/// Reads all bytes that are left. Any error of a read ends it, including that of an interrupted read.
+/// Reads all bytes that are left. Any error of a read ends it, including that of an interrupted
+/// read.
 pub(crate) fn read_to_end<A: Allocator, R: Read>(
     alloc: A,
     input: &mut Port<R>,

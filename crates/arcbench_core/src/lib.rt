@@ -1,4 +1,5 @@
-//! Scripts of steps on counted blocks, callers of one text in threads of their own, and the program over its arguments, a reader and two writers.
+//! Scripts of steps on counted blocks, callers of one text in threads of their own, and the program
+//! over its arguments, a reader and two writers.
 #![tactic(auto)]
 
 mod input;

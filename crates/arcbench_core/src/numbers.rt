@@ -23,7 +23,8 @@ pub fn number_of(text: &[u8]) -> Option<u64>
 
 /// The value of a NUMBER, by the definition of `number_of`.
 ///
-/// This function stands apart so that the other clauses of `number_of` follow from one value, on whichever path the body finds it.
+/// This function stands apart so that the other clauses of `number_of` follow from one value, on
+/// whichever path the body finds it.
 fn read_number(text: &[u8]) -> Option<u64>
     ensures { result ≡ number_of text.now }
 {

@@ -107,11 +107,14 @@ impl<'a, G: Gate> Promise<ArcStr> for HandleOf<'a, G> {
 
 type Worker<'a, G> = PromisedHandle<ArcStr, HandleOf<'a, G>>;
 
-/// Starts `workers` threads, each of which clones the text, passes the gate once with its number and returns its clone. The call returns their handles in the
-/// order of the workers. It fails with `Memory` if there was no memory for the lists of workers and handles, and with `NoThread` if a thread was not started.
-/// After either fault every thread that was started has been joined, and its clone dropped.
+/// Starts `workers` threads, each of which clones the text, passes the gate once with its number
+/// and returns its clone. The call returns their handles in the order of the workers. It fails with
+/// `Memory` if there was no memory for the lists of workers and handles, and with `NoThread` if a
+/// thread was not started. After either fault every thread that was started has been joined, and
+/// its clone dropped.
 ///
-/// The contract does not say that memory and threads are available: the test `each_worker_hands_its_clone_back` catches a body that always refuses.
+/// The contract does not say that memory and threads are available: the test
+/// `each_worker_hands_its_clone_back` catches a body that always refuses.
 ///
 /// ```
 /// struct Open;

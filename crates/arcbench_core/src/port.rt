@@ -10,7 +10,8 @@ use std::marker::Model;
 
 /// A reader or a writer with a flag, which the first error of one of its calls sets permanently.
 ///
-/// It can be sent and shared where its reader or writer can, and its drop drops the reader or writer.
+/// It can be sent and shared where its reader or writer can, and its drop drops the reader or
+/// writer.
 ///
 /// ```
 /// let mut room = [0; 2];

@@ -17,7 +17,8 @@ impl Gate for OpenGate {
     fn pass(&self, _worker: usize) {}
 }
 
-/// Starts callers of one text, and returns their handles. The test `two_workers_print_their_texts` catches a body that always refuses.
+/// Starts callers of one text, and returns their handles. The test `two_workers_print_their_texts`
+/// catches a body that always refuses.
 ///
 /// ```
 /// let handles = threads::start(&rt, rt.alloc(), 2)?;
@@ -55,8 +56,9 @@ fn start_with<R: Threads + Wait + Sync>(
     }
 }
 
-/// Returns the lines of callers: one for each caller, with the text as its handle reads it, and a last one with
-/// their number. If there are no callers, the fault is that of the pool; else it is `Memory`.
+/// Returns the lines of callers: one for each caller, with the text as its handle reads it, and a
+/// last one with their number. If there are no callers, the fault is that of the pool; else it is
+/// `Memory`.
 ///
 /// ```
 /// let lines = threads::answer(rt.alloc(), threads::start(&rt, rt.alloc(), 1))?;

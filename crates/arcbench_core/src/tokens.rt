@@ -37,10 +37,12 @@ impl From<AllocError> for TokensFault {
     }
 }
 
-/// Returns the lines for the words of an input. Each line of the input, cut at newlines, is a text. Each word of a text is a line `I A..B TEXT`, with the
-/// number of the text from 0, the byte offsets of the word, and its bytes. `workers` workers find the words.
+/// Returns the lines for the words of an input. Each line of the input, cut at newlines, is a text.
+/// Each word of a text is a line `I A..B TEXT`, with the number of the text from 0, the byte
+/// offsets of the word, and its bytes. `workers` workers find the words.
 ///
-/// The call first checks that the input is UTF-8. A line that is too long for a text counts as out of memory.
+/// The call first checks that the input is UTF-8. A line that is too long for a text counts as out
+/// of memory.
 ///
 /// ```
 /// let lines = tokens::answer(&rt, rt.alloc(), 2, b"foo\n\nbar\n")?;
@@ -68,7 +70,8 @@ where
     Ok(lines.into_bytes())
 }
 
-/// A text for each line of the input, in order. A line that is too long for a text counts as out of memory, too.
+/// A text for each line of the input, in order. A line that is too long for a text counts as out of
+/// memory, too.
 fn texts_of_lines(alloc: Global, input: &str) -> Result<Vec<ArcStr>, AllocError>
     ensures { IfOk result (λ texts. texts_of_shared texts.items ≡ script_lines input.now) }
 {

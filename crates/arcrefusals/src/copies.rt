@@ -1,4 +1,5 @@
-//! Calls that copy a shared text or a JSON value. A refusal leaves what they copy unchanged, and they then copy it again.
+//! Calls that copy a shared text or a JSON value. A refusal leaves what they copy unchanged, and
+//! they then copy it again.
 use crate::calls::{Calls, Given, Machine, Made, Stop, again, check, is_text};
 use arcstr::{ArcStr, Substr};
 use serde_json::{ToValue, Value};

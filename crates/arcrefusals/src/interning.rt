@@ -1,4 +1,5 @@
-//! Calls of an interner, with and without texts. A refusal leaves its texts as they were, and the same call then succeeds.
+//! Calls of an interner, with and without texts. A refusal leaves its texts as they were, and the
+//! same call then succeeds.
 use crate::calls::{Calls, Given, Machine, Made, Stop, again, check, count, is_text};
 use arcintern::{Interner, SharedInterner, SharedSymbol, Symbol, SymbolMap, WordList};
 use arcstr::{ArcStr, Substr};

@@ -1,6 +1,8 @@
-//! Makes calls of the library, repeats each while it is refused, and compares after each refusal what must be unchanged. Standard error gets a line for each
-//! call, the same whichever allocation or start of a thread is refused. Standard output gets the line of a call that is not as it should be, and so nothing.
-//! The script `refusals` refuses each allocation in turn, and counts those of each call.
+//! Makes calls of the library, repeats each while it is refused, and compares after each refusal
+//! what must be unchanged. Standard error gets a line for each call, the same whichever allocation
+//! or start of a thread is refused. Standard output gets the line of a call that is not as it
+//! should be, and so nothing. The script `refusals` refuses each allocation in turn, and counts
+//! those of each call.
 #![tactic(auto)]
 
 use std::io;

@@ -1,5 +1,6 @@
-//! Calls that return handles on texts: callers in threads, and the words of texts. After each refusal, and once everything that was returned is dropped, each
-//! text has only the handle of its owner.
+//! Calls that return handles on texts: callers in threads, and the words of texts. After each
+//! refusal, and once everything that was returned is dropped, each text has only the handle of its
+//! owner.
 use crate::calls::{
     Calls, Given, Machine, Made, Stop, again, again_whole, check, compare, count, is_text, mark,
 };
@@ -97,7 +98,8 @@ pub(crate) fn words_in_threads<R: Machine>(rt: &R) -> Result<(), Stop> {
     compare(rt, &texts, lists.map_err(Stop::from), "abcde", 6)
 }
 
-/// Finds the words of two texts with three workers. If memory is refused, either all workers have passed the gate or none has.
+/// Finds the words of two texts with three workers. If memory is refused, either all workers have
+/// passed the gate or none has.
 pub(crate) fn words_behind_a_gate<R: Machine>(rt: &R) -> Result<(), Stop> {
     let texts = <[ArcStr; 2]>::prepare(rt)?;
     let gate = Passes::none();

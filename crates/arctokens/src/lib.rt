@@ -1,4 +1,5 @@
-//! The words of shared texts, as slices of them: of one text, or of many texts with 1 to 64 workers.
+//! The words of shared texts, as slices of them: of one text, or of many texts with 1 to 64
+//! workers.
 #![tactic(auto)]
 
 pub use many_texts::{tokens_all, tokens_all_with};

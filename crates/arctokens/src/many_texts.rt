@@ -17,9 +17,10 @@ impl Gate for OpenGate {
     fn pass(&self, _worker: usize) {}
 }
 
-/// Returns the tokens of each text, in the order of the texts: one list for each, as `tokens` returns it. Finds them with `workers` workers, one of which is
-/// the calling thread, as `tokens_all_with` does with a gate at which no worker waits. The caller must ensure that there are 1 to 64 workers. Fails only if
-/// an allocation fails.
+/// Returns the tokens of each text, in the order of the texts: one list for each, as `tokens`
+/// returns it. Finds them with `workers` workers, one of which is the calling thread, as
+/// `tokens_all_with` does with a gate at which no worker waits. The caller must ensure that there
+/// are 1 to 64 workers. Fails only if an allocation fails.
 ///
 /// ```
 /// let texts = [literal!("foo   bar"), literal!("")];
@@ -40,17 +41,20 @@ pub fn tokens_all<R: Threads + Wait + Sync>(
     tokens_all_with(rt, alloc, texts, workers, &OpenGate)
 }
 
-/// Returns the tokens of each text, in the order of the texts: one list for each, as `tokens` returns it.
+/// Returns the tokens of each text, in the order of the texts: one list for each, as `tokens`
+/// returns it.
 ///
-/// Text `i` goes to worker `i % workers`. A worker passes the gate once, and then finds the tokens of its texts. The last worker is the calling thread; each
-/// other has a thread of its own. The calling thread starts all of them first. For each that cannot be started it then passes the gate and processes the texts,
-/// before it does its own work.
+/// Text `i` goes to worker `i % workers`. A worker passes the gate once, and then finds the tokens
+/// of its texts. The last worker is the calling thread; each other has a thread of its own. The
+/// calling thread starts all of them first. For each that cannot be started it then passes the gate
+/// and processes the texts, before it does its own work.
 ///
-/// The caller must ensure that there are 1 to 64 workers. The call joins all threads, and so can wait. It fails only if an allocation fails: a thread that
-/// cannot be started is not an error.
+/// The caller must ensure that there are 1 to 64 workers. The call joins all threads, and so can
+/// wait. It fails only if an allocation fails: a thread that cannot be started is not an error.
 ///
-/// After an error, every started thread has been joined, and no slice is left. Tests check what the contract does not say: that the threads run at once, that
-/// a worker passes the gate only once, and before its first text, and that a call succeeds if memory is available.
+/// After an error, every started thread has been joined, and no slice is left. Tests check what the
+/// contract does not say: that the threads run at once, that a worker passes the gate only once,
+/// and before its first text, and that a call succeeds if memory is available.
 ///
 /// ```
 /// struct Open;

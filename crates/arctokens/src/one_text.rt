@@ -8,11 +8,12 @@ use arcstr::{ArcStr, Substr};
 use std::alloc::{AllocError, Global};
 use std::sync::Wait;
 
-/// Returns the words of a text in ascending order, each as a slice of it. The words are the longest runs of characters that are not white space
-/// (`char::is_whitespace`).
+/// Returns the words of a text in ascending order, each as a slice of it. The words are the longest
+/// runs of characters that are not white space (`char::is_whitespace`).
 ///
-/// Clones the text once for each word, and so can wait. Allocates only the list, and fails only if that allocation fails; no slice is left then. The contract
-/// does not say that a call succeeds if memory is available: tests detect a body that always fails.
+/// Clones the text once for each word, and so can wait. Allocates only the list, and fails only if
+/// that allocation fails; no slice is left then. The contract does not say that a call succeeds if
+/// memory is available: tests detect a body that always fails.
 ///
 /// ```
 /// let words = tokens(&rt, rt.alloc(), &literal!("foo   bar"))?;
@@ -35,8 +36,9 @@ pub fn tokens<R: Wait>(rt: &R, alloc: Global, text: &ArcStr) -> Result<Vec<Subst
     Ok(tokens)
 }
 
-/// A law: a text has only one list of tokens, so any two results of `tokens` for it are equal. It is for proofs, and does nothing at run time. In the
-/// example, only its clause proves that the index in `other[0]` is in bounds.
+/// A law: a text has only one list of tokens, so any two results of `tokens` for it are equal. It
+/// is for proofs, and does nothing at run time. In the example, only its clause proves that the
+/// index in `other[0]` is in bounds.
 ///
 /// ```
 /// let text = literal!("foo   bar");

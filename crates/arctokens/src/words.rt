@@ -17,7 +17,8 @@ struct Character {
     width: usize,
 }
 
-/// Returns the range of the first word that starts at or after `from`. No word may lie across `from`.
+/// Returns the range of the first word that starts at or after `from`. No word may lie across
+/// `from`.
 pub(crate) fn next_word(text: &str, from: usize) -> Option<Range<usize>>
     requires boundary { IsCharBoundary text.now from }
     requires between { IsBetweenWords text.now from }
@@ -32,7 +33,8 @@ pub(crate) fn next_word(text: &str, from: usize) -> Option<Range<usize>>
     Some(start..end)
 }
 
-/// Returns the end of the run of the given kind that starts at `from`: the start of the first character of the other kind, or the end of the text.
+/// Returns the end of the run of the given kind that starts at `from`: the start of the first
+/// character of the other kind, or the end of the text.
 fn run_end(text: &str, from: usize, white: bool) -> usize
     requires { IsCharBoundary text.now from }
     ensures { IsRun text.now from result white }
@@ -53,8 +55,9 @@ fn run_end(text: &str, from: usize, white: bool) -> usize
     at
 }
 
-/// Returns how many bytes a run of the given kind can pass at once. In a run of white space, that is none. In a run of other characters, it is the number of
-/// visible ASCII characters at the start of the next vector.
+/// Returns how many bytes a run of the given kind can pass at once. In a run of white space, that
+/// is none. In a run of other characters, it is the number of visible ASCII characters at the start
+/// of the next vector.
 fn run_prefix(text: &str, place: usize, white: bool) -> usize
     requires inside { place < length text.now }
     requires boundary { IsCharBoundary text.now place }
@@ -71,8 +74,8 @@ fn run_prefix(text: &str, place: usize, white: bool) -> usize
 /// The number of bytes in a vector.
 const LANES: usize = 16;
 
-/// Returns how many bytes at `place` are visible ASCII characters, which are never white space, within one vector. Returns 0 if fewer bytes than a vector are
-/// left.
+/// Returns how many bytes at `place` are visible ASCII characters, which are never white space,
+/// within one vector. Returns 0 if fewer bytes than a vector are left.
 fn visible_prefix(bytes: &[u8], place: usize) -> usize
     requires { place < length bytes.now }
     ensures within { result ≤ LANES }
@@ -91,7 +94,8 @@ fn visible_prefix(bytes: &[u8], place: usize) -> usize
     }
 }
 
-/// Returns a bit for each of the next 16 bytes, which is set if the byte is not a visible ASCII character. The first byte has the lowest bit.
+/// Returns a bit for each of the next 16 bytes, which is set if the byte is not a visible ASCII
+/// character. The first byte has the lowest bit.
 fn other_bytes(bytes: &[u8], place: usize) -> u64
     requires { place + LANES ≤ length bytes.now }
     ensures { result ≡ mask_l (map (λ byte. not (is_visible byte)) (take 16 (drop place bytes.now))) }

@@ -1,4 +1,5 @@
-//! Workers that find the tokens of many texts: the calling thread, and each other in a thread of its own.
+//! Workers that find the tokens of many texts: the calling thread, and each other in a thread of
+//! its own.
 ghost use Rattle.std.specs.Prelude.{◌≡◌, ◌≤◌, ◌<◌, ℕ, List, length, IfOk, OnOk, IfSome, vec_len, vec_capacity, slice_index_or};
 ghost use Rattle.arcstr.specs.TextView.{TextView};
 ghost use Rattle.arctokens.specs.Pieces.{ArePieces, IsPieceOf};
@@ -12,8 +13,8 @@ use std::sync::Wait;
 use std::thread;
 use std::thread::{Promise, PromisedHandle, Threads};
 
-/// A gate that each worker passes once, before its first text. The contract of `tokens_all_with` says that each worker passes. Tests check that it passes
-/// only once, and before its first text.
+/// A gate that each worker passes once, before its first text. The contract of `tokens_all_with`
+/// says that each worker passes. Tests check that it passes only once, and before its first text.
 ///
 /// ```
 /// struct Open;
@@ -68,7 +69,8 @@ type PieceThread<'a, G> = PromisedHandle<Piece, PieceOf<'a, G>>;
 enum Share<'a, G: Gate> {
     /// A thread that is not yet joined.
     Thread(PieceThread<'a, G>),
-    /// A piece from the calling thread: its own, or that of a worker whose thread could not be started.
+    /// A piece from the calling thread: its own, or that of a worker whose thread could not be
+    /// started.
     Own(Piece),
 }
 
@@ -85,8 +87,9 @@ impl<'a, G: Gate> Share<'a, G> {
     }
 }
 
-/// Starts a thread for each worker but the last, does the last worker's work itself, and joins all threads. Returns the pieces in the order of the workers.
-/// Allocates the list of thread handles before it starts the first thread, so that it can join each.
+/// Starts a thread for each worker but the last, does the last worker's work itself, and joins all
+/// threads. Returns the pieces in the order of the workers. Allocates the list of thread handles
+/// before it starts the first thread, so that it can join each.
 pub(crate) fn pieces_of_all<R: Threads + Wait + Sync, G: Gate + Sync>(
     rt: &R,
     alloc: Global,
@@ -125,7 +128,8 @@ pub(crate) fn pieces_of_all<R: Threads + Wait + Sync, G: Gate + Sync>(
     )
 }
 
-/// Returns the shares of all workers: their threads, or for a worker without a thread the piece that the calling thread finds instead. Joins no thread.
+/// Returns the shares of all workers: their threads, or for a worker without a thread the piece
+/// that the calling thread finds instead. Joins no thread.
 fn shares_of_all<'a, R: Wait, G: Gate>(
     rt: &R,
     alloc: Global,
@@ -208,7 +212,8 @@ fn tokens_of_one<R: Wait>(
     tokens(rt, alloc, &texts[number])
 }
 
-/// Returns the pieces of all shares. Joins every thread first, and then returns an error if an allocation of any worker failed.
+/// Returns the pieces of all shares. Joins every thread first, and then returns an error if an
+/// allocation of any worker failed.
 fn pieces_of_shares<'a, R: Threads, G: Gate>(
     rt: &R,
     texts: &[ArcStr],

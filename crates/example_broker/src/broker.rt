@@ -55,7 +55,8 @@ impl Broker {
         Ok(sent)
     }
 
-    /// Publishes the messages of the queue until it is empty and closed, and returns the number of copies that were sent.
+    /// Publishes the messages of the queue until it is empty and closed, and returns the number of
+    /// copies that were sent.
     fn publish_all(&self, rt: &impl Wait, queue: &Receiver<Message>) -> Result<usize, AllocError> {
         let mut sent: usize = 0;
         for message in queue.iter(rt) {

@@ -1,5 +1,6 @@
-//! A broker. Its input says who reads which topics, and has messages under topics. Four threads send each message to the readers of its topic, and each reader
-//! has a thread of its own. Then it prints what each reader got, the lines it cannot read, and how many copies were sent and read.
+//! A broker. Its input says who reads which topics, and has messages under topics. Four threads
+//! send each message to the readers of its topic, and each reader has a thread of its own. Then it
+//! prints what each reader got, the lines it cannot read, and how many copies were sent and read.
 #![tactic(auto)]
 
 mod broker;

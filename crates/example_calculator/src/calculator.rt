@@ -23,7 +23,8 @@ impl Calculator {
         }
     }
 
-    /// Reads a line: nothing if it has no token, a new value of a name if it begins with a name and `=`, and otherwise an expression, whose value it returns.
+    /// Reads a line: nothing if it has no token, a new value of a name if it begins with a name and
+    /// `=`, and otherwise an expression, whose value it returns.
     pub fn answer(&mut self, alloc: Global, line: &StrView<'_>) -> Result<Option<i64>, Fault> {
         let tokens = tokens_of(alloc, &mut self.names, line)?;
         let end = line.trim_end().range().end;

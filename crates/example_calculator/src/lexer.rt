@@ -48,10 +48,11 @@ pub fn tokens_of(
     Ok(tokens)
 }
 
-/// The longest run of letters and digits at the start of the view, or its first character, and the rest of the view. Both are found in each text in which the
-/// view is found.
+/// The longest run of letters and digits at the start of the view, or its first character, and the
+/// rest of the view. Both are found in each text in which the view is found.
 fn first_word<'a>(view: &StrView<'a>) -> Option<(StrView<'a>, StrView<'a>)>
-    ensures found { IfSome result (λ parts. IsFoundWith view.now parts.0 × IsFoundWith view.now parts.1) }
+    ensures found { IfSome result (λ parts. IsFoundWith view.now parts.0
+        × IsFoundWith view.now parts.1) }
 {
     let text = view.text();
     let first = text.chars().next().map_or(0, char::len_utf8);

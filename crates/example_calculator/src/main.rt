@@ -39,7 +39,8 @@ fn read_input<R: AllocGlobal + Eprint>(rt: &R, input: Stdin) -> Result<ArcStr> {
     Ok(ArcStr::from_str(rt.alloc(), after_mark.unwrap_or(text.as_str()))?)
 }
 
-/// Prints the value of each line that has one, and returns the refused lines, which are slices of the text.
+/// Prints the value of each line that has one, and returns the refused lines, which are slices of
+/// the text.
 fn answer_lines<R: Wait + Print>(
     rt: &R,
     alloc: Global,

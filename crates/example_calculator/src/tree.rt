@@ -1,4 +1,5 @@
-//! The tree of an expression. It is a list in which each node stands after its parts, so no call recurses, however deep the brackets are.
+//! The tree of an expression. It is a list in which each node stands after its parts, so no call
+//! recurses, however deep the brackets are.
 use crate::fault::{Fault, Reason};
 use crate::lexer::{Kind, Token};
 use arcintern::Symbol;
@@ -44,8 +45,8 @@ pub enum Node {
     Operation(Operator, usize, usize),
 }
 
-/// A tree that is being built: its nodes with their byte offsets, the indexes of those that are part of no other one, and the operators and brackets that wait
-/// for what follows them.
+/// A tree that is being built: its nodes with their byte offsets, the indexes of those that are
+/// part of no other one, and the operators and brackets that wait for what follows them.
 #[derive(Drop)]
 struct Parser {
     nodes: Vec<(Node, usize)>,
@@ -109,7 +110,8 @@ impl Parser {
         Ok(())
     }
 
-    /// Applies the last operators that wait, as long as their rank is this one or a higher one, but none before an open bracket.
+    /// Applies the last operators that wait, as long as their rank is this one or a higher one, but
+    /// none before an open bracket.
     fn apply_waiting(&mut self, rank: u8) -> Result<(), Fault> {
         for _ in 0..self.waiting.len() {
             let Some(

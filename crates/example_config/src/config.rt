@@ -10,8 +10,9 @@ use std::alloc::{AllocError, Global};
 use std::collections::BTreeMap;
 use std::sync::Wait;
 
-/// The values by their keys, in sections by their names, and the faults of the lines that cannot be read. Entries before the first section are in the section
-/// with the empty name. If two entries have the same key, the last is kept.
+/// The values by their keys, in sections by their names, and the faults of the lines that cannot be
+/// read. Entries before the first section are in the section with the empty name. If two entries
+/// have the same key, the last is kept.
 #[derive(Drop)]
 pub struct Config {
     pub sections: BTreeMap<Substr, BTreeMap<Substr, Substr>>,

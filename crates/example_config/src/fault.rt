@@ -43,7 +43,8 @@ impl Refusal {
         Refusal { reason, place }
     }
 
-    /// The refusal as the fault of the line with this number, which starts at this byte of the text.
+    /// The refusal as the fault of the line with this number, which starts at this byte of the
+    /// text.
     pub fn in_line(&self, text: &ArcStr, line: usize, start: usize) -> Fault {
         let before = text.get(start..self.place).unwrap_or("");
         Fault {

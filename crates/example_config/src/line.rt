@@ -16,8 +16,8 @@ pub struct Entry {
 }
 
 impl Entry {
-    /// Reads an entry: the text before and after the first `=` of the line, without the white space around it. Returns `None` exactly if the line has no `=`.
-    /// Allocates nothing.
+    /// Reads an entry: the text before and after the first `=` of the line, without the white space
+    /// around it. Returns `None` exactly if the line has no `=`. Allocates nothing.
     pub fn read(rt: &impl Wait, line: &Substr) -> Option<Entry>
         ensures found { IsSome result ↔ Contains (chars (text_of line.now)) equals_sign }
         ensures sides { IfSome result (IsEntry line.now) }
@@ -30,7 +30,8 @@ impl Entry {
     }
 }
 
-/// Returns the part between the two characters, if the slice begins with `first` and ends with the next `last` in it. Allocates nothing.
+/// Returns the part between the two characters, if the slice begins with `first` and ends with the
+/// next `last` in it. Allocates nothing.
 pub fn between(rt: &impl Wait, slice: &Substr, first: char, last: char) -> Option<Substr>
     ensures text { IfSome result (λ inner. IsEnclosed slice.now first last inner) }
     ensures kept { IfSome result (λ inner. inner.parent ≡ slice.now.parent) }
@@ -49,8 +50,8 @@ pub enum Line {
 }
 
 impl Line {
-    /// Reads a trimmed line: nothing if it is empty or begins with `#`, a section if it begins with `[`, and otherwise an entry, whose value loses the quotes
-    /// around it. Allocates nothing.
+    /// Reads a trimmed line: nothing if it is empty or begins with `#`, a section if it begins with
+    /// `[`, and otherwise an entry, whose value loses the quotes around it. Allocates nothing.
     pub fn read(rt: &impl Wait, line: &Substr) -> Result<Line, Refusal> {
         if line.is_empty() || line.starts_with('#') {
             return Ok(Line::Blank);

@@ -1,4 +1,5 @@
-//! Reads a configuration from its input. Prints each line that it cannot read, and the entries of the others. Then four threads look up values in it.
+//! Reads a configuration from its input. Prints each line that it cannot read, and the entries of
+//! the others. Then four threads look up values in it.
 #![tactic(auto)]
 
 mod config;

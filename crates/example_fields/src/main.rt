@@ -33,11 +33,13 @@ fn main(rt: HostRuntime) -> Result<()> {
     Ok(())
 }
 
-/// Returns the text before the first comma of the line, without the white space around it. Returns `None` exactly if the line has no comma.
+/// Returns the text before the first comma of the line, without the white space around it. Returns
+/// `None` exactly if the line has no comma.
 fn first_field(rt: &impl Wait, line: &ArcStr) -> Option<Substr>
     ensures found { IsSome result ↔ Contains (chars line.now.text) COMMA }
     ensures text { IfSome result (λ field. (parts : SubstrView × SubstrView)
-        × AreAround line.now.text (slice_of line.now) COMMA parts × (text_of field ≡ trim (text_of parts.0))) }
+        × AreAround line.now.text (slice_of line.now) COMMA parts
+        × (text_of field ≡ trim (text_of parts.0))) }
     ensures kept { IfSome result (λ field. field.parent ≡ line.now) }
 {
     let (field, _) = line.substr_split_once(rt, COMMA)?;

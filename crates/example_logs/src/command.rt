@@ -11,7 +11,8 @@ pub struct Command<'a> {
 }
 
 impl<'a> Command<'a> {
-    /// Reads the command line, whose first word is the program's name. An error has the text that the user is to see.
+    /// Reads the command line, whose first word is the program's name. An error has the text that
+    /// the user is to see.
     pub fn read(alloc: Global, words: &'a [String]) -> Result<Command<'a>, Error> {
         let file = Arg::new(alloc, "file").required(true);
         let top = Arg::new(alloc, "top")

@@ -75,7 +75,8 @@ impl Counts {
         Ok(self)
     }
 
-    /// Counts a request for a path of the log. The map finds a path by its `&str`, so only a new path becomes a slice.
+    /// Counts a request for a path of the log. The map finds a path by its `&str`, so only a new
+    /// path becomes a slice.
     fn add(&mut self, rt: &impl Wait, log: &ArcStr, path: StrView<'_>) -> Result<(), AllocError>
         requires { IsFoundAt log.now.text path.text path.place }
     {
@@ -88,8 +89,8 @@ impl Counts {
         Ok(())
     }
 
-    /// Returns the most frequent paths, at most `most` of them, with their counts, and paths with equal counts in their order. Each path is copied, so that it
-    /// does not keep the log alive.
+    /// Returns the most frequent paths, at most `most` of them, with their counts, and paths with
+    /// equal counts in their order. Each path is copied, so that it does not keep the log alive.
     pub fn most_frequent(&self, alloc: Global, most: usize) -> Result<Vec<(ArcStr, u64)>> {
         let mut counts: Vec<(&Substr, &u64)> = self.by_path.iter().collect(alloc)?;
         counts.sort_by(|one, other| other.1.cmp(one.1).then(one.0.cmp(other.0)))?;
@@ -102,7 +103,8 @@ impl Counts {
     }
 }
 
-/// Returns the path of the request in a line of the log. The path is found in the log too, as `substr_from` requires.
+/// Returns the path of the request in a line of the log. The path is found in the log too, as
+/// `substr_from` requires.
 fn path_of<'a>(matcher: &mut Matcher<'_>, log: &ArcStr, line: &StrView<'a>) -> Option<StrView<'a>>
     requires { IsFoundAt log.now.text line.now.text line.now.place }
     ensures found { IfSome result (λ path. IsFoundAt log.now.text path.text path.place) }

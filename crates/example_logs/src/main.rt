@@ -1,4 +1,5 @@
-//! Counts how often each path of a web server's log was asked for. Prints the lines that are no requests, and the most frequent paths with their bars.
+//! Counts how often each path of a web server's log was asked for. Prints the lines that are no
+//! requests, and the most frequent paths with their bars.
 #![tactic(auto)]
 
 ghost use Rattle.std.specs.Prelude.{◌≤◌};
@@ -35,7 +36,8 @@ fn main(rt: HostRuntime) -> Result<ExitCode> {
     }
 }
 
-/// Reads the log and prints its faults. Returns the most frequent paths with their counts. They are copies: the log and all slices of it are freed here.
+/// Reads the log and prints its faults. Returns the most frequent paths with their counts. They are
+/// copies: the log and all slices of it are freed here.
 fn most_frequent<R: AllocGlobal + Files + Print + Eprint + RandomSource + Wait>(
     rt: &R,
     command: Command<'_>,

@@ -49,9 +49,11 @@ pub struct Entry {
 }
 
 impl Entry {
-    /// Reads the line with this number. Its fields are slices of the same text as the line, so nothing is copied.
+    /// Reads the line with this number. Its fields are slices of the same text as the line, so
+    /// nothing is copied.
     pub fn read(rt: &impl Wait, number: usize, line: &Substr) -> Result<Entry, Fault>
-        ensures kept { IfOk result (λ entry. (entry.author.parent ≡ line.now.parent) × (entry.title.parent ≡ line.now.parent)) }
+        ensures kept { IfOk result (λ entry. (entry.author.parent ≡ line.now.parent)
+            × (entry.title.parent ≡ line.now.parent)) }
         ensures line { IfErr result (λ fault. fault.line ≡ number) }
     {
         let no_title = Fault::at(number, line, Reason::NoTitle);

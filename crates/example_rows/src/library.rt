@@ -63,7 +63,8 @@ impl Library {
         Ok(())
     }
 
-    /// The id of the author, who is added if new. The cache keeps a copy of the name, and so no line of the input.
+    /// The id of the author, who is added if new. The cache keeps a copy of the name, and so no
+    /// line of the input.
     fn author(&mut self, alloc: Global, name: &Substr) -> Result<i64> {
         if let Some(id) = self.authors.get(name.as_str()).copied() {
             return Ok(id);

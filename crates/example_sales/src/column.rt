@@ -30,7 +30,8 @@ impl Column {
         Ok(())
     }
 
-    /// Returns each text with the sum of the numbers of its rows, in the order in which the texts came.
+    /// Returns each text with the sum of the numbers of its rows, in the order in which the texts
+    /// came.
     pub fn sums(&self, alloc: Global, numbers: &[u64]) -> Result<Vec<(&ArcStr, u64)>, AllocError> {
         let mut sums = vec![in alloc; 0u64; self.texts.len()]?;
         for (symbol, number) in self.symbols.iter().zip(numbers) {

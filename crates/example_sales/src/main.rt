@@ -1,4 +1,5 @@
-//! Sums the sales of a table of CSV by region and by product. Prints the rows that it cannot read, and then the sums.
+//! Sums the sales of a table of CSV by region and by product. Prints the rows that it cannot read,
+//! and then the sums.
 #![tactic(auto)]
 
 mod column;
@@ -48,7 +49,8 @@ fn print_line(rt: &impl Print, text: &str, cents: u64) -> io::Result<()> {
     println!(rt; "{text:<16} {whole:>8}.{rest:02}")
 }
 
-/// Returns the sum of the numbers, or `u64::MAX` if it is above. Many numbers are added in as many threads as there are processors.
+/// Returns the sum of the numbers, or `u64::MAX` if it is above. Many numbers are added in as many
+/// threads as there are processors.
 fn total(rt: &(impl Threads + Sync), numbers: &[u64]) -> u64 {
     numbers
         .par_iter()

@@ -9,7 +9,8 @@ use std::alloc::Global;
 use std::hash::RandomState;
 use std::io::Read;
 
-/// The columns of a table of sales with the fields region, product and cents, and the rows that cannot be read.
+/// The columns of a table of sales with the fields region, product and cents, and the rows that
+/// cannot be read.
 #[derive(Drop)]
 pub struct Table {
     pub regions: Column,

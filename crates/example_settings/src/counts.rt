@@ -43,7 +43,8 @@ impl Counts {
         Ok(())
     }
 
-    /// Returns the texts with their numbers, in the order of the texts. Numbers that change meanwhile are those before or after the change.
+    /// Returns the texts with their numbers, in the order of the texts. Numbers that change
+    /// meanwhile are those before or after the change.
     pub fn all(&self, rt: &impl Wait, alloc: Global) -> Result<BTreeMap<ArcStr, u64>, AllocError> {
         let mut all = BTreeMap::new(alloc);
         for shard in &self.shards {

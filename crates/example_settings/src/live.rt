@@ -34,7 +34,8 @@ impl Live {
         }
     }
 
-    /// Returns the current settings, all of the same change. The handles keep their texts alive when the settings are replaced.
+    /// Returns the current settings, all of the same change. The handles keep their texts alive
+    /// when the settings are replaced.
     pub fn current(&self, rt: &impl Wait) -> Settings {
         self.settings.read(rt).clone(rt)
     }
@@ -45,7 +46,8 @@ impl Live {
         self.changes.fetch_add(1, Ordering::SeqCst);
     }
 
-    /// Runs the workers of the current settings and replaces these meanwhile. Returns what each worker greeted with.
+    /// Runs the workers of the current settings and replaces these meanwhile. Returns what each
+    /// worker greeted with.
     pub fn change<R: Threads + Wait + Sync>(
         &self,
         rt: &R,
@@ -59,7 +61,8 @@ impl Live {
         thread::join(rt, greet_all, || self.replace(rt, settings)).0
     }
 
-    /// A worker: greets with the first settings until there was another change, and then with the new ones.
+    /// A worker: greets with the first settings until there was another change, and then with the
+    /// new ones.
     fn greet(&self, rt: &impl Wait, first: &Settings, seen: u64) -> Result<Greetings, AllocError> {
         let before = first.clone(rt);
         self.count(rt, &before.name)?;

@@ -12,7 +12,8 @@ use thiserror::Error;
 /// The most workers that can run.
 pub const MOST_WORKERS: usize = 16;
 
-/// The settings. A field that a file leaves out has its default, which is a literal and allocates nothing.
+/// The settings. A field that a file leaves out has its default, which is a literal and allocates
+/// nothing.
 #[derive(Drop, Deserialize)]
 #[serde(default = "Settings::new", deny_unknown_fields)]
 pub struct Settings {

@@ -1,4 +1,5 @@
-//! The lines of a script: how bytes are cut into lines, and the limit or the step that a line stands for.
+//! The lines of a script: how bytes are cut into lines, and the limit or the step that a line
+//! stands for.
 ghost use Rattle.std.specs.Prelude.{◌≡◌, ◌==◌, ℕ, ◌^◌, ◌<◌, ◌∷◌, Some, IfSome, length, position};
 ghost use Rattle.std.specs.List.{before_first, after_first};
 ghost use Rattle.arcstr_count.specs.declared.steps.Step.{Step};
@@ -32,7 +33,8 @@ pub(crate) fn limit_in(line: &[u8]) -> Option<u64>
     }
 }
 
-/// The step of a line: `make`, or a command, one space, and the number of a handle. Any other line has none.
+/// The step of a line: `make`, or a command, one space, and the number of a handle. Any other line
+/// has none.
 pub(crate) fn step_of(line: &[u8]) -> Option<Step>
     ensures value { result ≡ step_of line.now }
     ensures written { IfSome result (λ step. line.now ≡ line_text step) }
