@@ -242,7 +242,7 @@ impl<S: BuildHasher> Interner<S> {
         ensures once { HasEachOnce self.now }
     {
         let half = half_of_word(&self.hash_builder, word);
-        self.table.find(half, word)
+        self.table.find(half, word).ok()
     }
 
     /// Returns the symbol with this index, or `None` if the interner has fewer texts.

@@ -1,6 +1,6 @@
 //! A table that finds the number of a text by half of the hash of its word.
-ghost use Rattle.std.specs.Prelude.{◌≡◌, ◌+◌, ◌/◌, ◌%◌, ◌<◌, ◌≤◌, ℕ, [], IfNone, IfOk, IfSome, IsOk, None, OnOk, Some, bit_xor, vec_len, vec_capacity};
-ghost use Rattle.arcintern.specs.Slots.{IsPlaced, half_of_word, hash_of_word, slot_of};
+ghost use Rattle.std.specs.Prelude.{◌≡◌, ◌+◌, ◌/◌, ◌%◌, ◌<◌, ◌≤◌, ℕ, [], IfErr, IfOk, IsOk, None, OnErr, OnOk, Some, bit_xor, vec_len, vec_capacity};
+ghost use Rattle.arcintern.specs.Slots.{IsPlaced, Reaches, half_of_word, hash_of_word, slot_of};
 
 use std::alloc::{AllocError, Global};
 use std::hash::{BuildHasher, Hasher};
@@ -94,40 +94,47 @@ impl Slots {
     }
 
     /// Returns what `look` answers for the first number under this half of a hash for which that is
-    /// `Some`.
+    /// `Some`, and else the place at which the search ended: there a new number is to stand.
     #[inline(always)]
-    pub(crate) fn find<T, F: Fn(u32) -> Option<T>>(&self, half: u32, look: F) -> Option<T>
+    pub(crate) fn find<T, F: Fn(u32) -> Option<T>>(&self, half: u32, look: F) -> Result<T, usize>
         requires { F.IsAlwaysCallable look }
-        ensures found { IfSome result (λ found. (number : ℕ) × (number < NUMBERS) × F.post look number (Some found)) }
-        ensures absent { IfNone result ((number : ℕ) → number + 1 < NUMBERS
+        ensures found { IfOk result (λ found. (number : ℕ) × (number < NUMBERS) × F.post look number (Some found)) }
+        ensures absent { OnErr result ((number : ℕ) → number + 1 < NUMBERS
             → IsPlaced self.now.slots.items self.now.mask (slot_of half number) → F.post look number None) }
+        ensures place { IfErr result (Reaches self.now.slots.items self.now.mask half) }
     {
         let mut index = half as usize & self.mask;
         while index < self.slots.len() {
             let slot = self.slots[index];
             if slot == 0 {
-                return None;
+                return Err(index);
             }
             if slot >> 32 == half as u64 {
                 if let Some(found) = look(((slot % NUMBERS) as u32).wrapping_sub(1)) {
-                    return Some(found);
+                    return Ok(found);
                 }
             }
             index += 1;
         }
-        None
+        Err(index)
     }
 
-    /// Makes room for one more number. At most three quarters of the slots are taken, so a search for
-    /// an absent word passes about eight.
-    pub(crate) fn make_room(&mut self) -> Result<(), AllocError>
+    /// Makes room for one more number under this half of a hash, a search for which comes to `place`.
+    /// Returns a place to which it comes then. At most three quarters of the slots are taken, so a
+    /// search for an absent word passes about eight.
+    pub(crate) fn make_room(&mut self, half: u32, place: usize) -> Result<usize, AllocError>
+        requires place { Reaches self.old.slots.items self.old.mask half place }
         ensures kept { (slot : ℕ) → 0 < slot → IsPlaced self.old.slots.items self.old.mask slot → IsPlaced self.new.slots.items self.new.mask slot }
         ensures room { OnOk result (vec_len self.new.slots < vec_capacity self.new.slots) }
+        ensures place { IfOk result (Reaches self.new.slots.items self.new.mask half) }
     {
+        let mut place = place;
         if self.used >= self.mask - self.mask / 4 {
             self.grow()?;
+            place = half as usize & self.mask;
         }
-        self.slots.reserve(1)
+        self.slots.reserve(1)?;
+        Ok(place)
     }
 
     /// Moves the slots to a table that is twice as long.
@@ -150,29 +157,31 @@ impl Slots {
     {
         if slot != 0 {
             self.slots.reserve(1)?;
-            self.put_slot(slot);
+            self.put_slot(slot, (slot >> 32) as usize & self.mask);
         }
         Ok(())
     }
 
-    /// Puts a number into the table, under half of a hash.
-    pub(crate) fn put(&mut self, half: u32, number: u32)
+    /// Puts a number into the table, under half of a hash, a search for which comes to `place`.
+    pub(crate) fn put(&mut self, half: u32, number: u32, place: usize)
         requires number { number + 1 < NUMBERS }
+        requires place { Reaches self.old.slots.items self.old.mask half place }
         requires room { vec_len self.old.slots < vec_capacity self.old.slots }
         ensures placed { IsPlaced self.new.slots.items self.new.mask (slot_of half number) }
         ensures kept { (slot : ℕ) → 0 < slot → IsPlaced self.old.slots.items self.old.mask slot → IsPlaced self.new.slots.items self.new.mask slot }
     {
-        self.put_slot(half as u64 * NUMBERS + number as u64 + 1);
+        self.put_slot(half as u64 * NUMBERS + number as u64 + 1, place);
     }
 
-    /// Puts what a slot holds into the first empty slot from its home on.
-    fn put_slot(&mut self, slot: u64)
+    /// Puts what a slot holds into the first empty slot from `place` on, to which a search for it comes.
+    fn put_slot(&mut self, slot: u64, place: usize)
         requires slot { 0 < slot }
+        requires place { Reaches self.old.slots.items self.old.mask (slot / NUMBERS) place }
         requires room { vec_len self.old.slots < vec_capacity self.old.slots }
         ensures placed { IsPlaced self.new.slots.items self.new.mask slot }
         ensures kept { (other : ℕ) → 0 < other → IsPlaced self.old.slots.items self.old.mask other → IsPlaced self.new.slots.items self.new.mask other }
     {
-        let mut index = (slot >> 32) as usize & self.mask;
+        let mut index = place;
         while index < self.slots.len() && self.slots[index] != 0 {
             index += 1;
         }

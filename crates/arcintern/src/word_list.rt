@@ -127,11 +127,14 @@ impl<S: BuildHasher> WordList<S> {
         ensures never_too_long { ¬ (IsErrOf result InternFault.Length) }
     {
         let half = half_of_word(&self.hash_builder, word);
-        match self.table.find(half, word) {
-            Some(symbol) => Ok(symbol),
-            None if self.table.is_full_for(word) => Err(InternFault::Full),
-            None => self.table.push(half, word),
+        let place = match self.table.find(half, word) {
+            Ok(symbol) => return Ok(symbol),
+            Err(place) => place,
+        };
+        if self.table.is_full_for(word) {
+            return Err(InternFault::Full);
         }
+        self.table.push(half, place, word)
     }
 
     /// Returns the symbol of the text that spells this word, or `None` if there is none.
@@ -149,7 +152,7 @@ impl<S: BuildHasher> WordList<S> {
         ensures once { AreDistinct self.now }
     {
         let half = half_of_word(&self.hash_builder, word);
-        self.table.find(half, word)
+        self.table.find(half, word).ok()
     }
 
     /// Returns the symbol with this index, or `None` if the list has fewer texts.

@@ -34,14 +34,15 @@ impl<S: BuildHasher> Interner<S> {
         ensures too_long { IsErrOf result InternFault.Length ↔ ((¬ HasWord self.old word.now) × (length self.old < MOST_TEXTS) × IsTooLong (length word.now)) }
     {
         let half = half_of_word(&self.hash_builder, word);
-        match self.table.find(half, word) {
-            Some(symbol) => Ok(symbol),
-            None if self.table.is_full() => Err(InternFault::Full),
-            None => {
-                let text = copy_of(self.table.alloc(), word)?;
-                self.table.push(half, text)
-            }
+        let place = match self.table.find(half, word) {
+            Ok(symbol) => return Ok(symbol),
+            Err(place) => place,
+        };
+        if self.table.is_full() {
+            return Err(InternFault::Full);
         }
+        let text = copy_of(self.table.alloc(), word)?;
+        self.table.push(half, place, text)
     }
 
     /// Returns the symbol of the text that spells the same as this one. If there is none, a clone of this text becomes the last: that
@@ -64,11 +65,14 @@ impl<S: BuildHasher> Interner<S> {
         ensures never_too_long { ¬ (IsErrOf result InternFault.Length) }
     {
         let half = half_of_word(&self.hash_builder, text.as_str());
-        match self.table.find(half, text.as_str()) {
-            Some(symbol) => Ok(symbol),
-            None if self.table.is_full() => Err(InternFault::Full),
-            None => self.table.push(half, text.clone(rt)),
+        let place = match self.table.find(half, text.as_str()) {
+            Ok(symbol) => return Ok(symbol),
+            Err(place) => place,
+        };
+        if self.table.is_full() {
+            return Err(InternFault::Full);
         }
+        self.table.push(half, place, text.clone(rt))
     }
 
     /// Returns the symbol of the text that spells this word. If there is none, the last text becomes a literal of the word, whose bytes
@@ -88,11 +92,14 @@ impl<S: BuildHasher> Interner<S> {
         ensures never_too_long { ¬ (IsErrOf result InternFault.Length) }
     {
         let half = half_of_word(&self.hash_builder, word);
-        match self.table.find(half, word) {
-            Some(symbol) => Ok(symbol),
-            None if self.table.is_full() => Err(InternFault::Full),
-            None => self.table.push(half, ArcStr::from_static(word)),
+        let place = match self.table.find(half, word) {
+            Ok(symbol) => return Ok(symbol),
+            Err(place) => place,
+        };
+        if self.table.is_full() {
+            return Err(InternFault::Full);
         }
+        self.table.push(half, place, ArcStr::from_static(word))
     }
 
     /// Returns the symbol of the text that spells the same as this slice. If there is none, the last text becomes a clone of the slice's

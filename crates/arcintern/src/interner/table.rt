@@ -1,7 +1,7 @@
 //! The texts of an interner, and the table of their numbers, without the hasher.
 ghost use Rattle.std.specs.Prelude.{◌≡◌, ℕ, List, ◌<◌, ◌≤◌, ◌↔◌, ◌++◌, [], ◌∷◌, length, vec_capacity, vec_len};
-ghost use Rattle.std.specs.Prelude.{IfErr, IfNone, IfOk, IfSome, IsOk, IsSome, IsTrue, OnErr, OnOk};
-ghost use Rattle.arcintern.specs.Slots.{AreTextsPlaced};
+ghost use Rattle.std.specs.Prelude.{IfErr, IfNone, IfOk, IfSome, IsOk, IsTrue, OnErr, OnOk};
+ghost use Rattle.arcintern.specs.Slots.{AreTextsPlaced, Reaches};
 ghost use Rattle.arcintern.specs.Texts.{HasEachOnce, HasWord, IsWordAt, KeepsTexts};
 
 use crate::fault::InternFault;
@@ -77,21 +77,23 @@ impl TextTable {
         *self.texts.allocator()
     }
 
-    /// Returns the symbol of the text that spells this word, by half of the word's hash.
+    /// Returns the symbol of the text that spells this word, by half of the word's hash, and else the
+    /// place at which the search ended.
     #[tactic(auto, unfolding(crate::specs::Slots::AreTextsPlaced))]
-    pub(crate) fn find(&self, half: u32, word: &str) -> Option<Symbol>
-        ensures found { IfSome result (λ symbol. IsWordAt self.now.texts symbol word.now) }
-        ensures there { IsSome result → HasWord self.now.texts word.now }
-        ensures absent { IfNone result ((half_of : List ℕ → ℕ) → half_of word.now ≡ half
+    pub(crate) fn find(&self, half: u32, word: &str) -> Result<Symbol, usize>
+        ensures found { IfOk result (λ symbol. IsWordAt self.now.texts symbol word.now) }
+        ensures there { IsOk result → HasWord self.now.texts word.now }
+        ensures absent { OnErr result ((half_of : List ℕ → ℕ) → half_of word.now ≡ half
             → AreTextsPlaced self.now.slots self.now.mask half_of self.now.texts → ¬ HasWord self.now.texts word.now) }
+        ensures place { IfErr result (Reaches self.now.slots self.now.mask half) }
         ensures once { HasEachOnce self.now.texts }
     {
         match self
             .numbers
             .find(half, |number| self.symbol_if_word(number, word))
         {
-            Some(symbol) => Some(symbol),
-            None => None,
+            Ok(symbol) => Ok(symbol),
+            Err(place) => Err(place),
         }
     }
 
@@ -106,9 +108,16 @@ impl TextTable {
         }
     }
 
-    /// Adds a text whose word is new, with the next number, under half of its hash. All room is reserved before anything is written.
-    pub(crate) fn push(&mut self, half: u32, text: ArcStr) -> Result<Symbol, InternFault>
+    /// Adds a text whose word is new, with the next number, under half of its hash, a search for which
+    /// comes to `place`. All room is reserved before anything is written.
+    pub(crate) fn push(
+        &mut self,
+        half: u32,
+        place: usize,
+        text: ArcStr,
+    ) -> Result<Symbol, InternFault>
         requires absent { ¬ HasWord self.old.texts text.text }
+        requires place { Reaches self.old.slots self.old.mask half place }
         requires room { length self.old.texts < MOST_TEXTS }
         ensures word { IfOk result (λ symbol. IsWordAt self.new.texts symbol text.text) }
         ensures kept { KeepsTexts self.old.texts self.new.texts }
@@ -120,10 +129,10 @@ impl TextTable {
         ensures fault { IfErr result (λ fault. fault ≡ InternFault.Memory) }
     {
         let number = self.texts.len();
-        self.numbers.make_room()?;
+        let place = self.numbers.make_room(half, place)?;
         make_room_for_text(&mut self.texts)?;
         self.texts.push_reserved(text);
-        self.numbers.put(half, number as u32);
+        self.numbers.put(half, number as u32, place);
         Ok(Symbol::at(number))
     }
 }

@@ -1,7 +1,7 @@
 //! The texts of a word list, and the table of their numbers, without the hasher.
 ghost use Rattle.std.specs.Prelude.{◌≡◌, ◌≢◌, ℕ, List, Contains, ◌<◌, ◌≤◌, ◌↔◌, ◌++◌, [], ◌∷◌, length, slice_get, slice_index};
 ghost use Rattle.std.specs.Prelude.{IfErr, IfNone, IfOk, IfSome, IsOk, IsSome, IsTrue, OnErr, OnOk, Some};
-ghost use Rattle.arcintern.specs.Slots.{ArePlaced};
+ghost use Rattle.arcintern.specs.Slots.{ArePlaced, Reaches};
 ghost use Rattle.arcintern.specs.Texts.{KeepsTexts};
 ghost use Rattle.arcintern.specs.Words.{AreDistinct, IsFullFor};
 
@@ -91,20 +91,22 @@ impl WordTable {
         }
     }
 
-    /// Returns the symbol of the text that spells this word, by half of the word's hash.
-    pub(crate) fn find(&self, half: u32, word: &str) -> Option<Symbol>
-        ensures found { IfSome result (λ symbol. slice_get self.now.texts symbol ≡ Some word.now) }
-        ensures there { IsSome result → Contains self.now.texts word.now }
-        ensures absent { IfNone result ((half_of : List ℕ → ℕ) → half_of word.now ≡ half → ArePlaced self.now.slots self.now.mask half_of [] self.now.texts
+    /// Returns the symbol of the text that spells this word, by half of the word's hash, and else the
+    /// place at which the search ended.
+    pub(crate) fn find(&self, half: u32, word: &str) -> Result<Symbol, usize>
+        ensures found { IfOk result (λ symbol. slice_get self.now.texts symbol ≡ Some word.now) }
+        ensures there { IsOk result → Contains self.now.texts word.now }
+        ensures absent { OnErr result ((half_of : List ℕ → ℕ) → half_of word.now ≡ half → ArePlaced self.now.slots self.now.mask half_of [] self.now.texts
             → ¬ Contains self.now.texts word.now) }
+        ensures place { IfErr result (Reaches self.now.slots self.now.mask half) }
         ensures once { AreDistinct self.now.texts }
     {
         match self
             .numbers
             .find(half, |number| self.symbol_if_word(number, word))
         {
-            Some(symbol) => Some(symbol),
-            None => None,
+            Ok(symbol) => Ok(symbol),
+            Err(place) => Err(place),
         }
     }
 
@@ -144,8 +146,15 @@ impl WordTable {
         self.ends.len() >= MOST_TEXTS || self.bytes.len().saturating_add(word.len()) > MOST_BYTES
     }
 
-    /// Adds a text whose word is new, with the next number, under half of its hash. All room is reserved before anything is written.
-    pub(crate) fn push(&mut self, half: u32, word: &str) -> Result<Symbol, InternFault>
+    /// Adds a text whose word is new, with the next number, under half of its hash, a search for which
+    /// comes to `place`. All room is reserved before anything is written.
+    pub(crate) fn push(
+        &mut self,
+        half: u32,
+        place: usize,
+        word: &str,
+    ) -> Result<Symbol, InternFault>
+        requires place { Reaches self.old.slots self.old.mask half place }
         requires room { ¬ IsFullFor self.old.texts word.now }
         requires absent { ¬ Contains self.old.texts word.now }
         ensures word { IfOk result (λ symbol. slice_get self.new.texts symbol ≡ Some word.now) }
@@ -159,11 +168,11 @@ impl WordTable {
     {
         let number = self.ends.len();
         let end = self.bytes.len() + word.len();
-        self.numbers.make_room()?;
+        let place = self.numbers.make_room(half, place)?;
         self.ends.reserve(1)?;
         self.bytes.push_str(word)?;
         self.ends.push_reserved(end as u32);
-        self.numbers.put(half, number as u32);
+        self.numbers.put(half, number as u32, place);
         Ok(Symbol::at(number))
     }
 }

@@ -6,8 +6,8 @@ use Rattle.arcintern.specs.Texts.{HasEachOnce, IsWordAt, KeepsTexts, TextTableVi
 use Rattle.arcintern.proofs.Lookups.{AreTextsPlaced-kept, AreTextsPlaced-push, IsWordAt-push, KeepsTexts-push, once-push}
 use Rattle.arcintern.proofs.interner.table.TextTable.push.Goals as goal
 
-pub returns-in_err-make_room-clause-placed : goal.returns-in_err-make_room-clause-placed
-returns-in_err-make_room-clause-placed c = λ half_of is_half all.
+pub returns-in_err-place-clause-placed : goal.returns-in_err-place-clause-placed
+returns-in_err-place-clause-placed c = λ half_of is_half all.
     let slots = c.self.inside.numbers in
     let were = subst (λ (table : TextTableView). AreTextsPlaced table.slots table.mask half_of table.texts) (sym c.self.view_is) all in
     AreTextsPlaced-kept slots.slots.items c.make_room.new.self.slots.items slots.mask c.make_room.new.self.mask half_of c.self.inside.texts.items c.make_room.ensures.kept were
