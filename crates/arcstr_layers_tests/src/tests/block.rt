@@ -1,4 +1,3 @@
-mod ending;
 mod laws;
 mod making;
 mod shared;
