@@ -5,6 +5,7 @@ mod conversions;
 mod counts;
 mod cow;
 mod handles;
+mod history;
 mod joining;
 mod json;
 mod keys;
