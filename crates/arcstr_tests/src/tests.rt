@@ -6,6 +6,7 @@ mod conversions;
 mod counts;
 mod cow;
 mod handles;
+mod history;
 mod joining;
 mod json;
 mod keys;
