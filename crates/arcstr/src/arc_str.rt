@@ -369,8 +369,8 @@ impl ArcStr {
     {
         let ArcStr { form } = self;
         match form {
-            Form::Counted(shared) => Some(shared),
-            Form::Literal(_) | Form::Fixed(_) => None,
+            Form::Counted(handle) => Some(handle),
+            Form::Fixed(_) | Form::Literal(_) => None,
         }
     }
 
