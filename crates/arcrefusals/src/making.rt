@@ -1,7 +1,7 @@
 //! Calls that make a text in a block of its own.
 use crate::calls::{Calls, Machine, Made, Stop, again, check, is_text};
 use arcstr::block::Shared;
-use arcstr::{ArcStr, Substr, format_arcstr, literal};
+use arcstr::{ArcStr, ArcStrBuilder, Substr, format_arcstr, literal};
 use std::alloc::Global;
 use std::io;
 
@@ -21,6 +21,10 @@ pub(crate) fn run<R: Machine>(rt: &R) -> io::Result<()> {
     again::<(), ArcStr, R>(rt, "ArcStr::try_from of a Vec", 12, "foobar", 1)?;
     again::<(), ArcStr, R>(rt, "ArcStr::from_iter of characters", 13, "foobar", 1)?;
     again::<(), ArcStr, R>(rt, "ArcStr::from_iter of strings", 14, "foobar", 1)?;
+    again::<(), ArcStr, R>(rt, "ArcStrBuilder::finish of a full block", 15, "foobar", 1)?;
+    again::<(), ArcStr, R>(rt, "ArcStrBuilder::finish with room left", 16, "foobar", 1)?;
+    again::<(), ArcStr, R>(rt, "ArcStrBuilder::fill", 17, "foobar", 1)?;
+    again::<(), ArcStr, R>(rt, "ArcStrBuilder::push_str that grows", 18, "0123456789abcdef", 1)?;
     again::<(), Substr, R>(rt, "Substr::from_str", 0, "foobar", 1)?;
     again::<(), Substr, R>(rt, "Substr::try_from of a String", 2, "foobar", 1)?;
     again::<(), Substr, R>(rt, "Substr::try_from of a Vec", 3, "foobar", 1)?;
@@ -57,7 +61,11 @@ impl Calls<()> for ArcStr {
             11 => ArcStr::try_from(String::from_str(alloc, "foobar")?),
             12 => ArcStr::try_from(String::from_str(alloc, "foobar")?.into_bytes()),
             13 => return Ok("foobar".chars().collect::<ArcStr>(alloc)?),
-            _ => return joined_strings(alloc),
+            14 => return joined_strings(alloc),
+            15 => return built_text(ArcStrBuilder::with_capacity(alloc, 6)?),
+            16 => return built_text(ArcStrBuilder::new(alloc)),
+            17 => return reserved_text(alloc),
+            _ => return grown_text(alloc),
         }?)
     }
 }
@@ -68,6 +76,29 @@ fn joined_strings(alloc: Global) -> Result<ArcStr, Stop> {
         String::from_str(alloc, "bar")?,
     ];
     Ok(strings.into_iter().collect::<ArcStr>(alloc)?)
+}
+
+fn built_text(mut builder: ArcStrBuilder) -> Result<ArcStr, Stop> {
+    builder.push_str("foo")?;
+    builder.push('b')?;
+    write!(builder, "{}", "ar")?;
+    Ok(builder.finish()?)
+}
+
+/// Fills memory that is taken first. Nothing after that asks for memory.
+fn reserved_text(alloc: Global) -> Result<ArcStr, Stop> {
+    let builder = ArcStrBuilder::with_capacity(alloc, 6)?;
+    Ok(builder.fill("foobar"))
+}
+
+/// Appends until the block grows. If the growth is refused, the text so far stays.
+fn grown_text(alloc: Global) -> Result<ArcStr, Stop> {
+    let mut builder = ArcStrBuilder::new(alloc);
+    builder.push_str("01234567")?;
+    let pushed = builder.push_str("89abcdef");
+    check(pushed.is_ok() || builder.as_str() == "01234567")?;
+    pushed?;
+    Ok(builder.finish()?)
 }
 
 /// Fills a text with a closure, which runs exactly if the call is not refused.

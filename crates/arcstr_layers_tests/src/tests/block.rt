@@ -1,3 +1,4 @@
+mod ending;
 mod laws;
 mod making;
 mod shared;
