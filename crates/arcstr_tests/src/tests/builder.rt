@@ -72,7 +72,9 @@ fn the_capacity_doubles(rt: HostRuntime) {
     check_builder(&rt, &builder, "abcdefgh", 8);
     builder.push('i').expect(&rt, "no memory");
     check_builder(&rt, &builder, "abcdefghi", 16);
-    builder.push_str(&"0123456789"[..8]).expect(&rt, "no memory");
+    builder
+        .push_str(&"0123456789"[..8])
+        .expect(&rt, "no memory");
     check_builder(&rt, &builder, "abcdefghi01234567", 32);
     builder.reserve(1000).expect(&rt, "no memory");
     check_builder(&rt, &builder, "abcdefghi01234567", 1017);
