@@ -1,5 +1,5 @@
 //! Answers to the exercises of docs/PROVING.md.
-ghost use Rattle.std.specs.Prelude.{◌≡◌, ◌++◌, ◌/◌, ◌<◌, ◌↔◌, IfOk, IfSome, IsSome, IsTrue, Contains, codes, length};
+ghost use Rattle.std.specs.Prelude.{◌≡◌, ◌++◌, ◌↔◌, IfOk, IfSome, IsSome, IsTrue, Contains, codes, length};
 ghost use Rattle.std.specs.Str.{chars};
 ghost use Rattle.arcstr.specs.Substr.{text_of};
 ghost use Rattle.arcstr.specs.TextView.{TextView};
@@ -88,22 +88,4 @@ pub fn copy_of(alloc: Global, slice: &Substr) -> Result<ArcStr, TextFault>
     ensures { IfOk result (λ copy. copy.text ≡ text_of slice.now) }
 {
     slice.to_arc_str(alloc)
-}
-
-/// Returns how many whole rows of this many bytes the text fills. Returns `None` exactly if rows
-/// have no bytes.
-///
-/// ```
-/// let text = ArcStr::from_static("abcde");
-/// assert_eq!(rt; rows_or_none(&text, 2), Some(2));
-/// assert_eq!(rt; rows_or_none(&text, 0), None);
-/// ```
-pub fn rows_or_none(text: &ArcStr, width: usize) -> Option<usize>
-    ensures some { IsSome result ↔ (0 < width) }
-    ensures number { IfSome result (λ number. number ≡ length text.now.text / width) }
-{
-    if width == 0 {
-        return None;
-    }
-    Some(crate::rows(text, width))
 }
