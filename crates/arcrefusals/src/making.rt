@@ -24,7 +24,13 @@ pub(crate) fn run<R: Machine>(rt: &R) -> io::Result<()> {
     again::<(), ArcStr, R>(rt, "ArcStrBuilder::finish of a full block", 15, "foobar", 1)?;
     again::<(), ArcStr, R>(rt, "ArcStrBuilder::finish with room left", 16, "foobar", 1)?;
     again::<(), ArcStr, R>(rt, "ArcStrBuilder::fill", 17, "foobar", 1)?;
-    again::<(), ArcStr, R>(rt, "ArcStrBuilder::push_str that grows", 18, "0123456789abcdef", 1)?;
+    again::<(), ArcStr, R>(
+        rt,
+        "ArcStrBuilder::push_str that grows",
+        18,
+        "0123456789abcdef",
+        1,
+    )?;
     again::<(), Substr, R>(rt, "Substr::from_str", 0, "foobar", 1)?;
     again::<(), Substr, R>(rt, "Substr::try_from of a String", 2, "foobar", 1)?;
     again::<(), Substr, R>(rt, "Substr::try_from of a Vec", 3, "foobar", 1)?;

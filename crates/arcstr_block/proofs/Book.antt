@@ -170,8 +170,10 @@ module _ {M : Type 1} {𝓤 : Ura M} (𝓛 : Logic 𝓤) where
 
     -- with one more step, the history is later than each of its prefixes
     one_later : (before r : List Step) (s : Step) → IsPrefix before r → IsLater before (r ++ s ∷ [])
-    one_later before r s starts = (steps.trans before r (r ++ s ∷ []) starts (s ∷ [], refl),
-        omega (arith, length-append before starts.0, ap length starts.1, length-append r (s ∷ [])))
+    one_later before r s starts = (
+      steps.trans before r (r ++ s ∷ []) starts (s ∷ [], refl),
+      omega (arith, length-append before starts.0, ap length starts.1, length-append r (s ∷ [])),
+    )
 
     -- the history with one more step, and what the core answered
     turns : (n : ℕ) (r before : List Step) (s : Step) (reply : Reply) (vs : List HandleState) → IsPrefix before r → Prolongs L r s reply (word_of n) vs

@@ -327,7 +327,7 @@ counted_is_living limit history h n ends =
     let i = step_finds (after limit ends.prefix) h Free (last_accepted limit history (Look h) (Count n) ends) in
     let on = last_on limit history (Look h) (Count n) ends h refl i.born in
     let same : word_after limit history 0 ≡ word_on (after limit ends.prefix) h =
-        ap (λ (v : State). word_in v 0) (last_state limit history (Look h) (Count n) ends) ∙ ap (λ b. word_in (after limit ends.prefix) b) (sym on) in
+    ap (λ (v : State). word_in v 0) (last_state limit history (Look h) (Count n) ends) ∙ ap (λ b. word_in (after limit ends.prefix) b) (sym on) in
     let one = ends.one_block.made in
     count_was (word_on (after limit ends.prefix) h).flag (word_on (after limit ends.prefix) h).count (last_reply limit history (Look h) (Count n) ends)
     ∙ sym (ap (λ (w : FlagAndCount). w.count) same)
@@ -369,9 +369,9 @@ left_is_used limit history h ends =
     let i = step_finds old h Dropping (last_accepted limit history (Sub h) Left ends) in
     let on = last_on limit history (Sub h) Left ends h (length-set old.blocks (block_on old h) _) i.born in
     let left : word_after limit history 0 ≡ dropped_of (word_on old h) =
-        ap (λ (v : State). word_in v 0) (last_state limit history (Sub h) Left ends)
-        ∙ ap (λ b. (get_or (blocks_with_word old.blocks (block_on old h) (dropped_of (word_on old h))) b no_block).word) (sym on)
-        ∙ ap (λ (e : BlockSummary). e.word) (get_or-set_same old.blocks (block_on old h) _ no_block ((lawful_after limit ends.prefix).made h i.born)) in
+    ap (λ (v : State). word_in v 0) (last_state limit history (Sub h) Left ends)
+    ∙ ap (λ b. (get_or (blocks_with_word old.blocks (block_on old h) (dropped_of (word_on old h))) b no_block).word) (sym on)
+    ∙ ap (λ (e : BlockSummary). e.word) (get_or-set_same old.blocks (block_on old h) _ no_block ((lawful_after limit ends.prefix).made h i.born)) in
     let some : 0 < (word_on old h).count = dropping_counted limit ends.prefix h i.born i.state in
     let more = left_was (is_last (word_on old h)) (last_reply limit history (Sub h) Left ends) in
     let one = ends.one_block.made in
@@ -404,9 +404,9 @@ freed_is_alone limit history h ends =
     let on = last_on limit history (Back h) Given ends h (length-set old.blocks (block_on old h) _) found.born in
     let one = ends.one_block.made in
     let is : given_in (after limit history) 0 ≡ (get_or old.blocks (block_on old h) no_block).given + 1 =
-        ap (λ (v : State). given_in v 0) (last_state limit history (Back h) Given ends)
-        ∙ ap (λ b. (get_or (blocks_with_given old.blocks (block_on old h)) b no_block).given) (sym on)
-        ∙ ap (λ (e : BlockSummary). e.given) (get_or-set_same old.blocks (block_on old h) _ no_block ((lawful_after limit ends.prefix).made h found.born)) in
+    ap (λ (v : State). given_in v 0) (last_state limit history (Back h) Given ends)
+    ∙ ap (λ b. (get_or (blocks_with_given old.blocks (block_on old h)) b no_block).given) (sym on)
+    ∙ ap (λ (e : BlockSummary). e.given) (get_or-set_same old.blocks (block_on old h) _ no_block ((lawful_after limit ends.prefix).made h found.born)) in
     let alone = (says limit (after limit history) 0 (lawful_after limit history) (omega (arith, one))).alone (omega (arith, is)) in
     (alone.0, nil_from_length (living_after limit history 0) alone.1)
 
@@ -439,9 +439,9 @@ free_is_last limit history h ends (s ∷ rest) more whole = no_step s rest (none
     freed : 0 < given_in now 0
     freed =
         let is : given_in now 0 ≡ (get_or old.blocks (block_on old h) no_block).given + 1 =
-            ap (λ (v : State). given_in v 0) (last_state limit history (Back h) Given ends)
-            ∙ ap (λ b. (get_or (blocks_with_given old.blocks (block_on old h)) b no_block).given) (sym on)
-            ∙ ap (λ (e : BlockSummary). e.given) (get_or-set_same old.blocks (block_on old h) _ no_block ((lawful_after limit ends.prefix).made h found.born)) in
+        ap (λ (v : State). given_in v 0) (last_state limit history (Back h) Given ends)
+        ∙ ap (λ b. (get_or (blocks_with_given old.blocks (block_on old h)) b no_block).given) (sym on)
+        ∙ ap (λ (e : BlockSummary). e.given) (get_or-set_same old.blocks (block_on old h) _ no_block ((lawful_after limit ends.prefix).made h found.born)) in
         omega (arith, is)
 
     one : length now.blocks ≡ 1
@@ -455,7 +455,7 @@ free_is_last limit history h ends (s ∷ rest) more whole = no_step s rest (none
         let below = (lawful_after limit history).made k i.born in
         let here : block_on now k ≡ 0 = omega (arith, below, one) in
         let some : 0 < length (handles_on now 0 test) =
-            subst (λ b. 0 < length (handles_on now b test)) here (some_on now k test i.born (ap test i.state ∙ passes)) in
+        subst (λ b. 0 < length (handles_on now b test)) here (some_on now k test i.born (ap test i.state ∙ passes)) in
         omega (arith, nobody, some)
 
     lives_not : (k : ℕ) (state : HandleState) → IsIn now k state → lives state ≡ true → ⊥
@@ -467,9 +467,9 @@ free_is_last limit history h ends (s ∷ rest) more whole = no_step s rest (none
     second : (later : List Step) → IsOneBlock limit (history ++ Make ∷ later) → ⊥
     second later two =
         let many : 1 < length (after_from limit (step limit now Make).0 later).blocks =
-            made_stays limit (step limit now Make).0 later 1 (omega (arith, length_push now.blocks (record { word = fresh_word; given = 0 }), one)) in
+        made_stays limit (step limit now Make).0 later 1 (omega (arith, length_push now.blocks (record { word = fresh_word; given = 0 }), one)) in
         let same : makes_after limit (history ++ Make ∷ later) ≡ length (after_from limit (step limit now Make).0 later).blocks =
-            ap (λ (v : State). length v.blocks) (after_from-append limit start history (Make ∷ later)) in
+        ap (λ (v : State). length v.blocks) (after_from-append limit start history (Make ∷ later)) in
         omega (arith, many, same, two.made)
 
     no_step : (s : Step) (later : List Step) → refusal_in now s ≡ None → IsOneBlock limit (history ++ s ∷ later) → ⊥

@@ -4,6 +4,5 @@
 pub use history::{TwoEnds, end_both, leak_and_ask};
 
 mod history;
-
 #[cfg(test)]
 mod tests;

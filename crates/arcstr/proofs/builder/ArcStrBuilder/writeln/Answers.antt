@@ -4,4 +4,4 @@ use Rattle.arcstr.proofs.Builders.{appended_text}
 use Rattle.arcstr.proofs.builder.ArcStrBuilder.writeln.Goals as goal
 
 pub returns-in-Ok : goal.returns-in-Ok
-returns-in-Ok g c = record { written = appended_text _ _ (with_newline (g.D.Display.output c.args.value)) c.in-Ok.ensures.writes; }
+returns-in-Ok g c = record { written = appended_text _ _ (with_newline (g.D.Display.output c.args.value)) c.in-Ok.ensures.writes }
