@@ -104,6 +104,12 @@ impl ArcStrBuilder {
     }
 
     /// Returns the length of the text so far, in bytes.
+    ///
+    /// ```
+    /// let mut builder = ArcStrBuilder::new(rt.alloc());
+    /// builder.push('é')?;
+    /// assert_eq!(rt; builder.len(), 2);
+    /// ```
     pub fn len(&self) -> usize
         ensures { result ≡ length self.now.text }
     {
@@ -111,6 +117,11 @@ impl ArcStrBuilder {
     }
 
     /// Returns `true` if nothing was appended yet.
+    ///
+    /// ```
+    /// let builder = ArcStrBuilder::with_capacity(rt.alloc(), 8)?;
+    /// assert!(rt; builder.is_empty());
+    /// ```
     pub fn is_empty(&self) -> bool
         ensures { IsTrue result ↔ (self.now.text ≡ []) }
     {
@@ -118,6 +129,11 @@ impl ArcStrBuilder {
     }
 
     /// Returns the number of bytes that the text can have before its block has to grow.
+    ///
+    /// ```
+    /// let builder = ArcStrBuilder::with_capacity(rt.alloc(), 8)?;
+    /// assert_eq!(rt; builder.capacity(), 8);
+    /// ```
     pub fn capacity(&self) -> usize
         ensures { result ≡ self.now.capacity }
     {
