@@ -8,7 +8,7 @@ use Rattle.std.proofs.lemmas.List.Elements.{filter_map-append}
 use Rattle.std.proofs.Math.ListN.{get_or-append}
 use Rattle.std.proofs.Math.Seq.{get_or-append_seam, take-append_seam}
 use Rattle.arcstr_count.specs.declared.steps.Step.{Step}
-use Rattle.arcstr_count.specs.Model.{State, start, step, after, after_from, numbers_below}
+use Rattle.arcstr_count.specs.Model.{start, after, numbers_below}
 use Rattle.arcstr_world.specs.Worlds.{WorldView}
 use Rattle.arcstr_count.proofs.LawsOfHistories.{after_from-step}
 use Rattle.arcbench_core.specs.Line.{newline, step_of}

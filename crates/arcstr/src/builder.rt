@@ -119,10 +119,8 @@ impl ArcStrBuilder {
     /// Returns `true` if nothing was appended yet.
     ///
     /// ```
-    /// let mut builder = ArcStrBuilder::with_capacity(rt.alloc(), 3)?;
+    /// let builder = ArcStrBuilder::with_capacity(rt.alloc(), 8)?;
     /// assert!(rt; builder.is_empty());
-    /// builder.push_str("foo")?;
-    /// assert!(rt; !builder.is_empty());
     /// ```
     pub fn is_empty(&self) -> bool
         ensures { IsTrue result ↔ (self.now.text ≡ []) }
@@ -133,9 +131,8 @@ impl ArcStrBuilder {
     /// Returns the number of bytes that the text can have before its block has to grow.
     ///
     /// ```
-    /// let mut builder = ArcStrBuilder::with_capacity(rt.alloc(), 6)?;
-    /// builder.push_str("foo")?;
-    /// assert_eq!(rt; builder.capacity(), 6);
+    /// let builder = ArcStrBuilder::with_capacity(rt.alloc(), 8)?;
+    /// assert_eq!(rt; builder.capacity(), 8);
     /// ```
     pub fn capacity(&self) -> usize
         ensures { result ≡ self.now.capacity }

@@ -11,7 +11,7 @@ use Rattle.arcstr_count.proofs.Names.{needs, refusal_by, refusal_unless, State, 
 use Rattle.arcstr_count.proofs.Names.{handles_with_state, blocks_with_word, blocks_with_given, accepted, refusal_in, unless_refused, step, look_reply, lives, is_dropping}
 use Rattle.std.specs.Prelude.{◌-◌}
 use Rattle.arcstr_count.proofs.Names.{is_owing, makes_after, marked_after, handles_on, are_accepted, Keeps, EndsIn, after_from, and_parts, ◌⊎◌, inl, inr}
-use Rattle.arcstr_count.proofs.Names.{nil_from_length, IntoRaw, FromRaw, Raw, word_after, living_after, word_on, IsOneBlock, IsInUse}
+use Rattle.arcstr_count.proofs.Names.{nil_from_length, length_push, zero, IntoRaw, FromRaw, Raw, word_after, living_after, word_on, IsOneBlock, IsInUse}
 use Rattle.arcstr_count.proofs.LawsOfBlocks.{IsIn, some_on, is_in_state, step_finds, accepts_needed, lawful_after, held, length-handles_on, passes_on, on_it, one_if, begun_by}
 use Rattle.arcstr_count.proofs.LawsOfHistories.{SaysOfBlock, after-step, after_from-append, says, stands, dropping_counted, made_stays}
 use Rattle.std.proofs.lemmas.List.Sums.{sum_by-cons}

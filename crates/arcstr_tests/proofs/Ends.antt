@@ -1,5 +1,5 @@
 -- What follows from the ends of two handles on one text, of which the second is dropped after all that the first drop had seen.
-use Rattle.std.proofs.Common.{◌≡◌, ◌≢◌, ℕ, List, Option, None, Some, refl, sym, subst, inr, inl, ◌∙◌}
+use Rattle.std.proofs.Common.{◌≡◌, ◌≢◌, ℕ, List, Option, None, Some, refl, sym, subst, inl, ◌∙◌}
 use Rattle.arcstr_count.specs.declared.steps.Step.{Step}
 use Rattle.arcstr_count.specs.declared.words.TheConstants.{RC_MAX}
 use Rattle.arcstr_count.specs.OneBlock.{IsOneBlock, IsInUse}

@@ -6,7 +6,7 @@ use Rattle.arcstr_count.specs.declared.steps.Reply.TheVariants.{Left}
 use Rattle.arcstr_count.specs.declared.words.TheConstants.{RC_MAX}
 use Rattle.arcstr_count.specs.OneBlock.{EndsIn, IsInUse}
 use Rattle.arcstr_block.specs.Book.{IsLater}
-use Rattle.arcstr_block.specs.Handle.{SawBack, IsMarkedIn}
+use Rattle.arcstr_block.specs.Handle.{SawBack}
 use Rattle.arcstr_block.specs.Ending.{IsFreedBy}
 use Rattle.arcstr_block.specs.declared.seen.Seen.{Seen}
 

@@ -49,9 +49,11 @@ fn pieces_are_appended(rt: HostRuntime) {
     builder.push('é').expect(&rt, "no memory");
     write!(builder, "{:>3}{}", 7, "bar").expect(&rt, "no memory");
     writeln!(builder, "!").expect(&rt, "no memory");
-    check_text(&rt, builder.as_str(), "fooé  7bar!\n");
+    builder.write_fmt(8).expect(&rt, "no memory");
+    builder.writeln('x').expect(&rt, "no memory");
+    check_text(&rt, builder.as_str(), "fooé  7bar!\n8x\n");
     let text = builder.finish().expect(&rt, "no memory");
-    check_text(&rt, text.as_str(), "fooé  7bar!\n");
+    check_text(&rt, text.as_str(), "fooé  7bar!\n8x\n");
     check_count(&rt, &text, Some(1));
 }
 

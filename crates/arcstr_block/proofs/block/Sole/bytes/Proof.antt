@@ -4,7 +4,7 @@ use Rattle.arcstr_block.proofs.Names.{Val, vint, vptr, WT, Lft, Share, Fml, fsep
 use Rattle.arcstr_block.proofs.Names.{tables, Array, u8, usize, RefOf, yes, Is, shows, cell_at, hidden_shr, unhide, hide, param, bounded, uint_vals, uint_Tells}
 use Rattle.arcstr_block.proofs.Names.{RattleType, owns, block_of, Ptr, block_ptr, count_of, at_block, shr_vals, shr_Tells, types_at, plain, slice_val, nothing}
 use Rattle.arcstr_block.proofs.Names.{heard, peeks, looks, shuts, lent_at, lent_out, Stays, stay_dropped, walk_of, Goes-dropped, alloc_all, pass_all, free_all}
-use Rattle.arcstr_block.proofs.Names.{look_at, get, sets, env, through, sets_last, ‵, ◌⊛◌, ◌$◌, ◌∵◌, !, qed, move, use0, use1, use2, split, split3, join}
+use Rattle.arcstr_block.proofs.Names.{look_at, get, sets, env, through, sets_last, ‵, ◌⊛◌, ◌$◌, ◌∵◌, !, qed, move, use0, use1, split, join}
 use Rattle.arcstr_block.proofs.Names.{fsplit, fjoin, fpick, raw, by, keep, drop, rewrite, feq_i, flt_i, at_ret, sub, whole, agg, look_in, stop, fld, of_opd}
 use Rattle.arcstr_block.proofs.Names.{no_more, and_then, first, blocks, exec, returns, enter, load, tail, leaves, proved, sole_shares}
 use Rattle.arcstr_block.proofs.Pointers.{pointer_val, Words, told, opened}

@@ -1,5 +1,5 @@
 -- The bytes before the end of the text so far and the appended text are a text.
-use Rattle.arcstr_block.proofs.Names.{◌≡◌, arith, ap, subst, sym, length, ◌+◌, ◌++◌, ◌∙◌, length-take-le, take}
+use Rattle.arcstr_block.proofs.Names.{◌≡◌, arith, ap, length, ◌+◌, ◌++◌, ◌∙◌, length-take-le, take}
 use Rattle.arcstr_block.proofs.Texts.{two_texts}
 use Rattle.arcstr_block.proofs.building.Draft.append.Goals as goal
 
