@@ -3,7 +3,7 @@
 
 pub use arc_str::{ArcStr, RawArcStr};
 pub use arcstr_block as block;
-pub use arcstr_block::TextFault;
+pub use arcstr_block::{End, Seen, TextFault};
 pub use arcstr_count as count;
 pub use arcstr_range::range::{RangeFault, StrRange};
 pub use arcstr_range::view::StrView;
