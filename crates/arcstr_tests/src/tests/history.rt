@@ -6,11 +6,11 @@ use arcstr::{ArcStr, Substr};
 use std::mem::size_of;
 use std::process::Abort;
 
-/// Asserts the answers of a text after what was seen of it, and that nothing is seen of a static text.
-fn check_answers(rt: &impl Abort, text: &ArcStr, seen: &Option<Seen>, count: Option<usize>) {
-    let (found, again) = ArcStr::strong_count_after(text, seen);
+/// Asserts two answers of a text, the second after what the first has seen.
+fn check_answers(rt: &impl Abort, text: &ArcStr, count: Option<usize>) {
+    let (found, seen) = ArcStr::strong_count_after(text, &None);
     check_eq!(rt; found, count);
-    check_eq!(rt; ArcStr::is_static_after(text, &again).0, count.is_none());
+    check_eq!(rt; ArcStr::is_static_after(text, &seen).0, count.is_none());
 }
 
 #[test]
@@ -24,17 +24,17 @@ fn answers_after_what_was_seen_are_those_of_the_block(rt: HostRuntime) {
     let (count, seen) = ArcStr::strong_count_after(text, &None);
     check_eq!(rt; (count, seen.is_some()), (Some(1), true));
     let other = text.clone(&rt);
-    check_answers(&rt, text, &seen, Some(2));
-    check_answers(&rt, &other, &seen, Some(2));
-    let (kept, seen) = other.leak_after(&seen);
-    check_answers(&rt, text, &seen, None);
+    check_answers(&rt, text, Some(2));
+    check_answers(&rt, &other, Some(2));
+    let (kept, _) = other.leak_after(&seen);
+    check_answers(&rt, text, None);
     check_text(&rt, kept.as_str(), "foo");
 }
 
 #[test]
 fn nothing_is_seen_of_a_static_text(rt: HostRuntime) {
     let text = ArcStr::from_static("foo");
-    check_answers(&rt, &text, &None, None);
+    check_answers(&rt, &text, None);
     check!(rt; text.leak_after(&None).1.is_none());
     check!(rt; text.end_after(&None).1.is_none());
 }
@@ -46,7 +46,7 @@ fn the_last_handle_says_that_it_freed_the_block(rt: HostRuntime) {
     let (end, seen) = text.end();
     check_eq!(rt; (end, seen.is_some()), (End::Left, true));
     check_count(&rt, slice.parent(), Some(1));
-    check_eq!(rt; slice.end_after(&seen).0, End::Freed);
+    check_eq!(rt; slice.end().0, End::Freed);
 }
 
 #[test]
