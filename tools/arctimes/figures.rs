@@ -26,7 +26,7 @@ pub(crate) enum Family {
 }
 
 /// The name of each figure, with its family.
-const FIGURES: [(&str, Family); 40] = [
+const FIGURES: [(&str, Family); 45] = [
     ("clone_drop", Family::Clones),
     ("clone_drop_bare", Family::Clones),
     ("clone_drop_slice", Family::Clones),
@@ -35,6 +35,11 @@ const FIGURES: [(&str, Family); 40] = [
     ("clone_drop_fixed", Family::Handles),
     ("clone_drop_marked", Family::Handles),
     ("make_drop", Family::Makings),
+    ("build", Family::Makings),
+    ("build_full", Family::Makings),
+    ("build_string", Family::Makings),
+    ("read_from", Family::Makings),
+    ("read_string", Family::Makings),
     ("eq", Family::Comparisons),
     ("cmp", Family::Comparisons),
     ("hash", Family::Comparisons),

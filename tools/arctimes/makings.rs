@@ -5,16 +5,75 @@ use crate::requests::{Machine, Request};
 use crate::texts::{eight, letters, text};
 use anyhow::Result;
 use arcbench_core::script;
-use arcstr::{ArcStr, RangeFault, Substr};
+use arcstr::{ArcStr, ArcStrBuilder, RangeFault, Substr, TextFault};
 use serde_json::Value;
 use std::alloc::{AllocError, Global};
+use std::io;
 
 pub(crate) fn run<M: Machine>(rt: &M, request: &Request) -> Result<()> {
     let alloc = rt.alloc();
     let text = letters(alloc, request.size, request.size)?;
     match request.figure {
         "make_drop" => request.time_operations(rt, || made_len(alloc, text.as_str())),
+        "build" => request.time_operations(rt, || built_len(alloc, 0, text.as_str())),
+        "build_full" => {
+            request.time_operations(rt, || built_len(alloc, text.len(), text.as_str()))
+        }
+        "build_string" => request.time_operations(rt, || built_string_len(alloc, text.as_str())),
+        "read_from" => request.time_operations(rt, || text_read_len(alloc, text.as_bytes())),
+        "read_string" => request.time_operations(rt, || string_read_len(alloc, text.as_bytes())),
         _ => no_figure(),
+    }
+}
+
+/// The bytes of a text that a figure appends at a time.
+const PIECE: usize = 8;
+
+/// Builds a copy of a text in a builder of a capacity, piece by piece, and returns its length.
+fn built_len(alloc: Global, capacity: usize, text: &str) -> usize {
+    match built(alloc, capacity, text) {
+        Ok(text) => text.len(),
+        Err(_) => 0,
+    }
+}
+
+fn built(alloc: Global, capacity: usize, text: &str) -> Result<ArcStr, TextFault> {
+    let mut builder = ArcStrBuilder::with_capacity(alloc, capacity)?;
+    for _ in 0..text.len() / PIECE {
+        builder.push_str("xxxxxxxx")?;
+    }
+    builder.finish()
+}
+
+/// Builds the same text in a `String`, copies it, and returns its length.
+fn built_string_len(alloc: Global, text: &str) -> usize {
+    match built_string(alloc, text) {
+        Ok(text) => text.len(),
+        Err(_) => 0,
+    }
+}
+
+fn built_string(alloc: Global, text: &str) -> Result<ArcStr, TextFault> {
+    let mut string = String::new(alloc);
+    for _ in 0..text.len() / PIECE {
+        string.push_str("xxxxxxxx")?;
+    }
+    ArcStr::from_str(alloc, &string)
+}
+
+/// Reads a text, and returns its length.
+fn text_read_len(alloc: Global, bytes: &[u8]) -> usize {
+    match ArcStr::read_from(alloc, bytes) {
+        Ok(text) => text.len(),
+        Err(_) => 0,
+    }
+}
+
+/// Reads a text as a `String`, copies it, and returns its length.
+fn string_read_len(alloc: Global, bytes: &[u8]) -> usize {
+    match io::read_to_string(alloc, bytes) {
+        Ok(string) => made_len(alloc, &string),
+        Err(_) => 0,
     }
 }
 

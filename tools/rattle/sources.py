@@ -181,9 +181,9 @@ def files_of(crate: str) -> tuple[dict[Path, bool], list[str]]:
 @dataclass(eq=False)
 class Function:
     """A function: its type or trait where it has one, the trait that it implements, where it stands
-    in its file, its `ensures` clauses by name (`None` for a clause without one), and its body. A
-    function of a trait for a reference, as `impl Equivalent<ArcStr> for &str`, has the trait as its
-    type, and the reference as `lent`."""
+    in its file, its `ensures` clauses by name (`None` for a clause without one), whether it has a
+    `requires`, and its body. A function of a trait for a reference, as
+    `impl Equivalent<ArcStr> for &str`, has the trait as its type, and the reference as `lent`."""
 
     name: str
     owner: str | None
@@ -195,6 +195,7 @@ class Function:
     trait: str | None = None
     lent: str | None = None
     ensures: dict[str | None, str] = field(default_factory=dict)
+    requires: bool = False
     body: str = ""
     raw_body: str = ""
 
@@ -227,6 +228,7 @@ def read_contract(function: Function, text: str, shown: str, source: str, start:
                 source[found.end() : end - 1],
             )
             return
+        function.requires |= clause["kind"] == "requires"
         if clause["kind"] == "ensures":
             function.ensures[clause["name"]] = " ".join(shown[found.end() : end - 1].split())
         start = end

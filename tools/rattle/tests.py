@@ -12,29 +12,17 @@ from types import ModuleType
 import edits
 import kit
 import sources
+from reference.tests import SOURCE as PAIR
 
-SOURCE = """//! A crate.
-impl Pair {
-    /// A promise.
-    #[inline]
-    pub fn first(&self) -> u8
-    ensures value { result ≡ self.now.first } {
-        self.first // {
-    }
-}
-
-impl Clone for Pair {
-    fn clone(&self) -> Pair
-    ensures { result ≡ self.now } {
-        Pair { first: self.first, note: "}" }
-    }
-}
-
+SOURCE = (
+    PAIR
+    + """
 fn two() -> u8 {
     let one = 1;
     one + one
 }
 """
+)
 BODY = "## a_mistake\nold: one + one\nnew: one\nrefused: value\n"
 
 

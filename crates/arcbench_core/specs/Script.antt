@@ -10,7 +10,7 @@ use Rattle.arcstr_count.specs.declared.words.TheConstants.{RC_MAX}
 use Rattle.arcstr_count.specs.Model.{State, step, after, numbers_below}
 use Rattle.arcstr_count.specs.declared.steps.Reply.{Reply}
 use Rattle.arcstr_count.specs.declared.steps.Reply.TheVariants.{Made, Count, Static, Handle, Looked, Ended, Left, Owes, Given, Marked, Raw, Unraw, Refused}
-use Rattle.arcstr_count.specs.Answer.{step_fault_number, step_fault_text}
+use Rattle.arcstr_count.specs.Faults.{step_fault_number, step_fault_text}
 use Rattle.arcbench_core.specs.declared.script.CopyFault.{CopyFault}
 use Rattle.arcbench_core.specs.declared.script.CopyFault.TheVariants.{LimitTooLarge, Memory, Io}
 use Rattle.arcbench_core.specs.declared.input.InputFault.{InputFault}

@@ -21,7 +21,7 @@ pub fn number_of(text: &[u8]) -> Option<u64>
     read_number(text)
 }
 
-/// The value of a NUMBER, by the definition of `number_of`.
+/// Returns the value of a NUMBER, by the definition of `number_of`.
 ///
 /// This function stands apart so that the other clauses of `number_of` follow from one value, on
 /// whichever path the body finds it.
@@ -34,7 +34,7 @@ fn read_number(text: &[u8]) -> Option<u64>
     }
 }
 
-/// The value of decimal digits, below `2^64`.
+/// Returns the value of decimal digits, below `2^64`.
 #[tactic(auto, using(crate::proofs::LineTexts::decimal_from_parse, crate::proofs::LineTexts::no_decimal))]
 fn decimal_of(text: &[u8]) -> Option<u64>
     requires no_sign { slice_index text.now 0 ≢ plus_sign }

@@ -133,7 +133,9 @@ pub fn callers<R: Threads + Wait + Sync, G: Gate + Sync>(
     requires { (1 ≤ workers) × (workers ≤ 64) }
     // Promise: There is one handle for each worker, and each has the same text.
     ensures one_each { IfOk result (λ handles. vec_len handles ≡ workers) }
-    ensures same_text { IfOk result (λ handles. (worker : ℕ) (d : _) → worker < workers → slice_index_or handles.items worker d ≡ text.now) }
+    ensures same_text { IfOk result
+        (λ handles. (worker : ℕ) (d : _) → worker < workers
+        → slice_index_or handles.items worker d ≡ text.now) }
     // Promise: Each worker passes the gate with its number.
     ensures all_passed { OnOk result ((worker : ℕ) → worker < workers → G.passed gate.now worker) }
 {
@@ -142,8 +144,11 @@ pub fn callers<R: Threads + Wait + Sync, G: Gate + Sync>(
         rt,
         |scope| -> Result<Vec<ArcStr>, PoolFault>
             ensures one_each { IfOk result (λ handles. vec_len handles ≡ workers) }
-            ensures same_text { IfOk result (λ handles. (worker : ℕ) (d : _) → worker < workers → slice_index_or handles.items worker d ≡ text.entry.now) }
-            ensures all_passed { OnOk result ((worker : ℕ) → worker < workers → G.passed gate.entry.now worker) }
+            ensures same_text { IfOk result
+                (λ handles. (worker : ℕ) (d : _) → worker < workers
+                → slice_index_or handles.items worker d ≡ text.entry.now) }
+            ensures all_passed { OnOk result
+                ((worker : ℕ) → worker < workers → G.passed gate.entry.now worker) }
         {
             let mut started: Vec<Worker<G>> = Vec::with_capacity(alloc, workers)?;
             for worker in 0..workers {
@@ -178,12 +183,18 @@ fn join_all<'a, R: Threads, G: Gate>(
     gate: &G,
     started: Vec<Worker<'a, G>>,
 ) -> Result<Vec<ArcStr>, AllocError>
-    requires texts { (worker : ℕ) (d : _) → worker < vec_len started → (slice_index_or started.items worker d).promise.text.now ≡ text.now }
-    requires gates { (worker : ℕ) (d : _) → worker < vec_len started → (slice_index_or started.items worker d).promise.gate.now ≡ gate.now }
-    requires numbers { (worker : ℕ) (d : _) → worker < vec_len started → (slice_index_or started.items worker d).promise.worker ≡ worker }
+    requires texts { (worker : ℕ) (d : _) → worker < vec_len started
+        → (slice_index_or started.items worker d).promise.text.now ≡ text.now }
+    requires gates { (worker : ℕ) (d : _) → worker < vec_len started
+        → (slice_index_or started.items worker d).promise.gate.now ≡ gate.now }
+    requires numbers { (worker : ℕ) (d : _) → worker < vec_len started
+        → (slice_index_or started.items worker d).promise.worker ≡ worker }
     ensures one_each { IfOk result (λ handles. vec_len handles ≡ vec_len started.entry) }
-    ensures same_text { IfOk result (λ handles. (worker : ℕ) (d : _) → worker < vec_len started.entry → slice_index_or handles.items worker d ≡ text.now) }
-    ensures all_passed { OnOk result ((worker : ℕ) → worker < vec_len started.entry → G.passed gate.now worker) }
+    ensures same_text { IfOk result
+        (λ handles. (worker : ℕ) (d : _) → worker < vec_len started.entry
+        → slice_index_or handles.items worker d ≡ text.now) }
+    ensures all_passed { OnOk result
+        ((worker : ℕ) → worker < vec_len started.entry → G.passed gate.now worker) }
 {
     match thread::join_promised(rt, started) {
         Ok(handles) => Ok(handles),
@@ -203,7 +214,8 @@ fn check_all_started(
 ) -> Result<Vec<ArcStr>, PoolFault>
     ensures ok { IfOk result (λ all. (handles ≡ Ok all) × (vec_len all ≡ workers)) }
     ensures memory { (result ≡ Err PoolFault.Memory) ↔ IsErr handles }
-    ensures no_thread { (result ≡ Err PoolFault.NoThread) ↔ IsOkAnd handles (λ all. vec_len all ≢ workers) }
+    ensures no_thread { (result ≡ Err PoolFault.NoThread)
+        ↔ IsOkAnd handles (λ all. vec_len all ≢ workers) }
 {
     let handles = handles?;
     if handles.len() == workers {

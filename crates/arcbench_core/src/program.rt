@@ -76,14 +76,17 @@ impl From<InputFault> for Fault {
     }
 }
 
-/// Runs the program, and returns its status: 0 if it is done, 1 for arguments that mean no command, 2 for a limit that is too large, 3 for out of memory, 4 for
-/// a fault of reading or writing, 5 if a thread could not be started, 6 if the input of `tokens` is not UTF-8.
+/// Runs the program, and returns its status: 0 if it is done, 1 for arguments that mean no command,
+/// 2 for a limit that is too large, 3 for out of memory, 4 for a fault of reading or writing, 5 if
+/// a thread could not be started, 6 if the input of `tokens` is not UTF-8.
 ///
-/// A status above 0 has a line, which goes to `errors`; a fault in writing it does not change the status.
-/// `rt` permits it to start threads and to wait, and provides the machine's allocator for the texts of threads.
+/// A status above 0 has a line, which goes to `errors`; a fault in writing it does not change the
+/// status. `rt` permits it to start threads and to wait, and provides the machine's allocator for
+/// the texts of threads.
 ///
 /// The contract does not say that memory is available: the tests `answers_a_script`,
-/// `two_workers_print_their_texts` and `prints_the_words_of_each_line` catch a body that always answers 3 to a command.
+/// `two_workers_print_their_texts` and `prints_the_words_of_each_line` catch a body that always
+/// answers 3 to a command.
 ///
 /// ```
 /// let args = [String::from_str(rt.alloc(), "script")?];
@@ -112,8 +115,10 @@ where
     ensures done { result ≡ 0 → IfSome (command_in arguments.now) (λ command. IsDone command
         (R.remaining input.old.value) (W.contents output.old.value) (W.contents output.new.value)) }
     ensures at_end { result ≡ 0 → ReadsInput arguments.now → IsAtEnd (R.remaining input.new.value) }
-    // Promise: Status 2 comes only to `script`. Unless memory or a stream fails, it comes exactly if the script's limit is too large.
-    ensures too_large { result ≢ 3 → result ≢ 4 → IsForScript arguments.now → IfSome (R.remaining input.old.value)
+    // Promise: Status 2 comes only to `script`. Unless memory or a stream fails, it comes exactly
+    // if the script's limit is too large.
+    ensures too_large { result ≢ 3 → result ≢ 4 → IsForScript arguments.now
+        → IfSome (R.remaining input.old.value)
         (λ script. (result ≡ 2) ↔ (answer_to script ≡ Err LimitTooLarge)) }
     ensures too_large_of_scripts { result ≡ 2 → IsForScript arguments.now }
     // Promise: Status 3 comes only to a command.
@@ -122,8 +127,10 @@ where
     ensures io { (result ≡ 4) ↔ (IsTrue input.new.failed ⊎ IsTrue output.new.failed) }
     // Promise: Status 5 comes only to `threads`.
     ensures no_thread { result ≡ 5 → IsForThreads arguments.now }
-    // Promise: Status 6 comes only to `tokens`. Unless memory or a stream fails, it comes exactly if the input is not UTF-8.
-    ensures not_utf8 { result ≢ 3 → result ≢ 4 → IsForTokens arguments.now → IfSome (R.remaining input.old.value)
+    // Promise: Status 6 comes only to `tokens`. Unless memory or a stream fails, it comes exactly
+    // if the input is not UTF-8.
+    ensures not_utf8 { result ≢ 3 → result ≢ 4 → IsForTokens arguments.now
+        → IfSome (R.remaining input.old.value)
         (λ bytes. (result ≡ 6) ↔ ¬ (IsUtf8 bytes)) }
     ensures not_utf8_of_tokens { result ≡ 6 → IsForTokens arguments.now }
 
@@ -148,7 +155,8 @@ where
     status_after(errors, done)
 }
 
-/// Returns the status if the program's own arguments could not be read: out of memory, or an argument that is not a text, which counts as no command.
+/// Returns the status if the program's own arguments could not be read: out of memory, or an
+/// argument that is not a text, which counts as no command.
 ///
 /// ```
 /// use std::io::{self, ErrorKind};
@@ -168,7 +176,7 @@ pub fn serve_without_words<E: Write>(errors: &mut E, error: &io::Error) -> u8
     }
 }
 
-/// The command that the arguments mean; `None` for other arguments.
+/// Returns the command that the arguments mean; `None` for other arguments.
 fn command_of(arguments: &[String]) -> Option<Command>
     ensures value { result ≡ command_in arguments.now }
     ensures lawful { IfSome result HasLawfulCount }
@@ -185,7 +193,7 @@ fn command_of(arguments: &[String]) -> Option<Command>
     }
 }
 
-/// The number of workers that an argument means: a NUMBER from 1 to 64.
+/// Returns the number of workers that an argument means: a NUMBER from 1 to 64.
 fn worker_count(argument: &[u8]) -> Option<usize>
     ensures value { result ≡ worker_count argument.now }
     ensures lawful { IfSome result (λ count. (1 ≤ count) × (count ≤ 64)) }
@@ -196,7 +204,8 @@ fn worker_count(argument: &[u8]) -> Option<usize>
     }
 }
 
-/// Writes the lines of callers once all lines are there. If there are no callers, returns the fault of the pool.
+/// Writes the lines of callers once all lines are there. If there are no callers, returns the fault
+/// of the pool.
 pub(crate) fn tell_threads<W: Write>(
     alloc: Global,
     handles: Result<Vec<ArcStr>, PoolFault>,
@@ -223,7 +232,8 @@ pub(crate) fn tell_threads<W: Write>(
     }
 }
 
-/// Reads the input to its end, and writes the lines of its words once all lines are there. `rt` provides the machine's allocator for the texts and their words.
+/// Reads the input to its end, and writes the lines of its words once all lines are there. `rt`
+/// provides the machine's allocator for the texts and their words.
 fn tell_tokens<H, A: Allocator + Copy, R: Read, W: Write>(
     rt: &H,
     alloc: A,
@@ -243,7 +253,8 @@ where
     ensures fault { IfErr result IsFaultOfTokens }
     ensures io { (result ≡ Err Fault.Io) ↔ (IsTrue input.new.failed ⊎ IsTrue output.new.failed) }
     ensures not_utf8 { result ≢ Err Fault.Memory → result ≢ Err Fault.Io
-        → IfSome (R.remaining input.old.value) (λ bytes. (result ≡ Err Fault.NotUtf8) ↔ ¬ (IsUtf8 bytes)) }
+        → IfSome (R.remaining input.old.value)
+        (λ bytes. (result ≡ Err Fault.NotUtf8) ↔ ¬ (IsUtf8 bytes)) }
     ensures unwritten { IfErr result (λ fault. fault ≢ Fault.Io → output.new ≡ output.old) }
     ensures unwritten_unread { IsTrue input.new.failed → output.new ≡ output.old }
 {
@@ -259,7 +270,7 @@ where
     }
 }
 
-/// The status 0 if all is done, else that of the fault, whose line is printed.
+/// Returns the status 0 if all is done, else that of the fault, whose line is printed.
 pub(crate) fn status_after<E: Write>(errors: &mut E, done: Result<(), Fault>) -> u8
     ensures ok { OnOk done (result ≡ 0) }
     ensures silent { OnOk done (errors.new ≡ errors.old) }

@@ -1,4 +1,5 @@
-//! Scripts of steps on counted blocks, their answers, and the run of a script from a reader to a writer.
+//! Scripts of steps on counted blocks, their answers, and the run of a script from a reader to a
+//! writer.
 ghost use Rattle.std.specs.Prelude.{◌≡◌, ◌≢◌, ◌↔◌, ◌⊎◌, false, IsTrue, IfErr, OnOk, IfSome, Some, Err};
 ghost use Rattle.std.specs.Io.KnownBytes.{IsAtEnd};
 ghost use Rattle.arcstr_world.specs.declared.faults.RunFault.TheVariants.{LimitTooLarge as RunLimitTooLarge};
@@ -101,8 +102,9 @@ impl From<InputFault> for CopyFault {
 
 /// Reads a script to its end and writes its answer.
 ///
-/// Errors, in this order: while reading, `Io` or `Memory`, whichever comes first; then the faults of `answer`; while writing, `Io`. All allocations come before
-/// the first write, so only a fault of writing can leave a part of the answer written.
+/// Errors, in this order: while reading, `Io` or `Memory`, whichever comes first; then the faults
+/// of `answer`; while writing, `Io`. All allocations come before the first write, so only a fault
+/// of writing can leave a part of the answer written.
 ///
 /// The test `writes_the_answer_to_a_script` catches a body that always answers `Memory`.
 ///
@@ -125,8 +127,10 @@ pub fn copy<A: Allocator + Copy, R: Read, W: Write>(
     ensures at_end { OnOk result (IsAtEnd (R.remaining input.new.value)) }
 
     // Promise: `Io` comes exactly if a port failed.
-    ensures io { (result ≡ Err CopyFault.Io) ↔ (IsTrue input.new.failed ⊎ IsTrue output.new.failed) }
-    // Promise: Unless memory or a stream fails, `LimitTooLarge` comes exactly if the script's limit is too large.
+    ensures io { (result ≡ Err CopyFault.Io)
+        ↔ (IsTrue input.new.failed ⊎ IsTrue output.new.failed) }
+    // Promise: Unless memory or a stream fails, `LimitTooLarge` comes exactly if the script's limit
+    // is too large.
     ensures too_large { result ≢ Err CopyFault.Memory → result ≢ Err CopyFault.Io
         → IfSome (R.remaining input.old.value) (λ script.
         (result ≡ Err CopyFault.LimitTooLarge) ↔ (answer_to script ≡ Err RunLimitTooLarge)) }

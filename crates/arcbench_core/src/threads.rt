@@ -66,7 +66,8 @@ fn start_with<R: Threads + Wait + Sync>(
 /// ```
 pub fn answer(alloc: Global, handles: Result<Vec<ArcStr>, PoolFault>) -> Result<Vec<u8>, PoolFault>
     requires { IfOk handles (λ all. ReadSharedText all.items) }
-    ensures lines { IfOk handles (λ all. IfOk result (λ out. out.items ≡ threads_answer (vec_len all))) }
+    ensures lines { IfOk handles (λ all. IfOk result
+        (λ out. out.items ≡ threads_answer (vec_len all))) }
     ensures fault_of_the_pool { IfErr handles (λ fault. result ≡ Err fault) }
     ensures memory { OnOk handles (IfErr result (λ fault. fault ≡ PoolFault.Memory)) }
 {
@@ -81,7 +82,8 @@ pub fn answer(alloc: Global, handles: Result<Vec<ArcStr>, PoolFault>) -> Result<
 #[tactic(auto, using(crate::proofs::AnsweredLines::one_worker_more))]
 fn push_lines(out: &mut String, handles: &[ArcStr]) -> Result<(), AllocError>
     requires { ReadSharedText handles.now }
-    ensures { OnOk result (string_bytes out.new ≡ string_bytes out.old ++ worker_lines (length handles.now)) }
+    ensures { OnOk result (string_bytes out.new
+        ≡ string_bytes out.old ++ worker_lines (length handles.now)) }
 {
     for (worker, handle) in handles.iter().enumerate() {
         push_line(out, worker, handle)?;
@@ -90,14 +92,16 @@ fn push_lines(out: &mut String, handles: &[ArcStr]) -> Result<(), AllocError>
 }
 
 fn push_line(out: &mut String, worker: usize, handle: &ArcStr) -> Result<(), AllocError>
-    ensures { OnOk result (handle.now.text ≡ shared_text → string_bytes out.new ≡ string_bytes out.old ++ worker_line worker) }
+    ensures { OnOk result (handle.now.text ≡ shared_text
+        → string_bytes out.new ≡ string_bytes out.old ++ worker_line worker) }
 {
     let text = handle.as_str();
     write!(out, "worker {worker} {text}\n")
 }
 
 fn push_end(out: &mut String, workers: usize) -> Result<(), AllocError>
-    ensures { OnOk result (string_bytes out.new ≡ string_bytes out.old ++ codes "done " ++ decimal workers ++ newline ∷ []) }
+    ensures { OnOk result (string_bytes out.new
+        ≡ string_bytes out.old ++ codes "done " ++ decimal workers ++ newline ∷ []) }
 {
     write!(out, "done {workers}\n")
 }

@@ -70,8 +70,8 @@ where
     Ok(lines.into_bytes())
 }
 
-/// A text for each line of the input, in order. A line that is too long for a text counts as out of
-/// memory, too.
+/// Makes a text for each line of the input, in order. A line that is too long for a text counts as
+/// out of memory, too.
 fn texts_of_lines(alloc: Global, input: &str) -> Result<Vec<ArcStr>, AllocError>
     ensures { IfOk result (λ texts. texts_of_shared texts.items ≡ script_lines input.now) }
 {
@@ -88,7 +88,7 @@ fn texts_of_lines(alloc: Global, input: &str) -> Result<Vec<ArcStr>, AllocError>
     Ok(texts)
 }
 
-/// The first line of a text, and what comes after it.
+/// Returns the first line of a text, and what comes after it.
 fn first_line_of_text(text: &str) -> (&str, &str)
     requires { 0 < length text.now }
     ensures lines { script_lines text.now ≡ result.0.now ∷ script_lines result.1.now }
@@ -103,7 +103,8 @@ fn first_line_of_text(text: &str) -> (&str, &str)
 /// Appends the lines of all slices: those of each list under the list's number.
 #[tactic(auto, using(crate::proofs::TokensPrinted::one_list_more))]
 fn push_lists<A: Allocator>(out: &mut String<A>, lists: &[Vec<Substr>]) -> Result<(), AllocError>
-    ensures { OnOk result (string_bytes out.new ≡ string_bytes out.old ++ lines_of_lists 0 lists.now) }
+    ensures { OnOk result (string_bytes out.new
+        ≡ string_bytes out.old ++ lines_of_lists 0 lists.now) }
 {
     for (number, list) in lists.iter().enumerate() {
         push_slices(out, number, list)?;
@@ -118,7 +119,8 @@ fn push_slices<A: Allocator>(
     number: usize,
     slices: &[Substr],
 ) -> Result<(), AllocError>
-    ensures { OnOk result (string_bytes out.new ≡ string_bytes out.old ++ slice_lines number slices.now) }
+    ensures { OnOk result (string_bytes out.new
+        ≡ string_bytes out.old ++ slice_lines number slices.now) }
 {
     for slice in slices {
         push_slice(out, number, slice)?;
@@ -132,7 +134,8 @@ fn push_slice<A: Allocator>(
     number: usize,
     slice: &Substr,
 ) -> Result<(), AllocError>
-    ensures { OnOk result (string_bytes out.new ≡ string_bytes out.old ++ slice_line number slice.now) }
+    ensures { OnOk result (string_bytes out.new
+        ≡ string_bytes out.old ++ slice_line number slice.now) }
 {
     let range = slice.range();
     let start = range.start;

@@ -4,7 +4,7 @@ use Rattle.std.proofs.lemmas.Bool.{cases_eq}
 use Rattle.std.proofs.lemmas.List.{get_or_append_left, get_or_at, get_or_default, length_push}
 use Rattle.std.proofs.lemmas.List.Quantifiers.{all_pairs_push}
 use Rattle.arcstr.specs.TextView.{TextView, literal_of}
-use Rattle.arcintern.specs.Slots.{ArePlaced, AreTextsPlaced, IsPlaced, slot_of}
+use Rattle.arcintern.specs.Slots.{ArePlaced, AreTextsPlaced, IsPlaced, KeepsSlots, slot_of}
 use Rattle.arcintern.specs.Texts.{HasEachOnce, HasWord, IsWordAt, KeepsTexts}
 
 -- no two of the texts spell the same word, if the new one's word is new
@@ -15,7 +15,7 @@ once-push texts text absent once =
 
 -- each number is placed, if the old ones stay and the new one is placed
 pub ArePlaced-push : {X : Type 0} (old new : List ℕ) (old_mask new_mask : ℕ) (half : X → ℕ) (empty : X) (texts : List X) (text : X)
-    → ((slot : ℕ) → 0 < slot → IsPlaced old old_mask slot → IsPlaced new new_mask slot)
+    → KeepsSlots old old_mask new new_mask
     → IsPlaced new new_mask (slot_of (half text) (length texts))
     → ArePlaced old old_mask half empty texts → ArePlaced new new_mask half empty (texts ++ text ∷ [])
 ArePlaced-push {X} old new old_mask new_mask half empty texts text kept placed all = λ number less. by number less (cases_eq number (length texts))
@@ -30,14 +30,14 @@ ArePlaced-push {X} old new old_mask new_mask half empty texts text kept placed a
 
 -- the numbers stay placed, if their slots do
 pub AreTextsPlaced-kept : (old new : List ℕ) (old_mask new_mask : ℕ) (half : List ℕ → ℕ) (texts : List TextView)
-    → ((slot : ℕ) → 0 < slot → IsPlaced old old_mask slot → IsPlaced new new_mask slot)
+    → KeepsSlots old old_mask new new_mask
     → AreTextsPlaced old old_mask half texts → AreTextsPlaced new new_mask half texts
 unfolding AreTextsPlaced
 AreTextsPlaced-kept old new old_mask new_mask half texts kept all = λ number less. kept _ (omega arith) (all number less)
 
 -- and with one more text, if that is placed too
 pub AreTextsPlaced-push : (old new : List ℕ) (old_mask new_mask : ℕ) (half : List ℕ → ℕ) (texts : List TextView) (text : TextView)
-    → ((slot : ℕ) → 0 < slot → IsPlaced old old_mask slot → IsPlaced new new_mask slot)
+    → KeepsSlots old old_mask new new_mask
     → IsPlaced new new_mask (slot_of (half text.text) (length texts))
     → AreTextsPlaced old old_mask half texts → AreTextsPlaced new new_mask half (texts ++ text ∷ [])
 unfolding AreTextsPlaced

@@ -1,5 +1,6 @@
 -- What a new text does to the bytes of a word list.
-use Rattle.std.proofs.Common.{◌≡◌, ℕ, ◌+◌, ◌-◌, ◌<◌, ◌≤◌, zero, suc, subst, List, [], ◌∷◌, ◌++◌, length, drop, get_or, refl, ap, arith, ◌⊎◌, inl, inr, length-append}
+use Rattle.std.proofs.Common.{◌≡◌, ℕ, ◌+◌, ◌-◌, ◌<◌, ◌≤◌, zero, suc, subst, List, [], ◌∷◌, ◌++◌, length, drop, get_or, refl, ap, arith, ◌⊎◌, inl, inr}
+use Rattle.std.proofs.Common.{length-append}
 use Rattle.std.proofs.lemmas.Bool.{cases_eq}
 use Rattle.std.proofs.lemmas.List.{drop-append-le, get_or_append_left, get_or_default, length-drop, length-take-le, take-append-le, take_all}
 use Rattle.std.proofs.lemmas.Str.{IsCharBoundary-at_seam, IsCharBoundary-end}
@@ -12,7 +13,7 @@ use Rattle.std.specs.List.{concat}
 use Rattle.std.specs.Str.{IsCharBoundary, IsUtf8}
 use Rattle.arcintern.specs.declared.interner.TheConstants.{MOST_TEXTS}
 use Rattle.arcintern.specs.declared.word_list.TheConstants.{MOST_BYTES}
-use Rattle.arcintern.specs.Slots.{ArePlaced, IsPlaced, slot_of}
+use Rattle.arcintern.specs.Slots.{ArePlaced, IsPlaced, KeepsSlots, slot_of}
 use Rattle.arcintern.specs.Words.{AreDistinct, AreEnds, IsFullFor, pieces}
 
 -- a piece of some bytes is the same piece of longer ones
@@ -115,7 +116,8 @@ word_is_absent slots mask half half_of texts word is_half all absent there =
     let default : get_or texts number [] ≡ get_or texts number word = get_or_default texts number [] word there.1 in
     let found : slice_get texts number ≡ Some word = rw (slice_get-get_or texts number word there.1, there.2) refl in
     let placed : IsPlaced slots mask (slot_of half number) =
-    subst (λ place. IsPlaced slots mask (slot_of place number)) is_half (subst (λ text. IsPlaced slots mask (slot_of (half_of text) number)) (rw (default, there.2) refl) (all number there.1)) in
+    subst (λ index. IsPlaced slots mask (slot_of index number)) is_half
+    (subst (λ text. IsPlaced slots mask (slot_of (half_of text) number)) (rw (default, there.2) refl) (all number there.1)) in
     absent number there.1 placed found
 
 -- no two of the texts are the same, if the new one is not there
@@ -126,7 +128,7 @@ texts_stay_distinct texts word absent once =
 
 -- the numbers stay placed, if their slots do
 pub texts_stay_placed : (old new : List ℕ) (old_mask new_mask : ℕ) (half_of : List ℕ → ℕ) (texts : List (List ℕ))
-    → ((slot : ℕ) → 0 < slot → IsPlaced old old_mask slot → IsPlaced new new_mask slot)
+    → KeepsSlots old old_mask new new_mask
     → ArePlaced old old_mask half_of [] texts → ArePlaced new new_mask half_of [] texts
 texts_stay_placed old new old_mask new_mask half_of texts kept all number less = kept _ (omega arith) (all number less)
 

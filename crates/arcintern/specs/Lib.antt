@@ -1,4 +1,5 @@
 pub mod Lends
+pub mod Serde
 pub mod Slots
 pub mod Texts
 pub mod Values

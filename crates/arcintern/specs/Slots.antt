@@ -31,11 +31,15 @@ pub record IsPlaced (slots : List ℕ) (mask slot : ℕ) : Type 0 where
   pub here : slice_index slots index ≡ slot
   pub before : (other : ℕ) → home mask slot ≤ other → other < index → slice_index slots other ≢ 0
 
--- a search under this half comes to this place, since it passes no empty slot before
-pub record Reaches (slots : List ℕ) (mask half place : ℕ) : Type 0 where
-  pub from_home : bit_and half mask ≤ place
-  pub within : place ≤ length slots
-  pub full : (other : ℕ) → bit_and half mask ≤ other → other < place → slice_index slots other ≢ 0
+-- a search under this half comes to the slot with this index, since it passes no empty slot before
+pub record Reaches (slots : List ℕ) (mask half index : ℕ) : Type 0 where
+  pub from_home : bit_and half mask ≤ index
+  pub within : index ≤ length slots
+  pub full : (other : ℕ) → bit_and half mask ≤ other → other < index → slice_index slots other ≢ 0
+
+-- each slot that was placed in the old table is placed in the new one
+abbrev pub KeepsSlots : List ℕ → ℕ → List ℕ → ℕ → Type 0
+KeepsSlots old old_mask new new_mask = (slot : ℕ) → 0 < slot → IsPlaced old old_mask slot → IsPlaced new new_mask slot
 
 -- the number of each text is placed under the half of its word, which is `half` of the text
 abbrev pub ArePlaced : {X : Type 0} → List ℕ → ℕ → (X → ℕ) → X → List X → Type 0

@@ -7,7 +7,8 @@ use std::error::Error;
 use std::io::ErrorKind;
 use std::{fmt, io};
 
-/// Why a text is not interned. It takes one byte, and prints what is wrong. By `?` it becomes an `io::Error` and an `anyhow::Error`.
+/// Why a text is not interned. It takes one byte, and prints what is wrong. By `?` it becomes an
+/// `io::Error` and an `anyhow::Error`.
 ///
 /// ```
 /// let printed = format!(in rt.alloc(); "{}", InternFault::Full)?;

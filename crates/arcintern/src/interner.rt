@@ -1,7 +1,8 @@
 //! `Interner`: each distinct text once.
 //!
 //! No call here allocates, clones a handle or takes an atomic step unless it says so.
-ghost use Rattle.std.specs.Prelude.{◌≡◌, ◌^◌, ◌<◌, ◌≤◌, ◌↔◌, [], length, IfErr, IfOk, IsOk, IsTrue, OnOk, option_copied, slice_get, IfSome, Some, IsSome};
+ghost use Rattle.std.specs.Prelude.{◌≡◌, ◌^◌, ◌<◌, ◌≤◌, ◌↔◌, [], length, option_copied, slice_get};
+ghost use Rattle.std.specs.Prelude.{IfErr, IfOk, IfSome, IsOk, IsSome, IsTrue, OnOk, Some};
 ghost use Rattle.std.specs.Iterator.Adapters.{IterYieldsInOrder, IterYieldsInReverse};
 ghost use Rattle.std.specs.List.{enumerate_from};
 ghost use Rattle.std.specs.Slice.Iter.{iter_rest};
@@ -35,11 +36,13 @@ pub(crate) use interning::{copy_of, is_whole};
 /// ```
 pub const MOST_TEXTS: usize = (1 << 32) - 1;
 
-/// Keeps each distinct text once, as an `ArcStr`, in the order in which the texts came. It finds a text by its hash, so the average
-/// time of a look-up does not grow with the number of texts. No contract says so. A contract sees the list of the texts.
+/// Keeps each distinct text once, as an `ArcStr`, in the order in which the texts came. It finds a
+/// text by its hash, so the average time of a look-up does not grow with the number of texts. No
+/// contract says so. A contract sees the list of the texts.
 ///
-/// The default hasher has a fixed seed, and words that collide are easy to find. Each look-up then passes all of them: 100,000 such words
-/// took 37 seconds of processor time, where 100,000 others took 0.1. Where an attacker picks the texts, make the interner by `with_hasher`.
+/// The default hasher has a fixed seed, and words that collide are easy to find. Each look-up then
+/// passes all of them: 100,000 such words took 37 seconds of processor time, where 100,000 others
+/// took 0.1. Where an attacker picks the texts, make the interner by `with_hasher`.
 ///
 /// ```
 /// let mut interner = Interner::new(rt.alloc());
@@ -80,8 +83,8 @@ impl Interner<BuildHasherDefault<FoldHasher>> {
         Interner::with_hasher(alloc, BuildHasherDefault::new())
     }
 
-    /// Makes an interner without texts, with room for this many, which is allocated here. For no texts nothing is allocated. `Memory` is
-    /// the only fault.
+    /// Makes an interner without texts, with room for this many, which is allocated here. For no
+    /// texts nothing is allocated. `Memory` is the only fault.
     ///
     /// ```
     /// let interner = Interner::with_capacity(rt.alloc(), 100)?;
@@ -119,8 +122,8 @@ impl<S: BuildHasher> Interner<S> {
         }
     }
 
-    /// Makes an interner of the texts of a shared interner, each under the number that it has there.
-    /// Returns the hasher out of memory, or if a number has no text.
+    /// Makes an interner of the texts of a shared interner, each under the number that it has
+    /// there. Returns the hasher out of memory, or if a number has no text.
     pub(crate) fn of_texts(
         rt: &impl Wait,
         alloc: Global,
@@ -138,7 +141,9 @@ impl<S: BuildHasher> Interner<S> {
         };
         match interner.add_all(rt, texts) {
             Ok(()) => Ok(interner),
-            Err(_) => Err(interner.hash_builder),
+            Err(InternFault::Full | InternFault::Length | InternFault::Memory) => {
+                Err(interner.hash_builder)
+            }
         }
     }
 
@@ -265,8 +270,8 @@ impl<S: BuildHasher> Interner<S> {
         }
     }
 
-    /// Returns the text of the symbol, or `None` if the interner has fewer texts: the symbol is another
-    /// interner's.
+    /// Returns the text of the symbol, or `None` if the interner has fewer texts: the symbol is
+    /// another interner's.
     ///
     /// ```
     /// let mut interner = Interner::new(rt.alloc());

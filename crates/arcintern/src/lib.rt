@@ -1,4 +1,5 @@
-//! An interner: it keeps each distinct text once, as an `ArcStr`, and numbers the texts in the order in which they came.
+//! An interner: it keeps each distinct text once, as an `ArcStr`, and numbers the texts in the
+//! order in which they came.
 #![tactic(auto)]
 
 pub use fault::InternFault;
@@ -10,6 +11,7 @@ pub use word_list::{MOST_BYTES, WordList, WordListIter, WordListPairs};
 
 mod fault;
 mod interner;
+mod serde_impls;
 mod shared_interner;
 mod slots;
 mod symbol;

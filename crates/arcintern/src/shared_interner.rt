@@ -24,19 +24,23 @@ mod shared_slots;
 
 /// Keeps each distinct text once, as an `ArcStr`, for any number of threads.
 ///
-/// The hash of a word picks one of 1 to 64 shards. A shard has a table of the numbers of its texts, and a lock for whoever adds one. The
-/// texts themselves lie in one list that only grows. A known word and a text are read without a lock. So a symbol stands for one text
-/// as long as the interner lives, whatever other threads do. The numbers are 0, 1, 2 and so on, in the order in which the texts were
-/// added. Only a call that runs out of memory while other threads add texts can leave a number without a text.
+/// The hash of a word picks one of 1 to 64 shards. A shard has a table of the numbers of its texts,
+/// and a lock for whoever adds one. The texts themselves lie in one list that only grows. A known
+/// word and a text are read without a lock. So a symbol stands for one text as long as the interner
+/// lives, whatever other threads do. The numbers are 0, 1, 2 and so on, in the order in which the
+/// texts were added. Only a call that runs out of memory while other threads add texts can leave a
+/// number without a text.
 ///
-/// A table that is too short is kept until the interner is dropped, since a thread may be reading it. After `with_capacity`, a table grows
-/// only if its shard gets more than its part of the texts.
+/// A table that is too short is kept until the interner is dropped, since a thread may be reading
+/// it. After `with_capacity`, a table grows only if its shard gets more than its part of the texts.
 ///
-/// The contracts do not say that a call succeeds, that `get` finds a word, that a word has one number, which number is next, or what
-/// `len` answers. The tests `words_are_told_apart`, `known_words_are_found_while_tables_grow`, `threads_agree_on_eight_shards` and
+/// The contracts do not say that a call succeeds, that `get` finds a word, that a word has one
+/// number, which number is next, or what `len` answers. The tests `words_are_told_apart`,
+/// `known_words_are_found_while_tables_grow`, `threads_agree_on_eight_shards` and
 /// `words_are_numbered_as_they_come` check that.
 ///
-/// The default hasher has a fixed seed. Where an attacker picks the texts, make the interner by `with_hasher`.
+/// The default hasher has a fixed seed. Where an attacker picks the texts, make the interner by
+/// `with_hasher`.
 ///
 /// ```
 /// let interner = SharedInterner::new(rt.alloc(), 8)?;
@@ -62,12 +66,14 @@ impl<S: BuildHasher> Model for SharedInterner<S> {
 
     ghost view = { λ interner. interner.texts };
 
-    ghost invariant = { λ interner. (1 ≤ length interner.shards.items) × (length interner.shards.items ≤ 64) };
+    ghost invariant = { λ interner. (1 ≤ length interner.shards.items)
+        × (length interner.shards.items ≤ 64) };
 }
 
 impl SharedInterner<BuildHasherDefault<FoldHasher>> {
-    /// Makes an interner without texts. The caller must ensure that there are 1 to 64 shards. A power of two is best, as many as
-    /// threads or more. A shard takes 1.7 KB. `Memory` is the only fault.
+    /// Makes an interner without texts. The caller must ensure that there are 1 to 64 shards. A
+    /// power of two is best, as many as threads or more. A shard takes 1.7 KB. `Memory` is the only
+    /// fault.
     ///
     /// ```
     /// let interner = SharedInterner::new(rt.alloc(), 1)?;
@@ -80,7 +86,8 @@ impl SharedInterner<BuildHasherDefault<FoldHasher>> {
         SharedInterner::with_hasher(alloc, shards, BuildHasherDefault::new())
     }
 
-    /// As `new`, with room for this many texts, which is allocated here: in the list, and in each shard for its part of them.
+    /// As `new`, with room for this many texts, which is allocated here: in the list, and in each
+    /// shard for its part of them.
     ///
     /// ```
     /// let interner = SharedInterner::with_capacity(rt.alloc(), 8, 1_000)?;
@@ -171,8 +178,8 @@ impl<S: BuildHasher> SharedInterner<S> {
         self.texts.agrees(&one.text, &other.text);
     }
 
-    /// Returns the symbol with this number, or `None` if no text has it: the number is another interner's. Takes no lock, and never
-    /// waits.
+    /// Returns the symbol with this number, or `None` if no text has it: the number is another
+    /// interner's. Takes no lock, and never waits.
     ///
     /// ```
     /// let interner = SharedInterner::new(rt.alloc(), 8)?;
@@ -212,8 +219,8 @@ impl<S: BuildHasher> SharedInterner<S> {
         self.len() == 0
     }
 
-    /// Returns the symbols with their texts, in the order of their numbers. It may miss texts that other threads are adding. Takes no
-    /// lock.
+    /// Returns the symbols with their texts, in the order of their numbers. It may miss texts that
+    /// other threads are adding. Takes no lock.
     ///
     /// ```
     /// let interner = SharedInterner::new(rt.alloc(), 8)?;
@@ -280,7 +287,8 @@ impl<S: BuildHasher> SharedInterner<S> {
     }
 }
 
-/// Prints the texts as a list, in the order of their numbers. It may miss texts that other threads are adding.
+/// Prints the texts as a list, in the order of their numbers. It may miss texts that other threads
+/// are adding.
 ///
 /// ```
 /// let interner = SharedInterner::new(rt.alloc(), 8)?;
@@ -312,8 +320,9 @@ fn empty_shards(alloc: Global, shards: usize, room: usize) -> Result<Vec<Shard>,
     Ok(tables)
 }
 
-/// Stands for one text of one shared interner. It takes 24 bytes. A contract sees its number and its text, which other threads cannot
-/// change. The number alone is a `Symbol` of 4 bytes, which can be copied, compared, ordered and hashed.
+/// Stands for one text of one shared interner. It takes 24 bytes. A contract sees its number and
+/// its text, which other threads cannot change. The number alone is a `Symbol` of 4 bytes, which
+/// can be copied, compared, ordered and hashed.
 ///
 /// ```
 /// let interner = SharedInterner::new(rt.alloc(), 8)?;
@@ -332,7 +341,12 @@ impl Model for SharedSymbol {
 
     ghost Value = { SymbolView };
 
-    ghost view = { λ symbol. record { number = symbol.text.index; text = symbol.text.value; bucket = symbol.text.bucket; row = symbol.text.row } };
+    ghost view = { λ symbol. record {
+      number = symbol.text.index;
+      text = symbol.text.value;
+      bucket = symbol.text.bucket;
+      row = symbol.text.row;
+    } };
 
     ghost invariant = { λ symbol. symbol.text.index < 2 ^ 32 };
 }
@@ -405,8 +419,10 @@ impl<'a> Iterator for SharedTexts<'a> {
     type Item = (SharedSymbol, &'a ArcStr);
 
     // Promise: The symbol is of the interner and has this text, and the numbers rise.
-    ghost next_gives = { λ old item new. (new.texts ≡ old.texts) × (new.end ≡ old.end) × (old.index ≤ new.index)
-        × IfSome item (λ pair. IsSymbolOf old.texts.now pair.0 × (pair.1.now ≡ pair.0.text) × (old.index ≤ pair.0.number) × (pair.0.number < new.index)) };
+    ghost next_gives = { λ old item new. (new.texts ≡ old.texts) × (new.end ≡ old.end)
+        × (old.index ≤ new.index)
+        × IfSome item (λ pair. IsSymbolOf old.texts.now pair.0 × (pair.1.now ≡ pair.0.text)
+        × (old.index ≤ pair.0.number) × (pair.0.number < new.index)) };
 
     ghost remaining = { λ texts. at_most (texts.end - texts.index) };
 

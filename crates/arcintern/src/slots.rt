@@ -1,6 +1,9 @@
 //! A table that finds the number of a text by half of the hash of its word.
-ghost use Rattle.std.specs.Prelude.{◌≡◌, ◌+◌, ◌/◌, ◌%◌, ◌<◌, ◌≤◌, ℕ, [], IfErr, IfOk, IsOk, None, OnErr, OnOk, Some, bit_xor, vec_len, vec_capacity};
-ghost use Rattle.arcintern.specs.Slots.{IsPlaced, Reaches, half_of_word, hash_of_word, slot_of};
+ghost use Rattle.std.specs.Prelude.{◌≡◌, ◌+◌, ◌/◌, ◌%◌, ◌<◌, ◌≤◌, ℕ, []};
+ghost use Rattle.std.specs.Prelude.{bit_xor, vec_capacity, vec_len};
+ghost use Rattle.std.specs.Prelude.{IfErr, IfOk, IsOk, None, OnErr, OnOk, Some};
+ghost use Rattle.arcintern.specs.Slots.{IsPlaced, KeepsSlots, Reaches, half_of_word, hash_of_word};
+ghost use Rattle.arcintern.specs.Slots.{slot_of};
 
 use std::alloc::{AllocError, Global};
 use std::hash::{BuildHasher, Hasher};
@@ -47,9 +50,9 @@ pub(crate) fn slots_for(numbers: usize) -> Result<usize, AllocError>
     }
 }
 
-/// An empty slot is 0. Any other has half of a hash in its upper 32 bits, and a number plus 1 in its
-/// lower ones. A search begins where the half says, and goes on to an empty slot or the end. So a
-/// number whose half leads to a full slot stands further on.
+/// An empty slot is 0. Any other has half of a hash in its upper 32 bits, and a number plus 1 in
+/// its lower ones. A search begins where the half says, and goes on to an empty slot or the end. So
+/// a number whose half leads to a full slot stands further on.
 #[derive(Drop)]
 pub(crate) struct Slots {
     pub(crate) slots: Vec<u64>,
@@ -94,14 +97,17 @@ impl Slots {
     }
 
     /// Returns what `look` answers for the first number under this half of a hash for which that is
-    /// `Some`, and else the place at which the search ended: there a new number is to stand.
+    /// `Some`, and else the number of the empty slot at which the search ended, or of the one
+    /// behind the last: there a new number is to stand.
     #[inline(always)]
     pub(crate) fn find<T, F: Fn(u32) -> Option<T>>(&self, half: u32, look: F) -> Result<T, usize>
         requires { F.IsAlwaysCallable look }
-        ensures found { IfOk result (λ found. (number : ℕ) × (number < NUMBERS) × F.post look number (Some found)) }
+        ensures found { IfOk result (λ found. (number : ℕ) × (number < NUMBERS)
+            × F.post look number (Some found)) }
         ensures absent { OnErr result ((number : ℕ) → number + 1 < NUMBERS
-            → IsPlaced self.now.slots.items self.now.mask (slot_of half number) → F.post look number None) }
-        ensures place { IfErr result (Reaches self.now.slots.items self.now.mask half) }
+            → IsPlaced self.now.slots.items self.now.mask (slot_of half number)
+            → F.post look number None) }
+        ensures empty { IfErr result (Reaches self.now.slots.items self.now.mask half) }
     {
         let mut index = half as usize & self.mask;
         while index < self.slots.len() {
@@ -119,27 +125,29 @@ impl Slots {
         Err(index)
     }
 
-    /// Makes room for one more number under this half of a hash, a search for which comes to `place`.
-    /// Returns a place to which it comes then. At most three quarters of the slots are taken, so a
-    /// search for an absent word passes about eight.
-    pub(crate) fn make_room(&mut self, half: u32, place: usize) -> Result<usize, AllocError>
-        requires place { Reaches self.old.slots.items self.old.mask half place }
-        ensures kept { (slot : ℕ) → 0 < slot → IsPlaced self.old.slots.items self.old.mask slot → IsPlaced self.new.slots.items self.new.mask slot }
+    /// Makes room for one more number under this half of a hash, a search for which comes to the
+    /// slot `empty`. Returns the slot to which it comes then. At most three quarters of the slots
+    /// are taken, so a search for an absent text passes about eight.
+    pub(crate) fn make_room(&mut self, half: u32, empty: usize) -> Result<usize, AllocError>
+        requires empty { Reaches self.old.slots.items self.old.mask half empty }
+        ensures kept { KeepsSlots self.old.slots.items self.old.mask
+            self.new.slots.items self.new.mask }
         ensures room { OnOk result (vec_len self.new.slots < vec_capacity self.new.slots) }
-        ensures place { IfOk result (Reaches self.new.slots.items self.new.mask half) }
+        ensures empty { IfOk result (Reaches self.new.slots.items self.new.mask half) }
     {
-        let mut place = place;
+        let mut empty = empty;
         if self.used >= self.mask - self.mask / 4 {
             self.grow()?;
-            place = half as usize & self.mask;
+            empty = half as usize & self.mask;
         }
         self.slots.reserve(1)?;
-        Ok(place)
+        Ok(empty)
     }
 
     /// Moves the slots to a table that is twice as long.
     fn grow(&mut self) -> Result<(), AllocError>
-        ensures kept { (slot : ℕ) → 0 < slot → IsPlaced self.old.slots.items self.old.mask slot → IsPlaced self.new.slots.items self.new.mask slot }
+        ensures kept { KeepsSlots self.old.slots.items self.old.mask
+            self.new.slots.items self.new.mask }
     {
         let len = self.mask.saturating_add(1).saturating_mul(2).max(16);
         let mut longer = Slots::with_len(*self.slots.allocator(), len)?;
@@ -153,7 +161,8 @@ impl Slots {
     /// Puts in what a slot of another table holds, unless it is empty.
     fn take_over(&mut self, slot: u64) -> Result<(), AllocError>
         ensures placed { OnOk result (0 < slot → IsPlaced self.new.slots.items self.new.mask slot) }
-        ensures kept { (other : ℕ) → 0 < other → IsPlaced self.old.slots.items self.old.mask other → IsPlaced self.new.slots.items self.new.mask other }
+        ensures kept { KeepsSlots self.old.slots.items self.old.mask
+            self.new.slots.items self.new.mask }
     {
         if slot != 0 {
             self.slots.reserve(1)?;
@@ -162,26 +171,30 @@ impl Slots {
         Ok(())
     }
 
-    /// Puts a number into the table, under half of a hash, a search for which comes to `place`.
-    pub(crate) fn put(&mut self, half: u32, number: u32, place: usize)
+    /// Puts a number into the table, under half of a hash, a search for which comes to the slot
+    /// `empty`.
+    pub(crate) fn put(&mut self, half: u32, number: u32, empty: usize)
         requires number { number + 1 < NUMBERS }
-        requires place { Reaches self.old.slots.items self.old.mask half place }
+        requires empty { Reaches self.old.slots.items self.old.mask half empty }
         requires room { vec_len self.old.slots < vec_capacity self.old.slots }
         ensures placed { IsPlaced self.new.slots.items self.new.mask (slot_of half number) }
-        ensures kept { (slot : ℕ) → 0 < slot → IsPlaced self.old.slots.items self.old.mask slot → IsPlaced self.new.slots.items self.new.mask slot }
+        ensures kept { KeepsSlots self.old.slots.items self.old.mask
+            self.new.slots.items self.new.mask }
     {
-        self.put_slot(half as u64 * NUMBERS + number as u64 + 1, place);
+        self.put_slot(half as u64 * NUMBERS + number as u64 + 1, empty);
     }
 
-    /// Puts what a slot holds into the first empty slot from `place` on, to which a search for it comes.
-    fn put_slot(&mut self, slot: u64, place: usize)
+    /// Puts what a slot holds into the first empty slot from `start` on, to which a search for it
+    /// comes.
+    fn put_slot(&mut self, slot: u64, start: usize)
         requires slot { 0 < slot }
-        requires place { Reaches self.old.slots.items self.old.mask (slot / NUMBERS) place }
+        requires start { Reaches self.old.slots.items self.old.mask (slot / NUMBERS) start }
         requires room { vec_len self.old.slots < vec_capacity self.old.slots }
         ensures placed { IsPlaced self.new.slots.items self.new.mask slot }
-        ensures kept { (other : ℕ) → 0 < other → IsPlaced self.old.slots.items self.old.mask other → IsPlaced self.new.slots.items self.new.mask other }
+        ensures kept { KeepsSlots self.old.slots.items self.old.mask
+            self.new.slots.items self.new.mask }
     {
-        let mut index = place;
+        let mut index = start;
         while index < self.slots.len() && self.slots[index] != 0 {
             index += 1;
         }

@@ -3,10 +3,11 @@ ghost use Rattle.std.specs.Prelude.{◌≡◌, ◌^◌, ◌<◌};
 
 use std::marker::Model;
 
-/// Stands for one text of one `Interner`, `WordList` or `SharedInterner`. It takes 4 bytes, and two symbols of one interner are equal
-/// exactly where their texts are. Symbols compare in the order in which their texts were added. The contracts of `Interner` and `WordList`
-/// say both, and for a `SharedInterner` tests check both. A symbol does not tell its interner: another interner may have another text at
-/// it, or none.
+/// Stands for one text of one `Interner`, `WordList` or `SharedInterner`. It takes 4 bytes, and two
+/// symbols of one interner are equal exactly where their texts are. Symbols compare in the order in
+/// which their texts were added. The contracts of `Interner` and `WordList` say both, and for a
+/// `SharedInterner` tests check both. A symbol does not tell its interner: another interner may
+/// have another text at it, or none.
 ///
 /// ```
 /// let mut interner = Interner::new(rt.alloc());

@@ -1,5 +1,6 @@
 //! `SymbolMap`: values by symbols.
-ghost use Rattle.std.specs.Prelude.{◌≡◌, ◌^◌, ◌<◌, ◌≤◌, [], length, option_copied, unwrap_or, IfErr, IfOk, OnErr, OnOk, Some};
+ghost use Rattle.std.specs.Prelude.{◌≡◌, ◌^◌, ◌<◌, ◌≤◌, [], length, option_copied, unwrap_or};
+ghost use Rattle.std.specs.Prelude.{IfErr, IfOk, OnErr, OnOk, Some};
 ghost use Rattle.std.specs.Iterator.{YieldsFirstBy, item_count};
 ghost use Rattle.std.specs.Option.{option_copied_mut};
 ghost use Rattle.std.specs.Borrow.{sem};
@@ -10,8 +11,9 @@ use std::alloc::{AllocError, AllocFailed, Global};
 use std::fmt;
 use std::marker::Model;
 
-/// Values by the symbols of one interner: a `Vec` by index, which grows where a value is stored. A look-up does not hash. A map takes
-/// room for each symbol up to the largest one that was stored. A contract sees a value or nothing for each number.
+/// Values by the symbols of one interner: a `Vec` by index, which grows where a value is stored. A
+/// look-up does not hash. A map takes room for each symbol up to the largest one that was stored. A
+/// contract sees a value or nothing for each number.
 ///
 /// ```
 /// let mut words = WordList::new(rt.alloc());
@@ -91,8 +93,9 @@ impl<V> SymbolMap<V> {
         self.values.get_mut(symbol.index())?.as_mut()
     }
 
-    /// Stores a value for the symbol, and returns the value that it had. Allocates where the symbol is the largest so far, but then not
-    /// each time. Out of memory, it returns the new value in the fault, and the map has the values that it had.
+    /// Stores a value for the symbol, and returns the value that it had. Allocates where the symbol
+    /// is the largest so far, but then not each time. Out of memory, it returns the new value in
+    /// the fault, and the map has the values that it had.
     ///
     /// ```
     /// let symbol = Interner::new(rt.alloc()).intern("foo")?;
@@ -116,7 +119,8 @@ impl<V> SymbolMap<V> {
         Ok(entry.replace(value))
     }
 
-    /// Returns the value of the symbol for writing. If it has none, stores this one first. Allocates and fails as `insert` does.
+    /// Returns the value of the symbol for writing. If it has none, stores this one first.
+    /// Allocates and fails as `insert` does.
     ///
     /// ```
     /// let mut words = WordList::new(rt.alloc());
@@ -132,7 +136,8 @@ impl<V> SymbolMap<V> {
     where
         V: Drop,
         // Promise: A value that is there is returned, and else the new one.
-        ensures value { IfOk result (λ found. found.now ≡ unwrap_or (value_at self.old symbol) value) }
+        ensures value { IfOk result
+            (λ found. found.now ≡ unwrap_or (value_at self.old symbol) value) }
         ensures failed { IfErr result (λ failed. failed.value ≡ value) }
         // Promise: What is written becomes the value of the symbol, and no other value changes.
         ensures* writes_back { sem 𝓛 (lends_put V.row self.entry symbol result) }
@@ -143,7 +148,8 @@ impl<V> SymbolMap<V> {
         Ok(self.value_or(symbol.index(), value))
     }
 
-    /// Returns the value at an index that the map has, for writing. If there is none, stores this one first.
+    /// Returns the value at an index that the map has, for writing. If there is none, stores this
+    /// one first.
     fn value_or(&mut self, index: usize, value: V) -> &mut V
     where
         V: Drop,

@@ -26,11 +26,12 @@ mod table;
 /// ```
 pub const MOST_BYTES: usize = (1 << 32) - 1;
 
-/// Keeps each distinct text once, in the order in which the texts came, as an `Interner` does. The bytes of all texts stand one after
-/// another in one allocation, so a text takes less memory, and is lent as a `&str`. A contract sees the list of the texts.
+/// Keeps each distinct text once, in the order in which the texts came, as an `Interner` does. The
+/// bytes of all texts stand one after another in one allocation, so a text takes less memory, and
+/// is lent as a `&str`. A contract sees the list of the texts.
 ///
-/// The default hasher has a fixed seed, and words that collide are easy to find, as `Interner` says. Where an attacker picks the texts,
-/// make the list by `with_hasher`.
+/// The default hasher has a fixed seed, and words that collide are easy to find, as `Interner`
+/// says. Where an attacker picks the texts, make the list by `with_hasher`.
 ///
 /// ```
 /// let mut words = WordList::new(rt.alloc());
@@ -53,7 +54,8 @@ impl<S: BuildHasher> Model for WordList<S> {
 
     ghost view = { λ list. list.table.texts };
 
-    ghost invariant = { λ list. ArePlaced list.table.slots list.table.mask (half_of_word S.BuildHasher S.Hasher.Hasher list.hash_builder) [] list.table.texts };
+    ghost invariant = { λ list. ArePlaced list.table.slots list.table.mask
+        (half_of_word S.BuildHasher S.Hasher.Hasher list.hash_builder) [] list.table.texts };
 }
 
 impl WordList<BuildHasherDefault<FoldHasher>> {
@@ -69,8 +71,8 @@ impl WordList<BuildHasherDefault<FoldHasher>> {
         WordList::with_hasher(alloc, BuildHasherDefault::new())
     }
 
-    /// Makes a list without texts, with room for this many texts, which have this many bytes together. It is allocated here. For none,
-    /// nothing is allocated. `Memory` is the only fault.
+    /// Makes a list without texts, with room for this many texts, which have this many bytes
+    /// together. It is allocated here. For none, nothing is allocated. `Memory` is the only fault.
     ///
     /// ```
     /// let words = WordList::with_capacity(rt.alloc(), 100, 1_000)?;
@@ -108,10 +110,11 @@ impl<S: BuildHasher> WordList<S> {
         }
     }
 
-    /// Returns the symbol of the text that spells this word. If there is none, a copy of the word becomes the last text: that allocates
-    /// where the bytes, the list of their ends or the table is full. A word that is there is never refused. Another one is refused, in
-    /// this order: by a list that has `MOST_TEXTS` texts, or would have more than `MOST_BYTES` bytes (`Full`), and out of memory
-    /// (`Memory`). A refused call leaves the texts as they were.
+    /// Returns the symbol of the text that spells this word. If there is none, a copy of the word
+    /// becomes the last text: that allocates where the bytes, the list of their ends or the table
+    /// is full. A word that is there is never refused. Another one is refused, in this order: by a
+    /// list that has `MOST_TEXTS` texts, or would have more than `MOST_BYTES` bytes (`Full`), and
+    /// out of memory (`Memory`). A refused call leaves the texts as they were.
     ///
     /// ```
     /// let mut words = WordList::new(rt.alloc());
@@ -127,14 +130,14 @@ impl<S: BuildHasher> WordList<S> {
         ensures never_too_long { ¬ (IsErrOf result InternFault.Length) }
     {
         let half = half_of_word(&self.hash_builder, word);
-        let place = match self.table.find(half, word) {
+        let empty = match self.table.find(half, word) {
             Ok(symbol) => return Ok(symbol),
-            Err(place) => place,
+            Err(empty) => empty,
         };
         if self.table.is_full_for(word) {
             return Err(InternFault::Full);
         }
-        self.table.push(half, place, word)
+        self.table.push(half, empty, word)
     }
 
     /// Returns the symbol of the text that spells this word, or `None` if there is none.
@@ -175,7 +178,8 @@ impl<S: BuildHasher> WordList<S> {
         }
     }
 
-    /// Returns the text of the symbol, or `None` if the list has fewer texts: the symbol is another list's.
+    /// Returns the text of the symbol, or `None` if the list has fewer texts: the symbol is another
+    /// list's.
     ///
     /// ```
     /// let mut words = WordList::new(rt.alloc());
@@ -313,7 +317,8 @@ impl<'a> Model for WordListIter<'a> {
 
     ghost view = { λ it. pieces it.bytes.now it.start it.ends.now };
 
-    ghost invariant = { λ it. AreEnds it.bytes.now it.start it.ends.now × (0 < it.start → IsCharBoundary it.bytes.now it.start) };
+    ghost invariant = { λ it. AreEnds it.bytes.now it.start it.ends.now
+        × (0 < it.start → IsCharBoundary it.bytes.now it.start) };
 }
 
 impl<'a> Iterator for WordListIter<'a> {

@@ -1,23 +1,26 @@
-//! Makes a call of the library until it is not refused, and says why it was not completed and compared.
+//! Makes a call of the library until it is not refused, and says why it was not completed and
+//! compared.
 use crate::{histories, sharing, without_memory};
 use arcbench_core::pool::PoolFault;
 use arcbench_core::script::CopyFault;
 use arcintern::InternFault;
-use arcstr::{ArcStr, JsonFault, TextFault};
+use arcstr::{ArcStr, JsonFault, ReadFault, TextFault};
 use arcstr_world::RunFault;
 use std::alloc::AllocError;
 use std::io;
 use std::io::Write;
+use std::rt::Files;
 use std::sync::Wait;
 use std::thread::Threads;
 
-/// How often a call is made before the program gives up. Two tries suffice if one allocation is refused.
+/// How often a call is made before the program gives up. Two tries suffice if one allocation is
+/// refused.
 pub(crate) const TRIES: usize = 4;
 
-/// Memory, standard streams, threads, and the permission to wait for them.
-pub(crate) trait Machine: AllocGlobal + Print + Eprint + Threads + Wait + Sync {}
+/// Memory, files, standard streams, threads, and the permission to wait for them.
+pub(crate) trait Machine: AllocGlobal + Files + Print + Eprint + Threads + Wait + Sync {}
 
-impl<R: AllocGlobal + Print + Eprint + Threads + Wait + Sync> Machine for R {}
+impl<R: AllocGlobal + Files + Print + Eprint + Threads + Wait + Sync> Machine for R {}
 
 /// What calls work on.
 pub(crate) trait Given: Drop {
@@ -50,7 +53,8 @@ pub(crate) trait Calls<G>: Made {
     fn call<R: Machine>(rt: &R, given: &mut G, number: usize) -> Result<Self, Stop>;
 }
 
-/// Makes the call of this number until it is not refused, compares and drops what it made, and prints its line.
+/// Makes the call of this number until it is not refused, compares and drops what it made, and
+/// prints its line.
 pub(crate) fn again<G: Given, T: Calls<G>, R: Machine>(
     rt: &R,
     line: &str,
@@ -67,7 +71,8 @@ pub(crate) fn again<G: Given, T: Calls<G>, R: Machine>(
     print(rt, line, Err(Stop::Refused))
 }
 
-/// As `again`, for calls with functions of their own: those with nothing to drop, and those in threads.
+/// As `again`, for calls with functions of their own: those with nothing to drop, and those in
+/// threads.
 pub(crate) fn again_whole<R: Machine>(rt: &R, line: &str, number: usize) -> io::Result<()> {
     for _ in 0..TRIES {
         match call_whole(rt, number) {
@@ -121,7 +126,8 @@ fn prepare_and_call<G: Given, T: Calls<G>, R: Machine>(
     Err(Stop::Refused)
 }
 
-/// Compares what a call made, if it was not refused, drops it as a counted call of its own, and compares what the call was given.
+/// Compares what a call made, if it was not refused, drops it as a counted call of its own, and
+/// compares what the call was given.
 pub(crate) fn compare<G: Given, T: Made, R: Machine>(
     rt: &R,
     given: &G,
@@ -143,8 +149,9 @@ pub(crate) fn compare<G: Given, T: Made, R: Machine>(
     ended
 }
 
-/// Shows the script `refusals` where a counted call begins or ends, by a write of zero bytes to standard output. The library that the script loads below the
-/// program sees the write; nothing else changes.
+/// Shows the script `refusals` where a counted call begins or ends, by a write of zero bytes to
+/// standard output. The library that the script loads below the program sees the write; nothing
+/// else changes.
 pub(crate) fn mark<R: Print>(rt: &R) {
     let _ = io::writer(rt).write(b"");
 }
@@ -189,6 +196,12 @@ impl From<AllocError> for Stop {
 impl From<TextFault> for Stop {
     fn from(fault: TextFault) -> Stop {
         of_fault(fault == TextFault::Memory)
+    }
+}
+
+impl From<ReadFault> for Stop {
+    fn from(fault: ReadFault) -> Stop {
+        of_fault(matches!(fault, ReadFault::Text(TextFault::Memory)))
     }
 }
 

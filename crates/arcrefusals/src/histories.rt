@@ -111,7 +111,8 @@ fn reply_to<R: Print>(rt: &R, world: &mut World<Global>, step: Step) -> Result<R
     Err(Stop::Refused)
 }
 
-/// The replies to a look through each handle that is made, which change nothing, and how often each block that is made was freed.
+/// The replies to a look through each handle that is made, which change nothing, and how often each
+/// block that is made was freed.
 fn shown(world: &mut World<Global>) -> Result<([Reply; 9], [u64; 6]), Stop> {
     let (mut counts, mut given) = ([Reply::Left; 9], [0; 6]);
     for (handle, count) in (0..9).zip(counts.iter_mut()) {
@@ -123,7 +124,8 @@ fn shown(world: &mut World<Global>) -> Result<([Reply; 9], [u64; 6]), Stop> {
     Ok((counts, given))
 }
 
-/// Calls `copy` with a buffer of the answer's length as output. Nothing is written there if the call is refused.
+/// Calls `copy` with a buffer of the answer's length as output. Nothing is written there if the
+/// call is refused.
 pub(crate) fn copy_of_a_script<R: AllocGlobal + Print>(rt: &R) -> Result<(), Stop> {
     let mut room = [0; 28];
     let mut input = Port::new(SCRIPT);

@@ -17,8 +17,10 @@ pub(crate) fn run<R: Machine>(rt: &R) -> io::Result<()> {
     again::<Words<FULL>, Interner, R>(rt, "Interner::intern with a full table", 0, "foobar", 1)?;
     again::<Handles, Interner, R>(rt, "Interner::intern_arc", 0, "foobar", 3)?;
     again::<Handles, Interner, R>(rt, "Interner::intern_substr", 1, "foo", 1)?;
+    again::<(), Interner, R>(rt, "Interner::deserialize", 1, "foobar", 1)?;
     again::<Listed<0>, WordList, R>(rt, "WordList::intern", 0, "foobar", 0)?;
     again::<(), WordList, R>(rt, "WordList::with_capacity", 0, "", 0)?;
+    again::<(), WordList, R>(rt, "WordList::deserialize", 1, "foobar", 0)?;
     again::<ListRoom, WordList, R>(rt, "WordList::intern where there is room", 0, DIGITS, 0)?;
     let line = "WordList::intern with a full table";
     again::<Listed<FULL>, WordList, R>(rt, line, 0, "foobar", 0)?;
@@ -48,8 +50,11 @@ impl Made for Interner {
 }
 
 impl Calls<()> for Interner {
-    fn call<R: Machine>(rt: &R, _: &mut (), _: usize) -> Result<Interner, Stop> {
-        Ok(Interner::with_capacity(rt.alloc(), 100)?)
+    fn call<R: Machine>(rt: &R, _: &mut (), number: usize) -> Result<Interner, Stop> {
+        match number {
+            0 => Ok(Interner::with_capacity(rt.alloc(), 100)?),
+            _ => Ok(serde_json::from_str(rt.alloc(), "[\"foobar\"]")?),
+        }
     }
 }
 
@@ -170,8 +175,11 @@ impl Made for WordList {
 }
 
 impl Calls<()> for WordList {
-    fn call<R: Machine>(rt: &R, _: &mut (), _: usize) -> Result<WordList, Stop> {
-        Ok(WordList::with_capacity(rt.alloc(), 50, 1275)?)
+    fn call<R: Machine>(rt: &R, _: &mut (), number: usize) -> Result<WordList, Stop> {
+        match number {
+            0 => Ok(WordList::with_capacity(rt.alloc(), 50, 1275)?),
+            _ => Ok(serde_json::from_str(rt.alloc(), "[\"foobar\"]")?),
+        }
     }
 }
 

@@ -31,6 +31,15 @@ pub(crate) fn run<R: Machine>(rt: &R) -> io::Result<()> {
         "0123456789abcdef",
         1,
     )?;
+    again::<(), ArcStr, R>(rt, "ArcStr::read_from", 19, "foobar", 1)?;
+    again::<(), ArcStr, R>(
+        rt,
+        "ArcStr::read_file of an unknown length",
+        20,
+        "Linux\n",
+        1,
+    )?;
+    again::<(), ArcStr, R>(rt, "ArcStrBuilder::read_from", 21, "foobar", 1)?;
     again::<(), Substr, R>(rt, "Substr::from_str", 0, "foobar", 1)?;
     again::<(), Substr, R>(rt, "Substr::try_from of a String", 2, "foobar", 1)?;
     again::<(), Substr, R>(rt, "Substr::try_from of a Vec", 3, "foobar", 1)?;
@@ -71,7 +80,10 @@ impl Calls<()> for ArcStr {
             15 => return built_text(ArcStrBuilder::with_capacity(alloc, 6)?),
             16 => return built_text(ArcStrBuilder::new(alloc)),
             17 => return reserved_text(alloc),
-            _ => return grown_text(alloc),
+            18 => return grown_text(alloc),
+            19 => return Ok(ArcStr::read_from(alloc, "foobar".as_bytes())?),
+            20 => return Ok(ArcStr::read_file(rt, "/proc/sys/kernel/ostype")?),
+            _ => return read_text(alloc),
         }?)
     }
 }
@@ -91,7 +103,7 @@ fn built_text(mut builder: ArcStrBuilder) -> Result<ArcStr, Stop> {
     Ok(builder.finish()?)
 }
 
-/// Fills memory that is taken first. Nothing after that asks for memory.
+/// Fills memory that is taken first. Nothing after that allocates.
 fn reserved_text(alloc: Global) -> Result<ArcStr, Stop> {
     let builder = ArcStrBuilder::with_capacity(alloc, 6)?;
     Ok(builder.fill("foobar"))
@@ -104,6 +116,13 @@ fn grown_text(alloc: Global) -> Result<ArcStr, Stop> {
     let pushed = builder.push_str("89abcdef");
     check(pushed.is_ok() || builder.as_str() == "01234567")?;
     pushed?;
+    Ok(builder.finish()?)
+}
+
+/// Reads a text into memory that is taken first. Nothing after that allocates.
+fn read_text(alloc: Global) -> Result<ArcStr, Stop> {
+    let mut builder = ArcStrBuilder::with_capacity(alloc, 6)?;
+    builder.read_from(&mut "foobar".as_bytes())?;
     Ok(builder.finish()?)
 }
 

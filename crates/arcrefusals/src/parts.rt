@@ -1,4 +1,5 @@
-//! Calls that list the slices of a text. A refusal drops the slices that were made, and leaves the text with its own handle.
+//! Calls that list the slices of a text. A refusal drops the slices that were made, and leaves the
+//! text with its own handle.
 use crate::calls::{Calls, Given, Machine, Made, Stop, again, count, is_text};
 use arcstr::{ArcStr, Substr};
 use std::io;

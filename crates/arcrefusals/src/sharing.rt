@@ -6,7 +6,7 @@ use crate::calls::{
 };
 use arcbench_core::pool::{Gate, callers};
 use arcstr::{ArcStr, Substr};
-use arctokens::{tokens, tokens_all, tokens_all_with};
+use arctokens::{Substrs, token_list, tokens, tokens_all, tokens_all_with};
 use std::io;
 use std::sync::atomic::{AtomicU64, Ordering};
 
@@ -46,6 +46,7 @@ impl Passes {
 
 pub(crate) fn run<R: Machine>(rt: &R) -> io::Result<()> {
     again::<Letters, Vec<Substr>, R>(rt, "tokens", 0, "abcde", 6)?;
+    again::<Letters, Substrs, R>(rt, "token_list", 0, "abcde", 2)?;
     again_whole(rt, "callers", 6)?;
     again_whole(rt, "tokens_all", 7)?;
     again_whole(rt, "tokens_all_with", 8)
@@ -79,6 +80,12 @@ impl Given for [ArcStr; 2] {
 impl Calls<Letters> for Vec<Substr> {
     fn call<R: Machine>(rt: &R, text: &mut Letters, _: usize) -> Result<Vec<Substr>, Stop> {
         Ok(tokens(rt, rt.alloc(), &text.0)?)
+    }
+}
+
+impl Calls<Letters> for Substrs {
+    fn call<R: Machine>(rt: &R, text: &mut Letters, _: usize) -> Result<Substrs, Stop> {
+        Ok(token_list(rt, rt.alloc(), &text.0)?)
     }
 }
 
@@ -129,6 +136,24 @@ impl Made for Vec<Substr> {
             }
         }
         self.len() == wanted.len()
+    }
+}
+
+/// The words of a text as one list, with one handle: these letters, each at an even byte offset.
+impl Made for Substrs {
+    fn is(&self, wanted: &str, handles: usize) -> bool {
+        for (at, letter) in wanted.bytes().enumerate() {
+            let (Some(word), Some(range)) = (self.as_str(at), self.range(at)) else {
+                return false;
+            };
+            if word.as_bytes() != [letter].as_slice()
+                || range.start % 2 != 0
+                || range.start / 2 != at
+            {
+                return false;
+            }
+        }
+        self.len() == wanted.len() && count(self.text()) == handles
     }
 }
 

@@ -1,6 +1,7 @@
 pub mod Builders
 pub mod Differences
 pub mod FirstMatches
+pub mod JoinedSlices
 pub mod Orders
 pub mod PartLists
 pub mod Ranges

@@ -1,5 +1,6 @@
 -- Lists of the slices between the matches of a pattern, as far as a loop over the parts has come.
-use Rattle.std.proofs.Common.{◌≡◌, ◌==◌, ℕ, Bool, true, false, All, Option, None, Some, List, [], ◌∷◌, ◌++◌, map, flat_map, refl, sym, ap, subst, ◌∙◌, append_assoc}
+use Rattle.std.proofs.Common.{◌≡◌, ◌==◌, ℕ, Bool, true, false, All, Option, None, Some, List, [], ◌∷◌, ◌++◌, map, flat_map, refl, sym, ap, subst, ◌∙◌}
+use Rattle.std.proofs.Common.{append_assoc}
 use Rattle.std.specs.Prelude.{⊤, MatchOption, IfSome}
 use Rattle.std.specs.List.{join_by}
 use Rattle.std.specs.Str.{IsUtf8}

@@ -1,5 +1,6 @@
 pub mod TextView
 pub mod Making
+pub mod Reading
 pub mod Building
 pub mod Substr
 pub mod Slicing

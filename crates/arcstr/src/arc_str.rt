@@ -12,13 +12,16 @@ use std::sync::Wait;
 /// The number of compare-exchanges that a clone tries if it must not wait.
 pub(crate) const TRIES: u32 = 1_000;
 
-/// A reference-counted immutable text that threads share. It is `Send` and `Sync`, and its size is 24 bytes. In a contract it has a text and a kind: a
-/// literal, a handle to a counted block, or a permanent block.
+/// A reference-counted immutable text that threads share. It is `Send` and `Sync`, and its size is
+/// 24 bytes. In a contract it has a text and a kind: a literal, a handle to a counted block, or a
+/// permanent block.
 ///
-/// Dropping a handle to a block loads its count word and, if the block is not marked static, decrements the count with a fetch-sub. The last handle of an
-/// unmarked block frees its memory. Dropping a literal or a permanent block takes no atomic step. No drop waits.
+/// Dropping a handle to a block loads its count word and, if the block is not marked static,
+/// decrements the count with a fetch-sub. The last handle of an unmarked block frees its memory.
+/// Dropping a literal or a permanent block takes no atomic step. No drop waits.
 ///
-/// No method or trait implementation allocates or takes an atomic step unless its documentation says so.
+/// No method or trait implementation allocates or takes an atomic step unless its documentation
+/// says so.
 ///
 /// ```
 /// let text = ArcStr::from_str(rt.alloc(), "foo")?;
@@ -33,8 +36,10 @@ pub struct ArcStr {
     ghost limited: { IsLimited form },
 }
 
-/// Where the bytes of a text lie: in the program, or in a block, which is counted or permanent. Each kind holds the address of the text and then its length,
-/// so code can read both without testing the kind. The counted kind comes first, since only clones and drops test for it: a test for 0 takes one branch.
+/// Where the bytes of a text lie: in the program, or in a block, which is counted or permanent.
+/// Each kind holds the address of the text and then its length, so code can read both without
+/// testing the kind. The counted kind comes first, since only clones and drops test for it: a test
+/// for 0 takes one branch.
 #[derive(Drop)]
 enum Form {
     Counted(Shared<RC_MAX, Global>),
@@ -52,8 +57,9 @@ impl Model for ArcStr {
     ghost view = { λ shared. text_view shared.form };
 }
 
-/// An owned handle without a drop, from `ArcStr::into_raw`. The checker refuses a function that loses it: only `ArcStr::from_raw` consumes it. In a contract
-/// it has the text and the kind of the `ArcStr`. It is `Send` and `Sync`, and its size is 24 bytes.
+/// An owned handle without a drop, from `ArcStr::into_raw`. The checker refuses a function that
+/// loses it: only `ArcStr::from_raw` consumes it. In a contract it has the text and the kind of the
+/// `ArcStr`. It is `Send` and `Sync`, and its size is 24 bytes.
 ///
 /// ```
 /// let text = ArcStr::from_str(rt.alloc(), "foo")?;
@@ -105,9 +111,10 @@ impl ArcStr {
 
     /// Makes a clone of the handle: another handle to the same text.
     ///
-    /// For a block, it loads the count word and, if the block is not marked static, increments the count with a compare-exchange. If the count is past its
-    /// limit, the compare-exchange marks the block static instead. It tries again if another thread changed the count word in between, and so can wait. For a
-    /// literal or a permanent block, it takes no atomic step.
+    /// For a block, it loads the count word and, if the block is not marked static, increments the
+    /// count with a compare-exchange. If the count is past its limit, the compare-exchange marks
+    /// the block static instead. It tries again if another thread changed the count word in
+    /// between, and so can wait. For a literal or a permanent block, it takes no atomic step.
     ///
     /// ```
     /// let text = ArcStr::from_str(rt.alloc(), "foo")?;
@@ -119,7 +126,8 @@ impl ArcStr {
         // Promise: The clone has the same text in the same block.
         ensures { result ≡ self.now }
     {
-        // What a clone seldom does is a call of its own, so that the usual one makes no call that can wait.
+        // What a clone seldom does is a call of its own, so that the usual one makes no call that
+        // can wait.
         let form = match &self.form {
             Form::Counted(shared) => match shared.up_once() {
                 Ok(clone) => Form::Counted(clone),
@@ -131,8 +139,10 @@ impl ArcStr {
         ArcStr { form }
     }
 
-    /// Makes another handle as `clone` does, with at most this many compare-exchanges, so the call never waits. `None` means that other threads changed the
-    /// count word each time. Nothing has changed then. The test `a_clone_that_gives_up_leaves_the_count` detects a body that always gives up.
+    /// Makes another handle as `clone` does, with at most this many compare-exchanges, so the call
+    /// never waits. `None` means that other threads changed the count word each time. Nothing has
+    /// changed then. The test `a_clone_that_gives_up_leaves_the_count` detects a body that always
+    /// gives up.
     ///
     /// ```
     /// let text = ArcStr::from_str(rt.alloc(), "foo")?;
@@ -204,8 +214,9 @@ impl ArcStr {
         self.as_str().as_bytes()
     }
 
-    /// Returns the number of handles to the text's block, including those of slices, or `None` if the block is marked static. One load of the count word
-    /// reads both. The number is from 1 to `RC_MAX + 1`. For a literal or a permanent block, returns `None` without an atomic step.
+    /// Returns the number of handles to the text's block, including those of slices, or `None` if
+    /// the block is marked static. One load of the count word reads both. The number is from 1 to
+    /// `RC_MAX + 1`. For a literal or a permanent block, returns `None` without an atomic step.
     ///
     /// ```
     /// let text = ArcStr::from_str(rt.alloc(), "foo")?;
@@ -226,8 +237,9 @@ impl ArcStr {
         }
     }
 
-    /// Returns the handle on the text's counted block, or `None` for a literal or a permanent block. It serves proofs: the handle's `look` returns the count
-    /// with the history of the block so far.
+    /// Returns the handle on the text's counted block, or `None` for a literal or a permanent
+    /// block. It serves proofs: the handle's `look` returns the count with the history of the block
+    /// so far.
     ///
     /// ```
     /// let text = ArcStr::from_str(rt.alloc(), "foo")?;
@@ -247,8 +259,9 @@ impl ArcStr {
         }
     }
 
-    /// Returns `true` if the text is never freed. That is always so for a literal or a permanent block, and takes no atomic step. For another block, one load
-    /// of the count word tests the static flag.
+    /// Returns `true` if the text is never freed. That is always so for a literal or a permanent
+    /// block, and takes no atomic step. For another block, one load of the count word tests the
+    /// static flag.
     ///
     /// ```
     /// let text = ArcStr::from_str(rt.alloc(), "foo")?;
@@ -265,8 +278,9 @@ impl ArcStr {
         }
     }
 
-    /// Leaks the text, which makes it permanent: its memory is never freed, even after every handle is dropped. For a block, one fetch-or sets the static
-    /// flag in the count word, and nothing clears it. For a literal or a permanent block, it takes no atomic step.
+    /// Leaks the text, which makes it permanent: its memory is never freed, even after every handle
+    /// is dropped. For a block, one fetch-or sets the static flag in the count word, and nothing
+    /// clears it. For a literal or a permanent block, it takes no atomic step.
     ///
     /// ```
     /// let text = ArcStr::from_str(rt.alloc(), "foo")?;
@@ -286,8 +300,9 @@ impl ArcStr {
         StaticStr::new(text)
     }
 
-    /// Returns the text as a `StaticStr` if it is static already. That is always so for a literal or a permanent block, and takes no atomic step. For another
-    /// block, one load of the count word tests the static flag.
+    /// Returns the text as a `StaticStr` if it is static already. That is always so for a literal
+    /// or a permanent block, and takes no atomic step. For another block, one load of the count
+    /// word tests the static flag.
     ///
     /// ```
     /// let text = ArcStr::from_str(rt.alloc(), "foo")?;
@@ -309,7 +324,8 @@ impl ArcStr {
         Some(StaticStr::new(text))
     }
 
-    /// Consumes the handle and returns it as a raw value. The raw value keeps the text alive and stays counted until `from_raw`.
+    /// Consumes the handle and returns it as a raw value. The raw value keeps the text alive and
+    /// stays counted until `from_raw`.
     ///
     /// ```
     /// let text = ArcStr::from_str(rt.alloc(), "foo")?;
@@ -351,7 +367,8 @@ impl ArcStr {
         }
     }
 
-    /// Returns the text of the literal as the program holds it, or `None` if the text is not a literal.
+    /// Returns the text of the literal as the program holds it, or `None` if the text is not a
+    /// literal.
     pub(crate) fn literal_text(&self) -> Option<&'static str>
         ensures exactly { IsSome result ↔ (self.now.kind ≡ literal) }
         ensures same { IfSome result (λ text. text.now ≡ self.now.text) }
@@ -362,7 +379,8 @@ impl ArcStr {
         }
     }
 
-    /// Consumes the handle. Returns the one on the text's counted block, or `None` for a literal or a permanent block.
+    /// Consumes the handle. Returns the one on the text's counted block, or `None` for a literal or
+    /// a permanent block.
     pub(crate) fn into_counted(self) -> Option<Shared<RC_MAX, Global>>
         ensures block { IfSome result (λ handle. self.kind ≡ block handle.block) }
         ensures none { IsNone result ↔ IsStatic self.kind }
@@ -374,8 +392,19 @@ impl ArcStr {
         }
     }
 
-    pub(crate) fn from_shared(shared: Shared<RC_MAX, Global>) -> ArcStr
+    /// Converts a handle on a block to an `ArcStr`, in that block. It takes no atomic step, and
+    /// does not allocate. It serves proofs: of a handle that was just made, a contract says that it
+    /// is the first on its block, so two texts made of such handles lie in two blocks.
+    ///
+    /// ```
+    /// use arcstr::block::Shared;
+    /// let text = ArcStr::from_shared(Shared::from_text(rt.alloc(), "foo")?);
+    /// assert_eq!(rt; text.as_str(), "foo");
+    /// ```
+    pub fn from_shared(shared: Shared<RC_MAX, Global>) -> ArcStr
+        // Each call that makes a `Shared` promises this.
         requires { shared.limit ≡ RC_MAX }
+        // Promise: The text lies in the block of the handle.
         ensures { result ≡ counted_of shared.block shared.text }
     {
         ArcStr {
@@ -404,17 +433,19 @@ impl Default for ArcStr {
     }
 }
 
-/// The trait `Clone` serves `#[derive(Clone)]`, `Vec<ArcStr>::clone` and generic code. Code that has an `rt` calls the inherent `clone`, which always
-/// succeeds.
+/// The trait `Clone` serves `#[derive(Clone)]`, `Vec<ArcStr>::clone` and generic code. Code that
+/// has an `rt` calls the inherent `clone`, which always succeeds.
 impl Clone for ArcStr {
     ghost is_clone = { λ text copy. copy ≡ text };
 
     ghost is_infallible = { λ text. IsStatic text.kind };
 
-    /// Makes another handle as `try_clone` does, with at most 1,000 tries. Here `AllocError` means that other threads changed the count word each time.
+    /// Makes another handle as `try_clone` does, with at most 1,000 tries. Here `AllocError` means
+    /// that other threads changed the count word each time.
     fn clone(&self) -> Result<ArcStr, AllocError>
         // Promise: It never fails for a static text.
-        ensures cases { MatchResult result (λ copy. copy ≡ self.now) (λ _. ¬ (IsStatic self.now.kind)) }
+        ensures cases { MatchResult result (λ copy. copy ≡ self.now)
+            (λ _. ¬ (IsStatic self.now.kind)) }
     {
         self.try_clone(TRIES).ok_or(AllocError)
     }

@@ -143,9 +143,9 @@ impl ArcStrBuilder {
         }
     }
 
-    /// Makes room for at least `additional` bytes more: after it, pushes of so many bytes cannot
-    /// fail. If there is no room yet, moves the text to a block of at least twice the capacity, by
-    /// one allocation.
+    /// Makes room for at least `additional` bytes more. Pushes of at most `additional` bytes in all
+    /// then cannot fail. If there is no room yet, moves the text to a block of at least twice the
+    /// capacity, by one allocation.
     ///
     /// Errors, in this order: `Length` if the text would have `2^63 - 25` bytes or more; `Memory`
     /// if the allocation fails. The builder is unchanged then.

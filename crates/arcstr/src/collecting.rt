@@ -1,5 +1,5 @@
-//! Texts collected from the items of an iterator, and `String`s from texts. The error is the traits' `AllocError`, also for a text of `2^63 - 25` bytes or
-//! more.
+//! Texts collected from the items of an iterator, and `String`s from texts. The error is the
+//! traits' `AllocError`, also for a text of `2^63 - 25` bytes or more.
 ghost use Rattle.std.specs.Prelude.{◌≡◌, ◌++◌, IfOk, encode_utf8_all, flat_map, string_bytes};
 ghost use Rattle.std.specs.Iterator.{ExtendsWithItems, IsFinite};
 ghost use Rattle.arcstr.specs.Substr.{text_of};
@@ -17,7 +17,8 @@ impl FromIterator<char> for ArcStr {
 
     ghost from_iter_gives = { λ characters made. IsMadeOf (encode_utf8_all characters) made };
 
-    /// Collects the characters into a `String`, which may be allocated anew as it grows, and copies that into a block, as `ArcStr::from_str` does.
+    /// Collects the characters into a `String`, which may be allocated anew as it grows, and copies
+    /// that into a block, as `ArcStr::from_str` does.
     ///
     /// ```
     /// let text: ArcStr = "foo".chars().rev().collect(rt.alloc())?;
@@ -50,8 +51,8 @@ impl FromIterator<ArcStr> for ArcStr {
 
     ghost from_iter_gives = { λ texts made. IsMadeOf (flat_map (λ shared. shared.text) texts) made };
 
-    /// Joins the texts into one, as the characters are collected. Drops each handle once its text is copied. Where the texts lie in a list, `ArcStr::join`
-    /// makes one allocation.
+    /// Joins the texts into one, as the characters are collected. Drops each handle once its text
+    /// is copied. Where the texts lie in a list, `ArcStr::join` makes one allocation.
     fn from_iter<I: IntoIterator<Item = ArcStr>>(
         alloc: Global,
         items: I,
@@ -146,7 +147,8 @@ fn append<S: AsStr + Drop, I: IntoIterator<Item = S>, A: Allocator>(
     to: &mut String<A>,
     items: I,
 ) -> Result<(), AllocError>
-    requires { (rest : I.IntoIter) → I.into_iter_gives items rest → I.IntoIter.can_next rest × IsFinite (I.IntoIter.remaining rest) }
+    requires { (rest : I.IntoIter) → I.into_iter_gives items rest
+        → I.IntoIter.can_next rest × IsFinite (I.IntoIter.remaining rest) }
     ensures { ExtendsWithItems I.into_iter_gives I.IntoIter.next_gives
         (λ old texts new. string_bytes new ≡ string_bytes old ++ flat_map S.text texts) items to.old to.new result }
 {

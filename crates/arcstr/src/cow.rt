@@ -26,8 +26,9 @@ impl ArcStr {
         CowStr::Borrowed(self.as_str())
     }
 
-    /// Converts the handle into a text that does not depend on it. Borrows the text of a literal, and copies any other text with one allocation, or none if
-    /// it is empty. Drops the handle, and takes only the atomic steps of that drop.
+    /// Converts the handle into a text that does not depend on it. Borrows the text of a literal,
+    /// and copies any other text with one allocation, or none if it is empty. Drops the handle, and
+    /// takes only the atomic steps of that drop.
     ///
     /// Returns the `ArcStr` itself if the allocation fails, and only then.
     ///
@@ -65,7 +66,8 @@ impl Substr {
         CowStr::Borrowed(self.as_str())
     }
 
-    /// As `ArcStr::into_cow`, for the slice's own text. Returns the `Substr` itself if the allocation fails, and only then.
+    /// As `ArcStr::into_cow`, for the slice's own text. Returns the `Substr` itself if the
+    /// allocation fails, and only then.
     pub fn into_cow(self, alloc: Global) -> Result<CowStr<'static>, Substr>
         ensures text { IfOk result (λ cow. cow_str_bytes cow ≡ text_of self) }
         ensures borrowed { IfOk result (λ cow. IsBorrowedStr cow ↔ (self.parent.kind ≡ literal)) }
@@ -81,7 +83,8 @@ impl Substr {
         }
     }
 
-    /// Returns the slice's own text as the program holds it, or `None` if the parent is not a literal.
+    /// Returns the slice's own text as the program holds it, or `None` if the parent is not a
+    /// literal.
     fn literal_text(&self) -> Option<&'static str>
         ensures exactly { IsSome result ↔ (self.now.parent.kind ≡ literal) }
         ensures same { IfSome result (λ text. text.now ≡ text_of self.now) }

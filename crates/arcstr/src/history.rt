@@ -1,15 +1,16 @@
-//! Answers that are in order: each call has seen all that its caller had seen of the block's history, and more.
+//! Answers that are in order: each call has seen all that its caller had seen of the block's
+//! history, and more.
 //!
-//! A `Seen` has no bytes. `None` stands for nothing seen, as of a literal or a permanent block, on which no call here takes an atomic step. No call allocates
-//! or waits.
+//! A `Seen` has no bytes. `None` stands for nothing seen, as of a literal or a permanent block, on
+//! which no call here takes an atomic step. No call allocates, and only `clone_after` waits.
 ghost use Rattle.std.specs.Prelude.{◌≡◌, ◌↔◌, ◌+◌, ◌≤◌, IfSome, IsNone, IsTrue, None, length};
 ghost use Rattle.arcstr_count.specs.Model.{living_after};
 ghost use Rattle.arcstr_block.specs.Book.{IsLater};
-ghost use Rattle.arcstr_block.specs.Handle.{IsMarkedIn, kept_of};
+ghost use Rattle.arcstr_block.specs.Handle.{IsMarkedIn, SawClone, kept_of};
 ghost use Rattle.arcstr_block.specs.Ending.{EndedAs};
 ghost use Rattle.arcstr_block.specs.declared.ending.End.TheVariants.{Ended};
 ghost use Rattle.arcstr.specs.TextView.{IsStatic, leaked};
-ghost use Rattle.arcstr.specs.History.{IsSeenEnd, IsSeenOf, IsSeenStatic, SeesAfter};
+ghost use Rattle.arcstr.specs.History.{IsSeenBirth, IsSeenEnd, IsSeenOf, IsSeenStatic, SeesAfter};
 
 use crate::arc_str::ArcStr;
 use crate::static_str::StaticStr;
@@ -17,9 +18,11 @@ use crate::substr::Substr;
 use arcstr_block::{End, Fixed, Seen, Shared};
 use arcstr_count::RC_MAX;
 use std::alloc::Global;
+use std::sync::Wait;
 
 impl ArcStr {
-    /// As `ArcStr::is_static`, after what the caller has seen of the block. Returns the answer and what this call has seen.
+    /// As `ArcStr::is_static`, after what the caller has seen of the block. Returns the answer and
+    /// what this call has seen.
     ///
     /// ```
     /// let text = ArcStr::from_str(rt.alloc(), "foo")?;
@@ -39,7 +42,8 @@ impl ArcStr {
         (count.is_none(), seen)
     }
 
-    /// As `ArcStr::strong_count`, after what the caller has seen of the block. Returns the answer and what this call has seen.
+    /// As `ArcStr::strong_count`, after what the caller has seen of the block. Returns the answer
+    /// and what this call has seen.
     ///
     /// ```
     /// let text = ArcStr::from_str(rt.alloc(), "foo")?;
@@ -53,7 +57,9 @@ impl ArcStr {
         // Promise: There is no count exactly if the text is static in the history seen.
         ensures exact { IsNone result.0 ↔ IsSeenStatic this.now.kind result.1 }
         // Promise: A count is the number of handles that live in the history seen.
-        ensures living { IfSome result.0 (λ count. IfSome result.1 (λ seen. count ≡ length (living_after RC_MAX seen.history 0))) }
+        ensures living { IfSome result.0
+            (λ count. IfSome result.1
+            (λ seen. count ≡ length (living_after RC_MAX seen.history 0))) }
         // Promise: What was seen static stays static.
         ensures stays { IsSeenStatic this.now.kind before.now → IsNone result.0 }
     {
@@ -64,8 +70,8 @@ impl ArcStr {
         (count.map(|count| count as usize), Some(seen))
     }
 
-    /// As `ArcStr::leak`, after what the caller has seen of the block. Returns the permanent text and what this call has seen, in which the block is marked
-    /// static.
+    /// As `ArcStr::leak`, after what the caller has seen of the block. Returns the permanent text
+    /// and what this call has seen, in which the block is marked static.
     ///
     /// ```
     /// let text = ArcStr::from_str(rt.alloc(), "foo")?;
@@ -88,9 +94,33 @@ impl ArcStr {
         (StaticStr::new(ArcStr::from_fixed(fixed)), Some(seen))
     }
 
-    /// Drops the handle. Returns how it ended, and what the drop has seen: `End::Freed` means that it was the last handle and the memory of the block is
-    /// freed, `End::Left` that the count was decremented and the block stays, and `End::Ended` that the block is marked static, or that the text was a literal
-    /// or permanent. The implicit drop runs the same code.
+    /// As `ArcStr::clone`, after what the caller has seen of the block. Returns the clone and what
+    /// this call has seen, which ends in the step of the clone. It can wait, as `clone`.
+    ///
+    /// ```
+    /// let text = ArcStr::from_str(rt.alloc(), "foo")?;
+    /// let (other, seen) = text.clone_after(&rt, &None);
+    /// assert_eq!(rt; ArcStr::strong_count_after(&other, &seen).0, Some(2));
+    /// ```
+    pub fn clone_after(&self, rt: &impl Wait, before: &Option<Seen>) -> (ArcStr, Option<Seen>)
+        requires before { IsSeenOf self.now.kind before.now }
+        // Promise: The clone has the same text in the same block.
+        ensures same { result.0 ≡ self.now }
+        ensures seen { SeesAfter self.now.kind before.now result.1 }
+        // Promise: The history seen ends in a clone, by which a handle was born.
+        ensures born { IsSeenBirth result.1 }
+    {
+        let Some(shared) = self.counted() else {
+            return (self.clone(rt), None);
+        };
+        let (clone, seen) = up(rt, shared, before);
+        (ArcStr::from_shared(clone), Some(seen))
+    }
+
+    /// Drops the handle. Returns how it ended, and what the drop has seen: `End::Freed` means that
+    /// it was the last handle and the memory of the block is freed, `End::Left` that the count was
+    /// decremented and the block stays, and `End::Ended` that the block is marked static, or that
+    /// the text was a literal or permanent. The implicit drop runs the same code.
     ///
     /// ```
     /// let text = ArcStr::from_str(rt.alloc(), "foo")?;
@@ -161,12 +191,33 @@ fn look(shared: &Shared<RC_MAX, Global>, before: &Option<Seen>) -> (Option<u64>,
     ensures later { IfSome before.now (λ old. IsLater old.history result.1.history) }
     ensures none { IsNone result.0 ↔ IsMarkedIn RC_MAX result.1.history }
     ensures stays { IfSome before.now (λ old. IsMarkedIn RC_MAX old.history → IsNone result.0) }
-    ensures living { IfSome result.0 (λ count. count ≡ length (living_after RC_MAX result.1.history 0)) }
+    ensures living { IfSome result.0
+        (λ count. count ≡ length (living_after RC_MAX result.1.history 0)) }
     ensures count { IfSome result.0 (λ count. count ≤ RC_MAX + 1) }
 {
     match before {
         Some(before) => shared.look_after(before),
         None => shared.look(),
+    }
+}
+
+/// A clone of a handle on a block, after what the caller has seen of it.
+fn up(
+    rt: &impl Wait,
+    shared: &Shared<RC_MAX, Global>,
+    before: &Option<Seen>,
+) -> (Shared<RC_MAX, Global>, Seen)
+    requires before { IfSome before.now (λ old. old.block ≡ shared.now.block) }
+    ensures text { result.0.text ≡ shared.now.text }
+    ensures block { result.0.block ≡ shared.now.block }
+    ensures limit { result.0.limit ≡ RC_MAX }
+    ensures seen { result.1.block ≡ shared.now.block }
+    ensures later { IfSome before.now (λ old. IsLater old.history result.1.history) }
+    ensures born { SawClone RC_MAX result.1.history shared.now.seat result.0.seat }
+{
+    match before {
+        Some(before) => shared.up_after(rt, before),
+        None => shared.up_after(rt, &shared.seen()),
     }
 }
 

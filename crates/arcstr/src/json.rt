@@ -15,8 +15,9 @@ use std::error::Error;
 use std::io::ErrorKind;
 use std::{fmt, io};
 
-/// Why a JSON value cannot be read as a text. The variants are in the order of the tests. It can be copied, sent to a thread and shared between threads. Its
-/// size is one byte, and its drop does nothing.
+/// Why a JSON value cannot be read as a text. The variants are in the order of the tests. It can be
+/// copied, sent to a thread and shared between threads. Its size is one byte, and its drop does
+/// nothing.
 ///
 /// ```
 /// use serde_json::Value;
@@ -90,7 +91,8 @@ impl<T: Drop> From<AllocFailed<T>> for JsonFault {
 
     ghost from_gives = { λ _ fault. fault ≡ Memory };
 
-    /// Returns `Memory`, whatever allocation failed. Allocates nothing. Drops the value that was not stored.
+    /// Returns `Memory`, whatever allocation failed. Allocates nothing. Drops the value that was
+    /// not stored.
     fn from(refused: AllocFailed<T>) -> JsonFault {
         JsonFault::from(AllocError::from(refused))
     }
@@ -103,8 +105,8 @@ impl From<JsonFault> for io::Error {
 
     ghost from_gives = { λ fault error. error_kind error ≡ json_fault_kind fault };
 
-    /// Returns an error of kind `InvalidData` for a value that is not a string, `InvalidInput` for a text that is too long, and `OutOfMemory`. Allocates
-    /// nothing.
+    /// Returns an error of kind `InvalidData` for a value that is not a string, `InvalidInput` for
+    /// a text that is too long, and `OutOfMemory`. Allocates nothing.
     ///
     /// ```
     /// use std::io;
@@ -121,7 +123,8 @@ impl From<JsonFault> for io::Error {
 }
 
 impl ArcStr {
-    /// Copies the text into a JSON string. Makes one allocation, or none if the text is empty. Fails only if the allocation fails.
+    /// Copies the text into a JSON string. Makes one allocation, or none if the text is empty.
+    /// Fails only if the allocation fails.
     ///
     /// ```
     /// let value = ArcStr::from_static("a\"é").to_json(rt.alloc())?;
@@ -134,9 +137,11 @@ impl ArcStr {
         Value::try_from_str(alloc, self.as_str())
     }
 
-    /// Copies the text of a JSON string into an `ArcStr`. Makes one allocation, or none if the text is empty.
+    /// Copies the text of a JSON string into an `ArcStr`. Makes one allocation, or none if the text
+    /// is empty.
     ///
-    /// Errors, in this order: `NotText` if the value is not a string; `Length` if the text has `2^63 - 25` bytes or more; `Memory` if the allocation fails.
+    /// Errors, in this order: `NotText` if the value is not a string; `Length` if the text has
+    /// `2^63 - 25` bytes or more; `Memory` if the allocation fails.
     ///
     /// ```
     /// use serde_json::Value;

@@ -1,5 +1,7 @@
-//! Texts as keys of the maps and sets of std and `indexmap`. A key of either type can be looked up by a `&str` and by a reference to the other type:
-//! `map.get("foo")`, `set.contains("foo")`, `map["foo"]`, `set.get_index_of("foo")`, `map.get(&slice)`. A look-up allocates nothing and takes no atomic step.
+//! Texts as keys of the maps and sets of std and `indexmap`. A key of either type can be looked up
+//! by a `&str` and by a reference to the other type: `map.get("foo")`, `set.contains("foo")`,
+//! `map["foo"]`, `set.get_index_of("foo")`, `map.get(&slice)`. A look-up allocates nothing and
+//! takes no atomic step.
 ghost use Rattle.std.specs.Prelude.{◌≡◌, ◌↔◌, IsTrue, bytes_eq};
 ghost use Rattle.std.proofs.Common.{ap};
 ghost use Rattle.std.specs.BTreeMap.Comparable.{le_lt_trans};

@@ -1,4 +1,5 @@
-//! Reference-counted immutable texts that threads share: literals, counted blocks and permanent blocks.
+//! Reference-counted immutable texts that threads share: literals, counted blocks and permanent
+//! blocks.
 #![tactic(auto)]
 
 pub use arc_str::{ArcStr, RawArcStr};
@@ -10,6 +11,7 @@ pub use arcstr_range::view::StrView;
 pub use arcstr_range::{range, view};
 pub use builder::ArcStrBuilder;
 pub use json::JsonFault;
+pub use reading::ReadFault;
 pub use static_str::StaticStr;
 pub use substr::Substr;
 
@@ -26,6 +28,7 @@ mod order;
 mod parts;
 mod pattern;
 mod printing;
+mod reading;
 mod serde_impls;
 mod slicing;
 mod splitting;

@@ -14,11 +14,12 @@ macro_rules! literal {
     };
 }
 
-/// Creates an `ArcStr` from a format string, as `format!` creates a `String`. The arguments are the allocator, a semicolon, and then those of `format!`. The
-/// text is first formatted into a buffer and then copied into its block; an empty result needs no block.
+/// Creates an `ArcStr` from a format string, as `format!` creates a `String`. The arguments are the
+/// allocator, a semicolon, and then those of `format!`. The text is first formatted into a buffer
+/// and then copied into its block; an empty result needs no block.
 ///
-/// Errors, in this order: `Memory` if the buffer cannot be allocated; `Length` if the text has `2^63 - 25` bytes or more; `Memory` if the block cannot be
-/// allocated.
+/// Errors, in this order: `Memory` if the buffer cannot be allocated; `Length` if the text has
+/// `2^63 - 25` bytes or more; `Memory` if the block cannot be allocated.
 ///
 /// ```
 /// let text = format_arcstr!(rt.alloc(); "cool {}", 123)?;
@@ -31,7 +32,7 @@ macro_rules! format_arcstr {
         let alloc = $alloc;
         match format!(in alloc; $($arguments)+) {
             Ok(text) => $crate::ArcStr::from_str(alloc, text.as_str()),
-            Err(_) => Err($crate::TextFault::Memory),
+            Err(std::alloc::AllocError) => Err($crate::TextFault::Memory),
         }
     }};
 }

@@ -1,4 +1,5 @@
-//! Calls that make a text. Each makes one allocation, or none if the text is empty: that is then the empty literal. None takes an atomic step.
+//! Calls that make a text. Each makes one allocation, or none if the text is empty: that is then
+//! the empty literal. None takes an atomic step.
 ghost use Rattle.std.specs.Prelude.{◌≡◌, ◌↔◌, [], length, replicate, string_bytes, Ok, IsUtf8, OnOk, IfOk, IfErr, IsErrOf};
 ghost use Rattle.std.specs.Fn.{FnOnceReturnsAtMut, FnOnceTakesAtMut};
 ghost use Rattle.std.specs.Str.Lossy.{utf8_valid_len};
@@ -16,7 +17,8 @@ use std::convert::AsStr;
 impl ArcStr {
     /// Copies a `&str` into a new `ArcStr`.
     ///
-    /// Errors, in this order: `Length` if the text has `2^63 - 25` bytes or more; `Memory` if the allocation fails.
+    /// Errors, in this order: `Length` if the text has `2^63 - 25` bytes or more; `Memory` if the
+    /// allocation fails.
     ///
     /// ```
     /// let text = ArcStr::from_str(rt.alloc(), "foo")?;
@@ -24,7 +26,8 @@ impl ArcStr {
     /// assert_eq!(rt; ArcStr::strong_count(&text), Some(1));
     /// ```
     pub fn from_str(alloc: Global, text: &str) -> Result<ArcStr, TextFault>
-        // Promise: An empty text is a literal. The call fails with `Length` exactly if the text is too long.
+        // Promise: An empty text is a literal. The call fails with `Length` exactly if the text is
+        // too long.
         ensures { AnswersCopy text.now result }
     {
         if text.is_empty() {
@@ -47,8 +50,9 @@ impl ArcStr {
 
     /// Converts a slice of bytes to an `ArcStr`, by a copy.
     ///
-    /// Errors, in this order: `Utf8` if the bytes are not UTF-8, with the length in bytes of their longest prefix that is; `Length` if there are `2^63 - 25`
-    /// bytes or more; `Memory` if the allocation fails.
+    /// Errors, in this order: `Utf8` if the bytes are not UTF-8, with the length in bytes of their
+    /// longest prefix that is; `Length` if there are `2^63 - 25` bytes or more; `Memory` if the
+    /// allocation fails.
     ///
     /// ```
     /// let text = ArcStr::from_utf8(rt.alloc(), b"a\xc3\xa9")?;
@@ -60,11 +64,14 @@ impl ArcStr {
         ensures made { IfOk result (IsMadeOf bytes.now) }
         // Promise: Without bytes the text is the empty literal.
         ensures empty { bytes.now ≡ [] → result ≡ Ok (literal_of []) }
-        // Promise: Bytes that are not UTF-8 give `Utf8` with the length of their longest prefix that is.
+        // Promise: Bytes that are not UTF-8 give `Utf8` with the length of their longest prefix
+        // that is.
         ensures text { OnOk result (IsUtf8 bytes.now) }
-        ensures no_text { ¬ (IsUtf8 bytes.now) → IsErrOf result (TextFault.Utf8 (utf8_valid_len bytes.now)) }
+        ensures no_text { ¬ (IsUtf8 bytes.now)
+            → IsErrOf result (TextFault.Utf8 (utf8_valid_len bytes.now)) }
         // Promise: Bytes that are UTF-8 give `Length` exactly if they are too many.
-        ensures too_long { IsUtf8 bytes.now → (IsErrOf result TextFault.Length ↔ IsTooLong (length bytes.now)) }
+        ensures too_long { IsUtf8 bytes.now
+            → (IsErrOf result TextFault.Length ↔ IsTooLong (length bytes.now)) }
         ensures refused { IfErr result (IsFaultOfCopying bytes.now) }
     {
         match str::from_utf8(bytes) {
@@ -73,14 +80,17 @@ impl ArcStr {
         }
     }
 
-    /// Creates a text of `n` bytes, which are zero at first and which `fill` writes. It allocates before it calls the closure. If `n` is 0, it calls
-    /// the closure on an empty slice. The caller must ensure that the closure can be called on `n` zero bytes, unless `n` is too long.
+    /// Creates a text of `n` bytes, which are zero at first and which `fill` writes. It allocates
+    /// before it calls the closure. If `n` is 0, it calls the closure on an empty slice. The caller
+    /// must ensure that the closure can be called on `n` zero bytes, unless `n` is too long.
     ///
-    /// Errors, in this order: `Length` if `n` is `2^63 - 25` or more; `Memory` if the allocation fails; `Utf8` if the bytes are not UTF-8 after the call,
-    /// with the length in bytes of their longest prefix that is. The closure is not called after `Length` or `Memory`.
+    /// Errors, in this order: `Length` if `n` is `2^63 - 25` or more; `Memory` if the allocation
+    /// fails; `Utf8` if the bytes are not UTF-8 after the call, with the length in bytes of their
+    /// longest prefix that is. The closure is not called after `Length` or `Memory`.
     ///
-    /// The `requires` clause allows a call of the closure only if the length is not too long. The contract does not say that the closure is not called if the
-    /// allocation fails: the test `a_closure_is_not_run_without_memory` checks that.
+    /// The `requires` clause allows a call of the closure only if the length is not too long. The
+    /// contract does not say that the closure is not called if the allocation fails: the test
+    /// `a_closure_is_not_run_without_memory` checks that.
     ///
     /// ```
     /// let text = ArcStr::init_with(rt.alloc(), 3, |bytes| bytes.copy_from_slice(b"foo"))?;
@@ -94,15 +104,20 @@ impl ArcStr {
         fill: F,
     ) -> Result<ArcStr, TextFault>
         requires callable { (¬ IsTooLong n) → FnOnceTakesAtMut F.FnOnce fill (replicate n 0) }
-        ensures left { IfOk result (λ made. FnOnceReturnsAtMut F.FnOnce fill (replicate n 0) tt made.text) }
-        // Promise: The text is UTF-8 and has the length that was asked for. An empty one is a literal.
+        ensures left { IfOk result
+            (λ made. FnOnceReturnsAtMut F.FnOnce fill (replicate n 0) tt made.text) }
+        // Promise: The text is UTF-8 and has the length that was asked for. An empty one is a
+        // literal.
         ensures text { IfOk result (λ made. IsUtf8 made.text) }
         ensures as_long { IfOk result (λ made. length made.text ≡ n) }
         ensures kind { IfOk result (λ made. IsMadeOf made.text made) }
         ensures empty { n ≡ 0 → result ≡ Ok (literal_of []) }
-        // Promise: The call fails with `Length` exactly if `n` is too long, and with `Utf8` only if the closure leaves no UTF-8.
+        // Promise: The call fails with `Length` exactly if `n` is too long, and with `Utf8` only if
+        // the closure leaves no UTF-8.
         ensures too_long { IsErrOf result TextFault.Length ↔ IsTooLong n }
-        ensures refused { IfErr result (IsFaultOfFilling (λ bytes. FnOnceReturnsAtMut F.FnOnce fill (replicate n 0) tt bytes) n) }
+        ensures refused { IfErr result
+            (IsFaultOfFilling (λ bytes. FnOnceReturnsAtMut F.FnOnce fill
+            (replicate n 0) tt bytes) n) }
     {
         if n == 0 {
             fill_slice(&mut [], fill);
@@ -114,9 +129,11 @@ impl ArcStr {
         }
     }
 
-    /// Creates a new text by repeating a text `n` times. If the text is empty or `n` is 0, it cannot fail.
+    /// Creates a new text by repeating a text `n` times. If the text is empty or `n` is 0, it
+    /// cannot fail.
     ///
-    /// Otherwise, errors in this order: `Length` if all copies have `2^63 - 25` bytes or more; `Memory` if the allocation fails.
+    /// Otherwise, errors in this order: `Length` if all copies have `2^63 - 25` bytes or more;
+    /// `Memory` if the allocation fails.
     ///
     /// ```
     /// let text = ArcStr::try_repeat(rt.alloc(), "ab", 3)?;
@@ -126,7 +143,8 @@ impl ArcStr {
     /// ```
     #[tactic(auto, using(crate::proofs::Texts::copies_of_nothing))]
     pub fn try_repeat(alloc: Global, text: &str, n: usize) -> Result<ArcStr, TextFault>
-        // Promise: An empty text is a literal. The call fails with `Length` exactly if the text is too long.
+        // Promise: An empty text is a literal. The call fails with `Length` exactly if the text is
+        // too long.
         ensures { AnswersCopies n text.now result }
     {
         if n == 0 || text.is_empty() {
@@ -150,10 +168,12 @@ impl ArcStr {
         ArcStr::try_repeat(alloc, text, n)
     }
 
-    /// Joins the texts in order, with the separator between them, as std's `[S]::join` does. `S` is `&str`, `String`, `ArcStr`, `Substr` or another type with
-    /// `AsStr`. The toolchain's borrow checker does not cover a list of `&ArcStr`: collect the `as_str` of each instead.
+    /// Joins the texts in order, with the separator between them, as std's `[S]::join` does. `S` is
+    /// `&str`, `String`, `ArcStr`, `Substr` or another type with `AsStr`. The toolchain's borrow
+    /// checker does not cover a list of `&ArcStr`: collect the `as_str` of each instead.
     ///
-    /// Errors, in this order: `Length` if the joined text has `2^63 - 25` bytes or more; `Memory` if the allocation fails.
+    /// Errors, in this order: `Length` if the joined text has `2^63 - 25` bytes or more; `Memory`
+    /// if the allocation fails.
     ///
     /// ```
     /// let path = ArcStr::join(rt.alloc(), &["usr", "lib", "é"], "/")?;
@@ -162,7 +182,8 @@ impl ArcStr {
     /// assert_eq!(rt; twice.as_str(), "usr/lib/éusr/lib/é");
     /// ```
     pub fn join<S: AsStr>(alloc: Global, texts: &[S], separator: &str) -> Result<ArcStr, TextFault>
-        // Promise: An empty text is a literal. The call fails with `Length` exactly if the text is too long.
+        // Promise: An empty text is a literal. The call fails with `Length` exactly if the text is
+        // too long.
         ensures { AnswersCopy (join_by S.text separator.now texts.now) result }
     {
         match joined_len(texts, separator) {
@@ -184,8 +205,8 @@ impl Substr {
         Ok(Substr::full(ArcStr::from_str(alloc, text)?))
     }
 
-    /// Copies the slice's own text into a new `ArcStr`, as `ArcStr::from_str` does. The copy does not keep the parent alive: after a copy of a short slice,
-    /// the long parent can be freed.
+    /// Copies the slice's own text into a new `ArcStr`, as `ArcStr::from_str` does. The copy does
+    /// not keep the parent alive: after a copy of a short slice, the long parent can be freed.
     ///
     /// ```
     /// let slice = literal!("foobar").substr(&rt, 3..)?;
@@ -194,7 +215,8 @@ impl Substr {
     /// assert_eq!(rt; ArcStr::strong_count(&text), Some(1));
     /// ```
     pub fn to_arc_str(&self, alloc: Global) -> Result<ArcStr, TextFault>
-        // Promise: An empty text is a literal. The call fails with `Length` exactly if the text is too long.
+        // Promise: An empty text is a literal. The call fails with `Length` exactly if the text is
+        // too long.
         ensures { AnswersCopy (text_of self.now) result }
     {
         ArcStr::from_str(alloc, self.as_str())
@@ -206,7 +228,8 @@ impl TryFrom<String> for ArcStr {
 
     ghost try_from_gives = { λ text answer. AnswersCopy (string_bytes text) answer };
 
-    /// Copies the string into a new `ArcStr` by its own allocator, as `ArcStr::from_str` does, and drops the string.
+    /// Copies the string into a new `ArcStr` by its own allocator, as `ArcStr::from_str` does, and
+    /// drops the string.
     ///
     /// ```
     /// let string = String::from_str(rt.alloc(), "foo")?;
@@ -223,7 +246,8 @@ impl TryFrom<Vec<u8>> for ArcStr {
 
     ghost try_from_gives = { λ bytes answer. AnswersUtf8 bytes.items (IsMadeOf bytes.items) (literal_of []) answer };
 
-    /// Converts the bytes to an `ArcStr` by their own allocator, as `ArcStr::from_utf8` does, and drops the bytes.
+    /// Converts the bytes to an `ArcStr` by their own allocator, as `ArcStr::from_utf8` does, and
+    /// drops the bytes.
     ///
     /// ```
     /// let bytes = vec![in rt.alloc(); b'a', 255]?;

@@ -71,8 +71,8 @@ impl Ord for ArcStr {
 
     ghost matches_eq = { λ one other. texts_ties one.text other.text };
 
-    /// Compares the two texts byte by byte, whatever their kinds: a proper prefix of a text comes before it, and otherwise the first bytes that differ
-    /// decide.
+    /// Compares the two texts byte by byte, whatever their kinds: a proper prefix of a text comes
+    /// before it, and otherwise the first bytes that differ decide.
     #[tactic(auto, using(crate::proofs::Orders::text_orders))]
     fn cmp(&self, other: &ArcStr) -> Ordering
         ensures value { result ≡ slice_cmp nat_cmp self.now.text other.now.text }
@@ -107,7 +107,8 @@ impl PartialEq for Substr {
 
     ghost laws = { on_per text_of (partial_equiv_from_equiv nat_list_eq_equiv) };
 
-    /// Tests whether the own texts of the two slices are equal, byte by byte, whatever their parents and ranges.
+    /// Tests whether the own texts of the two slices are equal, byte by byte, whatever their
+    /// parents and ranges.
     fn eq(&self, other: &Substr) -> bool
         ensures value { result ≡ bytes_eq (text_of self.now) (text_of other.now) }
         ensures same { IsTrue result ↔ (text_of self.now ≡ text_of other.now) }

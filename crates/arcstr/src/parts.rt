@@ -1,8 +1,9 @@
 //! Lists of slices: the parts of a text between the matches of a pattern, its lines and its words,
 //! as the iterators of `str` give them.
 //!
-//! Each call allocates the list, and clones the handle once for each slice, so it can wait. A call that fails drops the slices that it made. Each slice keeps
-//! the text alive, even if it is empty. The slices of a `Substr` have its parent.
+//! Each call allocates the list, and clones the handle once for each slice, so it can wait. A call
+//! that fails drops the slices that it made. Each slice keeps the text alive, even if it is empty.
+//! The slices of a `Substr` have its parent.
 ghost use Rattle.std.specs.Prelude.{◌≡◌, ◌≢◌, ◌==◌, ℕ, All, List, [], length, map, IfOk, IfSome, IsErr};
 ghost use Rattle.std.specs.Char.{is_whitespace};
 ghost use Rattle.std.specs.List.{filter, join_by};
@@ -72,8 +73,8 @@ impl ArcStr {
         Ok(slices)
     }
 
-    /// Returns the lines of this text as slices, in order, as `str::lines` does. A line end, `\n` or `\r\n`, is part of no line. Fails only if an allocation
-    /// fails.
+    /// Returns the lines of this text as slices, in order, as `str::lines` does. A line end, `\n`
+    /// or `\r\n`, is part of no line. Fails only if an allocation fails.
     ///
     /// ```
     /// let text = ArcStr::from_str(rt.alloc(), "a\r\n\nb\n")?;
@@ -83,7 +84,9 @@ impl ArcStr {
     /// ```
     #[tactic(auto, using(crate::proofs::SliceLists::slice_lists))]
     pub fn substr_lines(&self, rt: &impl Wait, alloc: Global) -> Result<Vec<Substr>, AllocError>
-        ensures slices { IfOk result (λ slices. slices.items ≡ slices_of (slice_of self.now) (lines_of (view_at self.now.text 0))) }
+        ensures slices { IfOk result
+            (λ slices. slices.items
+            ≡ slices_of (slice_of self.now) (lines_of (view_at self.now.text 0))) }
         // Promise: Their texts are those of the lines of the text.
         ensures texts { IfOk result (λ slices. map text_of slices.items ≡ lines self.now.text) }
         // Promise: They lie inside the text.
@@ -99,7 +102,8 @@ impl ArcStr {
         Ok(slices)
     }
 
-    /// Returns the words of this text as slices, in order, as `str::split_whitespace` does. None is empty. Fails only if an allocation fails.
+    /// Returns the words of this text as slices, in order, as `str::split_whitespace` does. None is
+    /// empty. Fails only if an allocation fails.
     ///
     /// ```
     /// let text = ArcStr::from_str(rt.alloc(), " two  words ")?;
@@ -113,14 +117,19 @@ impl ArcStr {
         rt: &impl Wait,
         alloc: Global,
     ) -> Result<Vec<Substr>, AllocError>
-        ensures slices { IfOk result (λ slices. slices.items ≡ slices_of (slice_of self.now) (words_of (view_at self.now.text 0))) }
+        ensures slices { IfOk result
+            (λ slices. slices.items
+            ≡ slices_of (slice_of self.now) (words_of (view_at self.now.text 0))) }
         // Promise: Their texts are those of the words of the text.
-        ensures texts { IfOk result (λ slices. map text_of slices.items ≡ filter is_not_empty (texts_between is_whitespace self.now.text)) }
+        ensures texts { IfOk result
+            (λ slices. map text_of slices.items
+            ≡ filter is_not_empty (texts_between is_whitespace self.now.text)) }
         // Promise: They lie inside the text.
         ensures within { IfOk result (λ slices.
             All (LiesBetween 0 (length self.now.text)) slices.items) }
         // Promise: A text without words is never refused.
-        ensures refused { IsErr result → filter is_not_empty (texts_between is_whitespace self.now.text) ≢ [] }
+        ensures refused { IsErr result
+            → filter is_not_empty (texts_between is_whitespace self.now.text) ≢ [] }
     {
         let mut slices = Vec::new(alloc);
         for word in self.view().split_whitespace() {
@@ -174,8 +183,11 @@ impl Substr {
     /// As `ArcStr::substr_lines`, for the slice's own text.
     #[tactic(auto, using(crate::proofs::SliceLists::slice_lists))]
     pub fn substr_lines(&self, rt: &impl Wait, alloc: Global) -> Result<Vec<Substr>, AllocError>
-        ensures slices { IfOk result (λ slices. slices.items ≡ slices_of (slice_within self.now) (lines_of (view_at (text_of self.now) 0))) }
-        ensures texts { IfOk result (λ slices. map text_of slices.items ≡ lines (text_of self.now)) }
+        ensures slices { IfOk result
+            (λ slices. slices.items
+            ≡ slices_of (slice_within self.now) (lines_of (view_at (text_of self.now) 0))) }
+        ensures texts { IfOk result
+            (λ slices. map text_of slices.items ≡ lines (text_of self.now)) }
         ensures within { IfOk result (λ slices.
             All (LiesBetween self.now.start self.now.end) slices.items) }
         ensures refused { IsErr result → lines (text_of self.now) ≢ [] }
@@ -194,11 +206,16 @@ impl Substr {
         rt: &impl Wait,
         alloc: Global,
     ) -> Result<Vec<Substr>, AllocError>
-        ensures slices { IfOk result (λ slices. slices.items ≡ slices_of (slice_within self.now) (words_of (view_at (text_of self.now) 0))) }
-        ensures texts { IfOk result (λ slices. map text_of slices.items ≡ filter is_not_empty (texts_between is_whitespace (text_of self.now))) }
+        ensures slices { IfOk result
+            (λ slices. slices.items
+            ≡ slices_of (slice_within self.now) (words_of (view_at (text_of self.now) 0))) }
+        ensures texts { IfOk result
+            (λ slices. map text_of slices.items
+            ≡ filter is_not_empty (texts_between is_whitespace (text_of self.now))) }
         ensures within { IfOk result (λ slices.
             All (LiesBetween self.now.start self.now.end) slices.items) }
-        ensures refused { IsErr result → filter is_not_empty (texts_between is_whitespace (text_of self.now)) ≢ [] }
+        ensures refused { IsErr result
+            → filter is_not_empty (texts_between is_whitespace (text_of self.now)) ≢ [] }
     {
         let mut slices = Vec::new(alloc);
         for word in self.view().split_whitespace() {

@@ -1,6 +1,7 @@
-//! Texts as patterns: `text.contains(&other)`, `text.split(&separator)`. Each call of `str` that takes a `&str` as its pattern takes a reference to a text too,
-//! with the same result. A call that returns a `Substr`, such as `substr_split_once`, takes `other.as_str()`: with a reference to a text it runs, but the
-//! borrow checker of the proof does not cover the call.
+//! Texts as patterns: `text.contains(&other)`, `text.split(&separator)`. Each call of `str` that
+//! takes a `&str` as its pattern takes a reference to a text too, with the same result. A call that
+//! returns a `Substr`, such as `substr_split_once`, takes `other.as_str()`: with a reference to a
+//! text it runs, but the borrow checker of the proof does not cover the call.
 ghost use Rattle.std.specs.Prelude.{◌≡◌};
 ghost use Rattle.std.specs.Str.Pattern.{FindsText, FindsTextPrefix, FindsTextSuffix, RFindsText};
 ghost use Rattle.arcstr.specs.Substr.{text_of};

@@ -1,4 +1,5 @@
-//! The output of a text, formatted as a `str` is. The output of a `Substr` is that of its own text, and that of a `StaticStr` is that of its text.
+//! The output of a text, formatted as a `str` is. The output of a `Substr` is that of its own text,
+//! and that of a `StaticStr` is that of its text.
 ghost use Rattle.std.specs.Prelude.{◌≡◌, Some, IfOk, string_bytes};
 ghost use Rattle.std.specs.Fmt.{debug_str, styled_text};
 ghost use Rattle.arcstr.specs.Substr.{text_of};
@@ -10,7 +11,8 @@ use std::alloc::{AllocError, Global};
 use std::fmt;
 
 impl ArcStr {
-    /// Copies the text into a `String`. Makes one allocation, or none if the text is empty. Fails only if the allocation fails.
+    /// Copies the text into a `String`. Makes one allocation, or none if the text is empty. Fails
+    /// only if the allocation fails.
     ///
     /// ```
     /// let copy = ArcStr::from_static("foo").to_string(rt.alloc())?;
@@ -28,7 +30,8 @@ impl fmt::Display for ArcStr {
 
     ghost styled_output = { λ shared spec. Some (styled_text spec shared.text) };
 
-    /// Writes the text with padding and precision, as for a `str`. Fails if the writer fails. Allocates nothing itself.
+    /// Writes the text with padding and precision, as for a `str`. Fails if the writer fails.
+    /// Allocates nothing itself.
     fn fmt<W: fmt::Write>(&self, f: &mut fmt::Formatter<W>) -> fmt::Result {
         f.pad(ArcStr::as_str(self))
     }
@@ -37,7 +40,8 @@ impl fmt::Display for ArcStr {
 impl fmt::Debug for ArcStr {
     ghost debug_output = { λ shared. debug_str shared.text };
 
-    /// Writes the text in quotes and escaped, as for a `str`. Fails if the writer fails. Allocates nothing itself.
+    /// Writes the text in quotes and escaped, as for a `str`. Fails if the writer fails. Allocates
+    /// nothing itself.
     fn fmt<W: fmt::Write>(&self, f: &mut fmt::Formatter<W>) -> fmt::Result {
         let text = ArcStr::as_str(self);
         fmt::Debug::fmt(&text, f)

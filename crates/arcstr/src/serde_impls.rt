@@ -1,5 +1,6 @@
-//! The traits of `serde` for texts and slices, which are written and read as strings, so that structs with texts can derive them. A slice is written as its
-//! own text, and read as the slice of all of a new text. Writing allocates nothing itself and takes no atomic step.
+//! The traits of `serde` for texts and slices, which are written and read as strings, so that
+//! structs with texts can derive them. A slice is written as its own text, and read as the slice of
+//! all of a new text. Writing allocates nothing itself and takes no atomic step.
 ghost use Rattle.std.specs.Prelude.{◌≡◌, IfOk, OnOk};
 ghost use Rattle.serde.specs.Event.{Logs, text};
 ghost use Rattle.serde.specs.Steps.{Gives};
@@ -21,7 +22,8 @@ impl Described for ArcStr {
 impl Serialize for ArcStr {
     /// Writes the text as a string. Fails if the format fails.
     fn serialize<S: Serializer>(&self, out: &mut S) -> Result<(), S::Error>
-        ensures written { OnOk result (Logs (S.written out.old) (S.written out.new) (text self.now.text)) }
+        ensures written { OnOk result
+            (Logs (S.written out.old) (S.written out.new) (text self.now.text)) }
     {
         out.str(ArcStr::as_str(self))
     }
@@ -34,16 +36,19 @@ impl Described for Substr {
 impl Serialize for Substr {
     /// Writes the slice's own text as a string. Fails if the format fails.
     fn serialize<S: Serializer>(&self, out: &mut S) -> Result<(), S::Error>
-        ensures written { OnOk result (Logs (S.written out.old) (S.written out.new) (text (text_of self.now))) }
+        ensures written { OnOk result
+            (Logs (S.written out.old) (S.written out.new) (text (text_of self.now))) }
     {
         out.str(Substr::as_str(self))
     }
 }
 
 impl DeserializeOwned for ArcStr {
-    /// Reads a string as the format does, and copies it into a block. The copy makes one allocation, and none for the empty text.
+    /// Reads a string as the format does, and copies it into a block. The copy makes one
+    /// allocation, and none for the empty text.
     ///
-    /// Errors, in this order: an error of the format; a text of `2^63 - 25` bytes or more; an allocation failure of the block.
+    /// Errors, in this order: an error of the format; a text of `2^63 - 25` bytes or more; an
+    /// allocation failure of the block.
     fn deserialize_owned<F: Format>(
         alloc: Global,
         from: &mut Deserializer<'_, '_, F>,
@@ -80,7 +85,8 @@ impl DeserializeOwned for Substr {
         alloc: Global,
         from: &mut Deserializer<'_, '_, F>,
     ) -> Result<Substr, F::Error>
-        ensures read { IfOk result (λ slice. Gives F.gives from.old (text (text_of slice)) from.new) }
+        ensures read { IfOk result
+            (λ slice. Gives F.gives from.old (text (text_of slice)) from.new) }
         ensures whole { IfOk result (λ slice. slice ≡ whole_of slice.parent) }
     {
         let parent: ArcStr = DeserializeOwned::deserialize_owned(alloc, from)?;
@@ -94,7 +100,8 @@ impl<'de> Deserialize<'de> for Substr {
         alloc: Global,
         from: &mut Deserializer<'de, '_, F>,
     ) -> Result<Substr, F::Error>
-        ensures read { IfOk result (λ slice. Gives F.gives from.old (text (text_of slice)) from.new) }
+        ensures read { IfOk result
+            (λ slice. Gives F.gives from.old (text (text_of slice)) from.new) }
         ensures whole { IfOk result (λ slice. slice ≡ whole_of slice.parent) }
     {
         DeserializeOwned::deserialize_owned(alloc, from)

@@ -1,7 +1,8 @@
 //! Parts of a text: as a `&str`, as a view, and as slices that keep the text alive.
 //!
-//! A call that returns a slice clones the handle once, and so can wait. It takes no atomic step if it fails or returns `Substr::new()`. The calls of `Substr`
-//! take byte offsets of the slice's own text, and their slices have its parent.
+//! A call that returns a slice clones the handle once, and so can wait. It takes no atomic step if
+//! it fails or returns `Substr::new()`. The calls of `Substr` take byte offsets of the slice's own
+//! text, and their slices have its parent.
 ghost use Rattle.std.specs.Prelude.{◌≡◌, ◌≢◌, ◌↔◌, ◌+◌, ◌≤◌, ℕ, [], length, IsSome, IfOk, IfSome};
 ghost use Rattle.std.specs.Fn.{FnOnceReturnsAt, FnOnceTakesAt};
 ghost use Rattle.std.specs.Option.{option_copied};
@@ -21,7 +22,8 @@ use std::ops::Range;
 use std::sync::Wait;
 
 impl ArcStr {
-    /// Returns the part of the text in the range, as `str::get` does. Returns `None` if the ends are out of order, past the text or inside a character.
+    /// Returns the part of the text in the range, as `str::get` does. Returns `None` if the ends
+    /// are out of order, past the text or inside a character.
     ///
     /// ```
     /// let text = ArcStr::from_static("aé");
@@ -35,7 +37,8 @@ impl ArcStr {
         slice(self.as_str(), range.into())
     }
 
-    /// Returns a view of the whole text, at byte offset 0. `substr_from` of this text accepts this view and its parts without a test.
+    /// Returns a view of the whole text, at byte offset 0. `substr_from` of this text accepts this
+    /// view and its parts without a test.
     ///
     /// ```
     /// let text = ArcStr::from_static("key = value");
@@ -54,8 +57,8 @@ impl ArcStr {
 
     /// Returns the slice of this text in the range. An empty slice keeps the text alive too.
     ///
-    /// Errors, in this order: `OutOfOrder` if the start is after the end; `PastEnd` if the end is past the text; `OffBoundary` if the start or the end is not
-    /// a character boundary.
+    /// Errors, in this order: `OutOfOrder` if the start is after the end; `PastEnd` if the end is
+    /// past the text; `OffBoundary` if the start or the end is not a character boundary.
     ///
     /// ```
     /// let text = ArcStr::from_str(rt.alloc(), "foo bar")?;
@@ -66,7 +69,8 @@ impl ArcStr {
     /// ```
     #[inline]
     pub fn substr<R: Into<StrRange>>(&self, rt: &impl Wait, range: R) -> Result<Substr, RangeFault>
-        // Promise: The call succeeds exactly if the range is lawful, and otherwise returns the first fault.
+        // Promise: The call succeeds exactly if the range is lawful, and otherwise returns the
+        // first fault.
         ensures answer { (given : StrRange) × R.converts range given
             × AnswersRange self.now.text (slice_of self.now) given result }
         // Promise: The slice lies inside the text.
@@ -78,8 +82,9 @@ impl ArcStr {
         }
     }
 
-    /// Returns the slice of this text that a view shows, or `None` exactly if the text does not have the view's text at the view's place. An empty view is
-    /// found everywhere, and gives `Substr::new()`.
+    /// Returns the slice of this text that a view shows, or `None` exactly if the text does not
+    /// have the view's text at the view's place. An empty view is found everywhere, and gives
+    /// `Substr::new()`.
     ///
     /// ```
     /// let text = ArcStr::from_str(rt.alloc(), "  foo ")?;
@@ -99,8 +104,9 @@ impl ArcStr {
         Some(self.substr_from(rt, view))
     }
 
-    /// Returns the slice of this text that a view shows, or `Substr::new()` for an empty view. The caller must ensure that the text has the view's text at
-    /// the view's place. The text's own `view` and its parts satisfy this, and `StrView::is_found_in` tests it for other views.
+    /// Returns the slice of this text that a view shows, or `Substr::new()` for an empty view. The
+    /// caller must ensure that the text has the view's text at the view's place. The text's own
+    /// `view` and its parts satisfy this, and `StrView::is_found_in` tests it for other views.
     ///
     /// ```
     /// let text = ArcStr::from_str(rt.alloc(), "  foo ")?;
@@ -119,11 +125,13 @@ impl ArcStr {
         self.clone_between(rt, view.range())
     }
 
-    /// Returns the slice of this text between the byte offsets that the closure returns for it. Calls the closure once, first; the caller must ensure that it
-    /// can be called on the text. Equal offsets give `Substr::new()`, wherever they lie.
+    /// Returns the slice of this text between the byte offsets that the closure returns for it.
+    /// Calls the closure once, first; the caller must ensure that it can be called on the text.
+    /// Equal offsets give `Substr::new()`, wherever they lie.
     ///
-    /// Errors for other offsets, in this order: `OutOfOrder` if the start is after the end; `PastEnd` if the end is past the text; `OffBoundary` if the start
-    /// or the end is not a character boundary.
+    /// Errors for other offsets, in this order: `OutOfOrder` if the start is after the end;
+    /// `PastEnd` if the end is past the text; `OffBoundary` if the start or the end is not a
+    /// character boundary.
     ///
     /// ```
     /// let text = ArcStr::from_static("name=value");
@@ -138,7 +146,8 @@ impl ArcStr {
         find: F,
     ) -> Result<Substr, RangeFault>
         requires { FnOnceTakesAt F.FnOnce find self.now.text }
-        // Promise: The call succeeds exactly if the offsets are equal or their range is lawful, and otherwise returns the first fault.
+        // Promise: The call succeeds exactly if the offsets are equal or their range is lawful, and
+        // otherwise returns the first fault.
         ensures answer { (found : Range ℕ) × FnOnceReturnsAt F.FnOnce find self.now.text found
             × AnswersFoundRange self.now.text (slice_of self.now) found result }
         ensures within { IfOk result (LiesBetween 0 (length self.now.text)) }
@@ -198,7 +207,8 @@ impl Substr {
         StrView::whole(self.as_str())
     }
 
-    /// As `ArcStr::substr`, for the slice's own text. The range is measured in bytes of that text, and the new slice has the same parent.
+    /// As `ArcStr::substr`, for the slice's own text. The range is measured in bytes of that text,
+    /// and the new slice has the same parent.
     pub fn substr<R: Into<StrRange>>(&self, rt: &impl Wait, range: R) -> Result<Substr, RangeFault>
         ensures answer { (given : StrRange) × R.converts range given
             × AnswersRange (text_of self.now) (slice_within self.now) given result }
@@ -246,9 +256,11 @@ impl Substr {
         Some(self.parent().clone_between(rt, start..end))
     }
 
-    /// As `ArcStr::try_substr_from`, for the slice's own text: the view's place is a byte offset of that text.
+    /// As `ArcStr::try_substr_from`, for the slice's own text: the view's place is a byte offset of
+    /// that text.
     pub fn try_substr_from(&self, rt: &impl Wait, view: StrView<'_>) -> Option<Substr>
-        ensures found { IsSome result ↔ IsFoundAt (text_of self.now) view.entry.text view.entry.place }
+        ensures found { IsSome result
+            ↔ IsFoundAt (text_of self.now) view.entry.text view.entry.place }
         ensures value { IfSome result (IsSliceOfView (slice_within self.now) view.entry) }
         ensures within { view.entry.text ≢ []
             → IfSome result (LiesBetween self.now.start self.now.end) }
@@ -259,7 +271,8 @@ impl Substr {
         Some(self.substr_from(rt, view))
     }
 
-    /// As `ArcStr::substr_from`, for the slice's own text: the view's place is a byte offset of that text.
+    /// As `ArcStr::substr_from`, for the slice's own text: the view's place is a byte offset of
+    /// that text.
     pub fn substr_from(&self, rt: &impl Wait, view: StrView<'_>) -> Substr
         requires { IsFoundAt (text_of self.now) view.text view.place }
         ensures slice { IsSliceOfView (slice_within self.now) view.entry result }
@@ -271,7 +284,8 @@ impl Substr {
         self.clone_between(rt, view.range())
     }
 
-    /// As `ArcStr::substr_using`, for the slice's own text. The closure returns byte offsets of that text.
+    /// As `ArcStr::substr_using`, for the slice's own text. The closure returns byte offsets of
+    /// that text.
     pub fn substr_using<F: FnOnce(&str) -> Range<usize>>(
         &self,
         rt: &impl Wait,
@@ -305,7 +319,8 @@ impl Substr {
         self.substr_using(rt, find)
     }
 
-    /// Returns the slice of the same parent between two byte offsets of the slice's own text. Clones the parent's handle.
+    /// Returns the slice of the same parent between two byte offsets of the slice's own text.
+    /// Clones the parent's handle.
     #[tactic(auto, using(arcstr_range::proofs::Boundaries::cuts_of_cuts))]
     pub(crate) fn clone_between(&self, rt: &impl Wait, range: Range<usize>) -> Substr
         requires { IsLawful (text_of self.now) range.start range.end }

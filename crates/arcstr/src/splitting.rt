@@ -1,12 +1,16 @@
-//! Splits of a text at a byte offset or around a match of a pattern, and slices without a prefix or suffix. A pattern is a `char`, a `&str` or another of
-//! std's patterns. The caller must ensure that the pattern can search, as it must ensure that a closure can be called.
+//! Splits of a text at a byte offset or around a match of a pattern, and slices without a prefix or
+//! suffix. A pattern is a `char`, a `&str` or another of std's patterns. The caller must ensure
+//! that the pattern can search, as it must ensure that a closure can be called.
 //!
-//! Each call clones the handle once for each slice that it returns, and so can wait. A call that returns none takes no atomic step. Each slice keeps the text
-//! alive, even if it is empty. The calls of `Substr` take byte offsets of the slice's own text, and their slices have its parent.
-ghost use Rattle.std.specs.Prelude.{◌≡◌, ◌-◌, ◌≤◌, length, take, drop, IfOk, IfSome, MatchOption, None};
+//! Each call clones the handle once for each slice that it returns, and so can wait. A call that
+//! returns none takes no atomic step. Each slice keeps the text alive, even if it is empty. The
+//! calls of `Substr` take byte offsets of the slice's own text, and their slices have its parent.
+ghost use Rattle.std.specs.Prelude.{◌≡◌, ◌++◌, ◌-◌, ◌≤◌, ℕ, List, length, take, drop};
+ghost use Rattle.std.specs.Prelude.{IfOk, IfSome, MatchOption, None};
 ghost use Rattle.std.specs.Str.{IsCharBoundary};
 ghost use Rattle.std.specs.Str.Pattern.{SplitsAroundMatch, StripsPrefix, StripsSuffix};
 ghost use Rattle.arcstr_range.specs.Ends.{IsLawful};
+ghost use Rattle.arcstr_range.specs.Matches.{FindsOnly};
 ghost use Rattle.arcstr_range.specs.Text.{cut};
 ghost use Rattle.arcstr.specs.Slicing.{LiesBetween};
 ghost use Rattle.arcstr.specs.Splitting.{AnswersSplit, AnswersSplitAt, AreInOrder, FindsCharacter, LiesAtEnd, LiesAtStart};
@@ -22,7 +26,8 @@ use std::sync::Wait;
 impl ArcStr {
     /// Splits this text at a byte offset into two slices, as `str::split_at_checked` does.
     ///
-    /// Fails as `substr` does for the range up to the offset: first `PastEnd` if the offset is past the text, then `OffBoundary` if it is inside a character.
+    /// Fails as `substr` does for the range up to the offset: first `PastEnd` if the offset is past
+    /// the text, then `OffBoundary` if it is inside a character.
     ///
     /// ```
     /// let text = ArcStr::from_static("foobar");
@@ -36,7 +41,8 @@ impl ArcStr {
         rt: &impl Wait,
         place: usize,
     ) -> Result<(Substr, Substr), RangeFault>
-        // Promise: The call succeeds exactly if the range is lawful, and otherwise returns the first fault.
+        // Promise: The call succeeds exactly if the range is lawful, and otherwise returns the
+        // first fault.
         ensures answer { AnswersSplitAt self.now.text (slice_of self.now) place result }
         ensures spans { IfOk result (AreInOrder 0 (length self.now.text)) }
     {
@@ -50,8 +56,8 @@ impl ArcStr {
         }
     }
 
-    /// Splits this text around the first match of the separator, as `str::split_once` does. The separator is part of neither slice. Returns `None` exactly if
-    /// there is no match.
+    /// Splits this text around the first match of the separator, as `str::split_once` does. The
+    /// separator is part of neither slice. Returns `None` exactly if there is no match.
     ///
     /// ```
     /// let text = ArcStr::from_str(rt.alloc(), "name=a=b")?;
@@ -71,13 +77,21 @@ impl ArcStr {
         requires { P.can_search separator }
         ensures texts { MatchOption result (P.find_in_gives separator self.now.text None)
             (λ parts. SplitsAroundMatch (P.find_in_gives separator) self.now.text (text_of parts.0) (text_of parts.1)) }
-        // Promise: The first slice starts where the text starts, and the second ends where the text ends.
+        // Promise: The first slice starts where the text starts, and the second ends where the text
+        // ends.
         ensures before { IfSome result (λ parts. LiesAtStart (slice_of self.now) parts.0) }
-        ensures after { IfSome result (λ parts. LiesAtEnd self.now.text (slice_of self.now) parts.1) }
+        ensures after { IfSome result
+            (λ parts. LiesAtEnd self.now.text (slice_of self.now) parts.1) }
         // Promise: The slices lie in order, and the separator between them.
         ensures spans { IfSome result (AreInOrder 0 (length self.now.text)) }
-        // Promise: A text is split at a character exactly if it has that character, and the parts with it between them are the text.
-        ensures at_a_character { IfSome (P.single_char separator) (λ character. FindsCharacter (P.find_in_gives separator) character
+        // Promise: Around a text, the slices join with it to the whole text.
+        ensures joined { (wanted : List ℕ) → FindsOnly (P.find_in_gives separator) wanted
+            → IfSome result (λ parts.
+            text_of parts.0 ++ wanted ++ text_of parts.1 ≡ self.now.text) }
+        // Promise: A text is split at a character exactly if it has that character, and the parts
+        // with it between them are the text.
+        ensures at_a_character { IfSome (P.single_char separator)
+            (λ character. FindsCharacter (P.find_in_gives separator) character
             → AnswersSplit self.now.text (slice_of self.now) character result) }
     {
         let (before, after) = self.as_str().split_once(separator)?;
@@ -87,8 +101,8 @@ impl ArcStr {
         ))
     }
 
-    /// Splits this text around the last match of the separator, as `str::rsplit_once` does. The separator is part of neither slice. Returns `None` exactly if
-    /// there is no match.
+    /// Splits this text around the last match of the separator, as `str::rsplit_once` does. The
+    /// separator is part of neither slice. Returns `None` exactly if there is no match.
     ///
     /// ```
     /// let text = ArcStr::from_static("a::b::c");
@@ -106,11 +120,17 @@ impl ArcStr {
         requires { P.can_search separator }
         ensures texts { MatchOption result (P.rfind_in_gives separator self.now.text None)
             (λ parts. SplitsAroundMatch (P.rfind_in_gives separator) self.now.text (text_of parts.0) (text_of parts.1)) }
-        // Promise: The first slice starts where the text starts, and the second ends where the text ends.
+        // Promise: The first slice starts where the text starts, and the second ends where the text
+        // ends.
         ensures before { IfSome result (λ parts. LiesAtStart (slice_of self.now) parts.0) }
-        ensures after { IfSome result (λ parts. LiesAtEnd self.now.text (slice_of self.now) parts.1) }
+        ensures after { IfSome result
+            (λ parts. LiesAtEnd self.now.text (slice_of self.now) parts.1) }
         // Promise: The slices lie in order, and the separator between them.
         ensures spans { IfSome result (AreInOrder 0 (length self.now.text)) }
+        // Promise: Around a text, the slices join with it to the whole text.
+        ensures joined { (wanted : List ℕ) → FindsOnly (P.rfind_in_gives separator) wanted
+            → IfSome result (λ parts.
+            text_of parts.0 ++ wanted ++ text_of parts.1 ≡ self.now.text) }
     {
         let (before, after) = self.as_str().rsplit_once(separator)?;
         Some((
@@ -119,7 +139,8 @@ impl ArcStr {
         ))
     }
 
-    /// Returns the slice of this text with the prefix removed, as `str::strip_prefix` does. Returns `None` exactly if the text does not start with it.
+    /// Returns the slice of this text with the prefix removed, as `str::strip_prefix` does. Returns
+    /// `None` exactly if the text does not start with it.
     ///
     /// ```
     /// let text = ArcStr::from_static("--all");
@@ -142,7 +163,8 @@ impl ArcStr {
         Some(self.substr_of_suffix(rt, rest))
     }
 
-    /// Returns the slice of this text with the suffix removed, as `str::strip_suffix` does. Returns `None` exactly if the text does not end with it.
+    /// Returns the slice of this text with the suffix removed, as `str::strip_suffix` does. Returns
+    /// `None` exactly if the text does not end with it.
     ///
     /// ```
     /// let text = ArcStr::from_static("main.rs");
@@ -165,8 +187,9 @@ impl ArcStr {
         Some(self.substr_of_prefix(rt, rest))
     }
 
-    /// Returns the slice of this text that holds a prefix of it. The caller must ensure that the text starts with the prefix. A part that a call of `str`
-    /// leaves at the start of the text, as `trim_end_matches` and `split_once` do, satisfies this.
+    /// Returns the slice of this text that holds a prefix of it. The caller must ensure that the
+    /// text starts with the prefix. A part that a call of `str` leaves at the start of the text, as
+    /// `trim_end_matches` and `split_once` do, satisfies this.
     ///
     /// ```
     /// let text = ArcStr::from_static("run();;");
@@ -186,9 +209,10 @@ impl ArcStr {
         self.clone_between(rt, prefix_range(self.as_str(), prefix))
     }
 
-    /// Returns the slice of this text that holds a suffix of it. The caller must ensure that the text ends with the suffix. A part that a call of `str` leaves
-    /// at the end of the text, as `trim_start_matches` and `split_once` do, satisfies this. For a part in the middle, take the suffix that starts with it, and
-    /// then a prefix of that slice.
+    /// Returns the slice of this text that holds a suffix of it. The caller must ensure that the
+    /// text ends with the suffix. A part that a call of `str` leaves at the end of the text, as
+    /// `trim_start_matches` and `split_once` do, satisfies this. For a part in the middle, take the
+    /// suffix that starts with it, and then a prefix of that slice.
     ///
     /// ```
     /// let text = ArcStr::from_static("--name--");
@@ -199,8 +223,10 @@ impl ArcStr {
     /// ```
     pub fn substr_of_suffix(&self, rt: &impl Wait, suffix: &str) -> Substr
         requires within { length suffix.now ≤ length self.now.text }
-        requires suffix { suffix.now ≡ drop (length self.now.text - length suffix.now) self.now.text }
-        ensures slice { result ≡ slice_of self.now (length self.now.text - length suffix.now) (length self.now.text) }
+        requires suffix { suffix.now
+            ≡ drop (length self.now.text - length suffix.now) self.now.text }
+        ensures slice { result ≡ slice_of self.now (length self.now.text - length suffix.now)
+            (length self.now.text) }
         ensures text { text_of result ≡ suffix.now }
         ensures within { LiesBetween 0 (length self.now.text) result }
         ensures end { result.end ≡ length self.now.text }
@@ -243,9 +269,14 @@ impl Substr {
         ensures texts { MatchOption result (P.find_in_gives separator (text_of self.now) None)
             (λ parts. SplitsAroundMatch (P.find_in_gives separator) (text_of self.now) (text_of parts.0) (text_of parts.1)) }
         ensures before { IfSome result (λ parts. LiesAtStart (slice_within self.now) parts.0) }
-        ensures after { IfSome result (λ parts. LiesAtEnd (text_of self.now) (slice_within self.now) parts.1) }
+        ensures after { IfSome result
+            (λ parts. LiesAtEnd (text_of self.now) (slice_within self.now) parts.1) }
         ensures spans { IfSome result (AreInOrder self.now.start self.now.end) }
-        ensures at_a_character { IfSome (P.single_char separator) (λ character. FindsCharacter (P.find_in_gives separator) character
+        ensures joined { (wanted : List ℕ) → FindsOnly (P.find_in_gives separator) wanted
+            → IfSome result (λ parts.
+            text_of parts.0 ++ wanted ++ text_of parts.1 ≡ text_of self.now) }
+        ensures at_a_character { IfSome (P.single_char separator)
+            (λ character. FindsCharacter (P.find_in_gives separator) character
             → AnswersSplit (text_of self.now) (slice_within self.now) character result) }
     {
         let (before, after) = self.as_str().split_once(separator)?;
@@ -267,8 +298,12 @@ impl Substr {
         ensures texts { MatchOption result (P.rfind_in_gives separator (text_of self.now) None)
             (λ parts. SplitsAroundMatch (P.rfind_in_gives separator) (text_of self.now) (text_of parts.0) (text_of parts.1)) }
         ensures before { IfSome result (λ parts. LiesAtStart (slice_within self.now) parts.0) }
-        ensures after { IfSome result (λ parts. LiesAtEnd (text_of self.now) (slice_within self.now) parts.1) }
+        ensures after { IfSome result
+            (λ parts. LiesAtEnd (text_of self.now) (slice_within self.now) parts.1) }
         ensures spans { IfSome result (AreInOrder self.now.start self.now.end) }
+        ensures joined { (wanted : List ℕ) → FindsOnly (P.rfind_in_gives separator) wanted
+            → IfSome result (λ parts.
+            text_of parts.0 ++ wanted ++ text_of parts.1 ≡ text_of self.now) }
     {
         let (before, after) = self.as_str().rsplit_once(separator)?;
         Some((
@@ -323,12 +358,15 @@ impl Substr {
     /// As `ArcStr::substr_of_suffix`, for the slice's own text.
     pub fn substr_of_suffix(&self, rt: &impl Wait, suffix: &str) -> Substr
         requires within { length suffix.now ≤ length (text_of self.now) }
-        requires suffix { suffix.now ≡ drop (length (text_of self.now) - length suffix.now) (text_of self.now) }
-        ensures slice { result ≡ slice_within self.now (length (text_of self.now) - length suffix.now) (length (text_of self.now)) }
+        requires suffix { suffix.now
+            ≡ drop (length (text_of self.now) - length suffix.now) (text_of self.now) }
+        ensures slice { result ≡ slice_within self.now
+            (length (text_of self.now) - length suffix.now) (length (text_of self.now)) }
         ensures text { text_of result ≡ suffix.now }
         ensures within { LiesBetween self.now.start self.now.end result }
         ensures end { result.end ≡ self.now.end }
-        ensures boundary { IsCharBoundary (text_of self.now) (length (text_of self.now) - length suffix.now) }
+        ensures boundary { IsCharBoundary (text_of self.now)
+            (length (text_of self.now) - length suffix.now) }
     {
         self.clone_between(rt, suffix_range(self.as_str(), suffix))
     }

@@ -5,8 +5,9 @@ ghost use Rattle.arcstr.specs.TextView.{IsStatic, literal};
 use crate::arc_str::ArcStr;
 use std::marker::Model;
 
-/// A text that is never freed: a literal or a permanent block. In a contract it has a text and a kind, which is never that of a counted block. It is `Send`
-/// and `Sync`, and its size is 24 bytes. Dropping it takes no atomic step and frees nothing.
+/// A text that is never freed: a literal or a permanent block. In a contract it has a text and a
+/// kind, which is never that of a counted block. It is `Send` and `Sync`, and its size is 24 bytes.
+/// Dropping it takes no atomic step and frees nothing.
 ///
 /// No method or trait implementation allocates or takes an atomic step.
 ///
@@ -93,7 +94,8 @@ impl StaticStr {
         self.text.literal_text()
     }
 
-    /// Returns the same text as an `ArcStr`: a literal for a literal, and otherwise a permanent block.
+    /// Returns the same text as an `ArcStr`: a literal for a literal, and otherwise a permanent
+    /// block.
     ///
     /// ```
     /// let kept = ArcStr::from_str(rt.alloc(), "foo")?.leak();

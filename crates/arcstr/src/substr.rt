@@ -11,14 +11,17 @@ use std::marker::Model;
 use std::ops::Range;
 use std::sync::Wait;
 
-/// A slice of a shared text. It keeps its parent, and so the parent's text, alive. In a contract it has the parent and two byte offsets in the parent's text,
-/// which are in order, at most the parent's length, and at character boundaries.
+/// A slice of a shared text. It keeps its parent, and so the parent's text, alive. In a contract it
+/// has the parent and two byte offsets in the parent's text, which are in order, at most the
+/// parent's length, and at character boundaries.
 ///
-/// It is `Send` and `Sync`, and its size is 40 bytes: a handle of 24 and two offsets of 8. Dropping it drops the handle. For a counted block, that loads the
-/// count word and, if the block is not marked static, decrements the count with a fetch-sub; the last handle frees the memory. For a literal or a permanent
-/// block, it takes no atomic step. No drop waits.
+/// It is `Send` and `Sync`, and its size is 40 bytes: a handle of 24 and two offsets of 8. Dropping
+/// it drops the handle. For a counted block, that loads the count word and, if the block is not
+/// marked static, decrements the count with a fetch-sub; the last handle frees the memory. For a
+/// literal or a permanent block, it takes no atomic step. No drop waits.
 ///
-/// No method or trait implementation allocates or takes an atomic step unless its documentation says so.
+/// No method or trait implementation allocates or takes an atomic step unless its documentation
+/// says so.
 ///
 /// ```
 /// let value = literal!("name=value").substr(&rt, 5..)?;
@@ -78,8 +81,9 @@ impl Substr {
         Substr::from_parts_unchecked(parent, 0..end)
     }
 
-    /// Converts a shared text into its slice between two byte offsets. Consumes the handle. The caller must ensure that the offsets are in order, at most the
-    /// text's length, and at character boundaries.
+    /// Converts a shared text into its slice between two byte offsets. Consumes the handle. The
+    /// caller must ensure that the offsets are in order, at most the text's length, and at
+    /// character boundaries.
     ///
     /// ```
     /// let slice = Substr::from_parts_unchecked(literal!("foobar"), 2..5);
@@ -134,7 +138,8 @@ impl Substr {
         self.start..self.end
     }
 
-    /// Makes another slice with the same byte range of the same parent. Clones the parent's handle as `ArcStr::clone` does, and so can wait.
+    /// Makes another slice with the same byte range of the same parent. Clones the parent's handle
+    /// as `ArcStr::clone` does, and so can wait.
     ///
     /// ```
     /// let slice = Substr::from_str(rt.alloc(), "foobar")?;
@@ -175,7 +180,8 @@ impl Substr {
     #[tactic(auto, using(arcstr_range::proofs::Boundaries::slices_by_characters))]
     pub fn as_str(&self) -> &str
         ensures text { result.now ≡ text_of self.now }
-        ensures characters { SpellsBetween self.now.parent.text self.now.start self.now.end result.now }
+        ensures characters { SpellsBetween self.now.parent.text self.now.start self.now.end
+            result.now }
     {
         let range = self.range();
         &self.parent.as_str()[range.start..range.end]
@@ -222,7 +228,8 @@ impl Clone for Substr {
     /// As `Clone` of `ArcStr`, for the parent.
     fn clone(&self) -> Result<Substr, AllocError>
         // Promise: It never fails for a static text.
-        ensures cases { MatchResult result (λ copy. copy ≡ self.now) (λ _. ¬ (IsStatic self.now.parent.kind)) }
+        ensures cases { MatchResult result (λ copy. copy ≡ self.now)
+            (λ _. ¬ (IsStatic self.now.parent.kind)) }
     {
         self.try_clone(TRIES).ok_or(AllocError)
     }

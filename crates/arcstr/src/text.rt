@@ -1,5 +1,6 @@
-//! The texts as `&str` and `&[u8]`, by std's traits `DerefStr`, `AsStr`, `AsSlice`, `AsBytes`, `AsPath` and `AsDeref`. By `DerefStr`, every method of `str` can
-//! be called on them; a method of the type itself takes precedence. No call here allocates or takes an atomic step.
+//! The texts as `&str` and `&[u8]`, by std's traits `DerefStr`, `AsStr`, `AsSlice`, `AsBytes`,
+//! `AsPath` and `AsDeref`. By `DerefStr`, every method of `str` can be called on them; a method of
+//! the type itself takes precedence. No call here allocates or takes an atomic step.
 ghost use Rattle.std.specs.Prelude.{◌≡◌, ℕ, List, Some};
 ghost use Rattle.arcstr.specs.Substr.{text_of};
 
@@ -101,7 +102,8 @@ impl AsSlice<u8> for StaticStr {
 impl AsBytes for ArcStr {
     ghost bytes = { λ shared. Some shared.text };
 
-    /// Returns the bytes of the text. By this trait a text is passed where Rust asks for `AsRef<[u8]>`, as in `Cursor::new(text)`.
+    /// Returns the bytes of the text. By this trait a text is passed where Rust asks for
+    /// `AsRef<[u8]>`, as in `Cursor::new(text)`.
     ///
     /// ```
     /// use std::io::{Cursor, Read};
@@ -145,8 +147,8 @@ impl AsBytes for &Substr {
 impl AsPath for ArcStr {
     ghost path_text = { λ shared. Some shared.text };
 
-    /// Returns the text as that of a path. By this trait a text or a reference to one is passed where Rust asks for `AsRef<Path>`, as in
-    /// `File::open(rt, &text)`.
+    /// Returns the text as that of a path. By this trait a text or a reference to one is passed
+    /// where Rust asks for `AsRef<Path>`, as in `File::open(rt, &text)`.
     ///
     /// ```
     /// use std::fs::File;

@@ -1,4 +1,5 @@
-//! Slices without the white space around a text. Each call clones the handle once, and so can wait. An empty slice keeps the text alive too.
+//! Slices without the white space around a text. Each call clones the handle once, and so can wait.
+//! An empty slice keeps the text alive too.
 ghost use Rattle.std.specs.Prelude.{◌≡◌, ◌+◌, length};
 ghost use Rattle.std.specs.Str.{trim, trim_end, trim_start};
 ghost use Rattle.arcstr_range.specs.Ends.{IsLawful};
@@ -15,7 +16,8 @@ use std::ops::Range;
 use std::sync::Wait;
 
 impl ArcStr {
-    /// Returns the slice of this text with leading and trailing white space removed, as `str::trim` does.
+    /// Returns the slice of this text with leading and trailing white space removed, as `str::trim`
+    /// does.
     ///
     /// ```
     /// let text = ArcStr::from_static("  foo ");
@@ -101,7 +103,8 @@ impl Substr {
 #[tactic(auto, using(arcstr_range::proofs::FoundParts::trimmed_starts))]
 fn trim_start_range(text: &str) -> Range<usize>
     ensures lawful { IsLawful text.now result.start result.end }
-    ensures longest { TrimsStart (view_at text.now 0) (view_at (cut text.now result.start result.end) result.start) }
+    ensures longest { TrimsStart (view_at text.now 0)
+        (view_at (cut text.now result.start result.end) result.start) }
     ensures end { result.end ≡ result.start + length (cut text.now result.start result.end) }
     ensures text { cut text.now result.start result.end ≡ trim_start text.now }
     ensures last { result.end ≡ length text.now }
@@ -113,7 +116,8 @@ fn trim_start_range(text: &str) -> Range<usize>
 #[tactic(auto, using(arcstr_range::proofs::FoundParts::trimmed_ends))]
 fn trim_end_range(text: &str) -> Range<usize>
     ensures lawful { IsLawful text.now result.start result.end }
-    ensures longest { TrimsEnd (view_at text.now 0) (view_at (cut text.now result.start result.end) result.start) }
+    ensures longest { TrimsEnd (view_at text.now 0)
+        (view_at (cut text.now result.start result.end) result.start) }
     ensures end { result.end ≡ result.start + length (cut text.now result.start result.end) }
     ensures text { cut text.now result.start result.end ≡ trim_end text.now }
     ensures first { result.start ≡ 0 }
@@ -125,7 +129,8 @@ fn trim_end_range(text: &str) -> Range<usize>
 #[tactic(auto, using(arcstr_range::proofs::FoundParts::trimmed_texts))]
 fn trim_range(text: &str) -> Range<usize>
     ensures lawful { IsLawful text.now result.start result.end }
-    ensures longest { Trims (view_at text.now 0) (view_at (cut text.now result.start result.end) result.start) }
+    ensures longest { Trims (view_at text.now 0)
+        (view_at (cut text.now result.start result.end) result.start) }
     ensures end { result.end ≡ result.start + length (cut text.now result.start result.end) }
     ensures text { cut text.now result.start result.end ≡ trim text.now }
 {

@@ -14,7 +14,8 @@ use toml::value::{Index, Value};
 impl ToValue for &ArcStr {
     ghost gives = { λ shared value. view value ≡ string shared.now.text };
 
-    /// Copies the text into a TOML string, for `toml!`. Makes one allocation, or none if the text is empty. Fails only if the allocation fails.
+    /// Copies the text into a TOML string, for `toml!`. Makes one allocation, or none if the text
+    /// is empty. Fails only if the allocation fails.
     ///
     /// ```
     /// use toml::toml;

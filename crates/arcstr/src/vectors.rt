@@ -8,7 +8,8 @@ ghost use Rattle.std.specs.Simd.Lanes.{mask_l, zip2};
 use std::cmp::Ordering;
 use std::simd::prelude::*;
 
-/// Tests whether two texts are equal, byte by byte. Most unequal texts differ in their first 16 bytes, so those are tested first.
+/// Tests whether two texts are equal, byte by byte. Most unequal texts differ in their first 16
+/// bytes, so those are tested first.
 pub(crate) fn is_equal(one: &str, other: &str) -> bool
     ensures { IsTrue result ↔ (one.now ≡ other.now) }
 {
@@ -30,7 +31,8 @@ pub(crate) fn is_equal(one: &str, other: &str) -> bool
     }
 }
 
-/// Tests whether `one` and `other` are equal, given that both have the same length of at least N bytes and that their first `start` bytes agree.
+/// Tests whether `one` and `other` are equal, given that both have the same length of at least N
+/// bytes and that their first `start` bytes agree.
 fn is_equal_from<const N: usize>(one: &[u8], other: &[u8], start: usize) -> bool
     requires lanes { 0 < N }
     requires long { N ≤ length one.now }
@@ -51,7 +53,8 @@ fn is_equal_from<const N: usize>(one: &[u8], other: &[u8], start: usize) -> bool
     is_equal_at::<N>(one, other, last)
 }
 
-/// Returns a length up to which `one` and `other` agree, given that their first `start` bytes agree. Each iteration compares 128 bytes with one test.
+/// Returns a length up to which `one` and `other` agree, given that their first `start` bytes
+/// agree. Each iteration compares 128 bytes with one test.
 fn equal_prefix(one: &[u8], other: &[u8], start: usize) -> usize
     requires within { (start ≤ length one.now) × (start ≤ length other.now) }
     requires equal { take start one.now ≡ take start other.now }
@@ -67,8 +70,8 @@ fn equal_prefix(one: &[u8], other: &[u8], start: usize) -> usize
     from
 }
 
-/// Compares two texts byte by byte. The first test asks for a length that few texts reach, so among short texts of mixed lengths the branch always goes the
-/// same way and costs little.
+/// Compares two texts byte by byte. The first test asks for a length that few texts reach, so among
+/// short texts of mixed lengths the branch always goes the same way and costs little.
 pub(crate) fn compare(one: &str, other: &str) -> Ordering
     ensures { result ≡ slice_cmp nat_cmp one.now other.now }
 {
@@ -79,7 +82,8 @@ pub(crate) fn compare(one: &str, other: &str) -> Ordering
     }
 }
 
-/// Compares two texts of which at least one is short. Most pairs differ in their first byte, so that is tested before anything longer.
+/// Compares two texts of which at least one is short. Most pairs differ in their first byte, so
+/// that is tested before anything longer.
 fn compare_short(one: &str, other: &str) -> Ordering
     ensures { result ≡ slice_cmp nat_cmp one.now other.now }
 {
@@ -91,7 +95,8 @@ fn compare_short(one: &str, other: &str) -> Ordering
     }
 }
 
-/// Compares two byte slices of 64 bytes or more. Their first 64 bytes, which usually decide, are compared without the tests of a loop.
+/// Compares two byte slices of 64 bytes or more. Their first 64 bytes, which usually decide, are
+/// compared without the tests of a loop.
 fn compare_long(one: &[u8], other: &[u8]) -> Ordering
     requires { (64 ≤ length one.now) × (64 ≤ length other.now) }
     ensures { result ≡ slice_cmp nat_cmp one.now other.now }
@@ -106,7 +111,8 @@ fn compare_long(one: &[u8], other: &[u8]) -> Ordering
     compare_far(one, other)
 }
 
-/// Compares two byte slices of 64 bytes or more, given that their first 64 bytes agree. It is out of line, so that shorter texts do not pay for its calls.
+/// Compares two byte slices of 64 bytes or more, given that their first 64 bytes agree. It is out
+/// of line, so that shorter texts do not pay for its calls.
 #[inline(never)]
 fn compare_far(one: &[u8], other: &[u8]) -> Ordering
     requires long { (64 ≤ length one.now) × (64 ≤ length other.now) }
@@ -141,7 +147,8 @@ fn compare_from<const N: usize>(one: &[u8], other: &[u8], start: usize) -> Order
     one.len().cmp(&other.len())
 }
 
-/// Compares the first 64 bytes: the first 16, then 32 whose differences are combined, then the last 16.
+/// Compares the first 64 bytes: the first 16, then 32 whose differences are combined, then the last
+/// 16.
 fn order_of_block(one: &[u8], other: &[u8]) -> Ordering
     requires { (64 ≤ length one.now) × (64 ≤ length other.now) }
     ensures { result ≡ slice_cmp nat_cmp (take 64 one.now) (take 64 other.now) }
@@ -157,7 +164,8 @@ fn order_of_block(one: &[u8], other: &[u8]) -> Ordering
     order_of_lanes::<16>(one, other, 48)
 }
 
-/// Compares the first `from + N` bytes, given that the first `from` bytes agree: the first pair that differs among the next N decides.
+/// Compares the first `from + N` bytes, given that the first `from` bytes agree: the first pair
+/// that differs among the next N decides.
 fn order_of_lanes<const N: usize>(one: &[u8], other: &[u8], from: usize) -> Ordering
     requires lanes { N ≤ 64 }
     requires within { (from + N ≤ length one.now) × (from + N ≤ length other.now) }
@@ -184,7 +192,8 @@ fn is_equal_at<const N: usize>(one: &[u8], other: &[u8], from: usize) -> bool
     differences::<N>(one, other, from).reduce_or() == 0
 }
 
-/// Tests whether the 128 bytes at `from` are equal. The differences of two vectors of 64 bytes are combined before one test.
+/// Tests whether the 128 bytes at `from` are equal. The differences of two vectors of 64 bytes are
+/// combined before one test.
 fn is_equal_128(one: &[u8], other: &[u8], from: usize) -> bool
     requires within { (from + 128 ≤ length one.now) × (from + 128 ≤ length other.now) }
     ensures { IsTrue result ↔ (take 128 (drop from one.now) ≡ take 128 (drop from other.now)) }
@@ -202,11 +211,13 @@ fn differences<const N: usize>(one: &[u8], other: &[u8], from: usize) -> Simd<u8
     Simd::<u8, N>::from_slice(&one[from..]) ^ Simd::<u8, N>::from_slice(&other[from..])
 }
 
-/// Returns a bit for each of the N bytes at `from`, which is set if the two bytes differ. The first byte has the lowest bit.
+/// Returns a bit for each of the N bytes at `from`, which is set if the two bytes differ. The first
+/// byte has the lowest bit.
 fn lanes_that_differ<const N: usize>(one: &[u8], other: &[u8], from: usize) -> u64
     requires lanes { N ≤ 64 }
     requires within { (from + N ≤ length one.now) × (from + N ≤ length other.now) }
-    ensures { result ≡ mask_l (zip2 (λ (u v : ℕ). not (u == v)) (take N (drop from one.now)) (take N (drop from other.now))) }
+    ensures { result ≡ mask_l (zip2 (λ (u v : ℕ). not (u == v)) (take N (drop from one.now))
+        (take N (drop from other.now))) }
 {
     Simd::<u8, N>::from_slice(&one[from..])
         .simd_ne(Simd::<u8, N>::from_slice(&other[from..]))

@@ -72,7 +72,8 @@ module _ {M : Type 1} {𝓤 : Ura M} (𝓛 : Logic 𝓤) where
   -- a block has one history
   one_history : (γ : GName) (r r' : List Step) (Z : Pr) → ⟦ latest steps full_share γ r ⟧ ∗ ⟦ latest steps full_share γ r' ⟧ ⊢ Z
   unfolding latest
-  one_history γ r r' Z = own_sum 𝓛 (growing steps) γ (present full_share, r) (present full_share, r') Z (λ c m. absurd (not-OpDef-full_share full_share m.0.1.0.0))
+  one_history γ r r' Z =
+      own_sum 𝓛 (growing steps) γ (present full_share, r) (present full_share, r') Z (λ c m. absurd (not-OpDef-full_share full_share m.0.1.0.0))
 
   -- so a block has one book
   one_book : (L L' : ℕ) (γ δ δ' : GName) (n n' : ℕ) (Z : Pr) → ⟦ Book L γ δ n ⟧ ∗ ⟦ Book L' γ δ' n' ⟧ ⊢ Z
@@ -180,7 +181,8 @@ module _ {M : Type 1} {𝓤 : Ura M} (𝓛 : Logic 𝓤) where
       abbrev Away : Pr
       Away = guard 𝓤 (h.block ≢ block) (⟦ Row.own_val h vs ⟧ ∗ ⟦ X ⟧)
 
-      away_by : h.right ≡ owed → Dec (h.block ≡ block) → ⟦ Book h.limit block.history block.seats 0 ⟧ ∗ ⟦ X ⟧ ⊢ H.⇛ Away → ⟦ Row.own_val h vs ⟧ ∗ ⟦ X ⟧ ⊢ H.⇛ Away
+      away_by : h.right ≡ owed → Dec (h.block ≡ block) → ⟦ Book h.limit block.history block.seats 0 ⟧ ∗ ⟦ X ⟧ ⊢ H.⇛ Away
+          → ⟦ Row.own_val h vs ⟧ ∗ ⟦ X ⟧ ⊢ H.⇛ Away
       away_by mine (no other) clash = qed 𝓛 (‵ (Row.own_val h vs) ∷ ‵ X ∷ []) ∵ updating ! $ now ! $ check ! other $ done !
       away_by mine (yes same) clash = qed 𝓛 (‵ (Row.own_val h vs) ∷ ‵ X ∷ []) ∵ use1 𝓛 (‵ (Book h.limit h.block.history h.block.seats 0)) (book_of h vs mine) $
           rewrite ! 0 (λ (z : BlockName). ‵ (Book h.limit z.history z.seats 0)) same refl $ by ! clash

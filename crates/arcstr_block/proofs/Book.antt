@@ -1,10 +1,12 @@
 -- The book of a block: the seats of its handles, and the history, which each step extends by exactly that step. Assumes `Logic`.
 use Rattle.arcstr_block.proofs.Names.{◌≡◌, ℕ, ◌^◌, [], ◌∷◌, refl, arith, List, sym, subst, inl, inr, ◌≢◌, ap, length, zero, suc, ◌+◌, ◌<◌, ◌++◌, set, Some}
-use Rattle.arcstr_block.proofs.Names.{if◌then◌else◌, eqb, eq-eqb, ne_eqb, slice_get, bit_or, dite, ℕ_discrete, Ura, either, Share, Fml, fex, GName, ftrue, fall}
+use Rattle.arcstr_block.proofs.Names.{if◌then◌else◌, eqb, eq-eqb, ne_eqb, slice_get, bit_or, dite, ℕ_discrete, Ura, either, Share, Fml, fsep, fex, GName, ftrue}
+use Rattle.arcstr_block.proofs.Names.{fall}
 use Rattle.arcstr_block.proofs.Names.{full_share, not-OpDef-full_share, latest, emp, via, all_i, upd, guard, guard_i, ex, guard_e, upd_i, upd_mono, ex_e, id⊢}
 use Rattle.arcstr_block.proofs.Names.{quarter, three_quarters, three_quarters_once, nothing, latest_new, latest_grows, latest_shows, at_least_dup, entry}
 use Rattle.arcstr_block.proofs.Names.{entries_take, entries_beside, entry_cut, entry_glue, entry_set, entries_new, ‵, ◌⊛◌, some, ◌$◌, ◌∵◌, !, qed, move, pick}
-use Rattle.arcstr_block.proofs.Names.{use0, use1, use2, split, split3, join, fjoin, fjoin3, fpick, fpack, done, raw, by, keep, fsplit3, given, drop, learn}
+use Rattle.arcstr_block.proofs.Names.{use0, use1, use2, use3, split, split3, join, fjoin, fjoin3, fpick, fpack, done, raw, by, keep, fsplit3, given, drop}
+use Rattle.arcstr_block.proofs.Names.{learn}
 use Rattle.arcstr_block.proofs.Names.{check, rewrite, suffices, settle, show, Logic, itself, halved, unused, roster, Keeps, EndsIn, look_reply, FlagAndCount}
 use Rattle.arcstr_block.proofs.Names.{looked_of, cloned_of, is_last, HandleState, Free, Dropping, Owing, Gone, Ended, Looked, Owes, Left, Handle, Marked, Given}
 use Rattle.arcstr_block.proofs.Names.{Step, Make, Look, Clone, Begin, Sub, Back, Leak, BlockName, Book, reached, seat, steps, state_code, seat_share, book}
@@ -46,7 +48,8 @@ module _ {M : Type 1} {𝓤 : Ura M} (𝓛 : Logic 𝓤) where
     Roster k vs = roster c δ k vs
 
     together : (q r s : Share) (v : Gv) → s ∈ Share.op q r → ◌∈◌ {α = Share × Gv} (s, v) (halved.op (q, v) (r, v))
-    together q r s v m = Prod.mk-mem-op Share.op (Ag.op (SetCoded-set (coded itself))) {a = q} {a' = r} {x = s} {b = v} {b' = v} {y = v} m (Ag.idem (SetCoded-set
+    together q r s v m =
+        Prod.mk-mem-op Share.op (Ag.op (SetCoded-set (coded itself))) {a = q} {a' = r} {x = s} {b = v} {b' = v} {y = v} m (Ag.idem (SetCoded-set
         (coded itself)) v)
 
     -- a share of a seat can be cut and joined
@@ -85,7 +88,8 @@ module _ {M : Type 1} {𝓤 : Ura M} (𝓛 : Logic 𝓤) where
     -- any share of a seat agrees with the roster
     pub agrees : (vs : List V) (k i j : ℕ) (q : Share) (v : V) → j ≡ k + i
         → ⟦ Roster k vs ⟧ ∗ ⟦ seat_share δ j q v ⟧ ⊢ guard 𝓤 (slice_get vs i ≡ Some v) (⟦ Roster k vs ⟧ ∗ ⟦ seat_share δ j q v ⟧)
-    agrees [] k i j q v e = qed 𝓛 (‵ (Roster k []) ∷ ‵ (seat_share δ j q v) ∷ []) ∵ fpick ! (λ d. move ! (1 ∷ 0 ∷ []) $ by ! (no_seat k j q v d _ (omega arith)))
+    agrees [] k i j q v e =
+        qed 𝓛 (‵ (Roster k []) ∷ ‵ (seat_share δ j q v) ∷ []) ∵ fpick ! (λ d. move ! (1 ∷ 0 ∷ []) $ by ! (no_seat k j q v d _ (omega arith)))
     agrees (w ∷ ws) k zero j q v e = let is : k ≡ j = omega arith in let Z : Pr = ⟦ Roster k (w ∷ ws) ⟧ ∗ ⟦ seat_share δ j q v ⟧ in
         qed 𝓛 ((‵ (Quarter k w) ⊛ ‵ (Roster (suc k) ws)) ∷ ‵ (seat_share δ j q v) ∷ []) ∵ split ! $
         rewrite ! 2 (λ (m : ℕ). ‵ (seat_share δ m q v)) (sym is) refl $ move ! (0 ∷ 2 ∷ []) $
@@ -207,24 +211,30 @@ module _ {M : Type 1} {𝓤 : Ura M} (𝓛 : Logic 𝓤) where
     book_mark n h q before = by_share n (bit_or n 1) h q before (Leak h) Marked (λ r vs keeps at.
         subst (λ (w : FlagAndCount). Prolongs L r (Leak h) Marked w vs) (sym (word_marked n)) (keeps-leak L r (word_of n) vs h keeps at))
 
-    -- a clone is born with a seat of its own
-    abbrev pub NewSeat : Fml
-    NewSeat = fex ℕ (λ j. seat δ j Free)
+    -- a clone by the handle h is born with a seat of its own, after the history `before`
+    abbrev pub born : ℕ → List Step → ℕ → Fml
+    born h before j = fsep (seat δ j Free) (Said before (Clone h) (Handle j))
 
-    pub book_clone : (n n' h : ℕ) (q : Share) → word_of n' ≡ cloned_of L (word_of n)
-        → ⟦ Bk n ⟧ ∗ ⟦ seat_share δ h q Free ⟧ ⊢ upd 𝓤 (⟦ Bk n' ⟧ ∗ ⟦ seat_share δ h q Free ⟧ ∗ ⟦ NewSeat ⟧)
-    book_clone n n' h q is = let Z : Pr = ⟦ Bk n' ⟧ ∗ ⟦ seat_share δ h q Free ⟧ ∗ ⟦ NewSeat ⟧ in
-        qed 𝓛 (‵ (Bk n) ∷ ‵ (seat_share δ h q Free) ∷ []) ∵ fpick ! (λ x. fsplit3 ! $ fpick ! (λ keeps. drop ! $ move ! (1 ∷ 2 ∷ []) $
-        let vs : List HandleState = x.1 ++ Free ∷ [] in
+    abbrev pub NewSeat : ℕ → List Step → Fml
+    NewSeat h before = fex ℕ (born h before)
+
+    pub book_clone : (n n' h : ℕ) (q : Share) (before : List Step) → word_of n' ≡ cloned_of L (word_of n) → ⟦ Bk n ⟧ ∗ ⟦ seat_share δ h q Free ⟧
+        ∗ ⟦ reached γ before ⟧ ⊢ upd 𝓤 (⟦ Bk n' ⟧ ∗ ⟦ seat_share δ h q Free ⟧ ∗ ⟦ NewSeat h before ⟧)
+    book_clone n n' h q before is = let Z : Pr = ⟦ Bk n' ⟧ ∗ ⟦ seat_share δ h q Free ⟧ ∗ ⟦ NewSeat h before ⟧ in
+        qed 𝓛 (‵ (Bk n) ∷ ‵ (seat_share δ h q Free) ∷ ‵ (reached γ before) ∷ []) ∵ fpick ! (λ x. fsplit3 ! $ fpick ! (λ keeps. drop ! $ move ! (1 ∷ 2 ∷ []) $
+        let vs : List HandleState = x.1 ++ Free ∷ [] in let j : ℕ = length x.1 in
         use2 𝓛 (given (slice_get x.1 h ≡ Some Free) (‵ (Seats x.1) ⊛ ‵ (seat_share δ h q Free))) (agrees δ x.1 0 h h q Free (sym
-        (Rattle.std.proofs.Common.zero-add h))) $ learn ! (λ at. split ! $
-        use1 𝓛 (raw (upd 𝓤 (⟦ Seats vs ⟧ ∗ ⟦ seat δ (0 + length x.1) Free ⟧))) (adds δ x.1 0 Free) $
-        settle 𝓛 Z (‵ (Seats vs) ⊛ ‵ (seat δ (0 + length x.1) Free)) $ split ! $ move ! (1 ∷ []) $ fpack ! ℕ (λ j. seat δ j Free) (0 + length x.1) $
-        let on : Prolongs L x.0 (Clone h) (Handle (length x.1)) (word_of n') vs = subst (λ (w : FlagAndCount). Prolongs L x.0 (Clone h) (Handle
-        (length x.1)) w vs) (sym is) (keeps-clone L x.0 (word_of n) x.1 h keeps at) in
-        move ! (3 ∷ 1 ∷ []) $ use2 𝓛 (raw (upd 𝓤 (⟦ Bk n' ⟧ ∗ ⟦ Said [] (Clone h) (Handle (length x.1)) ⟧)))
-        (turns n' x.0 [] (Clone h) (Handle (length x.1)) vs (x.0, refl) on) $
-        settle 𝓛 Z (‵ (Bk n') ⊛ ‵ (Said [] (Clone h) (Handle (length x.1)))) $ split ! $ suffices ! _ (upd_i 𝓤 Z) $ keep ! (0 ∷ 3 ∷ 2 ∷ []) $ done !)))
+        (Rattle.std.proofs.Common.zero-add h))) $ learn ! (λ at. split ! $ move ! (2 ∷ 3 ∷ []) $
+        use2 𝓛 (given (IsPrefix before x.0) (‵ (Now x.0) ⊛ ‵ (reached γ before))) (bounds x.0 before) $ learn ! (λ starts. split ! $ move ! (2 ∷ []) $
+        use1 𝓛 (raw (upd 𝓤 (⟦ Seats vs ⟧ ∗ ⟦ seat δ (0 + j) Free ⟧))) (adds δ x.1 0 Free) $
+        settle 𝓛 Z (‵ (Seats vs) ⊛ ‵ (seat δ (0 + j) Free)) $ split ! $
+        -- [the seats; the new seat; the history; the history before; the handle's seat]
+        rewrite ! 1 (λ (m : ℕ). ‵ (seat δ m Free)) (Rattle.std.proofs.Common.zero-add j) refl $ move ! (2 ∷ 0 ∷ []) $
+        let on : Prolongs L x.0 (Clone h) (Handle j) (word_of n') vs =
+        subst (λ (w : FlagAndCount). Prolongs L x.0 (Clone h) (Handle j) w vs) (sym is) (keeps-clone L x.0 (word_of n) x.1 h keeps at) in
+        use2 𝓛 (raw (upd 𝓤 (⟦ Bk n' ⟧ ∗ ⟦ Said before (Clone h) (Handle j) ⟧))) (turns n' x.0 before (Clone h) (Handle j) vs starts on) $
+        settle 𝓛 Z (‵ (Bk n') ⊛ ‵ (Said before (Clone h) (Handle j))) $ split ! $ suffices ! _ (upd_i 𝓤 Z) $ move ! (2 ∷ 1 ∷ []) $ fjoin ! $
+        fpack ! ℕ (born h before) j $ keep ! (1 ∷ 3 ∷ 0 ∷ []) $ done !))))
 
     -- a step of a handle that has its seat
     by_seat : (n n' h : ℕ) (v u : HandleState) (before : List Step) (s : Step) (reply : Reply)
@@ -259,38 +269,41 @@ module _ {M : Type 1} {𝓤 : Ura M} (𝓛 : Logic 𝓤) where
 
     pub book_sub : (n h : ℕ) (before : List Step) → n < 2 ^ 64 → ⟦ Bk n ⟧ ∗ ⟦ seat δ h Dropping ⟧ ∗ ⟦ reached γ before ⟧
         ⊢ upd 𝓤 (⟦ Bk (one_less n) ⟧ ∗ ⟦ seat δ h (left_in n) ⟧ ∗ ⟦ Said before (Sub h) (sub_reply n) ⟧)
-    book_sub n h before fits = by_seat n (one_less n) h Dropping (left_in n) before (Sub h) (sub_reply n) (λ r vs keeps at. let on = keeps-sub L r (word_of n) vs h keeps at in
+    book_sub n h before fits =
+        by_seat n (one_less n) h Dropping (left_in n) before (Sub h) (sub_reply n) (λ r vs keeps at. let on = keeps-sub L r (word_of n) vs h keeps at in
         subst (λ (w : FlagAndCount). Prolongs L r (Sub h) (sub_reply n) w (set vs h (left_in n))) (sym (word_dropped n fits on.0)) on.1)
 
     pub book_back : (n h : ℕ) (before : List Step)
         → ⟦ Bk n ⟧ ∗ ⟦ seat δ h Owing ⟧ ∗ ⟦ reached γ before ⟧ ⊢ upd 𝓤 (⟦ Bk n ⟧ ∗ ⟦ seat δ h Gone ⟧ ∗ ⟦ Said before (Back h) Given ⟧)
     book_back n h before = by_seat n n h Owing Gone before (Back h) Given (λ r vs keeps at. keeps-back L r (word_of n) vs h keeps at)
 
-    -- ---- the steps of a clone by the handle h, depending on the word that they find
-    module _ (h : ℕ) (q : Share) where
+    -- ---- the steps of a clone by the handle h, after the history `before`, depending on the word that they find
+    module _ (h : ℕ) (q : Share) (before : List Step) where
       abbrev Mine : Fml
       Mine = seat_share δ h q Free
 
       abbrev New : Fml
-      New = NewSeat
+      New = NewSeat h before
 
       abbrev NewIf : Type 0 → Fml
       NewIf event = fall event (λ _. New)
 
       clone : (n n' : ℕ) (event : Type 0)
           → Rattle.arcstr_block.specs.Word.word_of n' ≡ Rattle.arcstr_count.specs.Word.cloned_of L (Rattle.arcstr_block.specs.Word.word_of n)
-          → ⟦ Bk n ⟧ ∗ ⟦ Mine ⟧ ⊢ upd 𝓤 (⟦ Bk n' ⟧ ∗ ⟦ Mine ⟧ ∗ ⟦ NewIf event ⟧)
-      clone n n' event is = let Z : Pr = ⟦ Bk n' ⟧ ∗ ⟦ Mine ⟧ ∗ ⟦ NewIf event ⟧ in qed 𝓛 (‵ (Bk n) ∷ ‵ Mine ∷ []) ∵
-          use2 𝓛 (raw (upd 𝓤 (⟦ Bk n' ⟧ ∗ ⟦ Mine ⟧ ∗ ⟦ New ⟧))) (book_clone n n' h q is) $ settle 𝓛 Z (‵ (Bk n') ⊛ ‵ Mine ⊛ ‵ New) $
+          → ⟦ Bk n ⟧ ∗ ⟦ Mine ⟧ ∗ ⟦ reached γ before ⟧ ⊢ upd 𝓤 (⟦ Bk n' ⟧ ∗ ⟦ Mine ⟧ ∗ ⟦ NewIf event ⟧)
+      clone n n' event is = let Z : Pr = ⟦ Bk n' ⟧ ∗ ⟦ Mine ⟧ ∗ ⟦ NewIf event ⟧ in qed 𝓛 (‵ (Bk n) ∷ ‵ Mine ∷ ‵ (reached γ before) ∷ []) ∵
+          use3 𝓛 (raw (upd 𝓤 (⟦ Bk n' ⟧ ∗ ⟦ Mine ⟧ ∗ ⟦ New ⟧))) (book_clone n n' h q before is) $ settle 𝓛 Z (‵ (Bk n') ⊛ ‵ Mine ⊛ ‵ New) $
           suffices ! _ (upd_i 𝓤 Z) $ split3 ! $ move ! (2 ∷ []) $
           use1 𝓛 (‵ (NewIf event)) (all_i 𝓤 {P = ⟦ New ⟧} (λ (_ : event). ⟦ New ⟧) (λ _. id⊢ 𝓤 ⟦ New ⟧)) $ move ! (1 ∷ 2 ∷ 0 ∷ []) $ done !
 
-      no_clone : (n : ℕ) (event : Type 0) → (event → ⊥) → ⟦ Bk n ⟧ ∗ ⟦ Mine ⟧ ⊢ upd 𝓤 (⟦ Bk n ⟧ ∗ ⟦ Mine ⟧ ∗ ⟦ NewIf event ⟧)
-      no_clone n event none = let Z : Pr = ⟦ Bk n ⟧ ∗ ⟦ Mine ⟧ ∗ ⟦ NewIf event ⟧ in qed 𝓛 (‵ (Bk n) ∷ ‵ Mine ∷ []) ∵ suffices ! _ (upd_i 𝓤 Z) $ nothing ! $
-          use1 𝓛 (‵ (NewIf event)) (all_i 𝓤 {P = emp 𝓤} (λ (_ : event). ⟦ New ⟧) (λ y. absurd (none y))) $ move ! (1 ∷ 2 ∷ 0 ∷ []) $ done !
+      no_clone : (n : ℕ) (event : Type 0) → (event → ⊥)
+          → ⟦ Bk n ⟧ ∗ ⟦ Mine ⟧ ∗ ⟦ reached γ before ⟧ ⊢ upd 𝓤 (⟦ Bk n ⟧ ∗ ⟦ Mine ⟧ ∗ ⟦ NewIf event ⟧)
+      no_clone n event none = let Z : Pr = ⟦ Bk n ⟧ ∗ ⟦ Mine ⟧ ∗ ⟦ NewIf event ⟧ in qed 𝓛 (‵ (Bk n) ∷ ‵ Mine ∷ ‵ (reached γ before) ∷ []) ∵
+          suffices ! _ (upd_i 𝓤 Z) $ nothing ! $
+          use1 𝓛 (‵ (NewIf event)) (all_i 𝓤 {P = emp 𝓤} (λ (_ : event). ⟦ New ⟧) (λ y. absurd (none y))) $ keep ! (1 ∷ 2 ∷ 0 ∷ []) $ done !
 
       -- a load: if it finds the word marked, the clone is born
-      pub finds : (n : ℕ) → ⟦ Bk n ⟧ ∗ ⟦ Mine ⟧ ⊢ upd 𝓤 (⟦ Bk n ⟧ ∗ ⟦ Mine ⟧ ∗ ⟦ NewIf (IsMarked n) ⟧)
+      pub finds : (n : ℕ) → ⟦ Bk n ⟧ ∗ ⟦ Mine ⟧ ∗ ⟦ reached γ before ⟧ ⊢ upd 𝓤 (⟦ Bk n ⟧ ∗ ⟦ Mine ⟧ ∗ ⟦ NewIf (IsMarked n) ⟧)
       finds n = elim (odd_or_even n) [
         | inl odd ↦ clone n n (IsMarked n) (word_kept L n odd)
         | inr even ↦ no_clone n (IsMarked n) (λ odd. absurd (omega (arith, odd, even)))
@@ -302,7 +315,7 @@ module _ {M : Type 1} {𝓤 : Ura M} (𝓛 : Logic 𝓤) where
         to n = either (eqb n old) new n
 
         abbrev Turn : ℕ → ℕ → Type 1
-        Turn n n' = ⟦ Bk n ⟧ ∗ ⟦ Mine ⟧ ⊢ upd 𝓤 (⟦ Bk n' ⟧ ∗ ⟦ Mine ⟧ ∗ ⟦ NewIf (IsMarkedOr old n) ⟧)
+        Turn n n' = ⟦ Bk n ⟧ ∗ ⟦ Mine ⟧ ∗ ⟦ reached γ before ⟧ ⊢ upd 𝓤 (⟦ Bk n' ⟧ ∗ ⟦ Mine ⟧ ∗ ⟦ NewIf (IsMarkedOr old n) ⟧)
 
         hit : Turn old (to old)
         hit = subst (Turn old) (sym (ap (λ y. either y new old) (eq-eqb old old refl))) (clone old new (IsMarkedOr old old) (word_cloned L old new asked))

@@ -8,7 +8,8 @@ use Rattle.arcstr_block.proofs.Names.{true, false, ◌<◌, Option, None, Some, 
 use Rattle.std.specs.Prelude.{IsNone}
 use Rattle.arcstr_count.specs.Model.{start, marked_after, living_after, makes_after, word_in, State, after}
 use Rattle.arcstr_count.proofs.LawsOfHistories.{after_from-append, mark_stays}
-use Rattle.arcstr_count.proofs.OneBlock.{counted_is_living, counted_is_unmarked, ended_is_marked, free_is_last, freed_is_alone, leak_marks, left_is_used, static_is_marked}
+use Rattle.arcstr_count.proofs.OneBlock.{counted_is_living, counted_is_unmarked, ended_is_marked, free_is_last, freed_is_alone, leak_marks, left_is_used}
+use Rattle.arcstr_count.proofs.OneBlock.{static_is_marked}
 use Rattle.arcstr_block.specs.Handle.{SawBack, SawCount, SawMark}
 use Rattle.arcstr_block.proofs.Words.{marked_word}
 

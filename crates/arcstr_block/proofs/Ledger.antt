@@ -35,7 +35,8 @@ module _ {M : Type 1} {𝓤 : Ura M} (𝓛 : Logic 𝓤) where
         use1 𝓛 (‵ (parts a j)) (parts_in j f.0 f.1) $ move ! (1 ∷ []) $ use1 𝓛 (‵ (parts a i)) (parts_in i e.0 e.1) $ done !))
 
     glued : (i j : ℕ) (r : Share) → Counts 63 r (i + j) → ⟦ parts a i ⟧ ∗ ⟦ parts a j ⟧ ⊢ A.lft (a ∷ []) r
-    glued i j r c = qed 𝓛 (‵ (parts a i) ∷ ‵ (parts a j) ∷ []) ∵ fpick ! (λ e. fpick ! (λ ce. move ! (1 ∷ []) $ fpick ! (λ f. fpick ! (λ cf. move ! (1 ∷ 0 ∷ []) $
+    glued i j r c =
+        qed 𝓛 (‵ (parts a i) ∷ ‵ (parts a j) ∷ []) ∵ fpick ! (λ e. fpick ! (λ ce. move ! (1 ∷ []) $ fpick ! (λ f. fpick ! (λ cf. move ! (1 ∷ 0 ∷ []) $
         by ! (𝓛.lfts.lft_glue (a ∷ []) r e f (Counts-op 63 e f r i j (i + j) ce cf c refl))))))
 
     pub parts_glue : (i j k : ℕ) → i + j ≡ k → 0 < k → k ≤ 2 ^ 63 → ⟦ parts a i ⟧ ∗ ⟦ parts a j ⟧ ⊢ ⟦ parts a k ⟧

@@ -144,7 +144,8 @@ module _ {M : Type 1} {𝓤 : Ura M} (𝓛 : Logic 𝓤) (at_mem : Memory → SP
     makes_gives v =
         qed 𝓛 (raw (MakeContract.post at_makes v) ∷ []) ∵ updating ! $
         use1 𝓛 (later (some (λ (r : Slots ℕ). ((‵ (flft [] full_share) ⊛ ‵ ftrue) ⊛ ‵ (Bytes.own_val r (v ∷ [])))
-        ⊛ some (λ (ws : Unit {0} × (Unit {0} × Unit {0})). ‵ (fsep ftrue (fsep ftrue ftrue)) ⊛ raw (fact 𝓤 (IsSlotsMade r)))))) (id⊢ 𝓤 _) $ await ! tt $ pick ! (λ r.
+        ⊛ some (λ (ws : Unit {0} × (Unit {0} × Unit {0})). ‵ (fsep ftrue (fsep ftrue ftrue)) ⊛ raw (fact 𝓤 (IsSlotsMade r)))))) (id⊢ 𝓤 _) $ await ! tt $ pick !
+        (λ r.
         split ! $ move ! (1 ∷ []) $ pick ! (λ ws. split ! $ drop ! $ heard ! (IsSlotsMade r) (λ is. split ! $ drop ! $ fsplit ! $
         peeks ! DataFields (Is DataFields) (shows 𝓛 DataFields) (r.ptr, (r.len, tt)) (v ∷ []) (λ so. fjoin ! $ now ! $
         show ! (λ (z : Slots ℕ). guard 𝓤 (IsSlotsMade z × (v ≡ words_val (block_ptr b o) n)) (sem 𝓛 (Bytes.own_val z (v ∷ [])))) r $

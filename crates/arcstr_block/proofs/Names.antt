@@ -108,7 +108,7 @@ pub use Rattle.arcstr_block.specs.Memory.{block_owns, block_shares, word_at, Fit
 pub use Rattle.arcstr_block.specs.Memory.{length_lies, text_lies, rim, IsText, sole_owns, sole_shares, in_memory}
 pub use Rattle.arcstr_block.specs.Rights.{uncounted, counted, HasSeat, Right, dropping, owed, MaySee, IsFree, Looks, Finds, Gains, Begins, Leaves, fixed, Loads}
 pub use Rattle.arcstr_block.specs.Rights.{right_index, right_at, right_at_index}
-pub use Rattle.arcstr_block.specs.Steps.{LoadEnds, LoadedAs}
+pub use Rattle.arcstr_block.specs.Steps.{LoadEnds, LoadedAs, BornAs, ClonedAs}
 pub use Rattle.arcstr_block.specs.Word.{IsLimit, word_of, IsMarked, IsClone, IsUnmarked, IsLast, one, IsCountWord}
 
 pub record Operators {M : Type 1} (𝓤 : Ura M) : Type 3 where

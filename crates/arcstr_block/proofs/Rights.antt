@@ -2,11 +2,11 @@
 use Rattle.arcstr_block.proofs.Names.{◌≡◌, ℕ, Bool, true, [], ◌∷◌, refl, arith, false, List, sym, subst, inl, inr, ◌≢◌, ap, if◌then◌else◌, dite, ℕ_discrete}
 use Rattle.arcstr_block.proofs.Names.{Ura, Lft, Share, Fml, fsep, fex, flft, finv, fshr_bor, ftrue, fall, Counts, emp, all_i, upd, id⊢, all_e, ⊑_static}
 use Rattle.arcstr_block.proofs.Names.{ShrLaws, no_item, ‵, later, ◌$◌, ◌∵◌, !, qed, move, use1, use2, fsplit, fjoin, fjoin3, fpick, fpack, await, updating, now}
-use Rattle.arcstr_block.proofs.Names.{by}
-use Rattle.arcstr_block.proofs.Names.{done, keep, fsplit3, drop, rewrite, use3, Logic, bor_new, bor_fracture, lent_back, look_reply, FlagAndCount, looked_of}
-use Rattle.arcstr_block.proofs.Names.{HandleState, Free, Dropping, Owing, Gone, Step, Look, Book, reached, seat, seat_share, Ends, Id, parts, Inv, knows, free}
+use Rattle.arcstr_block.proofs.Names.{done, keep, fsplit3, drop, rewrite, Logic, bor_new, bor_fracture, lent_back, look_reply, FlagAndCount, looked_of}
+use Rattle.arcstr_block.proofs.Names.{HandleState, Free, Dropping, Owing, Gone, Step, Look, Clone, Handle, Book, reached, seat, seat_share, Ends, Id, parts}
+use Rattle.arcstr_block.proofs.Names.{Inv, knows, free}
 use Rattle.arcstr_block.proofs.Names.{right_to, shown, free_shown, uncounted, counted, HasSeat, Right, dropping, owed, MaySee, IsFree, Looks, Finds, Gains}
-use Rattle.arcstr_block.proofs.Names.{Begins, Leaves, fixed, Loads, LoadEnds, word_of, IsMarked, IsUnmarked, IsLast, one, operators}
+use Rattle.arcstr_block.proofs.Names.{Begins, Leaves, fixed, Loads, LoadEnds, BornAs, word_of, IsMarked, IsUnmarked, IsLast, one, operators}
 use Rattle.arcstr_block.specs.Rights.{nothing}
 use Rattle.arcstr_block.specs.Ledger.{fact}
 use Rattle.arcstr_block.proofs.Ledger.{parts_in}
@@ -123,100 +123,144 @@ module _ {M : Type 1} {𝓤 : Ura M} (𝓛 : Logic 𝓤) (P : Fml) (L b o : ℕ)
     marked share e = record { right = fixed; said = refl; turns = permanent_of }
     marked last e = absurd cc
 
-    -- ---- a clone; `event` says whether it succeeds
-    abbrev pub newborn : Type 0 → Fml
-    newborn event = fall event (λ _. NewSeat 𝓛 L t.name.history t.name.seats)
+    -- ---- a clone by the handle h, after the history `before`; `event` says whether it succeeds
+    module _ (h : ℕ) (before : List Step) where
+      abbrev New : Fml
+      New = NewSeat 𝓛 L t.name.history t.name.seats h before
 
-    abbrev FromClone : Type 0 → Gain → Pr
-    FromClone event g = ⟦ gained 𝓛 P L b o t g ⟧ ∗ ⟦ s a ⟧ ∗ ⟦ newborn event ⟧
+      abbrev pub newborn : Type 0 → Fml
+      newborn event = fall event (λ _. New)
 
-    abbrev ToClone : Right → Pr
-    ToClone k = ⟦ fex ℕ (λ j. Held j k) ⟧
+      -- a right of the handle x.0, with the prefix x.1 of the history, which ends in its birth if the clone succeeds
+      abbrev pub born_as : Type 0 → Right → ℕ × List Step → Fml
+      born_as event k x = fsep (fact (event → BornAs L h before x.0 x.1)) (fsep (reached t.name.history x.1) (Held x.0 k))
 
-    no_clone : (event : Type 0) (X : Fml) → ⟦ X ⟧ ∗ ⟦ s a ⟧ ∗ ⟦ newborn event ⟧ ⊢ H.⇛ (ToClone nothing)
-    no_clone event X = qed 𝓛 (‵ X ∷ ‵ (s a) ∷ ‵ (newborn event) ∷ []) ∵ updating ! $ keep ! (1 ∷ []) $ fpack ! ℕ (λ j. Held j nothing) 0 $ now ! $ done !
+      abbrev pub AfterClone : Type 0 → Right → Fml
+      AfterClone event k = fex (ℕ × List Step) (born_as event k)
 
-    counted_clone : (event : Type 0) → event → FromClone event part ⊢ H.⇛ (ToClone counted)
-    counted_clone event y = qed 𝓛 (‵ (parts t.sharing 1) ∷ ‵ (s a) ∷ ‵ (newborn event) ∷ []) ∵ updating ! $ fpick ! (λ e. fpick ! (λ c. move ! (2 ∷ []) $
-        use1 𝓛 (‵ (NewSeat 𝓛 L t.name.history t.name.seats)) (all_e 𝓤 (λ (_ : event). ⟦ NewSeat 𝓛 L t.name.history t.name.seats ⟧) y) $ fpick ! (λ j. no_item ! $
-        use1 𝓛 (‵ (knows t counted)) knows_nothing $
-        move ! (2 ∷ 0 ∷ 3 ∷ 1 ∷ []) $ types.Kit.group ! 4 $
-        use1 𝓛 (‵ (Held j counted)) (free_in P L b o s laws j 𝓛 t counted e (λ _. c)) $ fpack ! ℕ (λ i. Held i counted) j $ now ! $ done !)))
+      abbrev FromClone : Type 0 → List Step → Gain → Pr
+      FromClone event r g = ⟦ gained 𝓛 P L b o t g ⟧ ∗ ⟦ s a ⟧ ∗ ⟦ newborn event ⟧ ∗ ⟦ reached t.name.history r ⟧
 
-    uncounted_clone : (event : Type 0) → event → FromClone event share ⊢ H.⇛ (ToClone uncounted)
-    uncounted_clone event y = qed 𝓛 (‵ (gained 𝓛 P L b o t share) ∷ ‵ (s a) ∷ ‵ (newborn event) ∷ []) ∵ updating ! $ fsplit ! $ fpick ! (λ e. move ! (3 ∷ []) $
-        use1 𝓛 (‵ (NewSeat 𝓛 L t.name.history t.name.seats)) (all_e 𝓤 (λ (_ : event). ⟦ NewSeat 𝓛 L t.name.history t.name.seats ⟧) y) $
-        fpick ! (λ j. move ! (2 ∷ []) $
-        use1 𝓛 (‵ (knows t uncounted)) knows_mark $ move ! (2 ∷ 0 ∷ 3 ∷ 1 ∷ []) $ types.Kit.group ! 4 $
-        use1 𝓛 (‵ (Held j uncounted)) (free_in P L b o s laws j 𝓛 t uncounted e (λ w. absurd cc)) $ fpack ! ℕ (λ i. Held i uncounted) j $ now ! $ done !))
+      abbrev ToClone : Type 0 → Right → Pr
+      ToClone event k = ⟦ AfterClone event k ⟧
 
-    neither : (n : ℕ) → (IsMarked n → ⊥) → (IsUnmarked n → ⊥) → ⊥
-    neither n x y = elim (odd_or_even n) [ inl odd ↦ x odd | inr even ↦ y even ]
+      -- what is new of a clone that succeeds: its seat, and the history
+      new_of : (event : Type 0) → event → ⟦ newborn event ⟧ ⊢ ⟦ New ⟧
+      new_of event y = all_e 𝓤 (λ (_ : event). ⟦ New ⟧) y
 
-    pub found : (n : ℕ) (g : Gain) → (IsMarked n → g ≡ share) → (IsUnmarked n → g ≡ none) → Becomes (Finds n) (FromClone (IsMarked n) g) ToClone
-    found n none m u = record { right = nothing; said = ((λ odd. let e = m odd in absurd cc), (λ _. refl)); turns = no_clone (IsMarked n) ftrue }
-    found n part m u = absurd (neither n (λ odd. let e = m odd in absurd cc) (λ even. let e = u even in absurd cc))
-    found n share m u = record {
-      right = uncounted;
-      said = (
-        (λ _. refl),
-        (λ even.
-            let e = u even in absurd cc),
-      );
-      turns = uncounted_clone (IsMarked n) (elim (odd_or_even n) [ inl odd ↦ odd | inr even ↦ let e = u even in absurd cc ]);
-    }
-    found n last m u = absurd (neither n (λ odd. let e = m odd in absurd cc) (λ even. let e = u even in absurd cc))
+      no_clone : (event : Type 0) (X : Fml) (r : List Step) → (event → ⊥)
+          → ⟦ X ⟧ ∗ ⟦ s a ⟧ ∗ ⟦ newborn event ⟧ ∗ ⟦ reached t.name.history r ⟧ ⊢ H.⇛ (ToClone event nothing)
+      no_clone event X r never = qed 𝓛 (‵ X ∷ ‵ (s a) ∷ ‵ (newborn event) ∷ ‵ (reached t.name.history r) ∷ []) ∵ updating ! $ keep ! (3 ∷ 1 ∷ []) $ fjoin ! $
+          no_item ! $ fpack ! (event → BornAs L h before 0 r) (λ _. ftrue) (λ y. absurd (never y)) $ fjoin ! $
+          fpack ! (ℕ × List Step) (born_as event nothing) (0, r) $ now ! $ done !
 
-    module _ (old new n : ℕ) where
-      abbrev IsGainOf : Gain → Type 0
-      IsGainOf g = (IsMarked n → g ≡ share) × (IsUnmarked n → n ≢ old → g ≡ none) × (n ≡ old → IsUnmarked new → g ≡ part) × (n ≡ old → IsMarked new → g ≡ share)
+      -- a right and the history that was reached
+      born_in : (event : Type 0) (k : Right) (j : ℕ) → ⟦ Held j k ⟧ ∗ ⟦ Ends L t.name.history t.name.seats before (Clone h) (Handle j) ⟧ ⊢ ToClone event k
+      born_in event k j = qed 𝓛 (‵ (Held j k) ∷ ‵ (Ends L t.name.history t.name.seats before (Clone h) (Handle j)) ∷ []) ∵ move ! (1 ∷ []) $
+          fpick ! (λ r. fsplit ! $ fpick ! (λ ends. drop ! $ fjoin ! $
+          no_item ! $ fpack ! (event → BornAs L h before j r) (λ _. ftrue) (λ _. ends) $ fjoin ! $ fpack ! (ℕ × List Step) (born_as event k) (j, r) $ done !))
 
-      event_of : (g : Gain) → (g ≡ none → ⊥) → IsGainOf g → IsMarkedOr old n
-      event_of g some ok = elim (odd_or_even n) [
-        | inl odd ↦ inl odd
-        | inr even ↦ dite (ℕ_discrete n old) (λ e. inr e) (λ ne. absurd (some (ok.1 even ne)))
-      ]
+      counted_clone : (event : Type 0) (r : List Step) → event → FromClone event r part ⊢ H.⇛ (ToClone event counted)
+      counted_clone event r y = qed 𝓛 (‵ (parts t.sharing 1) ∷ ‵ (s a) ∷ ‵ (newborn event) ∷ ‵ (reached t.name.history r) ∷ []) ∵ updating ! $
+          keep ! (0 ∷ 1 ∷ 2 ∷ []) $ fpick ! (λ e. fpick ! (λ c. move ! (2 ∷ []) $
+          use1 𝓛 (‵ New) (new_of event y) $ fpick ! (λ j. fsplit ! $ move ! (1 ∷ []) $
+          -- [the history; the seat; the token; what is shared]
+          move ! (1 ∷ 2 ∷ 3 ∷ []) $ no_item ! $
+          use1 𝓛 (‵ (knows t counted)) knows_nothing $
+          move ! (2 ∷ 0 ∷ 3 ∷ 1 ∷ []) $ types.Kit.group ! 4 $
+          use1 𝓛 (‵ (Held j counted)) (free_in P L b o s laws j 𝓛 t counted e (λ _. c)) $
+          use2 𝓛 (‵ (AfterClone event counted)) (born_in event counted j) $ now ! $ done !)))
 
-      no_last : IsGainOf last → ⊥
-      no_last ok = neither n (λ odd. let e = ok.0 odd in absurd cc) (λ even. dite (ℕ_discrete n old)
-          (λ same. neither new (λ odd. let e = ok.3 same odd in absurd cc) (λ un. let e = ok.2 same un in absurd cc))
-          (λ ne. let e = ok.1 even ne in absurd cc))
+      uncounted_clone : (event : Type 0) (r : List Step) → event → FromClone event r share ⊢ H.⇛ (ToClone event uncounted)
+      uncounted_clone event r y = qed 𝓛 (‵ (gained 𝓛 P L b o t share) ∷ ‵ (s a) ∷ ‵ (newborn event) ∷ ‵ (reached t.name.history r) ∷ []) ∵ updating ! $
+          keep ! (0 ∷ 1 ∷ 2 ∷ []) $ fsplit ! $ fpick ! (λ e. move ! (3 ∷ []) $
+          use1 𝓛 (‵ New) (new_of event y) $
+          fpick ! (λ j. fsplit ! $ move ! (0 ∷ 2 ∷ 3 ∷ 4 ∷ 1 ∷ []) $
+          -- [the seat; the token; what is known; what is shared; the history]
+          move ! (2 ∷ []) $
+          use1 𝓛 (‵ (knows t uncounted)) knows_mark $ move ! (2 ∷ 0 ∷ 3 ∷ 1 ∷ []) $ types.Kit.group ! 4 $
+          use1 𝓛 (‵ (Held j uncounted)) (free_in P L b o s laws j 𝓛 t uncounted e (λ w. absurd cc)) $
+          use2 𝓛 (‵ (AfterClone event uncounted)) (born_in event uncounted j) $ now ! $ done !))
 
-      pub raised : (g : Gain) → IsGainOf (g) → Becomes (Gains old new n) (FromClone (IsMarkedOr old n) g) ToClone
-      raised none ok = record {
+      neither : (n : ℕ) → (IsMarked n → ⊥) → (IsUnmarked n → ⊥) → ⊥
+      neither n x y = elim (odd_or_even n) [ inl odd ↦ x odd | inr even ↦ y even ]
+
+      pub found : (n : ℕ) (r : List Step) (g : Gain) → (IsMarked n → g ≡ share) → (IsUnmarked n → g ≡ none)
+          → Becomes (Finds n) (FromClone (IsMarked n) r g) (ToClone (IsMarked n))
+      found n r none m u = record {
         right = nothing;
-        said = (
-          (λ odd. let e = ok.0 odd in absurd cc),
-          (λ _ _. refl),
-          (λ hit un.
-              let e = ok.2 hit un in absurd cc),
-          (λ hit odd. let e = ok.3 hit odd in absurd cc),
-        );
-        turns = no_clone (IsMarkedOr old n) ftrue;
+        said = ((λ odd. let e = m odd in absurd cc), (λ _. refl));
+        turns = no_clone (IsMarked n) ftrue r (λ odd. let e = m odd in absurd cc);
       }
-      raised part ok = record {
-        right = counted;
-        said = (
-          (λ odd. let e = ok.0 odd in absurd cc),
-          (λ even miss. let e = ok.1 even miss in absurd cc),
-          (λ _ _.
-              refl),
-          (λ hit odd. let e = ok.3 hit odd in absurd cc),
-        );
-        turns = counted_clone (IsMarkedOr old n) (event_of part (λ e. absurd cc) ok);
-      }
-      raised share ok = record {
+      found n r part m u = absurd (neither n (λ odd. let e = m odd in absurd cc) (λ even. let e = u even in absurd cc))
+      found n r share m u = record {
         right = uncounted;
         said = (
           (λ _. refl),
-          (λ even miss. let e = ok.1 even miss in absurd cc),
-          (λ hit un.
-              let e = ok.2 hit un in absurd cc),
-          (λ _ _. refl),
+          (λ even.
+              let e = u even in absurd cc),
         );
-        turns = uncounted_clone (IsMarkedOr old n) (event_of share (λ e. absurd cc) ok);
+        turns = uncounted_clone (IsMarked n) r (elim (odd_or_even n) [ inl odd ↦ odd | inr even ↦ let e = u even in absurd cc ]);
       }
-      raised last ok = absurd (no_last ok)
+      found n r last m u = absurd (neither n (λ odd. let e = m odd in absurd cc) (λ even. let e = u even in absurd cc))
+
+      module _ (old new n : ℕ) (r : List Step) where
+        abbrev IsGainOf : Gain → Type 0
+        IsGainOf g = (IsMarked n → g ≡ share) × (IsUnmarked n → n ≢ old → g ≡ none) × (n ≡ old → IsUnmarked new → g ≡ part)
+            × (n ≡ old → IsMarked new → g ≡ share)
+
+        event_of : (g : Gain) → (g ≡ none → ⊥) → IsGainOf g → IsMarkedOr old n
+        event_of g some ok = elim (odd_or_even n) [
+          | inl odd ↦ inl odd
+          | inr even ↦ dite (ℕ_discrete n old) (λ e. inr e) (λ ne. absurd (some (ok.1 even ne)))
+        ]
+
+        no_last : IsGainOf last → ⊥
+        no_last ok = neither n (λ odd. let e = ok.0 odd in absurd cc) (λ even. dite (ℕ_discrete n old)
+            (λ same. neither new (λ odd. let e = ok.3 same odd in absurd cc) (λ un. let e = ok.2 same un in absurd cc))
+            (λ ne. let e = ok.1 even ne in absurd cc))
+
+        no_event : IsGainOf none → IsMarkedOr old n → ⊥
+        no_event ok y = elim y [
+          | inl odd ↦ let e = ok.0 odd in absurd cc
+          | inr hit ↦ neither new (λ odd. let e = ok.3 hit odd in absurd cc) (λ un. let e = ok.2 hit un in absurd cc)
+        ]
+
+        pub raised : (g : Gain) → IsGainOf (g) → Becomes (Gains old new n) (FromClone (IsMarkedOr old n) r g) (ToClone (IsMarkedOr old n))
+        raised none ok = record {
+          right = nothing;
+          said = (
+            (λ odd. let e = ok.0 odd in absurd cc),
+            (λ _ _. refl),
+            (λ hit un.
+                let e = ok.2 hit un in absurd cc),
+            (λ hit odd. let e = ok.3 hit odd in absurd cc),
+          );
+          turns = no_clone (IsMarkedOr old n) ftrue r (no_event ok);
+        }
+        raised part ok = record {
+          right = counted;
+          said = (
+            (λ odd. let e = ok.0 odd in absurd cc),
+            (λ even miss. let e = ok.1 even miss in absurd cc),
+            (λ _ _.
+                refl),
+            (λ hit odd. let e = ok.3 hit odd in absurd cc),
+          );
+          turns = counted_clone (IsMarkedOr old n) r (event_of part (λ e. absurd cc) ok);
+        }
+        raised share ok = record {
+          right = uncounted;
+          said = (
+            (λ _. refl),
+            (λ even miss. let e = ok.1 even miss in absurd cc),
+            (λ hit un.
+                let e = ok.2 hit un in absurd cc),
+            (λ _ _. refl),
+          );
+          turns = uncounted_clone (IsMarkedOr old n) r (event_of share (λ e. absurd cc) ok);
+        }
+        raised last ok = absurd (no_last ok)
 
     -- ---- the drop: its look and its subtraction
     module _ (n h : ℕ) where
@@ -276,19 +320,18 @@ module _ {M : Type 1} {𝓤 : Ura M} (𝓛 : Logic 𝓤) (P : Fml) (L b o : ℕ)
 
       -- the history after the load found the word n
       abbrev pub entered : Bool → ℕ → Fml
-      entered true n = newborn (IsMarked n)
+      entered true n = newborn h before (IsMarked n)
       entered false n = Ends L t.name.history t.name.seats before (Look h) (look_reply (looked_of (word_of n)))
 
       pub enters : (clones : Bool) (q : Share) (n : ℕ)
           → ⟦ Bk n ⟧ ∗ ⟦ seat_share t.name.seats h q Free ⟧ ∗ ⟦ reached t.name.history before ⟧
           ⊢ upd 𝓤 (⟦ Bk n ⟧ ∗ ⟦ seat_share t.name.seats h q Free ⟧ ∗ ⟦ entered clones n ⟧)
-      enters true q n = qed 𝓛 (‵ (Bk n) ∷ ‵ (seat_share t.name.seats h q Free) ∷ ‵ (reached t.name.history before) ∷ []) ∵
-          keep ! (0 ∷ 1 ∷ []) $ by ! (finds 𝓛 L t.name.history t.name.seats h q n)
+      enters true q n = finds 𝓛 L t.name.history t.name.seats h q before n
       enters false q n = book_look 𝓛 L t.name.history t.name.seats n h q before
 
       -- a right of the handle x.0, with the prefix x.1 of the history
       abbrev pub right_after : Bool → ℕ → Right → ℕ × List Step → Fml
-      right_after clones n k x = fsep (fact (LoadEnds clones L h before n x.1)) (fsep (reached t.name.history x.1) (right_to P L b o t s x.0 k))
+      right_after clones n k x = fsep (fact (LoadEnds clones L h before n x.0 x.1)) (fsep (reached t.name.history x.1) (right_to P L b o t s x.0 k))
 
       abbrev pub AfterLoad : Bool → ℕ → Right → Fml
       AfterLoad clones n k = fex (ℕ × List Step) (right_after clones n k)
@@ -298,19 +341,14 @@ module _ {M : Type 1} {𝓤 : Ura M} (𝓛 : Logic 𝓤) (P : Fml) (L b o : ℕ)
 
       pub loaded : (clones : Bool) (n : ℕ) (r : List Step) (g : Gain) → (IsMarked n → g ≡ share) → (IsUnmarked n → g ≡ none)
           → Becomes (Loads clones n) (FromLoad clones n r g) (λ k. ⟦ AfterLoad clones n k ⟧)
-      loaded true n r g m u = let got = found n g m u in record {
-        right = got.right;
-        said = got.said;
-        turns = qed 𝓛 (‵ (gained 𝓛 P L b o t g) ∷ ‵ (s (t.sharing ∷ [])) ∷ ‵ (entered true n) ∷ ‵ (reached t.name.history r) ∷ []) ∵ updating ! $
-            use3 𝓛 (later (‵ (fex ℕ (λ j. right_to P L b o t s j got.right)))) got.turns $ await ! tt $ fpick ! (λ j. move ! (1 ∷ 0 ∷ []) $ fjoin ! $
-            no_item ! $ fpack ! (LoadEnds true L h before n r) (λ _. ftrue) tt $ fjoin ! $ fpack ! (ℕ × List Step) (right_after true n got.right) (j, r) $ now ! $ done !);
-      }
+      loaded true n r g m u = let got = found h before n r g m u in record { right = got.right; said = got.said; turns = got.turns }
       loaded false n r g m u = let got = looked n g m u in record {
         right = got.right;
         said = got.said;
         turns = qed 𝓛 (‵ (gained 𝓛 P L b o t g) ∷ ‵ (s (t.sharing ∷ [])) ∷ ‵ (entered false n) ∷ ‵ (reached t.name.history r) ∷ []) ∵ updating ! $
             use2 𝓛 (later (‵ (right_to P L b o t s 0 got.right))) got.turns $ await ! tt $ move ! (1 ∷ []) $ fpick ! (λ r'. fsplit ! $ fpick ! (λ ends. drop ! $
             fjoin ! $
-            no_item ! $ fpack ! (LoadEnds false L h before n r') (λ _. ftrue) (ends.0, marked_by_word L n r' h ends.0, ends.1) $ fjoin ! $ fpack ! (ℕ × List Step) (right_after false n got.right) (0, r') $ now ! $
+            no_item ! $ fpack ! (LoadEnds false L h before n 0 r') (λ _. ftrue) (ends.0, marked_by_word L n r' h ends.0, ends.1) $ fjoin ! $ fpack !
+            (ℕ × List Step) (right_after false n got.right) (0, r') $ now ! $
             keep ! (0 ∷ []) $ done !));
       }

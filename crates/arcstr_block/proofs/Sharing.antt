@@ -32,7 +32,8 @@ permanent_twice 𝓛 P L b o t = let a : Lft = t.sharing ∷ [] in qed 𝓛 (‵
     fjoin ! $ done !
 
 permanent_laws : (P : Fml) (L b o : ℕ) (t : Id) → ShrLaws (said (permanent P L b o t))
-permanent_laws P L b o t = record { contraction = λ M 𝓤 𝓛 κ. permanent_twice 𝓛 P L b o t; mono = λ M 𝓤 𝓛 κ' κ. snd∗ 𝓤 (sem 𝓛 (before κ' κ)) (sem 𝓛 (permanent P L b o t)) }
+permanent_laws P L b o t =
+    record { contraction = λ M 𝓤 𝓛 κ. permanent_twice 𝓛 P L b o t; mono = λ M 𝓤 𝓛 κ' κ. snd∗ 𝓤 (sem 𝓛 (before κ' κ)) (sem 𝓛 (permanent P L b o t)) }
 
 pub knows_twice : {M : Type 1} {𝓤 : Ura M} (𝓛 : Logic 𝓤) (t : Id) (right : Right)
     → ent 𝓤 (sem 𝓛 (knows t right)) (sep 𝓤 (sem 𝓛 (knows t right)) (sem 𝓛 (knows t right)))

@@ -1,4 +1,7 @@
 -- The steps on the count word of a block: what each finds, what it changes and what it gains. Assumes `Logic`.
+--
+-- We show first the rule of one step on a word that lies in an invariant, then the same of the count word, for any function that the step computes and any
+-- gain. The load, the mark, the clone and the subtraction are its cases.
 use Rattle.arcstr_block.proofs.Names.{◌≡◌, ℕ, ◌-◌, ◌^◌, Bool, true, [], ◌∷◌, refl, arith, false, List, sym, subst, ◌≢◌, ap, ◌+◌, ◌<◌, Some, eqb, eq-eqb, ne_eqb}
 use Rattle.arcstr_block.proofs.Names.{Option, None, w64, ◌/◌, bit_or, Mem, not-mem-nil, dite, ℕ_discrete, dec_le, Ura, ty_int, vint, has_ty, WT, either, Share}
 use Rattle.arcstr_block.proofs.Names.{Fml, fsep, fex, flft, finv, fdead, ftrue, fnamed, flent, full_share, via, upd, never, never_e, guard, ex, upd_i, SProp}
@@ -69,7 +72,8 @@ module _ {M : Type 1} {𝓤 : Ura M} (𝓛 : Logic 𝓤) where
         suffices ! _ (ex_i 𝓤 (λ (s : Shift). along 𝓛 s K []) (enters j I rests)) $
         suffices ! _ (upd_i 𝓤 (guard 𝓤 (¬ Mem j []) (A.named j I ∗ (⟦ I ⟧ -∗ upd 𝓤 F)))) $ check ! (λ m. not-mem-nil m) $ frame ! $ assume ! (‵ I) $
         use2 𝓛 (raw (upd 𝓤 (ex 𝓤 Lies))) h $ settle 𝓛 F (some (λ (n : ℕ). ‵ (word b o n) ⊛ raw (Again n))) $ suffices ! _ (upd_i 𝓤 F) $ pick ! (λ n. split ! $
-        show ! (found 𝓛 (Held j n) b o f always after) n $ frame ! $ each ! (λ (_ : Unit {0}). back 𝓛 (Held j n) b o f after n) (λ _. assume ! (‵ (word b o (f n))) $
+        show ! (found 𝓛 (Held j n) b o f always after) n $ frame ! $ each ! (λ (_ : Unit {0}). back 𝓛 (Held j n) b o f after n)
+        (λ _. assume ! (‵ (word b o (f n))) $
         use2 𝓛 (raw (upd 𝓤 (ex 𝓤 (Out n)))) (apply∗ 𝓤 ⟦ word b o (f n) ⟧ (upd 𝓤 (ex 𝓤 (Out n)))) $
         let S : Option ℕ → Pr = λ e. along 𝓛 (way e) (if_none 𝓛 (Then j n)) (Held j n) in
         suffices ! _ (ex_i 𝓤 (λ (s : Shift). along 𝓛 s (if_none 𝓛 (Then j n)) (Held j n)) (picks (Option ℕ) way)) $

@@ -55,14 +55,22 @@ module _ {X : Type 0} (f : X → List ℕ) (sep : List ℕ) where
       let none : join_by f sep (take 0 xs) ++ gap ≡ join_by f sep (take 0 xs) = ap (λ g. g) (first refl) in
       sym (ap (λ g. g ++ f (get_or xs 0 d)) none ∙ separated_first f sep xs 0 d (omega arith) within)
   joined_more xs (suc i) d gap within first later =
-      sym (ap (λ g. (join_by f sep (take (suc i) xs) ++ g) ++ f (get_or xs (suc i) d)) (later (omega arith)) ∙ separated_more f sep xs (suc i) d (omega arith) within)
+      sym (ap (λ g. (join_by f sep (take (suc i) xs) ++ g) ++ f (get_or xs (suc i) d)) (later (omega arith))
+      ∙ separated_more f sep xs (suc i) d (omega arith) within)
 
   -- what is joined so far, the gap and the text are no longer than all that is joined
   pub joined_room : (xs : List X) (i : ℕ) (d : X) (gap : List ℕ) → i < length xs → (i ≡ 0 → gap ≡ []) → (0 < i → gap ≡ sep)
       → (length (join_by f sep (take i xs)) + length gap) + length (f (get_or xs i d)) ≤ length (join_by f sep xs)
   joined_room xs i d gap within first later =
       let prefix : List ℕ = join_by f sep (take i xs) in let last : List ℕ = f (get_or xs i d) in
-      omega (arith, joined_within xs (i + 1), ap length (joined_more xs i d gap within first later), length-append (prefix ++ gap) last, length-append prefix gap)
+      omega (
+        arith,
+        joined_within xs (i + 1),
+        ap length (joined_more xs i d gap within first later),
+        length-append
+            (prefix ++ gap) last,
+        length-append prefix gap,
+      )
 
 -- a text after a text is a text
 pub two_texts : (xs ys zs : List ℕ) → zs ≡ xs ++ ys → IsUtf8 xs → IsUtf8 ys → IsUtf8 zs

@@ -1,8 +1,8 @@
 -- What contracts see of a handle on a block, and what was seen of its block's history.
 use Rattle.std.specs.Prelude.{ℕ, IsTrue, List}
 use Rattle.arcstr_count.specs.declared.steps.Step.{Step}
-use Rattle.arcstr_count.specs.declared.steps.Step.TheVariants.{Look, Leak, Back}
-use Rattle.arcstr_count.specs.declared.steps.Reply.TheVariants.{Count, Static, Marked, Given}
+use Rattle.arcstr_count.specs.declared.steps.Step.TheVariants.{Look, Clone, Leak, Back}
+use Rattle.arcstr_count.specs.declared.steps.Reply.TheVariants.{Count, Static, Handle as HandleReply, Marked, Given}
 use Rattle.arcstr_count.specs.Model.{marked_after}
 use Rattle.arcstr_count.specs.OneBlock.{IsOneBlock, EndsIn}
 use Rattle.arcstr_block.specs.Book.{BlockName}
@@ -41,6 +41,10 @@ SawCount limit history h n = EndsIn limit history (Look h) (Count n)
 -- the history ends in a look of handle h at a marked block
 abbrev pub SawMark : ℕ → List Step → ℕ → Type 0
 SawMark limit history h = EndsIn limit history (Look h) Static
+
+-- the history ends in a clone by handle h, by which handle j was born
+abbrev pub SawClone : ℕ → List Step → ℕ → ℕ → Type 0
+SawClone limit history h j = EndsIn limit history (Clone h) (HandleReply j)
 
 -- the history ends in a mark by handle h
 abbrev pub SawLeak : ℕ → List Step → ℕ → Type 0

@@ -1,5 +1,5 @@
 -- What the steps of a handle say: of another pointer to its block, and of how the handle ended.
-use Rattle.std.specs.Prelude.{◌≡◌, ℕ, Bool, true, false, List}
+use Rattle.std.specs.Prelude.{◌≡◌, ◌⊎◌, ℕ, Bool, true, false, List}
 use Rattle.arcstr_count.specs.declared.steps.Step.{Step}
 use Rattle.arcstr_count.specs.declared.steps.Step.TheVariants.{Look, Begin, Sub, Leak}
 use Rattle.arcstr_count.specs.declared.steps.Reply.{Reply}
@@ -9,16 +9,20 @@ use Rattle.arcstr_count.specs.Model.{look_reply}
 use Rattle.arcstr_count.specs.OneBlock.{EndsIn}
 use Rattle.arcstr_block.specs.Word.{word_of, IsMarked, IsUnmarked, IsLast}
 use Rattle.arcstr_block.specs.Book.{IsLater}
-use Rattle.arcstr_block.specs.Handle.{Handle, IsMarkedIn}
+use Rattle.arcstr_block.specs.Handle.{Handle, SawClone, IsMarkedIn}
 use Rattle.arcstr_block.specs.declared.pointer.Pointer.{Pointer}
 use Rattle.arcstr_block.specs.declared.owed.Down.{Down}
 use Rattle.arcstr_block.specs.declared.owed.Down.TheVariants.{Ended, Left, Owes}
 
--- the history is later than `before`, ends in a look of handle h that found the count word, and has marked its block if the count word is marked;
--- the load of a clone, which gives birth to a handle, says nothing
-abbrev pub LoadEnds : Bool → ℕ → ℕ → List Step → ℕ → List Step → Type 0
-LoadEnds true limit h before word history = Unit {0}
-LoadEnds false limit h before word history =
+-- the history is later than `before`, and ends in a clone by handle h, by which handle j was born
+abbrev pub BornAs : ℕ → ℕ → List Step → ℕ → List Step → Type 0
+BornAs limit h before j history = SawClone limit history h j × IsLater before history
+
+-- the load of a clone by handle h: if it found the count word marked, the history is later than `before`, and ends in the birth of handle j;
+-- a look: the history is later than `before`, ends in the look that found the count word, and has marked its block if the count word is marked
+abbrev pub LoadEnds : Bool → ℕ → ℕ → List Step → ℕ → ℕ → List Step → Type 0
+LoadEnds true limit h before word j history = IsMarked word → BornAs limit h before j history
+LoadEnds false limit h before word j history =
     EndsIn limit history (Look h) (look_reply (looked_of (word_of word))) × (IsMarked word → IsMarkedIn limit history) × IsLater before history
 
 module _ {A : Type 0} where
@@ -40,7 +44,15 @@ module _ {A : Type 0} where
 
   -- a load of p that found the count word, of a clone or as a look, after the history `before`
   abbrev pub LoadedAs : Bool → Pointer A → List Step → ℕ → Pointer A → Type 0
-  LoadedAs clones p before word q = LoadEnds clones p.limit p.seat before word q.history
+  LoadedAs clones p before word q = LoadEnds clones p.limit p.seat before word q.seat q.history
+
+  -- a clone of p, whose pointer is q, was born after the history `before`
+  abbrev pub IsBornOf : Pointer A → List Step → Pointer A → Type 0
+  IsBornOf p before q = BornAs p.limit p.seat before q.seat q.history
+
+  -- an exchange by p of the count word old for its clone, which found the count word, after the history `before`
+  abbrev pub ClonedAs : Pointer A → List Step → ℕ → ℕ → Pointer A → Type 0
+  ClonedAs p before old word q = IsMarked word ⊎ (word ≡ old) → IsBornOf p before q
 
   -- the mark by p, which marks the block, after the history `before`
   abbrev pub LeakedAs : Pointer A → List Step → Pointer A → Type 0

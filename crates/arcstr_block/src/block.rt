@@ -1,5 +1,5 @@
-//! The memory of a block, in one piece: the bytes of its text, then its count word and the length of the text in bytes.
-//! In this module one owner has all of it: its maker, or whoever frees it.
+//! The memory of a block, in one piece: the bytes of its text, then its count word and the length
+//! of the text in bytes. In this module one owner has all of it: its maker, or whoever frees it.
 ghost use Rattle.std.specs.Prelude.{◌≡◌, ◌≤◌, ℕ, List, length, take, replicate, IfOk, IsUtf8};
 ghost use Rattle.std.specs.Borrow.{sem};
 ghost use Rattle.core.specs.Mem.Slots.{slots_ptr, slots_len, slots_items, slots_filled};
@@ -47,8 +47,8 @@ impl<A: Allocator> Model for Sole<A> {
 }
 
 impl<A: Allocator> Blank<A> {
-    /// Allocates a block, `size` bytes for a text of `len`, and writes the count word at the word offset `offset`, and the
-    /// length.
+    /// Allocates a block, `size` bytes for a text of `len`, and writes the count word at the word
+    /// offset `offset`, and the length.
     pub(crate) fn make(
         alloc: &A,
         word: u64,
@@ -81,7 +81,7 @@ impl<A: Allocator> Blank<A> {
         }
     }
 
-    /// The block, once each of its bytes is written.
+    /// Returns the block, once each of its bytes is written.
     pub(crate) fn close(self, bytes: Slots<u8>) -> Sole<A>
         requires here { slots_ptr bytes ≡ self.at }
         requires long { slots_len bytes ≡ self.length }
@@ -99,7 +99,7 @@ impl<A: Allocator> Blank<A> {
 impl<A: Allocator> Sole<A> {
     ghost use Rattle.arcstr_block.specs.Lends.{sole_follows};
 
-    /// The bytes of the text, of which there are `len`.
+    /// Returns the bytes of the text, of which there are `len`.
     pub(crate) fn bytes(&self, len: usize) -> &[u8]
         requires { len ≡ length self.now.text }
         ensures { result.now ≡ self.now.text }
@@ -107,7 +107,8 @@ impl<A: Allocator> Sole<A> {
         unsafe { slice::from_raw_parts(self.at, len) }
     }
 
-    /// The first `end` bytes, which are a text. It stands apart from `bytes`, which alone has a whole proof by hand.
+    /// Returns the first `end` bytes, which are a text. It stands apart from `bytes`, which alone
+    /// has a whole proof by hand.
     pub(crate) fn text(&self, len: usize, end: usize) -> &str
         requires length { len ≡ length self.now.text }
         requires inside { end ≤ len }
@@ -137,7 +138,8 @@ impl<A: Allocator> Sole<A> {
     }
 }
 
-/// The word offset of a block, in bytes past its address: the first multiple of 8 past a text of `len` bytes.
+/// Returns the word offset of a block, in bytes past its address: the first multiple of 8 past a
+/// text of `len` bytes.
 pub(crate) fn offset_of_word(len: usize) -> usize
     requires { Fits len }
     ensures { result ≡ word_offset len }
@@ -145,7 +147,8 @@ pub(crate) fn offset_of_word(len: usize) -> usize
     (len + 7) / 8 * 8
 }
 
-/// The size in bytes of a block for a text of `len` bytes: 16 plus `len`, rounded up to a multiple of 8.
+/// Returns the size in bytes of a block for a text of `len` bytes: 16 plus `len`, rounded up to a
+/// multiple of 8.
 pub(crate) fn size_of_block(len: usize) -> usize
     requires { Fits len }
     ensures { result ≡ block_size len }

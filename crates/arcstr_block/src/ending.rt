@@ -19,15 +19,17 @@ use std::alloc::Allocator;
 pub enum End {
     /// Its block is marked static, and stays: the count word is left as it is.
     Ended,
-    /// The count was decremented, and the block stays: another handle lives, or the block is marked static.
+    /// The count was decremented, and the block stays: another handle lives, or the block is marked
+    /// static.
     Left,
     /// It was the last handle, and its block is freed.
     Freed,
 }
 
 impl<const LIMIT: u64, A: Allocator + Copy> Shared<LIMIT, A> {
-    /// Drops the handle: a load and, if the block is unmarked, a fetch-sub that lowers the count by one. The last handle frees the block. Returns
-    /// how the handle ended, and the history seen, which ends in the last step of the drop. The implicit drop of a handle is this call.
+    /// Drops the handle: a load and, if the block is unmarked, a fetch-sub that lowers the count by
+    /// one. The last handle frees the block. Returns how the handle ended, and the history seen,
+    /// which ends in the last step of the drop. The implicit drop of a handle is this call.
     ///
     /// ```
     /// let text = Shared::<5, _>::from_text(rt.alloc(), "aé")?;
@@ -35,7 +37,8 @@ impl<const LIMIT: u64, A: Allocator + Copy> Shared<LIMIT, A> {
     /// assert_eq!(rt; text.end().0, End::Ended);
     /// ```
     pub fn end(self) -> (End, Seen)
-        // Promise: The handle ended as the history seen says. Exactly the last handle frees the block.
+        // Promise: The handle ended as the history seen says. Exactly the last handle frees the
+        // block.
         ensures ends { EndedAs LIMIT result.1.history self.seat result.0 }
         ensures block { result.1.block ≡ self.block }
     {

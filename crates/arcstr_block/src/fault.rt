@@ -12,8 +12,8 @@ use std::{fmt, io};
 /// The least number of bytes that is too long for a block.
 pub(crate) const TOO_LONG: usize = (1 << 63) - 25;
 
-/// Why a text cannot be made. It is plain data of 16 bytes, and prints what is wrong. `?` converts it to an `io::Error` or an
-/// `anyhow::Error`.
+/// Why a text cannot be made. It is plain data of 16 bytes, and prints what is wrong. `?` converts
+/// it to an `io::Error` or an `anyhow::Error`.
 ///
 /// ```
 /// let made = Shared::<5, _>::init(rt.alloc(), 3, |bytes| bytes[2] = 255);
@@ -32,7 +32,8 @@ pub enum TextFault {
 }
 
 impl TextFault {
-    /// Returns the number of the fault, counted from 1 in the order of the variants. Only tests use it.
+    /// Returns the number of the fault, counted from 1 in the order of the variants. Only tests use
+    /// it.
     ///
     /// ```
     /// assert_eq!(rt; TextFault::Length.number(), 1);
@@ -85,7 +86,8 @@ impl<T: Drop> From<AllocFailed<T>> for TextFault {
 impl From<TextFault> for io::Error {
     ghost from_gives = { λ fault error. error_kind error ≡ text_fault_kind fault };
 
-    /// `InvalidInput` for a text that is too long, `OutOfMemory`, and `InvalidData` for bytes that are not UTF-8.
+    /// `InvalidInput` for a text that is too long, `OutOfMemory`, and `InvalidData` for bytes that
+    /// are not UTF-8.
     fn from(fault: TextFault) -> io::Error {
         match fault {
             TextFault::Length => io::Error::new(ErrorKind::InvalidInput, "text is too long"),

@@ -1,4 +1,5 @@
-//! Permanent blocks: blocks that are known to be marked static. No call here allocates, waits or takes an atomic step.
+//! Permanent blocks: blocks that are known to be marked static. No call here allocates, waits or
+//! takes an atomic step.
 ghost use Rattle.std.specs.Prelude.{◌≡◌, length};
 ghost use Rattle.arcstr_block.specs.Rights.{fixed};
 ghost use Rattle.arcstr_block.specs.Handle.{Kept, IsMarkedIn};
@@ -8,11 +9,12 @@ use crate::seen::Seen;
 use std::alloc::Allocator;
 use std::marker::Model;
 
-/// A permanent block. It is marked static, and its text can be read as long as its allocator lasts. Contracts see the bytes
-/// of its text, its block's name, the limit on its count, and the prefix of its history in which it was marked.
+/// A permanent block. It is marked static, and its text can be read as long as its allocator lasts.
+/// Contracts see the bytes of its text, its block's name, the limit on its count, and the prefix of
+/// its history in which it was marked.
 ///
-/// It has 16 bytes where its allocator has none, and can be sent and shared where its allocator can. Its drop does nothing:
-/// the block stays.
+/// It has 16 bytes where its allocator has none, and can be sent and shared where its allocator
+/// can. Its drop does nothing: the block stays.
 ///
 /// ```
 /// use std::alloc::Global;
@@ -80,7 +82,8 @@ impl<A: Allocator + Copy> Fixed<A> {
         }
     }
 
-    /// Returns the history that was seen when the block was marked or found marked; it includes the mark.
+    /// Returns the history that was seen when the block was marked or found marked; it includes the
+    /// mark.
     ///
     /// ```
     /// let text = Shared::<5, _>::from_text(rt.alloc(), "aé")?;

@@ -14,10 +14,11 @@ use std::alloc::Allocator;
 use std::convert::AsStr;
 
 impl<const LIMIT: u64, A: Allocator + Copy> Shared<LIMIT, A> {
-    /// Returns the first handle on a new block with these texts, joined by the separator. The call makes one allocation, and
-    /// makes a block even if nothing is joined. Errors, in this order: `Length`, for `2^63 - 25` bytes or more; `Memory`,
-    /// for an allocation failure. The caller has to ensure that `len` is the length of the joined text (`joined_len`), and
-    /// that `LIMIT` is at most `RC_MAX`.
+    /// Returns the first handle on a new block with these texts, joined by the separator. The call
+    /// makes one allocation, and makes a block even if nothing is joined. Errors, in this order:
+    /// `Length`, for `2^63 - 25` bytes or more; `Memory`, for an allocation failure. The caller has
+    /// to ensure that `len` is the length of the joined text (`joined_len`), and that `LIMIT` is at
+    /// most `RC_MAX`.
     ///
     /// ```
     /// let text = Shared::<5, _>::join(rt.alloc(), &["a", "b"], ", ", 4)?;
@@ -35,7 +36,8 @@ impl<const LIMIT: u64, A: Allocator + Copy> Shared<LIMIT, A> {
         ensures limit { IfOk result (λ made. made.limit ≡ LIMIT) }
         // Promise: The handle is the first of its block.
         ensures first { IfOk result (λ made. made.seat ≡ 0) }
-        // Promise: It fails with `Length` exactly if the text is too long, and otherwise only with `Memory`.
+        // Promise: It fails with `Length` exactly if the text is too long, and otherwise only with
+        // `Memory`.
         ensures too_long { IsErrOf result TextFault.Length ↔ IsTooLong len }
         ensures refused { IfErr result (IsFaultOfMaking len) }
     {
@@ -48,8 +50,8 @@ impl<const LIMIT: u64, A: Allocator + Copy> Shared<LIMIT, A> {
     }
 }
 
-/// Returns the length in bytes of these texts, joined by the separator; `None` if it is past `usize`. The call does not
-/// allocate.
+/// Returns the length in bytes of these texts, joined by the separator; `None` if it is past
+/// `usize`. The call does not allocate.
 ///
 /// ```
 /// assert_eq!(rt; joined_len(&["a", "b"], ", "), Some(4));
@@ -57,7 +59,8 @@ impl<const LIMIT: u64, A: Allocator + Copy> Shared<LIMIT, A> {
 /// ```
 #[tactic(auto, using(crate::proofs::Texts::joined_room, std::proofs::lemmas::List::take_all))]
 pub fn joined_len<S: AsStr>(texts: &[S], separator: &str) -> Option<usize>
-    ensures { SomeIff result (length (join_by S.text separator.now texts.now) < 2 ^ 64) (length (join_by S.text separator.now texts.now)) }
+    ensures { SomeIff result (length (join_by S.text separator.now texts.now) < 2 ^ 64)
+        (length (join_by S.text separator.now texts.now)) }
 {
     let mut len: usize = 0;
     for i in 0..texts.len() {
@@ -85,7 +88,8 @@ fn write_joined<S: AsStr>(bytes: &mut Slots<u8>, texts: &[S], separator: &str)
     }
 }
 
-/// What is written before the text with this index: nothing before the first, else the separator.
+/// Returns what is written before the text with this index: nothing before the first, else the
+/// separator.
 fn gap_before(i: usize, separator: &str) -> &str
     ensures first { i ≡ 0 → result.now ≡ [] }
     ensures later { 0 < i → result.now ≡ separator.now }
@@ -98,7 +102,8 @@ fn write(bytes: &mut Slots<u8>, at: usize, text: &str) -> usize
     requires room { at + length text.now ≤ slots_len bytes.old }
     requires written { Filled (slots_filled bytes.old) 0 at }
     ensures end { result ≡ at + length text.now }
-    ensures items { take result (slots_items bytes.new) ≡ take at (slots_items bytes.old) ++ text.now }
+    ensures items { take result (slots_items bytes.new)
+        ≡ take at (slots_items bytes.old) ++ text.now }
     ensures written { Filled (slots_filled bytes.new) 0 result }
     ensures places { SamePlaces bytes.old bytes.new }
 {

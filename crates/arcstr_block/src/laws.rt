@@ -1,4 +1,5 @@
-//! The laws of blocks. A law does nothing when it runs: it takes no atomic step, and does not allocate.
+//! The laws of blocks. A law does nothing when it runs: it takes no atomic step, and does not
+//! allocate.
 ghost use Rattle.std.specs.Prelude.{◌≡◌, ◌≢◌};
 ghost use Rattle.arcstr_block.specs.Ending.{IsFreeLast};
 ghost use Rattle.arcstr_block.specs.Rights.{owed, HasSeat, MaySee};
@@ -11,7 +12,8 @@ use crate::shared::{Counted, Shared};
 use std::alloc::Allocator;
 
 impl<A: Allocator> Pointer<A> {
-    /// Two pointers with seats on one block have two seats, and a block that is owed has no other pointer with a seat.
+    /// Proves that two pointers with seats on one block have two seats, and that a block that is
+    /// owed has no other pointer with a seat.
     pub(crate) fn two_pointers_have_two_seats(self, other: Pointer<A>) -> (Pointer<A>, Pointer<A>)
         requires first { HasSeat self.right }
         requires second { HasSeat other.right }
@@ -23,7 +25,7 @@ impl<A: Allocator> Pointer<A> {
         (self, other)
     }
 
-    /// A block that is owed has no pointer by which it can be read.
+    /// Proves that a block that is owed has no pointer by which it can be read.
     pub(crate) fn an_owed_block_has_no_reader(self, other: &Pointer<A>) -> Pointer<A>
         requires owed { self.right ≡ owed }
         requires reads { MaySee other.now.right }
@@ -35,7 +37,8 @@ impl<A: Allocator> Pointer<A> {
 }
 
 impl<const LIMIT: u64, A: Allocator + Copy> Shared<LIMIT, A> {
-    /// The law that two handles on one block have two seats in its history. It returns both, in their order.
+    /// Proves that two handles on one block have two seats in its history. It returns both, in
+    /// their order.
     ///
     /// ```
     /// let text = Shared::<5, _>::from_text(rt.alloc(), "aé")?;
@@ -77,7 +80,7 @@ impl<const LIMIT: u64, A: Allocator + Copy> Shared<LIMIT, A> {
 }
 
 impl<A: Allocator + Copy> Owed<A> {
-    /// The law that no handle is left on a block that is owed. It returns both.
+    /// Proves that no handle is left on a block that is owed. It returns both.
     ///
     /// ```
     /// let other = Shared::<5, _>::from_text(rt.alloc(), "b")?;
@@ -98,7 +101,8 @@ impl<A: Allocator + Copy> Owed<A> {
         (owed, other)
     }
 
-    /// The law that a borrowed handle is on a different block from the one that is owed. It returns what is owed.
+    /// Proves that a borrowed handle is on a different block from the one that is owed. It returns
+    /// what is owed.
     ///
     /// ```
     /// let other = Shared::<5, _>::from_text(rt.alloc(), "b")?;
@@ -117,7 +121,7 @@ impl<A: Allocator + Copy> Owed<A> {
         self.has_no_reader(&handle.handle.pointer)
     }
 
-    /// The law that a block that is owed is not marked. It returns what is owed.
+    /// Proves that a block that is owed is not marked. It returns what is owed.
     ///
     /// ```
     /// let fixed = Shared::<5, _>::from_text(rt.alloc(), "b")?.mark();
@@ -135,8 +139,9 @@ impl<A: Allocator + Copy> Owed<A> {
 }
 
 impl Seen {
-    /// The law that nothing follows the free: where a history ends in the free, no handle on the block lives, and no history of the block is later. So a
-    /// block is freed at most once, and no call through a handle on it comes after that. A block that is marked static is never freed.
+    /// Proves that nothing follows the free: where a history ends in the free, no handle on the
+    /// block lives, and no history of the block is later. So a block is freed at most once, and no
+    /// call through a handle on it comes after that. A block that is marked static is never freed.
     ///
     /// ```
     /// let (_, first) = Shared::<5, _>::from_text(rt.alloc(), "a")?.end();
@@ -149,7 +154,8 @@ impl Seen {
 }
 
 impl<A: Allocator> Owed<A> {
-    /// A pointer by which a block can be read is on a different block from the one that is owed.
+    /// Proves that a pointer by which a block can be read is on a different block from the one that
+    /// is owed.
     fn has_no_reader(self, other: &Pointer<A>) -> Owed<A>
         requires { MaySee other.now.right }
         ensures same { result ≡ self }
@@ -168,7 +174,7 @@ impl<A: Allocator> Owed<A> {
         }
     }
 
-    /// The law that a block is owed once. It returns both, in their order.
+    /// Proves that a block is owed once. It returns both, in their order.
     ///
     /// ```
     /// use std::alloc::Global;

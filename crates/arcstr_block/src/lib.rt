@@ -1,7 +1,8 @@
 //! One counted block: an atomic count word and a text, in one piece of memory from its allocator.
 //!
-//! A `Shared` is one handle on a block. Its clone is a load and a compare-exchange, its drop a load and a fetch-sub; at a
-//! marked block each is the load alone. A mark, which is a fetch-or, makes the block permanent. Whoever subtracts last takes the whole memory, as `Owed`.
+//! A `Shared` is one handle on a block. Its clone is a load and a compare-exchange, its drop a load
+//! and a fetch-sub; at a marked block each is the load alone. A mark, which is a fetch-or, makes
+//! the block permanent. Whoever subtracts last takes the whole memory, as `Owed`.
 #![tactic(auto)]
 
 pub use building::Draft;

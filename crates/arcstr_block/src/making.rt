@@ -1,4 +1,5 @@
-//! Makes blocks that hold a copy of a text, what a closure leaves, or copies of a text, each with one allocation.
+//! Makes blocks that hold a copy of a text, what a closure leaves, or copies of a text, each with
+//! one allocation.
 ghost use Rattle.std.specs.Prelude.{◌≡◌, ◌↔◌, ◌*◌, ◌≤◌, length, replicate, IfOk, IfErr, IsErrOf, IsUtf8};
 ghost use Rattle.std.specs.Fn.{FnOnceReturnsAtMut, FnOnceTakesAtMut};
 ghost use Rattle.std.specs.List.{repeat};
@@ -16,9 +17,11 @@ use core::slots::Slots;
 use std::alloc::Allocator;
 
 impl<const LIMIT: u64, A: Allocator + Copy> Shared<LIMIT, A> {
-    /// Returns the first handle on a new block with a copy of this text. The call makes one allocation, of 16 bytes plus the text,
-    /// rounded up to a multiple of 8. An empty text has a block too. Errors, in this order: `Length`, for a text of `2^63 - 25` bytes
-    /// or more; `Memory`, for an allocation failure. The caller has to ensure that `LIMIT` is at most `RC_MAX`.
+    /// Returns the first handle on a new block with a copy of this text. The call makes one
+    /// allocation, of 16 bytes plus the text, rounded up to a multiple of 8. An empty text has a
+    /// block too. Errors, in this order: `Length`, for a text of `2^63 - 25` bytes or more;
+    /// `Memory`, for an allocation failure. The caller has to ensure that `LIMIT` is at most
+    /// `RC_MAX`.
     ///
     /// ```
     /// let text = Shared::<5, _>::from_text(rt.alloc(), "aé")?;
@@ -30,7 +33,8 @@ impl<const LIMIT: u64, A: Allocator + Copy> Shared<LIMIT, A> {
         ensures limit { IfOk result (λ made. made.limit ≡ LIMIT) }
         // Promise: The handle is the first of its block.
         ensures first { IfOk result (λ made. made.seat ≡ 0) }
-        // Promise: It fails with `Length` exactly if the text is too long, and otherwise only with `Memory`.
+        // Promise: It fails with `Length` exactly if the text is too long, and otherwise only with
+        // `Memory`.
         ensures too_long { IsErrOf result TextFault.Length ↔ IsTooLong (length text.now) }
         ensures refused { IfErr result (IsFaultOfMaking (length text.now)) }
     {
@@ -42,13 +46,15 @@ impl<const LIMIT: u64, A: Allocator + Copy> Shared<LIMIT, A> {
         Ok(Shared::first_handle(blank.close(bytes), text.len(), alloc))
     }
 
-    /// Returns the first handle on a new block with the text that `fill` leaves in `n` zero bytes. The call makes one allocation,
-    /// before the closure runs. The caller has to ensure that `LIMIT` is at most `RC_MAX`, and that the closure accepts `n` zero
-    /// bytes, unless `n` is too long.
+    /// Returns the first handle on a new block with the text that `fill` leaves in `n` zero bytes.
+    /// The call makes one allocation, before the closure runs. The caller has to ensure that
+    /// `LIMIT` is at most `RC_MAX`, and that the closure accepts `n` zero bytes, unless `n` is too
+    /// long.
     ///
-    /// Errors, in this order: `Length`, for a length of `2^63 - 25` bytes or more, and `Memory`, for an allocation failure; after
-    /// either the closure does not run. `Utf8`, for bytes that are not UTF-8 after the closure ran, with the length in bytes of their
-    /// longest prefix that is UTF-8; the memory is then freed.
+    /// Errors, in this order: `Length`, for a length of `2^63 - 25` bytes or more, and `Memory`,
+    /// for an allocation failure; after either the closure does not run. `Utf8`, for bytes that are
+    /// not UTF-8 after the closure ran, with the length in bytes of their longest prefix that is
+    /// UTF-8; the memory is then freed.
     ///
     /// ```
     /// let text = Shared::<5, _>::init(rt.alloc(), 2, |bytes| bytes.fill(b'a'))?;
@@ -63,16 +69,20 @@ impl<const LIMIT: u64, A: Allocator + Copy> Shared<LIMIT, A> {
     ) -> Result<Shared<LIMIT, A>, TextFault>
         requires limit { LIMIT ≤ RC_MAX }
         requires callable { (¬ IsTooLong n) → FnOnceTakesAtMut F.FnOnce fill (replicate n 0) }
-        ensures made { IfOk result (λ made. FnOnceReturnsAtMut F.FnOnce fill (replicate n 0) tt made.text) }
+        ensures made { IfOk result
+            (λ made. FnOnceReturnsAtMut F.FnOnce fill (replicate n 0) tt made.text) }
         ensures limit { IfOk result (λ made. made.limit ≡ LIMIT) }
         // Promise: The handle is the first of its block.
         ensures first { IfOk result (λ made. made.seat ≡ 0) }
         // Promise: The text is UTF-8 and has the length that was asked for.
         ensures as_long { IfOk result (λ made. length made.text ≡ n) }
         ensures text { IfOk result (λ made. IsUtf8 made.text) }
-        // Promise: It fails with `Length` exactly if the text is too long, and with `Utf8` only if the closure leaves no UTF-8.
+        // Promise: It fails with `Length` exactly if the text is too long, and with `Utf8` only if
+        // the closure leaves no UTF-8.
         ensures too_long { IsErrOf result TextFault.Length ↔ IsTooLong n }
-        ensures refused { IfErr result (IsFaultOfFilling (λ bytes. FnOnceReturnsAtMut F.FnOnce fill (replicate n 0) tt bytes) n) }
+        ensures refused { IfErr result
+            (IsFaultOfFilling (λ bytes. FnOnceReturnsAtMut F.FnOnce fill
+            (replicate n 0) tt bytes) n) }
     {
         if n >= TOO_LONG {
             return Err(TextFault::Length);
@@ -89,9 +99,10 @@ impl<const LIMIT: u64, A: Allocator + Copy> Shared<LIMIT, A> {
         }
     }
 
-    /// Returns the first handle on a new block with `n` copies of a text, joined. The call makes one allocation. Zero copies, and
-    /// copies of an empty text, have a block too. Errors, in this order: `Length`, for `2^63 - 25` bytes or more in all copies;
-    /// `Memory`, for an allocation failure. The caller has to ensure that `LIMIT` is at most `RC_MAX`.
+    /// Returns the first handle on a new block with `n` copies of a text, joined. The call makes
+    /// one allocation. Zero copies, and copies of an empty text, have a block too. Errors, in this
+    /// order: `Length`, for `2^63 - 25` bytes or more in all copies; `Memory`, for an allocation
+    /// failure. The caller has to ensure that `LIMIT` is at most `RC_MAX`.
     ///
     /// ```
     /// let text = Shared::<5, _>::repeat(rt.alloc(), "ab", 3)?;
@@ -103,7 +114,8 @@ impl<const LIMIT: u64, A: Allocator + Copy> Shared<LIMIT, A> {
         ensures limit { IfOk result (λ made. made.limit ≡ LIMIT) }
         // Promise: The handle is the first of its block.
         ensures first { IfOk result (λ made. made.seat ≡ 0) }
-        // Promise: It fails with `Length` exactly if the text is too long, and otherwise only with `Memory`.
+        // Promise: It fails with `Length` exactly if the text is too long, and otherwise only with
+        // `Memory`.
         ensures too_long { IsErrOf result TextFault.Length ↔ IsTooLong (n * length text.now) }
         ensures refused { IfErr result (IsFaultOfMaking (n * length text.now)) }
     {
@@ -117,7 +129,7 @@ impl<const LIMIT: u64, A: Allocator + Copy> Shared<LIMIT, A> {
     }
 }
 
-/// The memory of a new block, whose count word counts one handle, and the slots of its bytes.
+/// Makes the memory of a new block, whose count word counts one handle, and the slots of its bytes.
 pub(crate) fn blank_block<A: Allocator + Copy>(
     alloc: A,
     len: usize,

@@ -11,8 +11,8 @@ use crate::seen::Seen;
 use std::alloc::Allocator;
 use std::marker::Model;
 
-/// How a handle ended. It has 24 bytes where its allocator has none, and can be sent and shared where its allocator can.
-/// It has no drop: the caller must free an `Owed`.
+/// How a handle ended. It has 24 bytes where its allocator has none, and can be sent and shared
+/// where its allocator can. It has no drop: the caller must free an `Owed`.
 ///
 /// ```
 /// let text = Shared::<5, _>::from_text(rt.alloc(), "aé")?;
@@ -30,11 +30,12 @@ pub enum Down<A: Allocator> {
     Owes(Owed<A>),
 }
 
-/// The memory of a block that nobody else has, which has to be freed. It has no drop, and cannot be disposed of otherwise.
-/// Contracts see its block's name, and the number of the handle that was subtracted last.
+/// The memory of a block that nobody else has, which has to be freed. It has no drop, and cannot be
+/// disposed of otherwise. Contracts see its block's name, and the number of the handle that was
+/// subtracted last.
 ///
-/// It has 16 bytes where its allocator has none, and can be sent and shared where its allocator can. None of its functions
-/// waits or allocates.
+/// It has 16 bytes where its allocator has none, and can be sent and shared where its allocator
+/// can. None of its functions waits or allocates.
 ///
 /// ```
 /// let text = Shared::<5, _>::from_text(rt.alloc(), "aé")?;
@@ -45,7 +46,8 @@ pub enum Down<A: Allocator> {
 /// ```
 pub struct Owed<A: Allocator> {
     pub(crate) pointer: Pointer<A>,
-    /// The word offset: how many bytes past the address of the block its count word and the length of its text lie.
+    /// The word offset: how many bytes past the address of the block its count word and the length
+    /// of its text lie.
     pub(crate) offset: usize,
     pub(crate) alloc: A,
     ghost right: { pointer.right ≡ owed },
@@ -60,8 +62,8 @@ impl<A: Allocator> Model for Owed<A> {
 }
 
 impl<A: Allocator> Owed<A> {
-    /// Frees the memory of the block and of its text, in one call of the allocator. It takes no atomic step.
-    /// The test `all_memory_is_given_back` checks that a heap has the memory again.
+    /// Frees the memory of the block and of its text, in one call of the allocator. It takes no
+    /// atomic step. The test `all_memory_is_given_back` checks that a heap has the memory again.
     ///
     /// ```
     /// use linked_list_allocator::LocalHeap;

@@ -1,10 +1,11 @@
-//! The pointer to a block. This module has every atomic step, and every pointer through which a block is read or stepped on.
-//! `word.rt` says what the number in the count word means.
+//! The pointer to a block. This module has every atomic step, and every pointer through which a
+//! block is read or stepped on. `word.rt` says what the number in the count word means.
 //!
-//! A `Pointer` is one address when it runs. Its right, seat and history are ghost, and the proof of each function
-//! (`proofs/pointer/Pointer/NAME/Proof.antt`) moves them, so a body shows only the machine's step. Each step gets the word
-//! offset, `offset`: how many bytes past the address the count word lies. `make` begins the history with `Make`, and `back`
-//! ends it with `Back`; `IntoRaw` and `FromRaw` never occur in it.
+//! A `Pointer` is one address when it runs. Its right, seat and history are ghost, and the proof of
+//! each function (`proofs/pointer/Pointer/NAME/Proof.antt`) moves them, so a body shows only the
+//! machine's step. Each step gets the word offset, `offset`: how many bytes past the address the
+//! count word lies. `make` begins the history with `Make`, and `back` ends it with `Back`;
+//! `IntoRaw` and `FromRaw` never occur in it.
 ghost use Rattle.std.specs.Prelude.{◌≡◌, ℕ, Bool, List, length, IsUtf8};
 ghost use Rattle.std.specs.Coded.{coded_list};
 ghost use Rattle.arcstr_count.specs.declared.steps.Step.{Step};
@@ -28,8 +29,9 @@ use std::slice;
 use std::sync::atomic::Ordering::SeqCst;
 use std::sync::atomic::raw;
 
-/// A pointer to a block, with a right, which `specs/Rights.antt` lists, and with a prefix of the block's history.
-/// `seat` is the number of its handle in that history, and `block` names the history and its seats.
+/// A pointer to a block, with a right, which `specs/Rights.antt` lists, and with a prefix of the
+/// block's history. `seat` is the number of its handle in that history, and `block` names the
+/// history and its seats.
 pub(crate) struct Pointer<A: Allocator> {
     at: *const u8,
     marker: PhantomData<A>,
@@ -49,7 +51,7 @@ impl<A: Allocator> Model for Pointer<A> {
 }
 
 impl<A: Allocator> Pointer<A> {
-    ghost use Rattle.arcstr_block.specs.Steps.{IsSameBlock, LoadedAs, LeakedAs, BegunAs, SubtractedAs};
+    ghost use Rattle.arcstr_block.specs.Steps.{IsSameBlock, LoadedAs, ClonedAs, LeakedAs, BegunAs, SubtractedAs};
 
     /// The first pointer to a block, whose count word counts only this pointer.
     pub(crate) fn make(block: Sole<A>) -> Pointer<A>
@@ -77,7 +79,8 @@ impl<A: Allocator> Pointer<A> {
         unsafe { slice::from_raw_parts(self.at, len) }
     }
 
-    /// The text, of `len` bytes. It stands apart from `bytes`, which alone has a whole proof by hand.
+    /// The text, of `len` bytes. It stands apart from `bytes`, which alone has a whole proof by
+    /// hand.
     pub(crate) fn text(&self, len: usize) -> &str
         requires right { MaySee self.now.right }
         requires length { len ≡ length self.now.text }
@@ -87,8 +90,8 @@ impl<A: Allocator> Pointer<A> {
         unsafe { str::from_utf8_unchecked(bytes) }
     }
 
-    /// Loads the count word, for a clone or for a look. A clone that finds the block marked succeeds.
-    /// What a look has seen is later than `before`.
+    /// Loads the count word, for a clone or for a look. A clone that finds the block marked
+    /// succeeds. What a look or a clone that succeeds has seen is later than `before`.
     pub(crate) fn load(&self, offset: usize, before: &Seen) -> (u64, Pointer<A>)
         ghost clones: { Bool }
         requires right { IsFree self.now.right }
@@ -113,13 +116,22 @@ impl<A: Allocator> Pointer<A> {
         )
     }
 
-    /// One compare-exchange, from `old` to its clone `new`: if it finds `old` or a marked count word, the clone succeeds.
-    pub(crate) fn clone_exchange(&self, offset: usize, old: u64, new: u64) -> (u64, Pointer<A>)
+    /// One compare-exchange, from `old` to its clone `new`: if it finds `old` or a marked count
+    /// word, the clone succeeds. What a clone that succeeds has seen is later than `before`.
+    pub(crate) fn clone_exchange(
+        &self,
+        offset: usize,
+        old: u64,
+        new: u64,
+        before: &Seen,
+    ) -> (u64, Pointer<A>)
         requires right { IsFree self.now.right }
         requires offset { offset ≡ word_offset (length self.now.text) }
         requires clone { IsClone self.now.limit old new }
+        requires before { before.now.block ≡ self.now.block }
         ensures word { IsCountWord self.now.limit result.0 }
         ensures right { Gains old new result.0 result.1.right }
+        ensures history { ClonedAs self.now before.now.history old result.0 result.1 }
         ensures same { IsSameBlock result.1 self.now }
     {
         let at = self.at;
@@ -203,7 +215,8 @@ impl<A: Allocator> Pointer<A> {
         }
     }
 
-    /// The block, the length of its text and the history of the block, which ends here, for whoever subtracted last and frees it.
+    /// The block, the length of its text and the history of the block, which ends here, for whoever
+    /// subtracted last and frees it.
     pub(crate) fn back(self, offset: usize) -> (Sole<A>, usize, Seen)
         requires right { self.right ≡ owed }
         requires offset { offset ≡ word_offset (length self.text) }

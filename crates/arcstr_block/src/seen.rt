@@ -8,10 +8,11 @@ ghost use Rattle.arcstr_block.specs.Book.{reached, BlockName, name_code};
 
 use std::marker::{Model, PhantomData};
 
-/// A prefix of a block's history, which stays one. A `Seen` has no bytes, can be sent and shared, and its drop does nothing.
-/// Its functions are laws: they do nothing when they run.
+/// A prefix of a block's history, which stays one. A `Seen` has no bytes, can be sent and shared,
+/// and its drop does nothing. Its functions are laws: they do nothing when they run.
 ///
-/// `history` lists the steps in their order, and `block` names the block: its history, and the seats of its handles.
+/// `history` lists the steps in their order, and `block` names the block: its history, and the
+/// seats of its handles.
 ///
 /// ```
 /// use std::mem::size_of_val;
@@ -42,8 +43,12 @@ impl Seen {
     /// first.a_block_has_one_history(&second);
     /// ```
     pub fn a_block_has_one_history(&self, other: &Seen)
-        ensures prefix { self.now.block ≡ other.now.block → length self.now.history ≤ length other.now.history → IsPrefix self.now.history other.now.history }
-        ensures longer { self.now.block ≡ other.now.block → length other.now.history ≤ length self.now.history → IsPrefix other.now.history self.now.history }
+        ensures prefix { self.now.block ≡ other.now.block
+            → length self.now.history ≤ length other.now.history
+            → IsPrefix self.now.history other.now.history }
+        ensures longer { self.now.block ≡ other.now.block
+            → length other.now.history ≤ length self.now.history
+            → IsPrefix other.now.history self.now.history }
     {}
 }
 

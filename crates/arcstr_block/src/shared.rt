@@ -5,7 +5,7 @@ ghost use Rattle.arcstr_block.specs.Book.{IsLater};
 ghost use Rattle.arcstr_block.specs.Memory.{Fits};
 ghost use Rattle.arcstr_block.specs.Word.{IsLimit, IsUnmarked, IsCountWord, IsOtherWord};
 ghost use Rattle.arcstr_block.specs.Rights.{IsFree, is_free_once};
-ghost use Rattle.arcstr_block.specs.Handle.{Handle, SawCount, SawMark, SawLeak, IsMarkedIn, kept_of};
+ghost use Rattle.arcstr_block.specs.Handle.{Handle, SawCount, SawMark, SawClone, SawLeak, IsMarkedIn, kept_of};
 ghost use Rattle.arcstr_block.specs.Steps.{handle_of};
 
 use crate::block::{Sole, offset_of_word};
@@ -19,8 +19,8 @@ use std::alloc::Allocator;
 use std::marker::Model;
 use std::sync::Wait;
 
-/// A handle without its drop: a pointer that may read the block, the length of its text in bytes, and its allocator. With
-/// the length here, reading the text loads nothing else.
+/// A handle without its drop: a pointer that may read the block, the length of its text in bytes,
+/// and its allocator. With the length here, reading the text loads nothing else.
 pub(crate) struct Counted<const LIMIT: u64, A: Allocator + Copy> {
     pub(crate) pointer: Pointer<A>,
     pub(crate) len: usize,
@@ -33,11 +33,13 @@ pub(crate) struct Counted<const LIMIT: u64, A: Allocator + Copy> {
     ghost low: { IsLimit LIMIT },
 }
 
-/// One handle on a block, through which its text is read; the block stays while it has a handle. Contracts see the bytes of its text, its
-/// block's name, its own number in the block's history, and the limit on the block's count.
+/// One handle on a block, through which its text is read; the block stays while it has a handle.
+/// Contracts see the bytes of its text, its block's name, its own number in the block's history,
+/// and the limit on the block's count.
 ///
-/// A clone at a count above `LIMIT` marks the block, which is then permanent. A handle has 16 bytes where its allocator has none, and can be
-/// sent and shared where its allocator can. Its drop runs `down`, and frees the block if it was the last handle.
+/// A clone at a count above `LIMIT` marks the block, which is then permanent. A handle has 16 bytes
+/// where its allocator has none, and can be sent and shared where its allocator can. Its drop runs
+/// `down`, and frees the block if it was the last handle.
 ///
 /// ```
 /// let text = Shared::<5, _>::from_text(rt.alloc(), "aé")?;
@@ -105,8 +107,21 @@ impl<const LIMIT: u64, A: Allocator + Copy> Shared<LIMIT, A> {
         self.handle.len
     }
 
-    /// Loads the count word. Returns the number of living handles, from 1 to `LIMIT + 1`, or `None` at a marked block, and the history seen,
-    /// which ends in this look.
+    /// Returns what the handle has seen of the history of its block. Takes no atomic step.
+    ///
+    /// ```
+    /// let text = Shared::<5, _>::from_text(rt.alloc(), "aé")?;
+    /// let (clone, seen) = text.up_after(&rt, &text.seen());
+    /// assert_eq!(rt; clone.look_after(&seen).0, Some(2));
+    /// ```
+    pub fn seen(&self) -> Seen
+        ensures { result.block ≡ self.now.block }
+    {
+        self.handle.pointer.seen()
+    }
+
+    /// Loads the count word. Returns the number of living handles, from 1 to `LIMIT + 1`, or `None`
+    /// at a marked block, and the history seen, which ends in this look.
     ///
     /// ```
     /// let text = Shared::<5, _>::from_text(rt.alloc(), "aé")?;
@@ -118,13 +133,15 @@ impl<const LIMIT: u64, A: Allocator + Copy> Shared<LIMIT, A> {
         // Promise: A count is from 1 to one above the limit.
         ensures count { IfSome result.0 (λ count. (0 < count) × (count ≤ LIMIT + 1)) }
         // Promise: The count, or the mark, is what the history seen says.
-        ensures seen { MatchOption result.0 (SawMark LIMIT result.1.history self.now.seat) (λ count. SawCount LIMIT result.1.history self.now.seat count) }
+        ensures seen { MatchOption result.0 (SawMark LIMIT result.1.history self.now.seat)
+            (λ count. SawCount LIMIT result.1.history self.now.seat count) }
         ensures block { result.1.block ≡ self.now.block }
     {
         self.look_after(&self.handle.pointer.seen())
     }
 
-    /// As `look`, after what the caller has seen of the block: the history seen begins with it, so two looks of one thread are in order.
+    /// As `look`, after what the caller has seen of the block: the history seen begins with it, so
+    /// two looks of one thread are in order.
     ///
     /// ```
     /// let text = Shared::<5, _>::from_text(rt.alloc(), "aé")?;
@@ -134,7 +151,8 @@ impl<const LIMIT: u64, A: Allocator + Copy> Shared<LIMIT, A> {
     pub fn look_after(&self, before: &Seen) -> (Option<u64>, Seen)
         requires before { before.now.block ≡ self.now.block }
         ensures count { IfSome result.0 (λ count. (0 < count) × (count ≤ LIMIT + 1)) }
-        ensures seen { MatchOption result.0 (SawMark LIMIT result.1.history self.now.seat) (λ count. SawCount LIMIT result.1.history self.now.seat count) }
+        ensures seen { MatchOption result.0 (SawMark LIMIT result.1.history self.now.seat)
+            (λ count. SawCount LIMIT result.1.history self.now.seat count) }
         ensures block { result.1.block ≡ self.now.block }
         // Promise: The history seen begins with what the caller had seen, and is longer.
         ensures after { IsLater before.now.history result.1.history }
@@ -150,7 +168,8 @@ impl<const LIMIT: u64, A: Allocator + Copy> Shared<LIMIT, A> {
         (looked(found), seen)
     }
 
-    /// Loads the count word. Returns the permanent block if the block is marked, else `None`, and the history seen, which ends in this look.
+    /// Loads the count word. Returns the permanent block if the block is marked, else `None`, and
+    /// the history seen, which ends in this look.
     ///
     /// ```
     /// let text = Shared::<5, _>::from_text(rt.alloc(), "aé")?;
@@ -161,7 +180,9 @@ impl<const LIMIT: u64, A: Allocator + Copy> Shared<LIMIT, A> {
     pub fn fixed(&self) -> (Option<Fixed<A>>, Seen)
         // Promise: It returns one exactly if the block is marked in the history seen.
         ensures kept { IfSome result.0 (λ fixed. fixed ≡ kept_of LIMIT self.now result.1.history) }
-        ensures seen { MatchOption result.0 ((n : ℕ) × SawCount LIMIT result.1.history self.now.seat n) (λ _. SawMark LIMIT result.1.history self.now.seat) }
+        ensures seen { MatchOption result.0
+            ((n : ℕ) × SawCount LIMIT result.1.history self.now.seat n)
+            (λ _. SawMark LIMIT result.1.history self.now.seat) }
         ensures block { result.1.block ≡ self.now.block }
     {
         self.fixed_after(&self.handle.pointer.seen())
@@ -177,7 +198,9 @@ impl<const LIMIT: u64, A: Allocator + Copy> Shared<LIMIT, A> {
     pub fn fixed_after(&self, before: &Seen) -> (Option<Fixed<A>>, Seen)
         requires before { before.now.block ≡ self.now.block }
         ensures kept { IfSome result.0 (λ fixed. fixed ≡ kept_of LIMIT self.now result.1.history) }
-        ensures seen { MatchOption result.0 ((n : ℕ) × SawCount LIMIT result.1.history self.now.seat n) (λ _. SawMark LIMIT result.1.history self.now.seat) }
+        ensures seen { MatchOption result.0
+            ((n : ℕ) × SawCount LIMIT result.1.history self.now.seat n)
+            (λ _. SawMark LIMIT result.1.history self.now.seat) }
         ensures block { result.1.block ≡ self.now.block }
         // Promise: The history seen begins with what the caller had seen, and is longer.
         ensures after { IsLater before.now.history result.1.history }
@@ -205,7 +228,8 @@ impl<const LIMIT: u64, A: Allocator + Copy> Shared<LIMIT, A> {
         }
     }
 
-    /// Marks the block static, permanently, by one fetch-or. The handle stays as it is. The history seen ends in this mark.
+    /// Marks the block static, permanently, by one fetch-or. The handle stays as it is. The history
+    /// seen ends in this mark.
     ///
     /// ```
     /// let text = Shared::<5, _>::from_text(rt.alloc(), "aé")?;
@@ -244,9 +268,10 @@ impl<const LIMIT: u64, A: Allocator + Copy> Shared<LIMIT, A> {
         }
     }
 
-    /// Returns another handle. Takes a load and, if the block is unmarked, a compare-exchange, which it repeats when the count word changed in
-    /// between, so it may wait. At an unmarked count above the limit it sets the static flag, to any other unmarked count it adds one, and a
-    /// marked count word stays as it is.
+    /// Returns another handle. Takes a load and, if the block is unmarked, a compare-exchange,
+    /// which it repeats when the count word changed in between, so it may wait. At an unmarked
+    /// count above the limit it sets the static flag, to any other unmarked count it adds one, and
+    /// a marked count word stays as it is.
     ///
     /// ```
     /// let text = Shared::<5, _>::from_text(rt.alloc(), "aé")?;
@@ -259,14 +284,41 @@ impl<const LIMIT: u64, A: Allocator + Copy> Shared<LIMIT, A> {
         ensures block { result.block ≡ self.now.block }
         ensures limit { result.limit ≡ LIMIT }
     {
-        match self.up_once() {
-            Ok(clone) => clone,
-            Err(found) => self.up_from(rt, found),
-        }
+        self.up_after(rt, &self.handle.pointer.seen()).0
     }
 
-    /// Returns another handle, as `up` makes it, with at most one compare-exchange. Where that finds that the count word changed after the load, returns the
-    /// unmarked count word that it found, and nothing has changed. The call never waits: `up_from` takes the rest of `up`.
+    /// As `up`, after what the caller has seen of the block: the history seen begins with it, and
+    /// ends in this clone.
+    ///
+    /// ```
+    /// let text = Shared::<5, _>::from_text(rt.alloc(), "aé")?;
+    /// let (_, seen) = text.look();
+    /// let (clone, seen) = text.up_after(&rt, &seen);
+    /// assert_eq!(rt; (clone.as_str(), clone.look_after(&seen).0), ("aé", Some(2)));
+    /// ```
+    pub fn up_after<R: Wait>(&self, rt: &R, before: &Seen) -> (Shared<LIMIT, A>, Seen)
+        requires before { before.now.block ≡ self.now.block }
+        // Promise: The clone has the same text, block and limit.
+        ensures text { result.0.text ≡ self.now.text }
+        ensures block { result.0.block ≡ self.now.block }
+        ensures limit { result.0.limit ≡ LIMIT }
+        // Promise: The clone is a step of the history seen, by which the new handle was born.
+        ensures step { SawClone LIMIT result.1.history self.now.seat result.0.seat }
+        ensures seen { result.1.block ≡ self.now.block }
+        // Promise: The history seen begins with what the caller had seen, and is longer.
+        ensures after { IsLater before.now.history result.1.history }
+    {
+        let handle = match self.handle.clone_once(before) {
+            Ok(clone) => clone,
+            Err(found) => self.handle.exchange_until(rt, found, before),
+        };
+        let seen = handle.pointer.seen();
+        (Shared { handle }, seen)
+    }
+
+    /// Returns another handle, as `up` makes it, with at most one compare-exchange. Where that
+    /// finds that the count word changed after the load, returns the unmarked count word that it
+    /// found, and nothing has changed. The call never waits: `up_from` takes the rest of `up`.
     ///
     /// ```
     /// let text = Shared::<5, _>::from_text(rt.alloc(), "aé")?;
@@ -283,11 +335,7 @@ impl<const LIMIT: u64, A: Allocator + Copy> Shared<LIMIT, A> {
         ensures unmarked { IfErr result IsUnmarked }
         ensures word { IfErr result (IsCountWord LIMIT) }
     {
-        let old = match self.handle.clone_if_marked() {
-            Ok(handle) => return Ok(Shared { handle }),
-            Err(found) => found,
-        };
-        match self.handle.exchange(old) {
+        match self.handle.clone_once(&self.handle.pointer.seen()) {
             Ok(handle) => Ok(Shared { handle }),
             Err(found) => Err(found),
         }
@@ -311,13 +359,15 @@ impl<const LIMIT: u64, A: Allocator + Copy> Shared<LIMIT, A> {
         ensures block { result.block ≡ self.now.block }
         ensures limit { result.limit ≡ LIMIT }
     {
+        let before = self.handle.pointer.seen();
         Shared {
-            handle: self.handle.exchange_until(rt, found),
+            handle: self.handle.exchange_until(rt, found, &before),
         }
     }
 
-    /// Returns another handle, as `up` makes it, with at most `tries` compare-exchanges, so the call never waits. Returns `None`, and changes
-    /// nothing, if each of them found that the count word had changed since the load or the exchange before it.
+    /// Returns another handle, as `up` makes it, with at most `tries` compare-exchanges, so the
+    /// call never waits. Returns `None`, and changes nothing, if each of them found that the count
+    /// word had changed since the load or the exchange before it.
     ///
     /// ```
     /// let text = Shared::<5, _>::from_text(rt.alloc(), "aé")?;
@@ -331,12 +381,13 @@ impl<const LIMIT: u64, A: Allocator + Copy> Shared<LIMIT, A> {
         ensures block { IfSome result (λ clone. clone.block ≡ self.now.block) }
         ensures limit { IfSome result (λ clone. clone.limit ≡ LIMIT) }
     {
-        let mut old = match self.handle.clone_if_marked() {
+        let before = self.handle.pointer.seen();
+        let mut old = match self.handle.clone_if_marked(&before) {
             Ok(handle) => return Some(Shared { handle }),
             Err(found) => found,
         };
         for _ in 0..tries {
-            match self.handle.exchange(old) {
+            match self.handle.exchange(old, &before) {
                 Ok(handle) => return Some(Shared { handle }),
                 Err(found) => old = found,
             }
@@ -352,8 +403,9 @@ impl<const LIMIT: u64, A: Allocator + Copy> Shared<LIMIT, A> {
         handle
     }
 
-    /// Ends the handle: a load and, if the block is unmarked, a fetch-sub that lowers the count by one. Returns how it ended, with the `Owed`
-    /// block if it was the last handle, which the caller must free, and the history seen, which ends in that step.
+    /// Ends the handle: a load and, if the block is unmarked, a fetch-sub that lowers the count by
+    /// one. Returns how it ended, with the `Owed` block if it was the last handle, which the caller
+    /// must free, and the history seen, which ends in that step.
     ///
     /// ```
     /// let text = Shared::<5, _>::from_text(rt.alloc(), "aé")?;
@@ -419,16 +471,36 @@ impl<const LIMIT: u64, A: Allocator + Copy> Shared<LIMIT, A> {
 }
 
 impl<const LIMIT: u64, A: Allocator + Copy> Counted<LIMIT, A> {
-    ghost use Rattle.arcstr_block.specs.Steps.{IsSameBlock, IsCloneOf};
+    ghost use Rattle.arcstr_block.specs.Steps.{IsSameBlock, IsCloneOf, IsBornOf};
 
-    /// The load of a clone: another handle if the block is marked, else the unmarked count word that was found.
-    fn clone_if_marked(&self) -> Result<Counted<LIMIT, A>, u64>
+    /// A clone with at most one compare-exchange: another handle, or the unmarked count word that
+    /// was found.
+    fn clone_once(&self, before: &Seen) -> Result<Counted<LIMIT, A>, u64>
+        requires before { before.now.block ≡ self.now.pointer.block }
         ensures clone { IfOk result (λ clone. IsCloneOf clone.pointer self.now.pointer) }
+        ensures born { IfOk result
+            (λ clone. IsBornOf self.now.pointer before.now.history clone.pointer) }
+        ensures unmarked { IfErr result IsUnmarked }
+        ensures word { IfErr result (IsCountWord LIMIT) }
+    {
+        match self.clone_if_marked(before) {
+            Ok(clone) => Ok(clone),
+            Err(found) => self.exchange(found, before),
+        }
+    }
+
+    /// The load of a clone: another handle if the block is marked, else the unmarked count word
+    /// that was found.
+    fn clone_if_marked(&self, before: &Seen) -> Result<Counted<LIMIT, A>, u64>
+        requires before { before.now.block ≡ self.now.pointer.block }
+        ensures clone { IfOk result (λ clone. IsCloneOf clone.pointer self.now.pointer) }
+        ensures born { IfOk result
+            (λ clone. IsBornOf self.now.pointer before.now.history clone.pointer) }
         ensures unmarked { IfErr result IsUnmarked }
         ensures word { IfErr result (IsCountWord LIMIT) }
     {
         let len = self.len;
-        let (found, gained) = self.pointer.load(offset_of_word(len), &self.pointer.seen());
+        let (found, gained) = self.pointer.load(offset_of_word(len), before);
         if is_marked(found) {
             Ok(self.with_pointer(gained, len))
         } else {
@@ -437,16 +509,22 @@ impl<const LIMIT: u64, A: Allocator + Copy> Counted<LIMIT, A> {
         }
     }
 
-    /// One try of a clone from the unmarked count word `old`: another handle, or the unmarked count word that was found.
-    fn exchange(&self, old: u64) -> Result<Counted<LIMIT, A>, u64>
+    /// One try of a clone from the unmarked count word `old`: another handle, or the unmarked count
+    /// word that was found.
+    fn exchange(&self, old: u64, before: &Seen) -> Result<Counted<LIMIT, A>, u64>
         requires unmarked { IsUnmarked old }
         requires word { IsCountWord LIMIT old }
+        requires before { before.now.block ≡ self.now.pointer.block }
         ensures clone { IfOk result (λ clone. IsCloneOf clone.pointer self.now.pointer) }
+        ensures born { IfOk result
+            (λ clone. IsBornOf self.now.pointer before.now.history clone.pointer) }
         ensures found { IfErr result (IsOtherWord LIMIT old) }
     {
         let len = self.len;
         let next = word_after_clone(LIMIT, old);
-        let (found, gained) = self.pointer.clone_exchange(offset_of_word(len), old, next);
+        let (found, gained) = self
+            .pointer
+            .clone_exchange(offset_of_word(len), old, next, before);
         if found == old || is_marked(found) {
             Ok(self.with_pointer(gained, len))
         } else {
@@ -455,18 +533,20 @@ impl<const LIMIT: u64, A: Allocator + Copy> Counted<LIMIT, A> {
         }
     }
 
-    /// The exchanges of a clone after one that failed, until no other thread changes the count word before one. They are out of line, so that
-    /// the code of a clone is short.
+    /// The exchanges of a clone after one that failed, until no other thread changes the count word
+    /// before one. They are out of line, so that the code of a clone is short.
     #[cold]
     #[inline(never)]
-    fn exchange_until<R: Wait>(&self, rt: &R, old: u64) -> Counted<LIMIT, A>
+    fn exchange_until<R: Wait>(&self, rt: &R, old: u64, before: &Seen) -> Counted<LIMIT, A>
         requires unmarked { IsUnmarked old }
         requires word { IsCountWord LIMIT old }
-        ensures { IsCloneOf result.pointer self.now.pointer }
+        requires before { before.now.block ≡ self.now.pointer.block }
+        ensures clone { IsCloneOf result.pointer self.now.pointer }
+        ensures born { IsBornOf self.now.pointer before.now.history result.pointer }
     {
         let mut old = old;
         for _ in rt.forever() {
-            match self.exchange(old) {
+            match self.exchange(old, before) {
                 Ok(clone) => return clone,
                 Err(found) => old = found,
             }
@@ -474,7 +554,8 @@ impl<const LIMIT: u64, A: Allocator + Copy> Counted<LIMIT, A> {
         unreachable!()
     }
 
-    /// Another handle on this block, with this pointer to it. The length is passed, since the machine would read it again after an atomic step.
+    /// Another handle on this block, with this pointer to it. The length is passed, since the
+    /// machine would read it again after an atomic step.
     fn with_pointer(&self, pointer: Pointer<A>, len: usize) -> Counted<LIMIT, A>
         requires same { IsSameBlock pointer self.now.pointer }
         requires free { IsFree pointer.right }

@@ -1,5 +1,5 @@
-//! What the number in a count word says, and what a clone makes of it: the operations of `arcstr_count::Word` on the
-//! number alone, which is all that a step knows of the count word.
+//! What the number in a count word says, and what a clone makes of it: the operations of
+//! `arcstr_count::Word` on the number alone, which is all that a step knows of the count word.
 ghost use Rattle.std.specs.Prelude.{◌≡◌, ◌≤◌, IsTrue, ◌↔◌, MatchOption};
 ghost use Rattle.arcstr_count.specs.Word.{looked_of};
 ghost use Rattle.arcstr_block.specs.Word.{IsMarked, IsUnmarked, IsCountWord, IsClone, IsLast, word_of};
@@ -37,8 +37,8 @@ pub(crate) fn word_after_clone(limit: u64, old: u64) -> u64
     Word::from_bits(old).cloned(limit).bits()
 }
 
-/// Whether the count word is unmarked with count 1, as the count word of a new block is. A subtraction that found it was
-/// the last one.
+/// Whether the count word is unmarked with count 1, as the count word of a new block is. A
+/// subtraction that found it was the last one.
 pub(crate) fn is_count_of_one(word: u64) -> bool
     ensures { IsTrue result ↔ IsLast word }
 {

@@ -5,13 +5,16 @@
 use Rattle.arcstr_count.proofs.Names.{◌≡◌, ◌≢◌, ℕ, zero, suc, ◌+◌, ◌<◌, ◌≤◌, Bool, true, false, ◌&&◌, ◌==◌, if◌then◌else◌, List, [], ◌∷◌, ◌++◌, get_or, length}
 use Rattle.arcstr_count.proofs.Names.{filter, refl, sym, ◌∙◌, ap, ap₂, ◌⊎◌, inl, inr, arith, ne_eqb, eq-eqb, not, ◌||◌, nat_lt, subst, set}
 use Rattle.arcstr_count.proofs.Names.{length-append, filter-append, cases_eq, length_push}
-use Rattle.arcstr_count.proofs.Names.{get_or-set_same, get_or-set_other, set-get_or, length-set, get_or_push, get_or_append_left, Option, Some, None, option_map, slice_get}
+use Rattle.arcstr_count.proofs.Names.{get_or-set_same, get_or-set_other, set-get_or, length-set, get_or_push, get_or_append_left, Option, Some, None, is_none}
+use Rattle.arcstr_count.proofs.Names.{option_map, slice_get}
 use Rattle.arcstr_count.proofs.Names.{slice_get_within, get_or_from_slice_get, slice_get-get_or, StepFault, numbers_below, lives, is_dropping, is_owing}
-use Rattle.arcstr_count.proofs.Names.{Step, Make, Clone, Look, Begin, Sub, Back, Leak, IntoRaw, FromRaw, HandleState, Free, Raw, Dropping, Owing, Gone, HandleSummary}
-use Rattle.arcstr_count.proofs.Names.{FlagAndCount, fresh_word, cloned_of, dropped_of, marked_of, is_last, BlockSummary, refusal_unless, Reply, Ended, Looked}
+use Rattle.arcstr_count.proofs.Names.{Step, Make, Clone, Look, Begin, Sub, Back, Leak, IntoRaw, FromRaw, HandleState, Free, Raw, Dropping, Owing, Gone}
+use Rattle.arcstr_count.proofs.Names.{HandleSummary}
+use Rattle.arcstr_count.proofs.Names.{FlagAndCount, fresh_word, cloned_of, dropped_of, marked_of, is_last, BlockSummary, needs, refusal_by, refusal_unless}
 use Rattle.arcstr_count.proofs.Names.{State, start, no_handle, no_block, block_on, state_on, state_in, word_on, given_in, handles_with_state}
 use Rattle.arcstr_count.proofs.Names.{accepted, refusal_in, unless_refused, step, after_from, after, handles_on, append-nil, append_assoc}
-use Rattle.std.specs.Prelude.{sum_by}
+use Rattle.std.specs.Prelude.{sum_by, IfSome}
+use Rattle.arcstr_count.specs.Answer.{Need}
 use Rattle.std.proofs.lemmas.List.Sums.{sum_by-cons, sum_by_push, sum_by-set, sum_by-le-sum_by, get_or-le-sum_by}
 
 -- ---- how many numbers below n pass a test
@@ -51,7 +54,7 @@ module _ {X : Type 0} (P : List X → Type 0) where
   by_pushes nil push xs = further push [] xs nil
 
 -- as many indices of a list have an entry that passes as there are such entries
-count_entries : {X : Type 0} (test : X → Bool) (d : X) (xs : List X)
+pub count_entries : {X : Type 0} (test : X → Bool) (d : X) (xs : List X)
     → count (λ k. test (get_or xs k d)) (length xs) ≡ sum_by (λ x. one_if (test x)) xs
 count_entries {X} test d = by_pushes (λ xs. count (λ k. test (get_or xs k d)) (length xs) ≡ sum_by (λ x. one_if (test x)) xs) refl push
   where
@@ -84,11 +87,36 @@ held hs b test = sum_by (λ it. one_if (passes_on b test it)) hs
 pub length-handles_on : (w : State) (b : ℕ) (test : HandleState → Bool) → length (handles_on w b test) ≡ held w.handles b test
 length-handles_on w b test = count_entries (passes_on b test) no_handle w.handles
 
-pub on_it : (c b : ℕ) (x : Bool) → c ≡ b → one_if ((c == b) && x) ≡ one_if x
-on_it c b x same = ap (λ (t : Bool). one_if (t && x)) (eq-eqb c b same)
-
 off_it : (c b : ℕ) (x : Bool) → c ≢ b → one_if ((c == b) && x) ≡ 0
 off_it c b x apart = ap (λ (t : Bool). one_if (t && x)) (ne_eqb c b apart)
+
+-- ---- one entry of a table is set
+
+-- what holds of the new entry where it stands, and of the old one elsewhere, holds of each entry
+pub at_set : {X : Type 0} (P : X → Type 0) (xs : List X) (c b : ℕ) (x d : X) → c < length xs → (b ≡ c → P x) → (b ≢ c → P (get_or xs b d))
+    → P (get_or (set xs c x) b d)
+at_set P xs c b x d within here elsewhere = by_place (cases_eq b c)
+  where
+    by_place : (b ≡ c) ⊎ (b ≢ c) → P (get_or (set xs c x) b d)
+    by_place (inl same) = subst P (sym (ap (λ k. get_or (set xs c x) k d) same ∙ get_or-set_same xs c x d within)) (here same)
+    by_place (inr apart) = subst P (sym (get_or-set_other xs c b x d apart)) (elsewhere apart)
+
+-- a part that the new entry shares with the old one stays in each entry
+pub part_kept : {X Y : Type 0} (f : X → Y) (xs : List X) (c : ℕ) (x d : X) → c < length xs → f x ≡ f (get_or xs c d) → (b : ℕ)
+    → f (get_or (set xs c x) b d) ≡ f (get_or xs b d)
+part_kept f xs c x d within same b = at_set (λ y. f y ≡ f (get_or xs b d)) xs c b x d within
+    (λ here. same ∙ ap (λ k. f (get_or xs k d)) (sym here)) (λ apart. refl)
+
+-- what holds of the new entry at the end, and of each entry before it, holds of each entry
+pub at_push : {X : Type 0} (P : X → Type 0) (xs : List X) (x d : X) (k : ℕ) → k < length (xs ++ x ∷ []) → (k ≡ length xs → P x)
+    → (k < length xs → P (get_or xs k d)) → P (get_or (xs ++ x ∷ []) k d)
+at_push P xs x d k within last before = by_place (cases_eq k (length xs))
+  where
+    by_place : (k ≡ length xs) ⊎ (k ≢ length xs) → P (get_or (xs ++ x ∷ []) k d)
+    by_place (inl same) = subst P (sym (get_or_push xs x d k (sym same))) (last same)
+    by_place (inr apart) =
+        let below : k < length xs = omega (arith, length_push xs x) in
+        subst P (sym (get_or_append_left xs (x ∷ []) d k below)) (before below)
 
 -- ---- a handle goes from one state to another
 
@@ -96,20 +124,9 @@ module _ (hs : List HandleSummary) (h : ℕ) (new : HandleState) (born : h < len
   pub length-moved : length (handles_with_state hs h new) ≡ length hs
   length-moved = length-set hs h (record { block = (get_or hs h no_handle).block; state = new })
 
-  pub moved_same : get_or (handles_with_state hs h new) h no_handle ≡ record { block = (get_or hs h no_handle).block; state = new }
-  moved_same = get_or-set_same hs h (record { block = (get_or hs h no_handle).block; state = new }) no_handle born
-
-  pub moved_other : (k : ℕ) → k ≢ h → get_or (handles_with_state hs h new) k no_handle ≡ get_or hs k no_handle
-  moved_other k apart = get_or-set_other hs h k (record { block = (get_or hs h no_handle).block; state = new }) no_handle apart
-
   -- each handle stays on its block
   pub moved_block : (k : ℕ) → (get_or (handles_with_state hs h new) k no_handle).block ≡ (get_or hs k no_handle).block
-  moved_block k = by_place (cases_eq k h)
-    where
-      by_place : (k ≡ h) ⊎ (k ≢ h) → (get_or (handles_with_state hs h new) k no_handle).block ≡ (get_or hs k no_handle).block
-      by_place (inl same) = subst (λ j. (get_or (handles_with_state hs h new) j no_handle).block ≡ (get_or hs j no_handle).block) (sym same)
-          (ap (λ (it : HandleSummary). it.block) moved_same)
-      by_place (inr apart) = ap (λ (it : HandleSummary). it.block) (moved_other k apart)
+  moved_block k = part_kept (λ (it : HandleSummary). it.block) hs h _ no_handle born refl k
 
   moved_count : (b : ℕ) (test : HandleState → Bool)
       → held (handles_with_state hs h new) b test + one_if (passes_on b test (get_or hs h no_handle))
@@ -118,17 +135,11 @@ module _ (hs : List HandleSummary) (h : ℕ) (new : HandleState) (born : h < len
 
   pub moved_here : (b : ℕ) → (get_or hs h no_handle).block ≡ b → (test : HandleState → Bool)
       → held (handles_with_state hs h new) b test + one_if (test (get_or hs h no_handle).state) ≡ held hs b test + one_if (test new)
-  moved_here b on test =
-      let old = on_it (get_or hs h no_handle).block b (test (get_or hs h no_handle).state) on in
-      let after = on_it (get_or hs h no_handle).block b (test new) on in
-      omega (arith, moved_count b test, old, after)
+  moved_here b on test = rw (eq-eqb (get_or hs h no_handle).block b on) at (moved_count b test)
 
   pub moved_elsewhere : (b : ℕ) → (get_or hs h no_handle).block ≢ b → (test : HandleState → Bool)
       → held (handles_with_state hs h new) b test ≡ held hs b test
-  moved_elsewhere b apart test =
-      let old = off_it (get_or hs h no_handle).block b (test (get_or hs h no_handle).state) apart in
-      let after = off_it (get_or hs h no_handle).block b (test new) apart in
-      omega (arith, moved_count b test, old, after)
+  moved_elsewhere b apart test = let same = rw (ne_eqb (get_or hs h no_handle).block b apart) at (moved_count b test) in omega (arith, same)
 
 -- ---- a handle is born free on block c
 
@@ -144,10 +155,10 @@ module _ (hs : List HandleSummary) (c : ℕ) where
   born_count b test = sum_by_push (λ it. one_if (passes_on b test it)) hs (record { block = c; state = Free })
 
   pub born_here : (test : HandleState → Bool) → held (hs ++ record { block = c; state = Free } ∷ []) c test ≡ held hs c test + one_if (test Free)
-  born_here test = let on = on_it c c (test Free) refl in omega (arith, born_count c test, on)
+  born_here test = rw (same_test c) at (born_count c test)
 
   pub born_elsewhere : (b : ℕ) → c ≢ b → (test : HandleState → Bool) → held (hs ++ record { block = c; state = Free } ∷ []) b test ≡ held hs b test
-  born_elsewhere b apart test = let off = off_it c b (test Free) apart in omega (arith, born_count b test, off)
+  born_elsewhere b apart test = let same = rw (ne_eqb c b apart) at (born_count b test) in omega (arith, same)
 
 -- ---- how many are held
 
@@ -286,20 +297,10 @@ acts : (limit : ℕ) (w : State) (c : ℕ) (hs : List HandleSummary) (entry : Bl
     → IsLawful limit (record { handles = hs; blocks = set w.blocks c entry })
 acts limit w c hs entry lawful within made elsewhere here = record {
   made = λ h born. rw (length-set w.blocks c entry) (made h born);
-  balanced = λ b below. by_block b (rw (length-set w.blocks c entry) at below) (cases_eq b c);
+  balanced = λ b below. at_set (Balance limit hs b) w.blocks c b entry no_block within
+      (λ same. subst (λ d. Balance limit hs d entry) (sym same) (here (lawful.balanced c within)))
+      (λ apart. same_counts limit w.handles hs b _ (elsewhere b (λ same. apart (sym same))) (lawful.balanced b (rw (length-set w.blocks c entry) at below)));
 }
-  where
-    by_block : (b : ℕ) → b < length w.blocks → (b ≡ c) ⊎ (b ≢ c) → Balance limit hs b (get_or (set w.blocks c entry) b no_block)
-    by_block b below (inl same) = subst (λ d. Balance limit hs d (get_or (set w.blocks c entry) d no_block)) (sym same)
-        (subst (Balance limit hs c) (sym (get_or-set_same w.blocks c entry no_block within)) (here (lawful.balanced c within)))
-    by_block b below (inr apart) = subst (Balance limit hs b) (sym (get_or-set_other w.blocks c b entry no_block apart))
-        (same_counts limit w.handles hs b _ (elsewhere b (λ same. apart (sym same))) (lawful.balanced b below))
-
--- the state and the reply after an accepted `Begin`, by the flag of the count word
-abbrev pub begun_by : Bool → State → ℕ → State × Reply
-begun_by f w h = if f
-    then (record w { handles = handles_with_state w.handles h Gone }, Ended)
-    else (record w { handles = handles_with_state w.handles h Dropping }, Looked)
 
 -- the handle was born, and is in this state
 pub record IsIn (w : State) (h : ℕ) (s : HandleState) : Type 0 where
@@ -326,9 +327,20 @@ accepts_needed s = grind arith
 pub needed_state : (s : HandleState) (o : Option HandleState) → refusal_unless s o ≡ None → o ≡ Some s
 needed_state s o e = grind arith
 
+pub none_of : (o : Option StepFault) → is_none o ≡ true → o ≡ None
+none_of None e = refl
+none_of (Some fault) e = cc
+
 -- so an accepted step finds its handle in the state that it needs
 pub step_finds : (w : State) (h : ℕ) (s : HandleState) → refusal_unless s (state_in w h) ≡ None → IsIn w h s
 step_finds w h s e = is_in_state w h s (needed_state s (state_in w h) e)
+
+pub finds : (w : State) (s : Step) → refusal_in w s ≡ None → IfSome (needs s) (λ need. IsIn w need.handle need.state)
+finds w s e = by_need (needs s) e
+  where
+    by_need : (o : Option Need) → refusal_by (λ h. state_in w h) o ≡ None → IfSome o (λ need. IsIn w need.handle need.state)
+    by_need None e = tt
+    by_need (Some need) e = step_finds w need.handle need.state e
 
 module _ (limit : ℕ) (w : State) (lawful : IsLawful limit w) where
   -- a step that brings a handle from one state to another, and leaves this entry of its block
@@ -362,8 +374,12 @@ module _ (limit : ℕ) (w : State) (lawful : IsLawful limit w) where
   -- a new block has one free handle
   lawful_make : IsLawful limit (accepted limit w Make).0
   lawful_make = record {
-    made = λ h born. rw (length_push w.blocks (record { word = fresh_word; given = 0 })) (on_made h born (cases_eq h (length w.handles)));
-    balanced = λ b below. by_block b (cases_eq b (length w.blocks)) (rw (length_push w.blocks (record { word = fresh_word; given = 0 })) at below);
+    made = λ h born. rw (length_push w.blocks fresh) (at_push (λ (it : HandleSummary). it.block < length w.blocks + 1) w.handles first no_handle h born
+        (λ last. omega arith) (λ below. let made = lawful.made h below in omega arith));
+    balanced = λ b below. at_push (Balance limit (w.handles ++ first ∷ []) b) w.blocks fresh no_block b below
+        (λ last. subst (λ c. Balance limit (w.handles ++ first ∷ []) c fresh) (sym last) new_block)
+        (λ older. same_counts limit w.handles (w.handles ++ first ∷ []) b (get_or w.blocks b no_block)
+        (born_elsewhere w.handles (length w.blocks) b (λ same. omega arith)) (lawful.balanced b older));
   }
     where
       first : HandleSummary
@@ -372,16 +388,7 @@ module _ (limit : ℕ) (w : State) (lawful : IsLawful limit w) where
       fresh : BlockSummary
       fresh = record { word = fresh_word; given = 0 }
 
-      on_made : (h : ℕ) → h < length (w.handles ++ record { block = length w.blocks; state = Free } ∷ []) → (h ≡ length w.handles) ⊎ (h ≢ length w.handles)
-          → (get_or (w.handles ++ record { block = length w.blocks; state = Free } ∷ []) h no_handle).block < length w.blocks + 1
-      on_made h born (inl last) = rw (last, born_last w.handles (length w.blocks)) (omega arith)
-      on_made h born (inr earlier) =
-          let long = length_push w.handles (record { block = length w.blocks; state = Free }) in
-          let below : h < length w.handles = omega arith in
-          let made = lawful.made h below in
-          rw (born_earlier w.handles (length w.blocks) h below) (omega arith)
-
-      new_block : Balance limit (w.handles ++ record { block = length w.blocks; state = Free } ∷ []) (length w.blocks) (record { word = fresh_word; given = 0 })
+      new_block : Balance limit (w.handles ++ first ∷ []) (length w.blocks) fresh
       new_block =
           let here = born_here w.handles (length w.blocks) in
           let none : (test : HandleState → Bool) → held w.handles (length w.blocks) test ≡ 0 =
@@ -396,47 +403,21 @@ module _ (limit : ℕ) (w : State) (lawful : IsLawful limit w) where
             },
           )
 
-      by_block : (b : ℕ) → (b ≡ length w.blocks) ⊎ (b ≢ length w.blocks) → b < length w.blocks + 1
-          → Balance limit (w.handles ++ record { block = length w.blocks; state = Free } ∷ []) b
-          (get_or (w.blocks ++ record { word = fresh_word; given = 0 } ∷ []) b no_block)
-      by_block b (inl last) below = rw (last, get_or_push w.blocks (record { word = fresh_word; given = 0 }) no_block (length w.blocks) refl) new_block
-      by_block b (inr earlier) below =
-          let older : b < length w.blocks = omega arith in
-          rw (get_or_append_left w.blocks (record { word = fresh_word; given = 0 } ∷ []) no_block b older)
-          (same_counts limit w.handles (w.handles ++ record { block = length w.blocks; state = Free } ∷ []) b (get_or w.blocks b no_block) (born_elsewhere w.handles (length w.blocks) b (λ same. omega arith)) (lawful.balanced b older))
-
   lawful_clone : (h : ℕ) → IsIn w h Free → IsLawful limit (accepted limit w (Clone h)).0
   lawful_clone h i = acts limit w (block_on w h) (w.handles ++ record { block = block_on w h; state = Free } ∷ []) _ lawful (lawful.made h i.born)
-      (λ k born. on_made k born (cases_eq k (length w.handles)))
+      (λ k born. at_push (λ (it : HandleSummary). it.block < length w.blocks) w.handles _ no_handle k born (λ last. lawful.made h i.born) (lawful.made k))
       (λ b apart. born_elsewhere w.handles (block_on w h) b apart)
       (λ before. (
         _,
         after_Clone limit (word_on w h) (λ test. held w.handles (block_on w h) test) _ (given_in w (block_on w h)) before.0
             (bears _ _ (λ test. born_here w.handles (block_on w h) test)) (lives_here h i) (dropping-le-living w.handles (block_on w h)) before.1,
       ))
-    where
-      on_made : (k : ℕ) → k < length (w.handles ++ record { block = block_on w h; state = Free } ∷ []) → (k ≡ length w.handles) ⊎ (k ≢ length w.handles)
-          → (get_or (w.handles ++ record { block = block_on w h; state = Free } ∷ []) k no_handle).block < length w.blocks
-      on_made k born (inl last) = rw (last, born_last w.handles (block_on w h)) (lawful.made h i.born)
-      on_made k born (inr earlier) =
-          let long = length_push w.handles (record { block = block_on w h; state = Free }) in
-          let below : k < length w.handles = omega arith in
-          rw (born_earlier w.handles (block_on w h) k below) (lawful.made k below)
 
-  begun : (h : ℕ) → IsIn w h Free → (f : Bool) → (word_on w h).flag ≡ f → IsLawful limit (begun_by f w h).0
-  begun h i f flag = by_flag f flag
-    where
-      same_mark : (f m : Bool) (n after : Counts) (g : ℕ) → (word_on w h).flag ≡ f
-          → Moves n after Free (if f then Gone else Dropping) → IsBalanced limit (word_on w h) m n g → IsBalanced limit (word_on w h) m after g
-      same_mark f m n after g flag moves before =
-          let is : f ≡ m = sym flag ∙ flag_is limit (word_on w h) m n g before in
-          after_Begin limit (word_on w h) n after g m (subst (λ (x : Bool). Moves n after Free (if x then Gone else Dropping)) is moves) before
-
-      by_flag : (f : Bool) → (word_on w h).flag ≡ f → IsLawful limit (begun_by f w h).0
-      by_flag true marked = changes_state h Free Gone i (λ m after moves before. same_mark true m (λ test. held w.handles (block_on w h) test) after
-          (given_in w (block_on w h)) marked moves before)
-      by_flag false unmarked = changes_state h Free Dropping i (λ m after moves before. same_mark false m (λ test. held w.handles (block_on w h) test) after
-          (given_in w (block_on w h)) unmarked moves before)
+  lawful_begin : (h : ℕ) → IsIn w h Free → IsLawful limit (accepted limit w (Begin h)).0
+  lawful_begin h i = changes_state h Free (if (word_on w h).flag then Gone else Dropping) i (λ m after moves before.
+      after_Begin limit (word_on w h) (λ test. held w.handles (block_on w h) test) after (given_in w (block_on w h)) m
+      (subst (λ (f : Bool). Moves (λ test. held w.handles (block_on w h) test) after Free (if f then Gone else Dropping))
+      (flag_is limit (word_on w h) m (λ test. held w.handles (block_on w h) test) (given_in w (block_on w h)) before) moves) before)
 
   lawful_sub : (h : ℕ) → IsIn w h Dropping → IsLawful limit (accepted limit w (Sub h)).0
   lawful_sub h i = changes h Dropping (if is_last (word_on w h) then Owing else Gone)
@@ -456,7 +437,7 @@ module _ (limit : ℕ) (w : State) (lawful : IsLawful limit w) where
   lawful_accepted Make e = lawful_make
   lawful_accepted (Look h) e = lawful
   lawful_accepted (Clone h) e = lawful_clone h (step_finds w h Free e)
-  lawful_accepted (Begin h) e = begun h (step_finds w h Free e) (word_on w h).flag refl
+  lawful_accepted (Begin h) e = lawful_begin h (step_finds w h Free e)
   lawful_accepted (Sub h) e = lawful_sub h (step_finds w h Dropping e)
   lawful_accepted (Back h) e = changes h Owing Gone _ (step_finds w h Owing e) (λ m after moves before.
       (m, after_Back limit (word_on w h) _ after _ m _ refl moves before))

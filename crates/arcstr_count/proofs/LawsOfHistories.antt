@@ -1,13 +1,13 @@
 -- The laws of every interleaving, over the prefixes of a history, and what the step function keeps of every state after a history.
 --
 -- Each state after a history is lawful: each of its blocks is balanced. Each law is read off this balance, for an unmarked block and a marked one.
-use Rattle.arcstr_count.proofs.Names.{◌≡◌, ◌≢◌, ◌↔◌, ℕ, ◌+◌, ◌<◌, ◌≤◌, Bool, true, false, IsFalse, IsTrue, Some, None, Option, List, [], ◌∷◌, ◌++◌}
-use Rattle.arcstr_count.proofs.Names.{length, refl, sym, ap, subst, arith, nil_from_length, get_or, ◌⊎◌, inl, inr, cases_eq, set}
-use Rattle.arcstr_count.proofs.Names.{get_or-set_same, get_or-set_other, get_or_append_left, length-set, length_push, StepFault, Step, Make, Look, Clone, Begin}
-use Rattle.arcstr_count.proofs.Names.{Sub, Back, Leak, IntoRaw, FromRaw, Dropping, BlockSummary, FlagAndCount, cloned_of, lives, is_dropping, is_owing}
+use Rattle.arcstr_count.proofs.Names.{◌≡◌, ◌≢◌, ◌↔◌, ℕ, ◌+◌, ◌<◌, ◌≤◌, Bool, true, IsFalse, IsTrue, Some, None, Option, List, [], ◌∷◌, ◌++◌}
+use Rattle.arcstr_count.proofs.Names.{length, refl, sym, ◌∙◌, ap, subst, arith, nil_from_length, get_or, ◌⊎◌, inl, inr, cases_eq, set}
+use Rattle.arcstr_count.proofs.Names.{get_or-set_same, get_or-set_other, get_or_append_left, length-set, length_push, StepFault, Step, Make, Clone}
+use Rattle.arcstr_count.proofs.Names.{Sub, Back, Leak, Dropping, BlockSummary, FlagAndCount, cloned_of, lives, is_dropping, is_owing}
 use Rattle.arcstr_count.proofs.Names.{HoldsInEveryInterleaving, StandsAfter, State, start, no_block, block_on, state_on, word_in, word_on, given_in, accepted}
 use Rattle.arcstr_count.proofs.Names.{refusal_in, unless_refused, step, after_from, after, replies_from, word_after, living_after, makes_after, handles_on}
-use Rattle.arcstr_count.proofs.LawsOfBlocks.{begun_by, Counts, IsBalanced, IsLawful, length-handles_on, some_on, lawful_from, lawful_after}
+use Rattle.arcstr_count.proofs.LawsOfBlocks.{Counts, IsBalanced, IsLawful, length-handles_on, some_on, lawful_from, lawful_after}
 
 -- ---- one block of a lawful state
 
@@ -51,20 +51,15 @@ after_from-step limit w xs s = after_from-append limit w xs (s ∷ [])
 pub after-step : (limit : ℕ) (history : List Step) (s : Step) → after limit (history ++ s ∷ []) ≡ (step limit (after limit history) s).0
 after-step limit history s = after_from-step limit start history s
 
+pub after-accepted : (limit : ℕ) (history : List Step) (s : Step) → refusal_in (after limit history) s ≡ None
+    → after limit (history ++ s ∷ []) ≡ (accepted limit (after limit history) s).0
+after-accepted limit history s e =
+    after-step limit history s ∙ ap (λ o. (unless_refused o (after limit history) (accepted limit (after limit history) s)).0) e
+
 pub replies_from-step : (limit : ℕ) (w : State) (xs : List Step) (s : Step)
     → replies_from limit w (xs ++ s ∷ []) ≡ replies_from limit w xs ++ (step limit (after_from limit w xs) s).1 ∷ []
 replies_from-step limit w [] s = refl
 replies_from-step limit w (x ∷ xs) s = ap (λ later. (step limit w x).1 ∷ later) (replies_from-step limit (step limit w x).0 xs s)
-
--- what each accepted step keeps, a list of steps keeps
-kept_from : (limit : ℕ) (P : State → Type 0) → ((w : State) (s : Step) → P w → P (accepted limit w s).0) → (w : State) (later : List Step)
-    → P w → P (after_from limit w later)
-kept_from limit P keeps w [] now = now
-kept_from limit P keeps w (s ∷ later) now = kept_from limit P keeps (step limit w s).0 later (by_refusal (refusal_in w s))
-  where
-    by_refusal : (o : Option StepFault) → P (unless_refused o w (accepted limit w s)).0
-    by_refusal None = keeps w s now
-    by_refusal (Some fault) = now
 
 -- ---- a block that was made stays made, its mark stays, and what was freed stays freed
 
@@ -86,7 +81,8 @@ grows_at bs c entry mark free = record {
   freed = λ b made. by_block_free b made (cases_eq b c);
 }
   where
-    by_block_mark : (b : ℕ) → b < length bs → (b ≡ c) ⊎ (b ≢ c) → (get_or bs b no_block).word.flag ≡ true → (get_or (set bs c entry) b no_block).word.flag ≡ true
+    by_block_mark : (b : ℕ) → b < length bs → (b ≡ c) ⊎ (b ≢ c) → (get_or bs b no_block).word.flag ≡ true
+        → (get_or (set bs c entry) b no_block).word.flag ≡ true
     by_block_mark b made (inl same) e = rw (same, get_or-set_same bs c entry no_block (rw same at made)) (mark (rw same at e))
     by_block_mark b made (inr apart) e = rw (get_or-set_other bs c b entry no_block apart) e
 
@@ -103,35 +99,36 @@ grows limit w Make = record {
   marked = λ b made e. rw (get_or_append_left w.blocks (no_block ∷ []) no_block b made) e;
   freed = λ b made. rw (get_or_append_left w.blocks (no_block ∷ []) no_block b made) (omega arith);
 }
-grows limit w (Look h) = grows_not w.blocks
 grows limit w (Clone h) = grows_at w.blocks (block_on w h) _ (cloned_marked limit (word_on w h)) (omega arith)
-grows limit w (Begin h) = by_flag (word_on w h).flag
-  where
-    by_flag : (f : Bool) → Grows w.blocks (begun_by f w h).0.blocks
-    by_flag true = grows_not w.blocks
-    by_flag false = grows_not w.blocks
 grows limit w (Sub h) = grows_at w.blocks (block_on w h) _ (λ e. e) (omega arith)
 grows limit w (Back h) = grows_at w.blocks (block_on w h) _ (λ e. e) (omega arith)
 grows limit w (Leak h) = grows_at w.blocks (block_on w h) _ (λ e. refl) (omega arith)
-grows limit w (IntoRaw h) = grows_not w.blocks
-grows limit w (FromRaw h) = grows_not w.blocks
+grows limit w s = grows_not w.blocks
+
+grows_more : (old mid new : List BlockSummary) → Grows old mid → Grows mid new → Grows old new
+grows_more old mid new first then_ = record {
+  made = let a = first.made in let b = then_.made in omega arith;
+  marked = λ b made e. then_.marked b (let more = first.made in omega arith) (first.marked b made e);
+  freed = λ b made.
+      let more = first.made in
+      let below : b < length mid = omega arith in
+      omega (arith, first.freed b made, then_.freed b below);
+}
+
+grows_from : (limit : ℕ) (w : State) (later : List Step) → Grows w.blocks (after_from limit w later).blocks
+grows_from limit w [] = grows_not w.blocks
+grows_from limit w (s ∷ later) = grows_more _ (step limit w s).0.blocks _ (by_refusal (refusal_in w s)) (grows_from limit (step limit w s).0 later)
+  where
+    by_refusal : (o : Option StepFault) → Grows w.blocks (unless_refused o w (accepted limit w s)).0.blocks
+    by_refusal None = grows limit w s
+    by_refusal (Some fault) = grows_not w.blocks
 
 pub made_stays : (limit : ℕ) (w : State) (later : List Step) (b : ℕ) → b < length w.blocks → b < length (after_from limit w later).blocks
-made_stays limit w later b = kept_from limit (λ v. b < length v.blocks) (λ v s made. let more = (grows limit v s).made in omega arith) w later
+made_stays limit w later b made = let more = (grows_from limit w later).made in omega arith
 
 pub mark_stays : (limit : ℕ) (w : State) (later : List Step) (b : ℕ) → b < length w.blocks → (word_in w b).flag ≡ true
     → (word_in (after_from limit w later) b).flag ≡ true
-mark_stays limit w later b made marked =
-    (kept_from limit (λ v. (b < length v.blocks) × ((word_in v b).flag ≡ true))
-    (λ v s now. let more = (grows limit v s).made in let below : b < length (accepted limit v s).0.blocks = let first = now.0 in omega arith in
-    (below, (grows limit v s).marked b now.0 now.1)) w later (made, marked)).1
-
-given_grows : (limit : ℕ) (w : State) (later : List Step) (b : ℕ) → b < length w.blocks → given_in w b ≤ given_in (after_from limit w later) b
-given_grows limit w later b made =
-    (kept_from limit (λ v. (b < length v.blocks) × (given_in w b ≤ given_in v b))
-    (λ v s now. let more = (grows limit v s).made in let below : b < length (accepted limit v s).0.blocks = let first = now.0 in omega arith in
-    let before = now.1 in let freed = (grows limit v s).freed b now.0 in
-    (below, omega arith)) w later (made, omega arith)).1
+mark_stays limit w later b made = (grows_from limit w later).marked b made
 
 -- ==== the laws of every interleaving
 
@@ -144,7 +141,7 @@ given_permanently : (limit : ℕ) (w : State) (later : List Step) (b : ℕ) → 
 given_permanently limit w later b lawful made given =
     let later_lawful = lawful_from limit w later lawful in
     let still = made_stays limit w later b made in
-    let least = given_grows limit w later b made in
+    let least = (grows_from limit w later).freed b made in
     let most = (says limit (after_from limit w later) b later_lawful still).one in
     given_alone limit (after_from limit w later) b later_lawful still (omega (arith, given))
 

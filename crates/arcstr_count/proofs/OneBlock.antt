@@ -2,19 +2,25 @@
 --
 -- We show for each step of a handle whose seat has the state that the step needs that the step is accepted and keeps the history: the step function
 -- computes its reply, the new count word and the new seats from those that the history leaves.
-use Rattle.arcstr_count.proofs.Names.{◌≡◌, ℕ, ◌+◌, ◌<◌, ◌≤◌, ◌&&◌, Bool, true, false, if◌then◌else◌, IsFalse, is_none, Option, None, Some}
+use Rattle.arcstr_count.proofs.Names.{◌≡◌, ℕ, ◌+◌, ◌<◌, ◌≤◌, ◌&&◌, Bool, true, false, if◌then◌else◌, IsFalse, is_none, None, Some}
 use Rattle.arcstr_count.proofs.Names.{List, [], ◌∷◌, ◌++◌, map, length, filter, slice_get, get_or, set, refl, sym, ◌∙◌, ap, subst, arith, suc}
 use Rattle.arcstr_count.proofs.Names.{map_push, map-set, length-map, length-set, get_or-set_same}
-use Rattle.arcstr_count.proofs.Names.{Step, Make, Look, Clone, Begin, Sub, Back, Leak, HandleState, Free, Dropping, Owing, Gone, HandleSummary, BlockSummary, Reply}
-use Rattle.arcstr_count.proofs.Names.{Count, Handle, Looked, Ended, Left, Owes, Given, Marked, Static, StepFault, FlagAndCount, fresh_word, looked_of, cloned_of, dropped_of, is_last, marked_of}
-use Rattle.arcstr_count.proofs.Names.{needs, refusal_by, refusal_unless, State, after, start, no_handle, no_block, block_on, state_in, word_in, word_on, given_in}
-use Rattle.arcstr_count.proofs.Names.{handles_with_state, blocks_with_word, blocks_with_given, accepted, refusal_in, unless_refused, step, look_reply, lives, is_dropping}
-use Rattle.std.specs.Prelude.{◌-◌}
+use Rattle.arcstr_count.proofs.Names.{Step, Make, Look, Clone, Begin, Sub, Back, Leak, HandleState, Free, Dropping, Owing, Gone, HandleSummary, BlockSummary}
+use Rattle.arcstr_count.proofs.Names.{Reply}
+use Rattle.arcstr_count.proofs.Names.{Count, Handle, Looked, Ended, Left, Owes, Given, Marked, Static, FlagAndCount, fresh_word, looked_of, cloned_of}
+use Rattle.arcstr_count.proofs.Names.{dropped_of, is_last, marked_of}
+use Rattle.arcstr_count.proofs.Names.{needs, refusal_by, refusal_unless, State, after, start, no_handle, no_block, block_on, state_in, word_in, word_on}
+use Rattle.arcstr_count.proofs.Names.{given_in, given_after}
+use Rattle.arcstr_count.proofs.Names.{handles_with_state, blocks_with_word, blocks_with_given, accepted, refusal_in, unless_refused, step, look_reply, lives}
+use Rattle.arcstr_count.proofs.Names.{is_dropping}
+use Rattle.std.specs.Prelude.{◌-◌, IfSome}
 use Rattle.arcstr_count.proofs.Names.{is_owing, makes_after, marked_after, handles_on, are_accepted, Keeps, EndsIn, after_from, and_parts, ◌⊎◌, inl, inr}
-use Rattle.arcstr_count.proofs.Names.{nil_from_length, length_push, zero, IntoRaw, FromRaw, Raw, word_after, living_after, word_on, IsOneBlock, IsInUse}
-use Rattle.arcstr_count.proofs.LawsOfBlocks.{IsIn, some_on, is_in_state, step_finds, accepts_needed, lawful_after, held, length-handles_on, passes_on, on_it, one_if, begun_by}
-use Rattle.arcstr_count.proofs.LawsOfHistories.{SaysOfBlock, after-step, after_from-append, says, stands, dropping_counted, made_stays}
-use Rattle.std.proofs.lemmas.List.Sums.{sum_by-cons}
+use Rattle.arcstr_count.proofs.Names.{nil_from_length, length_push, zero, word_after, living_after, word_on, IsOneBlock, IsInUse}
+use Rattle.arcstr_count.proofs.LawsOfBlocks.{IsIn, some_on, is_in_state, accepts_needed, lawful_after, count, count-same, count_entries, passes_on, none_of}
+use Rattle.arcstr_count.proofs.LawsOfBlocks.{finds}
+use Rattle.arcstr_count.proofs.LawsOfHistories.{SaysOfBlock, after-accepted, after_from-append, says, stands, dropping_counted, made_stays}
+use Rattle.std.proofs.lemmas.List.{get_or-map}
+use Rattle.std.proofs.lemmas.List.Sums.{length-filter}
 use Rattle.std.proofs.lemmas.Option.{slice_get-map}
 
 -- ---- what a seat says
@@ -52,7 +58,8 @@ keeps-make limit = record {
 }
 
 -- steps after others are accepted if they are accepted in the state after these
-accepted-append : (limit : ℕ) (w : State) (xs ys : List Step) → are_accepted limit w (xs ++ ys) ≡ (are_accepted limit w xs && are_accepted limit (after_from limit w xs) ys)
+accepted-append : (limit : ℕ) (w : State) (xs ys : List Step)
+    → are_accepted limit w (xs ++ ys) ≡ (are_accepted limit w xs && are_accepted limit (after_from limit w xs) ys)
 accepted-append limit w [] ys = refl
 accepted-append limit w (x ∷ xs) ys =
     ap (λ t. is_none (refusal_in w x) && t) (accepted-append limit (step limit w x).0 xs ys)
@@ -94,7 +101,7 @@ module _ (limit : ℕ) (r : List Step) (w : FlagAndCount) (seats : List HandleSt
           ∙ ap (refusal_unless needed) (seat_is limit r w seats keeps h needed seat) ∙ accepts_needed needed
 
       state : after limit (r ++ s ∷ []) ≡ (accepted limit (after limit r) s).0
-      state = after-step limit r s ∙ ap (λ o. (unless_refused o (after limit r) (accepted limit (after limit r) s)).0) open_to
+      state = after-accepted limit r s open_to
 
       one : Rattle.arcstr_count.specs.OneBlock.IsOneBlock limit (r ++ s ∷ [])
       one = record {
@@ -140,16 +147,17 @@ module _ (limit : ℕ) (r : List Step) (w : FlagAndCount) (seats : List HandleSt
     states = keeps.states;
   })
 
-  begun_leaves : (f : Bool)
-      → Leaves p (begun_by f p h) (if f then Ended else Looked) w (set seats h (if f then Gone else Dropping))
-  begun_leaves true = record { answer = refl; blocks = refl; word = keeps.left; states = seats_changed Gone }
-  begun_leaves false = record { answer = refl; blocks = refl; word = keeps.left; states = seats_changed Dropping }
-
   pub keeps-begin : slice_get seats h ≡ Some Free
       → Prolongs limit r (Begin h) (if w.flag then Ended else Looked) w (set seats h (if w.flag then Gone else Dropping))
-  keeps-begin seat = keeps-step (Begin h) Free _ w _ refl seat
-      (subst (λ f. Leaves p (begun_by (word_on p h).flag p h) (if f then Ended else Looked) w (set seats h (if f then Gone else Dropping)))
-      (ap (λ (v : FlagAndCount). v.flag) (word_is limit r w seats keeps h Free seat)) (begun_leaves (word_on p h).flag))
+  keeps-begin seat =
+      let word = word_is limit r w seats keeps h Free seat in
+      keeps-step (Begin h) Free _ w _ refl seat (record {
+        answer = ap (λ (v : FlagAndCount). if v.flag then Ended else Looked) word;
+        blocks = refl;
+        word = keeps.left;
+        states = ap (λ (v : FlagAndCount). set seats h (if v.flag then Gone else Dropping)) (sym word)
+            ∙ seats_changed (if (word_on (after limit r) h).flag then Gone else Dropping);
+      })
 
   pub keeps-clone : slice_get seats h ≡ Some Free
       → Prolongs limit r (Clone h) (Handle (length seats)) (cloned_of limit w) (seats ++ Free ∷ [])
@@ -191,37 +199,30 @@ module _ (limit : ℕ) (r : List Step) (w : FlagAndCount) (seats : List HandleSt
         answer = refl;
         blocks = length-set (after limit r).blocks (block_on (after limit r) h) _;
         word = sym (word_is limit r w seats keeps h Owing seat)
-            ∙ sym (ap (λ (e : BlockSummary). e.word) (ap (λ b. get_or (blocks_with_given (after limit r).blocks (block_on (after limit r) h)) b no_block) (sym on)
+            ∙ sym (ap (λ (e : BlockSummary). e.word) (ap (λ b. get_or (blocks_with_given (after limit r).blocks (block_on (after limit r) h)) b no_block)
+            (sym on)
             ∙ get_or-set_same (after limit r).blocks (block_on (after limit r) h) _ no_block ((lawful_after limit r).made h i.born)));
         states = seats_changed Gone;
       })
 
 -- ==== how many seats of a history of one block are in which states: their numbers agree with the count of the word
 
--- in a table of handles that are all on one block, as many are on the block as states pass
-held-states : (hs : List HandleSummary) (b : ℕ) (test : HandleState → Bool) → ((k : ℕ) → k < length hs → (get_or hs k no_handle).block ≡ b)
-    → length (filter test (map (λ (it : HandleSummary). it.state) hs)) ≡ held hs b test
-held-states [] b test on = refl
-held-states (it ∷ hs) b test on =
-    let later = held-states hs b test (λ k born. on (suc k) (omega arith)) in
-    let first = on_it it.block b (test it.state) (on 0 (omega arith)) in
-    by_test (test it.state) refl ∙ omega (arith, first, later, sum_by-cons (λ x. one_if (passes_on b test x)) it hs)
-  where
-    by_test : (t : Bool) → test it.state ≡ t → length (filter test (map (λ (x : HandleSummary). x.state) (it ∷ hs)))
-        ≡ one_if (test it.state) + length (filter test (map (λ (x : HandleSummary). x.state) hs))
-    by_test true e = rw e (omega arith)
-    by_test false e = rw e (omega arith)
-
 module _ (limit : ℕ) (r : List Step) (w : FlagAndCount) (seats : List HandleState) (keeps : Keeps limit r w seats) where
   -- as many seats pass a test as there are handles on the block whose states pass it
   seats-held : (test : HandleState → Bool) → length (filter test seats) ≡ length (handles_on (after limit r) 0 test)
   seats-held test =
       ap (λ states. length (filter test states)) keeps.states
-      ∙ held-states (after limit r).handles 0 test on_the_block
-      ∙ sym (length-handles_on (after limit r) 0 test)
+      ∙ length-filter test (map (λ (it : HandleSummary). it.state) handles)
+      ∙ sym (count_entries test Gone (map (λ (it : HandleSummary). it.state) handles))
+      ∙ ap (count (λ h. test (get_or (map (λ (it : HandleSummary). it.state) handles) h Gone))) (length-map handles (λ (it : HandleSummary). it.state))
+      ∙ count-same (λ h. passes_on 0 test (get_or handles h no_handle)) (λ h. test (get_or (map (λ (it : HandleSummary). it.state) handles) h Gone))
+      (length handles) (λ h born. rw (on h born, get_or-map (λ (it : HandleSummary). it.state) handles h no_handle Gone born) refl)
     where
-      on_the_block : (h : ℕ) → h < length (after limit r).handles → block_on (after limit r) h ≡ 0
-      on_the_block h born =
+      handles : List HandleSummary
+      handles = (after limit r).handles
+
+      on : (h : ℕ) → h < length handles → (get_or handles h no_handle).block ≡ 0
+      on h born =
           let below = (lawful_after limit r).made h born in
           let one = keeps.one_block.made in omega arith
 
@@ -265,14 +266,12 @@ module _ (limit : ℕ) (history : List Step) (s : Step) (reply : Reply) (ends : 
       (and_parts (is_none (refusal_in (after limit ends.prefix) s)) true (and_parts (are_accepted limit start ends.prefix)
       (is_none (refusal_in (after limit ends.prefix) s) && true)
       (sym (accepted-append limit start ends.prefix (s ∷ [])) ∙ ap (λ r. are_accepted limit start r) (sym ends.ends) ∙ ends.one_block.accepted)).1).0
-    where
-      none_of : (o : Option StepFault) → is_none o ≡ true → o ≡ None
-      none_of None e = refl
-      none_of (Some fault) e = cc
+
+  last_found : IfSome (needs s) (λ need. IsIn (after limit ends.prefix) need.handle need.state)
+  last_found = finds (after limit ends.prefix) s last_accepted
 
   last_state : after limit history ≡ (accepted limit (after limit ends.prefix) s).0
-  last_state = ap (λ r. after limit r) ends.ends ∙ after-step limit ends.prefix s
-      ∙ ap (λ o. (unless_refused o (after limit ends.prefix) (accepted limit (after limit ends.prefix) s)).0) last_accepted
+  last_state = ap (λ r. after limit r) ends.ends ∙ after-accepted limit ends.prefix s last_accepted
 
   last_reply : (accepted limit (after limit ends.prefix) s).1 ≡ reply
   last_reply = sym (ap (λ o. (unless_refused o (after limit ends.prefix) (accepted limit (after limit ends.prefix) s)).1) last_accepted) ∙ ends.answered
@@ -286,25 +285,33 @@ module _ (limit : ℕ) (history : List Step) (s : Step) (reply : Reply) (ends : 
       let below = (lawful_after limit ends.prefix).made h born in
       omega (arith, same, made, one, below)
 
+  -- so the entry of the one block is that of the handle's block in the state that the step leaves
+  last_entry : (h : ℕ) → length (accepted limit (after limit ends.prefix) s).0.blocks ≡ length (after limit ends.prefix).blocks
+      → h < length (after limit ends.prefix).handles → get_or (after limit history).blocks 0 no_block
+      ≡ get_or (accepted limit (after limit ends.prefix) s).0.blocks (block_on (after limit ends.prefix) h) no_block
+  last_entry h same born = ap (λ (v : State). get_or v.blocks 0 no_block) last_state
+      ∙ ap (λ b. get_or (accepted limit (after limit ends.prefix) s).0.blocks b no_block) (sym (last_on h same born))
+
+  -- which is the entry that the step sets
+  last_set : (h : ℕ) (entry : BlockSummary) → (accepted limit (after limit ends.prefix) s).0.blocks
+      ≡ set (after limit ends.prefix).blocks (block_on (after limit ends.prefix) h) entry
+      → h < length (after limit ends.prefix).handles → get_or (after limit history).blocks 0 no_block ≡ entry
+  last_set h entry is born =
+      last_entry h (ap length is ∙ length-set (after limit ends.prefix).blocks (block_on (after limit ends.prefix) h) entry) born
+      ∙ ap (λ bs. get_or bs (block_on (after limit ends.prefix) h) no_block) is
+      ∙ get_or-set_same (after limit ends.prefix).blocks (block_on (after limit ends.prefix) h) entry no_block ((lawful_after limit ends.prefix).made h born)
+
 -- the one block is marked after a history that ends in a mark
 pub leak_marks : (limit : ℕ) (history : List Step) (h : ℕ) → EndsIn limit history (Leak h) Marked → marked_after limit history 0 ≡ true
 leak_marks limit history h ends =
-    let i = step_finds (after limit ends.prefix) h Free (last_accepted limit history (Leak h) Marked ends) in
-    let on = last_on limit history (Leak h) Marked ends h (length-set (after limit ends.prefix).blocks (block_on (after limit ends.prefix) h) _) i.born in
-    ap (λ (v : State). (word_in v 0).flag) (last_state limit history (Leak h) Marked ends)
-    ∙ ap (λ b. (get_or (blocks_with_word (after limit ends.prefix).blocks (block_on (after limit ends.prefix) h) (marked_of (word_on (after limit ends.prefix) h))) b
-    no_block).word.flag) (sym on)
-    ∙ ap (λ (e : BlockSummary). e.word.flag) (get_or-set_same (after limit ends.prefix).blocks (block_on (after limit ends.prefix) h) _ no_block
-    ((lawful_after limit ends.prefix).made h i.born))
+    ap (λ (e : BlockSummary). e.word.flag) (last_set limit history (Leak h) Marked ends h _ refl (last_found limit history (Leak h) Marked ends).born)
 
 -- a look at the one block answers by the count word that the history leaves
 look_found : (limit : ℕ) (history : List Step) (h : ℕ) (reply : Reply) → EndsIn limit history (Look h) reply
     → look_reply (looked_of (word_in (after limit history) 0)) ≡ reply
 look_found limit history h reply ends =
-    let i = step_finds (after limit ends.prefix) h Free (last_accepted limit history (Look h) reply ends) in
-    let on = last_on limit history (Look h) reply ends h refl i.born in
-    ap (λ (v : State). look_reply (looked_of (word_in v 0))) (last_state limit history (Look h) reply ends)
-    ∙ ap (λ b. look_reply (looked_of (word_in (after limit ends.prefix) b))) (sym on)
+    ap (λ (e : BlockSummary). look_reply (looked_of e.word))
+    (last_entry limit history (Look h) reply ends h refl (last_found limit history (Look h) reply ends).born)
     ∙ last_reply limit history (Look h) reply ends
 
 -- so one that answers `Static` found it marked
@@ -324,13 +331,8 @@ counted_is_unmarked limit history h n ends = count_was (marked_after limit histo
 -- a look at the one block that answers a number counted its living handles
 pub counted_is_living : (limit : ℕ) (history : List Step) (h n : ℕ) → EndsIn limit history (Look h) (Count n) → n ≡ length (living_after limit history 0)
 counted_is_living limit history h n ends =
-    let i = step_finds (after limit ends.prefix) h Free (last_accepted limit history (Look h) (Count n) ends) in
-    let on = last_on limit history (Look h) (Count n) ends h refl i.born in
-    let same : word_after limit history 0 ≡ word_on (after limit ends.prefix) h =
-    ap (λ (v : State). word_in v 0) (last_state limit history (Look h) (Count n) ends) ∙ ap (λ b. word_in (after limit ends.prefix) b) (sym on) in
     let one = ends.one_block.made in
-    count_was (word_on (after limit ends.prefix) h).flag (word_on (after limit ends.prefix) h).count (last_reply limit history (Look h) (Count n) ends)
-    ∙ sym (ap (λ (w : FlagAndCount). w.count) same)
+    count_was (marked_after limit history 0) (word_after limit history 0).count (look_found limit history h (Count n) ends)
     ∙ (stands limit history 0 (omega arith)).exact (counted_is_unmarked limit history h n ends)
   where
     count_was : (f : Bool) (k : ℕ) → look_reply (if f then None else Some k) ≡ Count n → n ≡ k
@@ -342,36 +344,20 @@ counted_is_living limit history h n ends =
 -- a drop that ended at its look found the one block marked
 pub ended_is_marked : (limit : ℕ) (history : List Step) (h : ℕ) → EndsIn limit history (Begin h) Ended → marked_after limit history 0 ≡ true
 ended_is_marked limit history h ends =
-    let old : State = after limit ends.prefix in
-    let i = step_finds old h Free (last_accepted limit history (Begin h) Ended ends) in
-    let on = last_on limit history (Begin h) Ended ends h (same_blocks (word_on old h).flag old) i.born in
-    ap (λ (v : State). (word_in v 0).flag) (last_state limit history (Begin h) Ended ends)
-    ∙ same_flag (word_on old h).flag old
-    ∙ ap (λ b. (word_in old b).flag) (sym on)
-    ∙ ended_was (word_on old h).flag old (last_reply limit history (Begin h) Ended ends)
+    ap (λ (e : BlockSummary). e.word.flag) (last_entry limit history (Begin h) Ended ends h refl (last_found limit history (Begin h) Ended ends).born)
+    ∙ ended_was (word_on (after limit ends.prefix) h).flag (last_reply limit history (Begin h) Ended ends)
   where
-    ended_was : (f : Bool) (v : State) → (begun_by f v h).1 ≡ Ended → f ≡ true
-    ended_was true v e = refl
-    ended_was false v e = cc
-
-    same_blocks : (f : Bool) (v : State) → length (begun_by f v h).0.blocks ≡ length v.blocks
-    same_blocks true v = refl
-    same_blocks false v = refl
-
-    same_flag : (f : Bool) (v : State) → (word_in (begun_by f v h).0 0).flag ≡ (word_in v 0).flag
-    same_flag true v = refl
-    same_flag false v = refl
+    ended_was : (f : Bool) → (if f then Ended else Looked) ≡ Ended → f ≡ true
+    ended_was true e = refl
+    ended_was false e = cc
 
 -- a subtraction that was not the last one leaves a marked block or a living handle
 pub left_is_used : (limit : ℕ) (history : List Step) (h : ℕ) → EndsIn limit history (Sub h) Left → IsInUse limit history
 left_is_used limit history h ends =
     let old : State = after limit ends.prefix in
-    let i = step_finds old h Dropping (last_accepted limit history (Sub h) Left ends) in
-    let on = last_on limit history (Sub h) Left ends h (length-set old.blocks (block_on old h) _) i.born in
+    let i = last_found limit history (Sub h) Left ends in
     let left : word_after limit history 0 ≡ dropped_of (word_on old h) =
-    ap (λ (v : State). word_in v 0) (last_state limit history (Sub h) Left ends)
-    ∙ ap (λ b. (get_or (blocks_with_word old.blocks (block_on old h) (dropped_of (word_on old h))) b no_block).word) (sym on)
-    ∙ ap (λ (e : BlockSummary). e.word) (get_or-set_same old.blocks (block_on old h) _ no_block ((lawful_after limit ends.prefix).made h i.born)) in
+    ap (λ (e : BlockSummary). e.word) (last_set limit history (Sub h) Left ends h _ refl i.born) in
     let some : 0 < (word_on old h).count = dropping_counted limit ends.prefix h i.born i.state in
     let more = left_was (is_last (word_on old h)) (last_reply limit history (Sub h) Left ends) in
     let one = ends.one_block.made in
@@ -395,19 +381,20 @@ left_is_used limit history h ends =
         let counts : v.count ≡ living = exact (ap (λ (w : FlagAndCount). w.flag) left) in
         inr (omega (arith, same, counts))
 
--- a block that was freed is not marked, and no handle on it lives
+-- a block whose last handle gave it back was freed
+freed : (limit : ℕ) (history : List Step) (h : ℕ) → EndsIn limit history (Back h) Given → 0 < given_after limit history 0
+freed limit history h ends =
+    let is : given_after limit history 0 ≡ given_in (after limit ends.prefix) (block_on (after limit ends.prefix) h) + 1 =
+    ap (λ (e : BlockSummary). e.given) (last_set limit history (Back h) Given ends h _ refl (last_found limit history (Back h) Given ends).born) in
+    omega (arith, is)
+
+-- so it is not marked, and no handle on it lives
 pub freed_is_alone : (limit : ℕ) (history : List Step) (h : ℕ) → EndsIn limit history (Back h) Given
     → (marked_after limit history 0 ≡ false) × (living_after limit history 0 ≡ [])
 freed_is_alone limit history h ends =
-    let old : State = after limit ends.prefix in
-    let found = step_finds old h Owing (last_accepted limit history (Back h) Given ends) in
-    let on = last_on limit history (Back h) Given ends h (length-set old.blocks (block_on old h) _) found.born in
     let one = ends.one_block.made in
-    let is : given_in (after limit history) 0 ≡ (get_or old.blocks (block_on old h) no_block).given + 1 =
-    ap (λ (v : State). given_in v 0) (last_state limit history (Back h) Given ends)
-    ∙ ap (λ b. (get_or (blocks_with_given old.blocks (block_on old h)) b no_block).given) (sym on)
-    ∙ ap (λ (e : BlockSummary). e.given) (get_or-set_same old.blocks (block_on old h) _ no_block ((lawful_after limit ends.prefix).made h found.born)) in
-    let alone = (says limit (after limit history) 0 (lawful_after limit history) (omega (arith, one))).alone (omega (arith, is)) in
+    let once = freed limit history h ends in
+    let alone = (says limit (after limit history) 0 (lawful_after limit history) (omega (arith, one))).alone (omega (arith, once)) in
     (alone.0, nil_from_length (living_after limit history 0) alone.1)
 
 -- nothing follows the free: no history of one block goes on after it
@@ -416,9 +403,6 @@ pub free_is_last : (limit : ℕ) (history : List Step) (h : ℕ) → EndsIn limi
 free_is_last limit history h ends [] more whole = omega arith
 free_is_last limit history h ends (s ∷ rest) more whole = no_step s rest (none_of (refusal_in now s) accepts) whole
   where
-    old : State
-    old = after limit ends.prefix
-
     now : State
     now = after limit history
 
@@ -426,23 +410,8 @@ free_is_last limit history h ends (s ∷ rest) more whole = no_step s rest (none
     accepts = (and_parts (is_none (refusal_in now s)) (are_accepted limit (step limit now s).0 rest) (and_parts (are_accepted limit start history)
         (are_accepted limit now (s ∷ rest)) (sym (accepted-append limit start history (s ∷ rest)) ∙ whole.accepted)).1).0
 
-    none_of : (o : Option StepFault) → is_none o ≡ true → o ≡ None
-    none_of None e = refl
-    none_of (Some fault) e = cc
-
-    found : IsIn old h Owing
-    found = step_finds old h Owing (last_accepted limit history (Back h) Given ends)
-
-    on : block_on old h ≡ 0
-    on = last_on limit history (Back h) Given ends h (length-set old.blocks (block_on old h) _) found.born
-
-    freed : 0 < given_in now 0
-    freed =
-        let is : given_in now 0 ≡ (get_or old.blocks (block_on old h) no_block).given + 1 =
-        ap (λ (v : State). given_in v 0) (last_state limit history (Back h) Given ends)
-        ∙ ap (λ b. (get_or (blocks_with_given old.blocks (block_on old h)) b no_block).given) (sym on)
-        ∙ ap (λ (e : BlockSummary). e.given) (get_or-set_same old.blocks (block_on old h) _ no_block ((lawful_after limit ends.prefix).made h found.born)) in
-        omega (arith, is)
+    once : 0 < given_in now 0
+    once = freed limit history h ends
 
     one : length now.blocks ≡ 1
     one = ends.one_block.made
@@ -450,19 +419,17 @@ free_is_last limit history h ends (s ∷ rest) more whole = no_step s rest (none
     all : SaysOfBlock limit (word_in now 0) (λ test. length (handles_on now 0 test)) (given_in now 0)
     all = says limit now 0 (lawful_after limit history) (omega (arith, one))
 
-    none : (test : HandleState → Bool) → length (handles_on now 0 test) ≡ 0 → (k : ℕ) (state : HandleState) → IsIn now k state → test state ≡ true → ⊥
-    none test nobody k state i passes =
-        let below = (lawful_after limit history).made k i.born in
-        let here : block_on now k ≡ 0 = omega (arith, below, one) in
-        let some : 0 < length (handles_on now 0 test) =
-        subst (λ b. 0 < length (handles_on now b test)) here (some_on now k test i.born (ap test i.state ∙ passes)) in
-        omega (arith, nobody, some)
-
-    lives_not : (k : ℕ) (state : HandleState) → IsIn now k state → lives state ≡ true → ⊥
-    lives_not = none lives (all.alone (omega (arith, freed))).1
-
-    owes_not : (k : ℕ) (state : HandleState) → IsIn now k state → is_owing state ≡ true → ⊥
-    owes_not = none is_owing (omega (arith, all.one, freed))
+    none : (k : ℕ) (state : HandleState) → IsIn now k state → (lives state ≡ true) ⊎ (is_owing state ≡ true) → ⊥
+    none k state i = elim [
+      | inl alive ↦ (let nobody = (all.alone (omega (arith, once))).1 in omega (arith, nobody, some lives alive))
+      | inr owes ↦ omega (arith, all.one, once, some is_owing owes)
+    ]
+      where
+        some : (test : HandleState → Bool) → test state ≡ true → 0 < length (handles_on now 0 test)
+        some test passes =
+            let below = (lawful_after limit history).made k i.born in
+            let here : block_on now k ≡ 0 = omega (arith, below, one) in
+            subst (λ b. 0 < length (handles_on now b test)) here (some_on now k test i.born (ap test i.state ∙ passes))
 
     second : (later : List Step) → IsOneBlock limit (history ++ Make ∷ later) → ⊥
     second later two =
@@ -474,11 +441,5 @@ free_is_last limit history h ends (s ∷ rest) more whole = no_step s rest (none
 
     no_step : (s : Step) (later : List Step) → refusal_in now s ≡ None → IsOneBlock limit (history ++ s ∷ later) → ⊥
     no_step Make later e two = second later two
-    no_step (Look k) later e two = lives_not k Free (step_finds now k Free e) refl
-    no_step (Clone k) later e two = lives_not k Free (step_finds now k Free e) refl
-    no_step (Begin k) later e two = lives_not k Free (step_finds now k Free e) refl
-    no_step (Sub k) later e two = lives_not k Dropping (step_finds now k Dropping e) refl
-    no_step (Back k) later e two = owes_not k Owing (step_finds now k Owing e) refl
-    no_step (Leak k) later e two = lives_not k Free (step_finds now k Free e) refl
-    no_step (IntoRaw k) later e two = lives_not k Free (step_finds now k Free e) refl
-    no_step (FromRaw k) later e two = lives_not k Raw (step_finds now k Raw e) refl
+    no_step (Back k) later e two = none k Owing (finds now (Back k) e) (inr refl)
+    no_step s later e two = none _ _ (finds now s e) (inl refl)

@@ -53,11 +53,13 @@ history_1 : replies 5 (Make ∷ Clone 0 ∷ Begin 0 ∷ Leak 1 ∷ Sub 0 ∷ Beg
 history_1 = refl
 
 -- a clone past the limit
-history_2 : replies 1 (Make ∷ Clone 0 ∷ Look 0 ∷ Clone 0 ∷ Look 0 ∷ Clone 0 ∷ Look 0 ∷ []) ≡ Made 0 ∷ Handle 1 ∷ Count 2 ∷ Handle 2 ∷ Static ∷ Handle 3 ∷ Static ∷ []
+history_2 : replies 1 (Make ∷ Clone 0 ∷ Look 0 ∷ Clone 0 ∷ Look 0 ∷ Clone 0 ∷ Look 0 ∷ [])
+    ≡ Made 0 ∷ Handle 1 ∷ Count 2 ∷ Handle 2 ∷ Static ∷ Handle 3 ∷ Static ∷ []
 history_2 = refl
 
 -- crossing drops
-history_3 : replies 5 (Make ∷ Clone 0 ∷ Begin 0 ∷ Begin 1 ∷ Sub 1 ∷ Sub 0 ∷ Back 1 ∷ Back 0 ∷ Look 0 ∷ []) ≡ Made 0 ∷ Handle 1 ∷ Looked ∷ Looked ∷ Left ∷ Owes ∷ Refused NotOwing ∷ Given ∷ Refused NoHandle ∷ []
+history_3 : replies 5 (Make ∷ Clone 0 ∷ Begin 0 ∷ Begin 1 ∷ Sub 1 ∷ Sub 0 ∷ Back 1 ∷ Back 0 ∷ Look 0 ∷ [])
+    ≡ Made 0 ∷ Handle 1 ∷ Looked ∷ Looked ∷ Left ∷ Owes ∷ Refused NotOwing ∷ Given ∷ Refused NoHandle ∷ []
 history_3 = refl
 
 -- limit 0
@@ -69,11 +71,13 @@ history_5 : replies 5 (Make ∷ IntoRaw 0 ∷ Look 0 ∷ FromRaw 0 ∷ Look 0 �
 history_5 = refl
 
 -- a mark while two drops are under way
-history_6 : replies 5 (Make ∷ Clone 0 ∷ Clone 0 ∷ Begin 0 ∷ Begin 1 ∷ Sub 0 ∷ Leak 2 ∷ Sub 1 ∷ Begin 2 ∷ Look 2 ∷ []) ≡ Made 0 ∷ Handle 1 ∷ Handle 2 ∷ Looked ∷ Looked ∷ Left ∷ Marked ∷ Left ∷ Ended ∷ Refused NoHandle ∷ []
+history_6 : replies 5 (Make ∷ Clone 0 ∷ Clone 0 ∷ Begin 0 ∷ Begin 1 ∷ Sub 0 ∷ Leak 2 ∷ Sub 1 ∷ Begin 2 ∷ Look 2 ∷ [])
+    ≡ Made 0 ∷ Handle 1 ∷ Handle 2 ∷ Looked ∷ Looked ∷ Left ∷ Marked ∷ Left ∷ Ended ∷ Refused NoHandle ∷ []
 history_6 = refl
 
 -- refused steps change nothing
-history_7 : replies 5 (Make ∷ Begin 0 ∷ Leak 0 ∷ Sub 0 ∷ Sub 0 ∷ Back 0 ∷ Back 0 ∷ Back 7 ∷ []) ≡ Made 0 ∷ Looked ∷ Refused InDrop ∷ Owes ∷ Refused NoHandle ∷ Given ∷ Refused NotOwing ∷ Refused NoHandle ∷ []
+history_7 : replies 5 (Make ∷ Begin 0 ∷ Leak 0 ∷ Sub 0 ∷ Sub 0 ∷ Back 0 ∷ Back 0 ∷ Back 7 ∷ [])
+    ≡ Made 0 ∷ Looked ∷ Refused InDrop ∷ Owes ∷ Refused NoHandle ∷ Given ∷ Refused NotOwing ∷ Refused NoHandle ∷ []
 history_7 = refl
 
 -- no steps
@@ -85,11 +89,13 @@ history_9 : replies 5 (Make ∷ Leak 0 ∷ Leak 0 ∷ Clone 0 ∷ Look 1 ∷ Beg
 history_9 = refl
 
 -- the steps that a raw handle refuses
-history_10 : replies 5 (Make ∷ IntoRaw 0 ∷ IntoRaw 0 ∷ Sub 0 ∷ Back 0 ∷ FromRaw 0 ∷ FromRaw 0 ∷ []) ≡ Made 0 ∷ RawReply ∷ Refused IsRaw ∷ Refused NotInDrop ∷ Refused NotOwing ∷ Unraw ∷ Refused NotRaw ∷ []
+history_10 : replies 5 (Make ∷ IntoRaw 0 ∷ IntoRaw 0 ∷ Sub 0 ∷ Back 0 ∷ FromRaw 0 ∷ FromRaw 0 ∷ [])
+    ≡ Made 0 ∷ RawReply ∷ Refused IsRaw ∷ Refused NotInDrop ∷ Refused NotOwing ∷ Unraw ∷ Refused NotRaw ∷ []
 history_10 = refl
 
 -- a raw handle stays in the count
-history_11 : replies 5 (Make ∷ Clone 0 ∷ IntoRaw 1 ∷ Begin 0 ∷ Sub 0 ∷ FromRaw 0 ∷ FromRaw 1 ∷ Begin 1 ∷ Sub 1 ∷ Back 1 ∷ []) ≡ Made 0 ∷ Handle 1 ∷ RawReply ∷ Looked ∷ Left ∷ Refused NoHandle ∷ Unraw ∷ Looked ∷ Owes ∷ Given ∷ []
+history_11 : replies 5 (Make ∷ Clone 0 ∷ IntoRaw 1 ∷ Begin 0 ∷ Sub 0 ∷ FromRaw 0 ∷ FromRaw 1 ∷ Begin 1 ∷ Sub 1 ∷ Back 1 ∷ [])
+    ≡ Made 0 ∷ Handle 1 ∷ RawReply ∷ Looked ∷ Left ∷ Refused NoHandle ∷ Unraw ∷ Looked ∷ Owes ∷ Given ∷ []
 history_11 = refl
 
 -- two blocks
@@ -109,5 +115,6 @@ history_15 : replies 1 (Make ∷ Clone 0 ∷ Begin 0 ∷ Clone 1 ∷ Sub 0 ∷ B
 history_15 = refl
 
 -- limit 1, a clone after the subtraction
-history_16 : replies 1 (Make ∷ Clone 0 ∷ Begin 0 ∷ Sub 0 ∷ Clone 1 ∷ Look 1 ∷ Begin 1 ∷ Begin 2 ∷ Sub 2 ∷ Sub 1 ∷ Back 1 ∷ []) ≡ Made 0 ∷ Handle 1 ∷ Looked ∷ Left ∷ Handle 2 ∷ Count 2 ∷ Looked ∷ Looked ∷ Left ∷ Owes ∷ Given ∷ []
+history_16 : replies 1 (Make ∷ Clone 0 ∷ Begin 0 ∷ Sub 0 ∷ Clone 1 ∷ Look 1 ∷ Begin 1 ∷ Begin 2 ∷ Sub 2 ∷ Sub 1 ∷ Back 1 ∷ [])
+    ≡ Made 0 ∷ Handle 1 ∷ Looked ∷ Left ∷ Handle 2 ∷ Count 2 ∷ Looked ∷ Looked ∷ Left ∷ Owes ∷ Given ∷ []
 history_16 = refl

@@ -1,5 +1,5 @@
--- The table of refusals, and the numbers and the names of its faults.
-use Rattle.std.specs.Prelude.{ℕ, Option, None, Some, List, codes}
+-- The table of refusals.
+use Rattle.std.specs.Prelude.{ℕ, Option, None, Some}
 use Rattle.arcstr_count.specs.declared.steps.Step.{Step}
 use Rattle.arcstr_count.specs.declared.steps.Step.TheVariants.{Make, Look, Clone, Begin, Sub, Back, Leak, IntoRaw, FromRaw}
 use Rattle.arcstr_count.specs.declared.steps.HandleState.{HandleState}
@@ -47,21 +47,3 @@ refusal_unless needed state = Some NoHandle
 abbrev pub refusal_by : (ℕ → Option HandleState) → Option Need → Option StepFault
 refusal_by state None = None
 refusal_by state (Some need) = refusal_unless need.state (state need.handle)
-
--- ---- the faults
-
-abbrev pub step_fault_number : StepFault → ℕ
-step_fault_number NoHandle = 1
-step_fault_number InDrop = 2
-step_fault_number NotInDrop = 3
-step_fault_number NotOwing = 4
-step_fault_number IsRaw = 5
-step_fault_number NotRaw = 6
-
-abbrev pub step_fault_text : StepFault → List ℕ
-step_fault_text NoHandle = codes "NoHandle"
-step_fault_text InDrop = codes "InDrop"
-step_fault_text NotInDrop = codes "NotInDrop"
-step_fault_text NotOwing = codes "NotOwing"
-step_fault_text IsRaw = codes "IsRaw"
-step_fault_text NotRaw = codes "NotRaw"

@@ -2,7 +2,8 @@
 --
 -- A state has an entry for each handle that was born, in the order of their births, with its block and its own state, and an
 -- entry for each block that was made, in the order of their making, with its count word and how often it was freed. The count
--- word of an unmarked block is the number of the handles that live on it, after every history: `StandsAfter` below.
+-- word of an unmarked block is the number of the handles that live on it, after every history. This is the law `words_stand` of
+-- Laws.antt, which `every_interleaving` proves; `StandsAfter` below says what it means for a marked block too.
 use Rattle.std.specs.Prelude.{◌≡◌, ℕ, ◌+◌, ◌<◌, ◌≤◌, Bool, true, false, ◌&&◌, ◌==◌, if◌then◌else◌, List, [], ◌∷◌, ◌++◌, length}
 use Rattle.std.specs.Prelude.{zero, suc, filter, Option, None, Some, option_map, slice_get, slice_index_or, slice_set, IsTrue, IsFalse}
 use Rattle.arcstr_count.specs.declared.steps.Step.{Step}
@@ -98,10 +99,10 @@ accepted limit w (Clone h) = (
   },
   Handle (length w.handles),
 )
-accepted limit w (Begin h) =
-    if (word_on w h).flag
-    then (record w { handles = handles_with_state w.handles h Gone }, Ended)
-    else (record w { handles = handles_with_state w.handles h Dropping }, Looked)
+accepted limit w (Begin h) = (
+  record w { handles = handles_with_state w.handles h (if (word_on w h).flag then Gone else Dropping) },
+  if (word_on w h).flag then Ended else Looked,
+)
 accepted limit w (Sub h) = (
   record {
     handles = handles_with_state w.handles h (if is_last (word_on w h) then Owing else Gone);

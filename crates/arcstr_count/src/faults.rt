@@ -1,14 +1,14 @@
-//! Why a step is refused. A fault has a number and a name, and is plain data: it may be copied, sent and
-//! shared, and its drop does nothing. No call here allocates.
+//! Why a step is refused. A fault has a number and a name, and is plain data: it may be copied,
+//! sent and shared, and its drop does nothing. No call here allocates.
 
 ghost use Rattle.std.specs.Prelude.{◌≡◌, Some};
-ghost use Rattle.arcstr_count.specs.Answer.{step_fault_number, step_fault_text};
+ghost use Rattle.arcstr_count.specs.Faults.{step_fault_number, step_fault_text};
 
 use std::error::Error;
 use std::fmt;
 
-/// Why a step is refused. The state of the handle that the step names decides the fault. A handle has one
-/// state, so at most one fault applies. A fault is displayed as its name.
+/// Why a step is refused. The state of the handle that the step names decides the fault. A handle
+/// has one state, so at most one fault applies. A fault is displayed as its name.
 ///
 /// Takes 1 byte.
 ///

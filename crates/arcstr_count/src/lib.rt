@@ -1,6 +1,7 @@
 //! Reference counts as histories: what steps on counted blocks mean.
 //!
-//! Handles are numbered in order of birth, blocks in order of making. `specs/Model.antt` defines what a history of steps means, as one step function.
+//! Handles are numbered in order of birth, blocks in order of making. `specs/Model.antt` defines
+//! what a history of steps means, as one step function.
 #![tactic(auto)]
 
 pub use faults::StepFault;

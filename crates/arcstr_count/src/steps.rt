@@ -1,5 +1,5 @@
-//! What handles do, what each act answers, and what it leaves of the handle and its block. Each type is plain
-//! data: it may be copied, sent and shared, and its drop does nothing.
+//! What handles do, what each act answers, and what it leaves of the handle and its block. Each
+//! type is plain data: it may be copied, sent and shared, and its drop does nothing.
 
 use crate::faults::StepFault;
 use crate::words::Word;
@@ -98,7 +98,8 @@ pub enum HandleState {
     Gone,
 }
 
-/// What a state of the model keeps of a handle that was born. Contracts use it; no call returns one.
+/// What a state of the model keeps of a handle that was born. Contracts use it; no call returns
+/// one.
 ///
 /// Takes 16 bytes.
 ///

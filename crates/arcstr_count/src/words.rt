@@ -14,7 +14,8 @@ use std::marker::Model;
 /// ```
 pub const RC_MAX: u64 = (1 << 62) - 1;
 
-/// The count word of a block: the static flag, which says that the block is marked static, and a count.
+/// The count word of a block: the static flag, which says that the block is marked static, and a
+/// count.
 ///
 /// It is one `u64`: bit 0 is the flag, the other 63 bits are the count. No call on it allocates.
 ///
@@ -53,7 +54,8 @@ impl Word {
         Word { bits: 2 }
     }
 
-    /// Returns the count word that a number stands for: its lowest bit is the flag, and the other 63 bits are the count.
+    /// Returns the count word that a number stands for: its lowest bit is the flag, and the other
+    /// 63 bits are the count.
     ///
     /// ```
     /// let word = Word::from_bits(7);
@@ -66,7 +68,8 @@ impl Word {
         Word { bits }
     }
 
-    /// Returns the number that stands for the count word: twice the count, plus 1 if the flag is set.
+    /// Returns the number that stands for the count word: twice the count, plus 1 if the flag is
+    /// set.
     ///
     /// ```
     /// assert_eq!(rt; Word::one().bits(), 2);
@@ -120,8 +123,9 @@ impl Word {
         }
     }
 
-    /// Returns the count word after a clone. A marked one stays as it was; one whose count is above the limit
-    /// gets the flag; any other count word gets a count one higher. The limit has to be at most `RC_MAX`.
+    /// Returns the count word after a clone. A marked one stays as it was; one whose count is above
+    /// the limit gets the flag; any other count word gets a count one higher. The limit has to be
+    /// at most `RC_MAX`.
     ///
     /// ```
     /// assert_eq!(rt; Word::from_bits(2).cloned(1), Word::from_bits(4));
@@ -129,7 +133,8 @@ impl Word {
     /// ```
     pub fn cloned(self, limit: u64) -> Word
         requires { limit ≤ RC_MAX }
-        // Promise: A marked one stays as it was, one whose count is above the limit gets the flag, and any other one counts one more.
+        // Promise: A marked one stays as it was, one whose count is above the limit gets the flag,
+        // and any other one counts one more.
         ensures { result ≡ cloned_of limit self }
     {
         if self.marked() || self.count() > limit {
@@ -141,7 +146,8 @@ impl Word {
         }
     }
 
-    /// Returns the count word after a subtraction, with a count one lower, and whether the subtraction was the last one: the count word was unmarked with count
+    /// Returns the count word after a subtraction, with a count one lower, and whether the
+    /// subtraction was the last one: the count word was unmarked with count
     /// 1. The count word has to count a handle: its count is above 0.
     ///
     /// ```

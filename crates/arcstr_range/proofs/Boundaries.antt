@@ -29,7 +29,8 @@ halves_join_to_text text prefix rest utf8 split = sym (encodes-chars text utf8) 
 
 pub IsCharBoundary-from_prefix : (text : List ℕ) (place : ℕ) → IsUtf8 text → IsPrefixLength text place → IsCharBoundary text place
 IsCharBoundary-from_prefix text place utf8 at =
-    let rest_utf8 : IsUtf8 (encode_utf8_all at.rest) = (at.rest, (scalars-rest at.prefix at.rest (ap all_scalars (sym at.split) ∙ scalars-chars text utf8), refl)) in
+    let rest_utf8 : IsUtf8 (encode_utf8_all at.rest) =
+    (at.rest, (scalars-rest at.prefix at.rest (ap all_scalars (sym at.split) ∙ scalars-chars text utf8), refl)) in
     subst (λ (n : ℕ). IsCharBoundary text n) at.measured (IsCharBoundary-at_seam text _ _ (halves_join_to_text text at.prefix at.rest utf8 at.split) rest_utf8)
 
 -- a prefix of a text is a shorter prefix and the part between
@@ -40,7 +41,8 @@ take-cut text start end in_order =
     ∙ ap (λ part. take start text ++ part) (sym (between_is text start end))
 
 -- the part between two boundaries spells the characters between them
-pub SpellsBetween-cut : (text : List ℕ) (start end : ℕ) → IsUtf8 text → start ≤ end → IsCharBoundary text start → IsCharBoundary text end → SpellsBetween text start end (cut text start end)
+pub SpellsBetween-cut : (text : List ℕ) (start end : ℕ) → IsUtf8 text → start ≤ end → IsCharBoundary text start → IsCharBoundary text end
+    → SpellsBetween text start end (cut text start end)
 SpellsBetween-cut text start end utf8 in_order at_start at_end =
     let start_utf8 = IsUtf8-take text start utf8 at_start in
     let end_utf8 = IsUtf8-take text end utf8 at_end in

@@ -43,7 +43,8 @@ stands_part : (parent text : List ℕ) (place start end : ℕ) → IsLawful text
 stands_part parent text place start end sliced at =
     let size = length-cut text start end sliced.in_order sliced.within in
     let boundary : (k : ℕ) → IsCharBoundary text k → IsCharBoundary parent (place + k) =
-    λ k own. boundary_of_part parent place (place + length text) k (omega arith) at.lawful.at_boundaries.1 (subst (λ bytes. IsCharBoundary bytes k) (sym at.same) own) in
+    λ k own. boundary_of_part parent place (place + length text) k (omega arith) at.lawful.at_boundaries.1
+    (subst (λ bytes. IsCharBoundary bytes k) (sym at.same) own) in
     let ends : place + start + length (cut text start end) ≡ place + end = omega (arith, size, sliced.in_order) in
     record {
       lawful = record {
@@ -198,7 +199,8 @@ stands_both : (text : List ℕ) (new : View) → IsUtf8 text → Trims (view_at 
 stands_both text new utf8 trims =
     let part = IsPart-trim_start (view_at text 0) trims.middle utf8 trims.start in
     let own = IsUtf8-between text part.start part.end utf8 part.sliced.in_order part.sliced.at_boundaries.0 part.sliced.at_boundaries.1 in
-    stands_IsPart text trims.middle new (IsPart-trim_end trims.middle new (subst IsUtf8 part.text own) trims.end) (stands_start text trims.middle utf8 trims.start)
+    stands_IsPart text trims.middle new (IsPart-trim_end trims.middle new (subst IsUtf8 part.text own) trims.end)
+    (stands_start text trims.middle utf8 trims.start)
 
 pub lawful_start : (text : List ℕ) (new : View) → IsUtf8 text → TrimsStart (view_at text 0) new → IsLawful text new.place (end_of new)
 lawful_start text new utf8 trims = (stands_start text new utf8 trims).lawful

@@ -32,12 +32,14 @@ pub no_newline : (text : List ℕ) → NoCharPasses is_newline text → All (λ 
 no_newline text none =
     All-from_get_or (λ byte. (byte == newline) ≡ false) text 0 (λ i below. ne_eqb _ newline (NoCharPasses-char newline text i none (omega arith) below))
 
-lines_of_parts-cons : (part : List ℕ) (parts : List (List ℕ)) → 0 < length parts → lines_of_parts (part ∷ parts) ≡ strip_carriage_return part ∷ lines_of_parts parts
+lines_of_parts-cons : (part : List ℕ) (parts : List (List ℕ)) → 0 < length parts
+    → lines_of_parts (part ∷ parts) ≡ strip_carriage_return part ∷ lines_of_parts parts
 lines_of_parts-cons part [] some = absurd (omega arith)
 lines_of_parts-cons part (next ∷ parts) some = refl
 
 -- the first line of a text that has a newline, and the lines after it
-lines_first : (text prefix rest : List ℕ) → NoCharPasses is_newline prefix → text ≡ prefix ++ (encode_utf8 newline ++ rest) → lines text ≡ strip_carriage_return prefix ∷ lines rest
+lines_first : (text prefix rest : List ℕ) → NoCharPasses is_newline prefix → text ≡ prefix ++ (encode_utf8 newline ++ rest)
+    → lines text ≡ strip_carriage_return prefix ∷ lines rest
 lines_first text prefix rest none split =
     ap lines (split ∙ ap (λ (l : List ℕ). prefix ++ (l ++ rest)) (encode_ascii newline (omega arith)))
     ∙ ap lines_of_parts (slice_split_at (λ byte. byte == newline) prefix newline rest (no_newline prefix none) refl)
@@ -54,7 +56,8 @@ abbrev pub views_at : List (List ℕ) → List View → List View
 views_at texts parts = map (λ line. view_at line.0 line.1.place) (zip texts parts)
 
 pub first_line_none : (view : View) (answer : Option ℕ) → IsUtf8 view.text
-    → MatchOption answer (FindsChar newline view.text None) (MatchBeginsAt (FindsChar newline) view.text) → IfNone answer (0 < length view.text → lines_of view ≡ view ∷ [])
+    → MatchOption answer (FindsChar newline view.text None) (MatchBeginsAt (FindsChar newline) view.text)
+    → IfNone answer (0 < length view.text → lines_of view ≡ view ∷ [])
 unfolding lines_of
 first_line_none view None utf8 cases =
     λ some. ap (λ (l : List (List ℕ)). views_at l (parts_between is_newline view)) (lines_last view.text cases some)
@@ -87,7 +90,8 @@ module _ (view : View) (place : ℕ) (utf8 : IsUtf8 view.text) (at : MatchBegins
 
 pub first_line_some : (view : View) (answer : Option ℕ) → IsUtf8 view.text
     → MatchOption answer (FindsChar newline view.text None) (MatchBeginsAt (FindsChar newline) view.text)
-    → IfSome answer (λ place. lines_of view ≡ view_at (strip_carriage_return (cut view.text 0 place)) view.place ∷ lines_of (part_of view (place + 1) (length view.text)))
+    → IfSome answer (λ place. lines_of view ≡ view_at (strip_carriage_return (cut view.text 0 place)) view.place
+    ∷ lines_of (part_of view (place + 1) (length view.text)))
 first_line_some view None utf8 cases = tt
 first_line_some view (Some place) utf8 cases = line_before view place utf8 cases
 
@@ -119,7 +123,8 @@ with_prefix-cons x xs (part ∷ parts) = refl
 abbrev parts_of_bytes : List ℕ → List (List ℕ)
 parts_of_bytes = slice_split (λ byte. byte == newline)
 
-parts_behind : (prefix rest : List ℕ) → All (λ byte. (byte == newline) ≡ false) prefix → parts_of_bytes (prefix ++ rest) ≡ with_prefix prefix (parts_of_bytes rest)
+parts_behind : (prefix rest : List ℕ) → All (λ byte. (byte == newline) ≡ false) prefix
+    → parts_of_bytes (prefix ++ rest) ≡ with_prefix prefix (parts_of_bytes rest)
 parts_behind [] rest fail = sym (with_prefix-nil (parts_of_bytes rest) (omega (arith, length-slice_split (λ byte. byte == newline) rest)))
 parts_behind (x ∷ prefix) rest fail =
     slice_split-cons_no (λ byte. byte == newline) x (prefix ++ rest) (All-head (λ byte. (byte == newline) ≡ false) x prefix fail)

@@ -1,5 +1,6 @@
 -- The parts of a view, one after another.
-use Rattle.std.proofs.Common.{◌≡◌, ℕ, ◌+◌, ◌-◌, ◌<◌, ◌≤◌, Bool, true, false, cond, ◌==◌, Option, None, Some, IfNone, IfSome, take, drop, eq-eqb, List, [], ◌∷◌, ◌++◌, map, length, All, refl, sym, ap, subst, ◌∙◌, arith}
+use Rattle.std.proofs.Common.{◌≡◌, ℕ, ◌+◌, ◌-◌, ◌<◌, ◌≤◌, Bool, true, false, cond, ◌==◌, Option, None, Some, IfNone, IfSome, take, drop, eq-eqb, List, [], ◌∷◌}
+use Rattle.std.proofs.Common.{◌++◌, map, length, All, refl, sym, ap, subst, ◌∙◌, arith}
 use Rattle.std.specs.Prelude.{MatchOption, encode_utf8, encode_utf8_all}
 use Rattle.std.specs.Char.{len_utf8}
 use Rattle.std.specs.List.{filter, onto_first, slice_split}
@@ -8,7 +9,8 @@ use Rattle.std.specs.Str.Pattern.{FindsChar, MatchBeginsAt}
 use Rattle.std.proofs.lemmas.List.Elements.{All-nil, All-cons, All-head, All-tail}
 use Rattle.std.proofs.lemmas.List.Splits.{length-slice_split, slice_split_at, slice_split_none}
 use Rattle.std.proofs.lemmas.List.Sums.{count_by-le-length}
-use Rattle.std.proofs.lemmas.Str.{chars-append, chars_past_char, chars_from_encodes, encodes-chars, length-encode, length-le-encodes, encodes-append, scalars-chars, IsCharBoundary-at_seam, IsCharBoundary-end, IsCharBoundary-start, IsUtf8-drop, IsUtf8-take}
+use Rattle.std.proofs.lemmas.Str.{chars-append, chars_past_char, chars_from_encodes, encodes-chars, length-encode, length-le-encodes, encodes-append}
+use Rattle.std.proofs.lemmas.Str.{scalars-chars, IsCharBoundary-at_seam, IsCharBoundary-end, IsCharBoundary-start, IsUtf8-drop, IsUtf8-take}
 use Rattle.std.proofs.lemmas.List.{append-nil, drop_at, length-append, length-drop, length-map, length-take-le, take-append-drop, take_all, take_at}
 use Rattle.std.proofs.lemmas.Slice.{between_is}
 use Rattle.arcstr_range.specs.Pieces.{AreFoundWith, laid_out, parts_at, parts_between, separators_of, texts_between}
@@ -71,7 +73,8 @@ module _ (test : ℕ → Bool) where
   unfolding parts_between
   parts_first place text prefix rest c prefix_utf8 behind_utf8 split none pass =
       ap (λ (l : List (List ℕ)). laid_out place l (separators_of test text)) (texts_first text prefix rest c prefix_utf8 behind_utf8 split none pass)
-      ∙ ap (λ (l : List (List ℕ)). laid_out place (prefix ∷ texts_between test rest) l) (separators_first text prefix rest c prefix_utf8 behind_utf8 split none pass)
+      ∙ ap (λ (l : List (List ℕ)). laid_out place (prefix ∷ texts_between test rest) l)
+      (separators_first text prefix rest c prefix_utf8 behind_utf8 split none pass)
 
   -- if no character passes, the only part is the whole
   pub parts_last : (place : ℕ) (text : List ℕ) → IsUtf8 text → NoCharPasses test text → parts_between test (view_at text place) ≡ view_at text place ∷ []
@@ -116,7 +119,8 @@ joined [] separators = []
 joined (part ∷ parts) [] = part ++ joined parts []
 joined (part ∷ parts) (separator ∷ separators) = part ++ (separator ∷ joined parts separators)
 
-joined-onto_first : (c : ℕ) (parts : List (List ℕ)) (separators : List ℕ) → 0 < length parts → joined (onto_first c parts) separators ≡ c ∷ joined parts separators
+joined-onto_first : (c : ℕ) (parts : List (List ℕ)) (separators : List ℕ) → 0 < length parts
+    → joined (onto_first c parts) separators ≡ c ∷ joined parts separators
 joined-onto_first c [] separators some = absurd (omega arith)
 joined-onto_first c (part ∷ parts) [] some = refl
 joined-onto_first c (part ∷ parts) (separator ∷ separators) some = refl
@@ -144,16 +148,19 @@ module _ (P : List ℕ → ℕ → Type 0) (passes : PassesToParts P) where
 
     of_prefix : P prefix place
     of_prefix =
-        let sliced : IsLawful (prefix ++ rest) 0 (length prefix) = record { in_order = omega arith; within = at_seam.0; at_boundaries = (IsCharBoundary-start (prefix ++ rest) whole_utf8, at_seam) } in
+        let sliced : IsLawful (prefix ++ rest) 0 (length prefix) =
+        record { in_order = omega arith; within = at_seam.0; at_boundaries = (IsCharBoundary-start (prefix ++ rest) whole_utf8, at_seam) } in
         subst (λ (l : List ℕ). P l place) (between_is (prefix ++ rest) 0 (length prefix) ∙ take_at prefix rest (length prefix) refl)
         (subst (λ (n : ℕ). P (cut (prefix ++ rest) 0 (length prefix)) n) (omega arith) (passes.part (prefix ++ rest) place 0 (length prefix) sliced holds))
 
     of_rest : P rest (place + length prefix)
     of_rest =
         let size = length-append prefix rest in
-        let sliced : IsLawful (prefix ++ rest) (length prefix) (length (prefix ++ rest)) = record { in_order = at_seam.0; within = omega arith; at_boundaries = (at_seam, IsCharBoundary-end (prefix ++ rest)) } in
+        let sliced : IsLawful (prefix ++ rest) (length prefix) (length (prefix ++ rest)) =
+        record { in_order = at_seam.0; within = omega arith; at_boundaries = (at_seam, IsCharBoundary-end (prefix ++ rest)) } in
         subst (λ (l : List ℕ). P l (place + length prefix))
-        (ap (take (length (prefix ++ rest) - length prefix)) (drop_at prefix rest (length prefix) refl) ∙ take_all (length (prefix ++ rest) - length prefix) rest (omega (arith, size)))
+        (ap (take (length (prefix ++ rest) - length prefix)) (drop_at prefix rest (length prefix) refl)
+        ∙ take_all (length (prefix ++ rest) - length prefix) rest (omega (arith, size)))
         (passes.part (prefix ++ rest) place (length prefix) (length (prefix ++ rest)) sliced holds)
 
   -- the text of a list of characters, and its two halves
@@ -205,7 +212,8 @@ module _ (c : ℕ) (view : View) (place : ℕ) (utf8 : IsUtf8 view.text) (at : M
       ≡ view_at (drop at.0 view.text) (view.place + length (take place view.text) + length (encode_utf8 c))
   behind_is =
       let cut_is : cut view.text (place + len_utf8 c) (length view.text) ≡ drop at.0 view.text =
-      ap (λ (start : ℕ). cut view.text start (length view.text)) (sym at.1.1.ends) ∙ take_all (length view.text - at.0) (drop at.0 view.text) (omega (arith, length-drop at.0 view.text)) in
+      ap (λ (start : ℕ). cut view.text start (length view.text)) (sym at.1.1.ends)
+      ∙ take_all (length view.text - at.0) (drop at.0 view.text) (omega (arith, length-drop at.0 view.text)) in
       ap (λ (l : List ℕ). view_at l (view.place + (place + len_utf8 c))) cut_is
       ∙ ap (λ (n : ℕ). view_at (drop at.0 view.text) n) (omega (arith, length-encode c, length-take-le place view.text at.3.0))
 
@@ -214,7 +222,8 @@ module _ (c : ℕ) (view : View) (place : ℕ) (utf8 : IsUtf8 view.text) (at : M
   before_place =
       parts_first (λ d. d == c) view.place view.text (take place view.text) (drop at.0 view.text) c (IsUtf8-take view.text place utf8 at.3)
       (subst IsUtf8 at.1.1.split (IsUtf8-drop view.text place utf8 at.3)) around at.1.0 (eq-eqb c c refl)
-      ∙ ap (λ (v : View). v ∷ parts_between (λ d. d == c) (view_at (drop at.0 view.text) (view.place + length (take place view.text) + length (encode_utf8 c)))) (sym prefix_is)
+      ∙ ap (λ (v : View). v ∷ parts_between (λ d. d == c) (view_at (drop at.0 view.text) (view.place + length (take place view.text) + length (encode_utf8 c))))
+      (sym prefix_is)
       ∙ ap (λ (v : View). part_of view 0 place ∷ parts_between (λ d. d == c) v) (sym behind_is)
 
 pub first_none : (c : ℕ) (view : View) (answer : Option ℕ) → IsUtf8 view.text

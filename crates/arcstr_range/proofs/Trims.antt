@@ -68,7 +68,8 @@ end_is_short : (cs others_rest other : List ℕ) → cs ≡ others_rest ++ other
 end_is_short cs others_rest other e = omega (arith, ap length e, length-append others_rest other)
 
 -- the longest white suffix after one more character is added, if only white space follows that character
-all_suffix : (c : ℕ) (cs rest suffix : List ℕ) → is_whitespace c ≡ true → length rest ≡ 0 → IsLongestWhiteSuffix cs rest suffix → IsLongestWhiteSuffix (c ∷ cs) [] (c ∷ suffix)
+all_suffix : (c : ℕ) (cs rest suffix : List ℕ) → is_whitespace c ≡ true → length rest ≡ 0 → IsLongestWhiteSuffix cs rest suffix
+    → IsLongestWhiteSuffix (c ∷ cs) [] (c ∷ suffix)
 all_suffix c cs [] suffix white empty h =
     record {
       split = ap (λ l. c ∷ l) h.split;

@@ -1,6 +1,7 @@
 -- The words of a view, one after another.
 use borrow.Author.Tests.{lt-ltb}
-use Rattle.std.proofs.Common.{◌≡◌, ℕ, ◌+◌, ◌-◌, ◌<◌, ◌≤◌, Bool, true, false, cond, None, Some, Bor, List, [], ◌∷◌, ◌++◌, map, length, All, take, drop, refl, sym, ap, subst, ◌∙◌, append_assoc, arith}
+use Rattle.std.proofs.Common.{◌≡◌, ℕ, ◌+◌, ◌-◌, ◌<◌, ◌≤◌, Bool, true, false, cond, None, Some, Bor, List, [], ◌∷◌, ◌++◌, map, length, All, take, drop, refl}
+use Rattle.std.proofs.Common.{sym, ap, subst, ◌∙◌, append_assoc, arith}
 use Rattle.std.specs.Prelude.{encode_utf8, encode_utf8_all, nat_lt}
 use Rattle.std.specs.Char.{IsScalar, is_not_whitespace, is_whitespace}
 use Rattle.std.specs.List.{filter, slice_split}
@@ -11,7 +12,8 @@ use Rattle.std.proofs.lemmas.List.{append-nil, drop_at, length-append, take_all,
 use Rattle.std.proofs.lemmas.List.Elements.{All-nil, All-cons, All-filter, All-head, All-tail}
 use Rattle.std.proofs.lemmas.List.Splits.{slice_split-cons_yes, slice_split_at, slice_split_none}
 use Rattle.std.proofs.lemmas.List.Sums.{count_by-le-length, length-filter}
-use Rattle.std.proofs.lemmas.Str.{IsCharBoundary-at_seam, IsCharBoundary-end, chars-encodes, chars_from_encodes, encode_same, encodes-chars, scalars-chars, len_utf8_bounds, length-encode}
+use Rattle.std.proofs.lemmas.Str.{IsCharBoundary-at_seam, IsCharBoundary-end, chars-encodes, chars_from_encodes, encode_same, encodes-chars, scalars-chars}
+use Rattle.std.proofs.lemmas.Str.{len_utf8_bounds, length-encode}
 use Rattle.arcstr_range.specs.Text.{cut}
 use Rattle.arcstr_range.specs.Pieces.{AreFoundWith, IsFirstWordAt, has_text, is_not_empty, laid_out, parts_between, separators_of, texts_between, words_of}
 use Rattle.arcstr_range.specs.View.{IsFoundAt, StandsAt, View, part_of, view_at}
@@ -37,8 +39,10 @@ words_of_is view = refl
 -- white space only moves the place
 words_past_one : (place c : ℕ) (cs : List ℕ) → IsWhite c → words_from place (c ∷ cs) ≡ words_from (place + length (encode_utf8 c)) cs
 words_past_one place c cs white =
-    ap (λ (parts : List (List ℕ)). filter has_text (laid_out place (map encode_utf8_all parts) (map encode_utf8 (filter is_whitespace (c ∷ cs))))) (slice_split-cons_yes is_whitespace c cs white)
-    ∙ ap (λ (l : List ℕ). filter has_text (laid_out place ([] ∷ map encode_utf8_all (slice_split is_whitespace cs)) (map encode_utf8 l))) (filter_one is_whitespace c cs true white)
+    ap (λ (parts : List (List ℕ)). filter has_text (laid_out place (map encode_utf8_all parts) (map encode_utf8 (filter is_whitespace (c ∷ cs)))))
+    (slice_split-cons_yes is_whitespace c cs white)
+    ∙ ap (λ (l : List ℕ). filter has_text (laid_out place ([] ∷ map encode_utf8_all (slice_split is_whitespace cs)) (map encode_utf8 l)))
+    (filter_one is_whitespace c cs true white)
     ∙ ap (λ (n : ℕ). words_from n cs) (omega arith)
 
 words_past : (place : ℕ) (gap cs : List ℕ) → All IsWhite gap → words_from place (gap ++ cs) ≡ words_from (place + length (encode_utf8_all gap)) cs
@@ -48,7 +52,8 @@ words_past place (c ∷ gap) cs white =
     ∙ words_past (place + length (encode_utf8 c)) gap cs (All-tail IsWhite c gap white)
     ∙ ap (λ (n : ℕ). words_from n cs) (omega (arith, length-append (encode_utf8 c) (encode_utf8_all gap)))
 
-keep_one : (view : View) (views : List View) (b : Bool) → has_text view ≡ b → filter has_text (view ∷ views) ≡ cond b (view ∷ filter has_text views) (filter has_text views)
+keep_one : (view : View) (views : List View) (b : Bool) → has_text view ≡ b
+    → filter has_text (view ∷ views) ≡ cond b (view ∷ filter has_text views) (filter has_text views)
 keep_one view views b is = ap (λ (x : Bool). cond x (view ∷ filter has_text views) (filter has_text views)) is
 
 -- there are no characters, or the first is white space
@@ -62,13 +67,17 @@ words_at_word : (place : ℕ) (word rest : List ℕ) → All IsBlack word → Is
 words_at_word place word [] black end some =
     let whole : word ++ [] ≡ word = append-nil word in
     ap (words_from place) whole
-    ∙ ap (λ (parts : List (List ℕ)). filter has_text (laid_out place (map encode_utf8_all parts) (map encode_utf8 (filter is_whitespace word)))) (slice_split_none is_whitespace word black)
+    ∙ ap (λ (parts : List (List ℕ)). filter has_text (laid_out place (map encode_utf8_all parts) (map encode_utf8 (filter is_whitespace word))))
+    (slice_split_none is_whitespace word black)
     ∙ ap (λ (l : List ℕ). filter has_text (laid_out place (encode_utf8_all word ∷ []) (map encode_utf8 l))) (filter_none is_whitespace word black)
     ∙ keep_one (view_at (encode_utf8_all word) place) [] true some
 words_at_word place word (c ∷ rest) black white some =
-    ap (λ (parts : List (List ℕ)). filter has_text (laid_out place (map encode_utf8_all parts) (map encode_utf8 (filter is_whitespace (word ++ c ∷ rest))))) (slice_split_at is_whitespace word c rest black white)
-    ∙ ap (λ (l : List ℕ). filter has_text (laid_out place (encode_utf8_all word ∷ map encode_utf8_all (slice_split is_whitespace rest)) (map encode_utf8 l))) (filter_before is_whitespace word c rest black white)
-    ∙ keep_one (view_at (encode_utf8_all word) place) (laid_out (place + length (encode_utf8_all word) + length (encode_utf8 c)) (map encode_utf8_all (slice_split is_whitespace rest)) (map encode_utf8 (filter is_whitespace rest))) true some
+    ap (λ (parts : List (List ℕ)). filter has_text (laid_out place (map encode_utf8_all parts) (map encode_utf8 (filter is_whitespace (word ++ c ∷ rest)))))
+    (slice_split_at is_whitespace word c rest black white)
+    ∙ ap (λ (l : List ℕ). filter has_text (laid_out place (encode_utf8_all word ∷ map encode_utf8_all (slice_split is_whitespace rest)) (map encode_utf8 l)))
+    (filter_before is_whitespace word c rest black white)
+    ∙ keep_one (view_at (encode_utf8_all word) place) (laid_out (place + length (encode_utf8_all word) + length (encode_utf8 c))
+    (map encode_utf8_all (slice_split is_whitespace rest)) (map encode_utf8 (filter is_whitespace rest))) true some
     ∙ ap (λ (l : List View). view_at (encode_utf8_all word) place ∷ l) (sym (words_past_one (place + length (encode_utf8_all word)) c rest white))
 
 -- ---- from std's cuts of bytes to cuts of characters
@@ -82,7 +91,15 @@ record PrefixOf (cs prefix : List ℕ) (behind : List ℕ) : Type 0 where
 prefix_of : (cs prefix behind : List ℕ) → encode_utf8_all cs ≡ encode_utf8_all prefix ++ behind → PrefixOf cs prefix behind
 prefix_of cs [] behind same = record { rest = cs; split = refl; spelled = same }
 prefix_of [] (f ∷ prefix) behind same =
-    absurd (omega (arith, ap length same, length-append (encode_utf8 f ++ encode_utf8_all prefix) behind, length-append (encode_utf8 f) (encode_utf8_all prefix), length-encode f, (len_utf8_bounds f).0))
+    absurd (omega (
+      arith,
+      ap length same,
+      length-append (encode_utf8 f ++ encode_utf8_all prefix) behind,
+      length-append (encode_utf8 f)
+          (encode_utf8_all prefix),
+      length-encode f,
+      (len_utf8_bounds f).0,
+    ))
 prefix_of (c ∷ cs) (f ∷ prefix) behind same =
     let both = encode_same c f (encode_utf8_all cs) (encode_utf8_all prefix ++ behind) (same ∙ append_assoc (encode_utf8 f) (encode_utf8_all prefix) behind) in
     let more = prefix_of cs prefix behind both.1 in
@@ -149,7 +166,8 @@ module _ (view : View) (gap word behind more : List ℕ) (utf8 : IsUtf8 view.tex
       ∙ words_past view.place white.0 (black.0 ++ after_word.rest) (all_white white.0 white.2)
       ∙ words_at_word (view.place + length (encode_utf8_all white.0)) black.0 after_word.rest (all_black black.0 black.2)
       (end_or_white after_word.rest behind more after_word.spelled ends) (lt-ltb 0 (length (encode_utf8_all black.0)) some_word)
-      ∙ ap (λ (l : List ℕ). view_at (encode_utf8_all black.0) (view.place + length l) ∷ words_from (view.place + length l + length (encode_utf8_all black.0)) after_word.rest) white.1
+      ∙ ap (λ (l : List ℕ). view_at (encode_utf8_all black.0) (view.place + length l)
+      ∷ words_from (view.place + length l + length (encode_utf8_all black.0)) after_word.rest) white.1
       ∙ ap (λ (l : List ℕ). view_at l (view.place + length gap) ∷ words_from (view.place + length gap + length l) after_word.rest) black.1
       ∙ ap (λ (l : List ℕ). view_at word (view.place + length gap) ∷ words_from (view.place + length gap + length word) l) (sym chars_behind)
       ∙ ap (λ (l : List View). view_at word (view.place + length gap) ∷ l) (sym (words_of_is (view_at behind (view.place + length gap + length word))))
@@ -170,13 +188,16 @@ module _ (view : View) (gap word behind more : List ℕ) (utf8 : IsUtf8 view.tex
   cut_behind =
       let left : behind ≡ drop (length gap + length word) view.text =
       sym (ap (drop (length gap + length word)) halves ∙ drop_at (gap ++ word) behind (length gap + length word) (length-append gap word)) in
-      ap (take (length view.text - (length gap + length word))) (sym left) ∙ take_all (length view.text - (length gap + length word)) behind (omega (arith, size))
+      ap (take (length view.text - (length gap + length word))) (sym left)
+      ∙ take_all (length view.text - (length gap + length word)) behind (omega (arith, size))
 
   at_start : IsCharBoundary view.text (length gap)
   at_start = IsCharBoundary-at_seam view.text gap (word ++ behind) split (after_gap.rest, (scalars_after_gap, after_gap.spelled))
 
   at_end : IsCharBoundary view.text (length gap + length word)
-  at_end = subst (IsCharBoundary view.text) (length-append gap word) (IsCharBoundary-at_seam view.text (gap ++ word) behind halves (after_word.rest, (scalars_after_word, after_word.spelled)))
+  at_end =
+      subst (IsCharBoundary view.text) (length-append gap word)
+      (IsCharBoundary-at_seam view.text (gap ++ word) behind halves (after_word.rest, (scalars_after_word, after_word.spelled)))
 
   first_at : IsFirstWordAt view (length gap) (length gap + length word)
   first_at =
@@ -184,8 +205,10 @@ module _ (view : View) (gap word behind more : List ℕ) (utf8 : IsUtf8 view.tex
         words =
             words_are
             ∙ ap (λ (l : List ℕ). view_at l (view.place + length gap) ∷ words_of (view_at behind (view.place + length gap + length word))) (sym cut_word)
-            ∙ ap (λ (l : List ℕ). part_of view (length gap) (length gap + length word) ∷ words_of (view_at l (view.place + length gap + length word))) (sym cut_behind)
-            ∙ ap (λ (n : ℕ). part_of view (length gap) (length gap + length word) ∷ words_of (view_at (cut view.text (length gap + length word) (length view.text)) n)) (omega arith);
+            ∙ ap (λ (l : List ℕ). part_of view (length gap) (length gap + length word) ∷ words_of (view_at l (view.place + length gap + length word)))
+            (sym cut_behind)
+            ∙ ap (λ (n : ℕ). part_of view (length gap) (length gap + length word)
+            ∷ words_of (view_at (cut view.text (length gap + length word) (length view.text)) n)) (omega arith);
         word = record { in_order = omega arith; within = omega (arith, size); at_boundaries = (at_start, at_end) };
         behind = record { in_order = omega (arith, size); within = omega arith; at_boundaries = (at_end, IsCharBoundary-end view.text) };
       }
@@ -194,7 +217,8 @@ module _ (view : View) (gap word behind more : List ℕ) (utf8 : IsUtf8 view.tex
   unfolding trim_start
   trimmed_is =
       ap (λ (l : List ℕ). encode_utf8_all (skip_leading_whitespace l)) characters
-      ∙ ap encode_utf8_all (skip_gap white.0 (black.0 ++ after_word.rest) (all_white white.0 white.2) ∙ skip_word black.0 after_word.rest (all_black black.0 black.2) some_word)
+      ∙ ap encode_utf8_all (skip_gap white.0 (black.0 ++ after_word.rest) (all_white white.0 white.2)
+      ∙ skip_word black.0 after_word.rest (all_black black.0 black.2) some_word)
       ∙ ap encode_utf8_all (sym after_word.split) ∙ after_gap.spelled
 
   first_from_trim : (trimmed : List ℕ) → trimmed ≡ trim_start view.text
@@ -209,7 +233,8 @@ no_words view utf8 none =
     words_of_is view ∙ ap (words_from view.place) (sym same ∙ sym (append-nil none.0)) ∙ words_past view.place none.0 [] (all_white none.0 none.2)
 
 -- the first result of std's `split_whitespace`
-pub first_word_none : (view : View) (s t : SplitWhitespace) → IsUtf8 view.text → split_whitespace_rest s ≡ view.text → split_whitespace_steps s None t → words_of view ≡ []
+pub first_word_none : (view : View) (s t : SplitWhitespace) → IsUtf8 view.text → split_whitespace_rest s ≡ view.text → split_whitespace_steps s None t
+    → words_of view ≡ []
 first_word_none view s t utf8 rest steps = no_words view utf8 (subst (NoCharPasses is_not_whitespace) rest steps.1)
 
 pub first_word_some : (view : View) (s t : SplitWhitespace) (word : Bor (List ℕ)) (trimmed : List ℕ) → IsUtf8 view.text → split_whitespace_rest s ≡ view.text
@@ -218,7 +243,8 @@ pub first_word_some : (view : View) (s t : SplitWhitespace) (word : Bor (List �
 first_word_some view s t word trimmed utf8 rest steps same =
     first_from_trim view steps.0 word.now (split_whitespace_rest t) steps.5.0 utf8 (sym rest ∙ steps.1) steps.2 steps.3 steps.4 steps.5.1 trimmed same
 
-texts_kept : (part : View) (parts : List View) (kept : Bool) → map (λ view. view.text) (filter has_text parts) ≡ filter is_not_empty (map (λ view. view.text) parts)
+texts_kept : (part : View) (parts : List View) (kept : Bool)
+    → map (λ view. view.text) (filter has_text parts) ≡ filter is_not_empty (map (λ view. view.text) parts)
     → map (λ view. view.text) (cond kept (part ∷ filter has_text parts) (filter has_text parts))
     ≡ cond kept (part.text ∷ filter is_not_empty (map (λ view. view.text) parts)) (filter is_not_empty (map (λ view. view.text) parts))
 texts_kept part parts true same = ap (λ (l : List (List ℕ)). part.text ∷ l) same
@@ -237,8 +263,10 @@ unfolding words_of
 found_words view utf8 =
     let parts = parts_between is_whitespace view in
     record {
-      each = λ parent found. All-filter has_text (HoldsOf (IsFoundAt parent)) parts (of_parts (IsFoundAt parent) (found_passes parent) is_whitespace view utf8 found);
-      standing = λ parent at. All-filter has_text (HoldsOf (StandsAt parent)) parts (of_parts (StandsAt parent) (stands_passes parent) is_whitespace view utf8 at);
+      each = λ parent found. All-filter has_text (HoldsOf (IsFoundAt parent)) parts
+          (of_parts (IsFoundAt parent) (found_passes parent) is_whitespace view utf8 found);
+      standing =
+          λ parent at. All-filter has_text (HoldsOf (StandsAt parent)) parts (of_parts (StandsAt parent) (stands_passes parent) is_whitespace view utf8 at);
     }
 
 pub few_words : (view : View) → IsUtf8 view.text → length (words_of view) ≤ length view.text + 1

@@ -1,6 +1,7 @@
 //! Ranges of byte offsets in a text, and their tests. No call here allocates.
 //!
-//! Offsets and lengths are counted in bytes. An offset is a boundary if `str::is_char_boundary` says so.
+//! Offsets and lengths are counted in bytes. An offset is a boundary if `str::is_char_boundary`
+//! says so.
 ghost use Rattle.std.specs.Prelude.{◌≡◌, ◌≢◌, ◌<◌, nat_le, ◌&&◌, if◌then◌else◌, MatchOption};
 ghost use Rattle.std.specs.Range.{range_inclusive_start, range_inclusive_end, range_inclusive_exhausted};
 ghost use Rattle.arcstr_range.specs.declared.range.StrRange.TheVariants.{Between, From as FromStart, To, Full, Inclusive, ToInclusive};
@@ -15,9 +16,11 @@ use std::ops::{Range, RangeFrom, RangeFull, RangeInclusive, RangeTo, RangeToIncl
 
 /// A range of byte offsets in a text, in one of the forms of Rust's ranges over `usize`.
 ///
-/// Each of those forms converts to it. A conversion never fails: only a text or a length can refuse a range.
+/// Each of those forms converts to it. A conversion never fails: only a text or a length can refuse
+/// a range.
 ///
-/// Its size is 24 bytes. It can be copied, sent to a thread and shared between threads, and its drop does nothing.
+/// Its size is 24 bytes. It can be copied, sent to a thread and shared between threads, and its
+/// drop does nothing.
 ///
 /// ```
 /// assert_eq!(rt; StrRange::from(1..3), StrRange::Between(1, 3));
@@ -42,8 +45,9 @@ pub enum StrRange {
 impl StrRange {
     /// Returns the start and the end of the range in a sequence of `len` bytes.
     ///
-    /// Errors, in this order: `OutOfOrder` if the start is after the end; `PastEnd` if the end is greater than `len`. An inclusive end of `usize::MAX` counts
-    /// as one more, and so is past the end.
+    /// Errors, in this order: `OutOfOrder` if the start is after the end; `PastEnd` if the end is
+    /// greater than `len`. An inclusive end of `usize::MAX` counts as one more, and so is past the
+    /// end.
     ///
     /// ```
     /// assert_eq!(rt; StrRange::From(1).ends(3), Ok((1, 3)));
@@ -52,7 +56,8 @@ impl StrRange {
     /// ```
     #[tactic(auto, using(crate::proofs::Faults::refused_with))]
     pub fn ends(self, len: usize) -> Result<(usize, usize), RangeFault>
-        // Promise: They are in order and inside. Otherwise the call returns the first fault, which is never `OffBoundary`.
+        // Promise: They are in order and inside. Otherwise the call returns the first fault, which
+        // is never `OffBoundary`.
         ensures answer { let ends = ends_of self len in
             AnswersEnds ends (FitsLength len ends.0 ends.1) (IsFirstFault (length_rule len ends.0 ends.1)) result }
         ensures no_characters { result ≢ Err RangeFault.OffBoundary }
@@ -69,7 +74,8 @@ impl StrRange {
         Ok((start, end))
     }
 
-    // Returns the start and the end, without a test. Returns `None` if the end overflows `usize`, as an inclusive end of `usize::MAX` does.
+    // Returns the start and the end, without a test. Returns `None` if the end overflows `usize`,
+    // as an inclusive end of `usize::MAX` does.
     pub(crate) fn usize_ends(self, len: usize) -> Option<(usize, usize)>
         ensures { let ends = ends_of self len in
             MatchOption result (usize.MAX < ends.1) (λ found. found ≡ ends) }
@@ -117,7 +123,8 @@ impl From<RangeFull> for StrRange {
     }
 }
 
-/// After `next` has returned the last value, the range ends before that value, as std's `RangeBounds` says: a spent `a..=a` is `a..a`.
+/// After `next` has returned the last value, the range ends before that value, as std's
+/// `RangeBounds` says: a spent `a..=a` is `a..a`.
 impl From<RangeInclusive<usize>> for StrRange {
     ghost from_gives = { λ range given.
         let start = range_inclusive_start range in

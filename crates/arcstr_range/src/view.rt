@@ -14,18 +14,21 @@ pub mod split;
 pub mod split_by;
 pub mod words;
 
-use crate::range::{StrRange, checked_ends, slice};
+use crate::range::{RangeFault, StrRange, checked_ends, slice};
 use std::alloc::AllocError;
 use std::fmt;
 use std::marker::Model;
 use std::ops::Range;
 
-/// A text and its place: the byte offset at which it claims to stand in a longer text, its parent. The view does not keep the parent: `is_found_in` tests
-/// whether a text has the view at that place.
+/// A text and its place: the byte offset at which it claims to stand in a longer text, its parent.
+/// The view does not keep the parent: `is_found_in` tests whether a text has the view at that
+/// place.
 ///
-/// The sum of the place and the text's length is at most `usize::MAX`. A view borrows its text, and no call on it allocates.
+/// The sum of the place and the text's length is at most `usize::MAX`. A view borrows its text, and
+/// no call on it allocates.
 ///
-/// Its size is 24 bytes. It can be sent to a thread and shared between threads, and its drop does nothing.
+/// Its size is 24 bytes. It can be sent to a thread and shared between threads, and its drop does
+/// nothing.
 ///
 /// ```
 /// let line = "key = value";
@@ -67,7 +70,8 @@ impl<'a> StrView<'a> {
         StrView { text, place: 0 }
     }
 
-    /// Returns the view of a text at a place, in bytes. Returns `None` exactly if the sum of the place and the text's length is above `usize::MAX`.
+    /// Returns the view of a text at a place, in bytes. Returns `None` exactly if the sum of the
+    /// place and the text's length is above `usize::MAX`.
     ///
     /// ```
     /// let view = StrView::at("abc", 4).ok_or("no view")?;
@@ -108,7 +112,8 @@ impl<'a> StrView<'a> {
         self.place
     }
 
-    /// Returns a copy of the view. A view is not `Copy`, and `clone` of the trait `Clone` returns a `Result`, which for a view is always `Ok`.
+    /// Returns a copy of the view. A view is not `Copy`, and `clone` of the trait `Clone` returns a
+    /// `Result`, which for a view is always `Ok`.
     ///
     /// ```
     /// let view = StrView::at("abc", 4).ok_or("no view")?;
@@ -137,8 +142,8 @@ impl<'a> StrView<'a> {
         self.place..self.place + self.text.len()
     }
 
-    /// Returns the part of the view between two byte offsets of its own text. Returns `None` exactly if they are out of order, past the text or inside a
-    /// character.
+    /// Returns the part of the view between two byte offsets of its own text. Returns `None`
+    /// exactly if they are out of order, past the text or inside a character.
     ///
     /// ```
     /// let part = StrView::whole("aéb").cut(1..3).ok_or("no part")?;
@@ -148,7 +153,8 @@ impl<'a> StrView<'a> {
     /// ```
     #[tactic(auto, using(crate::proofs::FoundParts::found_part))]
     pub fn cut(&self, range: Range<usize>) -> Option<StrView<'a>>
-        // Promise: There is a part exactly if the offsets are in order, inside the text and at character boundaries.
+        // Promise: There is a part exactly if the offsets are in order, inside the text and at
+        // character boundaries.
         ensures some { IsSome result ↔ IsLawful self.now.text range.start range.end }
         ensures value { IfSome result (λ part. part ≡ part_of self.now range.start range.end) }
         // Promise: It is found wherever the view is found.
@@ -162,7 +168,8 @@ impl<'a> StrView<'a> {
         })
     }
 
-    /// Returns the view with leading white space removed, as `str::trim_start` does. Its place moves by the bytes removed.
+    /// Returns the view with leading white space removed, as `str::trim_start` does. Its place
+    /// moves by the bytes removed.
     ///
     /// ```
     /// let word = StrView::whole("  a ").trim_start();
@@ -184,7 +191,8 @@ impl<'a> StrView<'a> {
         }
     }
 
-    /// Returns the view with trailing white space removed, as `str::trim_end` does. Its place stays the same.
+    /// Returns the view with trailing white space removed, as `str::trim_end` does. Its place stays
+    /// the same.
     ///
     /// ```
     /// let word = StrView::whole("  a ").trim_end();
@@ -204,7 +212,8 @@ impl<'a> StrView<'a> {
         }
     }
 
-    /// Returns the view with leading and trailing white space removed, as `str::trim` does. Its place moves by the bytes removed at the start.
+    /// Returns the view with leading and trailing white space removed, as `str::trim` does. Its
+    /// place moves by the bytes removed at the start.
     ///
     /// ```
     /// let word = StrView::whole("  a ").trim();
@@ -220,7 +229,8 @@ impl<'a> StrView<'a> {
         self.trim_start().trim_end()
     }
 
-    /// Tests whether the parent has the view's text at the view's place, in a valid range. An empty view is found in every text.
+    /// Tests whether the parent has the view's text at the view's place, in a valid range. An empty
+    /// view is found in every text.
     ///
     /// ```
     /// let word = StrView::whole("  abc").trim_start();
@@ -236,7 +246,7 @@ impl<'a> StrView<'a> {
         let range = self.range();
         match checked_ends(parent, range.into()) {
             Ok((start, end)) => &parent[start..end] == self.text,
-            Err(_) => false,
+            Err(RangeFault::OutOfOrder | RangeFault::PastEnd | RangeFault::OffBoundary) => false,
         }
     }
 }
@@ -275,7 +285,8 @@ impl fmt::Display for StrView<'_> {
 
     ghost styled_output = { λ view spec. Some (styled_text spec view.text) };
 
-    /// Writes the text with padding and precision, as for a `str`. Fails if the writer fails. Allocates nothing itself.
+    /// Writes the text with padding and precision, as for a `str`. Fails if the writer fails.
+    /// Allocates nothing itself.
     fn fmt<W: fmt::Write>(&self, f: &mut fmt::Formatter<W>) -> fmt::Result {
         f.pad(self.text)
     }

@@ -1,4 +1,5 @@
-//! Answers in order: what a text says after it was leaked, and what follows from how the drops of a text and its clone end.
+//! Answers in order: what a text says after it was leaked, and what follows from how the drops of a
+//! text and its clone end.
 ghost use Rattle.std.specs.Prelude.{◌≡◌, ◌≢◌, IfOk, IsNone, IsTrue};
 ghost use Rattle.arcstr_block.specs.declared.ending.End.TheVariants.{Freed};
 ghost use Rattle.arcstr_tests.specs.History.{FreesSecond, IsSeenInUse, OfBoth};
@@ -49,8 +50,10 @@ pub struct TwoEnds {
 pub fn end_both(rt: &impl Wait, alloc: Global, text: &str) -> Result<TwoEnds, TextFault>
     // Promise: The first drop never frees the block, so it is freed at most once.
     ensures first { IfOk result (λ ends. ends.first ≢ Freed) }
-    // Promise: If the second drop frees it, its history begins with all that the first had seen, and has both drops and one free, at its end.
-    ensures second { IfOk result (λ ends. ends.second ≡ Freed → OfBoth FreesSecond ends.seen ends.last) }
+    // Promise: If the second drop frees it, its history begins with all that the first had seen,
+    // and has both drops and one free, at its end.
+    ensures second { IfOk result (λ ends. ends.second ≡ Freed
+        → OfBoth FreesSecond ends.seen ends.last) }
     // Promise: If neither does, a handle on the block lives, or the block is marked static.
     ensures neither { IfOk result (λ ends. ends.second ≢ Freed → IsSeenInUse ends.last) }
 {

@@ -17,6 +17,7 @@ mod order;
 mod parts;
 mod pattern;
 mod printing;
+mod reading;
 mod slicing;
 mod splitting;
 mod steps;

@@ -1,4 +1,5 @@
-//! The tests of the crates over `arcstr`, in a crate of their own: the libraries are not proved again with them.
+//! The tests of the crates over `arcstr`, in a crate of their own: the libraries are not proved
+//! again with them.
 #![tactic(auto)]
 
 #[cfg(test)]

@@ -1,6 +1,9 @@
 //! Uses of `arcstr`, as a caller writes them.
-//! Each has a contract of its own, and none has a proof file. The first is the one to read.
+//! Each has a contract of its own, and but for the loops of `parsing` none has a proof file. The
+//! first is the one to read.
 #![tactic(auto)]
+
+pub mod parsing;
 
 ghost use Rattle.std.specs.Prelude.{◌≡◌, ◌↔◌, Contains, IfSome, IsSome};
 ghost use Rattle.std.specs.Str.{chars, trim};
@@ -13,8 +16,8 @@ use std::sync::Wait;
 /// The character between a key and its value.
 const EQUALS: char = '=';
 
-/// Splits a line at its first `=`. The key and the value are slices of the line, without the white space around them. Returns `None` exactly if the line has
-/// no `=`.
+/// Splits a line at its first `=`. The key and the value are slices of the line, without the white
+/// space around them. Returns `None` exactly if the line has no `=`.
 ///
 /// ```
 /// let line = ArcStr::from_static("name = value");
@@ -59,7 +62,8 @@ const COMMA: char = ',';
 /// assert_eq!(rt; fields[2].as_str(), "b");
 /// ```
 pub fn fields(rt: &impl Wait, alloc: Global, row: &ArcStr) -> Result<Vec<Substr>, AllocError>
-    ensures { IfOk result (λ fields. map text_of fields.items ≡ texts_between (λ c. c == COMMA) row.now.text) }
+    ensures { IfOk result (λ fields. map text_of fields.items
+        ≡ texts_between (λ c. c == COMMA) row.now.text) }
 {
     row.substr_split(rt, alloc, COMMA)
 }
@@ -143,7 +147,8 @@ pub fn greeting(alloc: Global, name: &str) -> Result<ArcStr, TextFault>
     ArcStr::join(alloc, &["hello ", name], "")
 }
 
-/// A message: its topic is a text that many messages share, and its payload a slice of the packet that brought it.
+/// A message: its topic is a text that many messages share, and its payload a slice of the packet
+/// that brought it.
 ///
 /// ```
 /// let packet = ArcStr::from_str(rt.alloc(), "01 ready")?;
@@ -157,7 +162,8 @@ pub struct Message {
 }
 
 impl Message {
-    /// Reads the message of a packet, whose payload starts behind a head of this many bytes. Copies neither text.
+    /// Reads the message of a packet, whose payload starts behind a head of this many bytes. Copies
+    /// neither text.
     ///
     /// ```
     /// let packet = ArcStr::from_static("01 ready");
@@ -171,7 +177,8 @@ impl Message {
         head: usize,
     ) -> Result<Message, RangeFault>
         ensures topic { IfOk result (λ message. message.topic ≡ topic.now) }
-        ensures payload { IfOk result (λ message. message.payload ≡ slice_of packet.now head (length packet.now.text)) }
+        ensures payload { IfOk result
+            (λ message. message.payload ≡ slice_of packet.now head (length packet.now.text)) }
     {
         let payload = packet.substr(rt, head..)?;
         Ok(Message {
@@ -180,7 +187,8 @@ impl Message {
         })
     }
 
-    /// Copies the payload into a block of its own, so that the message does not keep the packet alive.
+    /// Copies the payload into a block of its own, so that the message does not keep the packet
+    /// alive.
     ///
     /// ```
     /// let packet = ArcStr::from_str(rt.alloc(), "01 ready")?;
@@ -212,8 +220,11 @@ pub fn set(
     key: ArcStr,
     value: u64,
 ) -> Result<(), AllocFailed<(ArcStr, u64)>>
-    ensures found { OnOk result (get (λ (one : TextView) (other : TextView). bytes_eq one.text other.text) settings.new key ≡ Some value) }
-    ensures others { OnOk result (Updates (λ (one : TextView) (other : TextView). bytes_eq one.text other.text)
+    ensures found { OnOk result (get
+        (λ (one : TextView) (other : TextView). bytes_eq one.text other.text) settings.new key
+        ≡ Some value) }
+    ensures others { OnOk result (Updates
+        (λ (one : TextView) (other : TextView). bytes_eq one.text other.text)
         settings.old settings.new key (Some value)) }
 {
     settings.insert(key, value)?;
@@ -254,7 +265,6 @@ ghost use Rattle.arcstr.specs.TextView.{IsStatic, block_of};
 ghost use Rattle.arcintern.specs.Texts.{HasWord};
 
 use arcstr::block::Shared;
-use arcstr::count::RC_MAX;
 
 /// Returns the text and a clone of it. Both lie in one block.
 ///
@@ -313,7 +323,8 @@ pub fn permanent(text: &ArcStr) -> ArcStr
 /// assert_eq!(rt; ArcStr::strong_count(&name), Some(2));
 /// ```
 pub fn register(rt: &impl Wait, names: &mut Interner, name: &ArcStr) -> Result<Symbol, InternFault>
-    ensures shared { (¬ HasWord names.old name.now.text) → OnOk result (slice_get names.new (length names.old) ≡ Some name.now) }
+    ensures shared { (¬ HasWord names.old name.now.text)
+        → OnOk result (slice_get names.new (length names.old) ≡ Some name.now) }
 {
     names.intern_arc(rt, name)
 }
@@ -323,15 +334,16 @@ pub fn register(rt: &impl Wait, names: &mut Interner, name: &ArcStr) -> Result<S
 ///
 /// ```
 /// let (one, other) = two_copies(rt.alloc(), "foo")?;
-/// assert_eq!(rt; (one.look().0, other.look().0), (Some(1), Some(1)));
+/// assert_eq!(rt; (one.as_str(), other.as_str()), ("foo", "foo"));
+/// assert_eq!(rt; ArcStr::strong_count(&one), Some(1));
 /// ```
-pub fn two_copies(
-    alloc: Global,
-    text: &str,
-) -> Result<(Shared<RC_MAX, Global>, Shared<RC_MAX, Global>), TextFault>
-    ensures apart { IfOk result (λ copies. copies.0.block ≢ copies.1.block) }
+pub fn two_copies(alloc: Global, text: &str) -> Result<(ArcStr, ArcStr), TextFault>
+    ensures texts { IfOk result (λ copies. (copies.0.text ≡ text.now)
+        × (copies.1.text ≡ text.now)) }
+    ensures apart { IfOk result (λ copies. block_of copies.0.kind ≢ block_of copies.1.kind) }
 {
     let one = Shared::from_text(alloc, text)?;
     let other = Shared::from_text(alloc, text)?;
-    Ok(one.two_handles_have_two_seats(other))
+    let (one, other) = one.two_handles_have_two_seats(other);
+    Ok((ArcStr::from_shared(one), ArcStr::from_shared(other)))
 }

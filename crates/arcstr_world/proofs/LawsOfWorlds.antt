@@ -1,7 +1,8 @@
 -- What every world keeps: its state is that after a history, and so is sound; and each step and each list of steps keeps this.
-use Rattle.arcstr_world.proofs.Names.{◌≡◌, ℕ, zero, suc, ◌<◌, ◌≤◌, Bool, true, false, Some, None, List, [], ◌∷◌, ◌++◌, length, refl, sym, ◌∙◌, ap, subst}
+use Rattle.arcstr_world.proofs.Names.{◌≡◌, ℕ, ◌<◌, ◌≤◌, Bool, true, false, Some, List, [], ◌∷◌, ◌++◌, length, refl, sym, ◌∙◌, ap, subst}
 use Rattle.arcstr_world.proofs.Names.{subst₂, arith, get_or, get_or_past, nat_lt, ltb-true, ltb-false, slice_get, slice_get_within, get_or_from_slice_get}
 use Rattle.arcstr_world.proofs.Names.{∥∥₁_elim, ∥∥₁_map, props, ap₂, Reply, Step, Owing, HandleSummary, BlockSummary, is_owing, State, WorldView, start}
+use Rattle.arcstr_world.proofs.Names.{Dropping}
 use Rattle.arcstr_world.proofs.Names.{no_block, no_handle, block_on, state_on, word_in, given_in, state_of_tables, step, after_from, after, replies_from}
 use Rattle.arcstr_world.proofs.Names.{IsWorld, IsSound}
 use Rattle.arcstr_count.proofs.LawsOfBlocks.{IsLawful, some_on, lawful_after}
@@ -12,19 +13,19 @@ use Rattle.arcstr_count.proofs.LawsOfHistories.{says, after_from-step, replies_f
 
 sound_after : (limit : ℕ) (history : List Step) → IsSound (after limit history)
 sound_after limit history = record {
-  made = λ h it found. subst (λ (x : HandleSummary). x.block < length (after limit history).blocks) (here h it found) (lawful.made h (slice_get_within (after limit history).handles h it found));
-  counted = λ h it found state. subst (λ (x : HandleSummary). 0 < (word_in (after limit history) x.block).count) (here h it found)
-      (dropping_counted limit history h (slice_get_within (after limit history).handles h it found) (ap (λ (x : HandleSummary). x.state) (here h it found) ∙ state));
-  unfreed = λ h it found state. subst (λ (x : HandleSummary). given_in (after limit history) x.block ≡ 0) (here h it found)
-      (unfreed h (slice_get_within (after limit history).handles h it found) (ap (λ (x : HandleSummary). x.state) (here h it found) ∙ state));
+  made = each (λ (it : HandleSummary). it.block < length (after limit history).blocks) lawful.made;
+  counted = each (λ (it : HandleSummary). it.state ≡ Dropping → 0 < (word_in (after limit history) it.block).count) (dropping_counted limit history);
+  unfreed = each (λ (it : HandleSummary). it.state ≡ Owing → given_in (after limit history) it.block ≡ 0) unfreed;
   once = λ b. by_made b (nat_lt b (length (after limit history).blocks)) refl;
 }
   where
     lawful : IsLawful limit (after limit history)
     lawful = lawful_after limit history
 
-    here : (h : ℕ) (it : HandleSummary) → slice_get (after limit history).handles h ≡ Some it → get_or (after limit history).handles h no_handle ≡ it
-    here h it found = get_or_from_slice_get (after limit history).handles h it no_handle found
+    each : (P : HandleSummary → Type 0) → ((h : ℕ) → h < length (after limit history).handles → P (get_or (after limit history).handles h no_handle))
+        → (h : ℕ) (it : HandleSummary) → slice_get (after limit history).handles h ≡ Some it → P it
+    each P all h it found = subst P (get_or_from_slice_get (after limit history).handles h it no_handle found)
+        (all h (slice_get_within (after limit history).handles h it found))
 
     unfreed : (h : ℕ) → h < length (after limit history).handles → state_on (after limit history) h ≡ Owing
         → given_in (after limit history) (block_on (after limit history) h) ≡ 0
@@ -37,20 +38,13 @@ sound_after limit history = record {
     by_made b true test =
         let all = says limit (after limit history) b lawful (ltb-true b (length (after limit history).blocks) test) in omega (arith, all.one)
     by_made b false test =
-        let none = ap (λ (e : BlockSummary). e.given) (get_or_past (after limit history).blocks b no_block (ltb-false b (length (after limit history).blocks) test)) in
+        let none =
+        ap (λ (e : BlockSummary). e.given) (get_or_past (after limit history).blocks b no_block (ltb-false b (length (after limit history).blocks) test)) in
         omega arith
 
 pub sound_world : (limit : ℕ) (handles : List HandleSummary) (blocks : List BlockSummary) → IsWorld limit handles blocks
     → IsSound (state_of_tables handles blocks)
-sound_world limit handles blocks world = record {
-  made = λ h it found. ∥∥₁_elim world.has_history (hlevel props) (λ known. (sound known).made h it found);
-  counted = λ h it found state. ∥∥₁_elim world.has_history (hlevel props) (λ known. (sound known).counted h it found state);
-  unfreed = λ h it found state. ∥∥₁_elim world.has_history (hlevel props) (λ known. (sound known).unfreed h it found state);
-  once = λ b. ∥∥₁_elim world.has_history (hlevel props) (λ known. (sound known).once b);
-}
-  where
-    sound : (history : List Step) × (state_of_tables handles blocks ≡ after limit history) → IsSound (state_of_tables handles blocks)
-    sound known = subst IsSound (sym known.1) (sound_after limit known.0)
+sound_world limit handles blocks world = ∥∥₁_elim world.has_history (hlevel props) (λ known. subst IsSound (sym known.1) (sound_after limit known.0))
 
 -- a world that takes a step is a world
 pub world_stepped : (limit : ℕ) (handles new_handles : List HandleSummary) (blocks new_blocks : List BlockSummary) (s : Step) (reply : Reply)
@@ -93,12 +87,3 @@ takes_more first done old new replies s reply before stepped same_limit = record
   where
     took : (new.state, reply) ≡ step first.limit (after_from first.limit first.state done) s
     took = sym stepped ∙ λ i. step (before.limited i) (before.state i) s
-
--- how often a block was freed, by the entry that was found
-pub given_found : (blocks : List BlockSummary) (b : ℕ) (e : BlockSummary) → slice_get blocks b ≡ Some e → e.given ≡ (get_or blocks b no_block).given
-given_found blocks b e found = ap (λ (x : BlockSummary). x.given) (sym (get_or_from_slice_get blocks b e no_block found))
-
-pub given_absent : (blocks : List BlockSummary) (b : ℕ) → slice_get blocks b ≡ None → 0 ≡ (get_or blocks b no_block).given
-given_absent [] b absent = refl
-given_absent (x ∷ blocks) zero absent = cc
-given_absent (x ∷ blocks) (suc b) absent = given_absent blocks b absent

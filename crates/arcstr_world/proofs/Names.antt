@@ -6,9 +6,8 @@ pub use Rattle.std.proofs.Common.{◌∙◌, ◌∷◌, ◌≡◌, ◌≢◌, �
 pub use Rattle.std.proofs.Math.Logic.{∥∥₁_elim, ∥∥₁_map}
 pub use Rattle.std.proofs.Math.Seq.{take-append_seam}
 pub use Rattle.std.proofs.Props.{props}
-pub use Rattle.std.proofs.lemmas.Bool.{and_from, and_parts, cases_eq, cases_order, not-true, or_cases, or_left, or_right}
-pub use Rattle.std.proofs.lemmas.List.{get_or-set_other, get_or-set_same, get_or_append_left, get_or_past, get_or_push, length-set, length_push, take-append-le}
-pub use Rattle.std.proofs.lemmas.List.{take_all, take_more}
+pub use Rattle.std.proofs.lemmas.Bool.{and_from, and_parts, cases_eq, not-true, or_cases, or_left, or_right}
+pub use Rattle.std.proofs.lemmas.List.{get_or_past, length-set, length_push, take-append-le, take_all, take_more}
 pub use Rattle.std.proofs.lemmas.List.Elements.{Contains-append_cases, Contains-append_left, Contains-push, Contains-push_cases, filter-append}
 pub use Rattle.std.proofs.lemmas.List.Kept.{IsStrictlyIncreasing-filter}
 pub use Rattle.std.proofs.lemmas.Option.{get_or_from_slice_get, slice_get_within}
@@ -25,7 +24,7 @@ pub use Rattle.arcstr_count.specs.declared.steps.HandleState.{HandleState}
 pub use Rattle.arcstr_count.specs.declared.steps.HandleState.TheVariants.{Dropping, Free, Gone, Owing, Raw}
 pub use Rattle.arcstr_count.specs.declared.steps.HandleSummary.{HandleSummary}
 pub use Rattle.arcstr_count.specs.declared.steps.Reply.{Reply}
-pub use Rattle.arcstr_count.specs.declared.steps.Reply.TheVariants.{Count, Ended, Looked, Refused, Static}
+pub use Rattle.arcstr_count.specs.declared.steps.Reply.TheVariants.{Count, Refused, Static}
 pub use Rattle.arcstr_count.specs.declared.steps.Step.{Step}
 pub use Rattle.arcstr_count.specs.declared.steps.Step.TheVariants.{Back, Begin, Clone, FromRaw, IntoRaw, Leak, Look, Make, Sub}
 pub use Rattle.arcstr_world.specs.Sentences.{AcceptedAnswer, AcceptedSentence, AcceptedWhere, AnswerSentence, BeganUnmarked, BornSentence, ByFact}

@@ -1,8 +1,9 @@
 -- Histories with one more step, their prefixes, and their accepted steps.
-use Rattle.arcstr_world.proofs.Names.{◌≡◌, ℕ, List, [], ◌∷◌, ◌++◌, refl, sym, ◌⊎◌, inl, inr, ◌∙◌, ap, subst, append_assoc, Step}
-use Rattle.arcstr_world.proofs.Names.{IsTrue, IsFalse, Option, None, Some, is_none, StepFault, State, after, accepted, accepted_after, refusal_in, unless_refused}
-use Rattle.arcstr_world.proofs.Names.{AcceptedWhere}
-use Rattle.arcstr_count.proofs.LawsOfHistories.{after-step}
+use Rattle.arcstr_world.proofs.Names.{◌≡◌, ◌↔◌, ℕ, List, [], ◌∷◌, ◌++◌, refl, sym, ◌⊎◌, inl, inr, ◌∙◌, ap, subst, append_assoc, Step}
+use Rattle.arcstr_world.proofs.Names.{IsTrue, IsFalse, Option, None, Some, is_none, StepFault, State, after, accepted, accepted_after, refusal_in}
+use Rattle.arcstr_world.proofs.Names.{unless_refused}
+use Rattle.arcstr_world.proofs.Names.{AcceptedWhere, start, arith}
+use Rattle.arcstr_count.proofs.LawsOfHistories.{after-step, after-accepted}
 use Rattle.arcstr_count.proofs.LawsOfBlocks.{by_pushes}
 
 -- ---- histories with one more step
@@ -21,11 +22,6 @@ last_or_before (y ∷ history) x (z ∷ prefix) s later e =
     elim (last_or_before history x prefix s later (cc)) [ inl w ↦ inl (w.0, cc, w.2) | inr w ↦ inr (w.0, cc, w.2) ]
 
 -- ---- one more step of a history
-
-after-accepted : (limit : ℕ) (history : List Step) (s : Step) → refusal_in (after limit history) s ≡ None
-    → after limit (history ++ s ∷ []) ≡ (accepted limit (after limit history) s).0
-after-accepted limit history s e =
-    after-step limit history s ∙ ap (λ o. (unless_refused o (after limit history) (accepted limit (after limit history) s)).0) e
 
 after-refused : (limit : ℕ) (history : List Step) (s : Step) (fault : StepFault) → refusal_in (after limit history) s ≡ Some fault
     → after limit (history ++ s ∷ []) ≡ after limit history
@@ -60,6 +56,10 @@ by_history limit P nil refused accepts = by_pushes P nil (λ history s. by_refus
 
 -- ---- accepted steps of a history
 
+-- the history's further step x is s, and is accepted where P holds
+abbrev pub TakenWhere : ℕ → List Step → Step → Step → (List Step → Type 0) → Type 0
+TakenWhere limit history x s P = ((x ≡ s) × IsTrue (accepted_after limit history x)) × P history
+
 module _ (limit : ℕ) (history : List Step) (s : Step) (P : List Step → Type 0) where
   -- an accepted step of a history is one of the history with one more step
   pub accepted_earlier : (x : Step) → AcceptedWhere limit history s P → AcceptedWhere limit (history ++ x ∷ []) s P
@@ -76,37 +76,54 @@ module _ (limit : ℕ) (history : List Step) (s : Step) (P : List Step → Type 
 
   -- an accepted step of the history with one more step is that step, or one of the history
   pub accepted_cases : (x : Step) → AcceptedWhere limit (history ++ x ∷ []) s P
-      → ((x ≡ s) × IsTrue (accepted_after limit history x) × P history) ⊎ AcceptedWhere limit history s P
+      → TakenWhere limit history x s P ⊎ AcceptedWhere limit history s P
   accepted_cases x w = elim (last_or_before history x w.prefix s w.later w.stands) [
     | inl e ↦ inl (
-      e.0,
-      subst (λ (t : Step). IsTrue (accepted_after limit history t)) (sym e.0) (subst (λ q. IsTrue (accepted_after limit q s)) (sym e.1) w.accepted),
+      (e.0, subst (λ (t : Step). IsTrue (accepted_after limit history t)) (sym e.0) (subst (λ q. IsTrue (accepted_after limit q s)) (sym e.1) w.accepted)),
       subst P (sym e.1) w.there,
     )
     | inr e ↦ inr (record { prefix = w.prefix; later = e.0; stands = e.1; accepted = w.accepted; there = w.there })
   ]
 
+  pub accepted_step : (x : Step) → AcceptedWhere limit (history ++ x ∷ []) s P ↔ (TakenWhere limit history x s P ⊎ AcceptedWhere limit history s P)
+  accepted_step x = (
+    accepted_cases x,
+    elim [
+      | inl e ↦ subst (λ y. AcceptedWhere limit (history ++ y ∷ []) s P) (sym e.0.0)
+          (accepted_last (subst (λ y. IsTrue (accepted_after limit history y)) e.0.0 e.0.1) e.1)
+      | inr w ↦ accepted_earlier x w
+    ],
+  )
+
 pub accepted_nowhere : (limit : ℕ) (s : Step) (P : List Step → Type 0) → AcceptedWhere limit [] s P → ⊥
 accepted_nowhere limit s P w = none_in_nil w.prefix s w.later w.stands
 
--- a step that is refused, or another one, adds no accepted step
-pub accepted_unless : (limit : ℕ) (history : List Step) (s x : Step) (P : List Step → Type 0)
-    → ((x ≡ s) → IsTrue (accepted_after limit history x) → ⊥) → AcceptedWhere limit (history ++ x ∷ []) s P → AcceptedWhere limit history s P
-accepted_unless limit history s x P other w = elim (accepted_cases limit history s P x w) [ inl e ↦ absurd (other e.0 e.1) | inr e ↦ e ]
+-- one further step of two such sentences, and of one for some number
+pub sum_step : (A N A' B M B' : Type 0) → A ↔ (N ⊎ A') → B ↔ (M ⊎ B') → (A ⊎ B) ↔ ((N ⊎ M) ⊎ (A' ⊎ B'))
+sum_step A N A' B M B' a b = grind arith
 
--- what an accepted step brings about, and each accepted step keeps, holds after a history that has the step
-pub from_where : (limit : ℕ) (s : Step) (P : List Step → Type 0) (Q : State → Type 0)
-    → ((history : List Step) → IsAccepted limit history s → P history → Q (accepted limit (after limit history) s).0)
-    → ((history : List Step) (x : Step) → IsAccepted limit history x → Q (after limit history) → Q (accepted limit (after limit history) x).0)
-    → (history : List Step) → AcceptedWhere limit history s P → Q (after limit history)
-from_where limit s P Q brings keeps = by_history limit (λ history. AcceptedWhere limit history s P → Q (after limit history))
-    (λ w. absurd (accepted_nowhere limit s P w))
-    (λ history x r before w. subst Q (sym r.state) (elim (accepted_cases limit history s P x w) [
-      | inl e ↦ absurd (let no = r.refused in let yes = e.1 in cc)
-      | inr e ↦ before e
-    ]))
-    (λ history x a before w. subst Q (sym a.state) (elim (accepted_cases limit history s P x w) [
-      | inl e ↦ subst (λ y. Q (accepted limit (after limit history) y).0) (sym e.0)
-          (brings history (subst (IsAccepted limit history) e.0 a) e.2)
-      | inr e ↦ keeps history x a (before e)
-    ]))
+pub some_step : (A N A' : ℕ → Type 0) → ((h : ℕ) → A h ↔ (N h ⊎ A' h)) → ((h : ℕ) × A h) ↔ (((h : ℕ) × N h) ⊎ ((h : ℕ) × A' h))
+some_step A N A' each = (
+  (λ w. elim ((each w.0).0 w.1) [ inl n ↦ inl (w.0, n) | inr a ↦ inr (w.0, a) ]),
+  elim [ inl n ↦ (n.0, (each n.0).1 (inl n.1)) | inr a ↦ (a.0, (each a.0).1 (inr a.1)) ],
+)
+
+-- a fact of the state that an accepted step brings about exactly if it is one of these, and else keeps, holds after a history exactly if it has such a step
+pub where_steps : (limit : ℕ) (Q : State → Type 0) (S : List Step → Type 0) (Now : List Step → Step → Type 0) → (¬ Q start) → (¬ S [])
+    → ((history : List Step) (x : Step) → Now history x → IsTrue (accepted_after limit history x))
+    → ((history : List Step) (x : Step) → S (history ++ x ∷ []) ↔ (Now history x ⊎ S history))
+    → ((history : List Step) (x : Step) → IsAccepted limit history x → Q (accepted limit (after limit history) x).0 ↔ (Now history x ⊎ Q (after limit history)))
+    → (history : List Step) → Q (after limit history) ↔ S history
+where_steps limit Q S Now none empty taken says brings = by_history limit (λ history. Q (after limit history) ↔ S history)
+    ((λ q. absurd (none q)), (λ s. absurd (empty s)))
+    (λ history x r before. (
+      (λ q. (says history x).1 (inr (before.0 (subst Q r.state q)))),
+      (λ s. subst Q (sym r.state) (before.1 (elim ((says history x).0 s) [
+        | inl now ↦ absurd (let no = r.refused in let yes = taken history x now in cc)
+        | inr older ↦ older
+      ]))),
+    ))
+    (λ history x a before. (
+      (λ q. (says history x).1 (elim ((brings history x a).0 (subst Q a.state q)) [ inl now ↦ inl now | inr older ↦ inr (before.0 older) ])),
+      (λ s. subst Q (sym a.state) ((brings history x a).1 (elim ((says history x).0 s) [ inl now ↦ inl now | inr older ↦ inr (before.1 older) ]))),
+    ))

@@ -1,102 +1,53 @@
 -- The state of a handle, what was done to it, and the reply to a step, as sentences about the prefixes of the history.
 --
--- We show for each accepted step which state it leaves the handle in (`moves_to`), and that what the history did to a handle is what its state says
--- (`Did`), by induction on the history. The sentence of the state is read off this.
-use Rattle.arcstr_world.proofs.Names.{◌∙◌, ◌≡◌, ◌≢◌, ◌↔◌, ℕ, zero, suc, ◌<◌, is_none, IsTrue, IsFalse, Option, None, Some, option_map, IfSome, List, [], ◌∷◌, ◌++◌}
-use Rattle.arcstr_world.proofs.Names.{refl, sym, ap, subst, arith, Bool, true, false, not, ◌==◌, if◌then◌else◌, ◌⊎◌, inl, inr, length, set, slice_get, cases_eq}
-use Rattle.arcstr_world.proofs.Names.{slice_get_within, and_parts, and_from, not-true, eqb-true, eq-eqb, ne_eqb, append_assoc, true≢false}
-use Rattle.arcstr_world.proofs.Names.{Step, Make, Look, Clone, Begin, Sub, Back, Leak, IntoRaw, FromRaw, HandleState, Free, Raw, Dropping, Owing, Gone, HandleSummary}
-use Rattle.arcstr_world.proofs.Names.{Need, needs, refusal_by, refusal_unless, Reply, Refused, Ended, Looked, Count, Static, StepFault, looked_of, look_reply, is_last}
-use Rattle.arcstr_world.proofs.Names.{State, after, accepted, accepted_after, refusal_in, unless_refused, block_on, state_on, state_in, word_on, word_in, handles_with_state}
+-- We show that what the history did to a handle is what its state says (`Did`), by induction on the history: a step adds to the facts (`More`), and brings
+-- the handle into the state that they then say (`does`). The sentence of the state is read off this.
+use Rattle.arcstr_world.proofs.Names.{◌∙◌, ◌≡◌, ◌≢◌, ◌↔◌, ℕ, zero, suc, ◌<◌, is_none, IsTrue, IsFalse, Option, None, Some, option_map, IfSome, List, [], ◌∷◌}
+use Rattle.arcstr_world.proofs.Names.{◌++◌}
+use Rattle.arcstr_world.proofs.Names.{refl, sym, ap, subst, arith, Bool, true, false, not, ◌==◌, if◌then◌else◌, ◌⊎◌, inl, inr, length, set, slice_get}
+use Rattle.arcstr_world.proofs.Names.{and_parts, and_from, not-true, eqb-true, eq-eqb, ne_eqb, append_assoc, true≢false}
+use Rattle.arcstr_world.proofs.Names.{Step, Make, Look, Clone, Begin, Sub, Back, Leak, IntoRaw, FromRaw, HandleState, Free, Raw, Dropping, Owing, Gone}
+use Rattle.arcstr_world.proofs.Names.{HandleSummary}
+use Rattle.arcstr_world.proofs.Names.{Need, needs, refusal_by, refusal_unless, Reply, Refused, Count, Static, StepFault, looked_of, look_reply, is_last}
+use Rattle.arcstr_world.proofs.Names.{State, after, accepted, accepted_after, refusal_in, unless_refused, block_on, state_on, state_in, word_on, word_in}
+use Rattle.arcstr_world.proofs.Names.{handles_with_state}
 use Rattle.arcstr_world.proofs.Names.{handles_on, lives, births_after, state_after, marked_after, block_after, living_after, answer_after}
-use Rattle.arcstr_world.proofs.Names.{AcceptedSentence, FirstThatHolds, AcceptedWhere, HasAccepted, BeganUnmarked, OwesSentence, LastIsIntoRaw, StateSentence, LivesAlone, ByFact}
+use Rattle.arcstr_world.proofs.Names.{AcceptedSentence, FirstThatHolds, AcceptedWhere, HasAccepted, BeganUnmarked, OwesSentence, LastIsIntoRaw, StateSentence}
+use Rattle.arcstr_world.proofs.Names.{LivesAlone, ByFact}
 use Rattle.arcstr_world.proofs.Names.{AcceptedAnswer, AnswerSentence, Contains, get_or}
-use Rattle.arcstr_count.proofs.LawsOfBlocks.{IsIn, is_in_state, state_born, step_finds, accepts_needed, needed_state, IsLawful, lawful_after, begun_by}
+use Rattle.arcstr_count.proofs.LawsOfBlocks.{IsIn, is_in_state, state_born, step_finds, accepts_needed, needed_state, IsLawful, lawful_after, none_of}
 use Rattle.arcstr_count.proofs.LawsOfHistories.{says}
+use Rattle.std.proofs.lemmas.Option.{slice_get_past}
 use Rattle.arcstr_world.proofs.SentencesBlocks.{members}
-use Rattle.arcstr_world.proofs.SentencesHandles.{slice_get-push_same, slice_get-push_other}
-use Rattle.arcstr_world.proofs.Prefixes.{IsAccepted, by_history, accepted_earlier, accepted_last, accepted_cases, accepted_unless, accepted_nowhere, none_in_nil, last_or_before}
-
-none_of : (o : Option StepFault) → is_none o ≡ true → o ≡ None
-none_of None e = refl
-none_of (Some fault) e = cc
+use Rattle.arcstr_world.proofs.SentencesHandles.{slice_at_push}
+use Rattle.arcstr_world.proofs.Prefixes.{IsAccepted, by_history, accepted_step, accepted_nowhere, none_in_nil, last_or_before}
 
 by_need : (state : ℕ → Option HandleState) (o : Option Need)
     → IsTrue (is_none (refusal_by state o)) ↔ IfSome o (λ need. state need.handle ≡ Some need.state)
 by_need state None = ((λ e. tt), (λ e. refl))
-by_need state (Some need) = ((λ e. needed_state need.state (state need.handle) (none_of (refusal_unless need.state (state need.handle)) e)), λ e. rw e (ap is_none (accepts_needed need.state)))
+by_need state (Some need) = (
+  (λ e. needed_state need.state (state need.handle) (none_of (refusal_unless need.state (state need.handle)) e)),
+  λ e. rw e
+      (ap is_none (accepts_needed need.state)),
+)
 
 pub accepted_sentence : (limit : ℕ) (history : List Step) (s : Step) → IsTrue (accepted_after limit history s) ↔ AcceptedSentence limit history s
 accepted_sentence limit history s = by_need (λ h. state_in (after limit history) h) (needs s)
 
 -- ==== the state in which an accepted step leaves each handle
 
-slice_get-set_same : {X : Type 0} (xs : List X) (k : ℕ) (x : X) → k < length xs → slice_get (set xs k x) k ≡ Some x
-slice_get-set_same [] k x within = absurd (omega arith)
-slice_get-set_same (y ∷ xs) zero x within = refl
-slice_get-set_same (y ∷ xs) (suc k) x within = slice_get-set_same xs k x (omega arith)
-
-slice_get-set_other : {X : Type 0} (xs : List X) (k j : ℕ) (x : X) → k ≢ j → slice_get (set xs k x) j ≡ slice_get xs j
-slice_get-set_other [] k j x apart = refl
-slice_get-set_other (y ∷ xs) zero zero x apart = absurd (apart refl)
-slice_get-set_other (y ∷ xs) zero (suc j) x apart = refl
-slice_get-set_other (y ∷ xs) (suc k) zero x apart = refl
-slice_get-set_other (y ∷ xs) (suc k) (suc j) x apart = slice_get-set_other xs k j x (λ same. apart (ap suc same))
+-- what holds of the new entry at its index, and of the old one at any other, holds of what is found at each index
+slice_at_set : {X : Type 0} (P : Option X → Type 0) (xs : List X) (c b : ℕ) (x : X) → c < length xs → (c ≡ b → P (Some x)) → (c ≢ b → P (slice_get xs b))
+    → P (slice_get (set xs c x) b)
+slice_at_set P [] c b x within here apart = absurd (omega arith)
+slice_at_set P (y ∷ xs) zero zero x within here apart = here refl
+slice_at_set P (y ∷ xs) zero (suc b) x within here apart = apart (λ e. omega arith)
+slice_at_set P (y ∷ xs) (suc c) zero x within here apart = apart (λ e. omega arith)
+slice_at_set P (y ∷ xs) (suc c) (suc b) x within here apart =
+    slice_at_set P xs c b x (omega arith) (λ e. here (ap suc e)) (λ other. apart (λ e. other (omega arith)))
 
 abbrev state_at : List HandleSummary → ℕ → Option HandleState
 state_at hs h = option_map (λ (it : HandleSummary). it.state) (slice_get hs h)
-
--- the new state if the two numbers are equal, else the old one
-abbrev if_same : ℕ → ℕ → HandleState → Option HandleState → Option HandleState
-if_same g h new old = if g == h then Some new else old
-
--- what is found at h, by whether h is g
-found_by : (g h : ℕ) (new : HandleState) (found old : Option HandleState) → (g ≡ h → found ≡ Some new) → (g ≢ h → found ≡ old) → found ≡ if_same g h new old
-found_by g h new found old here elsewhere = by_place (cases_eq g h)
-  where
-    by_place : (g ≡ h) ⊎ (g ≢ h) → found ≡ if_same g h new old
-    by_place (inl same) = here same ∙ sym (ap (λ t. if t then Some new else old) (eq-eqb g h same))
-    by_place (inr apart) = elsewhere apart ∙ sym (ap (λ t. if t then Some new else old) (ne_eqb g h apart))
-
-moved_state : (hs : List HandleSummary) (g h : ℕ) (new : HandleState) → g < length hs
-    → state_at (handles_with_state hs g new) h ≡ if_same g h new (state_at hs h)
-moved_state hs g h new within = found_by g h new _ _
-    (λ same. subst (λ k. state_at (handles_with_state hs g new) k ≡ Some new) same
-    (ap (option_map (λ (it : HandleSummary). it.state)) (slice_get-set_same hs g _ within)))
-    (λ apart. ap (option_map (λ (it : HandleSummary). it.state)) (slice_get-set_other hs g h _ apart))
-
-pushed_state : (hs : List HandleSummary) (c h : ℕ) → state_at (hs ++ record { block = c; state = Free } ∷ []) h ≡ if_same (length hs) h Free (state_at hs h)
-pushed_state hs c h = found_by (length hs) h Free _ _
-    (λ same. subst (λ k. state_at (hs ++ record { block = c; state = Free } ∷ []) k ≡ Some Free) same
-    (ap (option_map (λ (it : HandleSummary). it.state)) (slice_get-push_same hs (record { block = c; state = Free }))))
-    (λ apart. ap (option_map (λ (it : HandleSummary). it.state)) (slice_get-push_other hs h (record { block = c; state = Free }) apart))
-
-begun_state : (w : State) (g h : ℕ) (f : Bool) → g < length w.handles
-    → state_in (begun_by f w g).0 h ≡ if_same g h (if f then Gone else Dropping) (state_in w h)
-begun_state w g h true within = moved_state w.handles g h Gone within
-begun_state w g h false within = moved_state w.handles g h Dropping within
-
-abbrev moves_to : State → Step → ℕ → Option HandleState → Option HandleState
-moves_to w Make h old = if_same (length w.handles) h Free old
-moves_to w (Look g) h old = old
-moves_to w (Clone g) h old = if_same (length w.handles) h Free old
-moves_to w (Begin g) h old = if_same g h (if (word_on w g).flag then Gone else Dropping) old
-moves_to w (Sub g) h old = if_same g h (if is_last (word_on w g) then Owing else Gone) old
-moves_to w (Back g) h old = if_same g h Gone old
-moves_to w (Leak g) h old = old
-moves_to w (IntoRaw g) h old = if_same g h Raw old
-moves_to w (FromRaw g) h old = if_same g h Free old
-
-state_moves : (limit : ℕ) (w : State) (s : Step) → refusal_in w s ≡ None → (h : ℕ) → state_in (accepted limit w s).0 h ≡ moves_to w s h (state_in w h)
-state_moves limit w Make e h = pushed_state w.handles (length w.blocks) h
-state_moves limit w (Look g) e h = refl
-state_moves limit w (Clone g) e h = pushed_state w.handles (block_on w g) h
-state_moves limit w (Begin g) e h = begun_state w g h _ (step_finds w g Free e).born
-state_moves limit w (Sub g) e h = moved_state w.handles g h _ (step_finds w g Dropping e).born
-state_moves limit w (Back g) e h = moved_state w.handles g h Gone (step_finds w g Owing e).born
-state_moves limit w (Leak g) e h = refl
-state_moves limit w (IntoRaw g) e h = moved_state w.handles g h Raw (step_finds w g Free e).born
-state_moves limit w (FromRaw g) e h = moved_state w.handles g h Free (step_finds w g Raw e).born
 
 -- ==== the last subtraction
 
@@ -151,10 +102,43 @@ Did raw begun unmarked subtracted alone given (Some Dropping) = (¬ raw) × begu
 Did raw begun unmarked subtracted alone given (Some Owing) = (¬ raw) × begun × subtracted × alone × (¬ given)
 Did raw begun unmarked subtracted alone given (Some Gone) = (¬ raw) × begun × (¬ (unmarked × (¬ subtracted))) × (¬ (alone × (¬ given)))
 
--- facts that hold before exactly if they hold after say the same of a state
-did_kept : (R B U S A G R' B' U' S' A' G' : Type 0) → (R' → R) → (R → R') → (B' → B) → (B → B') → (U' → U) → (U → U') → (S' → S) → (S → S')
-    → (A' → A) → (A → A') → (G' → G) → (G → G') → (o : Option HandleState) → Did R B U S A G o → Did R' B' U' S' A' G' o
-did_kept R B U S A G R' B' U' S' A' G' r r' b b' u u' s s' a a' g g' o d = grind arith
+-- what one more step does to these facts, which are R to G before it and R' to G' after it: it is an accepted `IntoRaw`, `Begin`, `Sub` or `Back` of the handle
+-- where I, Bn, Sb or Bk holds, and no accepted `IntoRaw` or `FromRaw` of it where N holds; the block is unmarked there if M holds, and the handle alone if L
+-- does
+record More (R B U S A G R' B' U' S' A' G' I N Bn Sb Bk M L : Type 0) : Type 0 where
+  raw : R' ↔ (I ⊎ (R × N))
+  begun : B' ↔ ((Bn × Unit {0}) ⊎ B)
+  unmarked : U' ↔ ((Bn × M) ⊎ U)
+  subtracted : S' ↔ ((Sb × Unit {0}) ⊎ S)
+  alone : A' ↔ ((Sb × L) ⊎ A)
+  given : G' ↔ ((Bk × Unit {0}) ⊎ G)
+  began : U → B
+  left : A → S
+
+module _ {R B U S A G R' B' U' S' A' G' I N Bn Sb Bk M L : Type 0} (m : More R B U S A G R' B' U' S' A' G' I N Bn Sb Bk M L) where
+  by_other : (¬ I) → N → (¬ Bn) → (¬ Sb) → (¬ Bk) → (o : Option HandleState) → Did R B U S A G o → Did R' B' U' S' A' G' o
+  by_other i n bn sb bk o d = grind arith
+
+  by_begin_marked : (¬ I) → Bn → (¬ Sb) → (¬ M) → Did R B U S A G (Some Free) → Did R' B' U' S' A' G' (Some Gone)
+  by_begin_marked i bn sb marked d = grind arith
+
+  by_begin : (¬ I) → Bn → (¬ Sb) → (¬ Bk) → M → Did R B U S A G (Some Free) → Did R' B' U' S' A' G' (Some Dropping)
+  by_begin i bn sb bk unmarked d = grind arith
+
+  by_sub_last : (¬ I) → Sb → (¬ Bk) → L → Did R B U S A G (Some Dropping) → Did R' B' U' S' A' G' (Some Owing)
+  by_sub_last i sb bk alone d = grind arith
+
+  by_sub : (¬ I) → Sb → (¬ L) → Did R B U S A G (Some Dropping) → Did R' B' U' S' A' G' (Some Gone)
+  by_sub i sb others d = grind arith
+
+  by_back : (¬ I) → Bk → Did R B U S A G (Some Owing) → Did R' B' U' S' A' G' (Some Gone)
+  by_back i bk d = grind arith
+
+  by_into_raw : I → (¬ Bn) → (¬ Sb) → (¬ Bk) → Did R B U S A G (Some Free) → Did R' B' U' S' A' G' (Some Raw)
+  by_into_raw i bn sb bk d = grind arith
+
+  by_from_raw : (¬ I) → (¬ N) → (¬ Bn) → (¬ Sb) → (¬ Bk) → Did R B U S A G (Some Raw) → Did R' B' U' S' A' G' (Some Free)
+  by_from_raw i n bn sb bk d = grind arith
 
 module _ (limit : ℕ) (h : ℕ) where
   abbrev IsAlone : List Step → Type 0
@@ -174,11 +158,17 @@ module _ (limit : ℕ) (h : ℕ) where
   any_where history s P w = record { prefix = w.prefix; later = w.later; stands = w.stands; accepted = w.accepted; there = tt }
 
   module _ (history : List Step) (x : Step) where
+    -- the step is this one, and is accepted
+    abbrev Is : Step → Type 0
+    Is s = (x ≡ s) × IsTrue (accepted_after limit history x)
+
+    abbrev IsNeither : Type 0
+    IsNeither = (x ≡ IntoRaw h) ⊎ (x ≡ FromRaw h) → IsFalse (accepted_after limit history x)
+
     -- ---- `IntoRaw` and `FromRaw`
 
     -- the last one stays the last if the new step is neither of the two or is refused
-    raw_more : ((x ≡ IntoRaw h) ⊎ (x ≡ FromRaw h) → IsFalse (accepted_after limit history x)) → LastIsIntoRaw limit history h
-        → LastIsIntoRaw limit (history ++ x ∷ []) h
+    raw_more : IsNeither → LastIsIntoRaw limit history h → LastIsIntoRaw limit (history ++ x ∷ []) h
     raw_more refused w = record {
       prefix = w.prefix;
       later = w.later ++ x ∷ [];
@@ -198,8 +188,7 @@ module _ (limit : ℕ) (h : ℕ) where
         ]
 
     -- the last one was the last before, or is the new step
-    raw_cases : LastIsIntoRaw limit (history ++ x ∷ []) h → ((x ≡ IntoRaw h) × IsTrue (accepted_after limit history x))
-        ⊎ (LastIsIntoRaw limit history h × (x ≡ FromRaw h → IsFalse (accepted_after limit history x)))
+    raw_cases : LastIsIntoRaw limit (history ++ x ∷ []) h → Is (IntoRaw h) ⊎ (LastIsIntoRaw limit history h × IsNeither)
     raw_cases w = elim (last_or_before history x w.prefix (IntoRaw h) w.later w.stands) [
       | inl e ↦ inl (
         e.0,
@@ -214,7 +203,7 @@ module _ (limit : ℕ) (h : ℕ) where
           accepted = w.accepted;
           last = λ more r s d which. w.last more (r ++ x ∷ []) s (e.2 ∙ ap (λ t. t ++ x ∷ []) d ∙ append_assoc more (s ∷ r) (x ∷ [])) which;
         },
-        λ from. subst (λ q. IsFalse (accepted_after limit q x)) (sym e.1) (w.last e.0 [] x e.2 (inr from)),
+        λ which. subst (λ q. IsFalse (accepted_after limit q x)) (sym e.1) (w.last e.0 [] x e.2 which),
       )
     ]
 
@@ -227,45 +216,43 @@ module _ (limit : ℕ) (h : ℕ) where
       last = λ more rest s d which. absurd (none_in_nil more s rest d);
     }
 
-    -- ---- a step that does nothing to the handle: it is refused, or is none of the handle's own
+    -- ---- any step
 
+    more : More (LastIsIntoRaw limit history h) (HasAccepted limit history (Begin h)) (BeganUnmarked limit history h)
+        (HasAccepted limit history (Sub h)) (SubtractedAlone history) (HasAccepted limit history (Back h))
+        (LastIsIntoRaw limit (history ++ x ∷ []) h) (HasAccepted limit (history ++ x ∷ []) (Begin h)) (BeganUnmarked limit (history ++ x ∷ []) h)
+        (HasAccepted limit (history ++ x ∷ []) (Sub h)) (SubtractedAlone (history ++ x ∷ [])) (HasAccepted limit (history ++ x ∷ []) (Back h))
+        (Is (IntoRaw h)) IsNeither (Is (Begin h)) (Is (Sub h)) (Is (Back h)) (IsOnUnmarked history) (IsAlone history)
+    more = record {
+      raw = (raw_cases, elim [ inl e ↦ raw_last e.0 e.1 | inr e ↦ raw_more e.1 e.0 ]);
+      begun = accepted_step limit history (Begin h) (λ _. Unit {0}) x;
+      unmarked = accepted_step limit history (Begin h) IsOnUnmarked x;
+      subtracted = accepted_step limit history (Sub h) (λ _. Unit {0}) x;
+      alone = accepted_step limit history (Sub h) IsAlone x;
+      given = accepted_step limit history (Back h) (λ _. Unit {0}) x;
+      began = any_where history (Begin h) IsOnUnmarked;
+      left = any_where history (Sub h) IsAlone;
+    }
+
+    -- a step that does nothing to the handle: it is refused, or is none of the handle's own
     abbrev IsQuiet : Type 0
     IsQuiet = IsTrue (accepted_after limit history x) → acts h x ≡ false
-
-    -- so it is none of the handle's own steps
-    other_than : IsQuiet → (s : Step) → acts h s ≡ true → x ≡ s → IsTrue (accepted_after limit history x) → ⊥
-    other_than q s own is taken = true≢false (sym own ∙ subst (λ t. acts h t ≡ false) is (q taken))
 
     false_of : (t : Bool) → (t ≡ true → ⊥) → t ≡ false
     false_of true n = absurd (n refl)
     false_of false n = refl
 
-    own : h == h ≡ true
-    own = eq-eqb h h refl
-
-    quiet_raw : IsQuiet → (x ≡ IntoRaw h) ⊎ (x ≡ FromRaw h) → IsFalse (accepted_after limit history x)
-    quiet_raw q which = false_of (accepted_after limit history x)
-        (λ yes. elim which [ inl e ↦ other_than q (IntoRaw h) own e yes | inr e ↦ other_than q (FromRaw h) own e yes ])
-
-    raw_before : IsQuiet → LastIsIntoRaw limit (history ++ x ∷ []) h → LastIsIntoRaw limit history h
-    raw_before q w = elim (raw_cases w) [ inl e ↦ absurd (other_than q (IntoRaw h) own e.0 e.1) | inr e ↦ e.0 ]
-
-    begin_before : IsQuiet → (P : List Step → Type 0) → AcceptedWhere limit (history ++ x ∷ []) (Begin h) P → AcceptedWhere limit history (Begin h) P
-    begin_before q P = accepted_unless limit history (Begin h) x P (other_than q (Begin h) own)
-
-    sub_before : IsQuiet → (P : List Step → Type 0) → AcceptedWhere limit (history ++ x ∷ []) (Sub h) P → AcceptedWhere limit history (Sub h) P
-    sub_before q P = accepted_unless limit history (Sub h) x P (other_than q (Sub h) own)
-
-    back_before : IsQuiet → HasAccepted limit (history ++ x ∷ []) (Back h) → HasAccepted limit history (Back h)
-    back_before q = accepted_unless limit history (Back h) x (λ _. Unit {0}) (other_than q (Back h) own)
-
     quiet : IsQuiet → (o : Option HandleState) → DidAfter history o → DidAfter (history ++ x ∷ []) o
-    quiet q = did_kept _ _ _ _ _ _ _ _ _ _ _ _ (raw_before q) (raw_more (quiet_raw q))
-        (begin_before q (λ _. Unit {0})) (accepted_earlier limit history (Begin h) (λ _. Unit {0}) x)
-        (begin_before q IsOnUnmarked) (accepted_earlier limit history (Begin h) IsOnUnmarked x)
-        (sub_before q (λ _. Unit {0})) (accepted_earlier limit history (Sub h) (λ _. Unit {0}) x)
-        (sub_before q IsAlone) (accepted_earlier limit history (Sub h) IsAlone x)
-        (back_before q) (accepted_earlier limit history (Back h) (λ _. Unit {0}) x)
+    quiet q = by_other more (other (IntoRaw h) own)
+        (λ which. false_of (accepted_after limit history x)
+        (λ yes. elim which [ inl e ↦ other (IntoRaw h) own (e, yes) | inr e ↦ other (FromRaw h) own (e, yes) ]))
+        (other (Begin h) own) (other (Sub h) own) (other (Back h) own)
+      where
+        own : h == h ≡ true
+        own = eq-eqb h h refl
+
+        other : (s : Step) → acts h s ≡ true → Is s → ⊥
+        other s acting is = true≢false (sym acting ∙ subst (λ t. acts h t ≡ false) is.0 (q is.1))
 
   -- ---- the steps of the handle
 
@@ -273,130 +260,56 @@ module _ (limit : ℕ) (h : ℕ) where
     did_begin : IsTrue (accepted_after limit history (Begin h)) → DidAfter history (Some Free) → (f : Bool)
         → marked_after limit history (block_after limit history h) ≡ f
         → DidAfter (history ++ Begin h ∷ []) (Some (if f then Gone else Dropping))
-    did_begin a d true marked = (
-      (λ w. elim (raw_cases history (Begin h) w) [ inl e ↦ (let no = e.0 in cc) | inr e ↦ d.0 e.0 ]),
-      accepted_last limit history (Begin h) _ a tt,
-      (λ w. elim (accepted_cases limit history (Begin h) IsOnUnmarked (Begin h) w.0) [
-        | inl e ↦ true≢false (sym marked ∙ e.2)
-        | inr e ↦ d.1 (any_where history (Begin h) IsOnUnmarked e)
-      ]),
-      (λ w. d.2 (any_where history (Sub h) IsAlone (accepted_unless limit history (Sub h) (Begin h) IsAlone (λ e yes. cc) w.0))),
-    )
-    did_begin a d false unmarked = (
-      (λ w. elim (raw_cases history (Begin h) w) [ inl e ↦ (let no = e.0 in cc) | inr e ↦ d.0 e.0 ]),
-      accepted_last limit history (Begin h) _ a tt,
-      accepted_last limit history (Begin h) IsOnUnmarked a unmarked,
-      (λ w. d.2 (accepted_unless limit history (Sub h) (Begin h) _ (λ e yes. cc) w)),
-      (λ w. d.3 (accepted_unless limit history (Back h) (Begin h) _ (λ e yes. cc) w)),
-    )
+    did_begin a d true marked = by_begin_marked (more history (Begin h)) (λ e. let no = e.0 in cc) (refl, a) (λ e. let no = e.0 in cc)
+        (λ unmarked. true≢false (sym marked ∙ unmarked)) d
+    did_begin a d false unmarked = by_begin (more history (Begin h)) (λ e. let no = e.0 in cc) (refl, a) (λ e. let no = e.0 in cc)
+        (λ e. let no = e.0 in cc) unmarked d
 
     did_sub : IsTrue (accepted_after limit history (Sub h)) → DidAfter history (Some Dropping) → (last : Bool)
-        → (last ≡ true → IsAlone history) → (IsAlone history → last ≡ true)
-        → DidAfter (history ++ Sub h ∷ []) (Some (if last then Owing else Gone))
-    did_sub a d true alone is = (
-      (λ w. elim (raw_cases history (Sub h) w) [ inl e ↦ (let no = e.0 in cc) | inr e ↦ d.0 e.0 ]),
-      accepted_earlier limit history (Begin h) _ (Sub h) d.1,
-      accepted_last limit history (Sub h) _ a tt,
-      accepted_last limit history (Sub h) IsAlone a (alone refl),
-      (λ w. d.4 (accepted_unless limit history (Back h) (Sub h) _ (λ e yes. cc) w)),
-    )
-    did_sub a d false alone is = (
-      (λ w. elim (raw_cases history (Sub h) w) [ inl e ↦ (let no = e.0 in cc) | inr e ↦ d.0 e.0 ]),
-      accepted_earlier limit history (Begin h) _ (Sub h) d.1,
-      (λ w. w.1 (accepted_last limit history (Sub h) _ a tt)),
-      (λ w. elim (accepted_cases limit history (Sub h) IsAlone (Sub h) w.0) [
-        | inl e ↦ true≢false (sym (is e.2))
-        | inr e ↦ d.3 (any_where history (Sub h) IsAlone e)
-      ]),
-    )
-
-    did_back : IsTrue (accepted_after limit history (Back h)) → DidAfter history (Some Owing) → DidAfter (history ++ Back h ∷ []) (Some Gone)
-    did_back a d = (
-      (λ w. elim (raw_cases history (Back h) w) [ inl e ↦ (let no = e.0 in cc) | inr e ↦ d.0 e.0 ]),
-      accepted_earlier limit history (Begin h) _ (Back h) d.1,
-      (λ w. w.1 (accepted_earlier limit history (Sub h) _ (Back h) d.2)),
-      (λ w. w.1 (accepted_last limit history (Back h) _ a tt)),
-    )
-
-    did_into_raw : IsTrue (accepted_after limit history (IntoRaw h)) → DidAfter history (Some Free) → DidAfter (history ++ IntoRaw h ∷ []) (Some Raw)
-    did_into_raw a d = (
-      raw_last history (IntoRaw h) refl a,
-      (λ w. d.1 (accepted_unless limit history (Begin h) (IntoRaw h) _ (λ e yes. cc) w)),
-      (λ w. d.2 (accepted_unless limit history (Sub h) (IntoRaw h) _ (λ e yes. cc) w)),
-      (λ w. d.3 (accepted_unless limit history (Back h) (IntoRaw h) _ (λ e yes. cc) w)),
-    )
-
-    did_from_raw : IsTrue (accepted_after limit history (FromRaw h)) → DidAfter history (Some Raw) → DidAfter (history ++ FromRaw h ∷ []) (Some Free)
-    did_from_raw a d = (
-      (λ w. elim (raw_cases history (FromRaw h) w) [ inl e ↦ (let no = e.0 in cc) | inr e ↦ true≢false (sym a ∙ e.1 refl) ]),
-      (λ w. d.1 (accepted_unless limit history (Begin h) (FromRaw h) _ (λ e yes. cc) w)),
-      (λ w. d.2 (accepted_unless limit history (Sub h) (FromRaw h) _ (λ e yes. cc) w)),
-      (λ w. d.3 (accepted_unless limit history (Back h) (FromRaw h) _ (λ e yes. cc) w)),
-    )
-
-    -- a step of handle g does what it does if g is h, and else nothing to h
-    by_handle : (g : ℕ) (x : Step) (new : HandleState) → (g ≢ h → IsQuiet history x)
-        → DidAfter history (state_in (after limit history) h)
-        → (g ≡ h → DidAfter (history ++ x ∷ []) (Some new))
-        → DidAfter (history ++ x ∷ []) (if_same g h new (state_in (after limit history) h))
-    by_handle g x new others d does = by_place (cases_eq g h)
-      where
-        by_place : (g ≡ h) ⊎ (g ≢ h) → DidAfter (history ++ x ∷ []) (if_same g h new (state_in (after limit history) h))
-        by_place (inl same) = subst (λ t. DidAfter (history ++ x ∷ []) (if t then Some new else state_in (after limit history) h))
-            (sym (eq-eqb g h same)) (does same)
-        by_place (inr apart) = subst (λ t. DidAfter (history ++ x ∷ []) (if t then Some new else state_in (after limit history) h))
-            (sym (ne_eqb g h apart)) (quiet history x (others apart) (state_in (after limit history) h) d)
+        → (last ≡ true) ↔ IsAlone history → DidAfter (history ++ Sub h ∷ []) (Some (if last then Owing else Gone))
+    did_sub a d true alone = by_sub_last (more history (Sub h)) (λ e. let no = e.0 in cc) (refl, a) (λ e. let no = e.0 in cc) (alone.0 refl) d
+    did_sub a d false alone = by_sub (more history (Sub h)) (λ e. let no = e.0 in cc) (refl, a) (λ e. true≢false (sym (alone.1 e))) d
 
     -- a handle is born with nothing done to it
-    by_birth : (x : Step) → IsQuiet history x → DidAfter history (state_in (after limit history) h)
-        → DidAfter (history ++ x ∷ []) (if_same (length (after limit history).handles) h Free (state_in (after limit history) h))
-    by_birth x q d = by_handle (length (after limit history).handles) x Free (λ _. q) d (λ same.
-        quiet history x q None (subst (DidAfter history) (unborn (after limit history) h (λ born. omega arith)) d))
-      where
-        unborn : (w : State) (k : ℕ) → (k < length w.handles → ⊥) → state_in w k ≡ None
-        unborn w k none = by_entry (slice_get w.handles k) refl
-          where
-            by_entry : (o : Option HandleSummary) → slice_get w.handles k ≡ o → option_map (λ (it : HandleSummary). it.state) o ≡ None
-            by_entry None e = refl
-            by_entry (Some it) e = absurd (none (slice_get_within w.handles k it e))
+    by_birth : (x : Step) (c : ℕ) → IsQuiet history x → DidAfter history (state_in (after limit history) h)
+        → DidAfter (history ++ x ∷ []) (state_at ((after limit history).handles ++ record { block = c; state = Free } ∷ []) h)
+    by_birth x c q d = slice_at_push (λ o. DidAfter (history ++ x ∷ []) (option_map (λ (it : HandleSummary). it.state) o)) (after limit history).handles h _
+        (λ last. quiet history x q None (subst (DidAfter history)
+        (ap (option_map (λ (it : HandleSummary). it.state)) (slice_get_past (after limit history).handles h (omega arith))) d))
+        (λ before. quiet history x q (state_in (after limit history) h) d)
 
-    found : (g : ℕ) (s : HandleState) → refusal_unless s (state_in (after limit history) g) ≡ None → g ≡ h
-        → DidAfter history (state_in (after limit history) h) → DidAfter history (Some s)
-    found g s e same d = subst (DidAfter history)
-        (subst (λ k. state_in (after limit history) k ≡ Some s) same (needed_state s (state_in (after limit history) g) e)) d
+    -- a step of handle g brings h from one state to another if g is h, and else does nothing to it
+    by_own : (kind : ℕ → Step) (needed : HandleState) (new : ℕ → HandleState) (g : ℕ) → IsTrue (accepted_after limit history (kind g))
+        → refusal_unless needed (state_in (after limit history) g) ≡ None → (g ≢ h → acts h (kind g) ≡ false)
+        → DidAfter history (state_in (after limit history) h)
+        → (IsTrue (accepted_after limit history (kind h)) → DidAfter history (Some needed) → DidAfter (history ++ kind h ∷ []) (Some (new h)))
+        → DidAfter (history ++ kind g ∷ []) (state_at (handles_with_state (after limit history).handles g (new g)) h)
+    by_own kind needed new g a found others d does =
+        slice_at_set (λ o. DidAfter (history ++ kind g ∷ []) (option_map (λ (it : HandleSummary). it.state) o)) (after limit history).handles g h _
+        (step_finds (after limit history) g needed found).born
+        (λ same. subst (λ k. DidAfter (history ++ kind k ∷ []) (Some (new k))) (sym same)
+        (does (subst (λ k. IsTrue (accepted_after limit history (kind k))) same a) (subst (DidAfter history)
+        (subst (λ k. state_in (after limit history) k ≡ Some needed) same (needed_state needed (state_in (after limit history) g) found)) d)))
+        (λ apart. quiet history (kind g) (λ yes. others apart) (state_in (after limit history) h) d)
 
     does : (x : Step) → IsAccepted limit history x → DidAfter history (state_in (after limit history) h)
-        → DidAfter (history ++ x ∷ []) (moves_to (after limit history) x h (state_in (after limit history) h))
-    does Make a d = by_birth Make (λ yes. refl) d
-    does (Look g) a d = quiet history (Look g) (λ yes. refl)
-        (state_in (after limit history) h) d
-    does (Clone g) a d = by_birth (Clone g) (λ yes. refl) d
-    does (Begin g) a d = by_handle g (Begin g) _
-        (λ apart yes. ne_eqb g h apart) d
-        (λ same. subst (λ k. DidAfter (history ++ Begin k ∷ []) (Some (if (word_on (after limit history) k).flag then Gone else Dropping))) (sym same)
-        (did_begin (subst (λ k. IsTrue (accepted_after limit history (Begin k))) same a.accepted) (found g Free a.none same d)
-        (word_on (after limit history) h).flag refl))
-    does (Sub g) a d = by_handle g (Sub g) _
-        (λ apart yes. ne_eqb g h apart) d
-        (λ same. subst (λ k. DidAfter (history ++ Sub k ∷ []) (Some (if is_last (word_on (after limit history) k) then Owing else Gone))) (sym same)
-        (let i = subst (λ k. IsIn (after limit history) k Dropping) same (step_finds (after limit history) g Dropping a.none) in
-        let alone = alone_sentence limit (after limit history) h (lawful_after limit history) i in
-        did_sub (subst (λ k. IsTrue (accepted_after limit history (Sub k))) same a.accepted) (found g Dropping a.none same d)
-        (is_last (word_on (after limit history) h)) alone.0 alone.1))
-    does (Back g) a d = by_handle g (Back g) Gone
-        (λ apart yes. ne_eqb g h apart) d
-        (λ same. subst (λ k. DidAfter (history ++ Back k ∷ []) (Some Gone)) (sym same)
-        (did_back (subst (λ k. IsTrue (accepted_after limit history (Back k))) same a.accepted) (found g Owing a.none same d)))
-    does (Leak g) a d = quiet history (Leak g) (λ yes. refl)
-        (state_in (after limit history) h) d
-    does (IntoRaw g) a d = by_handle g (IntoRaw g) Raw
-        (λ apart yes. ne_eqb g h apart) d
-        (λ same. subst (λ k. DidAfter (history ++ IntoRaw k ∷ []) (Some Raw)) (sym same)
-        (did_into_raw (subst (λ k. IsTrue (accepted_after limit history (IntoRaw k))) same a.accepted) (found g Free a.none same d)))
-    does (FromRaw g) a d = by_handle g (FromRaw g) Free
-        (λ apart yes. ne_eqb g h apart) d
-        (λ same. subst (λ k. DidAfter (history ++ FromRaw k ∷ []) (Some Free)) (sym same)
-        (did_from_raw (subst (λ k. IsTrue (accepted_after limit history (FromRaw k))) same a.accepted) (found g Raw a.none same d)))
+        → DidAfter (history ++ x ∷ []) (state_in (accepted limit (after limit history) x).0 h)
+    does Make a d = by_birth Make _ (λ yes. refl) d
+    does (Look g) a d = quiet history (Look g) (λ yes. refl) (state_in (after limit history) h) d
+    does (Clone g) a d = by_birth (Clone g) _ (λ yes. refl) d
+    does (Begin g) a d = by_own Begin Free (λ k. if (word_on (after limit history) k).flag then Gone else Dropping) g a.accepted a.none (ne_eqb g h) d
+        (λ b free. did_begin b free (word_on (after limit history) h).flag refl)
+    does (Sub g) a d = by_own Sub Dropping (λ k. if is_last (word_on (after limit history) k) then Owing else Gone) g a.accepted a.none (ne_eqb g h) d
+        (λ b dropping. did_sub b dropping (is_last (word_on (after limit history) h)) (alone_sentence limit (after limit history) h (lawful_after limit history)
+        (step_finds (after limit history) h Dropping (none_of (refusal_in (after limit history) (Sub h)) b))))
+    does (Back g) a d = by_own Back Owing (λ k. Gone) g a.accepted a.none (ne_eqb g h) d
+        (λ b. by_back (more history (Back h)) (λ e. let no = e.0 in cc) (refl, b))
+    does (Leak g) a d = quiet history (Leak g) (λ yes. refl) (state_in (after limit history) h) d
+    does (IntoRaw g) a d = by_own IntoRaw Free (λ k. Raw) g a.accepted a.none (ne_eqb g h) d
+        (λ b. by_into_raw (more history (IntoRaw h)) (refl, b) (λ e. let no = e.0 in cc) (λ e. let no = e.0 in cc) (λ e. let no = e.0 in cc))
+    does (FromRaw g) a d = by_own FromRaw Raw (λ k. Free) g a.accepted a.none (ne_eqb g h) d
+        (λ b. by_from_raw (more history (FromRaw h)) (λ e. let no = e.0 in cc) (λ n. true≢false (sym b ∙ n (inr refl)))
+        (λ e. let no = e.0 in cc) (λ e. let no = e.0 in cc) (λ e. let no = e.0 in cc))
 
   -- what a history did to a handle is what its state says
   did : (history : List Step) → DidAfter history (state_after limit history h)
@@ -409,7 +322,7 @@ module _ (limit : ℕ) (h : ℕ) where
       (λ history x r d. subst (DidAfter (history ++ x ∷ [])) (ap (λ (w : State). state_in w h) (sym r.state))
       (quiet history x (refused history x r.refused) (state_after limit history h) d))
       (λ history x a d. subst (DidAfter (history ++ x ∷ []))
-      (sym (ap (λ (w : State). state_in w h) a.state ∙ state_moves limit (after limit history) x a.none h)) (does history x a d))
+      (ap (λ (w : State). state_in w h) (sym a.state)) (does history x a d))
     where
       refused : (history : List Step) (x : Step) → IsFalse (accepted_after limit history x) → IsQuiet history x
       refused history x unaccepted taken = absurd (true≢false (sym taken ∙ unaccepted))
@@ -462,10 +375,6 @@ same : (x y : Reply) → (x ≡ y) ↔ (y ≡ x)
 same x y = ((λ e. sym e), (λ e. sym e))
 
 module _ (limit : ℕ) (history : List Step) where
-  begun_reply : (h : ℕ) (f : Bool) → (begun_by f (after limit history) h).1 ≡ (if f then Ended else Looked)
-  begun_reply h true = refl
-  begun_reply h false = refl
-
   looked : (b : ℕ) → b < length (after limit history).blocks → look_reply (looked_of (word_in (after limit history) b))
       ≡ (if marked_after limit history b then Static else Count (length (living_after limit history b)))
   looked b made = by_flag (marked_after limit history b) refl
@@ -484,23 +393,18 @@ module _ (limit : ℕ) (history : List Step) where
   accepted_answer_sentence (Look h) reply e = through
       (looked (block_on (after limit history) h) ((lawful_after limit history).made h (step_finds (after limit history) h Free e).born))
       (by_test (marked_after limit history (block_after limit history h)) _ ((λ e. e), (λ e. e)) _ _ reply)
-  accepted_answer_sentence (Begin h) reply e = through (begun_reply h (word_on (after limit history) h).flag)
-      (by_test (marked_after limit history (block_after limit history h)) _ ((λ e. e), (λ e. e)) _ _ reply)
+  accepted_answer_sentence (Begin h) reply e = by_test (marked_after limit history (block_after limit history h)) _ ((λ e. e), (λ e. e)) _ _ reply
   accepted_answer_sentence (Sub h) reply e = by_test (is_last (word_on (after limit history) h)) (LivesAlone limit history h)
       (alone_sentence limit (after limit history) h (lawful_after limit history) (step_finds (after limit history) h Dropping e)) _ _ reply
-  accepted_answer_sentence Make reply e = same _ reply
-  accepted_answer_sentence (Clone h) reply e = same _ reply
-  accepted_answer_sentence (Back h) reply e = same _ reply
-  accepted_answer_sentence (Leak h) reply e = same _ reply
-  accepted_answer_sentence (IntoRaw h) reply e = same _ reply
-  accepted_answer_sentence (FromRaw h) reply e = same _ reply
+  accepted_answer_sentence s reply e = same _ reply
 
 -- ---- both
 
 same_fault : (x y : StepFault) → Some x ≡ Some y → x ≡ y
 same_fault x y e = cc
 
-pub answer_sentence : (limit : ℕ) (history : List Step) (s : Step) (reply : Reply) → (answer_after limit history s ≡ reply) ↔ AnswerSentence limit history s reply
+pub answer_sentence : (limit : ℕ) (history : List Step) (s : Step) (reply : Reply)
+    → (answer_after limit history s ≡ reply) ↔ AnswerSentence limit history s reply
 answer_sentence limit history s reply = by_refusal (refusal_in (after limit history) s) refl
   where
     by_refusal : (o : Option StepFault) → refusal_in (after limit history) s ≡ o → (answer_after limit history s ≡ reply) ↔ AnswerSentence limit history s reply

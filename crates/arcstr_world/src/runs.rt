@@ -49,7 +49,8 @@ fn replies_of<A: Allocator + Copy>(
     steps: &[Step],
 ) -> Result<Vec<Reply, A>, RunFault>
     ensures memory { IfErr result (λ fault. fault ≡ RunFault.Memory) }
-    ensures replies { IfOk result (λ found. found.items ≡ replies_from world.limit world.state steps.now) }
+    ensures replies { IfOk result (λ found. found.items
+        ≡ replies_from world.limit world.state steps.now) }
 {
     let mut replies = Vec::new(alloc);
     for step in steps {

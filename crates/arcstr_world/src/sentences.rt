@@ -25,7 +25,8 @@ use arcstr_count::{HandleState, Reply, Step};
 /// ```
 #[tactic(auto, using(crate::proofs::SentencesState::accepted_sentence))]
 pub fn accepted_is(limit: u64, history: &[Step], step: Step)
-    ensures { IsTrue (accepted_after limit history.now step) ↔ AcceptedSentence limit history.now step }
+    ensures { IsTrue (accepted_after limit history.now step)
+        ↔ AcceptedSentence limit history.now step }
 {}
 
 /// States how many handles were born and how many blocks were made: one handle for each accepted
@@ -37,8 +38,10 @@ pub fn accepted_is(limit: u64, history: &[Step], step: Step)
 /// ```
 #[tactic(auto, using(crate::proofs::SentencesHandles::births_sentence, crate::proofs::SentencesHandles::makes_sentence))]
 pub fn births_are(limit: u64, history: &[Step])
-    ensures handles { births_after limit history.now ≡ accepted_count limit history.now (λ prefix s. is_birth s) }
-    ensures blocks { makes_after limit history.now ≡ accepted_count limit history.now (λ prefix s. is_make s) }
+    ensures handles { births_after limit history.now
+        ≡ accepted_count limit history.now (λ prefix s. is_birth s) }
+    ensures blocks { makes_after limit history.now
+        ≡ accepted_count limit history.now (λ prefix s. is_make s) }
 {}
 
 /// States where a handle is born, and on which block. Handle h is born at the accepted `Make` or
@@ -52,7 +55,8 @@ pub fn births_are(limit: u64, history: &[Step])
 /// sentences::born_is(2, &[Step::Make, Step::Clone(0)], handle, block);
 /// ```
 pub fn born_is(limit: u64, history: &[Step], handle: u64, block: u64)
-    ensures { ((handle < births_after limit history.now) × (block_after limit history.now handle ≡ block))
+    ensures { ((handle < births_after limit history.now)
+        × (block_after limit history.now handle ≡ block))
         ↔ BornSentence limit history.now handle block }
 {}
 
@@ -67,7 +71,8 @@ pub fn born_is(limit: u64, history: &[Step], handle: u64, block: u64)
 /// ```
 #[tactic(auto, using(crate::proofs::SentencesBlocks::marked_sentence))]
 pub fn marked_is(limit: u64, history: &[Step], block: u64)
-    ensures { IsTrue (marked_after limit history.now block) ↔ MarkedSentence limit history.now block }
+    ensures { IsTrue (marked_after limit history.now block)
+        ↔ MarkedSentence limit history.now block }
 {}
 
 /// States the state of a handle that was born: raw, if the last accepted step among its `IntoRaw`
@@ -97,7 +102,8 @@ pub fn state_is(limit: u64, history: &[Step], handle: u64, state: HandleState)
 /// ```
 #[tactic(auto, using(crate::proofs::SentencesState::owes_sentence))]
 pub fn owes_is(limit: u64, history: &[Step], handle: u64)
-    ensures { (state_after limit history.now handle ≡ Some Owing) ↔ OwesSentence limit history.now handle }
+    ensures { (state_after limit history.now handle ≡ Some Owing)
+        ↔ OwesSentence limit history.now handle }
 {}
 
 /// States which handles live on a block: those that stand on it and are free, raw or dropping. The
@@ -109,7 +115,8 @@ pub fn owes_is(limit: u64, history: &[Step], handle: u64)
 /// sentences::living_is(2, &[Step::Make, Step::Clone(0)], block, handle);
 /// ```
 pub fn living_is(limit: u64, history: &[Step], block: u64, handle: u64)
-    ensures members { Contains (living_after limit history.now block) handle ↔ LivingSentence limit history.now block handle }
+    ensures members { Contains (living_after limit history.now block) handle
+        ↔ LivingSentence limit history.now block handle }
     ensures once { IsStrictlyIncreasing (living_after limit history.now block) }
 {}
 
@@ -127,7 +134,8 @@ pub fn under_way_is(limit: u64, history: &[Step], block: u64, handle: u64)
         ↔ ((block_after limit history.now handle ≡ block) × (state_after limit history.now handle ≡ Some Dropping)) }
     ensures owing { Contains (owing_after limit history.now block) handle
         ↔ ((block_after limit history.now handle ≡ block) × (state_after limit history.now handle ≡ Some Owing)) }
-    ensures some { ((dropping_after limit history.now block ≢ []) ⊎ (owing_after limit history.now block ≢ []))
+    ensures some { ((dropping_after limit history.now block ≢ [])
+        ⊎ (owing_after limit history.now block ≢ []))
         ↔ UnderWaySentence limit history.now block }
 {}
 
@@ -156,5 +164,6 @@ pub fn given_is(limit: u64, history: &[Step], block: u64)
 /// ```
 #[tactic(auto, using(crate::proofs::SentencesState::answer_sentence))]
 pub fn answer_is(limit: u64, history: &[Step], step: Step, reply: Reply)
-    ensures { (answer_after limit history.now step ≡ reply) ↔ AnswerSentence limit history.now step reply }
+    ensures { (answer_after limit history.now step ≡ reply)
+        ↔ AnswerSentence limit history.now step reply }
 {}

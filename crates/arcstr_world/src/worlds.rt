@@ -1,6 +1,6 @@
 //! The world of counted blocks, which answers one step at a time as the model's step function says.
 
-ghost use Rattle.std.specs.Prelude.{ℕ, ◌≡◌, ◌<◌, ◌≤◌, ◌↔◌, ◌+◌, ◌++◌, if◌then◌else◌, [], ◌∷◌, List, length};
+ghost use Rattle.std.specs.Prelude.{◌≡◌, ◌<◌, ◌≤◌, ◌↔◌, ◌+◌, ◌++◌, if◌then◌else◌, [], ◌∷◌, List, length};
 ghost use Rattle.std.specs.Prelude.{IsTrue, IfOk, IfErr, OnErr, IsOk, IsNone, IsSome, None, slice_get, slice_index_or, vec_len, vec_capacity};
 ghost use Rattle.arcstr_count.specs.declared.steps.Step.{Step};
 ghost use Rattle.arcstr_count.specs.Model.{State, step, after, start, state_of_tables, refusal_in, state_in, no_block, no_handle};
@@ -90,13 +90,16 @@ impl<A: Allocator + Copy> World<A> {
     /// let refused = Reply::Refused(StepFault::NotInDrop);
     /// assert_eq!(rt; world.step(Step::Sub(0))?, refused);
     /// ```
+    #[tactic(auto, using(crate::proofs::LawsOfWorlds::sound_world))]
     pub fn step(&mut self, act: Step) -> Result<Reply, RunFault>
         // Promise: Its reply and the new state are those of the model's step function.
-        ensures stepped { IfOk result (λ reply. step self.old.limit self.old.state act ≡ (self.new.state, reply)) }
+        ensures stepped { IfOk result
+            (λ reply. step self.old.limit self.old.state act ≡ (self.new.state, reply)) }
 
         // Promise: Only an accepted `Make` or `Clone` runs out of memory, which changes nothing.
         ensures memory { IfErr result (λ fault. (fault ≡ RunFault.Memory) × (self.new ≡ self.old)) }
-        ensures memory_only_to_births { OnErr result (IsTrue (is_birth act) × (refusal_in self.old.state act ≡ None)) }
+        ensures memory_only_to_births { OnErr result
+            (IsTrue (is_birth act) × (refusal_in self.old.state act ≡ None)) }
 
         // Promise: The limit stays the same.
         ensures limit { self.new.limit ≡ self.old.limit }
@@ -115,14 +118,12 @@ impl<A: Allocator + Copy> World<A> {
     /// }
     /// assert_eq!(rt; world.given(0), 1);
     /// ```
+    #[tactic(auto, using(crate::proofs::LawsOfWorlds::sound_world))]
     pub fn given(&self, block: u64) -> u64
         ensures value { result ≡ given_in self.now.state block }
         ensures at_most_once { result ≤ 1 }
     {
-        match entry_at(&self.blocks, block) {
-            None => 0,
-            Some(entry) => entry.given,
-        }
+        given_at(&self.blocks, block)
     }
 
     /// Proves that the state of each world is that after at least one history, and the laws of
@@ -140,7 +141,8 @@ impl<A: Allocator + Copy> World<A> {
         ensures laws { (history : List Step) → self.now.state ≡ after self.now.limit history
             → HoldsInEveryInterleaving self.now.limit history }
     {
-        // A clause knows the invariant of a value behind a `&` once the body reads the value. Without this read nothing is known of the world.
+        // A clause knows the invariant of a value behind a `&` once the body reads the value.
+        // Without this read nothing is known of the world.
         let _limit = self.limit;
     }
 }
@@ -154,9 +156,11 @@ fn take<A: Allocator>(
 ) -> Result<Reply, RunFault>
     requires sound { IsSound (state_of_tables handles.old.items blocks.old.items) }
     requires limited { limit ≤ RC_MAX }
-    ensures stepped { IfOk result (λ reply. step limit (state_of_tables handles.old.items blocks.old.items) act
+    ensures stepped { IfOk result (λ reply. step limit
+        (state_of_tables handles.old.items blocks.old.items) act
         ≡ (state_of_tables handles.new.items blocks.new.items, reply)) }
-    ensures memory { IfErr result (λ fault. (fault ≡ RunFault.Memory) × (handles.new.items ≡ handles.old.items) × (blocks.new.items ≡ blocks.old.items)) }
+    ensures memory { IfErr result (λ fault. (fault ≡ RunFault.Memory)
+        × (handles.new.items ≡ handles.old.items) × (blocks.new.items ≡ blocks.old.items)) }
     ensures memory_only_to_births { OnErr result (IsTrue (is_birth act)
         × (refusal_in (state_of_tables handles.old.items blocks.old.items) act ≡ None)) }
 {
@@ -180,8 +184,11 @@ fn handle_in<A: Allocator>(
     needed: HandleState,
     handle: u64,
 ) -> Result<u64, StepFault>
-    ensures refused { IfErr result (λ fault. refusal_unless needed (state_in (state_of_tables handles.now.items []) handle) ≡ Some fault) }
-    ensures found { IfOk result (λ block. slice_get handles.now.items handle ≡ Some (record { block = block; state = needed })) }
+    ensures refused { IfErr result
+        (λ fault. refusal_unless needed (state_in (state_of_tables handles.now.items []) handle)
+        ≡ Some fault) }
+    ensures found { IfOk result (λ block. slice_get handles.now.items handle
+        ≡ Some (record { block = block; state = needed })) }
 {
     match entry_at(handles, handle) {
         None => Err(StepFault::NoHandle),
@@ -192,13 +199,17 @@ fn handle_in<A: Allocator>(
     }
 }
 
+/// Answers `Make`. Of the nine steps only a clone asks for the limit: the clauses of the others
+/// give the step function 0.
 fn make<A: Allocator>(
     handles: &mut Vec<HandleSummary, A>,
     blocks: &mut Vec<BlockSummary, A>,
 ) -> Result<Reply, RunFault>
-    ensures stepped { (limit : ℕ) → IfOk result (λ reply. step limit (state_of_tables handles.old.items blocks.old.items) Step.Make
+    ensures stepped { IfOk result (λ reply. step 0
+        (state_of_tables handles.old.items blocks.old.items) Step.Make
         ≡ (state_of_tables handles.new.items blocks.new.items, reply)) }
-    ensures memory { IfErr result (λ fault. (fault ≡ RunFault.Memory) × (handles.new.items ≡ handles.old.items) × (blocks.new.items ≡ blocks.old.items)) }
+    ensures memory { IfErr result (λ fault. (fault ≡ RunFault.Memory)
+        × (handles.new.items ≡ handles.old.items) × (blocks.new.items ≡ blocks.old.items)) }
 {
     make_room(handles, blocks)?;
     let block = blocks.len() as u64;
@@ -220,7 +231,7 @@ fn look<A: Allocator>(
     handle: u64,
 ) -> Reply
     requires { IsSound (state_of_tables handles.now.items blocks.now.items) }
-    ensures { (limit : ℕ) → step limit (state_of_tables handles.now.items blocks.now.items) (Step.Look handle)
+    ensures { step 0 (state_of_tables handles.now.items blocks.now.items) (Step.Look handle)
         ≡ (state_of_tables handles.now.items blocks.now.items, result) }
 {
     let block = match handle_in(handles, HandleState::Free, handle) {
@@ -242,10 +253,14 @@ fn clone<A: Allocator>(
 ) -> Result<Reply, RunFault>
     requires sound { IsSound (state_of_tables handles.old.items blocks.old.items) }
     requires limited { limit ≤ RC_MAX }
-    ensures stepped { IfOk result (λ reply. step limit (state_of_tables handles.old.items blocks.old.items) (Step.Clone handle)
+    ensures stepped { IfOk result (λ reply. step limit
+        (state_of_tables handles.old.items blocks.old.items) (Step.Clone handle)
         ≡ (state_of_tables handles.new.items blocks.new.items, reply)) }
-    ensures memory { IfErr result (λ fault. (fault ≡ RunFault.Memory) × (handles.new.items ≡ handles.old.items) × (blocks.new.items ≡ blocks.old.items)) }
-    ensures accepted { OnErr result (refusal_in (state_of_tables handles.old.items blocks.old.items) (Step.Clone handle) ≡ None) }
+    ensures memory { IfErr result (λ fault. (fault ≡ RunFault.Memory)
+        × (handles.new.items ≡ handles.old.items) × (blocks.new.items ≡ blocks.old.items)) }
+    ensures accepted { OnErr result
+        (refusal_in (state_of_tables handles.old.items blocks.old.items) (Step.Clone handle)
+        ≡ None) }
 {
     let block = match handle_in(handles, HandleState::Free, handle) {
         Ok(block) => block,
@@ -266,7 +281,7 @@ fn begin<A: Allocator>(
     handle: u64,
 ) -> Reply
     requires { IsSound (state_of_tables handles.old.items blocks.now.items) }
-    ensures { (limit : ℕ) → step limit (state_of_tables handles.old.items blocks.now.items) (Step.Begin handle)
+    ensures { step 0 (state_of_tables handles.old.items blocks.now.items) (Step.Begin handle)
         ≡ (state_of_tables handles.new.items blocks.now.items, result) }
 {
     let block = match handle_in(handles, HandleState::Free, handle) {
@@ -285,7 +300,7 @@ fn sub<A: Allocator>(
     handle: u64,
 ) -> Reply
     requires { IsSound (state_of_tables handles.old.items blocks.old.items) }
-    ensures { (limit : ℕ) → step limit (state_of_tables handles.old.items blocks.old.items) (Step.Sub handle)
+    ensures { step 0 (state_of_tables handles.old.items blocks.old.items) (Step.Sub handle)
         ≡ (state_of_tables handles.new.items blocks.new.items, result) }
 {
     let block = match handle_in(handles, HandleState::Dropping, handle) {
@@ -306,7 +321,7 @@ fn back<A: Allocator>(
     handle: u64,
 ) -> Reply
     requires { IsSound (state_of_tables handles.old.items blocks.old.items) }
-    ensures { (limit : ℕ) → step limit (state_of_tables handles.old.items blocks.old.items) (Step.Back handle)
+    ensures { step 0 (state_of_tables handles.old.items blocks.old.items) (Step.Back handle)
         ≡ (state_of_tables handles.new.items blocks.new.items, result) }
 {
     let block = match handle_in(handles, HandleState::Owing, handle) {
@@ -325,7 +340,7 @@ fn leak<A: Allocator>(
     handle: u64,
 ) -> Reply
     requires { IsSound (state_of_tables handles.now.items blocks.old.items) }
-    ensures { (limit : ℕ) → step limit (state_of_tables handles.now.items blocks.old.items) (Step.Leak handle)
+    ensures { step 0 (state_of_tables handles.now.items blocks.old.items) (Step.Leak handle)
         ≡ (state_of_tables handles.now.items blocks.new.items, result) }
 {
     let block = match handle_in(handles, HandleState::Free, handle) {
@@ -343,7 +358,7 @@ fn into_raw<A: Allocator>(
     handle: u64,
 ) -> Reply
     requires { IsSound (state_of_tables handles.old.items blocks.now.items) }
-    ensures { (limit : ℕ) → step limit (state_of_tables handles.old.items blocks.now.items) (Step.IntoRaw handle)
+    ensures { step 0 (state_of_tables handles.old.items blocks.now.items) (Step.IntoRaw handle)
         ≡ (state_of_tables handles.new.items blocks.now.items, result) }
 {
     let _block = match handle_in(handles, HandleState::Free, handle) {
@@ -361,7 +376,7 @@ fn from_raw<A: Allocator>(
     handle: u64,
 ) -> Reply
     requires { IsSound (state_of_tables handles.old.items blocks.now.items) }
-    ensures { (limit : ℕ) → step limit (state_of_tables handles.old.items blocks.now.items) (Step.FromRaw handle)
+    ensures { step 0 (state_of_tables handles.old.items blocks.now.items) (Step.FromRaw handle)
         ≡ (state_of_tables handles.new.items blocks.now.items, result) }
 {
     let _block = match handle_in(handles, HandleState::Raw, handle) {
@@ -440,7 +455,8 @@ fn make_room<A: Allocator>(
 fn push_handle<A: Allocator>(handles: &mut Vec<HandleSummary, A>, block: u64) -> u64
     requires { vec_len handles.old < vec_capacity handles.old }
     ensures number { result ≡ length handles.old.items }
-    ensures born { handles.new.items ≡ handles.old.items ++ record { block = block; state = HandleState.Free } ∷ [] }
+    ensures born { handles.new.items
+        ≡ handles.old.items ++ record { block = block; state = HandleState.Free } ∷ [] }
 {
     let number = handles.len() as u64;
     push_entry(
@@ -454,11 +470,22 @@ fn push_handle<A: Allocator>(handles: &mut Vec<HandleSummary, A>, block: u64) ->
 }
 
 /// Returns the entry of a table at a number; `None` past the end of the table. The proofs of
-/// `handle_in` and `given` cite it.
+/// `handle_in` and `given_at` cite it.
 fn entry_at<T: Copy>(table: &[T], number: u64) -> Option<T>
     ensures { result ≡ slice_get table.now number }
 {
     table.get(number as usize).copied()
+}
+
+/// Returns how often the block with this number was freed; 0 past the end of the table.
+#[tactic(auto, using(std::proofs::lemmas::Option::slice_get_cases, std::proofs::lemmas::Option::get_or_from_slice_get, std::proofs::lemmas::List::get_or_past))]
+fn given_at(blocks: &[BlockSummary], block: u64) -> u64
+    ensures { result ≡ (slice_index_or blocks.now block no_block).given }
+{
+    match entry_at(blocks, block) {
+        None => 0,
+        Some(entry) => entry.given,
+    }
 }
 
 /// Appends an entry to a table that has room for it.
@@ -488,7 +515,8 @@ fn set_word<A: Allocator>(blocks: &mut Vec<BlockSummary, A>, block: u64, word: W
 /// Marks a block. Its count stays.
 fn set_mark<A: Allocator>(blocks: &mut Vec<BlockSummary, A>, block: u64)
     requires { block < vec_len blocks.old }
-    ensures { blocks.new.items ≡ blocks_with_word blocks.old.items block (marked_of (slice_index_or blocks.old.items block no_block).word) }
+    ensures { blocks.new.items ≡ blocks_with_word blocks.old.items block
+        (marked_of (slice_index_or blocks.old.items block no_block).word) }
 {
     let word = blocks[block as usize].word;
     set_word(blocks, block, word.with_mark());

@@ -81,7 +81,8 @@ fn visible_prefix(bytes: &[u8], place: usize) -> usize
     ensures within { result ≤ LANES }
     ensures inside { place + result ≤ length bytes.now }
     ensures stops { result ≢ LANES → place + result < length bytes.now }
-    ensures visible { (k : ℕ) → place ≤ k → k < place + result → IsVisible (slice_index bytes.now k) }
+    ensures visible { (k : ℕ) → place ≤ k → k < place + result
+        → IsVisible (slice_index bytes.now k) }
 {
     if bytes.len() - place < LANES {
         return 0;
@@ -98,7 +99,8 @@ fn visible_prefix(bytes: &[u8], place: usize) -> usize
 /// character. The first byte has the lowest bit.
 fn other_bytes(bytes: &[u8], place: usize) -> u64
     requires { place + LANES ≤ length bytes.now }
-    ensures { result ≡ mask_l (map (λ byte. not (is_visible byte)) (take 16 (drop place bytes.now))) }
+    ensures { result ≡ mask_l (map (λ byte. not (is_visible byte))
+        (take 16 (drop place bytes.now))) }
 {
     let from_first = u8x16::from_slice(&bytes[place..]) - u8x16::splat(33);
     from_first.simd_ge(u8x16::splat(95)).to_bitmask()

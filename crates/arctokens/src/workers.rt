@@ -77,7 +77,8 @@ enum Share<'a, G: Gate> {
 impl<'a, G: Gate> Share<'a, G> {
     /// Returns the piece, after joining the thread that finds it.
     fn into_piece<R: Threads>(self, rt: &R) -> Piece
-        ensures { (texts : List TextView) (workers worker : ℕ) (gate : _) → IsShare G.passed texts workers worker gate self.entry
+        ensures { (texts : List TextView) (workers worker : ℕ) (gate : _)
+            → IsShare G.passed texts workers worker gate self.entry
             → IsPieceOf texts workers worker result × G.passed gate worker }
     {
         match self {
@@ -106,8 +107,10 @@ pub(crate) fn pieces_of_all<R: Threads + Wait + Sync, G: Gate + Sync>(
         rt,
         |scope| -> Result<Vec<Vec<Vec<Substr>>>, AllocError>
             requires { (1 ≤ workers) × (workers ≤ 64) }
-            ensures pieces { IfOk result (λ pieces. ArePieces texts.entry.now workers pieces.items) }
-            ensures all_passed { OnOk result ((worker : ℕ) → worker < workers → G.passed gate.entry.now worker) }
+            ensures pieces { IfOk result
+                (λ pieces. ArePieces texts.entry.now workers pieces.items) }
+            ensures all_passed { OnOk result
+                ((worker : ℕ) → worker < workers → G.passed gate.entry.now worker) }
         {
             let mut threads: Vec<Option<PieceThread<G>>> = Vec::with_capacity(alloc, workers)?;
             let shares: Vec<Share<G>> = Vec::with_capacity(alloc, workers)?;
@@ -142,7 +145,8 @@ fn shares_of_all<'a, R: Wait, G: Gate>(
     requires workers { workers ≤ 64 }
     requires one_each { vec_len threads ≡ workers }
     requires promised { (worker : ℕ) (d : _) → worker < workers
-        → IfSome (slice_index_or threads.items worker d) (λ thread. IsPromiseOf texts.now workers worker gate.now thread.promise) }
+        → IfSome (slice_index_or threads.items worker d)
+        (λ thread. IsPromiseOf texts.now workers worker gate.now thread.promise) }
     requires empty { vec_len shares ≡ 0 }
     requires room { workers ≤ vec_capacity shares }
     ensures { AreSharesOfFirst G.passed texts.now workers workers gate.now result.items }
@@ -166,7 +170,8 @@ fn share_of<'a, R: Wait, G: Gate>(
 ) -> Share<'a, G>
     requires worker { worker < workers }
     requires workers { workers ≤ 64 }
-    requires promised { IfSome thread (λ thread. IsPromiseOf texts.now workers worker gate.now thread.promise) }
+    requires promised { IfSome thread
+        (λ thread. IsPromiseOf texts.now workers worker gate.now thread.promise) }
     ensures { IsShare G.passed texts.now workers worker gate.now result }
 {
     match thread {
@@ -207,7 +212,8 @@ fn tokens_of_one<R: Wait>(
     number: usize,
 ) -> Result<Vec<Substr>, AllocError>
     requires { number < length texts.now }
-    ensures { IfOk result (λ tokens. (d : TextView) → AreTokens (slice_index_or texts.now number d) tokens.items) }
+    ensures { IfOk result (λ tokens. (d : TextView)
+        → AreTokens (slice_index_or texts.now number d) tokens.items) }
 {
     tokens(rt, alloc, &texts[number])
 }

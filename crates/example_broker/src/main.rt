@@ -44,8 +44,7 @@ fn read_input<R: AllocGlobal + Eprint + Wait>(rt: &R, input: Stdin) -> Result<Su
     if input.is_terminal() {
         eprintln!(rt; "reading standard input: readers, topics and messages")?;
     }
-    let text = io::read_to_string(rt.alloc(), input).context("standard input cannot be read")?;
-    let text = ArcStr::from_str(rt.alloc(), &text)?;
+    let text = ArcStr::read_from(rt.alloc(), input).context("standard input cannot be read")?;
     let after_mark = text.substr_strip_prefix(rt, '\u{feff}');
     Ok(after_mark.unwrap_or(Substr::full(text)))
 }

@@ -13,7 +13,6 @@ use crate::fault::{Reason, Refusal};
 use anyhow::{Context, Result, bail};
 use arcstr::ArcStr;
 use std::alloc::Global;
-use std::io;
 use std::io::{IsTerminal, Stdin};
 use std::sync::Wait;
 
@@ -34,9 +33,11 @@ fn read_input<R: AllocGlobal + Eprint>(rt: &R, input: Stdin) -> Result<ArcStr> {
     if input.is_terminal() {
         eprintln!(rt; "reading standard input: lines such as `price = 250` and `price * 3`")?;
     }
-    let text = io::read_to_string(rt.alloc(), input).context("standard input cannot be read")?;
-    let after_mark = text.strip_prefix('\u{feff}');
-    Ok(ArcStr::from_str(rt.alloc(), after_mark.unwrap_or(text.as_str()))?)
+    let text = ArcStr::read_from(rt.alloc(), input).context("standard input cannot be read")?;
+    match text.strip_prefix('\u{feff}') {
+        Some(after_mark) => Ok(ArcStr::from_str(rt.alloc(), after_mark)?),
+        None => Ok(text),
+    }
 }
 
 /// Prints the value of each line that has one, and returns the refused lines, which are slices of

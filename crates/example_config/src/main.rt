@@ -44,9 +44,11 @@ fn read_input<R: AllocGlobal + Eprint>(rt: &R, input: Stdin) -> Result<ArcStr> {
     if input.is_terminal() {
         eprintln!(rt; "reading standard input: a configuration")?;
     }
-    let text = io::read_to_string(rt.alloc(), input).context("standard input cannot be read")?;
-    let after_mark = text.strip_prefix('\u{feff}');
-    Ok(ArcStr::from_str(rt.alloc(), after_mark.unwrap_or(text.as_str()))?)
+    let text = ArcStr::read_from(rt.alloc(), input).context("standard input cannot be read")?;
+    match text.strip_prefix('\u{feff}') {
+        Some(after_mark) => Ok(ArcStr::from_str(rt.alloc(), after_mark)?),
+        None => Ok(text),
+    }
 }
 
 /// Prints the faults, and then the entries.

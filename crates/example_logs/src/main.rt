@@ -16,7 +16,7 @@ use std::process::ExitCode;
 use std::random::RandomSource;
 use std::rt::Files;
 use std::sync::Wait;
-use std::{env, fs, io};
+use std::{env, io};
 
 /// The number of characters of the longest bar.
 const WIDTH: u64 = 40;
@@ -51,8 +51,7 @@ fn most_frequent<R: AllocGlobal + Files + Print + Eprint + RandomSource + Wait>(
 }
 
 fn read_log<R: AllocGlobal + Files>(rt: &R, file: &str) -> Result<ArcStr> {
-    let text = fs::read_to_string(rt, file).context(file)?;
-    Ok(ArcStr::from_str(rt.alloc(), &text)?)
+    ArcStr::read_file(rt, file).context(file)
 }
 
 fn print_faults(rt: &impl Print, faults: &[Fault]) -> io::Result<()> {

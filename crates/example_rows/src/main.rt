@@ -11,10 +11,10 @@ use crate::library::Library;
 use anyhow::{Context, Result};
 use arcstr::{ArcStr, Substr};
 use std::alloc::Global;
+use std::env;
 use std::fmt::Display;
 use std::io::{IsTerminal, Stdin};
 use std::sync::Wait;
-use std::{env, io};
 
 fn main(rt: HostRuntime) -> Result<()> {
     let alloc = rt.alloc();
@@ -42,8 +42,7 @@ fn read_input<R: AllocGlobal + Eprint + Wait>(rt: &R, input: Stdin) -> Result<Su
     if input.is_terminal() {
         eprintln!(rt; "reading standard input: a book a line, as `author; title; year`")?;
     }
-    let text = io::read_to_string(rt.alloc(), input).context("standard input cannot be read")?;
-    let text = ArcStr::from_str(rt.alloc(), &text)?;
+    let text = ArcStr::read_from(rt.alloc(), input).context("standard input cannot be read")?;
     let after_mark = text.substr_strip_prefix(rt, '\u{feff}');
     Ok(after_mark.unwrap_or(Substr::full(text)))
 }

@@ -1,12 +1,11 @@
 //! The settings, and why they cannot be read or used.
 ghost use Rattle.std.specs.Prelude.{◌≤◌, IfOk};
 
-use arcstr::{ArcStr, literal};
+use arcstr::{ArcStr, ReadFault, literal};
 use serde::Deserialize;
 use std::alloc::AllocError;
 use std::rt::Files;
 use std::sync::Wait;
-use std::{fs, io};
 use thiserror::Error;
 
 /// The most workers that can run.
@@ -33,7 +32,7 @@ pub enum SettingsError {
     #[error("{0} workers, where 1 to {most} can run", most = MOST_WORKERS)]
     Workers(usize),
     #[error(transparent)]
-    Io(#[from] io::Error),
+    Read(#[from] ReadFault),
     #[error(transparent)]
     Memory(#[from(alloc)] AllocError),
 }
@@ -53,7 +52,7 @@ impl Settings {
         ensures some { IfOk result (λ settings. 1 ≤ settings.workers) }
         ensures few { IfOk result (λ settings. settings.workers ≤ MOST_WORKERS) }
     {
-        let text = fs::read_to_string(rt, file)?;
+        let text = ArcStr::read_file(rt, file)?;
         let settings: Settings = toml::from_str(rt.alloc(), &text).map_err(SettingsError::toml)?;
         if settings.workers == 0 || settings.workers > MOST_WORKERS {
             return Err(SettingsError::Workers(settings.workers));

@@ -9,10 +9,11 @@ use arcstr::count::Reply;
 use arcstr_world::{RunFault, World};
 use std::alloc::{AllocError, Allocator};
 
-/// Returns the answer to a script: `bad limit` if its first line sets no limit, else a line for each of the other lines, with the reply to its step or `bad`.
+/// Returns the answer to a script: `bad limit` if its first line sets no limit, else a line for
+/// each of the other lines, with the reply to its step or `bad`.
 ///
-/// The call fails with `LimitTooLarge` exactly if the limit is above `RC_MAX`, and with `Memory` only if an
-/// allocation fails. The time is linear in the length of the script.
+/// The call fails with `LimitTooLarge` exactly if the limit is above `RC_MAX`, and with `Memory`
+/// only if an allocation fails. The time is linear in the length of the script.
 ///
 /// ```
 /// let answer = script::answer(rt.alloc(), b"limit 5\nmake\nlook 0\n")?;
@@ -33,7 +34,7 @@ pub fn answer<A: Allocator + Copy>(alloc: A, script: &[u8]) -> Result<Vec<u8, A>
     }
 }
 
-/// The answer to a script whose first line sets no limit.
+/// Makes the answer to a script whose first line sets no limit.
 fn bad_limit<A: Allocator>(alloc: A) -> Result<Vec<u8, A>, RunFault>
     ensures ok { IfOk result (λ out. out.items ≡ bad_limit) }
     ensures memory { IfErr result (λ fault. fault ≡ RunFault.Memory) }
@@ -44,13 +45,14 @@ fn bad_limit<A: Allocator>(alloc: A) -> Result<Vec<u8, A>, RunFault>
     }
 }
 
-/// The answers to lines under a limit.
+/// Makes the answers to lines under a limit.
 fn answer_under<A: Allocator + Copy>(
     alloc: A,
     limit: u64,
     later: &[u8],
 ) -> Result<Vec<u8, A>, RunFault>
-    ensures ok { IfOk result (λ out. answer_under (Some limit) (script_lines later.now) ≡ Ok out.items) }
+    ensures ok { IfOk result (λ out. answer_under (Some limit) (script_lines later.now)
+        ≡ Ok out.items) }
     ensures too_large { (result ≡ Err RunFault.LimitTooLarge)
         ↔ (answer_under (Some limit) (script_lines later.now) ≡ Err RunFault.LimitTooLarge) }
 {

@@ -8,7 +8,7 @@ ghost use Rattle.arcbench_core.specs.Line.{line_text, limit_text, HasHandle, scr
 use crate::numbers::number_of;
 use arcstr::count::Step;
 
-/// The first line of bytes, and what comes after it.
+/// Returns the first line of bytes, and what comes after it.
 #[tactic(auto, using(crate::proofs::LineTexts::first_lines))]
 pub(crate) fn first_line(bytes: &[u8]) -> (&[u8], &[u8])
     requires { 0 < length bytes.now }
@@ -18,7 +18,7 @@ pub(crate) fn first_line(bytes: &[u8]) -> (&[u8], &[u8])
     parts_around(bytes, b'\n')
 }
 
-/// The limit that a first line `limit NUMBER` sets. Any other line sets none.
+/// Returns the limit that a first line `limit NUMBER` sets. Any other line sets none.
 #[tactic(auto, using(crate::proofs::LineTexts::limit_written))]
 pub(crate) fn limit_in(line: &[u8]) -> Option<u64>
     ensures value { result ≡ limit_in line.now }
@@ -33,8 +33,8 @@ pub(crate) fn limit_in(line: &[u8]) -> Option<u64>
     }
 }
 
-/// The step of a line: `make`, or a command, one space, and the number of a handle. Any other line
-/// has none.
+/// Returns the step of a line: `make`, or a command, one space, and the number of a handle. Any
+/// other line has none.
 pub(crate) fn step_of(line: &[u8]) -> Option<Step>
     ensures value { result ≡ step_of line.now }
     ensures written { IfSome result (λ step. line.now ≡ line_text step) }
@@ -47,7 +47,7 @@ pub(crate) fn step_of(line: &[u8]) -> Option<Step>
     step_named(command, number_of(number)?)
 }
 
-/// The step that a command stands for, on this handle.
+/// Returns the step that a command stands for, on this handle.
 fn step_named(command: &[u8], handle: u64) -> Option<Step>
     ensures { result ≡ step_named command.now handle }
 {
@@ -64,7 +64,8 @@ fn step_named(command: &[u8], handle: u64) -> Option<Step>
     }
 }
 
-/// The bytes before the first `byte` and those after it; if there is none, all bytes and no bytes.
+/// Returns the bytes before the first `byte` and those after it; if there is none, all bytes and no
+/// bytes.
 fn parts_around(bytes: &[u8], byte: u8) -> (&[u8], &[u8])
     ensures prefix { result.0.now ≡ before_first (λ b. b == byte) bytes.now }
     ensures rest { result.1.now ≡ after_first (λ b. b == byte) bytes.now }
@@ -75,7 +76,7 @@ fn parts_around(bytes: &[u8], byte: u8) -> (&[u8], &[u8])
     }
 }
 
-/// The index of the first `byte`.
+/// Returns the index of the first `byte`.
 fn index_of(bytes: &[u8], byte: u8) -> Option<usize>
     ensures { result ≡ position (λ b. b == byte) bytes.now }
 {

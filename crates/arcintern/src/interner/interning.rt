@@ -15,10 +15,11 @@ use std::hash::BuildHasher;
 use std::sync::Wait;
 
 impl<S: BuildHasher> Interner<S> {
-    /// Returns the symbol of the text that spells this word. If there is none, a copy of the word becomes the last text: that allocates
-    /// the copy, which an empty word does not need, and more room if the table is full. A word that is there is never refused. Another
-    /// one is refused, in this order: by an interner of `MOST_TEXTS` texts (`Full`), if it has `2^63 - 25` bytes or more (`Length`), and
-    /// out of memory (`Memory`). A refused call leaves the texts as they were.
+    /// Returns the symbol of the text that spells this word. If there is none, a copy of the word
+    /// becomes the last text: that allocates the copy, which an empty word does not need, and more
+    /// room if the table is full. A word that is there is never refused. Another one is refused, in
+    /// this order: by an interner of `MOST_TEXTS` texts (`Full`), if it has `2^63 - 25` bytes or
+    /// more (`Length`), and out of memory (`Memory`). A refused call leaves the texts as they were.
     ///
     /// ```
     /// let mut interner = Interner::new(rt.alloc());
@@ -30,25 +31,28 @@ impl<S: BuildHasher> Interner<S> {
         // Promise: A known word is found, and nothing changes. A new one is added at the end.
         // A refused call changes nothing.
         ensures interns { Interns self.old self.new word.now (AddsCopy word.now) result }
-        // Promise: `Length` comes exactly for a new word that is too long, in an interner that is not full.
-        ensures too_long { IsErrOf result InternFault.Length ↔ ((¬ HasWord self.old word.now) × (length self.old < MOST_TEXTS) × IsTooLong (length word.now)) }
+        // Promise: `Length` comes exactly for a new word that is too long, in an interner that is
+        // not full.
+        ensures too_long { IsErrOf result InternFault.Length ↔ ((¬ HasWord self.old word.now)
+            × (length self.old < MOST_TEXTS) × IsTooLong (length word.now)) }
     {
         let half = half_of_word(&self.hash_builder, word);
-        let place = match self.table.find(half, word) {
+        let empty = match self.table.find(half, word) {
             Ok(symbol) => return Ok(symbol),
-            Err(place) => place,
+            Err(empty) => empty,
         };
         if self.table.is_full() {
             return Err(InternFault::Full);
         }
         let text = copy_of(self.table.alloc(), word)?;
-        self.table.push(half, place, text)
+        self.table.push(half, empty, text)
     }
 
-    /// Returns the symbol of the text that spells the same as this one. If there is none, a clone of this text becomes the last: that
-    /// takes the steps of `ArcStr::clone`, which can wait, and it allocates if the table is full. A text that is there is never refused.
-    /// Another one is refused, in this order: by an interner of `MOST_TEXTS` texts (`Full`), and out of memory (`Memory`). A refused call
-    /// leaves the texts as they were.
+    /// Returns the symbol of the text that spells the same as this one. If there is none, a clone
+    /// of this text becomes the last: that takes the steps of `ArcStr::clone`, which can wait, and
+    /// it allocates if the table is full. A text that is there is never refused. Another one is
+    /// refused, in this order: by an interner of `MOST_TEXTS` texts (`Full`), and out of memory
+    /// (`Memory`). A refused call leaves the texts as they were.
     ///
     /// ```
     /// let mut interner = Interner::new(rt.alloc());
@@ -58,25 +62,26 @@ impl<S: BuildHasher> Interner<S> {
     /// assert_eq!(rt; ArcStr::strong_count(&text), Some(2));
     /// ```
     pub fn intern_arc(&mut self, rt: &impl Wait, text: &ArcStr) -> Result<Symbol, InternFault>
-        // Promise: A known word is found, and nothing changes. For a new one a text in the same block is added at the end.
-        // A refused call changes nothing.
+        // Promise: A known word is found, and nothing changes. For a new one a text in the same
+        // block is added at the end. A refused call changes nothing.
         ensures interns { Interns self.old self.new text.now.text (AddsText text.now) result }
         // Promise: `Length` never comes.
         ensures never_too_long { ¬ (IsErrOf result InternFault.Length) }
     {
         let half = half_of_word(&self.hash_builder, text.as_str());
-        let place = match self.table.find(half, text.as_str()) {
+        let empty = match self.table.find(half, text.as_str()) {
             Ok(symbol) => return Ok(symbol),
-            Err(place) => place,
+            Err(empty) => empty,
         };
         if self.table.is_full() {
             return Err(InternFault::Full);
         }
-        self.table.push(half, place, text.clone(rt))
+        self.table.push(half, empty, text.clone(rt))
     }
 
-    /// Returns the symbol of the text that spells this word. If there is none, the last text becomes a literal of the word, whose bytes
-    /// lie in the program: nothing is copied, and the text takes no allocation of its own. Refused as `intern_arc` is.
+    /// Returns the symbol of the text that spells this word. If there is none, the last text
+    /// becomes a literal of the word, whose bytes lie in the program: nothing is copied, and the
+    /// text takes no allocation of its own. Refused as `intern_arc` is.
     ///
     /// ```
     /// let mut interner = Interner::new(rt.alloc());
@@ -87,24 +92,26 @@ impl<S: BuildHasher> Interner<S> {
     pub fn intern_static(&mut self, word: &'static str) -> Result<Symbol, InternFault>
         // Promise: A known word is found, and nothing changes. A new one is added at the end.
         // A refused call changes nothing.
-        ensures interns { Interns self.old self.new word.now (AddsText (literal_of word.now)) result }
+        ensures interns { Interns self.old self.new word.now
+            (AddsText (literal_of word.now)) result }
         // Promise: `Length` never comes.
         ensures never_too_long { ¬ (IsErrOf result InternFault.Length) }
     {
         let half = half_of_word(&self.hash_builder, word);
-        let place = match self.table.find(half, word) {
+        let empty = match self.table.find(half, word) {
             Ok(symbol) => return Ok(symbol),
-            Err(place) => place,
+            Err(empty) => empty,
         };
         if self.table.is_full() {
             return Err(InternFault::Full);
         }
-        self.table.push(half, place, ArcStr::from_static(word))
+        self.table.push(half, empty, ArcStr::from_static(word))
     }
 
-    /// Returns the symbol of the text that spells the same as this slice. If there is none, the last text becomes a clone of the slice's
-    /// parent where the slice is all of it, as by `intern_arc`, and else a copy of the slice, as by `intern`. So a slice keeps no longer
-    /// text alive. Refused as these two are.
+    /// Returns the symbol of the text that spells the same as this slice. If there is none, the
+    /// last text becomes a clone of the slice's parent where the slice is all of it, as by
+    /// `intern_arc`, and else a copy of the slice, as by `intern`. So a slice keeps no longer text
+    /// alive. Refused as these two are.
     ///
     /// ```
     /// let mut interner = Interner::new(rt.alloc());
@@ -119,9 +126,11 @@ impl<S: BuildHasher> Interner<S> {
             → Interns self.old self.new (text_of slice.now) (AddsText slice.now.parent) result }
         ensures part { (¬ IsWhole slice.now)
             → Interns self.old self.new (text_of slice.now) (AddsCopy (text_of slice.now)) result }
-        // Promise: `Length` comes exactly for the copy of a new part that is too long, in an interner that is not full.
+        // Promise: `Length` comes exactly for the copy of a new part that is too long, in an
+        // interner that is not full.
         ensures too_long_part { (¬ IsWhole slice.now) → (IsErrOf result InternFault.Length
-            ↔ ((¬ HasWord self.old (text_of slice.now)) × (length self.old < MOST_TEXTS) × IsTooLong (length (text_of slice.now)))) }
+            ↔ ((¬ HasWord self.old (text_of slice.now)) × (length self.old < MOST_TEXTS)
+            × IsTooLong (length (text_of slice.now)))) }
         ensures never_too_long_whole { IsWhole slice.now → ¬ (IsErrOf result InternFault.Length) }
     {
         if is_whole(slice) {

@@ -1,5 +1,6 @@
 //! The texts of an interner, and the table of their numbers, without the hasher.
-ghost use Rattle.std.specs.Prelude.{◌≡◌, ℕ, List, ◌<◌, ◌≤◌, ◌↔◌, ◌++◌, [], ◌∷◌, length, vec_capacity, vec_len};
+ghost use Rattle.std.specs.Prelude.{◌≡◌, ℕ, List, ◌<◌, ◌≤◌, ◌↔◌, ◌++◌, [], ◌∷◌, length};
+ghost use Rattle.std.specs.Prelude.{vec_capacity, vec_len};
 ghost use Rattle.std.specs.Prelude.{IfErr, IfNone, IfOk, IfSome, IsOk, IsTrue, OnErr, OnOk};
 ghost use Rattle.arcintern.specs.Slots.{AreTextsPlaced, Reaches};
 ghost use Rattle.arcintern.specs.Texts.{HasEachOnce, HasWord, IsWordAt, KeepsTexts};
@@ -26,9 +27,14 @@ impl Model for TextTable {
 
     ghost Value = { TextTableView };
 
-    ghost view = { λ table. record { texts = table.texts.items; slots = table.numbers.slots.items; mask = table.numbers.mask } };
+    ghost view = { λ table. record {
+      texts = table.texts.items;
+      slots = table.numbers.slots.items;
+      mask = table.numbers.mask;
+    } };
 
-    ghost invariant = { λ table. HasEachOnce table.texts.items × (length table.texts.items ≤ MOST_TEXTS) };
+    ghost invariant = { λ table. HasEachOnce table.texts.items
+        × (length table.texts.items ≤ MOST_TEXTS) };
 }
 
 impl TextTable {
@@ -36,7 +42,8 @@ impl TextTable {
     #[tactic(auto, unfolding(crate::specs::Slots::AreTextsPlaced))]
     pub(crate) fn new(alloc: Global) -> TextTable
         ensures texts { result.texts ≡ [] }
-        ensures placed { (half_of : List ℕ → ℕ) → AreTextsPlaced result.slots result.mask half_of result.texts }
+        ensures placed { (half_of : List ℕ → ℕ)
+            → AreTextsPlaced result.slots result.mask half_of result.texts }
     {
         TextTable {
             texts: Vec::new(alloc),
@@ -48,7 +55,8 @@ impl TextTable {
     #[tactic(auto, unfolding(crate::specs::Slots::AreTextsPlaced))]
     pub(crate) fn with_capacity(alloc: Global, texts: usize) -> Result<TextTable, AllocError>
         ensures texts { IfOk result (λ table. table.texts ≡ []) }
-        ensures placed { IfOk result (λ table. (half_of : List ℕ → ℕ) → AreTextsPlaced table.slots table.mask half_of table.texts) }
+        ensures placed { IfOk result (λ table. (half_of : List ℕ → ℕ)
+            → AreTextsPlaced table.slots table.mask half_of table.texts) }
         ensures none { texts ≡ 0 → IsOk result }
     {
         let numbers = Slots::with_capacity(alloc, texts)?;
@@ -77,15 +85,16 @@ impl TextTable {
         *self.texts.allocator()
     }
 
-    /// Returns the symbol of the text that spells this word, by half of the word's hash, and else the
-    /// place at which the search ended.
+    /// Returns the symbol of the text that spells this word, by half of the word's hash, and else
+    /// the empty slot at which the search ended.
     #[tactic(auto, unfolding(crate::specs::Slots::AreTextsPlaced))]
     pub(crate) fn find(&self, half: u32, word: &str) -> Result<Symbol, usize>
         ensures found { IfOk result (λ symbol. IsWordAt self.now.texts symbol word.now) }
         ensures there { IsOk result → HasWord self.now.texts word.now }
         ensures absent { OnErr result ((half_of : List ℕ → ℕ) → half_of word.now ≡ half
-            → AreTextsPlaced self.now.slots self.now.mask half_of self.now.texts → ¬ HasWord self.now.texts word.now) }
-        ensures place { IfErr result (Reaches self.now.slots self.now.mask half) }
+            → AreTextsPlaced self.now.slots self.now.mask half_of self.now.texts
+            → ¬ HasWord self.now.texts word.now) }
+        ensures empty { IfErr result (Reaches self.now.slots self.now.mask half) }
         ensures once { HasEachOnce self.now.texts }
     {
         match self
@@ -93,13 +102,14 @@ impl TextTable {
             .find(half, |number| self.symbol_if_word(number, word))
         {
             Ok(symbol) => Ok(symbol),
-            Err(place) => Err(place),
+            Err(empty) => Err(empty),
         }
     }
 
     /// Returns the symbol of this number, if its text spells the word.
     fn symbol_if_word(&self, number: u32, word: &str) -> Option<Symbol>
-        ensures is { IfSome result (λ symbol. (symbol ≡ number) × IsWordAt self.now.texts number word.now) }
+        ensures is { IfSome result (λ symbol. (symbol ≡ number)
+            × IsWordAt self.now.texts number word.now) }
         ensures not { IfNone result (¬ IsWordAt self.now.texts number word.now) }
     {
         match self.texts.get(number as usize) {
@@ -108,37 +118,38 @@ impl TextTable {
         }
     }
 
-    /// Adds a text whose word is new, with the next number, under half of its hash, a search for which
-    /// comes to `place`. All room is reserved before anything is written.
+    /// Adds a text whose word is new, with the next number, under half of its hash, a search for
+    /// which comes to the slot `empty`. All room is reserved before anything is written.
     pub(crate) fn push(
         &mut self,
         half: u32,
-        place: usize,
+        empty: usize,
         text: ArcStr,
     ) -> Result<Symbol, InternFault>
         requires absent { ¬ HasWord self.old.texts text.text }
-        requires place { Reaches self.old.slots self.old.mask half place }
+        requires empty { Reaches self.old.slots self.old.mask half empty }
         requires room { length self.old.texts < MOST_TEXTS }
         ensures word { IfOk result (λ symbol. IsWordAt self.new.texts symbol text.text) }
         ensures kept { KeepsTexts self.old.texts self.new.texts }
         ensures added { OnOk result (self.new.texts ≡ self.old.texts ++ text ∷ []) }
         ensures once { HasEachOnce self.new.texts }
         ensures placed { (half_of : List ℕ → ℕ) → half_of text.text ≡ half
-            → AreTextsPlaced self.old.slots self.old.mask half_of self.old.texts → AreTextsPlaced self.new.slots self.new.mask half_of self.new.texts }
+            → AreTextsPlaced self.old.slots self.old.mask half_of self.old.texts
+            → AreTextsPlaced self.new.slots self.new.mask half_of self.new.texts }
         ensures refused { OnErr result (self.new.texts ≡ self.old.texts) }
         ensures fault { IfErr result (λ fault. fault ≡ InternFault.Memory) }
     {
         let number = self.texts.len();
-        let place = self.numbers.make_room(half, place)?;
+        let empty = self.numbers.make_room(half, empty)?;
         make_room_for_text(&mut self.texts)?;
         self.texts.push_reserved(text);
-        self.numbers.put(half, number as u32, place);
+        self.numbers.put(half, number as u32, empty);
         Ok(Symbol::at(number))
     }
 }
 
-/// Makes room for one more text. The list grows by a quarter: handles take 24 bytes each, and a list with room for twice its texts would
-/// take as much memory as their blocks.
+/// Makes room for one more text. The list grows by a quarter: handles take 24 bytes each, and a
+/// list with room for twice its texts would take as much memory as their blocks.
 fn make_room_for_text(texts: &mut Vec<ArcStr>) -> Result<(), AllocError>
     ensures same { texts.new.items ≡ texts.old.items }
     ensures room { OnOk result (vec_len texts.new < vec_capacity texts.new) }

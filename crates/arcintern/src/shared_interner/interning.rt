@@ -15,12 +15,14 @@ use std::hash::BuildHasher;
 use std::sync::Wait;
 
 impl<S: BuildHasher> SharedInterner<S> {
-    /// Returns the symbol of the text that spells this word. If there is none, a copy of the word becomes a text, with the next number:
-    /// that allocates the copy, which an empty word does not need, and room where a table or the list is full. A new word is refused,
-    /// in this order: where `MOST_TEXTS` numbers are taken (`Full`), if it has `2^63 - 25` bytes or more (`Length`), and out of memory
-    /// (`Memory`).
+    /// Returns the symbol of the text that spells this word. If there is none, a copy of the word
+    /// becomes a text, with the next number: that allocates the copy, which an empty word does not
+    /// need, and room where a table or the list is full. A new word is refused, in this order:
+    /// where `MOST_TEXTS` numbers are taken (`Full`), if it has `2^63 - 25` bytes or more
+    /// (`Length`), and out of memory (`Memory`).
     ///
-    /// `tools/refusals` tests that a known word is never refused where memory is out, and that no call finds a refused word.
+    /// `tools/refusals` tests that a known word is never refused where memory is out, and that no
+    /// call finds a refused word.
     ///
     /// ```
     /// let interner = SharedInterner::new(rt.alloc(), 8)?;
@@ -36,9 +38,9 @@ impl<S: BuildHasher> SharedInterner<S> {
         self.find_or_add(rt, self.hash_of(word), word, None)
     }
 
-    /// Returns the symbol of the text that spells the same as this one. If there is none, a clone of this text becomes a text: that
-    /// takes the steps of `ArcStr::clone`, and allocates where a table or the list is full. Refused as `intern` is, but never for its
-    /// length.
+    /// Returns the symbol of the text that spells the same as this one. If there is none, a clone
+    /// of this text becomes a text: that takes the steps of `ArcStr::clone`, and allocates where a
+    /// table or the list is full. Refused as `intern` is, but never for its length.
     ///
     /// ```
     /// let interner = SharedInterner::new(rt.alloc(), 8)?;
@@ -75,9 +77,10 @@ impl<S: BuildHasher> SharedInterner<S> {
         self.intern_arc(rt, &ArcStr::from_static(word))
     }
 
-    /// Returns the symbol of the text that spells the same as this slice. If there is none, a clone of the slice's parent becomes a text
-    /// where the slice is all of it, as by `intern_arc`, and else a copy of the slice, as by `intern`. So a slice keeps no longer text
-    /// alive. Refused as these two are.
+    /// Returns the symbol of the text that spells the same as this slice. If there is none, a clone
+    /// of the slice's parent becomes a text where the slice is all of it, as by `intern_arc`, and
+    /// else a copy of the slice, as by `intern`. So a slice keeps no longer text alive. Refused as
+    /// these two are.
     ///
     /// ```
     /// let interner = SharedInterner::new(rt.alloc(), 8)?;
@@ -89,7 +92,8 @@ impl<S: BuildHasher> SharedInterner<S> {
     pub fn intern_substr(&self, rt: &impl Wait, slice: &Substr) -> Result<SharedSymbol, InternFault>
         ensures word { IfOk result (λ symbol. IsSymbolOfWord self.now symbol (text_of slice.now)) }
         // Promise: `Length` comes only for a copy that is too long.
-        ensures too_long { IsErrOf result InternFault.Length → IsTooLong (length (text_of slice.now)) }
+        ensures too_long { IsErrOf result InternFault.Length
+            → IsTooLong (length (text_of slice.now)) }
         ensures never_too_long_whole { IsWhole slice.now → ¬ (IsErrOf result InternFault.Length) }
     {
         if is_whole(slice) {
@@ -99,8 +103,8 @@ impl<S: BuildHasher> SharedInterner<S> {
         }
     }
 
-    /// Returns the symbol of the text that spells this word, or `None` if there was none when the call began. Takes no lock, never waits,
-    /// and does not allocate.
+    /// Returns the symbol of the text that spells this word, or `None` if there was none when the
+    /// call began. Takes no lock, never waits, and does not allocate.
     ///
     /// ```
     /// let interner = SharedInterner::new(rt.alloc(), 8)?;
@@ -149,7 +153,8 @@ impl<S: BuildHasher> SharedInterner<S> {
     ) -> Result<SharedSymbol, InternFault>
         requires { IfSome whole (λ text. text.now.text ≡ word.now) }
         ensures word { IfOk result (λ symbol. IsSymbolOfWord self.now symbol word.now) }
-        ensures too_long { IsErrOf result InternFault.Length → IsNone whole.entry × IsTooLong (length word.now) }
+        ensures too_long { IsErrOf result InternFault.Length
+            → IsNone whole.entry × IsTooLong (length word.now) }
     {
         if let Some(symbol) = self.find(hash, word) {
             return Ok(symbol);
@@ -166,8 +171,8 @@ impl<S: BuildHasher> SharedInterner<S> {
         }
     }
 
-    /// Adds a text, with the next number, to the table of its shard. A text beyond the last number stays in the list, where no call
-    /// finds it.
+    /// Adds a text, with the next number, to the table of its shard. A text beyond the last number
+    /// stays in the list, where no call finds it.
     fn add(
         &self,
         rt: &impl Wait,
@@ -224,7 +229,8 @@ fn text_to_keep(
 ) -> Result<ArcStr, InternFault>
     requires { IfSome whole (λ text. text.now.text ≡ word.now) }
     ensures text { IfOk result (λ text. text.text ≡ word.now) }
-    ensures too_long { IsErrOf result InternFault.Length → IsNone whole.entry × IsTooLong (length word.now) }
+    ensures too_long { IsErrOf result InternFault.Length
+        → IsNone whole.entry × IsTooLong (length word.now) }
 {
     match whole {
         Some(text) => Ok(text.clone(rt)),

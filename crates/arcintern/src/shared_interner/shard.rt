@@ -10,8 +10,9 @@ use std::sync::{Mutex, OnceLock};
 /// all numbers.
 const TABLES: usize = 30;
 
-/// The words whose hashes pick this shard. Threads read its table while another adds a word, so a table stays where it is: one that is
-/// too short is kept beside the longer one that takes its place.
+/// The words whose hashes pick this shard. Threads read its table while another adds a word, so a
+/// table stays where it is: one that is too short is kept beside the longer one that takes its
+/// place.
 #[derive(Drop)]
 pub(crate) struct Shard {
     first: SharedSlots,

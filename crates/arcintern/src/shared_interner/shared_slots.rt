@@ -8,7 +8,8 @@ use std::sync::atomic::{AtomicU64, Ordering};
 /// As `Slots`, for threads: a slot is written once, by whoever holds the shard's lock, and read
 /// without a lock. A search that passes the last slot goes on at the first.
 ///
-/// No contract says that a search finds a slot. The test `known_words_are_found_while_tables_grow` checks that.
+/// No contract says that a search finds a slot. The test `known_words_are_found_while_tables_grow`
+/// checks that.
 #[derive(Drop)]
 pub(crate) struct SharedSlots {
     slots: Vec<AtomicU64>,
@@ -46,7 +47,8 @@ impl SharedSlots {
     #[inline(always)]
     pub(crate) fn find<T, F: Fn(u32) -> Option<T>>(&self, half: u32, look: F) -> Option<T>
         requires { F.IsAlwaysCallable look }
-        ensures found { IfSome result (λ found. (number : ℕ) × (number < NUMBERS) × F.post look number (Some found)) }
+        ensures found { IfSome result (λ found. (number : ℕ) × (number < NUMBERS)
+            × F.post look number (Some found)) }
     {
         let mut index = half as usize & self.mask;
         for _ in 0..self.slots.len() {

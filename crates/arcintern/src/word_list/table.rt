@@ -1,6 +1,8 @@
 //! The texts of a word list, and the table of their numbers, without the hasher.
-ghost use Rattle.std.specs.Prelude.{◌≡◌, ◌≢◌, ℕ, List, Contains, ◌<◌, ◌≤◌, ◌↔◌, ◌++◌, [], ◌∷◌, length, slice_get, slice_index};
-ghost use Rattle.std.specs.Prelude.{IfErr, IfNone, IfOk, IfSome, IsOk, IsSome, IsTrue, OnErr, OnOk, Some};
+ghost use Rattle.std.specs.Prelude.{◌≡◌, ◌≢◌, ℕ, List, ◌<◌, ◌≤◌, ◌↔◌, ◌++◌, [], ◌∷◌, length};
+ghost use Rattle.std.specs.Prelude.{Contains, slice_get, slice_index};
+ghost use Rattle.std.specs.Prelude.{IfErr, IfNone, IfOk, IfSome, IsOk, IsSome, IsTrue};
+ghost use Rattle.std.specs.Prelude.{OnErr, OnOk, Some};
 ghost use Rattle.arcintern.specs.Slots.{ArePlaced, Reaches};
 ghost use Rattle.arcintern.specs.Texts.{KeepsTexts};
 ghost use Rattle.arcintern.specs.Words.{AreDistinct, IsFullFor};
@@ -29,9 +31,14 @@ impl Model for WordTable {
 
     ghost Value = { WordTableView };
 
-    ghost view = { λ table. record { texts = pieces (string_bytes table.bytes) 0 table.ends.items; slots = table.numbers.slots.items; mask = table.numbers.mask } };
+    ghost view = { λ table. record {
+      texts = pieces (string_bytes table.bytes) 0 table.ends.items;
+      slots = table.numbers.slots.items;
+      mask = table.numbers.mask;
+    } };
 
-    ghost invariant = { λ table. AreEnds (string_bytes table.bytes) 0 table.ends.items × (length table.ends.items ≤ MOST_TEXTS)
+    ghost invariant = { λ table. AreEnds (string_bytes table.bytes) 0 table.ends.items
+        × (length table.ends.items ≤ MOST_TEXTS)
         × AreDistinct (pieces (string_bytes table.bytes) 0 table.ends.items) };
 }
 
@@ -48,7 +55,8 @@ impl WordTable {
         }
     }
 
-    /// Makes a table without texts, with room for this many texts, which have this many bytes together.
+    /// Makes a table without texts, with room for this many texts, which have this many bytes
+    /// together.
     pub(crate) fn with_capacity(
         alloc: Global,
         texts: usize,
@@ -91,14 +99,15 @@ impl WordTable {
         }
     }
 
-    /// Returns the symbol of the text that spells this word, by half of the word's hash, and else the
-    /// place at which the search ended.
+    /// Returns the symbol of the text that spells this word, by half of the word's hash, and else
+    /// the empty slot at which the search ended.
     pub(crate) fn find(&self, half: u32, word: &str) -> Result<Symbol, usize>
         ensures found { IfOk result (λ symbol. slice_get self.now.texts symbol ≡ Some word.now) }
         ensures there { IsOk result → Contains self.now.texts word.now }
-        ensures absent { OnErr result ((half_of : List ℕ → ℕ) → half_of word.now ≡ half → ArePlaced self.now.slots self.now.mask half_of [] self.now.texts
+        ensures absent { OnErr result ((half_of : List ℕ → ℕ) → half_of word.now ≡ half
+            → ArePlaced self.now.slots self.now.mask half_of [] self.now.texts
             → ¬ Contains self.now.texts word.now) }
-        ensures place { IfErr result (Reaches self.now.slots self.now.mask half) }
+        ensures empty { IfErr result (Reaches self.now.slots self.now.mask half) }
         ensures once { AreDistinct self.now.texts }
     {
         match self
@@ -106,13 +115,14 @@ impl WordTable {
             .find(half, |number| self.symbol_if_word(number, word))
         {
             Ok(symbol) => Ok(symbol),
-            Err(place) => Err(place),
+            Err(empty) => Err(empty),
         }
     }
 
     /// Returns the symbol of this number, if its text spells the word.
     fn symbol_if_word(&self, number: u32, word: &str) -> Option<Symbol>
-        ensures is { IfSome result (λ symbol. (symbol ≡ number) × (slice_get self.now.texts number ≡ Some word.now)) }
+        ensures is { IfSome result (λ symbol. (symbol ≡ number)
+            × (slice_get self.now.texts number ≡ Some word.now)) }
         ensures not { IfNone result (slice_get self.now.texts number ≢ Some word.now) }
     {
         let Some(text) = self.text(number as usize) else {
@@ -146,33 +156,34 @@ impl WordTable {
         self.ends.len() >= MOST_TEXTS || self.bytes.len().saturating_add(word.len()) > MOST_BYTES
     }
 
-    /// Adds a text whose word is new, with the next number, under half of its hash, a search for which
-    /// comes to `place`. All room is reserved before anything is written.
+    /// Adds a text whose word is new, with the next number, under half of its hash, a search for
+    /// which comes to the slot `empty`. All room is reserved before anything is written.
     pub(crate) fn push(
         &mut self,
         half: u32,
-        place: usize,
+        empty: usize,
         word: &str,
     ) -> Result<Symbol, InternFault>
-        requires place { Reaches self.old.slots self.old.mask half place }
+        requires empty { Reaches self.old.slots self.old.mask half empty }
         requires room { ¬ IsFullFor self.old.texts word.now }
         requires absent { ¬ Contains self.old.texts word.now }
         ensures word { IfOk result (λ symbol. slice_get self.new.texts symbol ≡ Some word.now) }
         ensures added { OnOk result (self.new.texts ≡ self.old.texts ++ word.now ∷ []) }
         ensures kept { KeepsTexts self.old.texts self.new.texts }
         ensures once { AreDistinct self.new.texts }
-        ensures placed { (half_of : List ℕ → ℕ) → half_of word.now ≡ half → ArePlaced self.old.slots self.old.mask half_of [] self.old.texts
+        ensures placed { (half_of : List ℕ → ℕ) → half_of word.now ≡ half
+            → ArePlaced self.old.slots self.old.mask half_of [] self.old.texts
             → ArePlaced self.new.slots self.new.mask half_of [] self.new.texts }
         ensures refused { OnErr result (self.new.texts ≡ self.old.texts) }
         ensures fault { IfErr result (λ fault. fault ≡ InternFault.Memory) }
     {
         let number = self.ends.len();
         let end = self.bytes.len() + word.len();
-        let place = self.numbers.make_room(half, place)?;
+        let empty = self.numbers.make_room(half, empty)?;
         self.ends.reserve(1)?;
         self.bytes.push_str(word)?;
         self.ends.push_reserved(end as u32);
-        self.numbers.put(half, number as u32, place);
+        self.numbers.put(half, number as u32, empty);
         Ok(Symbol::at(number))
     }
 }

@@ -5,10 +5,12 @@ use std::error::Error;
 use std::io::ErrorKind;
 use std::{fmt, io};
 
-/// Why a range is refused. The variants are in the order of the tests, and the first test that fails is reported. Its message is a short text, and it owns no
-/// memory. By `?` it becomes an `io::Error` or an `anyhow::Error`.
+/// Why a range is refused. The variants are in the order of the tests, and the first test that
+/// fails is reported. Its message is a short text, and it owns no memory. By `?` it becomes an
+/// `io::Error` or an `anyhow::Error`.
 ///
-/// Its size is 1 byte. It can be copied, sent to a thread and shared between threads, and its drop does nothing.
+/// Its size is 1 byte. It can be copied, sent to a thread and shared between threads, and its drop
+/// does nothing.
 ///
 /// ```
 /// let ends = range::checked_ends("aé", StrRange::To(2));
@@ -29,7 +31,8 @@ pub enum RangeFault {
 impl RangeFault {
     ghost use Rattle.arcstr_range.specs.Ends.{range_fault_number, range_fault_text};
 
-    /// Returns the number of the fault, in the order of the tests from 1 on. No fault has the number 3.
+    /// Returns the number of the fault, in the order of the tests from 1 on. No fault has the
+    /// number 3.
     ///
     /// ```
     /// assert_eq!(rt; RangeFault::OutOfOrder.number(), 1);

@@ -6,7 +6,8 @@ ghost use Rattle.arcstr_range.specs.Ends.{AnswersEnds, ends_in, cut_by, IsLawful
 
 use crate::range::{RangeFault, StrRange};
 
-/// Tests whether the text can be cut at this byte offset: exactly if the offset is the length in bytes of a prefix of the text's characters.
+/// Tests whether the text can be cut at this byte offset: exactly if the offset is the length in
+/// bytes of a prefix of the text's characters.
 ///
 /// ```
 /// assert!(rt; range::is_boundary("aé", 1));
@@ -22,8 +23,8 @@ pub fn is_boundary(text: &str, place: usize) -> bool
 
 /// Returns the start and the end of the range in the text, as byte offsets.
 ///
-/// Errors, in this order: `OutOfOrder` if the start is after the end; `PastEnd` if the end is past the text; `OffBoundary` if the start or the end is not a
-/// character boundary.
+/// Errors, in this order: `OutOfOrder` if the start is after the end; `PastEnd` if the end is past
+/// the text; `OffBoundary` if the start or the end is not a character boundary.
 ///
 /// ```
 /// assert_eq!(rt; range::checked_ends("aé", StrRange::From(1)), Ok((1, 3)));
@@ -31,8 +32,10 @@ pub fn is_boundary(text: &str, place: usize) -> bool
 /// assert_eq!(rt; cut, Err(RangeFault::OffBoundary));
 /// ```
 pub fn checked_ends(text: &str, range: StrRange) -> Result<(usize, usize), RangeFault>
-    // Promise: They are in order, inside the text and at character boundaries. Otherwise the call returns the first fault.
-    ensures { AnswersEnds (ends_in text.now range) (IsLawfulRange text.now range) (IsFirstRangeFault text.now range) result }
+    // Promise: They are in order, inside the text and at character boundaries. Otherwise the call
+    // returns the first fault.
+    ensures { AnswersEnds (ends_in text.now range) (IsLawfulRange text.now range)
+        (IsFirstRangeFault text.now range) result }
 {
     let (start, end) = range.ends(text.len())?;
     if !text.is_char_boundary(start) || !text.is_char_boundary(end) {
@@ -41,8 +44,9 @@ pub fn checked_ends(text: &str, range: StrRange) -> Result<(usize, usize), Range
     Ok((start, end))
 }
 
-/// Returns the slice of the text between the ends of the range, as `str::get` does. Returns `None` exactly if the ends are out of order, past the text or
-/// inside a character. The slice is borrowed from the text.
+/// Returns the slice of the text between the ends of the range, as `str::get` does. Returns `None`
+/// exactly if the ends are out of order, past the text or inside a character. The slice is borrowed
+/// from the text.
 ///
 /// ```
 /// assert_eq!(rt; range::slice("aé", StrRange::From(1)), Some("é"));

@@ -10,8 +10,8 @@ ghost use Rattle.arcstr_range.specs.View.{part_of, view_at};
 use crate::view::StrView;
 use std::marker::Model;
 
-/// An iterator over the lines of a view, from `StrView::lines`. In a contract it is the list of the lines that remain, and each `next` removes the first of
-/// them.
+/// An iterator over the lines of a view, from `StrView::lines`. In a contract it is the list of the
+/// lines that remain, and each `next` removes the first of them.
 ///
 /// ```
 /// let mut lines = StrView::at("é\r\nb", 4).ok_or("no view")?.lines();
@@ -36,9 +36,11 @@ impl<'a> Model for Lines<'a> {
 }
 
 impl<'a> StrView<'a> {
-    /// Returns an iterator over the lines of the view, in order, as `str::lines` does. A line ends at `\n` or `\r\n`, which is not part of it, or at the end
-    /// of the text; a `\r` elsewhere stays. An empty text has no line, and neither has the end of a text after its last `\n`. Each line has its own place,
-    /// and is found wherever the view is found. A pass over all lines takes time in proportion to the text.
+    /// Returns an iterator over the lines of the view, in order, as `str::lines` does. A line ends
+    /// at `\n` or `\r\n`, which is not part of it, or at the end of the text; a `\r` elsewhere
+    /// stays. An empty text has no line, and neither has the end of a text after its last `\n`.
+    /// Each line has its own place, and is found wherever the view is found. A pass over all lines
+    /// takes time in proportion to the text.
     ///
     /// ```
     /// let line = StrView::whole("a\n\nb").lines().last();
@@ -100,10 +102,12 @@ fn split_first_line<'a>(view: &StrView<'a>) -> (StrView<'a>, StrView<'a>)
 #[tactic(auto, using(crate::proofs::Lines::first_newlines, crate::proofs::Pieces::lawful_places))]
 fn first_newline(view: &StrView<'_>) -> Option<usize>
     ensures none { IfNone result (0 < length view.now.text → lines_of view.now ≡ view.now ∷ []) }
-    ensures some { IfSome result (λ place. lines_of view.now ≡ view_at (strip_carriage_return (cut view.now.text 0 place)) view.now.place
+    ensures some { IfSome result (λ place. lines_of view.now
+        ≡ view_at (strip_carriage_return (cut view.now.text 0 place)) view.now.place
         ∷ lines_of (part_of view.now (place + 1) (length view.now.text))) }
     ensures before { IfSome result (λ place. IsLawful view.now.text 0 place) }
-    ensures behind { IfSome result (λ place. IsLawful view.now.text (place + 1) (length view.now.text)) }
+    ensures behind { IfSome result
+        (λ place. IsLawful view.now.text (place + 1) (length view.now.text)) }
 {
     view.text().find('\n')
 }

@@ -1,5 +1,6 @@
-//! The first and the last match of a pattern in a view, and parts of a view on either side of a byte offset or of a match. A pattern is a `char`, a `&str` or
-//! another of std's patterns. The caller must ensure that the pattern can search, as it must ensure that a closure can be called.
+//! The first and the last match of a pattern in a view, and parts of a view on either side of a
+//! byte offset or of a match. A pattern is a `char`, a `&str` or another of std's patterns. The
+//! caller must ensure that the pattern can search, as it must ensure that a closure can be called.
 ghost use Rattle.std.specs.Prelude.{◌≡◌, ◌↔◌, ◌-◌, ◌≤◌, length, take, drop, IsSome, IfSome, MatchOption, None};
 ghost use Rattle.std.specs.Str.{IsCharBoundary};
 ghost use Rattle.std.specs.Str.Pattern.{MatchBeginsAt, SplitsAroundMatch, StripsPrefix, StripsSuffix};
@@ -10,8 +11,10 @@ use crate::view::StrView;
 use std::str::pattern::Pattern;
 
 impl<'a> StrView<'a> {
-    /// Returns the byte offset, within the view's text, of the first match of the pattern, as `str::find` does. `cut` accepts this offset as a start or an
-    /// end. A pattern is a `char`, a `&str` or another of std's patterns. Returns `None` exactly if there is no match. Takes time in proportion to the text.
+    /// Returns the byte offset, within the view's text, of the first match of the pattern, as
+    /// `str::find` does. `cut` accepts this offset as a start or an end. A pattern is a `char`, a
+    /// `&str` or another of std's patterns. Returns `None` exactly if there is no match. Takes time
+    /// in proportion to the text.
     ///
     /// ```
     /// let line = StrView::at("key = é", 10).ok_or("no view")?;
@@ -23,14 +26,16 @@ impl<'a> StrView<'a> {
     where
         P: Drop,
         requires { P.can_search pattern }
-        ensures cases { MatchOption result (P.find_in_gives pattern self.now.text None) (MatchBeginsAt (P.find_in_gives pattern) self.now.text) }
+        ensures cases { MatchOption result (P.find_in_gives pattern self.now.text None)
+            (MatchBeginsAt (P.find_in_gives pattern) self.now.text) }
         // Promise: The offset is a character boundary.
         ensures boundary { IfSome result (IsCharBoundary self.now.text) }
     {
         self.text.find(pattern)
     }
 
-    /// Returns the byte offset, within the view's text, of the last match of the pattern, as `str::rfind` does. Otherwise as `find`.
+    /// Returns the byte offset, within the view's text, of the last match of the pattern, as
+    /// `str::rfind` does. Otherwise as `find`.
     ///
     /// ```
     /// let line = StrView::at("a=b=é", 10).ok_or("no view")?;
@@ -42,15 +47,16 @@ impl<'a> StrView<'a> {
     where
         P: Drop,
         requires { P.can_search pattern }
-        ensures cases { MatchOption result (P.rfind_in_gives pattern self.now.text None) (MatchBeginsAt (P.rfind_in_gives pattern) self.now.text) }
+        ensures cases { MatchOption result (P.rfind_in_gives pattern self.now.text None)
+            (MatchBeginsAt (P.rfind_in_gives pattern) self.now.text) }
         // Promise: The offset is a character boundary.
         ensures boundary { IfSome result (IsCharBoundary self.now.text) }
     {
         self.text.rfind(pattern)
     }
 
-    /// Splits the view at a byte offset of its own text, as `str::split_at_checked` does. Returns `None` exactly if the offset is past the text or inside a
-    /// character.
+    /// Splits the view at a byte offset of its own text, as `str::split_at_checked` does. Returns
+    /// `None` exactly if the offset is past the text or inside a character.
     ///
     /// ```
     /// let (name, rest) = StrView::whole("ab=c").split_at(2).ok_or("no place")?;
@@ -62,16 +68,19 @@ impl<'a> StrView<'a> {
         // Promise: There are parts exactly if the offset is a character boundary of the text.
         ensures some { IsSome result ↔ IsCharBoundary self.now.text place }
         ensures before { IfSome result (λ parts. parts.0 ≡ part_of self.now 0 place) }
-        ensures after { IfSome result (λ parts. parts.1 ≡ part_of self.now place (length self.now.text)) }
+        ensures after { IfSome result
+            (λ parts. parts.1 ≡ part_of self.now place (length self.now.text)) }
         // Promise: Each part is found wherever the view is found.
-        ensures found { IfSome result (λ parts. IsFoundWith self.now parts.0 × IsFoundWith self.now parts.1) }
+        ensures found { IfSome result
+            (λ parts. IsFoundWith self.now parts.0 × IsFoundWith self.now parts.1) }
     {
         let (before, after) = self.text.split_at_checked(place)?;
         Some((self.at_start(before), self.at_end(after)))
     }
 
-    /// Splits the view around the first match of the separator, as `str::split_once` does. The first part starts where the view starts, and the second ends
-    /// where the view ends. Returns `None` exactly if there is no match.
+    /// Splits the view around the first match of the separator, as `str::split_once` does. The
+    /// first part starts where the view starts, and the second ends where the view ends. Returns
+    /// `None` exactly if there is no match.
     ///
     /// ```
     /// let (name, value) = StrView::whole("a=b=c").split_once('=').ok_or("no `=`")?;
@@ -85,18 +94,21 @@ impl<'a> StrView<'a> {
         requires { P.can_search separator }
         ensures texts { MatchOption result (P.find_in_gives separator self.now.text None)
             (λ parts. SplitsAroundMatch (P.find_in_gives separator) self.now.text parts.0.text parts.1.text) }
-        // Promise: The first part starts where the view starts, and the second ends where the view ends.
+        // Promise: The first part starts where the view starts, and the second ends where the view
+        // ends.
         ensures start { IfSome result (λ parts. parts.0.place ≡ self.now.place) }
         ensures end { IfSome result (λ parts. end_of parts.1 ≡ end_of self.now) }
         // Promise: Each part is found wherever the view is found.
-        ensures found { IfSome result (λ parts. IsFoundWith self.now parts.0 × IsFoundWith self.now parts.1) }
+        ensures found { IfSome result
+            (λ parts. IsFoundWith self.now parts.0 × IsFoundWith self.now parts.1) }
     {
         let (before, after) = self.text.split_once(separator)?;
         Some((self.at_start(before), self.at_end(after)))
     }
 
-    /// Splits the view around the last match of the separator, as `str::rsplit_once` does. The first part starts where the view starts, and the second ends
-    /// where the view ends. Returns `None` exactly if there is no match.
+    /// Splits the view around the last match of the separator, as `str::rsplit_once` does. The
+    /// first part starts where the view starts, and the second ends where the view ends. Returns
+    /// `None` exactly if there is no match.
     ///
     /// ```
     /// let path = StrView::whole("a::b::c");
@@ -110,18 +122,20 @@ impl<'a> StrView<'a> {
         requires { P.can_search separator }
         ensures texts { MatchOption result (P.rfind_in_gives separator self.now.text None)
             (λ parts. SplitsAroundMatch (P.rfind_in_gives separator) self.now.text parts.0.text parts.1.text) }
-        // Promise: The first part starts where the view starts, and the second ends where the view ends.
+        // Promise: The first part starts where the view starts, and the second ends where the view
+        // ends.
         ensures start { IfSome result (λ parts. parts.0.place ≡ self.now.place) }
         ensures end { IfSome result (λ parts. end_of parts.1 ≡ end_of self.now) }
         // Promise: Each part is found wherever the view is found.
-        ensures found { IfSome result (λ parts. IsFoundWith self.now parts.0 × IsFoundWith self.now parts.1) }
+        ensures found { IfSome result
+            (λ parts. IsFoundWith self.now parts.0 × IsFoundWith self.now parts.1) }
     {
         let (before, after) = self.text.rsplit_once(separator)?;
         Some((self.at_start(before), self.at_end(after)))
     }
 
-    /// Returns the view with the prefix removed, as `str::strip_prefix` does. It ends where the view ends. Returns `None` exactly if the text does not start
-    /// with a match.
+    /// Returns the view with the prefix removed, as `str::strip_prefix` does. It ends where the
+    /// view ends. Returns `None` exactly if the text does not start with a match.
     ///
     /// ```
     /// let option = StrView::whole("--all");
@@ -144,8 +158,8 @@ impl<'a> StrView<'a> {
         Some(self.at_end(rest))
     }
 
-    /// Returns the view with the suffix removed, as `str::strip_suffix` does. It starts where the view starts. Returns `None` exactly if the text does not
-    /// end with a match.
+    /// Returns the view with the suffix removed, as `str::strip_suffix` does. It starts where the
+    /// view starts. Returns `None` exactly if the text does not end with a match.
     ///
     /// ```
     /// let text = StrView::whole("ab\r\n");
@@ -187,7 +201,8 @@ impl<'a> StrView<'a> {
     #[tactic(auto, using(crate::proofs::Affixes::found_suffix))]
     fn at_end(&self, suffix: &'a str) -> StrView<'a>
         requires within { length suffix.now ≤ length self.now.text }
-        requires suffix { suffix.now ≡ drop (length self.now.text - length suffix.now) self.now.text }
+        requires suffix { suffix.now
+            ≡ drop (length self.now.text - length suffix.now) self.now.text }
         ensures text { result.text ≡ suffix.now }
         ensures end { end_of result ≡ end_of self.now }
         ensures found { IsFoundWith self.now result }

@@ -10,8 +10,9 @@ ghost use Rattle.arcstr_range.specs.View.{part_of};
 use crate::view::StrView;
 use std::marker::Model;
 
-/// An iterator over the parts of a view between the occurrences of a character, from `StrView::split`. In a contract it is the list of the parts that remain,
-/// and each `next` removes the first of them.
+/// An iterator over the parts of a view between the occurrences of a character, from
+/// `StrView::split`. In a contract it is the list of the parts that remain, and each `next` removes
+/// the first of them.
 ///
 /// ```
 /// let mut parts = StrView::at("é=1", 4).ok_or("no view")?.split('=');
@@ -38,9 +39,11 @@ impl<'a> Model for Split<'a> {
 }
 
 impl<'a> StrView<'a> {
-    /// Returns an iterator over the parts of the view between the occurrences of the separator, in order, as `str::split` does. There is one part more than
-    /// there are separators. The parts before a first, after a last and between two adjacent separators are empty, and an empty text is one empty part. Each
-    /// part has its own place, and is found wherever the view is found. A pass over all parts takes time in proportion to the text.
+    /// Returns an iterator over the parts of the view between the occurrences of the separator, in
+    /// order, as `str::split` does. There is one part more than there are separators. The parts
+    /// before a first, after a last and between two adjacent separators are empty, and an empty
+    /// text is one empty part. Each part has its own place, and is found wherever the view is
+    /// found. A pass over all parts takes time in proportion to the text.
     ///
     /// ```
     /// let part = StrView::whole("a,,").split(',').last();
@@ -50,7 +53,8 @@ impl<'a> StrView<'a> {
     #[tactic(auto, using(crate::proofs::Pieces::parts_at_facts))]
     pub fn split(&self, separator: char) -> Split<'a>
         ensures value { result ≡ parts_at separator self.now }
-        ensures texts { map (λ part. part.text) result ≡ texts_between (λ c. c == separator) self.now.text }
+        ensures texts { map (λ part. part.text) result
+            ≡ texts_between (λ c. c == separator) self.now.text }
         // Promise: Each part is found wherever the view is found.
         ensures found { AreFoundWith self.now result }
         // Promise: Their numbers fit a `usize`.
@@ -77,9 +81,11 @@ impl<'a> Iterator for Split<'a> {
     }
 }
 
-/// Returns the part before the first separator, and the view after the separator, if the view has one.
+/// Returns the part before the first separator, and the view after the separator, if the view has
+/// one.
 fn first_part<'a>(view: StrView<'a>, separator: char) -> (StrView<'a>, Option<StrView<'a>>)
-    ensures { parts_at separator view.entry ≡ result.0 ∷ option_map_or (parts_at separator) result.1 [] }
+    ensures { parts_at separator view.entry
+        ≡ result.0 ∷ option_map_or (parts_at separator) result.1 [] }
 {
     let Some(place) = first_place(&view, separator) else {
         return (view, None);
@@ -96,7 +102,8 @@ fn first_place(view: &StrView<'_>, separator: char) -> Option<usize>
     ensures some { IfSome result (λ place. parts_at separator view.now ≡ part_of view.now 0 place
         ∷ parts_at separator (part_of view.now (place + len_utf8 separator) (length view.now.text))) }
     ensures before { IfSome result (λ place. IsLawful view.now.text 0 place) }
-    ensures behind { IfSome result (λ place. IsLawful view.now.text (place + len_utf8 separator) (length view.now.text)) }
+    ensures behind { IfSome result
+        (λ place. IsLawful view.now.text (place + len_utf8 separator) (length view.now.text)) }
 {
     view.text().find(separator)
 }

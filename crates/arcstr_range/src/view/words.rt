@@ -9,8 +9,8 @@ use crate::view::StrView;
 use std::marker::Model;
 use std::ops::Range;
 
-/// An iterator over the words of a view, from `StrView::split_whitespace`. In a contract it is the list of the words that remain, and each `next` removes the
-/// first of them.
+/// An iterator over the words of a view, from `StrView::split_whitespace`. In a contract it is the
+/// list of the words that remain, and each `next` removes the first of them.
 ///
 /// ```
 /// let view = StrView::at("é\u{3000}b", 4).ok_or("no view")?;
@@ -35,9 +35,10 @@ impl<'a> Model for SplitWhitespace<'a> {
 }
 
 impl<'a> StrView<'a> {
-    /// Returns an iterator over the words of the view, in order, as `str::split_whitespace` does: its parts between white space that are not empty. White
-    /// space is that of `char::is_whitespace`, not only of ASCII. Each word has its own place, and is found wherever the view is found. A pass over all words
-    /// takes time in proportion to the text.
+    /// Returns an iterator over the words of the view, in order, as `str::split_whitespace` does:
+    /// its parts between white space that are not empty. White space is that of
+    /// `char::is_whitespace`, not only of ASCII. Each word has its own place, and is found wherever
+    /// the view is found. A pass over all words takes time in proportion to the text.
     ///
     /// ```
     /// let word = StrView::whole(" a  b ").split_whitespace().last();
@@ -47,7 +48,8 @@ impl<'a> StrView<'a> {
     #[tactic(auto, using(crate::proofs::WordPlaces::facts_of_words))]
     pub fn split_whitespace(&self) -> SplitWhitespace<'a>
         ensures value { result ≡ words_of self.now }
-        ensures texts { map (λ word. word.text) result ≡ filter is_not_empty (texts_between is_whitespace self.now.text) }
+        ensures texts { map (λ word. word.text) result
+            ≡ filter is_not_empty (texts_between is_whitespace self.now.text) }
         // Promise: Each part is found wherever the view is found.
         ensures found { AreFoundWith self.now result }
         // Promise: Their numbers fit a `usize`.

@@ -1,4 +1,5 @@
-//! Texts collected from iterators, `String`s collected from texts, and the counts of the handles that were collected.
+//! Texts collected from iterators, `String`s collected from texts, and the counts of the handles
+//! that were collected.
 use crate::tests::steps::{check_copied, check_count, check_empty, check_text, made, owned, part};
 use arcstr::{ArcStr, Substr, literal};
 use std::alloc::AllocError;

@@ -1,4 +1,5 @@
-//! Texts, slices and faults by the traits `From`, `AsStr`, `AsSlice`, `AsBytes`, `AsPath`, `AsDeref` and `DerefStr`, and copies of slices.
+//! Texts, slices and faults by the traits `From`, `AsStr`, `AsSlice`, `AsBytes`, `AsPath`,
+//! `AsDeref` and `DerefStr`, and copies of slices.
 use crate::tests::checks::{check, check_eq};
 use crate::tests::steps::{
     check_bytes, check_count, check_empty, check_part, check_slice, check_text, made, part,

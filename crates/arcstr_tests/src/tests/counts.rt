@@ -1,5 +1,6 @@
-//! The count of a text after each call of `ArcStr` or `Substr`, and again after the result of the call is dropped. A call that takes one valid step too many,
-//! or forgets a handle, still meets its contract and returns the right value. Only the count detects it.
+//! The count of a text after each call of `ArcStr` or `Substr`, and again after the result of the
+//! call is dropped. A call that takes one valid step too many, or forgets a handle, still meets its
+//! contract and returns the right value. Only the count detects it.
 use crate::tests::checks::check;
 use crate::tests::steps::{check_count, made, part};
 use arcstr::{ArcStr, Substr, format_arcstr};
@@ -15,7 +16,8 @@ fn gave<T: Drop, E: Drop>(answer: Result<T, E>) -> bool {
     answer.is_ok()
 }
 
-/// Asserts that the call returned a slice, that the slice keeps the text by one handle, and that dropping the slice drops that handle.
+/// Asserts that the call returned a slice, that the slice keeps the text by one handle, and that
+/// dropping the slice drops that handle.
 fn check_held_once(rt: &impl Abort, text: &ArcStr, slice: Option<Substr>) {
     let slice = slice.expect(rt, "no slice");
     check_count(rt, text, Some(2));
@@ -42,7 +44,8 @@ fn a_found_slice_holds_its_text_once(rt: HostRuntime) {
     check_held_once(&rt, text, Some(text.substr_from(&rt, whole)));
 }
 
-/// Asserts that the call gave the expected result, and that the text has only its own handle afterwards.
+/// Asserts that the call gave the expected result, and that the text has only its own handle
+/// afterwards.
 fn check_dropped(rt: &impl Abort, text: &ArcStr, answers: bool) {
     check!(rt; answers);
     check_count(rt, text, Some(1));

@@ -4,6 +4,7 @@ use crate::tests::steps::{
     check_bytes, check_count, check_empty, check_nothing, check_part, check_slice, check_text,
     made, part,
 };
+use arcstr::block::Shared;
 use arcstr::{ArcStr, ArcStrBuilder, RawArcStr, StaticStr, Substr, literal};
 use std::mem::size_of;
 use std::process::Abort;
@@ -26,6 +27,14 @@ fn a_made_text_has_its_length_and_is_counted_once(rt: HostRuntime) {
 }
 
 #[test]
+fn a_text_of_a_made_block_is_counted_once(rt: HostRuntime) {
+    let shared = Shared::from_text(rt.alloc(), "foo").expect(&rt, "refused");
+    let text = &ArcStr::from_shared(shared);
+    check_text(&rt, text.as_str(), "foo");
+    check_count(&rt, text, Some(1));
+}
+
+#[test]
 fn the_empty_text_is_a_literal(rt: HostRuntime) {
     check_empty(&rt, &made(&rt, ""));
     check_empty(&rt, &ArcStr::new());
@@ -43,7 +52,8 @@ fn a_clone_shares_the_count(rt: HostRuntime) {
     check_count(&rt, text, Some(1));
 }
 
-/// A number of handles at which a text is still counted. The limit, `RC_MAX`, is too large for a test.
+/// A number of handles at which a text is still counted. The limit, `RC_MAX`, is too large for a
+/// test.
 const HANDLES: usize = 200_000;
 
 #[test]
@@ -66,7 +76,8 @@ fn a_raw_handle_comes_back(rt: HostRuntime) {
     check_count(&rt, back, Some(1));
 }
 
-/// Asserts that the text is static, that it reads as `foobar`, and that its handles are not counted.
+/// Asserts that the text is static, that it reads as `foobar`, and that its handles are not
+/// counted.
 fn check_leaked(rt: &impl Abort, text: &ArcStr) {
     check!(rt; ArcStr::is_static(text));
     check_count(rt, text, None);

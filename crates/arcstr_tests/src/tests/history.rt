@@ -1,4 +1,5 @@
-//! Answers after what was seen, and how handles end. Each call counts as the one without a history does.
+//! Answers after what was seen, and how handles end. Each call counts as the one without a history
+//! does.
 use crate::tests::checks::{check, check_eq};
 use crate::tests::steps::{check_count, check_text, made, part};
 use arcstr::block::{End, Seen};
@@ -32,10 +33,22 @@ fn answers_after_what_was_seen_are_those_of_the_block(rt: HostRuntime) {
 }
 
 #[test]
+fn a_clone_after_what_was_seen_counts_once(rt: HostRuntime) {
+    let text = made(&rt, "foo");
+    let (_, seen) = ArcStr::strong_count_after(&text, &None);
+    let (other, seen) = text.clone_after(&rt, &seen);
+    check_eq!(rt; ArcStr::strong_count_after(&text, &seen).0, Some(2));
+    check_text(&rt, other.as_str(), "foo");
+    drop(other);
+    check_count(&rt, &text, Some(1));
+}
+
+#[test]
 fn nothing_is_seen_of_a_static_text(rt: HostRuntime) {
     let text = ArcStr::from_static("foo");
     check_answers(&rt, &text, None);
     check!(rt; text.leak_after(&None).1.is_none());
+    check!(rt; text.clone_after(&rt, &None).1.is_none());
     check!(rt; text.end_after(&None).1.is_none());
 }
 

@@ -17,7 +17,8 @@ fn string(rt: &(impl Abort + AllocGlobal), text: &str) -> Value {
     Value::try_from_str(rt.alloc(), text).expect(rt, "no memory")
 }
 
-/// Asserts that the value is the string of this text, and that it reads as an `ArcStr` and as a `Substr`.
+/// Asserts that the value is the string of this text, and that it reads as an `ArcStr` and as a
+/// `Substr`.
 fn check_read(rt: &(impl Abort + AllocGlobal), value: &Value, wanted: &str) {
     check_text(rt, value.as_str().expect(rt, "no string"), wanted);
     let text = ArcStr::from_json(rt.alloc(), value).expect(rt, "no text");

@@ -1,4 +1,5 @@
-//! Maps and sets of std and of `indexmap` with texts or slices as keys, looked up by a `&str` or by the other type, and the counts of their keys.
+//! Maps and sets of std and of `indexmap` with texts or slices as keys, looked up by a `&str` or by
+//! the other type, and the counts of their keys.
 use crate::tests::checks::{check, check_eq};
 use crate::tests::steps::{check_count, made, part};
 use arcstr::{ArcStr, Substr, literal};

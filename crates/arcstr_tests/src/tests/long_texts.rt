@@ -1,5 +1,5 @@
-//! A text of 20,000,000 bytes through the calls that take one. The contracts say what a call returns
-//! where it succeeds, so the tests look at lengths and places, and not at each byte.
+//! A text of 20,000,000 bytes through the calls that take one. The contracts say what a call
+//! returns where it succeeds, so the tests look at lengths and places, and not at each byte.
 use crate::tests::checks::{check, check_eq};
 use crate::tests::steps::{check_count, made, owned, part};
 use arcstr::{ArcStr, Substr, format_arcstr};

@@ -60,7 +60,8 @@ fn check_order<T: Ord>(rt: &impl Abort, one: &T, other: &T, wanted: Ordering) {
     check!(rt; other.cmp(one) == wanted.reverse());
 }
 
-/// Asserts the order of texts of this many letters that differ only in the letter at `place`, and of texts whose lengths differ by one letter.
+/// Asserts the order of texts of this many letters that differ only in the letter at `place`, and
+/// of texts whose lengths differ by one letter.
 fn differ_at(rt: &(impl Abort + AllocGlobal), length: usize, place: usize) {
     let text = &letters(rt, length, place, 'a');
     check_order(rt, text, &letters(rt, length, place, 'a'), Ordering::Equal);
@@ -80,7 +81,8 @@ fn texts_of_any_length_differ_at_any_place(rt: HostRuntime) {
     }
 }
 
-/// Asserts the order of slices of texts of this many letters that differ only in the letter at `place`.
+/// Asserts the order of slices of texts of this many letters that differ only in the letter at
+/// `place`.
 fn slices_differ_at<R: Abort + AllocGlobal + Wait>(rt: &R, length: usize, place: usize) {
     let slice = &behind_one(rt, length, place, 'a');
     let same = behind_one(rt, length, place, 'a');

@@ -6,7 +6,8 @@ use std::alloc::{AllocError, AllocGlobal};
 use std::process::Abort;
 use std::sync::Wait;
 
-/// The texts of slices, and the byte offsets at which they start in the own text of what they are taken from.
+/// The texts of slices, and the byte offsets at which they start in the own text of what they are
+/// taken from.
 type Wanted = &'static [(&'static str, usize)];
 
 /// Texts, their parts between commas, their lines and their words.
@@ -33,7 +34,8 @@ const LISTS: [(&str, Wanted, Wanted, Wanted); 5] = [
     ),
 ];
 
-/// Asserts the slices of a text that starts at `start` of its parent. Each is a handle of the parent, which has one other.
+/// Asserts the slices of a text that starts at `start` of its parent. Each is a handle of the
+/// parent, which has one other.
 fn check_list(
     rt: &impl Abort,
     parent: &ArcStr,

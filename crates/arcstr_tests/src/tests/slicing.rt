@@ -278,8 +278,8 @@ fn a_stripped_view_of_a_text_is_found(ref rt: HostRuntime) {
     check_slice(rt, &text.substr_from(rt, inner), "b=c", 2..5);
 }
 
-/// Returns the slices of the last line and of the last word, each found in a loop without a test. As in user code, the proof that the text has them is
-/// automatic.
+/// Returns the slices of the last line and of the last word, each found in a loop without a test.
+/// As in user code, the proof that the text has them is automatic.
 fn last_slices(rt: &impl Wait, text: &ArcStr) -> [Option<Substr>; 2] {
     let (mut last_line, mut last_word) = (None, None);
     for line in text.view().lines() {

@@ -1,4 +1,5 @@
-//! Splits of texts and of slices. The tables have the examples in Rust's documentation of `str`, and the cases that it leaves out.
+//! Splits of texts and of slices. The tables have the examples in Rust's documentation of `str`,
+//! and the cases that it leaves out.
 use crate::tests::checks::check_eq;
 use crate::tests::steps::{check_count, made, middle};
 use arcstr::{ArcStr, RangeFault, Substr};
@@ -38,7 +39,8 @@ const SPLIT_ONCE: [(&str, &str, Pair, Pair); 11] = [
     ("é老é老", "老", Some(("é", "é老", 5)), Some(("é老é", "", 10))),
 ];
 
-/// Asserts the parts of a text that starts at `start` of its parent. They keep the parent, which has one other handle.
+/// Asserts the parts of a text that starts at `start` of its parent. They keep the parent, which
+/// has one other handle.
 fn check_pair(
     rt: &impl Abort,
     parent: &ArcStr,
@@ -156,7 +158,8 @@ const STRIP: [(&str, &str, Option<&str>, Option<&str>); 8] = [
     ("ab", "abc", None, None),
 ];
 
-/// Asserts the text of a rest that starts at `start` of its parent. It keeps the parent, which has one other handle.
+/// Asserts the text of a rest that starts at `start` of its parent. It keeps the parent, which has
+/// one other handle.
 fn check_rest(
     rt: &impl Abort,
     parent: &ArcStr,

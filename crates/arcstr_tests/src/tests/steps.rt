@@ -1,4 +1,5 @@
-//! Steps that tests repeat: make a text, take a slice, compare a result. A test that only calls these steps has no branches, so its proof is fast.
+//! Steps that tests repeat: make a text, take a slice, compare a result. A test that only calls
+//! these steps has no branches, so its proof is fast.
 use crate::tests::checks::{check, check_eq};
 use arcstr::{ArcStr, Substr, TextFault};
 use arcstr_range::range::{RangeFault, StrRange};
@@ -22,7 +23,8 @@ pub(crate) fn part<R: Into<StrRange>>(rt: &(impl Abort + Wait), text: &ArcStr, r
     text.substr(rt, range).expect(rt, "no slice")
 }
 
-/// Returns a slice with this text, in the middle of a text that repeats it three times and has no other handle.
+/// Returns a slice with this text, in the middle of a text that repeats it three times and has no
+/// other handle.
 pub(crate) fn middle(rt: &(impl Abort + AllocGlobal + Wait), text: &str) -> Substr {
     let parent = ArcStr::repeat(rt.alloc(), text, 3).expect(rt, "no memory");
     let start = text.len();

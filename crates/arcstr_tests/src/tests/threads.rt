@@ -7,7 +7,8 @@ use std::thread;
 
 const ROUNDS: u32 = 100_000;
 
-/// Clones the text in both ways and drops the clones, many times. Returns the length of the last clone, or 0 if a clone by the trait failed.
+/// Clones the text in both ways and drops the clones, many times. Returns the length of the last
+/// clone, or 0 if a clone by the trait failed.
 fn cloned_often(rt: &impl Wait, text: &ArcStr) -> usize {
     let mut length = 0;
     for _ in 0..ROUNDS {

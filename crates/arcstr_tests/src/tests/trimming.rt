@@ -4,7 +4,8 @@ use arcstr::{ArcStr, Substr};
 use std::process::Abort;
 use std::sync::Wait;
 
-/// A text, the results of `trim`, `trim_start` and `trim_end`, and where the first two start. Most are examples in Rust's documentation of `str`.
+/// A text, the results of `trim`, `trim_start` and `trim_end`, and where the first two start. Most
+/// are examples in Rust's documentation of `str`.
 const TRIM: [(&str, &str, &str, &str, usize); 5] = [
     (
         "\n Hello\tworld\t\n",

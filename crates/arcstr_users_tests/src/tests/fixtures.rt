@@ -1,4 +1,5 @@
-//! Scripts, answers and lines, and a reader and a writer that fail at one call, and work at every other call.
+//! Scripts, answers and lines, and a reader and a writer that fail at one call, and work at every
+//! other call.
 use std::io;
 use std::io::{ErrorKind, Read, Write};
 

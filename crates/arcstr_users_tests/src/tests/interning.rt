@@ -2,6 +2,7 @@
 mod collisions;
 mod interner;
 mod into_interner;
+mod serde_impls;
 mod shared_interner;
 mod word_list;
 

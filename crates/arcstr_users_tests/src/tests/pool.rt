@@ -4,8 +4,8 @@ use arcstr::ArcStr;
 use std::sync::atomic::{AtomicU64, Ordering};
 use std::thread::yield_now;
 
-/// How often a worker looks for the others at most. After each look it lets another thread run, since
-/// other programs may keep the workers from starting.
+/// How often a worker looks for the others at most. After each look it lets another thread run,
+/// since other programs may keep the workers from starting.
 pub(crate) const LOOKS: u64 = 100_000_000;
 
 /// A gate at which no worker waits.
@@ -15,8 +15,8 @@ impl Gate for OpenGate {
     fn pass(&self, _worker: usize) {}
 }
 
-/// A gate at which each worker waits until all workers have arrived. It counts the workers that then see the
-/// clones of all workers, besides the caller's handle and the gate's own.
+/// A gate at which each worker waits until all workers have arrived. It counts the workers that
+/// then see the clones of all workers, besides the caller's handle and the gate's own.
 #[derive(Drop)]
 struct Meeting {
     text: ArcStr,
@@ -52,7 +52,8 @@ fn each_worker_hands_its_clone_back(rt: HostRuntime) {
     check_eq!(rt; ArcStr::strong_count(text), Some(1));
 }
 
-/// If a body starts fewer threads than there are workers, the first worker waits in vain. A worker that passes before it clones misses its own clone.
+/// If a body starts fewer threads than there are workers, the first worker waits in vain. A worker
+/// that passes before it clones misses its own clone.
 #[test]
 fn all_workers_meet_with_their_clones(rt: HostRuntime) {
     let text = &ArcStr::from_str(rt.alloc(), "foobar").expect(&rt, "refused");

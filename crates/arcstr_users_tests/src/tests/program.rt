@@ -108,8 +108,8 @@ fn refuses_a_limit(rt: HostRuntime) {
     expect(&rt, &found, 2, "", TOO_LARGE);
 }
 
-/// The 49 bytes of the script take 17 reads of three bytes, and one read that finds the end. The 44 bytes of
-/// the answer take 22 writes of two bytes. Each write before the fault writes two of them.
+/// The 49 bytes of the script take 17 reads of three bytes, and one read that finds the end. The 44
+/// bytes of the answer take 22 writes of two bytes. Each write before the fault writes two of them.
 #[test]
 fn fails_at_each_read_and_write(rt: HostRuntime) {
     for read in 0..20 {
@@ -257,7 +257,8 @@ fn tokens_fail_at_each_read(rt: HostRuntime) {
     }
 }
 
-/// The 42 bytes of the words take 21 writes of two bytes. Each write before the fault writes two of them.
+/// The 42 bytes of the words take 21 writes of two bytes. Each write before the fault writes two of
+/// them.
 #[test]
 fn tokens_fail_at_each_write(rt: HostRuntime) {
     for write in 0..21 {
@@ -273,8 +274,8 @@ fn tokens_fail_at_each_write(rt: HostRuntime) {
 /// A script whose limit is too large.
 const TOO_LARGE_A_LIMIT: &str = "limit 4611686018427387904\nmake\n";
 
-/// Arguments are tested first. Then a fault of reading comes before a limit that is too large and before an input that is not UTF-8, and these
-/// come before a fault of writing.
+/// Arguments are tested first. Then a fault of reading comes before a limit that is too large and
+/// before an input that is not UTF-8, and these come before a fault of writing.
 #[test]
 fn tells_the_first_of_two_faults(rt: HostRuntime) {
     let none: &[&str] = &[];

@@ -1,5 +1,6 @@
-//! Answers to scripts with each command, each reply and lines outside the grammar, and runs of a script with each read and each write failing in turn. The file
-//! scripts/histories.scripts has more scripts, which `tools/scripts` runs through the program.
+//! Answers to scripts with each command, each reply and lines outside the grammar, and runs of a
+//! script with each read and each write failing in turn. The file scripts/histories.scripts has
+//! more scripts, which `tools/scripts` runs through the program.
 use super::fixtures::{FIRST_ANSWER, FIRST_SCRIPT, FakeReader, FakeWriter, NEVER};
 use crate::tests::checks::{check, check_eq};
 use arcbench_core::port::Port;
@@ -152,7 +153,8 @@ fn writes_nothing_after_a_fault_of_reading(rt: HostRuntime) {
     }
 }
 
-/// The 44 bytes of the answer take 22 writes of two bytes. Each write before the fault writes two of them.
+/// The 44 bytes of the answer take 22 writes of two bytes. Each write before the fault writes two
+/// of them.
 #[test]
 fn writes_a_prefix_before_a_fault_of_writing(rt: HostRuntime) {
     for write in 0..22 {
@@ -166,7 +168,8 @@ fn writes_a_prefix_before_a_fault_of_writing(rt: HostRuntime) {
 /// The smallest block that a heap hands out, in bytes.
 const GRAIN: usize = 16;
 
-/// With room for one grain, an allocation fails while the script is read. A fault of a read before that is `Io`; a fault of a read after it is not reached.
+/// With room for one grain, an allocation fails while the script is read. A fault of a read before
+/// that is `Io`; a fault of a read after it is not reached.
 #[test]
 fn the_first_of_reading_and_memory_is_answered(rt: HostRuntime) {
     let mut refused = false;

@@ -1,6 +1,7 @@
 //! The words of texts, by `arctokens`.
 mod many_texts;
 mod one_text;
+mod substrs;
 
 use crate::tests::checks::check_eq;
 use arcstr::{ArcStr, Substr, literal};

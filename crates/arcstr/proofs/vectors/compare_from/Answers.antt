@@ -4,7 +4,8 @@ use Rattle.arcstr.proofs.vectors.compare_from.Goals as goal
 
 pub returns-then-is_ne : goal.returns-then-is_ne
 returns-then-is_ne g c =
-    by_prefixes (c.loop-from.from + g.row.N) c.args.one.now c.args.other.now _ (omega arith) (omega arith) c.order_of_lanes-found.ensures (sym c.is_ne.ensures ∙ c.if-is_ne.true)
+    by_prefixes (c.loop-from.from + g.row.N) c.args.one.now c.args.other.now _ (omega arith) (omega arith) c.order_of_lanes-found.ensures
+    (sym c.is_ne.ensures ∙ c.if-is_ne.true)
 
 pub loop-from-preserved : goal.loop-from-preserved
 loop-from-preserved g c = record {
@@ -18,7 +19,8 @@ order_of_lanes-found-requires-2-clause-equal g c =
 
 pub returns-then-is_ne-2 : goal.returns-then-is_ne-2
 returns-then-is_ne-2 g c =
-    by_prefixes (c.min-last.result - g.row.N + g.row.N) c.args.one.now c.args.other.now _ (omega arith) (omega arith) c.order_of_lanes-found-2.ensures (sym c.is_ne-2.ensures ∙ c.if-is_ne-2.true)
+    by_prefixes (c.min-last.result - g.row.N + g.row.N) c.args.one.now c.args.other.now _ (omega arith) (omega arith) c.order_of_lanes-found-2.ensures
+    (sym c.is_ne-2.ensures ∙ c.if-is_ne-2.true)
 
 pub returns : goal.returns
 returns g c =

@@ -8,7 +8,8 @@ returns-then-is_ne c =
 
 pub returns-then-one-eq64 : goal.returns-then-one-eq64
 returns-then-one-eq64 c =
-    c.cmp.ensures ∙ by_length 64 c.args.one.now c.args.other.now (omega arith) (equal-of_not_ne _ _ _ c.order_of_block-found.ensures (sym c.is_ne.ensures ∙ c.if-is_ne.false))
+    c.cmp.ensures ∙ by_length 64 c.args.one.now c.args.other.now (omega arith)
+    (equal-of_not_ne _ _ _ c.order_of_block-found.ensures (sym c.is_ne.ensures ∙ c.if-is_ne.false))
 
 pub compare_far-requires-clause-equal : goal.compare_far-requires-clause-equal
 compare_far-requires-clause-equal c = equal-of_not_ne _ _ _ c.order_of_block-found.ensures (sym c.is_ne.ensures ∙ c.if-is_ne.false)

@@ -1,5 +1,6 @@
 -- A bit of the mask is set if the two bytes differ.
-use Rattle.arcstr.proofs.Orders.{◌≡◌, ℕ, ◌==◌, not, ◌%◌, ◌^◌, ap, ◌∙◌, take, drop, length, arith, w8, mask_l, zip2, length-chunk, mask_l-mod, tops_compared, length-zip2}
+use Rattle.arcstr.proofs.Orders.{◌≡◌, ℕ, ◌==◌, not, ◌%◌, ◌^◌, ap, ◌∙◌, take, drop, length, arith, w8, mask_l, zip2, length-chunk, mask_l-mod, tops_compared}
+use Rattle.arcstr.proofs.Orders.{length-zip2}
 use Rattle.arcstr.proofs.vectors.lanes_that_differ.Goals as goal
 
 pub returns : goal.returns

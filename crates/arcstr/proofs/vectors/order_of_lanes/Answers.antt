@@ -1,5 +1,6 @@
 -- The first lane that differs decides, and equal lanes decide nothing.
-use Rattle.arcstr.proofs.Orders.{sym, ◌∙◌, arith, length-chunk, Equal-of_equal, equal-next, none_differs, DecidesWithin-Greater, DecidesWithin-Less, first_decides_within}
+use Rattle.arcstr.proofs.Orders.{sym, ◌∙◌, arith, length-chunk, Equal-of_equal, equal-next, none_differs, DecidesWithin-Greater, DecidesWithin-Less}
+use Rattle.arcstr.proofs.Orders.{first_decides_within}
 use Rattle.arcstr.proofs.vectors.order_of_lanes.Goals as goal
 
 pub returns-then-differ-eq0 : goal.returns-then-differ-eq0

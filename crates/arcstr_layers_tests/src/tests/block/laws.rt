@@ -1,7 +1,7 @@
 //! Callers of the laws, with what the laws tell them as contracts.
 ghost use Rattle.std.specs.Prelude.{◌≡◌, ◌≢◌, ◌≤◌, IsNone, IsTrue, IfSome, length};
 ghost use mathlib.Core.List.{IsPrefix};
-ghost use Rattle.arcstr_block.specs.Handle.{IsMarkedIn, SawBack};
+ghost use Rattle.arcstr_block.specs.Handle.{IsMarkedIn, SawBack, SawClone};
 
 use super::made;
 use crate::tests::checks::check_eq;
@@ -32,8 +32,10 @@ fn apart_hands_both_back_in_order(rt: HostRuntime) {
 
 /// What two looks at one block saw of its one history.
 fn looked_twice(handle: &Shared<5, Global>) -> (Seen, Seen)
-    ensures prefix { length result.0.history ≤ length result.1.history → IsPrefix result.0.history result.1.history }
-    ensures longer { length result.1.history ≤ length result.0.history → IsPrefix result.1.history result.0.history }
+    ensures prefix { length result.0.history ≤ length result.1.history
+        → IsPrefix result.0.history result.1.history }
+    ensures longer { length result.1.history ≤ length result.0.history
+        → IsPrefix result.1.history result.0.history }
     ensures block { result.1.block ≡ result.0.block }
 {
     let (_, first) = handle.look();
@@ -53,7 +55,8 @@ fn two_looks_agree(rt: HostRuntime) {
     check_eq!(rt; second.look().0, Some(2));
 }
 
-/// Ends a handle, and frees what it owes: if it owes anything, its block is not that of the other handle.
+/// Ends a handle, and frees what it owes: if it owes anything, its block is not that of the other
+/// handle.
 fn owes_beside(handle: Shared<5, Global>, other: Shared<5, Global>) -> (bool, Shared<5, Global>)
     ensures kept { result.1 ≡ other }
     ensures alone { IsTrue result.0 → handle.block ≢ other.block }
@@ -79,7 +82,8 @@ fn no_handle_is_left_on_what_is_owed(rt: HostRuntime) {
     check_eq!(rt; (other.as_str(), other.look().0), ("foo", Some(1)));
 }
 
-/// Ends a handle, and frees what it owes: if it owes anything, its block is not that of the borrowed handle.
+/// Ends a handle, and frees what it owes: if it owes anything, its block is not that of the
+/// borrowed handle.
 fn owes_beside_lent(handle: Shared<5, Global>, lent: &Shared<5, Global>) -> bool
     ensures { IsTrue result → handle.block ≢ lent.now.block }
 {
@@ -163,11 +167,13 @@ fn a_block_is_owed_once(rt: HostRuntime) {
     check_eq!(rt; both_owe(third, other), true);
 }
 
-/// Marks the block through one handle and finds it marked through another: both saw a prefix of one history that has the mark.
+/// Marks the block through one handle and finds it marked through another: both saw a prefix of one
+/// history that has the mark.
 fn marks_and_finds(first: &Shared<5, Global>, second: &Shared<5, Global>) -> (Seen, Option<Seen>)
     requires { second.now.block ≡ first.now.block }
     ensures made { IsMarkedIn 5 result.0.history }
-    ensures found { IfSome result.1 (λ found. (found.block ≡ result.0.block) × IsMarkedIn 5 found.history) }
+    ensures found { IfSome result.1
+        (λ found. (found.block ≡ result.0.block) × IsMarkedIn 5 found.history) }
 {
     let made = first.mark().again().seen();
     match second.fixed().0 {
@@ -205,6 +211,20 @@ fn looked_in_order(handle: &Shared<5, Global>) -> (Seen, Seen)
     (first, second)
 }
 
+/// Of two clones, the second has seen the birth of the first, and each history has the number of
+/// its handle.
+fn cloned_in_order(rt: &impl Wait, handle: &Shared<5, Global>) -> (Shared<5, Global>, Seen, Seen)
+    ensures born { SawClone 5 result.1.history handle.now.seat result.0.seat }
+    ensures order { IsPrefix result.1.history result.2.history }
+    ensures block { result.0.block ≡ handle.now.block }
+    ensures seen { result.2.block ≡ handle.now.block }
+{
+    let (_, before) = handle.look();
+    let (clone, first) = handle.up_after(rt, &before);
+    let (_, second) = clone.up_after(rt, &first);
+    (clone, first, second)
+}
+
 /// A drop that owes the block frees it, and the history says so after all that was seen.
 fn ended(handle: Shared<5, Global>, before: &Seen) -> Option<Seen>
     requires { before.now.block ≡ handle.block }
@@ -222,6 +242,10 @@ fn what_follows_extends_what_was_seen(rt: HostRuntime) {
     let first = made(&rt, "foobar");
     let (_, before) = looked_in_order(&first);
     check_eq!(rt; ended(first, &before).is_some(), true);
+    let third = made(&rt, "bar");
+    let (clone, _, before) = cloned_in_order(&rt, &third);
+    check_eq!(rt; ended(third, &before).is_some(), false);
+    check_eq!(rt; clone.look().0, Some(1));
     let second = made(&rt, "foo");
     check_eq!(rt; mark_and_look(&second), None);
     let (_, before) = second.look();

@@ -42,7 +42,8 @@ fn one_byte_is_filled_and_a_text_is_copied_twice(rt: HostRuntime) {
     check_eq!(rt; copies.as_str(), "abab");
 }
 
-/// A text of 64 bytes. Its block has 80, to which a heap adds nothing: a heap rounds sizes up to a multiple of 16.
+/// A text of 64 bytes. Its block has 80, to which a heap adds nothing: a heap rounds sizes up to a
+/// multiple of 16.
 const TEXT: &str = "0123456789abcdef0123456789abcdef0123456789abcdef0123456789abcdef";
 
 const BLOCK: usize = 80;
@@ -108,7 +109,8 @@ fn a_heap_that_is_too_small_refuses_each_making(rt: HostRuntime) {
     check_eq!(rt; heap.used(), 0);
 }
 
-/// An allocation failure is reported before bytes that are not UTF-8: the closure that leaves such bytes does not run.
+/// An allocation failure is reported before bytes that are not UTF-8: the closure that leaves such
+/// bytes does not run.
 #[test]
 fn a_fill_without_memory_does_not_run_its_closure(rt: HostRuntime) {
     let heap = &LocalHeap::new(rt.alloc(), TOO_SMALL).expect(&rt, "refused");

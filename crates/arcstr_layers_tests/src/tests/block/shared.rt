@@ -25,7 +25,8 @@ fn the_types_have_their_sizes(rt: HostRuntime) {
     check_eq!(rt; (size_of::<Seen>(), size_of::<TextFault>()), (0, 16));
 }
 
-/// 1 if the block was found marked, 2 if the subtraction was not the last, 3 if the memory was owed.
+/// 1 if the block was found marked, 2 if the subtraction was not the last, 3 if the memory was
+/// owed.
 fn ended(down: Down<Global>) -> u8 {
     match down {
         Down::Ended => 1,
@@ -43,6 +44,25 @@ fn the_last_handle_owes(rt: HostRuntime) {
     let second = first.up(&rt);
     check_eq!(rt; ended(first.down().0), 2);
     check_eq!(rt; ended(second.down().0), 3);
+}
+
+/// A clone, and a look after it.
+fn clone_and_look<const LIMIT: u64>(
+    rt: &impl Wait,
+    text: &Shared<LIMIT, Global>,
+) -> (Shared<LIMIT, Global>, Option<u64>) {
+    let (_, seen) = text.look();
+    let (clone, seen) = text.up_after(rt, &seen);
+    (clone, text.look_after(&seen).0)
+}
+
+#[test]
+fn a_clone_after_what_was_seen_steps_once(rt: HostRuntime) {
+    let text = made(&rt, "foobar");
+    let (clone, count) = clone_and_look(&rt, &text);
+    check_eq!(rt; (clone.as_str(), count), ("foobar", Some(2)));
+    text.mark();
+    check_eq!(rt; clone_and_look(&rt, &clone).1, None);
 }
 
 /// A value that threads may hand to one another, and share.
@@ -135,8 +155,8 @@ fn a_mark_keeps_the_block(rt: HostRuntime) {
     check_eq!(rt; used_after::<5, _>(&rt, &heap, true).expect(&rt, "refused") > 0, true);
 }
 
-/// How often a thread looks for the others at most. After each look it lets another thread run, since
-/// other programs may keep the threads from starting.
+/// How often a thread looks for the others at most. After each look it lets another thread run,
+/// since other programs may keep the threads from starting.
 const LOOKS: u64 = 100_000_000;
 
 /// Counts this thread, and waits until there are as many threads. Returns whether there are.
@@ -161,7 +181,8 @@ fn up_together<const LIMIT: u64, R: Wait>(
     (handle.up(rt), together)
 }
 
-/// The look after two threads made one clone each, before any drop; whether both clones read the text, and whether the two threads ran at once.
+/// The look after two threads made one clone each, before any drop; whether both clones read the
+/// text, and whether the two threads ran at once.
 fn look_after_two<const LIMIT: u64, R: Threads + Wait + Sync>(
     rt: &R,
     alloc: Global,
@@ -211,7 +232,8 @@ fn faults_of_reading_print_their_texts(rt: HostRuntime) {
     check_eq!(rt; printed.as_str(), "text is too long, bytes are not UTF-8");
 }
 
-/// Two handles that a heap of 16 bytes has no room for are dropped when the error is converted to a fault.
+/// Two handles that a heap of 16 bytes has no room for are dropped when the error is converted to a
+/// fault.
 #[test]
 fn what_could_not_be_stored_is_dropped(rt: HostRuntime) {
     let heap = LocalHeap::new(rt.alloc(), 16).expect(&rt, "refused");
@@ -229,7 +251,8 @@ fn marks(handle: Shared<5, Global>) -> Fixed<Global> {
     handle.mark()
 }
 
-/// Whether the text can be read after two threads had a handle each: one marked the block, and both ended their handles.
+/// Whether the text can be read after two threads had a handle each: one marked the block, and both
+/// ended their handles.
 fn reads_after_threads<R: Threads + Wait + Sync>(rt: &R, alloc: Global) -> Result<bool, TextFault> {
     let first = Shared::<5, Global>::from_text(alloc, "foobar")?;
     let second = first.up(rt);
@@ -244,7 +267,8 @@ fn a_fixed_block_outlives_two_threads(rt: HostRuntime) {
     }
 }
 
-/// Clones 150,000 times once four threads have arrived, and keeps 100,000 clones, so that a count that an exchange did not find never comes back.
+/// Clones 150,000 times once four threads have arrived, and keeps 100,000 clones, so that a count
+/// that an exchange did not find never comes back.
 fn clones<R: Abort + Wait>(
     rt: &R,
     alloc: Global,
@@ -262,7 +286,8 @@ fn clones<R: Abort + Wait>(
     kept
 }
 
-/// A compare-exchange that fails because of another thread's step is repeated with the count that it found, and does not mark the block.
+/// A compare-exchange that fails because of another thread's step is repeated with the count that
+/// it found, and does not mark the block.
 #[test]
 fn four_threads_leave_one(rt: HostRuntime) {
     let text = &Shared::from_text(rt.alloc(), "foobar").expect(&rt, "refused");

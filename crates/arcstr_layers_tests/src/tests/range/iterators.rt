@@ -1,4 +1,5 @@
-//! The lines, words and parts of views are those of `str`, each at its own place. Many of the texts are those of Rust's documentation of `str`.
+//! The lines, words and parts of views are those of `str`, each at its own place. Many of the texts
+//! are those of Rust's documentation of `str`.
 use super::view_at;
 use crate::tests::checks::{check, check_eq};
 use arcstr_range::view::StrView;
@@ -169,6 +170,44 @@ fn splits_at_sets_of_characters_as_a_str(rt: HostRuntime) {
         check_part(&rt, parts.next(), wanted, *offset, 7);
     }
     check!(rt; parts.next().is_none());
+}
+
+/// Asserts that the matches in the text lie between two parts of its view, one after another.
+fn check_matches(rt: &impl Abort, text: &str, separator: &str) {
+    let mut parts = StrView::whole(text).split_by(separator);
+    let mut end = parts.next().expect(rt, "no part").range().end;
+    for (place, found) in text.match_indices(separator) {
+        let part = parts.next().expect(rt, "too few parts").range();
+        check_eq!(rt; (end, part.start), (place, place.saturating_add(found.len())));
+        end = part.end;
+    }
+    check!(rt; parts.next().is_none());
+}
+
+#[test]
+fn matches_of_a_str_lie_between_parts(rt: HostRuntime) {
+    for (text, separator, _) in PARTS_AT_TEXTS {
+        check_matches(&rt, text, separator);
+    }
+}
+
+/// Asserts that the pieces of the text that end with a match go from part to part of its view.
+fn check_pieces(rt: &impl Abort, text: &str, separator: &str) {
+    let mut starts = StrView::whole(text).split_by(separator);
+    let mut start = starts.next().expect(rt, "no part").place();
+    for piece in text.split_inclusive(separator) {
+        let end = starts.next().map_or(text.len(), |part| part.place());
+        check_eq!(rt; text.get(start..end), Some(piece));
+        start = end;
+    }
+    check_eq!(rt; start, text.len());
+}
+
+#[test]
+fn pieces_of_a_str_go_from_part_to_part(rt: HostRuntime) {
+    for (text, separator, _) in PARTS_AT_TEXTS {
+        check_pieces(&rt, text, separator);
+    }
 }
 
 /// Texts, patterns to find in them, and the byte offsets of the first and the last matches.

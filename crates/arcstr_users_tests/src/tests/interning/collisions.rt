@@ -48,7 +48,8 @@ fn an_interner_tells_words_of_one_hash_apart(rt: HostRuntime) {
     check!(rt; interner.get("fo").is_none());
 }
 
-/// Asserts that interning the word gives this number, whose text is the word, and that the word is then found.
+/// Asserts that interning the word gives this number, whose text is the word, and that the word is
+/// then found.
 fn check_shared(
     rt: &(impl Abort + Wait),
     interner: &SharedInterner<Collides>,

@@ -42,7 +42,8 @@ fn check_alone(rt: &(impl Abort + Wait), interner: &SharedInterner, number: Symb
     check_eq!(rt; ArcStr::strong_count(text), Some(1));
 }
 
-/// Interns the words from the number `first` on and then those before it, and answers their symbols in the order of the words.
+/// Interns the words from the number `first` on and then those before it, and answers their symbols
+/// in the order of the words.
 fn intern_words(
     rt: &impl Wait,
     alloc: Global,
@@ -83,7 +84,8 @@ fn check_symbols<R: Abort + AllocGlobal + Wait>(
     check_dense(rt, interner);
 }
 
-/// Asserts that the numbers of the texts are 0, 1, 2 and so on, so a list by these indexes has a place for each text.
+/// Asserts that the numbers of the texts are 0, 1, 2 and so on, so a list by these indexes has a
+/// place for each text.
 fn check_dense(rt: &impl Abort, interner: &SharedInterner) {
     let mut count = 0_usize;
     for (symbol, _) in interner.iter() {
@@ -121,7 +123,8 @@ fn threads_agree_on_sixty_four_shards(rt: HostRuntime) {
     check_threads(&rt, 64);
 }
 
-/// As the last worker, interns more words. As another, looks for known words until they are all there, and answers whether each was found.
+/// As the last worker, interns more words. As another, looks for known words until they are all
+/// there, and answers whether each was found.
 fn add_or_find(
     rt: &impl Wait,
     alloc: Global,
@@ -233,8 +236,8 @@ fn threads_at_one_word_agree(rt: HostRuntime) {
     }
 }
 
-/// Waits until all threads have arrived, and then interns texts of this thread's own. Each text stays
-/// alive.
+/// Waits until all threads have arrived, and then interns texts of this thread's own. Each text
+/// stays alive.
 fn intern_own_texts(
     rt: &impl Wait,
     alloc: Global,
@@ -279,7 +282,8 @@ fn texts_of_threads_end_with_their_interner(rt: HostRuntime) {
     }
 }
 
-/// Interns more words than the first rows of the list have, and asserts that the numbers are 0, 1, 2 and so on.
+/// Interns more words than the first rows of the list have, and asserts that the numbers are 0, 1,
+/// 2 and so on.
 fn check_order<R: Abort + AllocGlobal + Wait>(rt: &R, shards: usize)
     requires { (1 ≤ shards) × (shards ≤ 64) }
 {

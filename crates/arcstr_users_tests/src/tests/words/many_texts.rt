@@ -75,7 +75,8 @@ fn check_same(rt: &impl Abort, list: &[Substr], other: &[Substr]) {
     }
 }
 
-/// Asserts that this many workers return for each text what one thread returns, and that each text has only one handle after the result is dropped.
+/// Asserts that this many workers return for each text what one thread returns, and that each text
+/// has only one handle after the result is dropped.
 fn check_workers<R: Abort + AllocGlobal + Threads + Wait + Sync>(
     rt: &R,
     texts: &[ArcStr],
@@ -118,7 +119,8 @@ fn counts_of_texts_while_their_tokens_live(rt: HostRuntime) {
     check_count(&rt, &texts[1], Some(1));
 }
 
-/// A gate at which each worker waits until all of them have arrived. It counts the workers that saw all arrive.
+/// A gate at which each worker waits until all of them have arrived. It counts the workers that saw
+/// all arrive.
 #[derive(Drop)]
 struct Meeting {
     workers: u64,
@@ -157,7 +159,8 @@ fn all_workers_run_at_once(rt: HostRuntime) {
     }
 }
 
-/// Counts the passes. When the first worker passes, it also records the number of handles to the worker's text, one of which is the gate's.
+/// Counts the passes. When the first worker passes, it also records the number of handles to the
+/// worker's text, one of which is the gate's.
 #[derive(Drop)]
 struct Noted {
     text: ArcStr,

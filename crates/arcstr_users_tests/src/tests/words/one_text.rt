@@ -8,7 +8,8 @@ use std::ops::Range;
 use std::process::Abort;
 use std::sync::Wait;
 
-/// Asserts the words of a text in a block of its own. Also asserts the text's count while the words live and after they are dropped.
+/// Asserts the words of a text in a block of its own. Also asserts the text's count while the words
+/// live and after they are dropped.
 fn check_words<R: Abort + AllocGlobal + Wait>(rt: &R, text: &str, wanted: &[Wanted]) {
     let text = &made(rt, text);
     let before = ArcStr::strong_count(text);
@@ -80,7 +81,8 @@ const WHITE_SPACE: [char; 25] = [
     '\u{2008}', '\u{2009}', '\u{200a}', '\u{2028}', '\u{2029}', '\u{202f}', '\u{205f}', '\u{3000}',
 ];
 
-/// Characters next to those, and characters that look like white space. None of these is white space.
+/// Characters next to those, and characters that look like white space. None of these is white
+/// space.
 const OTHERS: [char; 14] = [
     '\u{8}', '\u{e}', '\u{1f}', '\u{21}', '\u{84}', '\u{86}', '\u{9f}', '\u{a1}', '\u{180e}',
     '\u{1fff}', '\u{200b}', '\u{2060}', '\u{3001}', '\u{feff}',
@@ -108,7 +110,8 @@ fn other_characters_are_no_separators(rt: HostRuntime) {
     }
 }
 
-/// Returns the ranges of the tokens of a text of 40 letters, of which one is replaced by another character.
+/// Returns the ranges of the tokens of a text of 40 letters, of which one is replaced by another
+/// character.
 fn places_with<R: Abort + AllocGlobal + Wait>(
     rt: &R,
     place: usize,

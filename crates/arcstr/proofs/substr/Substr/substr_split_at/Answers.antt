@@ -4,7 +4,8 @@ use Rattle.arcstr.proofs.substr.Substr.substr_split_at.Goals as goal
 
 pub clone_between-after-requires : goal.clone_between-after-requires
 clone_between-after-requires g c =
-    lawful_behind (text_of c.args.self.now) c.as_str.result.now (slice_within c.args.self.now) c.args.place c.in-Ok.start c.in-Ok.end c.len.result c.in-Ok.ensures c.as_str.ensures.text c.len.ensures
+    lawful_behind (text_of c.args.self.now) c.as_str.result.now
+    (slice_within c.args.self.now) c.args.place c.in-Ok.start c.in-Ok.end c.len.result c.in-Ok.ensures c.as_str.ensures.text c.len.ensures
 
 pub returns-in-Ok-clause-answer : goal.returns-in-Ok-clause-answer
 returns-in-Ok-clause-answer g c =

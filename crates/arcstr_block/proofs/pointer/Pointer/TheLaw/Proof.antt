@@ -23,7 +23,8 @@ shares B g K = of_Lends (C.struct B g) (C.the_codes B.Denot B.coded (Marker.the_
     let l = (C.the_row B g).lives in
     let b = block_of d.at in let o = word_at d.at (length d.text) in let owns = of_block holds d.limit d.at d.text d.right d.seat d.block d.history in
     let lent = of_block_shown holds d.limit d.at d.text d.right d.seat d.block d.history in
-    Lends-both 𝓛 (in_memory d.at (IsText d.text)) (fex Id owns) (said (in_memory d.at (IsText d.text))) (some Id lent) l (Lends-said 𝓛 (in_memory d.at (IsText d.text))
+    Lends-both 𝓛 (in_memory d.at (IsText d.text)) (fex Id owns) (said (in_memory d.at (IsText d.text))) (some Id lent) l
+    (Lends-said 𝓛 (in_memory d.at (IsText d.text))
     (λ _. tt) l)
     (Lends-some 𝓛 Id owns lent l (λ t. Lends-both 𝓛 (known t d.block d.history) (held_with P d.limit b o t s d.seat d.right) (said (known t d.block d.history))
     (shown P d.limit b o t s d.seat d.right) l

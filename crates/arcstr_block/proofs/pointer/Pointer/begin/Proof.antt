@@ -1,4 +1,5 @@
 -- `begin` is one load. A drop goes on if it finds the word unmarked.
+-- We take apart what the pointer holds, take the step inside the invariant (`Steps`) and write it into the book (`Book`), and make the gain a right (`Rights`).
 use Rattle.arcstr_block.proofs.Names.{◌≡◌, ℕ, ◌^◌, [], ◌∷◌, refl, arith, lit<, sym, subst, ap, length, ◌+◌, ◌<◌, if◌then◌else◌, w64, inst_fn, dcons, dnil}
 use Rattle.arcstr_block.proofs.Names.{a_type, Val, vint, vptr, Lft, Fml, fsep, fex, flft, finv, via, SProp, fact, tables, usize, u64, no, yes, param, bounded}
 use Rattle.arcstr_block.proofs.Names.{uint_vals, uint_Tells, RattleType, Valss, owns, block_of, Ptr, block_ptr, ptr_val, count_of, at_block, types_at, plain}
@@ -8,7 +9,8 @@ use Rattle.arcstr_block.proofs.Names.{raw, by, keep, fsplit3, drop, use3, at_ret
 use Rattle.arcstr_block.proofs.Names.{blocks, exec, returns, enter, addr, bin, Calls-last, tail, found, fm, seq_cst, finds, loads, leaves, proved, EndsIn}
 use Rattle.arcstr_block.proofs.Names.{FlagAndCount, Free, Ended, Looked, Begin, seat, Ends, Inv, free, right_to, block_owns, block_shares, word_at, word_offset}
 use Rattle.arcstr_block.proofs.Names.{Right, IsFree, Begins, IsMarked, IsUnmarked}
-use Rattle.arcstr_block.proofs.Names.{BlockName, IsLater, List, RefOf, Step, Token, fhide, hidden_shr, lent_out, named, reached, rewrite, shr_Tells, shr_vals, unhide, unit}
+use Rattle.arcstr_block.proofs.Names.{BlockName, IsLater, List, RefOf, Step, Token, fhide, hidden_shr, lent_out, named, reached, rewrite, shr_Tells, shr_vals}
+use Rattle.arcstr_block.proofs.Names.{unhide, unit}
 use Rattle.arcstr_block.proofs.Memory.{shares_laws}
 use Rattle.arcstr_block.proofs.Pointers.{pointer_val, typed, found_val, found_typed, Words, told}
 use Rattle.arcstr_block.proofs.Book.{book_begin, begun, begin_reply}

@@ -7,8 +7,9 @@ use Rattle.arcstr_block.proofs.Names.{stay_dropped, walk_of, Goes-dropped, alloc
 use Rattle.arcstr_block.proofs.Names.{◌⊛◌, later, ◌$◌, ◌∵◌, !, qed, move, use0, use1, split, split3, join, fsplit, fjoin, fpick, await, raw, by, keep, fsplit3}
 use Rattle.arcstr_block.proofs.Names.{drop, rewrite, use3, at_ret, mean, sub, whole, agg, look_in, stop, fld, of_opd, no_more, and_then, first, blocks, exec}
 use Rattle.arcstr_block.proofs.Names.{returns, enter, load, addr, bin, Calls-last, tail, found, fm, finds, exchanges, leaves, proved, Free, seat_share, Inv}
-use Rattle.arcstr_block.proofs.Names.{knows, right_to, pointer_shares, block_owns, block_shares, word_at, word_offset, Right, IsFree, Gains, IsClone}
-use Rattle.arcstr_block.proofs.Names.{IsCountWord}
+use Rattle.arcstr_block.proofs.Names.{knows, pointer_shares, block_owns, block_shares, word_at, word_offset, Right, IsFree, Gains, IsClone}
+use Rattle.arcstr_block.proofs.Names.{IsCountWord, ClonedAs}
+use Rattle.arcstr_block.proofs.Names.{BlockName, Step, Token, reached, unit}
 use Rattle.arcstr_block.proofs.Memory.{shares_laws}
 use Rattle.arcstr_block.proofs.Pointers.{pointer_val, typed, found_val, found_typed, Words, told, opened}
 use Rattle.arcstr_block.proofs.Book.{raises as turn_raises}
@@ -18,6 +19,7 @@ use Rattle.arcstr_block.specs.contracts.pointer.Pointer.clone_exchange.Key.{name
 use Rattle.arcstr_block.proofs.pointer.Pointer.clone_exchange.Statement.{statement}
 use Rattle.core.specs.contracts.marker.PhantomData as Marker
 use Rattle.arcstr_block.specs.contracts.pointer.Pointer as C
+use Rattle.arcstr_block.specs.contracts.seen.Seen as Seen
 use Rattle.arcstr_block.proofs.Pointers as framed
 use Rattle.arcstr_block.proofs.Rights as rights
 use Rattle.arcstr_block.proofs.Steps as steps
@@ -29,36 +31,38 @@ clone_exchange_spec 𝓤 𝓛 𝓜 𝓡 wired Y K g d dd met md =
     let inst = bounded (a_type ∷ []) (Y, tt) (dcons d (dcons dd dnil)) in let fn = inst_fn inst code.function in
     let closed = code.unfolded 𝓤 H 𝓜 𝓡 wired (Y, tt) d dd in
     let Row : RattleType = C.the_row B g in let D : RattleType = Words B g in let self = RefOf (0 ∷ []) tt (plain (λ _. Row)) (λ _. tt) in
-    let number = plain (λ _. u64) in let hs : Stays En.signature.params En.kept = (
+    let number = plain (λ _. u64) in let S : RattleType = Seen.the_row in let other = RefOf (1 ∷ []) tt (plain (λ _. S)) (λ _. tt) in
+    let hs : Stays En.signature.params En.kept = (
       stay_dropped self yes,
       (
         stay_dropped number yes,
         (
           stay_dropped number yes,
-          (stay_dropped number yes, tt),
+          (stay_dropped number yes, (stay_dropped other yes, tt)),
         ),
       ),
     ) in
     proved 𝓛 En hs c 𝓜 𝓡 (
-      Goes-dropped 𝓛 2 self yes (λ κs x f. refl),
+      Goes-dropped 𝓛 3 self yes (λ κs x f. refl),
       (
-        Goes-dropped 𝓛 2 number yes (λ κs x f. refl),
+        Goes-dropped 𝓛 3 number yes (λ κs x f. refl),
         (
-          Goes-dropped 𝓛 2 number yes (λ κs x f.
-              refl),
-          (Goes-dropped 𝓛 2 number yes (λ κs x f. refl), tt),
+          Goes-dropped 𝓛 3 number yes (λ κs x f. refl),
+          (Goes-dropped 𝓛 3 number yes (λ κs x f. refl), (Goes-dropped 𝓛 3 other yes (λ κs x f. refl), tt)),
         ),
       ),
     ) (#self inst) fn closed
-    (λ κs. (shr_vals, (uint_vals w64, (uint_vals w64, (uint_vals w64, tt))))) (λ κs.
-    (shr_Tells (named 0) κs.0 Row, (uint_Tells w64, (uint_Tells w64, (uint_Tells w64, tt))))) (λ κs qs bounds a gh are.
+    (λ κs. (shr_vals, (uint_vals w64, (uint_vals w64, (uint_vals w64, (shr_vals, tt)))))) (λ κs.
+    (shr_Tells (named 0) κs.0 Row, (uint_Tells w64, (uint_Tells w64, (uint_Tells w64, (shr_Tells (named 1) κs.1.0 S, tt)))))) (λ κs qs bounds a gh are.
     let b : ℕ = a.0.ref_ptr.0 in let o : ℕ = a.0.ref_ptr.1 in let κ : Lft = κs.0 in let q : Share = qs.0 in
-    let others : Fml = fsep (flft κs.1.0 qs.1.0) ftrue in
+    let others : Fml = fsep (flft κs.1.0 qs.1.0) (fsep (flft κs.1.1.0 qs.1.1.0) ftrue) in
+    let seen = a.1.1.1.1.0 in let b' : ℕ = seen.ref_ptr.0 in let o' : ℕ = seen.ref_ptr.1 in let w : S.Denot = seen.now in let before : List Step = w.history in
+    let codes = Seen.the_codes (Marker.the_row unit).coded in
     let h : Row.Denot = a.0.now in let p : Ptr = h.at in let right : Right = h.right in let lim : ℕ = h.limit in let holds = g.dealloc_token h.home in
     let P : Fml = block_owns holds p h.text in let s : Lft → Fml = block_shares p h.text in
     let sl = shares_laws p h.text in
     let offset : ℕ = a.1.0 in let old : ℕ = a.1.1.0 in let new : ℕ = a.1.1.1.0 in
-    let us : List Val = vptr b o ∷ vint w64 offset ∷ vint w64 old ∷ vint w64 new ∷ [] in
+    let us : List Val = vptr b o ∷ vint w64 offset ∷ vint w64 old ∷ vint w64 new ∷ vptr b' o' ∷ [] in
     let pb : ℕ = block_of p in
     let po : ℕ = word_at p (length h.text) in
     let y : (walk_of 𝓛 En hs c).Ghost = (
@@ -73,7 +77,7 @@ clone_exchange_spec 𝓤 𝓛 𝓜 𝓡 wired Y K g d dd met md =
             vint w64 offset ∷ [],
             (
               vint w64 old ∷ [],
-              (vint w64 new ∷ [], tt),
+              (vint w64 new ∷ [], (vptr b' o' ∷ [], tt)),
             ),
           ),
         ),
@@ -82,22 +86,27 @@ clone_exchange_spec 𝓤 𝓛 𝓜 𝓡 wired Y K g d dd met md =
     ) in
     let Post : Val → SProp 𝓤 = (walk_of 𝓛 En hs c).post y in
     qed 𝓛 (((‵ (flft κ q) ⊛ ‵ others) ⊛ ‵ (owns (types_at En.signature.params κs) a y.0.4)) ∷ raw (fact 𝓤 _) ∷ raw (fact 𝓤 (IsFree right)) ∷ raw (fact 𝓤
-    (offset ≡ word_offset (length h.text))) ∷ raw (fact 𝓤 (IsClone lim old new)) ∷ []) ∵
-    keep ! (2 ∷ 3 ∷ 4 ∷ 0 ∷ []) $ heard ! (IsFree right) (λ may. heard ! (offset ≡ word_offset (length h.text)) (λ placed.
+    (offset ≡ word_offset (length h.text))) ∷ raw (fact 𝓤 (IsClone lim old new)) ∷ raw (fact 𝓤 (w.block ≡ h.block)) ∷ []) ∵
+    keep ! (2 ∷ 3 ∷ 4 ∷ 5 ∷ 0 ∷ []) $ heard ! (IsFree right) (λ may. heard ! (offset ≡ word_offset (length h.text)) (λ placed.
     let there : offset + count_of p ≡ count_of p + word_offset (length h.text) = omega (arith, placed) in
-    heard ! (IsClone lim old new) (λ asked. split ! $ split ! $ move ! (2 ∷ []) $ fsplit ! $ fsplit ! $
-    keep ! (1 ∷ 3 ∷ 4 ∷ []) $
+    heard ! (IsClone lim old new) (λ asked. heard ! (w.block ≡ h.block) (λ same. split ! $ split ! $ move ! (2 ∷ []) $ fsplit3 ! $ move ! (2 ∷ []) $ fsplit3 ! $
+    move ! (2 ∷ []) $ fsplit ! $ fsplit ! $ move ! (5 ∷ []) $ fsplit ! $ keep ! (3 ∷ 1 ∷ 8 ∷ 9 ∷ []) $
     enter ! 𝓣.C 𝓣.Λ fn us Post $ alloc_all ! (λ l. pass_all ! refl (
       (tt, tt),
       (
         (tt, record { fits = are.1.0.1 }),
         (
           (tt, record { fits = are.1.1.0.1 }),
-          ((tt, record { fits = are.1.1.1.0.1 }), tt),
+          ((tt, record { fits = are.1.1.1.0.1 }), ((tt, tt), tt)),
         ),
       ),
     ) $
     let Ev = env fn.locals l in
+    use1 𝓛 (‵ (hidden_shr (Token unit) κs.1.0 (record {}, tt) b' o') ⊛ ‵ (fhide (reached w.block.history before)))
+    (lent_out 𝓛 Seen.struct codes Seen.the_heap Seen.the_lent κs.1.0 w b' o') $ split ! $ drop ! $ unhide ! $
+    rewrite ! 0 (λ (z : BlockName). ‵ (reached z.history before)) same refl $
+    -- [what the pointer shows; κ; the others; the history before]
+    move ! (1 ∷ 2 ∷ 3 ∷ 0 ∷ []) $
     use1 𝓛 (‵ (hidden_shr D κ (p, (tt, tt)) b o) ⊛ ‵ (fhide (pointer_shares holds lim p h.text right h.seat h.block h.history κ)))
     (lent_out 𝓛 (C.struct B g) (C.the_codes Y.Denot B.coded (Marker.the_row B).coded) (C.the_heap B g) (C.the_lent B g) κ h b o) $
     split ! $ move ! (1 ∷ []) $ unhide ! $ fsplit ! $ fpick ! (λ inb. drop ! $ let at : p ≡ block_ptr pb (count_of p) = at_block p inb.0 in fpick ! (λ t.
@@ -117,15 +126,19 @@ clone_exchange_spec 𝓤 𝓛 𝓜 𝓡 wired Y K g d dd met md =
     await ! tt $ fpick ! (λ out.
     let u : Share = out.0 in let v : Share = out.1 in let Mine : Fml = seat_share t.name.seats h.seat v Free in
     fsplit ! $ move ! (1 ∷ []) $ fsplit ! $
-    -- [the token; the seat; the open borrows; what is known; the invariant; what is shared; the prefix; the others]
+    -- [the token; the seat; the open borrows; what is known; the invariant; what is shared; the prefix; the others; the history before]
+    move ! (6 ∷ []) $ fsplit ! $ fpick ! (λ named. drop ! $ rewrite ! 8 (λ (z : BlockName). ‵ (reached z.history before)) (sym named) refl $
+    -- [the prefix; the token; the seat; the open borrows; what is known; the invariant; what is shared; the others; the history before]
+    move ! (2 ∷ 8 ∷ []) $ fjoin ! $ move ! (2 ∷ 0 ∷ 3 ∷ 4 ∷ 5 ∷ 6 ∷ 1 ∷ []) $
+    -- [the token; the seat and the history before; the open borrows; what is known; the invariant; what is shared; the prefix; the others]
     move ! (4 ∷ []) $ use1 𝓛 (‵ (finv I) ⊛ ‵ (finv I)) (𝓛.invs.inv_dup I) $ split ! $
-    let said : ℕ → Fml = λ n. fsep Mine (rights.newborn 𝓛 P lim pb po t s sl (IsMarkedOr old n)) in
+    let said : ℕ → Fml = λ n. fsep Mine (rights.newborn 𝓛 P lim pb po t s sl h.seat before (IsMarkedOr old n)) in
     -- [the invariant, twice; the token; the seat; the open borrows; what is known; what is shared; the prefix; the others]
     move ! (0 ∷ 2 ∷ 3 ∷ []) $ let after : ℕ → Fml = steps.all_after 𝓛 P lim pb po t (steps.exchanged 𝓛 P lim pb po t u old new asked)
     (steps.Raised 𝓛 P lim pb po t u old new asked) (steps.Tok 𝓛 P lim pb po t u) (flft af u) said in
     use3 𝓛 (raw (𝓣.C _ (vptr pb po ∷ vint w64 old ∷ vint w64 new ∷ []) (λ r. mean 𝓛 (found after r))))
-    (via 𝓤 _ (steps.raises 𝓛 P lim pb po t u old new asked Mine said (λ n _.
-    turn_raises 𝓛 lim t.name.history t.name.seats h.seat v old new asked n)) (exchanges 𝓛 𝓜 𝓡 (code.calls-atomic_table::exchange 𝓡.env wired)
+    (via 𝓤 _ (steps.raises 𝓛 P lim pb po t u old new asked (fsep Mine (reached t.name.history before)) said (λ n _.
+    turn_raises 𝓛 lim t.name.history t.name.seats h.seat v before old new asked n)) (exchanges 𝓛 𝓜 𝓡 (code.calls-atomic_table::exchange 𝓡.env wired)
     (block_ptr pb po) old new are.1.1.0.1 are.1.1.1.0.1 after)) $
     first ! $ blocks ! $ sets ! (is ! (bin ! (get ! refl) (get ! refl) tt) (ap (vptr pb) there)) refl (tt, tt) $
     sets ! (of_opd ! (get ! refl)) refl (tt, tt) $ sets ! (addr ! (through ! refl (fld ! refl (stop !)))) refl (tt, tt) $
@@ -141,20 +154,21 @@ clone_exchange_spec 𝓤 𝓛 𝓜 𝓡 wired Y K g d dd met md =
     fsplit3 ! $ fsplit ! $ move ! (2 ∷ 0 ∷ []) $ fjoin ! $ move ! (4 ∷ 0 ∷ []) $ fjoin ! $
     use1 𝓛 (later (‵ (flft κ q))) (framed.restores 𝓛 t.sharing t.name.seats h.seat κ q out) $ await ! tt $
     -- [κ; what is said; the gain; the invariant; what is shared; the prefix; the others]
-    move ! (0 ∷ 6 ∷ []) $ join ! $ move ! (2 ∷ []) $ fpick ! (λ w. fsplit ! $ fpick ! (λ ok. drop ! $
+    move ! (0 ∷ 6 ∷ []) $ join ! $ move ! (2 ∷ []) $ fpick ! (λ w'. fsplit ! $ fpick ! (λ ok. drop ! $
     -- [the gain; the tokens; what is said; the invariant; what is shared; the prefix]
-    let got = rights.raised 𝓛 P lim pb po t s sl old new n w (ok.1, ok.2, ok.3, ok.4) in let k : Right = got.right in
-    move ! (0 ∷ 4 ∷ 2 ∷ []) $ use3 𝓛 (later (‵ (fex ℕ (λ j. right_to P lim pb po t s j k)))) got.turns $ await ! tt $ fpick ! (λ j.
-    -- [the right; the tokens; the invariant; the prefix]
-    move ! (3 ∷ []) $ fsplit ! $ fpick ! (λ named. drop ! $
+    let got = rights.raised 𝓛 P lim pb po t s sl h.seat before old new n h.history w' (ok.1, ok.2, ok.3, ok.4) in let k : Right = got.right in
+    move ! (0 ∷ 4 ∷ 2 ∷ 5 ∷ []) $ types.Kit.group ! 4 $
+    use1 𝓛 (later (‵ (rights.AfterClone 𝓛 P lim pb po t s sl h.seat before (IsMarkedOr old n) k))) got.turns $ await ! tt $
+    fpick ! (λ x. let j : ℕ = x.0 in let r' : List Step = x.1 in fsplit3 ! $ fpick ! (λ ends. drop ! $
     -- [the prefix; the right; the tokens; the invariant]
-    let h' : Row.Denot = record h { right = k; seat = j } in let r : Val = found_val n p in
+    let h' : Row.Denot = record h { right = k; seat = j; history = r' } in let r : Val = found_val n p in
     move ! (1 ∷ 3 ∷ 0 ∷ []) $ use3 𝓛 (‵ (Row.own_val h' (pointer_val p ∷ []))) (framed.pointer_in 𝓛 B g h' t named inb) $
     use1 𝓛 (‵ (fex (Valss (u64 ∷ Row ∷ [])) (framed.found_as 𝓛 B g h' n))) (framed.found_in 𝓛 B g h' n fits) $
     let Same : Type 0 = (h.home ≡ h.home) × (h.text ≡ h.text) × (lim ≡ lim) × (h.block ≡ h.block) in
-    use0 𝓛 (raw (fact 𝓤 Same)) (fact_i 𝓤 Same (emp 𝓤) (refl, refl, refl, refl)) $
-    use0 𝓛 (raw (fact 𝓤 (Gains old new n k))) (fact_i 𝓤 (Gains old new n k) (emp 𝓤) got.said) $ join ! $
+    let Saw : Type 0 = ClonedAs h before old n h' in
+    use0 𝓛 (raw (fact 𝓤 (Gains old new n k)) ⊛ raw (fact 𝓤 Saw) ⊛ raw (fact 𝓤 Same))
+    (framed.three 𝓛 got.said ends (refl, refl, refl, refl)) $
     use0 𝓛 (raw (fact 𝓤 (IsCountWord lim n))) (fact_i 𝓤 (IsCountWord lim n) (emp 𝓤) ok.0) $ join ! $
-    nothing ! $ nothing ! $ fjoin ! $ nothing ! $ fjoin ! $ nothing ! $ fjoin ! $ nothing ! $ fjoin ! $ returns ! (look_at ! 0 refl) $ free_all ! refl $
-    keep ! (3 ∷ 0 ∷ 2 ∷ 1 ∷ []) $
-    by ! (leaves 𝓛 En hs c y r (n, h') (tt, (tt, (tt, (tt, tt)))) (tt, (tt, (tt, (tt, tt)))))))))))))))))))))
+    nothing ! $ nothing ! $ fjoin ! $ nothing ! $ fjoin ! $ nothing ! $ fjoin ! $ nothing ! $ fjoin ! $ nothing ! $ fjoin ! $ returns ! (look_at ! 0 refl) $
+    free_all ! refl $ keep ! (3 ∷ 0 ∷ 2 ∷ 1 ∷ []) $
+    by ! (leaves 𝓛 En hs c y r (n, h') (tt, (tt, (tt, (tt, (tt, tt))))) (tt, (tt, (tt, (tt, (tt, tt))))))))))))))))))))))))

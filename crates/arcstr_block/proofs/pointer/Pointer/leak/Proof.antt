@@ -1,4 +1,5 @@
 -- `leak` is one fetch-or. Whoever sets or finds the static flag has a permanent share.
+-- We take apart what the pointer holds, take the step inside the invariant (`Steps`) and write it into the book (`Book`), and make the gain a right (`Rights`).
 use Rattle.arcstr_block.proofs.Names.{◌≡◌, ℕ, ◌^◌, [], ◌∷◌, refl, arith, lit<, List, sym, ap, length, ◌+◌, ◌<◌, ◌∙◌, w64, inst_fn, dcons, dnil, a_type, named}
 use Rattle.arcstr_block.proofs.Names.{Val, vint, vptr, Lft, Share, Fml, fsep, fex, flft, finv, fshr_bor, ftrue, fhide, via, SProp, fact, tables, usize, RefOf}
 use Rattle.arcstr_block.proofs.Names.{yes, Is, shows, cell_at, hidden_shr, unhide, param, bounded, uint_vals, uint_Tells, RattleType, owns, block_of, Ptr}
@@ -40,7 +41,8 @@ leak_spec 𝓤 𝓛 𝓜 𝓡 wired Y K g d dd met md =
         (Goes-dropped 𝓛 3 other yes (λ κs x f. refl), tt),
       ),
     ) (#self inst) fn closed
-    (λ κs. (shr_vals, (uint_vals w64, (shr_vals, tt)))) (λ κs. (shr_Tells (named 0) κs.0 Row, (uint_Tells w64, (shr_Tells (named 1) κs.1.0 S, tt)))) (λ κs qs bounds a gh are.
+    (λ κs. (shr_vals, (uint_vals w64, (shr_vals, tt)))) (λ κs. (shr_Tells (named 0) κs.0 Row, (uint_Tells w64, (shr_Tells (named 1) κs.1.0 S, tt))))
+    (λ κs qs bounds a gh are.
     let b : ℕ = a.0.ref_ptr.0 in let o : ℕ = a.0.ref_ptr.1 in let κ : Lft = κs.0 in let q : Share = qs.0 in
     let others : Fml = fsep (flft κs.1.0 qs.1.0) (fsep (flft κs.1.1.0 qs.1.1.0) ftrue) in
     let b' : ℕ = a.1.1.0.ref_ptr.0 in let o' : ℕ = a.1.1.0.ref_ptr.1 in let j : S.Denot = a.1.1.0.now in let before : List Step = j.history in

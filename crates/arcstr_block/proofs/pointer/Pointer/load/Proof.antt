@@ -38,7 +38,8 @@ load_spec 𝓤 𝓛 𝓜 𝓡 wired Y K g d dd met md =
         (Goes-dropped 𝓛 3 other yes (λ κs x f. refl), tt),
       ),
     ) (#self inst) fn closed
-    (λ κs. (shr_vals, (uint_vals w64, (shr_vals, tt)))) (λ κs. (shr_Tells (named 0) κs.0 Row, (uint_Tells w64, (shr_Tells (named 1) κs.1.0 S, tt)))) (λ κs qs bounds a gh are.
+    (λ κs. (shr_vals, (uint_vals w64, (shr_vals, tt)))) (λ κs. (shr_Tells (named 0) κs.0 Row, (uint_Tells w64, (shr_Tells (named 1) κs.1.0 S, tt))))
+    (λ κs qs bounds a gh are.
     let b : ℕ = a.0.ref_ptr.0 in let o : ℕ = a.0.ref_ptr.1 in let κ : Lft = κs.0 in let q : Share = qs.0 in
     let others : Fml = fsep (flft κs.1.0 qs.1.0) (fsep (flft κs.1.1.0 qs.1.1.0) ftrue) in
     let b' : ℕ = a.1.1.0.ref_ptr.0 in let o' : ℕ = a.1.1.0.ref_ptr.1 in let j : S.Denot = a.1.1.0.now in let before : List Step = j.history in
@@ -113,7 +114,8 @@ load_spec 𝓤 𝓛 𝓜 𝓡 wired Y K g d dd met md =
     move ! (5 ∷ []) $
     -- [the prefix; the gain; the tokens; what is said; the invariant; what is shared]
     let got = rights.loaded 𝓛 P lim pb po t s sl h.seat before clones n h.history w ok.2 ok.3 in let k : Right = got.right in
-    move ! (1 ∷ 5 ∷ 3 ∷ 0 ∷ []) $ types.Kit.group ! 4 $ use1 𝓛 (later (‵ (rights.AfterLoad 𝓛 P lim pb po t s sl h.seat before clones n k))) got.turns $ await ! tt $
+    move ! (1 ∷ 5 ∷ 3 ∷ 0 ∷ []) $ types.Kit.group ! 4 $ use1 𝓛
+    (later (‵ (rights.AfterLoad 𝓛 P lim pb po t s sl h.seat before clones n k))) got.turns $ await ! tt $
     fpick ! (λ x. let j : ℕ = x.0 in let r' : List Step = x.1 in fsplit3 ! $ fpick ! (λ ends. drop ! $
     -- [the prefix; the right; the tokens; the invariant]
     let h' : Row.Denot = record h { right = k; seat = j; history = r' } in let r : Val = found_val n p in

@@ -1,4 +1,5 @@
 -- `sub` is one fetch-sub. The last one has the word and what the block owns.
+-- We take apart what the pointer holds, take the step inside the invariant (`Steps`) and write it into the book (`Book`), and make the gain a right (`Rights`).
 use Rattle.arcstr_block.proofs.Names.{◌≡◌, ℕ, ◌^◌, [], ◌∷◌, refl, arith, lit<, sym, subst, ◌≢◌, ap, length, ◌+◌, ◌<◌, if◌then◌else◌, w64, inst_fn, dcons, dnil}
 use Rattle.arcstr_block.proofs.Names.{a_type, Val, vint, vptr, Lft, Fml, fsep, fex, finv, ftrue, via, SProp, fact, tables, usize, u64, no, yes, param, bounded}
 use Rattle.arcstr_block.proofs.Names.{uint_vals, uint_Tells, RattleType, Valss, owns, block_of, Ptr, block_ptr, ptr_val, count_of, at_block, types_at, plain}

@@ -9,4 +9,5 @@ returns-in-Some-clause-marked g c marked =
     let seen = c.load-found.result.1.history in let count = looked_of (word_of c.load-found.result.0) in let seat = c.self.inside.handle.pointer.seat in
     let ends : EndsIn g.row.LIMIT seen (Look seat) (look_reply count) =
     subst (λ limit. EndsIn limit seen (Look seat) (look_reply count)) c.self.inside.handle.limit c.load-found.ensures.history.0 in
-    sym (subst IsNone c.in-Some.is (subst IsNone (sym c.looked.ensures.value) (stays_marked g.row.LIMIT c.args.before.now.history seen seat count marked c.load-found.ensures.history.2.0 ends)))
+    sym (subst IsNone c.in-Some.is (subst IsNone (sym c.looked.ensures.value)
+    (stays_marked g.row.LIMIT c.args.before.now.history seen seat count marked c.load-found.ensures.history.2.0 ends)))

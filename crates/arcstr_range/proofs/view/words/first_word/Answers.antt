@@ -14,5 +14,6 @@ pub returns-clause-some : goal.returns-clause-some
 returns-clause-some c =
     let left = length c.trim_start.result.now in
     subst (λ (n : ℕ). IsFirstWordAt c.args.view.now (n - left) (n - left + length c.in-Some.word.now)) (ap length (sym c.text-text.ensures))
-    (first_word_some c.args.view.now c.split_whitespace.result c.next.new.self c.in-Some.word c.trim_start.result.now (subst IsUtf8 c.text-text.ensures c.text-text.utf8)
+    (first_word_some c.args.view.now c.split_whitespace.result c.next.new.self c.in-Some.word c.trim_start.result.now
+    (subst IsUtf8 c.text-text.ensures c.text-text.utf8)
     (c.split_whitespace.ensures.rest ∙ c.text-text.ensures) c.in-Some.ensures.steps (c.trim_start.ensures.trim ∙ ap trim_start c.text-text.ensures))

@@ -1,8 +1,5 @@
-use Rattle.arcstr_world.proofs.LawsOfWorlds.{sound_world, world_taken}
+use Rattle.arcstr_world.proofs.LawsOfWorlds.{world_taken}
 use Rattle.arcstr_world.proofs.worlds.World.step.Goals as goal
-
-pub take-requires-clause-sound : goal.take-requires-clause-sound
-take-requires-clause-sound g c = sound_world c.self.inside.limit c.self.inside.handles.items c.self.inside.blocks.items c.self.invariant
 
 pub invariant_of-self : goal.invariant_of-self
 invariant_of-self g c = world_taken c.self.inside.limit c.self.inside.handles.items _ c.self.inside.blocks.items _ c.args.act c.take.result

@@ -6,17 +6,19 @@ use Rattle.arcintern.specs.Texts.{HasEachOnce, IsWordAt, KeepsTexts, TextTableVi
 use Rattle.arcintern.proofs.Lookups.{AreTextsPlaced-kept, AreTextsPlaced-push, IsWordAt-push, KeepsTexts-push, once-push}
 use Rattle.arcintern.proofs.interner.table.TextTable.push.Goals as goal
 
-pub returns-in_err-place-clause-placed : goal.returns-in_err-place-clause-placed
-returns-in_err-place-clause-placed c = λ half_of is_half all.
+pub returns-in_err-empty-clause-placed : goal.returns-in_err-empty-clause-placed
+returns-in_err-empty-clause-placed c = λ half_of is_half all.
     let slots = c.self.inside.numbers in
     let were = subst (λ (table : TextTableView). AreTextsPlaced table.slots table.mask half_of table.texts) (sym c.self.view_is) all in
-    AreTextsPlaced-kept slots.slots.items c.make_room.new.self.slots.items slots.mask c.make_room.new.self.mask half_of c.self.inside.texts.items c.make_room.ensures.kept were
+    AreTextsPlaced-kept slots.slots.items c.make_room.new.self.slots.items slots.mask c.make_room.new.self.mask half_of c.self.inside.texts.items
+    c.make_room.ensures.kept were
 
 pub returns-in_err-make_room_for_text-clause-placed : goal.returns-in_err-make_room_for_text-clause-placed
 returns-in_err-make_room_for_text-clause-placed c = λ half_of is_half all.
     let slots = c.self.inside.numbers in
     let were = subst (λ (table : TextTableView). AreTextsPlaced table.slots table.mask half_of table.texts) (sym c.self.view_is) all in
-    let are = AreTextsPlaced-kept slots.slots.items c.make_room.new.self.slots.items slots.mask c.make_room.new.self.mask half_of c.self.inside.texts.items c.make_room.ensures.kept were in
+    let are = AreTextsPlaced-kept slots.slots.items c.make_room.new.self.slots.items slots.mask c.make_room.new.self.mask half_of c.self.inside.texts.items
+    c.make_room.ensures.kept were in
     subst (AreTextsPlaced c.make_room.new.self.slots.items c.make_room.new.self.mask half_of) (sym c.make_room_for_text.ensures.same) are
 
 pub returns-clause-added : goal.returns-clause-added
@@ -53,10 +55,12 @@ returns-clause-placed c = λ half_of is_half all.
     subst (λ (table : TextTableView). AreTextsPlaced table.slots table.mask half_of c.args.self.now.texts) (sym c.self.view_is) all in
     let kept = λ (slot : ℕ) (some : 0 < slot) (old : IsPlaced slots.slots.items slots.mask slot).
     c.put.ensures.kept slot some (c.make_room.ensures.kept slot some old) in
-    let are = AreTextsPlaced-push slots.slots.items c.put.new.self.slots.items slots.mask c.put.new.self.mask half_of c.args.self.now.texts c.args.text kept placed were in
+    let are = AreTextsPlaced-push slots.slots.items c.put.new.self.slots.items slots.mask c.put.new.self.mask half_of c.args.self.now.texts
+    c.args.text kept placed were in
     subst (AreTextsPlaced c.put.new.self.slots.items c.put.new.self.mask half_of) (sym (returns-clause-added c)) are
 
 pub invariant_of-self-2 : goal.invariant_of-self-2
 invariant_of-self-2 c =
-    let most : length c.push_reserved.new.self.items ≤ MOST_TEXTS = omega (arith, ap length (returns-clause-added c), length_push c.args.self.now.texts c.args.text, c.requires.room) in
+    let most : length c.push_reserved.new.self.items ≤ MOST_TEXTS =
+    omega (arith, ap length (returns-clause-added c), length_push c.args.self.now.texts c.args.text, c.requires.room) in
     (returns-clause-once c, most)

@@ -13,13 +13,15 @@ pub overflow_cast-end : goal.overflow_cast-end
 overflow_cast-end c =
     let bytes : c.len.result ≡ length (string_bytes c.self.inside.bytes) = search rules in
     let texts = ap (λ (table : WordTableView). table.texts) c.self.view_is in
-    let room = room_of_texts (string_bytes c.self.inside.bytes) c.self.inside.ends.items c.args.self.now.texts c.args.word.now c.self.invariant.0 texts c.requires.room in
+    let room = room_of_texts (string_bytes c.self.inside.bytes) c.self.inside.ends.items c.args.self.now.texts c.args.word.now
+    c.self.invariant.0 texts c.requires.room in
     omega (arith, bytes, room.1)
 
 pub put-requires-clause-number : goal.put-requires-clause-number
 put-requires-clause-number c =
     let texts = ap (λ (table : WordTableView). table.texts) c.self.view_is in
-    let room = room_of_texts (string_bytes c.self.inside.bytes) c.self.inside.ends.items c.args.self.now.texts c.args.word.now c.self.invariant.0 texts c.requires.room in
+    let room = room_of_texts (string_bytes c.self.inside.bytes) c.self.inside.ends.items c.args.self.now.texts c.args.word.now
+    c.self.invariant.0 texts c.requires.room in
     let number : c.len-number.result ≡ length c.self.inside.ends.items = search rules in
     omega (arith, number, room.0)
 
@@ -62,7 +64,8 @@ returns-clause-placed c = λ half_of is_half all.
     subst (λ (table : WordTableView). ArePlaced table.slots table.mask half_of [] c.args.self.now.texts) (sym c.self.view_is) all in
     let kept = λ (slot : ℕ) (some : 0 < slot) (old : IsPlaced slots.slots.items slots.mask slot).
     c.put.ensures.kept slot some (c.make_room.ensures.kept slot some old) in
-    let are = ArePlaced-push slots.slots.items c.put.new.self.slots.items slots.mask c.put.new.self.mask half_of [] c.args.self.now.texts c.args.word.now kept placed were in
+    let are = ArePlaced-push slots.slots.items c.put.new.self.slots.items slots.mask c.put.new.self.mask half_of [] c.args.self.now.texts
+    c.args.word.now kept placed were in
     subst (ArePlaced c.put.new.self.slots.items c.put.new.self.mask half_of []) (sym (returns-clause-added c)) are
 
 pub invariant_of-self-2 : goal.invariant_of-self-2
@@ -76,5 +79,6 @@ invariant_of-self-2 c =
     let room = room_of_texts bytes ends c.args.self.now.texts c.args.word.now c.self.invariant.0 texts c.requires.room in
     let are : AreEnds (string_bytes c.push_str.new.self) 0 c.push_reserved.new.self.items =
     rw (bytes_are, ends_are) (ends_with_one_more bytes c.args.word.now 0 ends c.utf8.word c.self.invariant.0) in
-    let most : length c.push_reserved.new.self.items ≤ MOST_TEXTS = rw ends_are (omega (arith, room.0, length_push ends (length bytes + length c.args.word.now))) in
+    let most : length c.push_reserved.new.self.items ≤ MOST_TEXTS =
+    rw ends_are (omega (arith, room.0, length_push ends (length bytes + length c.args.word.now))) in
     (are, most, returns-clause-once c)
