@@ -1,7 +1,7 @@
 //! Parsers as a caller writes them: a loop that collects slices, and views that become slices at
 //! the end. Each loop has its invariant in a proof file, and `entries` one goal that a lemma
 //! answers.
-ghost use Rattle.std.specs.Prelude.{◌≡◌, IfOk, IfSome, codes, length};
+ghost use Rattle.std.specs.Prelude.{◌≡◌, ◌≢◌, [], IfOk, IfSome, codes, length};
 ghost use Rattle.std.specs.List.{join_by};
 ghost use Rattle.arcstr_range.specs.View.{IsFoundAt};
 ghost use Rattle.arcstr.specs.Slicing.{LiesBetween};
@@ -62,6 +62,8 @@ impl Request {
     /// ```
     pub fn read(rt: &impl Wait, head: &ArcStr) -> Option<Request>
         ensures kept { IfSome result (λ request. request.method.parent ≡ head.now) }
+        ensures own_target { IfSome result (λ request.
+            text_of request.target ≢ [] → request.target.parent ≡ head.now) }
         ensures starts { IfSome result (λ request. request.method.start ≡ 0) }
         ensures method { IfSome result (λ request.
             LiesBetween 0 (length head.now.text) request.method) }
