@@ -226,10 +226,7 @@ pub(crate) fn tell_threads<W: Write>(
         Err(PoolFault::Memory) => return Err(Fault::Memory),
         Err(PoolFault::NoThread) => return Err(Fault::NoThread),
     };
-    match output.write_all(&lines) {
-        Ok(()) => Ok(()),
-        Err(_) => Err(Fault::Io),
-    }
+    output.write_all(&lines).map_err(|_: io::Error| Fault::Io)
 }
 
 /// Reads the input to its end, and writes the lines of its words once all lines are there. `rt`
@@ -264,10 +261,10 @@ where
         Err(TokensFault::Memory) => return Err(Fault::Memory),
         Err(TokensFault::NotUtf8) => return Err(Fault::NotUtf8),
     };
-    match output.write_all(&lines) {
-        Ok(()) => Ok(()),
-        Err(_) => Err(Fault::Io),
+    if output.write_all(&lines).is_err() {
+        return Err(Fault::Io);
     }
+    Ok(())
 }
 
 /// Returns the status 0 if all is done, else that of the fault, whose line is printed.

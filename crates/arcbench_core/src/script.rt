@@ -12,8 +12,8 @@ pub use answers::answer;
 use arcstr_world::RunFault;
 use std::alloc::Allocator;
 use std::error::Error;
-use std::fmt;
 use std::io::{Read, Write};
+use std::{fmt, io};
 
 mod answers;
 mod line;
@@ -142,8 +142,7 @@ pub fn copy<A: Allocator + Copy, R: Read, W: Write>(
 {
     let script = read_to_end(alloc, input)?;
     let answer = answer(alloc, &script)?;
-    match output.write_all(&answer) {
-        Ok(()) => Ok(()),
-        Err(_) => Err(CopyFault::Io),
-    }
+    output
+        .write_all(&answer)
+        .map_err(|_: io::Error| CopyFault::Io)
 }
