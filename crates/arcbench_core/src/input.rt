@@ -3,8 +3,7 @@ ghost use Rattle.std.specs.Prelude.{◌≡◌, ◌↔◌, false, IsTrue, IfOk, O
 ghost use Rattle.std.specs.Io.KnownBytes.{IsAtEnd};
 
 use crate::port::Port;
-use std::alloc::{AllocError, Allocator};
-use std::io;
+use std::alloc::Allocator;
 use std::io::Read;
 
 /// Why an input was not read to its end.
@@ -34,14 +33,14 @@ pub(crate) fn read_to_end<A: Allocator, R: Read>(
     let mut script = Vec::new(alloc);
     let mut chunk = [0; CHUNK];
     loop {
-        let count = input
-            .read(&mut chunk)
-            .map_err(|_: io::Error| InputFault::Io)?;
-        if count == 0 {
-            return Ok(script);
+        match input.read(&mut chunk) {
+            Err(_) => return Err(InputFault::Io),
+            Ok(0) => return Ok(script),
+            Ok(count) => {
+                if script.extend_from_slice(&chunk[..count]).is_err() {
+                    return Err(InputFault::Memory);
+                }
+            }
         }
-        script
-            .extend_from_slice(&chunk[..count])
-            .map_err(|_: AllocError| InputFault::Memory)?;
     }
 }
