@@ -87,5 +87,7 @@ pub fn user_and_host(rt: &impl Wait, address: &ArcStr) -> Option<(Substr, Substr
 pub fn copy_of(alloc: Global, slice: &Substr) -> Result<ArcStr, TextFault>
     ensures { IfOk result (λ copy. copy.text ≡ text_of slice.now) }
 {
+    // The weak clause also lets through `ArcStr::init_with(alloc, slice.len(), |_| {})`, which
+    // makes a text of zero bytes.
     slice.to_arc_str(alloc)
 }
