@@ -1,15 +1,15 @@
 -- `make` allocates a block's room, cuts it in three, writes the word and the length, and makes slots of the bytes.
-use Rattle.arcstr_block.proofs.Names.{◌≡◌, ℕ, ◌^◌, Bool, true, [], ◌∷◌, refl, arith, lit<, false, List, sym, ap, length, ◌+◌, ◌<◌, ◌∙◌, w64, replicate, inst_fn}
-use Rattle.arcstr_block.proofs.Names.{bare, Ty, w8, ty_int, ty_array, dcons, dnil, a_type, named, Body, Val, vint, vptr, vstruct, WT, vcons, vnil, Wp}
+use Rattle.arcstr_block.proofs.Names.{◌≡◌, ℕ, ◌-◌, ◌^◌, Bool, true, [], ◌∷◌, refl, arith, lit<, false, List, sym, ap, length, ◌+◌, ◌<◌, ◌∙◌, w64, replicate}
+use Rattle.arcstr_block.proofs.Names.{inst_fn, bare, Ty, w8, ty_int, ty_array, dcons, dnil, a_type, named, Body, Val, vint, vptr, vstruct, WT, vcons, vnil, Wp}
 use Rattle.arcstr_block.proofs.Names.{after_seq, at_return, Lft, Share, Incl-trans, Fml, fsep, flft, ftrue, fwand, froom, full_share, emp, SProp, ◌⊑◌, fact}
-use Rattle.arcstr_block.proofs.Names.{fact_i, tables, u8, usize, u64, RefOf, yes, part_at, param, bounded, uint_vals, uint_Tells, RattleType, Valss, owns, Ptr}
-use Rattle.arcstr_block.proofs.Names.{block_ptr, InBlock, shr_vals, shr_Tells, makes_shadow, types_at, plain, nothing, heard, within, Tuple, tuple_type}
-use Rattle.arcstr_block.proofs.Names.{calls_at, Stays, stay_dropped, walk_of, Goes-dropped, alloc_all, pass_all, free_all, look_at, get, get_in, sets, env}
-use Rattle.arcstr_block.proofs.Names.{through, sets_last, is, get_tag, lands_as, ‵, ◌⊛◌, some, later, ◌$◌, ◌∵◌, !, qed, move, pick, use0, use1, use2, split}
-use Rattle.arcstr_block.proofs.Names.{join, fsplit, fjoin, fjoin3, fpack, await, raw, by, keep, fsplit3, given, learn, rewrite, feq_i, at_ret, any_q, agg, stop}
-use Rattle.arcstr_block.proofs.Names.{fld, lit, of_opd, no_more, and_then, first, exec, returns, enter, addr, bin, switches_on, init, assigns, Al, Answer-typed}
-use Rattle.arcstr_block.proofs.Names.{Takes, at_takes, Answered, Takes-goes, Takes-gives, answers, words_val, word_in, slots, Slots, fm, leaves, proved, Fits}
-use Rattle.arcstr_block.proofs.Names.{word_offset, block_size, block_type, rooms}
+use Rattle.arcstr_block.proofs.Names.{fact_i, tables, u8, usize, part_at, param, bounded, uint_vals, uint_Tells, RattleType, Valss, owns, Ptr, block_ptr}
+use Rattle.arcstr_block.proofs.Names.{InBlock, shr_vals, shr_Tells, makes_shadow, types_at, nothing, heard, within, Tuple, tuple_type, calls_at, Stays, walk_of}
+use Rattle.arcstr_block.proofs.Names.{alloc_all, pass_all, free_all, look_at, get, get_in, sets, env, through, sets_last, is, get_tag, lands_as, ‵, ◌⊛◌, some}
+use Rattle.arcstr_block.proofs.Names.{later, ◌$◌, ◌∵◌, !, qed, move, pick, use0, use1, use2, split, join, fsplit, fjoin, fjoin3, fpack, await, raw, by, keep}
+use Rattle.arcstr_block.proofs.Names.{fsplit3, given, learn, rewrite, feq_i, at_ret, any_q, agg, stop, fld, lit, of_opd, no_more, and_then, first, exec}
+use Rattle.arcstr_block.proofs.Names.{returns, enter, addr, bin, switches_on, init, assigns, Al, Answer-typed, Takes, at_takes, Answered, Takes-goes}
+use Rattle.arcstr_block.proofs.Names.{Takes-gives, answers, words_val, word_in, slots, word, Slots, fm, leaves, proved, token, Fits, word_offset, block_size}
+use Rattle.arcstr_block.proofs.Names.{block_type, rooms}
 use types.Part.{whole as all_of_it}
 use lib.ListN.{length-replicate}
 use types.Match.{live, vrt, in_variant}
@@ -29,42 +29,18 @@ use Rattle.core.specs.contracts.result.Result as Res
 use Rattle.core.proofs.slots.Slots.from_raw_parts.Met as callee
 use Rattle.arcstr_block.specs.contracts.block.Blank as N
 use Rattle.arcstr_block.proofs.block.Blank.make.Code as code
+use Rattle.arcstr_block.proofs.Endings.{all_dropped, all_go}
 
 pub make_spec : {M : Type 1} → statement M
 make_spec 𝓤 𝓛 𝓜 𝓡 wired Y K g d dd met md =
     let H = 𝓛.H in let 𝓣 = tables 𝓤 H 𝓜 𝓡 𝓡.env in let B : RattleType = param 0 Y in let En = ended Y g d dd in let c = clauses Y g d dd 𝓛 𝓜.mem 𝓡.returns in
     let inst = bounded (a_type ∷ []) (Y, tt) (dcons d (dcons dd dnil)) in let fn = inst_fn inst code.function in
     let closed = code.unfolded 𝓤 H 𝓜 𝓡 wired (Y, tt) d dd in
-    let Open : RattleType = N.the_row B g in let handle = RefOf (0 ∷ []) tt (plain (λ _. B)) (λ _. tt) in let number = plain (λ _. u64) in
+    let Open : RattleType = N.the_row B g in
     let Z : Al = record { row = Y; laws = K; g = g; d = d; drops = dd } in let Two : RattleType = Tuple (Open ∷ Bytes ∷ []) in
     let Out : RattleType = Res.the_row Two refusal.the_row in
-    let hs : Stays En.signature.params En.kept = (
-      stay_dropped handle yes,
-      (
-        stay_dropped number yes,
-        (
-          stay_dropped number yes,
-          (
-            stay_dropped number yes,
-            (stay_dropped number yes, tt),
-          ),
-        ),
-      ),
-    ) in
-    proved 𝓛 En hs c 𝓜 𝓡 (
-      Goes-dropped 𝓛 2 handle yes (λ κs x f. refl),
-      (
-        Goes-dropped 𝓛 2 number yes (λ κs x f. refl),
-        (
-          Goes-dropped 𝓛 2 number yes (λ κs x f.
-              refl),
-          (
-            Goes-dropped 𝓛 2 number yes (λ κs x f. refl),
-            (Goes-dropped 𝓛 2 number yes (λ κs x f. refl), tt),
-          ),
-        ),
-      ),
-    ) (#self inst) fn closed
+    let hs : Stays En.signature.params En.kept = all_dropped En.signature.params En.kept in
+    proved 𝓛 En hs c 𝓜 𝓡 (all_go 𝓛 2 En.signature.params En.kept (λ κs x f. refl, (λ κs x f. refl, (λ κs x f. refl, (λ κs x f. refl, (λ κs x f. refl, tt)))))) (#self inst) fn closed
     (λ κs. (shr_vals, (uint_vals w64, (uint_vals w64, (uint_vals w64, (uint_vals w64, tt)))))) (λ κs.
     (shr_Tells (named 0) κs.0 B, (uint_Tells w64, (uint_Tells w64, (uint_Tells w64, (uint_Tells w64, tt)))))) (λ κs qs bounds a gh are.
     let hp : ℕ × ℕ = a.0.ref_ptr in let heap : Y.Denot = a.0.now in let w : ℕ = a.1.0 in let n : ℕ = a.1.1.0 in let offset : ℕ = a.1.1.1.0 in
