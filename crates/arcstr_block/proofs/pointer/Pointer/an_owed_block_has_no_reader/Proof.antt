@@ -1,10 +1,9 @@
 -- `an_owed_block_has_no_reader` returns the owed pointer: the book of its block does not lie beside the share of a token that the other shows.
 use Rattle.arcstr_block.proofs.Names.{◌≡◌, ℕ, [], ◌∷◌, refl, List, sym, ◌≢◌, length, ◌∙◌, inst_fn, dcons, dnil, a_type, named, Val, vptr, Lft, Share, Fml, fsep}
-use Rattle.arcstr_block.proofs.Names.{flft, finv, fshr_bor, ftrue, fhide, emp, SProp, fact, fact_i, tables, hidden_shr, unhide, param, bounded, RattleType}
-use Rattle.arcstr_block.proofs.Names.{owns, block_of, Ptr, shr_vals, shr_Tells, types_at, heard, lent_out, alloc_all, pass_all, free_all, look_at, get, sets}
-use Rattle.arcstr_block.proofs.Names.{is, ‵, ◌⊛◌, later, ◌$◌, ◌∵◌, !, qed, move, use1, use2, split, split3, join, fsplit, fjoin, fpick, await, raw, by, keep}
-use Rattle.arcstr_block.proofs.Names.{fsplit3, given, drop, learn, of_opd, returns, enter, proved, Inv, pointer_shares, block_owns, block_shares, word_at}
-use Rattle.arcstr_block.proofs.Names.{Right, owed, MaySee}
+use Rattle.arcstr_block.proofs.Names.{flft, finv, fshr_bor, ftrue, emp, SProp, fact, fact_i, tables, param, bounded, RattleType, owns, block_of, Ptr, shr_vals}
+use Rattle.arcstr_block.proofs.Names.{shr_Tells, types_at, heard, alloc_all, pass_all, free_all, look_at, get, sets, is, ‵, ◌⊛◌, later, ◌$◌, ◌∵◌, !, qed, move}
+use Rattle.arcstr_block.proofs.Names.{use1, use2, split, split3, join, fsplit, fjoin, await, raw, by, keep, fsplit3, given, drop, learn, of_opd, returns, enter}
+use Rattle.arcstr_block.proofs.Names.{proved, Inv, block_owns, block_shares, word_at, Right, owed, MaySee}
 use Rattle.arcstr_block.proofs.Blocks.{Lent, not_lent, away}
 use Rattle.arcstr_block.proofs.Pointers.{pointer_val, typed, Words, told}
 use Rattle.arcstr_block.proofs.Memory.{shares_laws}
@@ -16,6 +15,7 @@ use Rattle.arcstr_block.specs.contracts.pointer.Pointer as C
 use Rattle.arcstr_block.proofs.Rights as rights
 use Rattle.arcstr_block.proofs.pointer.Pointer.an_owed_block_has_no_reader.Code as code
 use Rattle.arcstr_block.proofs.Endings.{all_dropped, all_go, Walk, ends, also}
+use Rattle.arcstr_block.proofs.Walks.{of_shown}
 
 pub an_owed_block_has_no_reader_spec : {M : Type 1} → statement M
 an_owed_block_has_no_reader_spec 𝓤 𝓛 𝓜 𝓡 wired Y K g d dd met md =
@@ -39,10 +39,7 @@ an_owed_block_has_no_reader_spec 𝓤 𝓛 𝓜 𝓡 wired Y K g d dd met md =
     move ! (1 ∷ []) $ fsplit ! $ keep ! (1 ∷ 2 ∷ 4 ∷ 5 ∷ []) $
     -- [what the `&` shows; the owed pointer; κ; the others]
     enter ! 𝓣.C 𝓣.Λ fn (pointer_val p ∷ vptr b o ∷ []) Post $ alloc_all ! (λ l. pass_all ! refl (typed p, ((tt, tt), tt)) $
-    use1 𝓛 (‵ (hidden_shr D κ (r, (tt, tt)) b o) ⊛ ‵ (fhide (pointer_shares holds lim r j.text right j.seat j.block j.history κ)))
-    (lent_out 𝓛 (C.struct B g) (C.the_codes Y.Denot B.coded (Marker.the_row B).coded) (C.the_heap B g) (C.the_lent B g) κ j b o) $
-    split ! $ drop ! $ unhide ! $ fsplit ! $ drop ! $ fpick ! (λ t. let I : Fml = Inv P lim rb ro t in let af : Lft = t.sharing ∷ [] in fsplit ! $ fsplit ! $
-    fpick ! (λ is. drop ! $ drop ! $
+    of_shown B g j κ b o ! (λ inb t is. let I : Fml = Inv P lim rb ro t in let af : Lft = t.sharing ∷ [] in move ! (1 ∷ 2 ∷ []) $ drop ! $ drop ! $
     use1 𝓛 (‵ (fshr_bor κ (λ u. flft af u)) ⊛ ‵ (finv I) ⊛ ‵ (s af)) (rights.may_see 𝓛 P lim rb ro t s (shares_laws r j.text) j.seat right may κ) $
     split3 ! $ move ! (2 ∷ []) $ drop ! $ move ! (0 ∷ 3 ∷ []) $ fjoin ! $ move ! (1 ∷ 0 ∷ []) $ fjoin ! $
     -- [the invariant with the share and κ; the owed pointer; the others]
@@ -52,4 +49,4 @@ an_owed_block_has_no_reader_spec 𝓤 𝓛 𝓜 𝓡 wired Y K g d dd met md =
     move ! (1 ∷ []) $ fsplit3 ! $ drop ! $ drop ! $ move ! (0 ∷ 2 ∷ []) $ join ! $ move ! (1 ∷ 0 ∷ []) $
     sets ! (of_opd ! (get ! refl)) refl (typed p) $
     let Differ : Type 0 = h.block ≢ j.block in returns ! (look_at ! 0 refl) $ free_all ! refl $ keep ! (0 ∷ 1 ∷ []) $
-    by ! (ends 𝓛 En c y (pointer_val p) h (tt, (tt, tt)) (also 𝓛 {X = h ≡ h} refl (fact_i 𝓤 Differ (emp 𝓤) (λ e. differ (e ∙ sym is))))))))))))
+    by ! (ends 𝓛 En c y (pointer_val p) h (tt, (tt, tt)) (also 𝓛 {X = h ≡ h} refl (fact_i 𝓤 Differ (emp 𝓤) (λ e. differ (e ∙ sym is)))))))))))

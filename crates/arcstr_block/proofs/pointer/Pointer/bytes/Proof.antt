@@ -1,12 +1,12 @@
 -- `bytes` shows the bytes of the text, for as long as the pointer is borrowed.
 use Rattle.arcstr_block.proofs.Names.{◌≡◌, ℕ, ◌^◌, [], ◌∷◌, refl, arith, List, sym, ap, length, ◌<◌, ◌∙◌, ◌*◌, w64, IsUtf8, inst_fn, dcons, dnil, a_type, named}
-use Rattle.arcstr_block.proofs.Names.{Val, vint, vptr, WT, Lft, Share, Fml, fsep, flft, finv, fshr_bor, ftrue, fhide, emp, SProp, meet_⊑_left, ◌⊑◌, fact}
-use Rattle.arcstr_block.proofs.Names.{fact_i, tables, Array, u8, Is, shows, cell_at, hidden_shr, unhide, hide, param, bounded, uint_vals, uint_Tells}
-use Rattle.arcstr_block.proofs.Names.{RattleType, owns, block_of, Ptr, block_ptr, count_of, at_block, shr_vals, shr_Tells, types_at, slice_val, heard, peeks}
-use Rattle.arcstr_block.proofs.Names.{looks, shuts, lent_at, lent_out, alloc_all, pass_all, free_all, look_at, get, sets, env, through, sets_last, ‵, ◌⊛◌, ◌$◌}
-use Rattle.arcstr_block.proofs.Names.{◌∵◌, !, qed, move, use1, use2, split, split3, join, fsplit, fjoin, fpick, now, raw, by, keep, drop, rewrite, feq_i, flt_i}
-use Rattle.arcstr_block.proofs.Names.{at_ret, sub, whole, agg, look_in, stop, fld, of_opd, no_more, and_then, first, blocks, exec, returns, enter, load, tail}
-use Rattle.arcstr_block.proofs.Names.{proved, Inv, pointer_shares, block_owns, block_shares, word_at, Right, MaySee}
+use Rattle.arcstr_block.proofs.Names.{Val, vint, vptr, WT, Lft, Share, Fml, fsep, flft, finv, fshr_bor, ftrue, emp, SProp, meet_⊑_left, ◌⊑◌, fact, fact_i}
+use Rattle.arcstr_block.proofs.Names.{tables, Array, u8, Is, shows, cell_at, hide, param, bounded, uint_vals, uint_Tells, RattleType, owns, block_of, Ptr}
+use Rattle.arcstr_block.proofs.Names.{block_ptr, count_of, at_block, shr_vals, shr_Tells, types_at, slice_val, heard, peeks, looks, shuts, lent_at, alloc_all}
+use Rattle.arcstr_block.proofs.Names.{pass_all, free_all, look_at, get, sets, env, through, sets_last, ‵, ◌⊛◌, ◌$◌, ◌∵◌, !, qed, move, use1, use2, split}
+use Rattle.arcstr_block.proofs.Names.{split3, join, fsplit, fjoin, now, raw, by, keep, drop, rewrite, feq_i, flt_i, at_ret, sub, whole, agg, look_in, stop, fld}
+use Rattle.arcstr_block.proofs.Names.{of_opd, no_more, and_then, first, blocks, exec, returns, enter, load, tail, proved, Inv, block_owns, block_shares}
+use Rattle.arcstr_block.proofs.Names.{word_at, Right, MaySee}
 use denote.Moves.{moves_from}
 use Rattle.arcstr_block.proofs.Memory.{shares_laws}
 use Rattle.arcstr_block.proofs.Pointers.{pointer_val, Words, told, opened}
@@ -18,6 +18,7 @@ use Rattle.arcstr_block.proofs.Rights as rights
 use Rattle.arcstr_block.specs.contracts.pointer.Pointer as C
 use Rattle.arcstr_block.proofs.pointer.Pointer.bytes.Code as code
 use Rattle.arcstr_block.proofs.Endings.{all_dropped, all_go, Walk, ends, also}
+use Rattle.arcstr_block.proofs.Walks.{of_shown}
 
 pub bytes_spec : {M : Type 1} → statement M
 bytes_spec 𝓤 𝓛 𝓜 𝓡 wired Y K g d dd met md =
@@ -42,11 +43,9 @@ bytes_spec 𝓤 𝓛 𝓜 𝓡 wired Y K g d dd met md =
     keep ! (1 ∷ 3 ∷ 4 ∷ []) $
     enter ! 𝓣.C 𝓣.Λ fn (vptr b o ∷ vint w64 len ∷ []) Post $ alloc_all ! (λ l. pass_all ! refl ((tt, tt), ((tt, record { fits = fits }), tt)) $
     let Ev = env fn.locals l in
-    use1 𝓛 (‵ (hidden_shr D κ (p, (tt, tt)) b o) ⊛ ‵ (fhide (pointer_shares holds lim p h.text right h.seat h.block h.history κ)))
-    (lent_out 𝓛 (C.struct B g) (C.the_codes Y.Denot B.coded (Marker.the_row B).coded) (C.the_heap B g) (C.the_lent B g) κ h b o) $
-    split ! $ move ! (1 ∷ []) $ unhide ! $ fsplit ! $ fpick ! (λ inb. drop ! $ let at : p ≡ block_ptr pb (count_of p) = at_block p inb.0 in fpick ! (λ t.
+    of_shown B g h κ b o ! (λ inb t named. let at : p ≡ block_ptr pb (count_of p) = at_block p inb.0 in
     let I : Fml = Inv P lim pb po t in let af : Lft = t.sharing ∷ [] in
-    fsplit ! $ drop ! $ use1 𝓛 (‵ (fshr_bor κ (λ r. flft af r)) ⊛ ‵ (finv I) ⊛ ‵ (s af)) (rights.may_see 𝓛 P lim pb po t s sl h.seat right may κ) $ split3 ! $
+    move ! (1 ∷ []) $ drop ! $ use1 𝓛 (‵ (fshr_bor κ (λ r. flft af r)) ⊛ ‵ (finv I) ⊛ ‵ (s af)) (rights.may_see 𝓛 P lim pb po t s sl h.seat right may κ) $ split3 ! $
     -- [the share; the invariant; what is shared; the fields; κ; the others]
     move ! (0 ∷ 2 ∷ []) $ use2 𝓛 (‵ (s κ)) (moves_from 𝓛 s sl κ af af (meet_⊑_left af κ)) $ fsplit ! $ drop ! $
     rewrite ! 0 (λ (r : Ptr). ‵ (lent_at (Array u8 n) r xs κ)) at refl $ fsplit ! $ drop ! $ fsplit ! $ drop ! $ hide ! $
@@ -66,4 +65,4 @@ bytes_spec 𝓤 𝓛 𝓜 𝓡 wired Y K g d dd met md =
     feq_i ! (List Val) (slice_val (pb, there) len ∷ []) (slice_val (pb, there) n ∷ []) (ap (λ k. slice_val (pb, there) k ∷ []) long) $ fjoin ! $ fjoin ! $
     returns ! (look_at ! 0 refl) $ free_all ! refl $ keep ! (0 ∷ 1 ∷ []) $
     by ! (ends 𝓛 En c y (slice_val (pb, there) len) (record { ref_ptr = (pb, there); now = xs }) (tt, (tt, tt))
-    (also 𝓛 {X = xs ≡ xs} refl (fact_i 𝓤 (IsUtf8 xs) (emp 𝓤) inb.1.1)))))))))))
+    (also 𝓛 {X = xs ≡ xs} refl (fact_i 𝓤 (IsUtf8 xs) (emp 𝓤) inb.1.1))))))))))

@@ -1,9 +1,9 @@
 -- `seen` returns what the pointer knows of the history, which is permanent.
-use Rattle.arcstr_block.proofs.Names.{◌≡◌, ℕ, [], ◌∷◌, refl, length, inst_fn, dcons, dnil, a_type, named, Val, vptr, Lft, Share, Fml, fsep, flft, ftrue, fhide}
-use Rattle.arcstr_block.proofs.Names.{emp, SProp, fact_i, tables, unit, hidden_shr, unhide, param, bounded, RattleType, owns, block_of, Ptr, shr_vals}
-use Rattle.arcstr_block.proofs.Names.{shr_Tells, types_at, lent_out, alloc_all, pass_all, free_all, look_at, get, sets, ‵, ◌⊛◌, ◌$◌, ◌∵◌, !, qed, move, use0}
-use Rattle.arcstr_block.proofs.Names.{use1, split, join, fsplit, fjoin, fpick, raw, by, keep, drop, rewrite, agg, no_more, and_then, returns, enter, proved}
-use Rattle.arcstr_block.proofs.Names.{Token, token, token_made, BlockName, reached, pointer_shares, block_owns, block_shares, word_at, Right}
+use Rattle.arcstr_block.proofs.Names.{◌≡◌, ℕ, [], ◌∷◌, refl, length, inst_fn, dcons, dnil, a_type, named, Val, vptr, Lft, Share, Fml, fsep, flft, ftrue, emp}
+use Rattle.arcstr_block.proofs.Names.{SProp, fact_i, tables, unit, param, bounded, RattleType, owns, block_of, Ptr, shr_vals, shr_Tells, types_at, alloc_all}
+use Rattle.arcstr_block.proofs.Names.{pass_all, free_all, look_at, get, sets, ‵, ◌⊛◌, ◌$◌, ◌∵◌, !, qed, move, use0, split, join, fsplit, fjoin, raw, by, keep}
+use Rattle.arcstr_block.proofs.Names.{drop, rewrite, agg, no_more, and_then, returns, enter, proved, Token, token, token_made, BlockName, reached, block_owns}
+use Rattle.arcstr_block.proofs.Names.{block_shares, word_at, Right}
 use Rattle.arcstr_block.proofs.Memory.{shares_laws}
 use Rattle.arcstr_block.proofs.Pointers.{Words}
 use Rattle.arcstr_block.specs.contracts.pointer.Pointer.seen.{ended, clauses}
@@ -14,6 +14,7 @@ use Rattle.arcstr_block.specs.contracts.pointer.Pointer as C
 use Rattle.arcstr_block.specs.contracts.seen.Seen as Seen
 use Rattle.arcstr_block.proofs.pointer.Pointer.seen.Code as code
 use Rattle.arcstr_block.proofs.Endings.{all_dropped, all_go, Walk, ends, also}
+use Rattle.arcstr_block.proofs.Walks.{of_shown}
 
 pub seen_spec : {M : Type 1} → statement M
 seen_spec 𝓤 𝓛 𝓜 𝓡 wired Y K g d dd met md =
@@ -34,13 +35,11 @@ seen_spec 𝓤 𝓛 𝓜 𝓡 wired Y K g d dd met md =
     qed 𝓛 (((‵ (flft κ q) ⊛ ‵ others) ⊛ ‵ (owns (types_at En.signature.params κs) a y.0.4)) ∷ raw ((c κs a).requires gh) ∷ []) ∵
     keep ! (0 ∷ []) $ split ! $ split ! $ move ! (2 ∷ []) $ fsplit ! $ fsplit ! $ keep ! (1 ∷ 3 ∷ 4 ∷ []) $
     enter ! 𝓣.C 𝓣.Λ fn (vptr b o ∷ []) Post $ alloc_all ! (λ l. pass_all ! refl ((tt, tt), tt) $
-    use1 𝓛 (‵ (hidden_shr D κ (p, (tt, tt)) b o) ⊛ ‵ (fhide (pointer_shares holds lim p h.text right h.seat h.block h.history κ)))
-    (lent_out 𝓛 (C.struct B g) (C.the_codes Y.Denot B.coded (Marker.the_row B).coded) (C.the_heap B g) (C.the_lent B g) κ h b o) $
-    split ! $ drop ! $ unhide ! $ fsplit ! $ drop ! $ fpick ! (λ t. fsplit ! $ move ! (1 ∷ []) $ drop ! $ fsplit ! $ fpick ! (λ named. drop ! $
+    of_shown B g h κ b o ! (λ inb t named. drop ! $ move ! (1 ∷ []) $ drop ! $
     rewrite ! 0 (λ (block : BlockName). ‵ (reached block.history h.history)) named refl $
     -- [the prefix of the history; κ; the others]
     use0 𝓛 (‵ (D'.own_val (record {}, tt) (token ∷ []))) (token_made unit 𝓛) $ fjoin ! $ sets ! (agg ! (no_more !)) refl (tt, tt) $
     sets ! (agg ! (and_then ! (get ! refl) (no_more !))) refl (tt, (tt, tt)) $
     move ! (1 ∷ 2 ∷ []) $ join ! $ move ! (1 ∷ []) $ let s' : S.Denot = record { marker = record {}; block = h.block; history = h.history } in
     returns ! (look_at ! 0 refl) $ free_all ! refl $
-    by ! (ends 𝓛 En c y token s' (tt, tt) (also 𝓛 {X = h.history ≡ h.history} refl (fact_i 𝓤 (h.block ≡ h.block) (emp 𝓤) refl)))))))
+    by ! (ends 𝓛 En c y token s' (tt, tt) (also 𝓛 {X = h.history ≡ h.history} refl (fact_i 𝓤 (h.block ≡ h.block) (emp 𝓤) refl))))))
