@@ -1,9 +1,11 @@
--- What the walks of the steps on the count word have in common. Each rule replaces a part of a walk that does not depend on the step. Assumes `Logic`.
+-- What the walks through a `&` to a pointer have in common. Assumes `Logic`.
+-- `of_shown` opens what the `&` shows, and `address` reads the pointer's address. A step on the count word stands between `borrowed` and `returned`: the first
+-- also borrows a share of the block's token and of the seat, and the second gives them back and makes the step's gain a right.
 use Rattle.arcstr_block.proofs.Names.{◌≡◌, ℕ, [], ◌∷◌, refl, List, sym, ap, length, ◌∙◌, Ura, Val, Lft, Share, Fml, fsep, fex, flft, finv, fshr_bor}
 use Rattle.arcstr_block.proofs.Names.{fobor, fhide, unit, Is, shows, cell_at, hidden_shr, unhide, RattleType, block_of, Ptr, block_ptr, InBlock, count_of}
 use Rattle.arcstr_block.proofs.Names.{at_block, peeks, looks, shuts, lent_out, ‵, ◌⊛◌, later, ◌$◌, move, group, use1, split, split3, join, fsplit, fjoin, fpick}
-use Rattle.arcstr_block.proofs.Names.{await, drop, rewrite, use3, Item, Logic, Ghosts, Token, Free, Step, BlockName, reached, seat, seat_share, Id, Inv, knows, shown}
-use Rattle.arcstr_block.proofs.Names.{pointer_shares, block_owns, block_shares, word_at, IsText, Right, IsFree, operators}
+use Rattle.arcstr_block.proofs.Names.{await, drop, rewrite, use3, Item, Logic, Ghosts, Token, Free, Step, BlockName, reached, seat_share, Id, Inv, knows}
+use Rattle.arcstr_block.proofs.Names.{shown, pointer_shares, block_owns, block_shares, word_at, IsText, Right, IsFree, operators}
 use base.Fraction.{left, right}
 use types.Kit.{Goal, Soaks, Seq, Step as Rule, step}
 use Rattle.arcstr_block.proofs.Memory.{shares_laws}
@@ -16,7 +18,7 @@ use Rattle.arcstr_block.specs.contracts.seen.Seen as Seen
 use Rattle.arcstr_block.proofs.Pointers as framed
 use Rattle.arcstr_block.proofs.Rights as rights
 
--- the row of a pointer whose allocator is B, and of what was seen
+-- h is a pointer whose allocator is B
 module _ (B : RattleType) (g : Ghosts B.Denot) (h : (C.the_row B g).Denot) where
   abbrev D : RattleType
   D = Words B g

@@ -1,11 +1,11 @@
 -- `close` takes the bytes from their `Slots` once each is written.
-use Rattle.arcstr_block.proofs.Names.{◌≡◌, ℕ, ◌-◌, ◌^◌, Bool, [], ◌∷◌, refl, arith, List, sym, subst, ap, length, ◌<◌, ◌∙◌, w64, T, inst_fn, ty_int, tcons}
+use Rattle.arcstr_block.proofs.Names.{◌≡◌, ℕ, ◌^◌, Bool, [], ◌∷◌, refl, arith, List, sym, subst, ap, length, ◌<◌, ◌∙◌, w64, T, inst_fn, ty_int, tcons}
 use Rattle.arcstr_block.proofs.Names.{tnil, ty_ptr, ty_struct, dcons, dnil, a_type, Val, has_ty, WT, fsep, full_share, emp, SProp, fact, fact_i, tables, Array}
 use Rattle.arcstr_block.proofs.Names.{u8, part_at, param, bounded, RattleType, owns, block_of, Ptr, block_ptr, ptr_val, InBlock, count_of, at_block, in_block}
 use Rattle.arcstr_block.proofs.Names.{bytes, bytes_whole, types_at, nothing, heard, calls_at_last, alive, alloc_all, pass_all, free_all, look_at, get, get_in}
 use Rattle.arcstr_block.proofs.Names.{sets, lands_last, env, is, ‵, ◌⊛◌, later, ◌$◌, ◌∵◌, !, qed, move, use0, use1, split, fsplit, fjoin, fjoin3, fpick, fpack}
 use Rattle.arcstr_block.proofs.Names.{await, raw, by, keep, fsplit3, given, drop, learn, rewrite, feq_i, at_ret, sub, whole, agg, stop, fld, of_opd, no_more}
-use Rattle.arcstr_block.proofs.Names.{and_then, first, blocks, exec, returns, enter, tail, words_val, slots, owned, Filled, word, Slots, fm, proved, Fits}
+use Rattle.arcstr_block.proofs.Names.{and_then, first, blocks, exec, returns, enter, tail, words_val, slots, owned, Filled, fm, proved, Fits}
 use Rattle.arcstr_block.proofs.Names.{word_lies, length_lies, text_lies, rim}
 use Rattle.arcstr_block.proofs.Pointers.{pointer_val, typed, Words, told, made}
 use Rattle.arcstr_block.proofs.Memory.{byte_laws, Bytes, R, to_bytes, EndContract, at_ends, ends_goes, ends_gives, words_typed, words_told}
@@ -24,7 +24,7 @@ close_spec 𝓤 𝓛 𝓜 𝓡 wired Y K g d dd met md =
     let inst = bounded (a_type ∷ []) (Y, tt) (dcons d (dcons dd dnil)) in let fn = inst_fn inst code.function in
     let closed = code.unfolded 𝓤 H 𝓜 𝓡 wired (Y, tt) d dd in
     let Open : RattleType = N.the_row B g in let Alone : RattleType = S.the_row B g in
-    proved 𝓛 En (all_dropped En.signature.params En.kept) c 𝓜 𝓡 (all_go 𝓛 1 En.signature.params En.kept (λ κs x f. refl, (λ κs x f. refl, tt))) (#self inst) fn closed
+    proved 𝓛 En (all_dropped En) c 𝓜 𝓡 (all_go 𝓛 En (λ κs x f. refl, (λ κs x f. refl, tt))) (#self inst) fn closed
     (λ κs. ((λ x. pointer_val x.at ∷ []), ((λ x. words_val x.ptr x.len ∷ []), tt))) (λ κs. (
       (λ x vs so. told B g x.at vs so.0),
       (

@@ -1,5 +1,5 @@
 -- `make` allocates a block's room, cuts it in three, writes the word and the length, and makes slots of the bytes.
-use Rattle.arcstr_block.proofs.Names.{◌≡◌, ℕ, ◌-◌, ◌^◌, Bool, true, [], ◌∷◌, refl, arith, lit<, false, List, sym, ap, length, ◌+◌, ◌<◌, ◌∙◌, w64, replicate}
+use Rattle.arcstr_block.proofs.Names.{◌≡◌, ℕ, ◌^◌, Bool, true, [], ◌∷◌, refl, arith, lit<, false, List, sym, ap, length, ◌+◌, ◌<◌, ◌∙◌, w64, replicate}
 use Rattle.arcstr_block.proofs.Names.{inst_fn, bare, Ty, w8, ty_int, ty_array, dcons, dnil, a_type, named, Body, Val, vint, vptr, vstruct, WT, vcons, vnil, Wp}
 use Rattle.arcstr_block.proofs.Names.{after_seq, at_return, Lft, Share, Incl-trans, Fml, fsep, flft, ftrue, fwand, froom, full_share, SProp, ◌⊑◌, fact, tables}
 use Rattle.arcstr_block.proofs.Names.{u8, usize, part_at, param, bounded, uint_vals, uint_Tells, RattleType, Valss, owns, Ptr, block_ptr, InBlock, shr_vals}
@@ -8,7 +8,7 @@ use Rattle.arcstr_block.proofs.Names.{look_at, get, get_in, sets, env, through, 
 use Rattle.arcstr_block.proofs.Names.{pick, use0, use1, use2, split, join, fsplit, fjoin, fjoin3, fpack, await, raw, by, keep, fsplit3, given, learn, rewrite}
 use Rattle.arcstr_block.proofs.Names.{feq_i, at_ret, any_q, agg, stop, fld, lit, of_opd, no_more, and_then, first, exec, returns, enter, addr, bin, switches_on}
 use Rattle.arcstr_block.proofs.Names.{init, assigns, Al, Answer-typed, Takes, at_takes, Answered, Takes-goes, Takes-gives, answers, words_val, word_in, slots}
-use Rattle.arcstr_block.proofs.Names.{word, Slots, fm, proved, token, Fits, word_offset, block_size, block_type, rooms}
+use Rattle.arcstr_block.proofs.Names.{Slots, fm, proved, Fits, word_offset, block_size, block_type, rooms}
 use types.Part.{whole as all_of_it}
 use lib.ListN.{length-replicate}
 use types.Match.{live, vrt, in_variant}
@@ -39,7 +39,8 @@ make_spec 𝓤 𝓛 𝓜 𝓡 wired Y K g d dd met md =
     let Open : RattleType = N.the_row B g in
     let Z : Al = record { row = Y; laws = K; g = g; d = d; drops = dd } in let Two : RattleType = Tuple (Open ∷ Bytes ∷ []) in
     let Out : RattleType = Res.the_row Two refusal.the_row in
-    proved 𝓛 En (all_dropped En.signature.params En.kept) c 𝓜 𝓡 (all_go 𝓛 2 En.signature.params En.kept (λ κs x f. refl, (λ κs x f. refl, (λ κs x f. refl, (λ κs x f. refl, (λ κs x f. refl, tt)))))) (#self inst) fn closed
+    proved 𝓛 En (all_dropped En) c 𝓜 𝓡 (all_go 𝓛 En (λ κs x f. refl, (λ κs x f. refl, (λ κs x f. refl, (λ κs x f. refl, (λ κs x f. refl, tt))))))
+    (#self inst) fn closed
     (λ κs. (shr_vals, (uint_vals w64, (uint_vals w64, (uint_vals w64, (uint_vals w64, tt)))))) (λ κs.
     (shr_Tells (named 0) κs.0 B, (uint_Tells w64, (uint_Tells w64, (uint_Tells w64, (uint_Tells w64, tt)))))) (λ κs qs bounds a gh are.
     let hp : ℕ × ℕ = a.0.ref_ptr in let heap : Y.Denot = a.0.now in let w : ℕ = a.1.0 in let n : ℕ = a.1.1.0 in let offset : ℕ = a.1.1.1.0 in

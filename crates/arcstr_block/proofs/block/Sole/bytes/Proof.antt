@@ -4,7 +4,7 @@ use Rattle.arcstr_block.proofs.Names.{vint, vptr, WT, Lft, Share, Fml, fsep, flf
 use Rattle.arcstr_block.proofs.Names.{cell_at, hidden_shr, unhide, hide, param, bounded, uint_vals, uint_Tells, RattleType, owns, block_of, Ptr, block_ptr}
 use Rattle.arcstr_block.proofs.Names.{count_of, at_block, shr_vals, shr_Tells, types_at, slice_val, heard, peeks, looks, shuts, lent_at, lent_out, alloc_all}
 use Rattle.arcstr_block.proofs.Names.{pass_all, free_all, look_at, get, sets, env, through, sets_last, ‵, ◌⊛◌, ◌$◌, ◌∵◌, !, qed, move, use1, split, join}
-use Rattle.arcstr_block.proofs.Names.{fsplit, fjoin, fpick, now, raw, by, keep, drop, rewrite, feq_i, flt_i, at_ret, sub, whole, agg, look_in, stop, fld}
+use Rattle.arcstr_block.proofs.Names.{fsplit, fjoin, fpick, raw, by, keep, drop, rewrite, feq_i, flt_i, at_ret, sub, whole, agg, look_in, stop, fld}
 use Rattle.arcstr_block.proofs.Names.{of_opd, no_more, and_then, first, blocks, exec, returns, enter, load, tail, proved, sole_shares}
 use Rattle.arcstr_block.proofs.Pointers.{pointer_val, Words, told, opened}
 use Rattle.arcstr_block.specs.contracts.block.Sole.bytes.{ended, clauses}
@@ -21,7 +21,7 @@ bytes_spec 𝓤 𝓛 𝓜 𝓡 wired Y K g d dd met md =
     let inst = bounded (a_type ∷ []) (Y, tt) (dcons d (dcons dd dnil)) in let fn = inst_fn inst code.function in
     let closed = code.unfolded 𝓤 H 𝓜 𝓡 wired (Y, tt) d dd in
     let Row : RattleType = C.the_row B g in let D : RattleType = Words B g in
-    proved 𝓛 En (all_dropped En.signature.params En.kept) c 𝓜 𝓡 (all_go 𝓛 2 En.signature.params En.kept (λ κs x f. refl, (λ κs x f. refl, tt))) (#self inst) fn closed
+    proved 𝓛 En (all_dropped En) c 𝓜 𝓡 (all_go 𝓛 En (λ κs x f. refl, (λ κs x f. refl, tt))) (#self inst) fn closed
     (λ κs. (shr_vals, (uint_vals w64, tt))) (λ κs. (shr_Tells (named 0) κs.0 Row, (uint_Tells w64, tt))) (λ κs qs bounds a gh are.
     let b : ℕ = a.0.ref_ptr.0 in let o : ℕ = a.0.ref_ptr.1 in let κ : Lft = κs.0 in let q : Share = qs.0 in
     let others : Fml = fsep (flft κs.1.0 qs.1.0) ftrue in

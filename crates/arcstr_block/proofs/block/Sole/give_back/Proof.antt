@@ -1,12 +1,12 @@
 -- `give_back` makes the block room again, and returns it to the allocator.
-use Rattle.arcstr_block.proofs.Names.{◌≡◌, ℕ, ◌-◌, ◌^◌, [], ◌∷◌, refl, lit<, List, sym, subst, length, ◌<◌, ◌∙◌, w64, T, inst_fn, bare, Ty, dcons, dnil, a_type}
+use Rattle.arcstr_block.proofs.Names.{◌≡◌, ℕ, ◌^◌, [], ◌∷◌, refl, lit<, List, sym, subst, length, ◌<◌, ◌∙◌, w64, T, inst_fn, bare, Ty, dcons, dnil, a_type}
 use Rattle.arcstr_block.proofs.Names.{named, ty_unit, Val, vint, vptr, has_ty, WT, vunit, WpFn, Lft, Share, Incl-trans, Fml, fsep, flft, ftrue, froom, emp, id⊢}
 use Rattle.arcstr_block.proofs.Names.{SProp, ent, ◌⊑◌, fact, tables, param, bounded, uint_vals, uint_Tells, RattleType, owns, block_of, Ptr, block_ptr}
 use Rattle.arcstr_block.proofs.Names.{count_of, at_block, shr_vals, shr_Tells, types_at, heard, calls_at_last, alloc_all, pass_all, free_all, look_at, get}
 use Rattle.arcstr_block.proofs.Names.{get_in, sets, lands_last, env, ‵, ◌⊛◌, later, ◌$◌, ◌∵◌, !, qed, move, use1, use2, split, join, fsplit, fpick, await, raw}
 use Rattle.arcstr_block.proofs.Names.{by, keep, fsplit3, given, drop, learn, rewrite, suffices, feq_i, use3, at_ret, sub, whole, stop, fld, lit, unit_lit}
 use Rattle.arcstr_block.proofs.Names.{of_opd, no_more, and_then, first, blocks, exec, returns, enter, Al, Gives, at_gives, Gives-goes, Gives-Gives, tail, fm}
-use Rattle.arcstr_block.proofs.Names.{proved, token, block_owns, block_size, block_type, sole_owns}
+use Rattle.arcstr_block.proofs.Names.{proved, block_owns, block_size, block_type, sole_owns}
 use Rattle.arcstr_block.proofs.Pointers.{pointer_val, typed, told}
 use Rattle.arcstr_block.proofs.Memory.{block_bytes, block_align, gathers}
 use Rattle.arcstr_block.specs.contracts.block.Sole.give_back.{ended, clauses}
@@ -23,7 +23,7 @@ give_back_spec 𝓤 𝓛 𝓜 𝓡 wired Y K g d dd met md =
     let closed = code.unfolded 𝓤 H 𝓜 𝓡 wired (Y, tt) d dd in
     let Alone : RattleType = S.the_row B g in
     let Z : Al = record { row = Y; laws = K; g = g; d = d; drops = dd } in
-    proved 𝓛 En (all_dropped En.signature.params En.kept) c 𝓜 𝓡 (all_go 𝓛 2 En.signature.params En.kept (λ κs x f. refl, (λ κs x f. refl, (λ κs x f. refl, tt)))) (#self inst) fn closed
+    proved 𝓛 En (all_dropped En) c 𝓜 𝓡 (all_go 𝓛 En (λ κs x f. refl, (λ κs x f. refl, (λ κs x f. refl, tt)))) (#self inst) fn closed
     (λ κs. ((λ x. pointer_val x.at ∷ []), (shr_vals, (uint_vals w64, tt)))) (λ κs. (
       (λ x vs so.
           told B g x.at vs so.0),

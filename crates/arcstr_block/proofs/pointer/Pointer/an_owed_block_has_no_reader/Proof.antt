@@ -1,7 +1,7 @@
 -- `an_owed_block_has_no_reader` returns the owed pointer: the book of its block does not lie beside the share of a token that the other shows.
 use Rattle.arcstr_block.proofs.Names.{◌≡◌, ℕ, [], ◌∷◌, refl, List, sym, ◌≢◌, length, ◌∙◌, inst_fn, dcons, dnil, a_type, named, Val, vptr, Lft, Share, Fml, fsep}
 use Rattle.arcstr_block.proofs.Names.{flft, finv, fshr_bor, ftrue, emp, SProp, fact, fact_i, tables, param, bounded, RattleType, owns, block_of, Ptr, shr_vals}
-use Rattle.arcstr_block.proofs.Names.{shr_Tells, types_at, heard, alloc_all, pass_all, free_all, look_at, get, sets, is, ‵, ◌⊛◌, later, ◌$◌, ◌∵◌, !, qed, move}
+use Rattle.arcstr_block.proofs.Names.{shr_Tells, types_at, heard, alloc_all, pass_all, free_all, look_at, get, sets, ‵, ◌⊛◌, later, ◌$◌, ◌∵◌, !, qed, move}
 use Rattle.arcstr_block.proofs.Names.{use1, use2, split, split3, join, fsplit, fjoin, await, raw, by, keep, fsplit3, given, drop, learn, of_opd, returns, enter}
 use Rattle.arcstr_block.proofs.Names.{proved, Inv, block_owns, block_shares, word_at, Right, owed, MaySee}
 use Rattle.arcstr_block.proofs.Blocks.{Lent, not_lent, away}
@@ -10,7 +10,6 @@ use Rattle.arcstr_block.proofs.Memory.{shares_laws}
 use Rattle.arcstr_block.specs.contracts.pointer.Pointer.an_owed_block_has_no_reader.{ended, clauses}
 use Rattle.arcstr_block.specs.contracts.pointer.Pointer.an_owed_block_has_no_reader.Key.{name as #self}
 use Rattle.arcstr_block.proofs.pointer.Pointer.an_owed_block_has_no_reader.Statement.{statement}
-use Rattle.core.specs.contracts.marker.PhantomData as Marker
 use Rattle.arcstr_block.specs.contracts.pointer.Pointer as C
 use Rattle.arcstr_block.proofs.Rights as rights
 use Rattle.arcstr_block.proofs.pointer.Pointer.an_owed_block_has_no_reader.Code as code
@@ -23,7 +22,7 @@ an_owed_block_has_no_reader_spec 𝓤 𝓛 𝓜 𝓡 wired Y K g d dd met md =
     let inst = bounded (a_type ∷ []) (Y, tt) (dcons d (dcons dd dnil)) in let fn = inst_fn inst code.function in
     let closed = code.unfolded 𝓤 H 𝓜 𝓡 wired (Y, tt) d dd in
     let Row : RattleType = C.the_row B g in let D : RattleType = Words B g in
-    proved 𝓛 En (all_dropped En.signature.params En.kept) c 𝓜 𝓡 (all_go 𝓛 2 En.signature.params En.kept (λ κs x f. refl, (λ κs x f. refl, tt))) (#self inst) fn closed
+    proved 𝓛 En (all_dropped En) c 𝓜 𝓡 (all_go 𝓛 En (λ κs x f. refl, (λ κs x f. refl, tt))) (#self inst) fn closed
     (λ κs. ((λ x. pointer_val x.at ∷ []), (shr_vals, tt))) (λ κs.
     ((λ x vs so. told B g x.at vs so.0), (shr_Tells (named 0) κs.0 Row, tt))) (λ κs qs bounds a gh are.
     let h : Row.Denot = a.0 in let p : Ptr = h.at in let vs : List Val = pointer_val p ∷ [] in let κ : Lft = κs.0 in let q : Share = qs.0 in

@@ -1,5 +1,5 @@
 -- `back` takes the whole block with its length, and returns the history of the block, which it ends.
-use Rattle.arcstr_block.proofs.Names.{◌≡◌, ℕ, ◌^◌, [], ◌∷◌, refl, arith, List, sym, ap, length, ◌+◌, ◌<◌, ◌++◌, w64, inst_fn, dcons, dnil, a_type, named, Val}
+use Rattle.arcstr_block.proofs.Names.{◌≡◌, ℕ, ◌^◌, [], ◌∷◌, refl, arith, List, sym, ap, length, ◌+◌, ◌<◌, ◌++◌, w64, inst_fn, dcons, dnil, a_type, Val}
 use Rattle.arcstr_block.proofs.Names.{vint, vptr, vstruct, of_list, Fml, fsep, ftrue, feq, full_share, via, SProp, fact, tables, usize, unit, part_at, param}
 use Rattle.arcstr_block.proofs.Names.{bounded, uint_vals, uint_Tells, RattleType, Valss, owns, block_of, Ptr, block_ptr, ptr_val, InBlock, count_of, at_block}
 use Rattle.arcstr_block.proofs.Names.{types_at, nothing, heard, alive, alloc_all, pass_all, free_all, look_at, get, get_in, sets, env, through, sets_last, is}
@@ -28,8 +28,7 @@ back_spec 𝓤 𝓛 𝓜 𝓡 wired Y K g d dd met md =
     let closed = code.unfolded 𝓤 H 𝓜 𝓡 wired (Y, tt) d dd in
     let Row : RattleType = C.the_row B g in let Alone : RattleType = S.the_row B g in
     let D' : RattleType = Token unit in let H' : RattleType = Seen.the_row in
-    proved 𝓛 En (all_dropped En.signature.params En.kept) c 𝓜 𝓡 (all_go 𝓛 1 En.signature.params En.kept (λ κs x f. refl, (λ κs x f. refl, tt)))
-    (#self inst) fn closed
+    proved 𝓛 En (all_dropped En) c 𝓜 𝓡 (all_go 𝓛 En (λ κs x f. refl, (λ κs x f. refl, tt))) (#self inst) fn closed
     (λ κs. ((λ x. pointer_val x.at ∷ []), (uint_vals w64, tt))) (λ κs. ((λ x vs so. told B g x.at vs so.0), (uint_Tells w64, tt))) (λ κs qs bounds a gh are.
     let h : Row.Denot = a.0 in let p : Ptr = h.at in let xs : List ℕ = h.text in let n : ℕ = length xs in let lim : ℕ = h.limit in
     let holds = g.dealloc_token h.home in let P : Fml = block_owns holds p xs in let s = block_shares p xs in

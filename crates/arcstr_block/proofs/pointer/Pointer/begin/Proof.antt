@@ -1,14 +1,14 @@
 -- `begin` is one load. A drop goes on if it finds the word unmarked.
 -- We take apart what the pointer holds, take the step inside the invariant (`Steps`) and write it into the book (`Book`), and make the gain a right (`Rights`).
-use Rattle.arcstr_block.proofs.Names.{◌≡◌, ℕ, ◌-◌, ◌^◌, [], ◌∷◌, refl, arith, lit<, List, sym, subst, ap, length, ◌+◌, ◌<◌, if◌then◌else◌, w64, inst_fn, dcons}
+use Rattle.arcstr_block.proofs.Names.{◌≡◌, ℕ, ◌^◌, [], ◌∷◌, refl, arith, lit<, List, sym, subst, ap, length, ◌+◌, ◌<◌, if◌then◌else◌, w64, inst_fn, dcons}
 use Rattle.arcstr_block.proofs.Names.{dnil, a_type, named, Val, vint, vptr, Lft, Fml, fsep, fex, flft, finv, fhide, via, SProp, fact, tables, u64, unit}
 use Rattle.arcstr_block.proofs.Names.{hidden_shr, unhide, param, bounded, uint_vals, uint_Tells, RattleType, Valss, owns, block_of, Ptr, block_ptr, ptr_val}
 use Rattle.arcstr_block.proofs.Names.{count_of, at_block, shr_vals, shr_Tells, types_at, heard, lent_out, alive, alloc_all, pass_all, free_all, look_at, get}
 use Rattle.arcstr_block.proofs.Names.{get_in, sets, lands_last, env, through, is, ‵, ◌⊛◌, later, ◌$◌, ◌∵◌, !, qed, move, use1, split, fsplit, fjoin, fpick}
 use Rattle.arcstr_block.proofs.Names.{await, raw, by, keep, fsplit3, drop, rewrite, use3, at_ret, mean, sub, whole, agg, stop, fld, lit, of_opd, no_more}
-use Rattle.arcstr_block.proofs.Names.{and_then, first, blocks, exec, returns, enter, load, addr, bin, Calls-last, tail, found, fm, seq_cst, finds, loads}
+use Rattle.arcstr_block.proofs.Names.{and_then, first, blocks, exec, returns, enter, addr, bin, Calls-last, tail, found, fm, seq_cst, finds, loads}
 use Rattle.arcstr_block.proofs.Names.{proved, Token, EndsIn, FlagAndCount, Free, Ended, Looked, Step, Begin, BlockName, reached, seat, Ends, Inv, free}
-use Rattle.arcstr_block.proofs.Names.{right_to, block_owns, block_shares, word_at, word_offset, Right, IsFree, one}
+use Rattle.arcstr_block.proofs.Names.{right_to, block_owns, block_shares, word_at, word_offset, Right, IsFree}
 use Rattle.arcstr_block.proofs.Memory.{shares_laws}
 use Rattle.arcstr_block.proofs.Pointers.{pointer_val, typed, found_val, found_typed, Words, told}
 use Rattle.arcstr_block.proofs.Book.{book_begin, begun, begin_reply}
@@ -32,8 +32,7 @@ begin_spec 𝓤 𝓛 𝓜 𝓡 wired Y K g d dd met md =
     let inst = bounded (a_type ∷ []) (Y, tt) (dcons d (dcons dd dnil)) in let fn = inst_fn inst code.function in
     let closed = code.unfolded 𝓤 H 𝓜 𝓡 wired (Y, tt) d dd in
     let Row : RattleType = C.the_row B g in let S : RattleType = Seen.the_row in
-    proved 𝓛 En (all_dropped En.signature.params En.kept) c 𝓜 𝓡 (all_go 𝓛 2 En.signature.params En.kept (λ κs x f. refl, (λ κs x f. refl, (λ κs x f. refl, tt))))
-    (#self inst) fn closed
+    proved 𝓛 En (all_dropped En) c 𝓜 𝓡 (all_go 𝓛 En (λ κs x f. refl, (λ κs x f. refl, (λ κs x f. refl, tt)))) (#self inst) fn closed
     (λ κs. ((λ x. pointer_val x.at ∷ []), (uint_vals w64, (shr_vals, tt)))) (λ κs. (
       (λ x vs so. told B g x.at vs so.0),
       (

@@ -1,10 +1,10 @@
 -- `bytes` shows the bytes of the text, for as long as the pointer is borrowed.
 use Rattle.arcstr_block.proofs.Names.{◌≡◌, ℕ, ◌^◌, [], ◌∷◌, refl, arith, List, sym, ap, length, ◌<◌, ◌∙◌, ◌*◌, w64, IsUtf8, inst_fn, dcons, dnil, a_type, named}
-use Rattle.arcstr_block.proofs.Names.{Val, vint, vptr, WT, Lft, Share, Fml, fsep, flft, finv, fshr_bor, ftrue, emp, SProp, meet_⊑_left, ◌⊑◌, fact, fact_i}
+use Rattle.arcstr_block.proofs.Names.{Val, vint, vptr, WT, Lft, Share, Fml, fsep, flft, finv, fshr_bor, ftrue, emp, SProp, meet_⊑_left, fact, fact_i}
 use Rattle.arcstr_block.proofs.Names.{tables, Array, u8, Is, shows, cell_at, hide, param, bounded, uint_vals, uint_Tells, RattleType, owns, block_of, Ptr}
 use Rattle.arcstr_block.proofs.Names.{block_ptr, count_of, at_block, shr_vals, shr_Tells, types_at, slice_val, heard, peeks, looks, shuts, lent_at, alloc_all}
 use Rattle.arcstr_block.proofs.Names.{pass_all, free_all, look_at, get, sets, env, through, sets_last, ‵, ◌⊛◌, ◌$◌, ◌∵◌, !, qed, move, use1, use2, split}
-use Rattle.arcstr_block.proofs.Names.{split3, join, fsplit, fjoin, now, raw, by, keep, drop, rewrite, feq_i, flt_i, at_ret, sub, whole, agg, look_in, stop, fld}
+use Rattle.arcstr_block.proofs.Names.{split3, join, fsplit, fjoin, raw, by, keep, drop, rewrite, feq_i, flt_i, at_ret, sub, whole, agg, look_in, stop, fld}
 use Rattle.arcstr_block.proofs.Names.{of_opd, no_more, and_then, first, blocks, exec, returns, enter, load, tail, proved, Inv, block_owns, block_shares}
 use Rattle.arcstr_block.proofs.Names.{word_at, Right, MaySee}
 use denote.Moves.{moves_from}
@@ -13,7 +13,6 @@ use Rattle.arcstr_block.proofs.Pointers.{pointer_val, Words, told, opened}
 use Rattle.arcstr_block.specs.contracts.pointer.Pointer.bytes.{ended, clauses}
 use Rattle.arcstr_block.specs.contracts.pointer.Pointer.bytes.Key.{name as #self}
 use Rattle.arcstr_block.proofs.pointer.Pointer.bytes.Statement.{statement}
-use Rattle.core.specs.contracts.marker.PhantomData as Marker
 use Rattle.arcstr_block.proofs.Rights as rights
 use Rattle.arcstr_block.specs.contracts.pointer.Pointer as C
 use Rattle.arcstr_block.proofs.pointer.Pointer.bytes.Code as code
@@ -26,7 +25,7 @@ bytes_spec 𝓤 𝓛 𝓜 𝓡 wired Y K g d dd met md =
     let inst = bounded (a_type ∷ []) (Y, tt) (dcons d (dcons dd dnil)) in let fn = inst_fn inst code.function in
     let closed = code.unfolded 𝓤 H 𝓜 𝓡 wired (Y, tt) d dd in
     let Row : RattleType = C.the_row B g in let D : RattleType = Words B g in
-    proved 𝓛 En (all_dropped En.signature.params En.kept) c 𝓜 𝓡 (all_go 𝓛 2 En.signature.params En.kept (λ κs x f. refl, (λ κs x f. refl, tt))) (#self inst) fn closed
+    proved 𝓛 En (all_dropped En) c 𝓜 𝓡 (all_go 𝓛 En (λ κs x f. refl, (λ κs x f. refl, tt))) (#self inst) fn closed
     (λ κs. (shr_vals, (uint_vals w64, tt))) (λ κs. (shr_Tells (named 0) κs.0 Row, (uint_Tells w64, tt))) (λ κs qs bounds a gh are.
     let b : ℕ = a.0.ref_ptr.0 in let o : ℕ = a.0.ref_ptr.1 in let κ : Lft = κs.0 in let q : Share = qs.0 in
     let others : Fml = fsep (flft κs.1.0 qs.1.0) ftrue in
@@ -45,7 +44,8 @@ bytes_spec 𝓤 𝓛 𝓜 𝓡 wired Y K g d dd met md =
     let Ev = env fn.locals l in
     of_shown B g h κ b o ! (λ inb t named. let at : p ≡ block_ptr pb (count_of p) = at_block p inb.0 in
     let I : Fml = Inv P lim pb po t in let af : Lft = t.sharing ∷ [] in
-    move ! (1 ∷ []) $ drop ! $ use1 𝓛 (‵ (fshr_bor κ (λ r. flft af r)) ⊛ ‵ (finv I) ⊛ ‵ (s af)) (rights.may_see 𝓛 P lim pb po t s sl h.seat right may κ) $ split3 ! $
+    move ! (1 ∷ []) $ drop ! $ use1 𝓛 (‵ (fshr_bor κ (λ r. flft af r)) ⊛ ‵ (finv I) ⊛ ‵ (s af)) (rights.may_see 𝓛 P lim pb po t s sl h.seat right may κ) $
+    split3 ! $
     -- [the share; the invariant; what is shared; the fields; κ; the others]
     move ! (0 ∷ 2 ∷ []) $ use2 𝓛 (‵ (s κ)) (moves_from 𝓛 s sl κ af af (meet_⊑_left af κ)) $ fsplit ! $ drop ! $
     rewrite ! 0 (λ (r : Ptr). ‵ (lent_at (Array u8 n) r xs κ)) at refl $ fsplit ! $ drop ! $ fsplit ! $ drop ! $ hide ! $

@@ -1,12 +1,12 @@
 -- `leak` is one fetch-or. Whoever sets or finds the static flag has a permanent share.
--- We take apart what the pointer holds, take the step inside the invariant (`Steps`) and write it into the book (`Book`), and make the gain a right (`Rights`).
-use Rattle.arcstr_block.proofs.Names.{◌≡◌, ℕ, ◌-◌, [], ◌∷◌, refl, arith, lit<, List, sym, ap, length, ◌+◌, ◌<◌, w64, inst_fn, dcons, dnil, a_type, named, Val}
+-- `borrowed` opens the pointer, `Steps` takes the step inside the invariant, `book_mark` writes it into the book, and `returned` makes the gain a right.
+use Rattle.arcstr_block.proofs.Names.{◌≡◌, ℕ, [], ◌∷◌, refl, arith, lit<, List, sym, ap, length, ◌+◌, w64, inst_fn, dcons, dnil, a_type, named, Val}
 use Rattle.arcstr_block.proofs.Names.{vint, vptr, Lft, Share, Fml, fsep, flft, ftrue, via, SProp, fact, tables, param, bounded, uint_vals, uint_Tells}
 use Rattle.arcstr_block.proofs.Names.{RattleType, Valss, owns, block_of, Ptr, block_ptr, count_of, at_block, shr_vals, shr_Tells, types_at, heard, alloc_all}
 use Rattle.arcstr_block.proofs.Names.{pass_all, free_all, look_at, get, sets, lands_last, env, through, is, ‵, ◌⊛◌, ◌$◌, ◌∵◌, !, qed, move, split, fsplit, raw}
 use Rattle.arcstr_block.proofs.Names.{by, keep, fsplit3, drop, use3, at_ret, mean, sub, whole, agg, look_in, stop, fld, lit, of_opd, no_more, and_then, first}
 use Rattle.arcstr_block.proofs.Names.{blocks, exec, returns, enter, load, addr, bin, Calls-last, tail, found, fm, seq_cst, finds, ors, proved, EndsIn, Free}
-use Rattle.arcstr_block.proofs.Names.{Marked, Step, Leak, IsLater, reached, seat, seat_share, Ends, IsMarkedIn, block_owns, block_shares, word_at, word_offset}
+use Rattle.arcstr_block.proofs.Names.{Marked, Step, Leak, IsLater, reached, seat_share, Ends, IsMarkedIn, block_owns, block_shares, word_at, word_offset}
 use Rattle.arcstr_block.proofs.Names.{IsFree}
 use Rattle.arcstr_block.proofs.Memory.{shares_laws}
 use Rattle.arcstr_block.proofs.Pointers.{pointer_val, typed}
@@ -30,7 +30,8 @@ leak_spec 𝓤 𝓛 𝓜 𝓡 wired Y K g d dd met md =
     let H = 𝓛.H in let 𝓣 = tables 𝓤 H 𝓜 𝓡 𝓡.env in let B : RattleType = param 0 Y in let En = ended Y g d dd in let c = clauses Y g d dd 𝓛 𝓜.mem 𝓡.returns in
     let inst = bounded (a_type ∷ []) (Y, tt) (dcons d (dcons dd dnil)) in let fn = inst_fn inst code.function in
     let Row : RattleType = C.the_row B g in let S : RattleType = Seen.the_row in
-    proved 𝓛 En (all_dropped En.signature.params En.kept) c 𝓜 𝓡 (all_go 𝓛 3 En.signature.params En.kept (λ κs x f. refl, (λ κs x f. refl, (λ κs x f. refl, tt)))) (#self inst) fn (code.unfolded 𝓤 H 𝓜 𝓡 wired (Y, tt) d dd)
+    proved 𝓛 En (all_dropped En) c 𝓜 𝓡 (all_go 𝓛 En (λ κs x f. refl, (λ κs x f. refl, (λ κs x f. refl, tt))))
+    (#self inst) fn (code.unfolded 𝓤 H 𝓜 𝓡 wired (Y, tt) d dd)
     (λ κs. (shr_vals, (uint_vals w64, (shr_vals, tt)))) (λ κs. (shr_Tells (named 0) κs.0 Row, (uint_Tells w64, (shr_Tells (named 1) κs.1.0 S, tt))))
     (λ κs qs bounds a gh are.
     let b : ℕ = a.0.ref_ptr.0 in let o : ℕ = a.0.ref_ptr.1 in let κ : Lft = κs.0 in let q : Share = qs.0 in let seen = a.1.1.0 in

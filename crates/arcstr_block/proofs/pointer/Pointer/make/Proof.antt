@@ -1,9 +1,9 @@
 -- `make` puts the word under the ledger's invariant, and lends what the block owns.
-use Rattle.arcstr_block.proofs.Names.{◌≡◌, ℕ, ◌-◌, [], ◌∷◌, refl, List, sym, ap, length, ◌+◌, IsUtf8, inst_fn, dcons, dnil, a_type, Val, Fml, fsep, fex, flft}
+use Rattle.arcstr_block.proofs.Names.{◌≡◌, ℕ, [], ◌∷◌, refl, List, sym, ap, length, ◌+◌, IsUtf8, inst_fn, dcons, dnil, a_type, Val, Fml, fsep, fex, flft}
 use Rattle.arcstr_block.proofs.Names.{ftrue, Incl-refl, SProp, fact, tables, param, bounded, RattleType, owns, block_of, Ptr, block_ptr, ptr_val, count_of}
 use Rattle.arcstr_block.proofs.Names.{at_block, types_at, heard, alloc_all, pass_all, free_all, look_at, get, get_in, sets, is, ‵, ◌⊛◌, later, ◌$◌, ◌∵◌, !, qed}
 use Rattle.arcstr_block.proofs.Names.{move, use2, split, join, fsplit, fjoin, fpick, await, raw, by, keep, fsplit3, drop, rewrite, use3, Item, sub, whole, agg}
-use Rattle.arcstr_block.proofs.Names.{stop, fld, of_opd, no_more, and_then, returns, enter, word, proved, bits_of, fresh_word, Make, reached, seat, Id}
+use Rattle.arcstr_block.proofs.Names.{stop, fld, of_opd, no_more, and_then, returns, enter, word, proved, bits_of, fresh_word, Make, reached, Id}
 use Rattle.arcstr_block.proofs.Names.{held_with, block_owns, block_shares, word_offset, counted, IsLimit}
 use Rattle.arcstr_block.proofs.Blocks.{begins}
 use Rattle.arcstr_block.proofs.Pointers.{pointer_val, typed, told}
@@ -23,7 +23,7 @@ make_spec 𝓤 𝓛 𝓜 𝓡 wired Y K g d dd met md =
     let inst = bounded (a_type ∷ []) (Y, tt) (dcons d (dcons dd dnil)) in let fn = inst_fn inst code.function in
     let closed = code.unfolded 𝓤 H 𝓜 𝓡 wired (Y, tt) d dd in
     let Row : RattleType = C.the_row B g in let Alone : RattleType = S.the_row B g in
-    proved 𝓛 En (all_dropped En.signature.params En.kept) c 𝓜 𝓡 (all_go 𝓛 1 En.signature.params En.kept (λ κs x f. refl, tt)) (#self inst) fn closed
+    proved 𝓛 En (all_dropped En) c 𝓜 𝓡 (all_go 𝓛 En (λ κs x f. refl, tt)) (#self inst) fn closed
     (λ κs. ((λ x. pointer_val x.at ∷ []), tt)) (λ κs. ((λ x vs so. told B g x.at vs so.0), tt)) (λ κs qs bounds a gh are.
     let v : Alone.Denot = a.0 in let p : Ptr = v.at in let xs : List ℕ = v.text in let lim : ℕ = gh in let holds = g.dealloc_token v.home in
     let P : Fml = block_owns holds p xs in let s = block_shares p xs in

@@ -1,7 +1,7 @@
 -- `sub` is one fetch-sub. The last one has the word and what the block owns.
 -- We take apart what the pointer holds, take the step inside the invariant (`Steps`) and write it into the book (`Book`), and make the gain a right (`Rights`).
-use Rattle.arcstr_block.proofs.Names.{◌≡◌, ℕ, ◌-◌, ◌^◌, Bool, [], ◌∷◌, refl, arith, lit<, sym, subst, ap, length, ◌+◌, ◌<◌, if◌then◌else◌, w64, inst_fn, dcons}
-use Rattle.arcstr_block.proofs.Names.{dnil, a_type, named, Val, vint, vptr, Lft, Fml, fsep, fex, finv, ftrue, via, SProp, fact, tables, u64, param, bounded}
+use Rattle.arcstr_block.proofs.Names.{◌≡◌, ℕ, ◌^◌, Bool, [], ◌∷◌, refl, arith, lit<, sym, subst, ap, length, ◌+◌, ◌<◌, if◌then◌else◌, w64, inst_fn, dcons}
+use Rattle.arcstr_block.proofs.Names.{dnil, a_type, Val, vint, vptr, Lft, Fml, fsep, fex, finv, ftrue, via, SProp, fact, tables, u64, param, bounded}
 use Rattle.arcstr_block.proofs.Names.{uint_vals, uint_Tells, RattleType, Valss, owns, block_of, Ptr, block_ptr, ptr_val, count_of, at_block, types_at, heard}
 use Rattle.arcstr_block.proofs.Names.{alive, alloc_all, pass_all, free_all, look_at, get, get_in, sets, lands_last, env, through, is, ‵, ◌⊛◌, later, ◌$◌, ◌∵◌}
 use Rattle.arcstr_block.proofs.Names.{ !, qed, move, use1, split, fsplit, fjoin, fpick, await, raw, by, keep, fsplit3, drop, rewrite, use3, at_ret, mean, sub}
@@ -29,8 +29,7 @@ sub_spec 𝓤 𝓛 𝓜 𝓡 wired Y K g d dd met md =
     let inst = bounded (a_type ∷ []) (Y, tt) (dcons d (dcons dd dnil)) in let fn = inst_fn inst code.function in
     let closed = code.unfolded 𝓤 H 𝓜 𝓡 wired (Y, tt) d dd in
     let Row : RattleType = C.the_row B g in
-    proved 𝓛 En (all_dropped En.signature.params En.kept) c 𝓜 𝓡 (all_go 𝓛 1 En.signature.params En.kept (λ κs x f. refl, (λ κs x f. refl, tt)))
-    (#self inst) fn closed
+    proved 𝓛 En (all_dropped En) c 𝓜 𝓡 (all_go 𝓛 En (λ κs x f. refl, (λ κs x f. refl, tt))) (#self inst) fn closed
     (λ κs. ((λ x. pointer_val x.at ∷ []), (uint_vals w64, tt))) (λ κs. ((λ x vs so. told B g x.at vs so.0), (uint_Tells w64, tt))) (λ κs qs bounds a gh are.
     let h : Row.Denot = a.0 in let p : Ptr = h.at in let lim : ℕ = h.limit in let holds = g.dealloc_token h.home in
     let P : Fml = block_owns holds p h.text in let s : Lft → Fml = block_shares p h.text in

@@ -1,5 +1,5 @@
 -- `two_pointers_have_two_seats` returns both pointers: it does nothing.
-use Rattle.arcstr_block.proofs.Names.{◌≡◌, [], ◌∷◌, refl, List, ◌+◌, ◌++◌, inst_fn, dcons, dnil, a_type, Val, vstruct, of_list, fsep, feq, SProp, fact, tables}
+use Rattle.arcstr_block.proofs.Names.{◌≡◌, [], ◌∷◌, refl, List, ◌++◌, inst_fn, dcons, dnil, a_type, Val, vstruct, of_list, fsep, feq, SProp, fact, tables}
 use Rattle.arcstr_block.proofs.Names.{param, bounded, RattleType, Valss, owns, Ptr, types_at, nothing, heard, alive, alloc_all, pass_all, free_all, look_at}
 use Rattle.arcstr_block.proofs.Names.{get, sets, ‵, ◌⊛◌, later, ◌$◌, ◌∵◌, !, qed, move, use2, split, fjoin, fjoin3, fpack, await, raw, by, keep, fsplit3, given}
 use Rattle.arcstr_block.proofs.Names.{learn, feq_i, agg, of_opd, no_more, and_then, returns, enter, proved, HasSeat}
@@ -19,7 +19,7 @@ two_pointers_have_two_seats_spec 𝓤 𝓛 𝓜 𝓡 wired Y K g d dd met md =
     let inst = bounded (a_type ∷ []) (Y, tt) (dcons d (dcons dd dnil)) in let fn = inst_fn inst code.function in
     let closed = code.unfolded 𝓤 H 𝓜 𝓡 wired (Y, tt) d dd in
     let Row : RattleType = C.the_row B g in
-    proved 𝓛 En (all_dropped En.signature.params En.kept) c 𝓜 𝓡 (all_go 𝓛 1 En.signature.params En.kept (λ κs x f. refl, (λ κs x f. refl, tt))) (#self inst) fn closed
+    proved 𝓛 En (all_dropped En) c 𝓜 𝓡 (all_go 𝓛 En (λ κs x f. refl, (λ κs x f. refl, tt))) (#self inst) fn closed
     (λ κs. ((λ x. pointer_val x.at ∷ []), ((λ x. pointer_val x.at ∷ []), tt))) (λ κs. (
       (λ x vs so. told B g x.at vs so.0),
       (

@@ -16,7 +16,7 @@ pub a_block_has_one_history_spec : {M : Type 1} → statement M
 a_block_has_one_history_spec 𝓤 𝓛 𝓜 𝓡 wired =
     let H = 𝓛.H in let 𝓣 = tables 𝓤 H 𝓜 𝓡 𝓡.env in let En = ended in let c = clauses 𝓛 𝓜.mem 𝓡.returns in let fn = code.function in
     let S : RattleType = C.the_row in
-    proved 𝓛 En (all_dropped En.signature.params En.kept) c 𝓜 𝓡 (all_go 𝓛 2 En.signature.params En.kept (λ κs x f. refl, (λ κs x f. refl, tt)))
+    proved 𝓛 En (all_dropped En) c 𝓜 𝓡 (all_go 𝓛 En (λ κs x f. refl, (λ κs x f. refl, tt)))
     #self fn (code.unfolded 𝓤 H 𝓜 𝓡 wired)
     (λ κs. (shr_vals, (shr_vals, tt))) (λ κs. (shr_Tells (named 0) κs.0 S, (shr_Tells (named 1) κs.1.0 S, tt))) (λ κs qs bounds a gh are.
     let b : ℕ = a.0.ref_ptr.0 in let o : ℕ = a.0.ref_ptr.1 in let b' : ℕ = a.1.0.ref_ptr.0 in let o' : ℕ = a.1.0.ref_ptr.1 in let h : S.Denot = a.0.now in
