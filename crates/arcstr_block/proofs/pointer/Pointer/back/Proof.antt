@@ -25,10 +25,9 @@ pub back_spec : {M : Type 1} → statement M
 back_spec 𝓤 𝓛 𝓜 𝓡 wired Y K g d dd met md =
     let H = 𝓛.H in let 𝓣 = tables 𝓤 H 𝓜 𝓡 𝓡.env in let B : RattleType = param 0 Y in let En = ended Y g d dd in let c = clauses Y g d dd 𝓛 𝓜.mem 𝓡.returns in
     let inst = bounded (a_type ∷ []) (Y, tt) (dcons d (dcons dd dnil)) in let fn = inst_fn inst code.function in
-    let closed = code.unfolded 𝓤 H 𝓜 𝓡 wired (Y, tt) d dd in
     let Row : RattleType = C.the_row B g in let Alone : RattleType = S.the_row B g in
     let D' : RattleType = Token unit in let H' : RattleType = Seen.the_row in
-    proved 𝓛 En (all_dropped En) c 𝓜 𝓡 (all_go 𝓛 En (λ κs x f. refl, (λ κs x f. refl, tt))) (#self inst) fn closed
+    proved 𝓛 En (all_dropped En) c 𝓜 𝓡 (all_go 𝓛 En (λ κs x f. refl, (λ κs x f. refl, tt))) (#self inst) fn (code.unfolded 𝓤 H 𝓜 𝓡 wired (Y, tt) d dd)
     (λ κs. ((λ x. pointer_val x.at ∷ []), (uint_vals w64, tt))) (λ κs. ((λ x vs so. told B g x.at vs so.0), (uint_Tells w64, tt))) (λ κs qs bounds a gh are.
     let h : Row.Denot = a.0 in let p : Ptr = h.at in let xs : List ℕ = h.text in let n : ℕ = length xs in let lim : ℕ = h.limit in
     let holds = g.dealloc_token h.home in let P : Fml = block_owns holds p xs in let s = block_shares p xs in
