@@ -9,4 +9,6 @@ pub mod Steps
 pub mod Sharing
 pub mod Rights
 pub mod Pointers
+pub mod Endings
+pub mod Walks
 pub mod Blocks

@@ -8,6 +8,8 @@ use Rattle.arcstr_block.proofs.Names.{Inv, knows, free}
 use Rattle.arcstr_block.proofs.Names.{right_to, shown, free_shown, uncounted, counted, HasSeat, Right, dropping, owed, MaySee, IsFree, Looks, Finds, Gains}
 use Rattle.arcstr_block.proofs.Names.{Begins, Leaves, fixed, Loads, LoadEnds, BornAs, word_of, IsMarked, IsUnmarked, IsLast, one, operators}
 use Rattle.arcstr_block.specs.Rights.{nothing}
+use Rattle.arcstr_block.proofs.Names.{EndsIn, IsLater}
+use Rattle.arcstr_count.specs.declared.steps.Reply.{Reply}
 use Rattle.arcstr_block.specs.Ledger.{fact}
 use Rattle.arcstr_block.proofs.Ledger.{parts_in}
 use Rattle.arcstr_block.proofs.Words.{IsMarkedOr, odd_or_even, unmarked_word, last_two}
@@ -123,6 +125,10 @@ module _ {M : Type 1} {𝓤 : Ura M} (𝓛 : Logic 𝓤) (P : Fml) (L b o : ℕ)
     marked share e = record { right = fixed; said = refl; turns = permanent_of }
     marked last e = absurd cc
 
+    -- a right of the handle x.0, with the prefix x.1 of the history
+    abbrev pub right_after : (ℕ × List Step → Type 0) → Right → ℕ × List Step → Fml
+    right_after φ k x = fsep (fact (φ x)) (fsep (reached t.name.history x.1) (Held x.0 k))
+
     -- ---- a clone by the handle h, after the history `before`; `event` says whether it succeeds
     module _ (h : ℕ) (before : List Step) where
       abbrev New : Fml
@@ -131,9 +137,9 @@ module _ {M : Type 1} {𝓤 : Ura M} (𝓛 : Logic 𝓤) (P : Fml) (L b o : ℕ)
       abbrev pub newborn : Type 0 → Fml
       newborn event = fall event (λ _. New)
 
-      -- a right of the handle x.0, with the prefix x.1 of the history, which ends in its birth if the clone succeeds
-      abbrev pub born_as : Type 0 → Right → ℕ × List Step → Fml
-      born_as event k x = fsep (fact (event → BornAs L h before x.0 x.1)) (fsep (reached t.name.history x.1) (Held x.0 k))
+      -- the handle x.0 is born in the history x.1, if the clone succeeds
+      abbrev born_as : Type 0 → Right → ℕ × List Step → Fml
+      born_as event = right_after (λ x. event → BornAs L h before x.0 x.1)
 
       abbrev pub AfterClone : Type 0 → Right → Fml
       AfterClone event k = fex (ℕ × List Step) (born_as event k)
@@ -329,26 +335,31 @@ module _ {M : Type 1} {𝓤 : Ura M} (𝓛 : Logic 𝓤) (P : Fml) (L b o : ℕ)
       enters true q n = finds 𝓛 L t.name.history t.name.seats h q before n
       enters false q n = book_look 𝓛 L t.name.history t.name.seats n h q before
 
-      -- a right of the handle x.0, with the prefix x.1 of the history
-      abbrev pub right_after : Bool → ℕ → Right → ℕ × List Step → Fml
-      right_after clones n k x = fsep (fact (LoadEnds clones L h before n x.0 x.1)) (fsep (reached t.name.history x.1) (right_to P L b o t s x.0 k))
+      -- a step of a handle that stays: what it gains, what the history says, and what was known of the history
+      abbrev From : Fml → List Step → Gain → Pr
+      From said r g = ⟦ gained 𝓛 P L b o t g ⟧ ∗ ⟦ s a ⟧ ∗ ⟦ said ⟧ ∗ ⟦ reached t.name.history r ⟧
 
-      abbrev pub AfterLoad : Bool → ℕ → Right → Fml
-      AfterLoad clones n k = fex (ℕ × List Step) (right_after clones n k)
+      abbrev After : (ℕ × List Step → Type 0) → Right → Pr
+      After φ k = ⟦ fex (ℕ × List Step) (right_after φ k) ⟧
 
-      abbrev FromLoad : Bool → ℕ → List Step → Gain → Pr
-      FromLoad clones n r g = ⟦ gained 𝓛 P L b o t g ⟧ ∗ ⟦ s (t.sharing ∷ []) ⟧ ∗ ⟦ entered clones n ⟧ ∗ ⟦ reached t.name.history r ⟧
-
-      pub loaded : (clones : Bool) (n : ℕ) (r : List Step) (g : Gain) → (IsMarked n → g ≡ share) → (IsUnmarked n → g ≡ none)
-          → Becomes (Loads clones n) (FromLoad clones n r g) (λ k. ⟦ AfterLoad clones n k ⟧)
-      loaded true n r g m u = let got = found h before n r g m u in record { right = got.right; said = got.said; turns = got.turns }
-      loaded false n r g m u = let got = looked n g m u in record {
+      -- the right has no seat, and the history ends in this step
+      pub seatless : {says : Right → Type 0} (g : Gain) → Becomes says (FromLook g) ToIdle → (φ : ℕ × List Step → Type 0) (e : Step) (reply : Reply)
+          → ((r : List Step) → EndsIn L r e reply × IsLater before r → φ (0, r)) → (r : List Step)
+          → Becomes says (From (Ends L t.name.history t.name.seats before e reply) r g) (After φ)
+      seatless g got φ e reply tells r = record {
         right = got.right;
         said = got.said;
-        turns = qed 𝓛 (‵ (gained 𝓛 P L b o t g) ∷ ‵ (s (t.sharing ∷ [])) ∷ ‵ (entered false n) ∷ ‵ (reached t.name.history r) ∷ []) ∵ updating ! $
-            use2 𝓛 (later (‵ (right_to P L b o t s 0 got.right))) got.turns $ await ! tt $ move ! (1 ∷ []) $ fpick ! (λ r'. fsplit ! $ fpick ! (λ ends. drop ! $
-            fjoin ! $
-            no_item ! $ fpack ! (LoadEnds false L h before n 0 r') (λ _. ftrue) (ends.0, marked_by_word L n r' h ends.0, ends.1) $ fjoin ! $ fpack !
-            (ℕ × List Step) (right_after false n got.right) (0, r') $ now ! $
-            keep ! (0 ∷ []) $ done !));
+        turns = qed 𝓛 (‵ (gained 𝓛 P L b o t g) ∷ ‵ (s a) ∷ ‵ (Ends L t.name.history t.name.seats before e reply) ∷ ‵ (reached t.name.history r) ∷ []) ∵
+            updating ! $ use2 𝓛 (later (‵ (Held 0 got.right))) got.turns $ await ! tt $ move ! (1 ∷ []) $ fpick ! (λ r'. fsplit ! $ fpick ! (λ ends. drop ! $
+            fjoin ! $ no_item ! $ fpack ! (φ (0, r')) (λ _. ftrue) (tells r' ends) $ fjoin ! $
+            fpack ! (ℕ × List Step) (right_after φ got.right) (0, r') $ now ! $ keep ! (0 ∷ []) $ done !));
       }
+
+      abbrev LoadAs : Bool → ℕ → ℕ × List Step → Type 0
+      LoadAs clones n x = LoadEnds clones L h before n x.0 x.1
+
+      pub loaded : (clones : Bool) (n : ℕ) (r : List Step) (g : Gain) → (IsMarked n → g ≡ share) → (IsUnmarked n → g ≡ none)
+          → Becomes (Loads clones n) (From (entered clones n) r g) (After (LoadAs clones n))
+      loaded true n r g m u = let got = found h before n r g m u in record { right = got.right; said = got.said; turns = got.turns }
+      loaded false n r g m u = seatless g (looked n g m u) (LoadAs false n) (Look h) (look_reply (looked_of (word_of n)))
+          (λ r' ends. (ends.0, marked_by_word L n r' h ends.0, ends.1)) r

@@ -1,12 +1,12 @@
 -- `close` takes the bytes from their `Slots` once each is written.
-use Rattle.arcstr_block.proofs.Names.{◌≡◌, ℕ, ◌^◌, Bool, [], ◌∷◌, refl, arith, List, sym, subst, ap, length, ◌<◌, ◌∙◌, w64, T, inst_fn, ty_int, tcons, tnil}
-use Rattle.arcstr_block.proofs.Names.{ty_ptr, ty_struct, dcons, dnil, a_type, Val, has_ty, WT, fsep, full_share, emp, SProp, fact, fact_i, tables, Array, u8}
-use Rattle.arcstr_block.proofs.Names.{no, yes, part_at, param, bounded, RattleType, owns, block_of, Ptr, block_ptr, ptr_val, InBlock, count_of, at_block}
-use Rattle.arcstr_block.proofs.Names.{in_block, bytes, bytes_whole, types_at, plain, nothing, heard, calls_at_last, alive, Stays, stay_dropped, walk_of}
-use Rattle.arcstr_block.proofs.Names.{Goes-dropped, alloc_all, pass_all, free_all, look_at, get, get_in, sets, lands_last, env, is, !, ‵, ◌⊛◌, later, ◌$◌, ◌∵◌}
-use Rattle.arcstr_block.proofs.Names.{qed, move, use0, use1, split, join, fsplit, fjoin, fjoin3, fpick, fpack, await, raw, by, keep, fsplit3, given, drop}
-use Rattle.arcstr_block.proofs.Names.{learn, rewrite, feq_i, at_ret, sub, whole, agg, stop, fld, of_opd, no_more, and_then, first, blocks, exec, returns, enter}
-use Rattle.arcstr_block.proofs.Names.{tail, words_val, slots, owned, Filled, fm, leaves, proved, Fits, word_lies, length_lies, text_lies, rim}
+use Rattle.arcstr_block.proofs.Names.{◌≡◌, ℕ, ◌^◌, Bool, [], ◌∷◌, refl, arith, List, sym, subst, ap, length, ◌<◌, ◌∙◌, w64, T, inst_fn, ty_int, tcons}
+use Rattle.arcstr_block.proofs.Names.{tnil, ty_ptr, ty_struct, dcons, dnil, a_type, Val, has_ty, WT, fsep, full_share, emp, SProp, fact, fact_i, tables, Array}
+use Rattle.arcstr_block.proofs.Names.{u8, part_at, param, bounded, RattleType, owns, block_of, Ptr, block_ptr, ptr_val, InBlock, count_of, at_block, in_block}
+use Rattle.arcstr_block.proofs.Names.{bytes, bytes_whole, types_at, nothing, heard, calls_at_last, alive, alloc_all, pass_all, free_all, look_at, get, get_in}
+use Rattle.arcstr_block.proofs.Names.{sets, lands_last, env, is, ‵, ◌⊛◌, later, ◌$◌, ◌∵◌, !, qed, move, use0, use1, split, fsplit, fjoin, fjoin3, fpick, fpack}
+use Rattle.arcstr_block.proofs.Names.{await, raw, by, keep, fsplit3, given, drop, learn, rewrite, feq_i, at_ret, sub, whole, agg, stop, fld, of_opd, no_more}
+use Rattle.arcstr_block.proofs.Names.{and_then, first, blocks, exec, returns, enter, tail, words_val, slots, owned, Filled, fm, proved, Fits}
+use Rattle.arcstr_block.proofs.Names.{word_lies, length_lies, text_lies, rim}
 use Rattle.arcstr_block.proofs.Pointers.{pointer_val, typed, Words, told, made}
 use Rattle.arcstr_block.proofs.Memory.{byte_laws, Bytes, R, to_bytes, EndContract, at_ends, ends_goes, ends_gives, words_typed, words_told}
 use Rattle.arcstr_block.specs.contracts.block.Blank.close.{ended, clauses}
@@ -16,15 +16,14 @@ use Rattle.core.proofs.slots.Slots.into_raw_parts.Met as callee
 use Rattle.arcstr_block.specs.contracts.block.Blank as N
 use Rattle.arcstr_block.specs.contracts.block.Sole as S
 use Rattle.arcstr_block.proofs.block.Blank.close.Code as code
+use Rattle.arcstr_block.proofs.Endings.{all_dropped, all_go, Walk, ends, also}
 
 pub close_spec : {M : Type 1} → statement M
 close_spec 𝓤 𝓛 𝓜 𝓡 wired Y K g d dd met md =
     let H = 𝓛.H in let 𝓣 = tables 𝓤 H 𝓜 𝓡 𝓡.env in let B : RattleType = param 0 Y in let En = ended Y g d dd in let c = clauses Y g d dd 𝓛 𝓜.mem 𝓡.returns in
     let inst = bounded (a_type ∷ []) (Y, tt) (dcons d (dcons dd dnil)) in let fn = inst_fn inst code.function in
-    let closed = code.unfolded 𝓤 H 𝓜 𝓡 wired (Y, tt) d dd in
-    let Open : RattleType = N.the_row B g in let Alone : RattleType = S.the_row B g in let self = plain (λ _. Open) in let row = plain (λ _. Bytes) in
-    let hs : Stays En.signature.params En.kept = (stay_dropped self no, (stay_dropped row yes, tt)) in
-    proved 𝓛 En hs c 𝓜 𝓡 (Goes-dropped 𝓛 1 self no (λ κs x f. refl), (Goes-dropped 𝓛 1 row yes (λ κs x f. refl), tt)) (#self inst) fn closed
+    let Open : RattleType = N.the_row B g in let Alone : RattleType = S.the_row B g in
+    proved 𝓛 En (all_dropped En) c 𝓜 𝓡 (all_go 𝓛 En (λ κs x f. refl, (λ κs x f. refl, tt))) (#self inst) fn (code.unfolded 𝓤 H 𝓜 𝓡 wired (Y, tt) d dd)
     (λ κs. ((λ x. pointer_val x.at ∷ []), ((λ x. words_val x.ptr x.len ∷ []), tt))) (λ κs. (
       (λ x vs so. told B g x.at vs so.0),
       (
@@ -36,8 +35,8 @@ close_spec 𝓤 𝓛 𝓜 𝓡 wired Y K g d dd met md =
     let h : Open.Denot = a.0 in let p : Ptr = h.at in let row : Bytes.Denot = a.1.0 in let xs : List ℕ = row.items in let fs : List Bool = row.filled in
     let n : ℕ = length xs in let b : ℕ = block_of p in let o : ℕ = count_of p in
     let holds = g.dealloc_token h.home in let u : Val = words_val row.ptr row.len in let small : row.len < 2 ^ 64 = row.small in
-    let y : (walk_of 𝓛 En hs c).Ghost = ((κs, qs, bounds, a, (pointer_val p ∷ [], (u ∷ [], tt))), gh) in
-    let Post : Val → SProp 𝓤 = (walk_of 𝓛 En hs c).post y in
+    let y : (Walk 𝓛 En c).Ghost = ((κs, qs, bounds, a, (pointer_val p ∷ [], (u ∷ [], tt))), gh) in
+    let Post : Val → SProp 𝓤 = (Walk 𝓛 En c).post y in
     let Written : Type 0 = Filled fs 0 h.length in
     qed 𝓛 ((raw (alive 𝓛 En.signature κs qs) ⊛ ‵ (owns (types_at En.signature.params κs) a y.0.4)) ∷ raw (fact 𝓤 _) ∷ raw (fact 𝓤 (row.ptr ≡ p)) ∷ raw
     (fact 𝓤 (row.len ≡ h.length)) ∷ raw (fact 𝓤 Written) ∷ []) ∵
@@ -72,8 +71,5 @@ close_spec 𝓤 𝓛 𝓜 𝓡 wired Y K g d dd met md =
     nothing ! $ fpack ! (InBlock p × Fits n) (λ _. base.Fml.ftrue) (inb.0, subst Fits counts inb.1) $ fjoin ! $
     use0 𝓛 (‵ ((Words B g).own_val (p, (tt, tt)) (pointer_val p ∷ []))) (made B g 𝓛 p) $ fjoin ! $
     let r : Alone.Denot = record { at = p; marker = record {}; home = h.home; word = h.word; text = xs } in
-    use0 𝓛 (raw (fact 𝓤 (xs ≡ xs))) (fact_i 𝓤 (xs ≡ xs) (emp 𝓤) refl) $ use0 𝓛 (raw (fact 𝓤 (h.word ≡ h.word))) (fact_i 𝓤 (h.word ≡ h.word) (emp 𝓤) refl) $
-    join ! $
-    use0 𝓛 (raw (fact 𝓤 (h.home ≡ h.home))) (fact_i 𝓤 (h.home ≡ h.home) (emp 𝓤) refl) $ join ! $ nothing ! $ nothing ! $ fjoin ! $ nothing ! $ fjoin ! $
-    returns ! (look_at ! 0 refl) $ free_all ! refl $ keep ! (3 ∷ 0 ∷ 2 ∷ 1 ∷ []) $
-    by ! (leaves 𝓛 En hs c y (pointer_val p) r (tt, (tt, tt)) (tt, (tt, tt)))))))))))
+    returns ! (look_at ! 0 refl) $ free_all ! refl $ by ! (ends 𝓛 En c y (pointer_val p) r (tt, (tt, tt))
+    (also 𝓛 {X = h.home ≡ h.home} refl (also 𝓛 {X = h.word ≡ h.word} refl (fact_i 𝓤 (xs ≡ xs) (emp 𝓤) refl))))))))))))

@@ -1,15 +1,14 @@
 -- `make` allocates a block's room, cuts it in three, writes the word and the length, and makes slots of the bytes.
-use Rattle.arcstr_block.proofs.Names.{◌≡◌, ℕ, ◌^◌, Bool, true, [], ◌∷◌, refl, arith, lit<, false, List, sym, ap, length, ◌+◌, ◌<◌, ◌∙◌, w64, replicate, inst_fn}
-use Rattle.arcstr_block.proofs.Names.{bare, Ty, w8, ty_int, ty_array, dcons, dnil, a_type, named, Body, Val, vint, vptr, vstruct, WT, vcons, vnil, Wp}
-use Rattle.arcstr_block.proofs.Names.{after_seq, at_return, Lft, Share, Incl-trans, Fml, fsep, flft, ftrue, fwand, froom, full_share, emp, SProp, ◌⊑◌, fact}
-use Rattle.arcstr_block.proofs.Names.{fact_i, tables, u8, usize, u64, RefOf, yes, part_at, param, bounded, uint_vals, uint_Tells, RattleType, Valss, owns, Ptr}
-use Rattle.arcstr_block.proofs.Names.{block_ptr, InBlock, shr_vals, shr_Tells, makes_shadow, types_at, plain, nothing, heard, within, Tuple, tuple_type}
-use Rattle.arcstr_block.proofs.Names.{calls_at, Stays, stay_dropped, walk_of, Goes-dropped, alloc_all, pass_all, free_all, look_at, get, get_in, sets, env}
-use Rattle.arcstr_block.proofs.Names.{through, sets_last, is, get_tag, lands_as, ‵, ◌⊛◌, some, later, ◌$◌, ◌∵◌, !, qed, move, pick, use0, use1, use2, split}
-use Rattle.arcstr_block.proofs.Names.{join, fsplit, fjoin, fjoin3, fpack, await, raw, by, keep, fsplit3, given, learn, rewrite, feq_i, at_ret, any_q, agg, stop}
-use Rattle.arcstr_block.proofs.Names.{fld, lit, of_opd, no_more, and_then, first, exec, returns, enter, addr, bin, switches_on, init, assigns, Al, Answer-typed}
-use Rattle.arcstr_block.proofs.Names.{Takes, at_takes, Answered, Takes-goes, Takes-gives, answers, words_val, word_in, slots, Slots, fm, leaves, proved, Fits}
-use Rattle.arcstr_block.proofs.Names.{word_offset, block_size, block_type, rooms}
+use Rattle.arcstr_block.proofs.Names.{◌≡◌, ℕ, ◌^◌, Bool, true, [], ◌∷◌, refl, arith, lit<, false, List, sym, ap, length, ◌+◌, ◌<◌, ◌∙◌, w64, replicate}
+use Rattle.arcstr_block.proofs.Names.{inst_fn, bare, Ty, w8, ty_int, ty_array, dcons, dnil, a_type, named, Body, Val, vint, vptr, vstruct, WT, vcons, vnil, Wp}
+use Rattle.arcstr_block.proofs.Names.{after_seq, at_return, Lft, Share, Incl-trans, Fml, fsep, flft, ftrue, fwand, froom, full_share, SProp, ◌⊑◌, fact, tables}
+use Rattle.arcstr_block.proofs.Names.{u8, usize, part_at, param, bounded, uint_vals, uint_Tells, RattleType, Valss, owns, Ptr, block_ptr, InBlock, shr_vals}
+use Rattle.arcstr_block.proofs.Names.{shr_Tells, makes_shadow, types_at, nothing, heard, within, Tuple, tuple_type, calls_at, alloc_all, pass_all, free_all}
+use Rattle.arcstr_block.proofs.Names.{look_at, get, get_in, sets, env, through, sets_last, is, get_tag, lands_as, ‵, ◌⊛◌, some, later, ◌$◌, ◌∵◌, !, qed, move}
+use Rattle.arcstr_block.proofs.Names.{pick, use0, use1, use2, split, join, fsplit, fjoin, fjoin3, fpack, await, raw, by, keep, fsplit3, given, learn, rewrite}
+use Rattle.arcstr_block.proofs.Names.{feq_i, at_ret, any_q, agg, stop, fld, lit, of_opd, no_more, and_then, first, exec, returns, enter, addr, bin, switches_on}
+use Rattle.arcstr_block.proofs.Names.{init, assigns, Al, Answer-typed, Takes, at_takes, Answered, Takes-goes, Takes-gives, answers, words_val, word_in, slots}
+use Rattle.arcstr_block.proofs.Names.{Slots, fm, proved, Fits, word_offset, block_size, block_type, rooms}
 use types.Part.{whole as all_of_it}
 use lib.ListN.{length-replicate}
 use types.Match.{live, vrt, in_variant}
@@ -29,42 +28,18 @@ use Rattle.core.specs.contracts.result.Result as Res
 use Rattle.core.proofs.slots.Slots.from_raw_parts.Met as callee
 use Rattle.arcstr_block.specs.contracts.block.Blank as N
 use Rattle.arcstr_block.proofs.block.Blank.make.Code as code
+use Rattle.arcstr_block.proofs.Endings.{all_dropped, all_go, Walk, ends, also}
+use Rattle.arcstr_block.proofs.Pointers as framed
 
 pub make_spec : {M : Type 1} → statement M
 make_spec 𝓤 𝓛 𝓜 𝓡 wired Y K g d dd met md =
     let H = 𝓛.H in let 𝓣 = tables 𝓤 H 𝓜 𝓡 𝓡.env in let B : RattleType = param 0 Y in let En = ended Y g d dd in let c = clauses Y g d dd 𝓛 𝓜.mem 𝓡.returns in
     let inst = bounded (a_type ∷ []) (Y, tt) (dcons d (dcons dd dnil)) in let fn = inst_fn inst code.function in
-    let closed = code.unfolded 𝓤 H 𝓜 𝓡 wired (Y, tt) d dd in
-    let Open : RattleType = N.the_row B g in let handle = RefOf (0 ∷ []) tt (plain (λ _. B)) (λ _. tt) in let number = plain (λ _. u64) in
+    let Open : RattleType = N.the_row B g in
     let Z : Al = record { row = Y; laws = K; g = g; d = d; drops = dd } in let Two : RattleType = Tuple (Open ∷ Bytes ∷ []) in
     let Out : RattleType = Res.the_row Two refusal.the_row in
-    let hs : Stays En.signature.params En.kept = (
-      stay_dropped handle yes,
-      (
-        stay_dropped number yes,
-        (
-          stay_dropped number yes,
-          (
-            stay_dropped number yes,
-            (stay_dropped number yes, tt),
-          ),
-        ),
-      ),
-    ) in
-    proved 𝓛 En hs c 𝓜 𝓡 (
-      Goes-dropped 𝓛 2 handle yes (λ κs x f. refl),
-      (
-        Goes-dropped 𝓛 2 number yes (λ κs x f. refl),
-        (
-          Goes-dropped 𝓛 2 number yes (λ κs x f.
-              refl),
-          (
-            Goes-dropped 𝓛 2 number yes (λ κs x f. refl),
-            (Goes-dropped 𝓛 2 number yes (λ κs x f. refl), tt),
-          ),
-        ),
-      ),
-    ) (#self inst) fn closed
+    proved 𝓛 En (all_dropped En) c 𝓜 𝓡 (all_go 𝓛 En (λ κs x f. refl, (λ κs x f. refl, (λ κs x f. refl, (λ κs x f. refl, (λ κs x f. refl, tt))))))
+    (#self inst) fn (code.unfolded 𝓤 H 𝓜 𝓡 wired (Y, tt) d dd)
     (λ κs. (shr_vals, (uint_vals w64, (uint_vals w64, (uint_vals w64, (uint_vals w64, tt)))))) (λ κs.
     (shr_Tells (named 0) κs.0 B, (uint_Tells w64, (uint_Tells w64, (uint_Tells w64, (uint_Tells w64, tt)))))) (λ κs qs bounds a gh are.
     let hp : ℕ × ℕ = a.0.ref_ptr in let heap : Y.Denot = a.0.now in let w : ℕ = a.1.0 in let n : ℕ = a.1.1.0 in let offset : ℕ = a.1.1.1.0 in
@@ -74,7 +49,7 @@ make_spec 𝓤 𝓛 𝓜 𝓡 wired Y K g d dd met md =
     let fit_n : WT (vint w64 n) = record { fits = are.1.1.0.1 } in let fit_offset : WT (vint w64 offset) = record { fits = are.1.1.1.0.1 } in
     let small : size < 2 ^ 64 = are.1.1.1.1.0.1 in
     let us : List Val = vptr hp.0 hp.1 ∷ vint w64 w ∷ vint w64 n ∷ vint w64 offset ∷ vint w64 size ∷ [] in
-    let y : (walk_of 𝓛 En hs c).Ghost = (
+    let y : (Walk 𝓛 En c).Ghost = (
       (
         κs,
         qs,
@@ -96,7 +71,7 @@ make_spec 𝓤 𝓛 𝓜 𝓡 wired Y K g d dd met md =
       ),
       gh,
     ) in
-    let Post : Val → SProp 𝓤 = (walk_of 𝓛 En hs c).post y in
+    let Post : Val → SProp 𝓤 = (Walk 𝓛 En c).post y in
     let others : Fml = fsep (flft κs.1.0 qs.1.0) ftrue in
     qed 𝓛 (((‵ (flft κ q) ⊛ ‵ others) ⊛ ‵ (owns (types_at En.signature.params κs) a y.0.4)) ∷ raw (fact 𝓤 (κs.1.0 ⊑ Y.lives)) ∷ raw (fact 𝓤
     (offset ≡ word_offset n)) ∷ raw (fact 𝓤 (size ≡ block_size n)) ∷ raw (fact 𝓤 (Fits n)) ∷ []) ∵
@@ -159,16 +134,10 @@ make_spec 𝓤 𝓛 𝓜 𝓡 wired Y K g d dd met md =
       (wv ∷ [], tt),
     ) $
     use1 𝓛 (‵ (Out.own_val (Ok (h, r)) (val ∷ []))) (ok_of 𝓛 Two refusal.the_row (h, r) pair) $
-    use0 𝓛 (raw (fact 𝓤 (r.items ≡ zs))) (fact_i 𝓤 (r.items ≡ zs) (emp 𝓤) is.0.2) $
-    use0 𝓛 (raw (fact 𝓤 (r.ptr ≡ p))) (fact_i 𝓤 (r.ptr ≡ p) (emp 𝓤) is.0.0) $ join ! $
-    use0 𝓛 (raw (fact 𝓤 ((n ≡ n) × (r.len ≡ n)))) (fact_i 𝓤 ((n ≡ n) × (r.len ≡ n)) (emp 𝓤) (refl, is.0.1)) $ join ! $
-    use0 𝓛 (raw (fact 𝓤 (w ≡ w))) (fact_i 𝓤 (w ≡ w) (emp 𝓤) refl) $ join ! $
-    use0 𝓛 (raw (fact 𝓤 (heap ≡ heap))) (fact_i 𝓤 (heap ≡ heap) (emp 𝓤) refl) $ join ! $ nothing ! $ nothing ! $ fjoin ! $ nothing ! $ fjoin ! $ nothing ! $
-    fjoin ! $ nothing ! $ fjoin ! $ nothing ! $ fjoin ! $
-    returns ! (look_at ! 0 refl) $ free_all ! refl $ keep ! (3 ∷ 0 ∷ 2 ∷ 1 ∷ []) $
-    by ! (leaves 𝓛 En hs c y val (Ok (h, r)) (tt, (tt, (tt, (tt, (tt, tt))))) (tt, (tt, (tt, (tt, (tt, tt))))))))))
+    returns ! (look_at ! 0 refl) $ free_all ! refl $ keep ! (0 ∷ 1 ∷ []) $ by ! (ends 𝓛 En c y val (Ok (h, r)) (tt, (tt, (tt, (tt, (tt, tt)))))
+    (also 𝓛 {X = heap ≡ heap} refl (also 𝓛 {X = w ≡ w} refl (framed.three 𝓛 {X = (n ≡ n) × (r.len ≡ n)} (refl, is.0.1) is.0.0 is.0.2))))))))
     (λ e. let val : Val = live 1 (vcons (vstruct vnil) vnil) in let good : WT val = (record { fits = lit< tt }, (tt, tt)) in
-    let F : Fml = refusal.the_row.own_val (record {}) (vstruct vnil ∷ []) in let Said = fact 𝓤 (Unit {0}) in
+    let F : Fml = refusal.the_row.own_val (record {}) (vstruct vnil ∷ []) in let so : Unit {0} = tt in
     lands_as ! e refl (Answer-typed false 0 0) $ first ! $ switches_on ! (get_tag ! (vrt ! refl (fld ! refl (stop !))) (all_of_it !)) $
     exec ! 𝓣.C 𝓣.Λ Ev (arm_body 1 both) Then $
     sets ! (of_opd ! (get_in ! (vrt ! refl (fld ! refl (stop !))) (in_variant ! 1 0 refl refl (all_of_it !)))) refl (tt, tt) $
@@ -176,9 +145,5 @@ make_spec 𝓤 𝓛 𝓜 𝓡 wired Y K g d dd met md =
     sets ! (of_opd ! (get ! refl)) refl (tt, good) $
     use0 𝓛 (‵ F) (makes_shadow 𝓛 F (λ uss. (tt, tt)) (tt, (refl, tt))) $
     use1 𝓛 (‵ (Out.own_val (Err (record {})) (val ∷ []))) (err_of 𝓛 Two refusal.the_row (record {}) (vstruct vnil)) $
-    use0 𝓛 (raw Said) (fact_i 𝓤 (Unit {0}) (emp 𝓤) tt) $ use0 𝓛 (raw Said) (fact_i 𝓤 (Unit {0}) (emp 𝓤) tt) $ join ! $
-    use0 𝓛 (raw Said) (fact_i 𝓤 (Unit {0}) (emp 𝓤) tt) $ join ! $
-    use0 𝓛 (raw Said) (fact_i 𝓤 (Unit {0}) (emp 𝓤) tt) $ join ! $ use0 𝓛 (raw Said) (fact_i 𝓤 (Unit {0}) (emp 𝓤) tt) $ join ! $ nothing ! $ nothing ! $
-    fjoin ! $ nothing ! $ fjoin ! $ nothing ! $ fjoin ! $ nothing ! $ fjoin ! $ nothing ! $ fjoin ! $
-    returns ! (look_at ! 0 refl) $ free_all ! refl $ keep ! (3 ∷ 0 ∷ 2 ∷ 1 ∷ []) $
-    by ! (leaves 𝓛 En hs c y val (Err (record {})) (tt, (tt, (tt, (tt, (tt, tt))))) (tt, (tt, (tt, (tt, (tt, tt))))))))))))))
+    returns ! (look_at ! 0 refl) $ free_all ! refl $ keep ! (0 ∷ 1 ∷ []) $ by ! (ends 𝓛 En c y val (Err (record {})) (tt, (tt, (tt, (tt, (tt, tt)))))
+    (also 𝓛 so (also 𝓛 so (framed.three 𝓛 so so so))))))))))))

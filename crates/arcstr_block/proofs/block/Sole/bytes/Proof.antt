@@ -1,12 +1,11 @@
 -- `bytes` shows the bytes of the text, for as long as the block is borrowed.
-use Rattle.arcstr_block.proofs.Names.{◌≡◌, ℕ, ◌^◌, [], ◌∷◌, refl, arith, List, sym, ap, length, ◌<◌, ◌∙◌, ◌*◌, w64, inst_fn, dcons, dnil, a_type, named}
-use Rattle.arcstr_block.proofs.Names.{Val, vint, vptr, WT, Lft, Share, Fml, fsep, flft, ftrue, fhide, emp, SProp, fact, fact_i}
-use Rattle.arcstr_block.proofs.Names.{tables, Array, u8, usize, RefOf, yes, Is, shows, cell_at, hidden_shr, unhide, hide, param, bounded, uint_vals, uint_Tells}
-use Rattle.arcstr_block.proofs.Names.{RattleType, owns, block_of, Ptr, block_ptr, count_of, at_block, shr_vals, shr_Tells, types_at, plain, slice_val, nothing}
-use Rattle.arcstr_block.proofs.Names.{heard, peeks, looks, shuts, lent_at, lent_out, Stays, stay_dropped, walk_of, Goes-dropped, alloc_all, pass_all, free_all}
-use Rattle.arcstr_block.proofs.Names.{look_at, get, sets, env, through, sets_last, ‵, ◌⊛◌, ◌$◌, ◌∵◌, !, qed, move, use0, use1, split, join}
-use Rattle.arcstr_block.proofs.Names.{fsplit, fjoin, fpick, raw, by, keep, drop, rewrite, feq_i, flt_i, at_ret, sub, whole, agg, look_in, stop, fld, of_opd}
-use Rattle.arcstr_block.proofs.Names.{no_more, and_then, first, blocks, exec, returns, enter, load, tail, leaves, proved, sole_shares}
+use Rattle.arcstr_block.proofs.Names.{◌≡◌, ℕ, ◌^◌, [], ◌∷◌, refl, arith, List, sym, ap, length, ◌<◌, ◌∙◌, ◌*◌, w64, inst_fn, dcons, dnil, a_type, named, Val}
+use Rattle.arcstr_block.proofs.Names.{vint, vptr, WT, Lft, Share, Fml, fsep, flft, ftrue, fhide, emp, SProp, fact, fact_i, tables, Array, u8, Is, shows}
+use Rattle.arcstr_block.proofs.Names.{cell_at, hidden_shr, unhide, hide, param, bounded, uint_vals, uint_Tells, RattleType, owns, block_of, Ptr, block_ptr}
+use Rattle.arcstr_block.proofs.Names.{count_of, at_block, shr_vals, shr_Tells, types_at, slice_val, heard, peeks, looks, shuts, lent_at, lent_out, alloc_all}
+use Rattle.arcstr_block.proofs.Names.{pass_all, free_all, look_at, get, sets, env, through, sets_last, ‵, ◌⊛◌, ◌$◌, ◌∵◌, !, qed, move, use1, split, join}
+use Rattle.arcstr_block.proofs.Names.{fsplit, fjoin, fpick, raw, by, keep, drop, rewrite, feq_i, flt_i, at_ret, sub, whole, agg, look_in, stop, fld}
+use Rattle.arcstr_block.proofs.Names.{of_opd, no_more, and_then, first, blocks, exec, returns, enter, load, tail, proved, sole_shares}
 use Rattle.arcstr_block.proofs.Pointers.{pointer_val, Words, told, opened}
 use Rattle.arcstr_block.specs.contracts.block.Sole.bytes.{ended, clauses}
 use Rattle.arcstr_block.specs.contracts.block.Sole.bytes.Key.{name as #self}
@@ -14,23 +13,21 @@ use Rattle.arcstr_block.proofs.block.Sole.bytes.Statement.{statement}
 use Rattle.core.specs.contracts.marker.PhantomData as Marker
 use Rattle.arcstr_block.specs.contracts.block.Sole as C
 use Rattle.arcstr_block.proofs.block.Sole.bytes.Code as code
+use Rattle.arcstr_block.proofs.Endings.{all_dropped, all_go, Walk, ends}
 
 pub bytes_spec : {M : Type 1} → statement M
 bytes_spec 𝓤 𝓛 𝓜 𝓡 wired Y K g d dd met md =
     let H = 𝓛.H in let 𝓣 = tables 𝓤 H 𝓜 𝓡 𝓡.env in let B : RattleType = param 0 Y in let En = ended Y g d dd in let c = clauses Y g d dd 𝓛 𝓜.mem 𝓡.returns in
     let inst = bounded (a_type ∷ []) (Y, tt) (dcons d (dcons dd dnil)) in let fn = inst_fn inst code.function in
-    let closed = code.unfolded 𝓤 H 𝓜 𝓡 wired (Y, tt) d dd in
-    let Row : RattleType = C.the_row B g in let D : RattleType = Words B g in let self = RefOf (0 ∷ []) tt (plain (λ _. Row)) (λ _. tt) in
-    let number = plain (λ _. usize) in
-    let hs : Stays En.signature.params En.kept = (stay_dropped self yes, (stay_dropped number yes, tt)) in
-    proved 𝓛 En hs c 𝓜 𝓡 (Goes-dropped 𝓛 2 self yes (λ κs x f. refl), (Goes-dropped 𝓛 2 number yes (λ κs x f. refl), tt)) (#self inst) fn closed
+    let Row : RattleType = C.the_row B g in let D : RattleType = Words B g in
+    proved 𝓛 En (all_dropped En) c 𝓜 𝓡 (all_go 𝓛 En (λ κs x f. refl, (λ κs x f. refl, tt))) (#self inst) fn (code.unfolded 𝓤 H 𝓜 𝓡 wired (Y, tt) d dd)
     (λ κs. (shr_vals, (uint_vals w64, tt))) (λ κs. (shr_Tells (named 0) κs.0 Row, (uint_Tells w64, tt))) (λ κs qs bounds a gh are.
     let b : ℕ = a.0.ref_ptr.0 in let o : ℕ = a.0.ref_ptr.1 in let κ : Lft = κs.0 in let q : Share = qs.0 in
     let others : Fml = fsep (flft κs.1.0 qs.1.0) ftrue in
     let h : Row.Denot = a.0.now in let p : Ptr = h.at in
     let len : ℕ = a.1.0 in let xs : List ℕ = h.text in let n : ℕ = length xs in let fits : len < 2 ^ 64 = are.1.0.1 in let pb : ℕ = block_of p in
-    let y : (walk_of 𝓛 En hs c).Ghost = ((κs, qs, bounds, a, (vptr b o ∷ [], (vint w64 len ∷ [], tt))), gh) in
-    let Post : Val → SProp 𝓤 = (walk_of 𝓛 En hs c).post y in
+    let y : (Walk 𝓛 En c).Ghost = ((κs, qs, bounds, a, (vptr b o ∷ [], (vint w64 len ∷ [], tt))), gh) in
+    let Post : Val → SProp 𝓤 = (Walk 𝓛 En c).post y in
     qed 𝓛 (((‵ (flft κ q) ⊛ ‵ others) ⊛ ‵ (owns (types_at En.signature.params κs) a y.0.4)) ∷ raw (fact 𝓤 _) ∷ raw (fact 𝓤 (len ≡ n)) ∷ []) ∵
     keep ! (2 ∷ 0 ∷ []) $ heard ! (len ≡ n) (λ long. split ! $ split ! $ move ! (2 ∷ []) $ fsplit ! $ fsplit ! $
     keep ! (1 ∷ 3 ∷ 4 ∷ []) $
@@ -56,7 +53,5 @@ bytes_spec 𝓤 𝓛 𝓜 𝓡 wired Y K g d dd met md =
     move ! (0 ∷ 3 ∷ []) $ join ! $ move ! (2 ∷ []) $ flt_i ! (n * 1) (2 ^ 63) (let x = inb.1 in omega arith) $
     flt_i ! n (2 ^ 64) (let x = inb.1 in omega arith) $ fjoin ! $
     feq_i ! (List Val) (slice_val (pb, there) len ∷ []) (slice_val (pb, there) n ∷ []) (ap (λ k. slice_val (pb, there) k ∷ []) long) $ fjoin ! $ fjoin ! $
-    use0 𝓛 (raw (fact 𝓤 (xs ≡ xs))) (fact_i 𝓤 (xs ≡ xs) (emp 𝓤) refl) $
-    nothing ! $ nothing ! $ fjoin ! $ nothing ! $ fjoin ! $
-    returns ! (look_at ! 0 refl) $ free_all ! refl $ keep ! (3 ∷ 0 ∷ 2 ∷ 1 ∷ []) $
-    by ! (leaves 𝓛 En hs c y (slice_val (pb, there) len) (record { ref_ptr = (pb, there); now = xs }) (tt, (tt, tt)) (tt, (tt, tt)))))))))
+    returns ! (look_at ! 0 refl) $ free_all ! refl $ keep ! (0 ∷ 1 ∷ []) $
+    by ! (ends 𝓛 En c y (slice_val (pb, there) len) (record { ref_ptr = (pb, there); now = xs }) (tt, (tt, tt)) (fact_i 𝓤 (xs ≡ xs) (emp 𝓤) refl))))))))

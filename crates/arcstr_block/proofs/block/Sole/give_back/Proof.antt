@@ -1,13 +1,12 @@
 -- `give_back` makes the block room again, and returns it to the allocator.
 use Rattle.arcstr_block.proofs.Names.{◌≡◌, ℕ, ◌^◌, [], ◌∷◌, refl, lit<, List, sym, subst, length, ◌<◌, ◌∙◌, w64, T, inst_fn, bare, Ty, dcons, dnil, a_type}
-use Rattle.arcstr_block.proofs.Names.{named, ty_unit, Val, vint, vptr, has_ty, WT, vunit, WpFn, Lft, Share, Incl-trans, Fml, fsep, flft, ftrue, froom, id⊢}
-use Rattle.arcstr_block.proofs.Names.{SProp, ent, ◌⊑◌, fact, tables, usize, RefOf, no, yes, param, bounded, uint_vals, uint_Tells, RattleType, owns, block_of}
-use Rattle.arcstr_block.proofs.Names.{Ptr, block_ptr, count_of, at_block, shr_vals, shr_Tells, types_at, plain, nothing, heard, calls_at_last, Stays}
-use Rattle.arcstr_block.proofs.Names.{stay_dropped, walk_of, Goes-dropped, alloc_all, pass_all, free_all, look_at, get, get_in, sets, lands_last, env, ‵, ◌⊛◌}
-use Rattle.arcstr_block.proofs.Names.{later, ◌$◌, ◌∵◌, !, qed, move, use1, use2, split, join, fsplit, fjoin, fpick, await, raw, by, keep, fsplit3, given, drop}
-use Rattle.arcstr_block.proofs.Names.{learn, rewrite, suffices, feq_i, use3, at_ret, sub, whole, stop, fld, lit, unit_lit, of_opd, no_more, and_then, first}
-use Rattle.arcstr_block.proofs.Names.{blocks, exec, returns, enter, Al, Gives, at_gives, Gives-goes, Gives-Gives, tail, fm, leaves, proved, block_owns}
-use Rattle.arcstr_block.proofs.Names.{block_size, block_type, sole_owns}
+use Rattle.arcstr_block.proofs.Names.{named, ty_unit, Val, vint, vptr, has_ty, WT, vunit, WpFn, Lft, Share, Incl-trans, Fml, fsep, flft, ftrue, froom, emp, id⊢}
+use Rattle.arcstr_block.proofs.Names.{SProp, ent, ◌⊑◌, fact, tables, param, bounded, uint_vals, uint_Tells, RattleType, owns, block_of, Ptr, block_ptr}
+use Rattle.arcstr_block.proofs.Names.{count_of, at_block, shr_vals, shr_Tells, types_at, heard, calls_at_last, alloc_all, pass_all, free_all, look_at, get}
+use Rattle.arcstr_block.proofs.Names.{get_in, sets, lands_last, env, ‵, ◌⊛◌, later, ◌$◌, ◌∵◌, !, qed, move, use1, use2, split, join, fsplit, fpick, await, raw}
+use Rattle.arcstr_block.proofs.Names.{by, keep, fsplit3, given, drop, learn, rewrite, suffices, feq_i, use3, at_ret, sub, whole, stop, fld, lit, unit_lit}
+use Rattle.arcstr_block.proofs.Names.{of_opd, no_more, and_then, first, blocks, exec, returns, enter, Al, Gives, at_gives, Gives-goes, Gives-Gives, tail, fm}
+use Rattle.arcstr_block.proofs.Names.{proved, block_owns, block_size, block_type, sole_owns}
 use Rattle.arcstr_block.proofs.Pointers.{pointer_val, typed, told}
 use Rattle.arcstr_block.proofs.Memory.{block_bytes, block_align, gathers}
 use Rattle.arcstr_block.specs.contracts.block.Sole.give_back.{ended, clauses}
@@ -15,27 +14,16 @@ use Rattle.arcstr_block.specs.contracts.block.Sole.give_back.Key.{name as #self}
 use Rattle.arcstr_block.proofs.block.Sole.give_back.Statement.{statement}
 use Rattle.arcstr_block.specs.contracts.block.Sole as S
 use Rattle.arcstr_block.proofs.block.Sole.give_back.Code as code
+use Rattle.arcstr_block.proofs.Endings.{all_dropped, all_go, Walk, ends}
 
 pub give_back_spec : {M : Type 1} → statement M
 give_back_spec 𝓤 𝓛 𝓜 𝓡 wired Y K g d dd met md =
     let H = 𝓛.H in let 𝓣 = tables 𝓤 H 𝓜 𝓡 𝓡.env in let B : RattleType = param 0 Y in let En = ended Y g d dd in let c = clauses Y g d dd 𝓛 𝓜.mem 𝓡.returns in
     let inst = bounded (a_type ∷ []) (Y, tt) (dcons d (dcons dd dnil)) in let fn = inst_fn inst code.function in
-    let closed = code.unfolded 𝓤 H 𝓜 𝓡 wired (Y, tt) d dd in
-    let Alone : RattleType = S.the_row B g in let self = plain (λ _. Alone) in let handle = RefOf (0 ∷ []) tt (plain (λ _. B)) (λ _. tt) in
-    let number = plain (λ _. usize) in
+    let Alone : RattleType = S.the_row B g in
     let Z : Al = record { row = Y; laws = K; g = g; d = d; drops = dd } in
-    let hs : Stays En.signature.params En.kept = (stay_dropped self no, (stay_dropped handle yes, (stay_dropped number yes, tt))) in
-    proved 𝓛 En hs c 𝓜 𝓡 (
-      Goes-dropped 𝓛 2 self no (λ κs x f. refl),
-      (
-        Goes-dropped 𝓛 2 handle yes (λ κs x f. refl),
-        (
-          Goes-dropped 𝓛 2 number yes (λ κs x f.
-              refl),
-          tt,
-        ),
-      ),
-    ) (#self inst) fn closed
+    proved 𝓛 En (all_dropped En) c 𝓜 𝓡 (all_go 𝓛 En (λ κs x f. refl, (λ κs x f. refl, (λ κs x f. refl, tt))))
+    (#self inst) fn (code.unfolded 𝓤 H 𝓜 𝓡 wired (Y, tt) d dd)
     (λ κs. ((λ x. pointer_val x.at ∷ []), (shr_vals, (uint_vals w64, tt)))) (λ κs. (
       (λ x vs so.
           told B g x.at vs so.0),
@@ -45,8 +33,8 @@ give_back_spec 𝓤 𝓛 𝓜 𝓡 wired Y K g d dd met md =
     let heap : Y.Denot = a.1.0.now in let size : ℕ = a.1.1.0 in
     let κ : Lft = κs.0 in let q : Share = qs.0 in let token : Ty → Ptr → Fml = g.dealloc_token heap in let τ : Ty = bare (block_type n) in
     let small : size < 2 ^ 64 = are.1.1.0.1 in
-    let y : (walk_of 𝓛 En hs c).Ghost = ((κs, qs, bounds, a, (pointer_val p ∷ [], (vptr hp.0 hp.1 ∷ [], (vint w64 size ∷ [], tt)))), gh) in
-    let Post : Val → SProp 𝓤 = (walk_of 𝓛 En hs c).post y in
+    let y : (Walk 𝓛 En c).Ghost = ((κs, qs, bounds, a, (pointer_val p ∷ [], (vptr hp.0 hp.1 ∷ [], (vint w64 size ∷ [], tt)))), gh) in
+    let Post : Val → SProp 𝓤 = (Walk 𝓛 En c).post y in
     let others : Fml = fsep (flft κs.1.0 qs.1.0) ftrue in let b : ℕ = block_of p in let o : ℕ = count_of p in let p' : Ptr = block_ptr b o in
     let us : Ptr → List Val = λ u. pointer_val u ∷ vptr hp.0 hp.1 ∷ vint w64 size ∷ [] in let Run : List Val → SProp 𝓤 = λ ws. WpFn 𝓤 H 𝓣.C 𝓣.Λ fn ws Post in
     qed 𝓛 (((‵ (flft κ q) ⊛ ‵ others) ⊛ ‵ (owns (types_at En.signature.params κs) a y.0.4)) ∷ raw (fact 𝓤 (κs.1.0 ⊑ Y.lives)) ∷ raw (fact 𝓤
@@ -70,8 +58,6 @@ give_back_spec 𝓤 𝓛 𝓜 𝓡 wired Y K g d dd met md =
     (no_more !))))) (λ u.
     use1 𝓛 (later (given (u ≡ vunit) (‵ (flft κ q)))) (Gives-Gives Z 𝓛 𝓜.mem 𝓡.returns κ q hp heap b o size 8 τ u) $ await ! tt $ learn ! (λ e.
     lands_last ! refl (subst (λ (z : Val). T (has_ty ty_unit z) × WT z) (sym e) (tt, tt)) $
-    exec ! 𝓣.C 𝓣.Λ Ev (tail (tail fn.body)) (at_ret Ev Post) $ sets ! (of_opd ! (unit_lit !)) refl (tt, tt) $ join ! $ nothing ! $
+    exec ! 𝓣.C 𝓣.Λ Ev (tail (tail fn.body)) (at_ret Ev Post) $ sets ! (of_opd ! (unit_lit !)) refl (tt, tt) $ join ! $
     feq_i ! (List Val) (vunit ∷ []) (vunit ∷ []) refl $
-    nothing ! $ nothing ! $ fjoin ! $ nothing ! $ fjoin ! $ nothing ! $ fjoin ! $
-    returns ! (look_at ! 0 refl) $ free_all ! refl $ keep ! (3 ∷ 0 ∷ 1 ∷ 2 ∷ []) $
-    by ! (leaves 𝓛 En hs c y vunit tt (tt, (tt, (tt, tt))) (tt, (tt, (tt, tt))))))))))))
+    returns ! (look_at ! 0 refl) $ free_all ! refl $ keep ! (0 ∷ 1 ∷ []) $ by ! (ends 𝓛 En c y vunit tt (tt, (tt, (tt, tt))) (id⊢ 𝓤 (emp 𝓤)))))))))))

@@ -1,16 +1,14 @@
 -- `begin` is one load. A drop goes on if it finds the word unmarked.
 -- We take apart what the pointer holds, take the step inside the invariant (`Steps`) and write it into the book (`Book`), and make the gain a right (`Rights`).
-use Rattle.arcstr_block.proofs.Names.{◌≡◌, ℕ, ◌^◌, [], ◌∷◌, refl, arith, lit<, sym, subst, ap, length, ◌+◌, ◌<◌, if◌then◌else◌, w64, inst_fn, dcons, dnil}
-use Rattle.arcstr_block.proofs.Names.{a_type, Val, vint, vptr, Lft, Fml, fsep, fex, flft, finv, via, SProp, fact, tables, usize, u64, no, yes, param, bounded}
-use Rattle.arcstr_block.proofs.Names.{uint_vals, uint_Tells, RattleType, Valss, owns, block_of, Ptr, block_ptr, ptr_val, count_of, at_block, types_at, plain}
-use Rattle.arcstr_block.proofs.Names.{nothing, heard, alive, Stays, stay_dropped, walk_of, Goes-dropped, alloc_all, pass_all, free_all, look_at, get, get_in}
-use Rattle.arcstr_block.proofs.Names.{sets, lands_last, env, through, is, ‵, ◌⊛◌, later, ◌$◌, ◌∵◌, !, qed, move, use0, use1, split, fsplit, fjoin, fpick, await}
-use Rattle.arcstr_block.proofs.Names.{raw, by, keep, fsplit3, drop, use3, at_ret, mean, sub, whole, agg, stop, fld, lit, of_opd, no_more, and_then, first}
-use Rattle.arcstr_block.proofs.Names.{blocks, exec, returns, enter, addr, bin, Calls-last, tail, found, fm, seq_cst, finds, loads, leaves, proved, EndsIn}
-use Rattle.arcstr_block.proofs.Names.{FlagAndCount, Free, Ended, Looked, Begin, seat, Ends, Inv, free, right_to, block_owns, block_shares, word_at, word_offset}
-use Rattle.arcstr_block.proofs.Names.{Right, IsFree, Begins, IsMarked, IsUnmarked}
-use Rattle.arcstr_block.proofs.Names.{BlockName, IsLater, List, RefOf, Step, Token, fhide, hidden_shr, lent_out, named, reached, rewrite, shr_Tells, shr_vals}
-use Rattle.arcstr_block.proofs.Names.{unhide, unit}
+use Rattle.arcstr_block.proofs.Names.{◌≡◌, ℕ, ◌^◌, [], ◌∷◌, refl, arith, lit<, List, sym, subst, ap, length, ◌+◌, ◌<◌, if◌then◌else◌, w64, inst_fn, dcons}
+use Rattle.arcstr_block.proofs.Names.{dnil, a_type, named, Val, vint, vptr, Lft, Fml, fsep, fex, flft, finv, fhide, via, SProp, fact, tables, u64, unit}
+use Rattle.arcstr_block.proofs.Names.{hidden_shr, unhide, param, bounded, uint_vals, uint_Tells, RattleType, Valss, owns, block_of, Ptr, block_ptr, ptr_val}
+use Rattle.arcstr_block.proofs.Names.{count_of, at_block, shr_vals, shr_Tells, types_at, heard, lent_out, alive, alloc_all, pass_all, free_all, look_at, get}
+use Rattle.arcstr_block.proofs.Names.{get_in, sets, lands_last, env, through, is, ‵, ◌⊛◌, later, ◌$◌, ◌∵◌, !, qed, move, use1, split, fsplit, fjoin, fpick}
+use Rattle.arcstr_block.proofs.Names.{await, raw, by, keep, fsplit3, drop, rewrite, use3, at_ret, mean, sub, whole, agg, stop, fld, lit, of_opd, no_more}
+use Rattle.arcstr_block.proofs.Names.{and_then, first, blocks, exec, returns, enter, addr, bin, Calls-last, tail, found, fm, seq_cst, finds, loads}
+use Rattle.arcstr_block.proofs.Names.{proved, Token, EndsIn, FlagAndCount, Free, Ended, Looked, Step, Begin, BlockName, reached, seat, Ends, Inv, free}
+use Rattle.arcstr_block.proofs.Names.{right_to, block_owns, block_shares, word_at, word_offset, Right, IsFree}
 use Rattle.arcstr_block.proofs.Memory.{shares_laws}
 use Rattle.arcstr_block.proofs.Pointers.{pointer_val, typed, found_val, found_typed, Words, told}
 use Rattle.arcstr_block.proofs.Book.{book_begin, begun, begin_reply}
@@ -25,22 +23,16 @@ use Rattle.arcstr_block.proofs.Pointers as framed
 use Rattle.arcstr_block.proofs.Rights as rights
 use Rattle.arcstr_block.proofs.Steps as steps
 use Rattle.arcstr_block.proofs.pointer.Pointer.begin.Code as code
+use Rattle.arcstr_block.proofs.Endings.{all_dropped, all_go, Walk, ends}
+use Rattle.arcstr_block.specs.Steps.{IsSameBlock, BegunAs}
 
 pub begin_spec : {M : Type 1} → statement M
 begin_spec 𝓤 𝓛 𝓜 𝓡 wired Y K g d dd met md =
     let H = 𝓛.H in let 𝓣 = tables 𝓤 H 𝓜 𝓡 𝓡.env in let B : RattleType = param 0 Y in let En = ended Y g d dd in let c = clauses Y g d dd 𝓛 𝓜.mem 𝓡.returns in
     let inst = bounded (a_type ∷ []) (Y, tt) (dcons d (dcons dd dnil)) in let fn = inst_fn inst code.function in
-    let closed = code.unfolded 𝓤 H 𝓜 𝓡 wired (Y, tt) d dd in
-    let Row : RattleType = C.the_row B g in let D : RattleType = Words B g in let self = plain (λ _. Row) in
-    let number = plain (λ _. usize) in let S : RattleType = Seen.the_row in let other = RefOf (0 ∷ []) tt (plain (λ _. S)) (λ _. tt) in
-    let hs : Stays En.signature.params En.kept = (stay_dropped self no, (stay_dropped number yes, (stay_dropped other yes, tt))) in
-    proved 𝓛 En hs c 𝓜 𝓡 (
-      Goes-dropped 𝓛 2 self no (λ κs x f. refl),
-      (
-        Goes-dropped 𝓛 2 number yes (λ κs x f. refl),
-        (Goes-dropped 𝓛 2 other yes (λ κs x f. refl), tt),
-      ),
-    ) (#self inst) fn closed
+    let Row : RattleType = C.the_row B g in let S : RattleType = Seen.the_row in
+    proved 𝓛 En (all_dropped En) c 𝓜 𝓡 (all_go 𝓛 En (λ κs x f. refl, (λ κs x f. refl, (λ κs x f. refl, tt))))
+    (#self inst) fn (code.unfolded 𝓤 H 𝓜 𝓡 wired (Y, tt) d dd)
     (λ κs. ((λ x. pointer_val x.at ∷ []), (uint_vals w64, (shr_vals, tt)))) (λ κs. (
       (λ x vs so. told B g x.at vs so.0),
       (
@@ -55,8 +47,8 @@ begin_spec 𝓤 𝓛 𝓜 𝓡 wired Y K g d dd met md =
     let offset : ℕ = a.1.0 in let fits_offset : offset < 2 ^ 64 = are.1.0.1 in
     let b' : ℕ = a.1.1.0.ref_ptr.0 in let o' : ℕ = a.1.1.0.ref_ptr.1 in let j : S.Denot = a.1.1.0.now in let before : List Step = j.history in
     let codes = Seen.the_codes (Marker.the_row unit).coded in
-    let y : (walk_of 𝓛 En hs c).Ghost = ((κs, qs, bounds, a, (pointer_val p ∷ [], (vint w64 offset ∷ [], (vptr b' o' ∷ [], tt)))), gh) in
-    let Post : Val → SProp 𝓤 = (walk_of 𝓛 En hs c).post y in
+    let y : (Walk 𝓛 En c).Ghost = ((κs, qs, bounds, a, (pointer_val p ∷ [], (vint w64 offset ∷ [], (vptr b' o' ∷ [], tt)))), gh) in
+    let Post : Val → SProp 𝓤 = (Walk 𝓛 En c).post y in
     qed 𝓛 ((raw (alive 𝓛 En.signature κs qs) ⊛ ‵ (owns (types_at En.signature.params κs) a y.0.4)) ∷ raw (fact 𝓤 _) ∷ raw (fact 𝓤 (IsFree h.right)) ∷
     raw (fact 𝓤 (offset ≡ word_offset (length h.text))) ∷ raw (fact 𝓤 (j.block ≡ h.block)) ∷ []) ∵
     keep ! (2 ∷ 3 ∷ 4 ∷ 0 ∷ []) $ heard ! (IsFree h.right) (λ may. heard ! (offset ≡ word_offset (length h.text)) (λ placed.
@@ -98,22 +90,17 @@ begin_spec 𝓤 𝓛 𝓜 𝓡 wired Y K g d dd met md =
     let got = rights.begins 𝓛 P lim pb po t s sl n h.seat right e may one ok.1 in let k : Right = got.right in
     fsplit ! $ move ! (2 ∷ 3 ∷ 0 ∷ []) $ use3 𝓛 (later (‵ (right_to P lim pb po t s h.seat k))) got.turns $ await ! tt $
     -- [the right; the history's end; the invariant; what was known; the tokens]
-    move ! (1 ∷ []) $ fpick ! (λ r'. fsplit ! $ fpick ! (λ ends. drop ! $
+    move ! (1 ∷ []) $ fpick ! (λ r'. fsplit ! $ fpick ! (λ saw. drop ! $
     -- [the prefix; the right; the invariant; the tokens]
     let h' : Row.Denot = record h { right = k; history = r' } in let r : Val = found_val n p in
     move ! (1 ∷ 2 ∷ 0 ∷ []) $ use3 𝓛 (‵ (Row.own_val h' (pointer_val p ∷ []))) (framed.pointer_in 𝓛 B g h' t named inb) $
     use1 𝓛 (‵ (fex (Valss (u64 ∷ Row ∷ [])) (framed.found_as 𝓛 B g h' n))) (framed.found_in 𝓛 B g h' n fits) $
-    let Same : Type 0 = (h.home ≡ h.home) × (h.text ≡ h.text) × (lim ≡ lim) × (h.block ≡ h.block) in
-    let Saw : Type 0 = (h.seat ≡ h.seat) × (IsMarked n → EndsIn lim r' (Begin h.seat) Ended) × (IsUnmarked n → EndsIn lim r' (Begin h.seat) Looked)
-    × IsLater before r' in
-    use0 𝓛 (raw (fact 𝓤 (Begins n k)) ⊛ raw (fact 𝓤 Saw) ⊛ raw (fact 𝓤 Same))
-    (framed.three 𝓛 got.said (
+    let together : IsSameBlock h' h = (refl, refl, refl, refl) in let named_so = λ (v : FlagAndCount). if v.flag then Ended else Looked in
+    let told_so : BegunAs h before n h' = (
       refl,
-      (λ odd. subst (EndsIn lim r' (Begin h.seat)) (ap (λ (v : FlagAndCount). if v.flag then Ended else Looked)
-          (marked_word n odd)) ends.0),
-      (λ even. subst (EndsIn lim r' (Begin h.seat)) (ap (λ (v : FlagAndCount). if v.flag then Ended else Looked)
-          (unmarked_word n even)) ends.0),
-      ends.1,
-    ) (refl, refl, refl, refl)) $
-    nothing ! $ nothing ! $ fjoin ! $ nothing ! $ fjoin ! $ nothing ! $ fjoin ! $ returns ! (look_at ! 0 refl) $ free_all ! refl $ keep ! (3 ∷ 0 ∷ 2 ∷ 1 ∷ []) $
-    by ! (leaves 𝓛 En hs c y r (n, h') (tt, (tt, (tt, tt))) (tt, (tt, (tt, tt))))))))))))))))))))
+      (λ odd. subst (EndsIn lim r' (Begin h.seat)) (ap named_so (marked_word n odd)) saw.0),
+      (λ even. subst (EndsIn lim r' (Begin h.seat)) (ap named_so (unmarked_word n even)) saw.0),
+      saw.1,
+    ) in
+    returns ! (look_at ! 0 refl) $ free_all ! refl $
+    by ! (ends 𝓛 En c y r (n, h') (tt, (tt, (tt, tt))) (framed.three 𝓛 got.said told_so together))))))))))))))))))

@@ -1,33 +1,30 @@
 -- `bytes` shows the bytes of the text, for as long as the pointer is borrowed.
 use Rattle.arcstr_block.proofs.Names.{◌≡◌, ℕ, ◌^◌, [], ◌∷◌, refl, arith, List, sym, ap, length, ◌<◌, ◌∙◌, ◌*◌, w64, IsUtf8, inst_fn, dcons, dnil, a_type, named}
-use Rattle.arcstr_block.proofs.Names.{Val, vint, vptr, WT, Lft, Share, Fml, fsep, flft, finv, fshr_bor, ftrue, fhide, emp, SProp, meet_⊑_left, fact, fact_i}
-use Rattle.arcstr_block.proofs.Names.{tables, Array, u8, usize, RefOf, yes, Is, shows, cell_at, hidden_shr, unhide, hide, param, bounded, uint_vals, uint_Tells}
-use Rattle.arcstr_block.proofs.Names.{RattleType, owns, block_of, Ptr, block_ptr, count_of, at_block, shr_vals, shr_Tells, types_at, plain, slice_val, nothing}
-use Rattle.arcstr_block.proofs.Names.{heard, peeks, looks, shuts, lent_at, lent_out, Stays, stay_dropped, walk_of, Goes-dropped, alloc_all, pass_all, free_all}
-use Rattle.arcstr_block.proofs.Names.{look_at, get, sets, env, through, sets_last, ‵, ◌⊛◌, ◌$◌, ◌∵◌, !, qed, move, use0, use1, use2, split, split3, join}
-use Rattle.arcstr_block.proofs.Names.{fsplit, fjoin, fpick, raw, by, keep, drop, rewrite, feq_i, flt_i, at_ret, sub, whole, agg, look_in, stop, fld, of_opd}
-use Rattle.arcstr_block.proofs.Names.{no_more, and_then, first, blocks, exec, returns, enter, load, tail, leaves, proved, Inv, pointer_shares, block_owns}
-use Rattle.arcstr_block.proofs.Names.{block_shares, word_at, Right, MaySee}
+use Rattle.arcstr_block.proofs.Names.{Val, vint, vptr, WT, Lft, Share, Fml, fsep, flft, finv, fshr_bor, ftrue, emp, SProp, meet_⊑_left, fact, fact_i}
+use Rattle.arcstr_block.proofs.Names.{tables, Array, u8, Is, shows, cell_at, hide, param, bounded, uint_vals, uint_Tells, RattleType, owns, block_of, Ptr}
+use Rattle.arcstr_block.proofs.Names.{block_ptr, count_of, at_block, shr_vals, shr_Tells, types_at, slice_val, heard, peeks, looks, shuts, lent_at, alloc_all}
+use Rattle.arcstr_block.proofs.Names.{pass_all, free_all, look_at, get, sets, env, through, sets_last, ‵, ◌⊛◌, ◌$◌, ◌∵◌, !, qed, move, use1, use2, split}
+use Rattle.arcstr_block.proofs.Names.{split3, join, fsplit, fjoin, raw, by, keep, drop, rewrite, feq_i, flt_i, at_ret, sub, whole, agg, look_in, stop, fld}
+use Rattle.arcstr_block.proofs.Names.{of_opd, no_more, and_then, first, blocks, exec, returns, enter, load, tail, proved, Inv, block_owns, block_shares}
+use Rattle.arcstr_block.proofs.Names.{word_at, Right, MaySee}
 use denote.Moves.{moves_from}
 use Rattle.arcstr_block.proofs.Memory.{shares_laws}
 use Rattle.arcstr_block.proofs.Pointers.{pointer_val, Words, told, opened}
 use Rattle.arcstr_block.specs.contracts.pointer.Pointer.bytes.{ended, clauses}
 use Rattle.arcstr_block.specs.contracts.pointer.Pointer.bytes.Key.{name as #self}
 use Rattle.arcstr_block.proofs.pointer.Pointer.bytes.Statement.{statement}
-use Rattle.core.specs.contracts.marker.PhantomData as Marker
 use Rattle.arcstr_block.proofs.Rights as rights
 use Rattle.arcstr_block.specs.contracts.pointer.Pointer as C
 use Rattle.arcstr_block.proofs.pointer.Pointer.bytes.Code as code
+use Rattle.arcstr_block.proofs.Endings.{all_dropped, all_go, Walk, ends, also}
+use Rattle.arcstr_block.proofs.Walks.{of_shown}
 
 pub bytes_spec : {M : Type 1} → statement M
 bytes_spec 𝓤 𝓛 𝓜 𝓡 wired Y K g d dd met md =
     let H = 𝓛.H in let 𝓣 = tables 𝓤 H 𝓜 𝓡 𝓡.env in let B : RattleType = param 0 Y in let En = ended Y g d dd in let c = clauses Y g d dd 𝓛 𝓜.mem 𝓡.returns in
     let inst = bounded (a_type ∷ []) (Y, tt) (dcons d (dcons dd dnil)) in let fn = inst_fn inst code.function in
-    let closed = code.unfolded 𝓤 H 𝓜 𝓡 wired (Y, tt) d dd in
-    let Row : RattleType = C.the_row B g in let D : RattleType = Words B g in let self = RefOf (0 ∷ []) tt (plain (λ _. Row)) (λ _. tt) in
-    let number = plain (λ _. usize) in
-    let hs : Stays En.signature.params En.kept = (stay_dropped self yes, (stay_dropped number yes, tt)) in
-    proved 𝓛 En hs c 𝓜 𝓡 (Goes-dropped 𝓛 2 self yes (λ κs x f. refl), (Goes-dropped 𝓛 2 number yes (λ κs x f. refl), tt)) (#self inst) fn closed
+    let Row : RattleType = C.the_row B g in let D : RattleType = Words B g in
+    proved 𝓛 En (all_dropped En) c 𝓜 𝓡 (all_go 𝓛 En (λ κs x f. refl, (λ κs x f. refl, tt))) (#self inst) fn (code.unfolded 𝓤 H 𝓜 𝓡 wired (Y, tt) d dd)
     (λ κs. (shr_vals, (uint_vals w64, tt))) (λ κs. (shr_Tells (named 0) κs.0 Row, (uint_Tells w64, tt))) (λ κs qs bounds a gh are.
     let b : ℕ = a.0.ref_ptr.0 in let o : ℕ = a.0.ref_ptr.1 in let κ : Lft = κs.0 in let q : Share = qs.0 in
     let others : Fml = fsep (flft κs.1.0 qs.1.0) ftrue in
@@ -36,19 +33,18 @@ bytes_spec 𝓤 𝓛 𝓜 𝓡 wired Y K g d dd met md =
     let sl = shares_laws p h.text in
     let len : ℕ = a.1.0 in let xs : List ℕ = h.text in let n : ℕ = length xs in let fits : len < 2 ^ 64 = are.1.0.1 in let pb : ℕ = block_of p in
     let po : ℕ = word_at p (length h.text) in
-    let y : (walk_of 𝓛 En hs c).Ghost = ((κs, qs, bounds, a, (vptr b o ∷ [], (vint w64 len ∷ [], tt))), gh) in
-    let Post : Val → SProp 𝓤 = (walk_of 𝓛 En hs c).post y in
+    let y : (Walk 𝓛 En c).Ghost = ((κs, qs, bounds, a, (vptr b o ∷ [], (vint w64 len ∷ [], tt))), gh) in
+    let Post : Val → SProp 𝓤 = (Walk 𝓛 En c).post y in
     qed 𝓛 (((‵ (flft κ q) ⊛ ‵ others) ⊛ ‵ (owns (types_at En.signature.params κs) a y.0.4)) ∷ raw (fact 𝓤 _) ∷ raw (fact 𝓤 (MaySee right)) ∷ raw (fact 𝓤
     (len ≡ n)) ∷ []) ∵
     keep ! (2 ∷ 3 ∷ 0 ∷ []) $ heard ! (MaySee right) (λ may. heard ! (len ≡ n) (λ long. split ! $ split ! $ move ! (2 ∷ []) $ fsplit ! $ fsplit ! $
     keep ! (1 ∷ 3 ∷ 4 ∷ []) $
     enter ! 𝓣.C 𝓣.Λ fn (vptr b o ∷ vint w64 len ∷ []) Post $ alloc_all ! (λ l. pass_all ! refl ((tt, tt), ((tt, record { fits = fits }), tt)) $
     let Ev = env fn.locals l in
-    use1 𝓛 (‵ (hidden_shr D κ (p, (tt, tt)) b o) ⊛ ‵ (fhide (pointer_shares holds lim p h.text right h.seat h.block h.history κ)))
-    (lent_out 𝓛 (C.struct B g) (C.the_codes Y.Denot B.coded (Marker.the_row B).coded) (C.the_heap B g) (C.the_lent B g) κ h b o) $
-    split ! $ move ! (1 ∷ []) $ unhide ! $ fsplit ! $ fpick ! (λ inb. drop ! $ let at : p ≡ block_ptr pb (count_of p) = at_block p inb.0 in fpick ! (λ t.
+    of_shown B g h κ b o ! (λ inb t named. let at : p ≡ block_ptr pb (count_of p) = at_block p inb.0 in
     let I : Fml = Inv P lim pb po t in let af : Lft = t.sharing ∷ [] in
-    fsplit ! $ drop ! $ use1 𝓛 (‵ (fshr_bor κ (λ r. flft af r)) ⊛ ‵ (finv I) ⊛ ‵ (s af)) (rights.may_see 𝓛 P lim pb po t s sl h.seat right may κ) $ split3 ! $
+    move ! (1 ∷ []) $ drop ! $ use1 𝓛 (‵ (fshr_bor κ (λ r. flft af r)) ⊛ ‵ (finv I) ⊛ ‵ (s af)) (rights.may_see 𝓛 P lim pb po t s sl h.seat right may κ) $
+    split3 ! $
     -- [the share; the invariant; what is shared; the fields; κ; the others]
     move ! (0 ∷ 2 ∷ []) $ use2 𝓛 (‵ (s κ)) (moves_from 𝓛 s sl κ af af (meet_⊑_left af κ)) $ fsplit ! $ drop ! $
     rewrite ! 0 (λ (r : Ptr). ‵ (lent_at (Array u8 n) r xs κ)) at refl $ fsplit ! $ drop ! $ fsplit ! $ drop ! $ hide ! $
@@ -66,7 +62,6 @@ bytes_spec 𝓤 𝓛 𝓜 𝓡 wired Y K g d dd met md =
     move ! (0 ∷ 4 ∷ []) $ join ! $ move ! (2 ∷ []) $ flt_i ! (n * 1) (2 ^ 63) (let x = inb.1.0 in omega arith) $
     flt_i ! n (2 ^ 64) (let x = inb.1.0 in omega arith) $ fjoin ! $
     feq_i ! (List Val) (slice_val (pb, there) len ∷ []) (slice_val (pb, there) n ∷ []) (ap (λ k. slice_val (pb, there) k ∷ []) long) $ fjoin ! $ fjoin ! $
-    use0 𝓛 (raw (fact 𝓤 (IsUtf8 xs))) (fact_i 𝓤 (IsUtf8 xs) (emp 𝓤) inb.1.1) $ use0 𝓛 (raw (fact 𝓤 (xs ≡ xs))) (fact_i 𝓤 (xs ≡ xs) (emp 𝓤) refl) $ join ! $
-    nothing ! $ nothing ! $ fjoin ! $ nothing ! $ fjoin ! $
-    returns ! (look_at ! 0 refl) $ free_all ! refl $ keep ! (3 ∷ 0 ∷ 2 ∷ 1 ∷ []) $
-    by ! (leaves 𝓛 En hs c y (slice_val (pb, there) len) (record { ref_ptr = (pb, there); now = xs }) (tt, (tt, tt)) (tt, (tt, tt)))))))))))
+    returns ! (look_at ! 0 refl) $ free_all ! refl $ keep ! (0 ∷ 1 ∷ []) $
+    by ! (ends 𝓛 En c y (slice_val (pb, there) len) (record { ref_ptr = (pb, there); now = xs }) (tt, (tt, tt))
+    (also 𝓛 {X = xs ≡ xs} refl (fact_i 𝓤 (IsUtf8 xs) (emp 𝓤) inb.1.1))))))))))

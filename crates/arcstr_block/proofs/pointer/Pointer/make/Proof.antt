@@ -1,11 +1,10 @@
 -- `make` puts the word under the ledger's invariant, and lends what the block owns.
-use Rattle.arcstr_block.proofs.Names.{◌≡◌, ℕ, [], ◌∷◌, refl, List, sym, ap, length, ◌+◌, IsUtf8, inst_fn, dcons, dnil, a_type, Val, Fml, fsep, fex, flft, ftrue}
-use Rattle.arcstr_block.proofs.Names.{Incl-refl, emp, SProp, fact, fact_i, tables, no, param, bounded, RattleType, owns, block_of, Ptr, block_ptr, ptr_val}
-use Rattle.arcstr_block.proofs.Names.{count_of, at_block, types_at, plain, nothing, heard, Stays, stay_dropped, walk_of, Goes-dropped, alloc_all, pass_all}
-use Rattle.arcstr_block.proofs.Names.{free_all, look_at, get, get_in, sets, is, ‵, ◌⊛◌, later, ◌$◌, ◌∵◌, !, qed, move, use0, use2, split, join, fsplit, fjoin}
-use Rattle.arcstr_block.proofs.Names.{fpick, await, raw, by, keep, fsplit3, drop, rewrite, use3, Item, sub, whole, agg, stop, fld, of_opd, no_more, and_then}
-use Rattle.arcstr_block.proofs.Names.{returns, enter, word, leaves, proved, bits_of, fresh_word, Make, reached, Id, held_with, block_owns, block_shares}
-use Rattle.arcstr_block.proofs.Names.{word_offset, counted, IsLimit}
+use Rattle.arcstr_block.proofs.Names.{◌≡◌, ℕ, [], ◌∷◌, refl, List, sym, ap, length, ◌+◌, IsUtf8, inst_fn, dcons, dnil, a_type, Val, Fml, fsep, fex, flft}
+use Rattle.arcstr_block.proofs.Names.{ftrue, Incl-refl, SProp, fact, tables, param, bounded, RattleType, owns, block_of, Ptr, block_ptr, ptr_val, count_of}
+use Rattle.arcstr_block.proofs.Names.{at_block, types_at, heard, alloc_all, pass_all, free_all, look_at, get, get_in, sets, is, ‵, ◌⊛◌, later, ◌$◌, ◌∵◌, !, qed}
+use Rattle.arcstr_block.proofs.Names.{move, use2, split, join, fsplit, fjoin, fpick, await, raw, by, keep, fsplit3, drop, rewrite, use3, Item, sub, whole, agg}
+use Rattle.arcstr_block.proofs.Names.{stop, fld, of_opd, no_more, and_then, returns, enter, word, proved, bits_of, fresh_word, Make, reached, Id}
+use Rattle.arcstr_block.proofs.Names.{held_with, block_owns, block_shares, word_offset, counted, IsLimit}
 use Rattle.arcstr_block.proofs.Blocks.{begins}
 use Rattle.arcstr_block.proofs.Pointers.{pointer_val, typed, told}
 use Rattle.arcstr_block.proofs.Memory.{shares_laws, lends_block}
@@ -16,20 +15,19 @@ use Rattle.arcstr_block.specs.contracts.block.Sole as S
 use Rattle.arcstr_block.specs.contracts.pointer.Pointer as C
 use Rattle.arcstr_block.proofs.Pointers as framed
 use Rattle.arcstr_block.proofs.pointer.Pointer.make.Code as code
+use Rattle.arcstr_block.proofs.Endings.{all_dropped, all_go, Walk, ends, also}
 
 pub make_spec : {M : Type 1} → statement M
 make_spec 𝓤 𝓛 𝓜 𝓡 wired Y K g d dd met md =
     let H = 𝓛.H in let 𝓣 = tables 𝓤 H 𝓜 𝓡 𝓡.env in let B : RattleType = param 0 Y in let En = ended Y g d dd in let c = clauses Y g d dd 𝓛 𝓜.mem 𝓡.returns in
     let inst = bounded (a_type ∷ []) (Y, tt) (dcons d (dcons dd dnil)) in let fn = inst_fn inst code.function in
-    let closed = code.unfolded 𝓤 H 𝓜 𝓡 wired (Y, tt) d dd in
-    let Row : RattleType = C.the_row B g in let Alone : RattleType = S.the_row B g in let self = plain (λ _. Alone) in
-    let hs : Stays En.signature.params En.kept = (stay_dropped self no, tt) in
-    proved 𝓛 En hs c 𝓜 𝓡 (Goes-dropped 𝓛 1 self no (λ κs x f. refl), tt) (#self inst) fn closed
+    let Row : RattleType = C.the_row B g in let Alone : RattleType = S.the_row B g in
+    proved 𝓛 En (all_dropped En) c 𝓜 𝓡 (all_go 𝓛 En (λ κs x f. refl, tt)) (#self inst) fn (code.unfolded 𝓤 H 𝓜 𝓡 wired (Y, tt) d dd)
     (λ κs. ((λ x. pointer_val x.at ∷ []), tt)) (λ κs. ((λ x vs so. told B g x.at vs so.0), tt)) (λ κs qs bounds a gh are.
     let v : Alone.Denot = a.0 in let p : Ptr = v.at in let xs : List ℕ = v.text in let lim : ℕ = gh in let holds = g.dealloc_token v.home in
     let P : Fml = block_owns holds p xs in let s = block_shares p xs in
     let b : ℕ = block_of p in let o : ℕ = count_of p in let t₁ : Item 𝓤 = ‵ (flft κs.0 qs.0) in
-    let y : (walk_of 𝓛 En hs c).Ghost = ((κs, qs, bounds, a, (pointer_val p ∷ [], tt)), gh) in let Post : Val → SProp 𝓤 = (walk_of 𝓛 En hs c).post y in
+    let y : (Walk 𝓛 En c).Ghost = ((κs, qs, bounds, a, (pointer_val p ∷ [], tt)), gh) in let Post : Val → SProp 𝓤 = (Walk 𝓛 En c).post y in
     qed 𝓛 (((t₁ ⊛ ‵ ftrue) ⊛ ‵ (owns (types_at En.signature.params κs) a y.0.4)) ∷ raw (fact 𝓤 _) ∷ raw (fact 𝓤 (v.word ≡ bits_of fresh_word)) ∷ raw (fact 𝓤
     (IsUtf8 xs)) ∷ raw (fact 𝓤 (IsLimit lim)) ∷ []) ∵
     keep ! (2 ∷ 3 ∷ 4 ∷ 0 ∷ []) $ heard ! (v.word ≡ bits_of fresh_word) (λ fresh. heard ! (IsUtf8 xs) (λ text. heard ! (IsLimit lim) (λ small. split ! $
@@ -60,9 +58,5 @@ make_spec 𝓤 𝓛 𝓜 𝓡 wired Y K g d dd met md =
     sets ! (is ! (of_opd ! (get_in ! (fld ! refl (stop !)) (sub ! 0 refl (whole !)))) (ap ptr_val at)) refl (tt, tt) $
     sets ! (of_opd ! (get_in ! (fld ! refl (stop !)) (sub ! 1 refl (whole !)))) refl (tt, tt) $
     sets ! (is ! (agg ! (and_then ! (get ! refl) (and_then ! (get ! refl) (no_more !)))) (ap pointer_val (sym at))) refl (typed p) $
-    use0 𝓛 (raw (fact 𝓤 (0 ≡ 0))) (fact_i 𝓤 (0 ≡ 0) (emp 𝓤) refl) $
-    use0 𝓛 (raw (fact 𝓤 (counted ≡ counted))) (fact_i 𝓤 (counted ≡ counted) (emp 𝓤) refl) $ join ! $
-    use0 𝓛 (raw (fact 𝓤 (lim ≡ lim))) (fact_i 𝓤 (lim ≡ lim) (emp 𝓤) refl) $ join ! $
-    use0 𝓛 (raw (fact 𝓤 (xs ≡ xs))) (fact_i 𝓤 (xs ≡ xs) (emp 𝓤) refl) $ join ! $
-    use0 𝓛 (raw (fact 𝓤 (v.home ≡ v.home))) (fact_i 𝓤 (v.home ≡ v.home) (emp 𝓤) refl) $ join ! $ nothing ! $ nothing ! $ fjoin ! $
-    returns ! (look_at ! 0 refl) $ free_all ! refl $ keep ! (3 ∷ 0 ∷ 2 ∷ 1 ∷ []) $ by ! (leaves 𝓛 En hs c y (pointer_val p) h' (tt, tt) (tt, tt)))))))))
+    returns ! (look_at ! 0 refl) $ free_all ! refl $ by ! (ends 𝓛 En c y (pointer_val p) h' (tt, tt)
+    (also 𝓛 {X = v.home ≡ v.home} refl (also 𝓛 {X = xs ≡ xs} refl (framed.three 𝓛 {X = lim ≡ lim} {Y = counted ≡ counted} {Z = 0 ≡ 0} refl refl refl)))))))))))

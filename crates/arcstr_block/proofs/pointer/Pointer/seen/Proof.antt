@@ -1,28 +1,26 @@
 -- `seen` returns what the pointer knows of the history, which is permanent.
-use Rattle.arcstr_block.proofs.Names.{◌≡◌, ℕ, [], ◌∷◌, refl, length, inst_fn, dcons, dnil, a_type, named, Val, vptr, Lft, Share, Fml, fsep, flft, ftrue, fhide}
-use Rattle.arcstr_block.proofs.Names.{emp, SProp, fact, fact_i, tables, RefOf, unit, yes, hidden_shr, unhide, param, bounded, RattleType, owns, block_of, Ptr}
-use Rattle.arcstr_block.proofs.Names.{shr_vals, shr_Tells, types_at, plain, nothing, lent_out, Stays, stay_dropped, walk_of, Goes-dropped, alloc_all, pass_all}
-use Rattle.arcstr_block.proofs.Names.{free_all, look_at, get, sets, ‵, ◌⊛◌, ◌$◌, ◌∵◌, !, qed, move, use0, use1, split, join, fsplit, fjoin, fpick, raw, by}
-use Rattle.arcstr_block.proofs.Names.{keep, drop, rewrite, agg, no_more, and_then, returns, enter, leaves, proved, Token, token, token_made, BlockName, reached}
-use Rattle.arcstr_block.proofs.Names.{pointer_shares, block_owns, block_shares, word_at, Right}
+use Rattle.arcstr_block.proofs.Names.{◌≡◌, ℕ, [], ◌∷◌, refl, length, inst_fn, dcons, dnil, a_type, named, Val, vptr, Lft, Share, Fml, fsep, flft, ftrue, emp}
+use Rattle.arcstr_block.proofs.Names.{SProp, fact_i, tables, unit, param, bounded, RattleType, owns, block_of, Ptr, shr_vals, shr_Tells, types_at, alloc_all}
+use Rattle.arcstr_block.proofs.Names.{pass_all, free_all, look_at, get, sets, ‵, ◌⊛◌, ◌$◌, ◌∵◌, !, qed, move, use0, split, join, fsplit, fjoin, raw, by, keep}
+use Rattle.arcstr_block.proofs.Names.{drop, rewrite, agg, no_more, and_then, returns, enter, proved, Token, token, token_made, BlockName, reached, block_owns}
+use Rattle.arcstr_block.proofs.Names.{block_shares, word_at, Right}
 use Rattle.arcstr_block.proofs.Memory.{shares_laws}
 use Rattle.arcstr_block.proofs.Pointers.{Words}
 use Rattle.arcstr_block.specs.contracts.pointer.Pointer.seen.{ended, clauses}
 use Rattle.arcstr_block.specs.contracts.pointer.Pointer.seen.Key.{name as #self}
 use Rattle.arcstr_block.proofs.pointer.Pointer.seen.Statement.{statement}
-use Rattle.core.specs.contracts.marker.PhantomData as Marker
 use Rattle.arcstr_block.specs.contracts.pointer.Pointer as C
 use Rattle.arcstr_block.specs.contracts.seen.Seen as Seen
 use Rattle.arcstr_block.proofs.pointer.Pointer.seen.Code as code
+use Rattle.arcstr_block.proofs.Endings.{all_dropped, all_go, Walk, ends, also}
+use Rattle.arcstr_block.proofs.Walks.{of_shown}
 
 pub seen_spec : {M : Type 1} → statement M
 seen_spec 𝓤 𝓛 𝓜 𝓡 wired Y K g d dd met md =
     let H = 𝓛.H in let 𝓣 = tables 𝓤 H 𝓜 𝓡 𝓡.env in let B : RattleType = param 0 Y in let En = ended Y g d dd in let c = clauses Y g d dd 𝓛 𝓜.mem 𝓡.returns in
     let inst = bounded (a_type ∷ []) (Y, tt) (dcons d (dcons dd dnil)) in let fn = inst_fn inst code.function in
-    let closed = code.unfolded 𝓤 H 𝓜 𝓡 wired (Y, tt) d dd in
-    let Row : RattleType = C.the_row B g in let D : RattleType = Words B g in let self = RefOf (0 ∷ []) tt (plain (λ _. Row)) (λ _. tt) in
-    let hs : Stays En.signature.params En.kept = (stay_dropped self yes, tt) in
-    proved 𝓛 En hs c 𝓜 𝓡 (Goes-dropped 𝓛 2 self yes (λ κs x f. refl), tt) (#self inst) fn closed
+    let Row : RattleType = C.the_row B g in let D : RattleType = Words B g in
+    proved 𝓛 En (all_dropped En) c 𝓜 𝓡 (all_go 𝓛 En (λ κs x f. refl, tt)) (#self inst) fn (code.unfolded 𝓤 H 𝓜 𝓡 wired (Y, tt) d dd)
     (λ κs. (shr_vals, tt)) (λ κs. (shr_Tells (named 0) κs.0 Row, tt)) (λ κs qs bounds a gh are.
     let b : ℕ = a.0.ref_ptr.0 in let o : ℕ = a.0.ref_ptr.1 in let κ : Lft = κs.0 in let q : Share = qs.0 in
     let others : Fml = fsep (flft κs.1.0 qs.1.0) ftrue in
@@ -30,20 +28,16 @@ seen_spec 𝓤 𝓛 𝓜 𝓡 wired Y K g d dd met md =
     let P : Fml = block_owns holds p h.text in let s : Lft → Fml = block_shares p h.text in
     let sl = shares_laws p h.text in
     let pb : ℕ = block_of p in let po : ℕ = word_at p (length h.text) in
-    let y : (walk_of 𝓛 En hs c).Ghost = ((κs, qs, bounds, a, (vptr b o ∷ [], tt)), gh) in let Post : Val → SProp 𝓤 = (walk_of 𝓛 En hs c).post y in
+    let y : (Walk 𝓛 En c).Ghost = ((κs, qs, bounds, a, (vptr b o ∷ [], tt)), gh) in let Post : Val → SProp 𝓤 = (Walk 𝓛 En c).post y in
     let D' : RattleType = Token unit in let S : RattleType = Seen.the_row in
     qed 𝓛 (((‵ (flft κ q) ⊛ ‵ others) ⊛ ‵ (owns (types_at En.signature.params κs) a y.0.4)) ∷ raw ((c κs a).requires gh) ∷ []) ∵
     keep ! (0 ∷ []) $ split ! $ split ! $ move ! (2 ∷ []) $ fsplit ! $ fsplit ! $ keep ! (1 ∷ 3 ∷ 4 ∷ []) $
     enter ! 𝓣.C 𝓣.Λ fn (vptr b o ∷ []) Post $ alloc_all ! (λ l. pass_all ! refl ((tt, tt), tt) $
-    use1 𝓛 (‵ (hidden_shr D κ (p, (tt, tt)) b o) ⊛ ‵ (fhide (pointer_shares holds lim p h.text right h.seat h.block h.history κ)))
-    (lent_out 𝓛 (C.struct B g) (C.the_codes Y.Denot B.coded (Marker.the_row B).coded) (C.the_heap B g) (C.the_lent B g) κ h b o) $
-    split ! $ drop ! $ unhide ! $ fsplit ! $ drop ! $ fpick ! (λ t. fsplit ! $ move ! (1 ∷ []) $ drop ! $ fsplit ! $ fpick ! (λ named. drop ! $
+    of_shown B g h κ b o ! (λ inb t named. drop ! $ move ! (1 ∷ []) $ drop ! $
     rewrite ! 0 (λ (block : BlockName). ‵ (reached block.history h.history)) named refl $
     -- [the prefix of the history; κ; the others]
     use0 𝓛 (‵ (D'.own_val (record {}, tt) (token ∷ []))) (token_made unit 𝓛) $ fjoin ! $ sets ! (agg ! (no_more !)) refl (tt, tt) $
     sets ! (agg ! (and_then ! (get ! refl) (no_more !))) refl (tt, (tt, tt)) $
     move ! (1 ∷ 2 ∷ []) $ join ! $ move ! (1 ∷ []) $ let s' : S.Denot = record { marker = record {}; block = h.block; history = h.history } in
-    use0 𝓛 (raw (fact 𝓤 (h.block ≡ h.block))) (fact_i 𝓤 (h.block ≡ h.block) (emp 𝓤) refl) $
-    use0 𝓛 (raw (fact 𝓤 (h.history ≡ h.history))) (fact_i 𝓤 (h.history ≡ h.history) (emp 𝓤) refl) $ join ! $
-    nothing ! $ nothing ! $ fjoin ! $ returns ! (look_at ! 0 refl) $ free_all ! refl $ keep ! (3 ∷ 0 ∷ 2 ∷ 1 ∷ []) $
-    by ! (leaves 𝓛 En hs c y token s' (tt, tt) (tt, tt))))))
+    returns ! (look_at ! 0 refl) $ free_all ! refl $
+    by ! (ends 𝓛 En c y token s' (tt, tt) (also 𝓛 {X = h.history ≡ h.history} refl (fact_i 𝓤 (h.block ≡ h.block) (emp 𝓤) refl))))))

@@ -1,15 +1,13 @@
 -- `sub` is one fetch-sub. The last one has the word and what the block owns.
 -- We take apart what the pointer holds, take the step inside the invariant (`Steps`) and write it into the book (`Book`), and make the gain a right (`Rights`).
-use Rattle.arcstr_block.proofs.Names.{◌≡◌, ℕ, ◌^◌, [], ◌∷◌, refl, arith, lit<, sym, subst, ◌≢◌, ap, length, ◌+◌, ◌<◌, if◌then◌else◌, w64, inst_fn, dcons, dnil}
-use Rattle.arcstr_block.proofs.Names.{a_type, Val, vint, vptr, Lft, Fml, fsep, fex, finv, ftrue, via, SProp, fact, tables, usize, u64, no, yes, param, bounded}
-use Rattle.arcstr_block.proofs.Names.{uint_vals, uint_Tells, RattleType, Valss, owns, block_of, Ptr, block_ptr, ptr_val, count_of, at_block, types_at, plain}
-use Rattle.arcstr_block.proofs.Names.{nothing, heard, alive, Stays, stay_dropped, walk_of, Goes-dropped, alloc_all, pass_all, free_all, look_at, get, get_in}
-use Rattle.arcstr_block.proofs.Names.{sets, lands_last, env, through, is, ‵, ◌⊛◌, later, ◌$◌, ◌∵◌, !, qed, move, use0, use1, split, fsplit, fjoin, fpick, await}
-use Rattle.arcstr_block.proofs.Names.{raw, by, keep, fsplit3, drop, rewrite, use3, at_ret, mean, sub, whole, agg, stop, fld, lit, of_opd, no_more, and_then}
-use Rattle.arcstr_block.proofs.Names.{first, blocks, exec, returns, enter, addr, bin, Calls-last, tail, found, fm, seq_cst, finds, subs, leaves, proved, EndsIn}
-use Rattle.arcstr_block.proofs.Names.{Dropping, Owes, Left, Sub, seat, Ends, Inv, held_with, right_to, block_owns, block_shares, word_at, word_offset, Right}
-use Rattle.arcstr_block.proofs.Names.{dropping, Leaves}
-use Rattle.arcstr_block.proofs.Names.{IsLater, reached}
+use Rattle.arcstr_block.proofs.Names.{◌≡◌, ℕ, ◌^◌, Bool, [], ◌∷◌, refl, arith, lit<, sym, subst, ap, length, ◌+◌, ◌<◌, if◌then◌else◌, w64, inst_fn, dcons}
+use Rattle.arcstr_block.proofs.Names.{dnil, a_type, Val, vint, vptr, Lft, Fml, fsep, fex, finv, ftrue, via, SProp, fact, tables, u64, param, bounded}
+use Rattle.arcstr_block.proofs.Names.{uint_vals, uint_Tells, RattleType, Valss, owns, block_of, Ptr, block_ptr, ptr_val, count_of, at_block, types_at, heard}
+use Rattle.arcstr_block.proofs.Names.{alive, alloc_all, pass_all, free_all, look_at, get, get_in, sets, lands_last, env, through, is, ‵, ◌⊛◌, later, ◌$◌, ◌∵◌}
+use Rattle.arcstr_block.proofs.Names.{ !, qed, move, use1, split, fsplit, fjoin, fpick, await, raw, by, keep, fsplit3, drop, rewrite, use3, at_ret, mean, sub}
+use Rattle.arcstr_block.proofs.Names.{whole, agg, stop, fld, lit, of_opd, no_more, and_then, first, blocks, exec, returns, enter, addr, bin, Calls-last, tail}
+use Rattle.arcstr_block.proofs.Names.{found, fm, seq_cst, finds, subs, proved, EndsIn, Dropping, Owes, Left, Sub, reached, seat, Ends, Inv, held_with, right_to}
+use Rattle.arcstr_block.proofs.Names.{block_owns, block_shares, word_at, word_offset, Right, dropping}
 use Rattle.arcstr_block.proofs.Memory.{shares_laws}
 use Rattle.arcstr_block.proofs.Pointers.{pointer_val, typed, found_val, found_typed, Words, told}
 use Rattle.arcstr_block.proofs.Book.{book_sub, left_in, sub_reply}
@@ -22,24 +20,23 @@ use Rattle.arcstr_block.proofs.Pointers as framed
 use Rattle.arcstr_block.proofs.Rights as rights
 use Rattle.arcstr_block.proofs.Steps as steps
 use Rattle.arcstr_block.proofs.pointer.Pointer.sub.Code as code
+use Rattle.arcstr_block.proofs.Endings.{all_dropped, all_go, Walk, ends}
+use Rattle.arcstr_block.specs.Steps.{IsSameBlock, SubtractedAs}
 
 pub sub_spec : {M : Type 1} → statement M
 sub_spec 𝓤 𝓛 𝓜 𝓡 wired Y K g d dd met md =
     let H = 𝓛.H in let 𝓣 = tables 𝓤 H 𝓜 𝓡 𝓡.env in let B : RattleType = param 0 Y in let En = ended Y g d dd in let c = clauses Y g d dd 𝓛 𝓜.mem 𝓡.returns in
     let inst = bounded (a_type ∷ []) (Y, tt) (dcons d (dcons dd dnil)) in let fn = inst_fn inst code.function in
-    let closed = code.unfolded 𝓤 H 𝓜 𝓡 wired (Y, tt) d dd in
-    let Row : RattleType = C.the_row B g in let D : RattleType = Words B g in let self = plain (λ _. Row) in
-    let number = plain (λ _. usize) in
-    let hs : Stays En.signature.params En.kept = (stay_dropped self no, (stay_dropped number yes, tt)) in
-    proved 𝓛 En hs c 𝓜 𝓡 (Goes-dropped 𝓛 1 self no (λ κs x f. refl), (Goes-dropped 𝓛 1 number yes (λ κs x f. refl), tt)) (#self inst) fn closed
+    let Row : RattleType = C.the_row B g in
+    proved 𝓛 En (all_dropped En) c 𝓜 𝓡 (all_go 𝓛 En (λ κs x f. refl, (λ κs x f. refl, tt))) (#self inst) fn (code.unfolded 𝓤 H 𝓜 𝓡 wired (Y, tt) d dd)
     (λ κs. ((λ x. pointer_val x.at ∷ []), (uint_vals w64, tt))) (λ κs. ((λ x vs so. told B g x.at vs so.0), (uint_Tells w64, tt))) (λ κs qs bounds a gh are.
     let h : Row.Denot = a.0 in let p : Ptr = h.at in let lim : ℕ = h.limit in let holds = g.dealloc_token h.home in
     let P : Fml = block_owns holds p h.text in let s : Lft → Fml = block_shares p h.text in
     let right : Right = h.right in let sl = shares_laws p h.text in
     let pb : ℕ = block_of p in let po : ℕ = word_at p (length h.text) in
     let offset : ℕ = a.1.0 in let fits_offset : offset < 2 ^ 64 = are.1.0.1 in
-    let y : (walk_of 𝓛 En hs c).Ghost = ((κs, qs, bounds, a, (pointer_val p ∷ [], (vint w64 offset ∷ [], tt))), gh) in
-    let Post : Val → SProp 𝓤 = (walk_of 𝓛 En hs c).post y in
+    let y : (Walk 𝓛 En c).Ghost = ((κs, qs, bounds, a, (pointer_val p ∷ [], (vint w64 offset ∷ [], tt))), gh) in
+    let Post : Val → SProp 𝓤 = (Walk 𝓛 En c).post y in
     qed 𝓛 ((raw (alive 𝓛 En.signature κs qs) ⊛ ‵ (owns (types_at En.signature.params κs) a y.0.4)) ∷ raw (fact 𝓤 _) ∷
     raw (fact 𝓤 (h.right ≡ dropping)) ∷ raw (fact 𝓤 (offset ≡ word_offset (length h.text))) ∷ []) ∵
     keep ! (2 ∷ 3 ∷ 0 ∷ []) $ heard ! (h.right ≡ dropping) (λ mine. heard ! (offset ≡ word_offset (length h.text)) (λ placed.
@@ -77,21 +74,16 @@ sub_spec 𝓤 𝓛 𝓜 𝓡 wired Y K g d dd met md =
     -- [the gain; what is said; what is shared; the invariant; what is known; the tokens]
     move ! (1 ∷ []) $ fsplit ! $ move ! (2 ∷ 3 ∷ 0 ∷ []) $ use3 𝓛 (later (‵ (right_to P lim pb po t s h.seat k))) got.turns $ await ! tt $
     -- [the right; the history's end; the invariant; what was known; the tokens]
-    move ! (1 ∷ []) $ fpick ! (λ r'. fsplit ! $ fpick ! (λ ends. drop ! $
+    move ! (1 ∷ []) $ fpick ! (λ r'. fsplit ! $ fpick ! (λ saw. drop ! $
     -- [the prefix; the right; the invariant; the tokens]
     let h' : Row.Denot = record h { right = k; history = r' } in let r : Val = found_val n p in
     move ! (1 ∷ 2 ∷ 0 ∷ []) $ use3 𝓛 (‵ (Row.own_val h' (pointer_val p ∷ []))) (framed.pointer_in 𝓛 B g h' t named inb) $
     use1 𝓛 (‵ (fex (Valss (u64 ∷ Row ∷ [])) (framed.found_as 𝓛 B g h' n))) (framed.found_in 𝓛 B g h' n fits) $
-    let Same : Type 0 = (h.home ≡ h.home) × (h.text ≡ h.text) × (lim ≡ lim) × (h.block ≡ h.block) in
-    let Saw : Type 0 = (h.seat ≡ h.seat) × (n ≡ 2 → EndsIn lim r' (Sub h.seat) Owes) × (n ≢ 2 → EndsIn lim r' (Sub h.seat) Left)
-    × IsLater h.history r' in
-    use0 𝓛 (raw (fact 𝓤 (Leaves n k)) ⊛ raw (fact 𝓤 Saw) ⊛ raw (fact 𝓤 Same))
-    (framed.three 𝓛 got.said (
+    let together : IsSameBlock h' h = (refl, refl, refl, refl) in let named_so = λ (last : Bool). if last then Owes else Left in
+    let told_so : SubtractedAs h n h' = (
       refl,
-      (λ two. subst (EndsIn lim r' (Sub h.seat)) (ap (λ y. if y then Owes else Left) (last_two n two)) ends.0),
-      (λ ne.
-          subst (EndsIn lim r' (Sub h.seat)) (ap (λ y. if y then Owes else Left) (not_last n ne)) ends.0),
-      ends.1,
-    ) (refl, refl, refl, refl)) $
-    nothing ! $ nothing ! $ fjoin ! $ nothing ! $ fjoin ! $ returns ! (look_at ! 0 refl) $ free_all ! refl $ keep ! (3 ∷ 0 ∷ 2 ∷ 1 ∷ []) $
-    by ! (leaves 𝓛 En hs c y r (n, h') (tt, (tt, tt)) (tt, (tt, tt))))))))))))))))
+      (λ two. subst (EndsIn lim r' (Sub h.seat)) (ap named_so (last_two n two)) saw.0),
+      (λ ne. subst (EndsIn lim r' (Sub h.seat)) (ap named_so (not_last n ne)) saw.0),
+      saw.1,
+    ) in
+    returns ! (look_at ! 0 refl) $ free_all ! refl $ by ! (ends 𝓛 En c y r (n, h') (tt, (tt, tt)) (framed.three 𝓛 got.said told_so together)))))))))))))))
