@@ -1,9 +1,9 @@
 //! Builds a text piece by piece in the block that is to hold it. No call here takes an atomic step.
-ghost use Rattle.std.specs.Prelude.{◌≡◌, ◌↔◌, ◌+◌, ◌≤◌, [], ◌++◌, length, encode_utf8, IsTrue};
+ghost use Rattle.std.specs.Prelude.{◌≡◌, ◌↔◌, ◌+◌, ◌≤◌, ◌<◌, [], ◌++◌, length, encode_utf8, IsTrue};
 ghost use Rattle.std.specs.Prelude.{Ok, IsOk, IfSome, IfOk, IfErr, IsErrOf, OnOk};
 ghost use Rattle.std.specs.Fmt.{with_newline};
 ghost use Rattle.arcstr.specs.TextView.{literal_of};
-ghost use Rattle.arcstr.specs.Building.{HasRoom};
+ghost use Rattle.arcstr.specs.Building.{HasRoom, IsDoubled};
 ghost use Rattle.arcstr.specs.Making.{IsTooLong, IsFaultOfMaking};
 
 use crate::arc_str::ArcStr;
@@ -162,6 +162,9 @@ impl ArcStrBuilder {
         ensures within { HasRoom self.old additional → IsOk result }
         ensures stays { HasRoom self.old additional → self.new.capacity ≡ self.old.capacity }
         ensures left { IfErr result (λ _. self.new.capacity ≡ self.old.capacity) }
+        // Promise: A block that is too small is left for one of at least twice its capacity.
+        ensures doubles { self.old.capacity < length self.old.text + additional
+            → IfOk result (λ _. IsDoubled self.old.capacity self.new.capacity) }
         // Promise: The call fails with `Length` exactly if the text would be too long.
         ensures too_long { IsErrOf result TextFault.Length
             ↔ IsTooLong (length self.old.text + additional) }
@@ -196,6 +199,8 @@ impl ArcStrBuilder {
         ensures within { HasRoom self.old (length text.now) → IsOk result }
         ensures stays { HasRoom self.old (length text.now) → self.new.capacity ≡ self.old.capacity }
         ensures left { IfErr result (λ _. self.new.capacity ≡ self.old.capacity) }
+        ensures doubles { self.old.capacity < length self.old.text + length text.now
+            → IfOk result (λ _. IsDoubled self.old.capacity self.new.capacity) }
         // Promise: The call fails with `Length` exactly if the text would be too long.
         ensures too_long { IsErrOf result TextFault.Length
             ↔ IsTooLong (length self.old.text + length text.now) }
@@ -223,6 +228,8 @@ impl ArcStrBuilder {
         ensures stays { HasRoom self.old (length (encode_utf8 character))
             → self.new.capacity ≡ self.old.capacity }
         ensures left { IfErr result (λ _. self.new.capacity ≡ self.old.capacity) }
+        ensures doubles { self.old.capacity < length self.old.text + length (encode_utf8 character)
+            → IfOk result (λ _. IsDoubled self.old.capacity self.new.capacity) }
         ensures too_long { IsErrOf result TextFault.Length
             ↔ IsTooLong (length self.old.text + length (encode_utf8 character)) }
         ensures refused { IfErr result

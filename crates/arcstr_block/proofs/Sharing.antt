@@ -243,15 +243,20 @@ module _ (B : RattleType) (g : Ghosts B.Denot) (f : Frees g g.dealloc_token) whe
     ),
   )
 
-  module _ (sb : IsSend B) (yb : IsSync B) where
-    ms : IsSend (Marker.the_field B).row
-    ms = search sendable
+  ms : IsSend B → IsSend (Marker.the_field B).row
+  ms sb = search sendable
 
+  pub sole_send : IsSend B → IsSend (S.the_row B g)
+  sole_send sb = let O = S.the_type B g in let all : AllSend (fields O) = (ps, (ms sb, tt)) in owning_send O all
+      (λ d. ((λ _. tt), (tt, owns_keyless d.home d.at d.text)))
+      (λ k. quiet (to O) (exits_of k (fields O)) ((struct_send (shape O) all).leaving k))
+
+  module _ (sb : IsSend B) (yb : IsSync B) where
     my : IsSync (Marker.the_field B).row
     my = search sendable
 
     pub pointer_send : IsSend (C.the_row B g)
-    pointer_send = let O = C.the_type B g in let all : AllSend (fields O) = (ps, (ms, tt)) in owning_send O all
+    pointer_send = let O = C.the_type B g in let all : AllSend (fields O) = (ps, (ms sb, tt)) in owning_send O all
         (λ d. (
           (λ _. tt),
           λ t. let P = block_owns (g.dealloc_token d.home) d.at d.text in (
@@ -279,8 +284,3 @@ module _ (B : RattleType) (g : Ghosts B.Denot) (f : Frees g g.dealloc_token) whe
         ),
       );
     }
-
-    pub sole_send : IsSend (S.the_row B g)
-    sole_send = let O = S.the_type B g in let all : AllSend (fields O) = (ps, (ms, tt)) in owning_send O all
-        (λ d. ((λ _. tt), (tt, owns_keyless d.home d.at d.text)))
-        (λ k. quiet (to O) (exits_of k (fields O)) ((struct_send (shape O) all).leaving k))

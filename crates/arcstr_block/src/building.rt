@@ -1,12 +1,12 @@
 //! Builds a text in the memory of its block: the block is made first, and the text is appended to
 //! it.
-ghost use Rattle.std.specs.Prelude.{◌≡◌, ◌↔◌, ◌+◌, ◌≤◌, [], ◌++◌, length, take};
+ghost use Rattle.std.specs.Prelude.{◌≡◌, ◌↔◌, ◌+◌, ◌≤◌, ◌<◌, [], ◌++◌, length, take};
 ghost use Rattle.std.specs.Prelude.{IfOk, IfErr, IsErrOf, IsOk, IsUtf8};
 ghost use Rattle.std.proofs.Props.{props};
 ghost use Rattle.arcstr_count.specs.Word.{bits_of, fresh_word};
 ghost use Rattle.arcstr_block.specs.Memory.{Fits};
 ghost use Rattle.arcstr_block.specs.Making.{IsTooLong, IsFaultOfMaking};
-ghost use Rattle.arcstr_block.specs.Building.{Unfinished, HasRoom};
+ghost use Rattle.arcstr_block.specs.Building.{Unfinished, HasRoom, IsDoubled};
 
 use crate::block::{Sole, size_of_block};
 use crate::fault::{TOO_LONG, TextFault};
@@ -140,6 +140,9 @@ impl<A: Allocator + Copy> Draft<A> {
         ensures within { HasRoom self.old additional → IsOk result }
         ensures stays { HasRoom self.old additional → self.new.capacity ≡ self.old.capacity }
         ensures left { IfErr result (λ _. self.new.capacity ≡ self.old.capacity) }
+        // Promise: A block that is too small is left for one of at least twice its capacity.
+        ensures doubles { self.old.capacity < length self.old.text + additional
+            → IfOk result (λ _. IsDoubled self.old.capacity self.new.capacity) }
         // Promise: It fails with `Length` exactly if the text would be too long.
         ensures too_long { IsErrOf result TextFault.Length
             ↔ IsTooLong (length self.old.text + additional) }
@@ -254,6 +257,7 @@ fn doubled(capacity: usize, needed: usize) -> usize
     requires needed { Fits needed }
     ensures fits { Fits result }
     ensures enough { needed ≤ result }
+    ensures doubles { IsDoubled capacity result }
 {
     needed.max((2 * capacity).min(TOO_LONG - 1))
 }

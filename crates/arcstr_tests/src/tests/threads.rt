@@ -1,7 +1,7 @@
-//! Texts and slices that are sent to threads and shared between them.
+//! Texts, slices and builders that are sent to threads and shared between them.
 use crate::tests::checks::{check, check_eq};
 use crate::tests::steps::{check_count, check_text, made, part};
-use arcstr::{ArcStr, JsonFault, Substr};
+use arcstr::{ArcStr, ArcStrBuilder, JsonFault, Substr};
 use std::sync::Wait;
 use std::thread;
 
@@ -35,6 +35,23 @@ fn two_threads_clone_and_drop_one_text(rt: HostRuntime) {
     check!(rt; lengths == (6, 6));
     check_text(&rt, text.as_str(), "foobar");
     check_count(&rt, text, Some(1));
+}
+
+#[test]
+fn a_builder_moves_from_thread_to_thread(rt: HostRuntime) {
+    let mut builder = ArcStrBuilder::with_capacity(rt.alloc(), 6).expect(&rt, "no memory");
+    builder.push('f').expect(&rt, "no memory");
+    let writer = thread::spawn(&rt, move || {
+        let is_pushed = builder.push_str("ooba").is_ok();
+        (builder, is_pushed)
+    });
+    let (mut builder, is_pushed) = writer.expect(&rt, "no thread").join(&rt);
+    check!(rt; is_pushed);
+    builder.push('r').expect(&rt, "no memory");
+    let finisher = thread::spawn(&rt, move || builder.finish()).expect(&rt, "no thread");
+    let text = finisher.join(&rt).expect(&rt, "no memory");
+    check_text(&rt, text.as_str(), "foobar");
+    check_count(&rt, &text, Some(1));
 }
 
 /// Returns the value, whose type must be `Send` and `Sync`.
