@@ -25,7 +25,7 @@ OWNER = re.compile(
     r"^(?:unsafe )?(?:impl\b(?:<[^{]*?>)? "
     r"(?:(?P<own>[^{;\n]*?) for (?P<lent>&(?:'\w+ )?\w+)"
     r"|(?:(?P<trait>[^{;\n]*?) for )?(?P<type>\w+(?:::\w+)*))"
-    r"|(?:pub )?trait (?P<new>\w+))[^;{]*\{",
+    r"|(?P<open>pub )?trait (?P<new>\w+))[^;{]*\{",
     re.M,
 )
 CLAUSE = re.compile(r"\b(?P<kind>ensures|requires|invariant|decreases)\*?(?: (?P<name>\w+))?\s*$")
@@ -248,7 +248,7 @@ def functions(file: Path, source: str | None = None) -> Iterator[Function]:
         function = Function(
             found["name"],
             part.get("type") or part.get("own") or part.get("new"),
-            bool(found["public"] or part.get("trait") or part.get("own") or part.get("new")),
+            bool(found["public"] or part.get("trait") or part.get("own") or part.get("open")),
             re.findall(r"#\[(.*)\]", found["attributes"]),
             file,
             found.start(),

@@ -72,6 +72,11 @@ class Sources(Folder):
         self.assertEqual((two.is_public, two.ensures), (False, {}))
         self.assertEqual(two.body.split(), "let one = 1; one + one".split())
 
+    def test_a_function_of_a_trait_is_as_public_as_the_trait(self) -> None:
+        for word, is_public in ("pub ", True), ("", False):
+            [it] = sources.functions(self.path, f"{word}trait Shape {{\n    fn area();\n}}\n")
+            self.assertEqual((it.call(), it.is_public), ("Shape::area", is_public))
+
     def test_comments_and_literals(self) -> None:
         text = 'a /* b /* c */ d */ "e // f" // g\n'
         shown = sources.without_comments(text)

@@ -1,6 +1,8 @@
 -- Results of the slicing calls. Each definition takes the receiver's own text, and the slice between two byte offsets of that text: `slice_of` for a shared
 -- text, `slice_within` for a shared slice.
 use Rattle.std.specs.Prelude.{◌≡◌, ◌≢◌, ◌↔◌, ◌≤◌, ℕ, false, List, [], map, Option, Result, Ok, IsOk, IsErrOf, IsSome, IfOk, IfSome, ◌+◌, length}
+use Rattle.std.specs.Iterator.{Drains}
+use Rattle.std.specs.List.{AllZip}
 use Rattle.std.specs.declared.ops.Range.{Range}
 use Rattle.arcstr_range.specs.declared.range.StrRange.{StrRange}
 use Rattle.arcstr_range.specs.declared.range.StrRange.TheVariants.{Between}
@@ -38,6 +40,18 @@ pub record IsSliceOfView (between : ℕ → ℕ → SubstrView) (view : View) (s
 -- the slices that views show, one after another, even of empty ones
 abbrev pub slices_of : (ℕ → ℕ → SubstrView) → List View → List SubstrView
 slices_of between views = map (λ view. between view.place (end_of view)) views
+
+-- the slice that a view shows, even of an empty one, with the view's text
+pub record Shows (between : ℕ → ℕ → SubstrView) (encloses : SubstrView → Type 0) (view : View) (slice : SubstrView) : Type 0 where
+  pub there : slice ≡ between view.place (end_of view)
+  pub same_text : text_of slice ≡ view.text
+  pub within : encloses slice
+
+-- each slice shows one of the views that calls of an iterator's `next` give until it ends, in order
+pub record ShowAll {I V S : Type 0} (steps : I → Option V → I → Type 0) (shows : V → S → Type 0) (views : I) (slices : List S) : Type 0 where
+  pub given : List V
+  pub all : Drains steps views given
+  pub each : AllZip shows given slices
 
 -- the slices are those of the parts of the text between the matches that the searches find
 pub record AreSlicesOfParts (finds : List ℕ → Option (ℕ × ℕ) → Type 0) (text : List ℕ) (between : ℕ → ℕ → SubstrView) (slices : List SubstrView) : Type 0 where

@@ -5,13 +5,14 @@
 //! that fails drops the slices that it made. Each slice keeps the text alive, even if it is empty.
 //! The slices of a `Substr` have its parent.
 ghost use Rattle.std.specs.Prelude.{◌≡◌, ◌≢◌, ◌==◌, ℕ, All, List, [], length, map, IfOk, IfSome, IsErr};
+ghost use Rattle.std.specs.Iterator.{HoldsAlong, IsFinite};
 ghost use Rattle.std.specs.Char.{is_whitespace};
 ghost use Rattle.std.specs.List.{filter, join_by};
 ghost use Rattle.std.specs.Str.Lines.{lines};
 ghost use Rattle.arcstr_range.specs.Matches.{FindsOnly};
 ghost use Rattle.arcstr_range.specs.Pieces.{is_not_empty, lines_of, parts_at, texts_between, words_of};
 ghost use Rattle.arcstr_range.specs.View.{StandsAt, end_of, view_at};
-ghost use Rattle.arcstr.specs.Slicing.{AreSlicesOfParts, LiesBetween, slices_of};
+ghost use Rattle.arcstr.specs.Slicing.{AreSlicesOfParts, LiesBetween, ShowAll, Shows, slices_of};
 ghost use Rattle.arcstr.specs.Splitting.{FindsCharacter};
 ghost use Rattle.arcstr.specs.Substr.{slice_of, slice_within, text_of};
 
@@ -66,10 +67,8 @@ impl ArcStr {
             × (map text_of slices.items
             ≡ texts_between (λ c. c == character) self.now.text))) }
     {
-        let mut slices = Vec::new(alloc);
-        for part in StrView::whole(self.as_str()).split_by(separator) {
-            slices.push(self.slice_at(rt, part))?;
-        }
+        let parts = StrView::whole(self.as_str()).split_by(separator);
+        let slices = list_slices(self, rt, alloc, parts)?;
         Ok(slices)
     }
 
@@ -95,10 +94,7 @@ impl ArcStr {
         // Promise: A text without lines is never refused.
         ensures refused { IsErr result → lines self.now.text ≢ [] }
     {
-        let mut slices = Vec::new(alloc);
-        for line in self.view().lines() {
-            slices.push(self.slice_at(rt, line))?;
-        }
+        let slices = list_slices(self, rt, alloc, self.view().lines())?;
         Ok(slices)
     }
 
@@ -131,21 +127,8 @@ impl ArcStr {
         ensures refused { IsErr result
             → filter is_not_empty (texts_between is_whitespace self.now.text) ≢ [] }
     {
-        let mut slices = Vec::new(alloc);
-        for word in self.view().split_whitespace() {
-            slices.push(self.slice_at(rt, word))?;
-        }
+        let slices = list_slices(self, rt, alloc, self.view().split_whitespace())?;
         Ok(slices)
-    }
-
-    /// Returns the slice of this text that the view shows, even of an empty one.
-    fn slice_at(&self, rt: &impl Wait, view: StrView<'_>) -> Substr
-        requires { StandsAt self.now.text view.text view.place }
-        ensures slice { result ≡ slice_of self.now view.entry.place (end_of view.entry) }
-        ensures text { text_of result ≡ view.entry.text }
-        ensures within { LiesBetween 0 (length self.now.text) result }
-    {
-        self.clone_between(rt, view.range())
     }
 }
 
@@ -173,10 +156,8 @@ impl Substr {
             × (map text_of slices.items
             ≡ texts_between (λ c. c == character) (text_of self.now)))) }
     {
-        let mut slices = Vec::new(alloc);
-        for part in StrView::whole(self.as_str()).split_by(separator) {
-            slices.push(self.slice_at(rt, part))?;
-        }
+        let parts = StrView::whole(self.as_str()).split_by(separator);
+        let slices = list_slices(self, rt, alloc, parts)?;
         Ok(slices)
     }
 
@@ -192,10 +173,7 @@ impl Substr {
             All (LiesBetween self.now.start self.now.end) slices.items) }
         ensures refused { IsErr result → lines (text_of self.now) ≢ [] }
     {
-        let mut slices = Vec::new(alloc);
-        for line in self.view().lines() {
-            slices.push(self.slice_at(rt, line))?;
-        }
+        let slices = list_slices(self, rt, alloc, self.view().lines())?;
         Ok(slices)
     }
 
@@ -217,20 +195,64 @@ impl Substr {
         ensures refused { IsErr result
             → filter is_not_empty (texts_between is_whitespace (text_of self.now)) ≢ [] }
     {
-        let mut slices = Vec::new(alloc);
-        for word in self.view().split_whitespace() {
-            slices.push(self.slice_at(rt, word))?;
-        }
+        let slices = list_slices(self, rt, alloc, self.view().split_whitespace())?;
         Ok(slices)
     }
+}
 
-    /// As `ArcStr::slice_at`, for the slice's own text.
-    fn slice_at(&self, rt: &impl Wait, view: StrView<'_>) -> Substr
-        requires { StandsAt (text_of self.now) view.text view.place }
-        ensures slice { result ≡ slice_within self.now view.entry.place (end_of view.entry) }
-        ensures text { text_of result ≡ view.entry.text }
-        ensures within { LiesBetween self.now.start self.now.end result }
-    {
+/// A text that has a slice for each view that stands in it: an `ArcStr`, or a `Substr` with its own
+/// text. `V` is `StrView<'_>` and `S` is `Substr`, which a signature with bounds may not name: the
+/// checker proves no call by a bound that names a lifetime, where `'static` stands beside it.
+trait SlicedAt<V, S> {
+    ghost stands: { Self → V → Type 0 };
+
+    ghost has_slice: { Self → V → S → Type 0 };
+
+    /// Returns the slice of this text that the view shows, even of an empty one.
+    fn slice_at(&self, rt: &impl Wait, view: V) -> S
+        requires { stands self.now view }
+        ensures { has_slice self.now view result };
+}
+
+impl<'a> SlicedAt<StrView<'a>, Substr> for ArcStr {
+    ghost stands = { λ whole view. StandsAt whole.text view.text view.place };
+
+    ghost has_slice = { λ whole. Shows (slice_of whole) (LiesBetween 0 (length whole.text)) };
+
+    fn slice_at(&self, rt: &impl Wait, view: StrView<'a>) -> Substr {
         self.clone_between(rt, view.range())
     }
+}
+
+impl<'a> SlicedAt<StrView<'a>, Substr> for Substr {
+    ghost stands = { λ whole view. StandsAt (text_of whole) view.text view.place };
+
+    ghost has_slice = { λ whole. Shows (slice_within whole) (LiesBetween whole.start whole.end) };
+
+    fn slice_at(&self, rt: &impl Wait, view: StrView<'a>) -> Substr {
+        self.clone_between(rt, view.range())
+    }
+}
+
+/// Lists the slices of the text that the views show, in order. Fails only if an allocation fails.
+fn list_slices<V, S: Drop, T: SlicedAt<V, S>, I: Iterator<Item = V> + Drop>(
+    text: &T,
+    rt: &impl Wait,
+    alloc: Global,
+    views: I,
+) -> Result<Vec<S>, AllocError>
+    requires can { I.can_next views }
+    requires ends { IsFinite (I.remaining views) }
+    requires stand { HoldsAlong I.next_gives views (All (T.stands text.now)) }
+    ensures listed { IfOk result
+        (λ slices. ShowAll I.next_gives (T.has_slice text.now) views slices.items) }
+    // Promise: Without a view it never fails.
+    ensures refused { IsErr result
+        → ((view : V) × (rest : I) × I.next_gives views (Some view) rest) }
+{
+    let mut slices = Vec::new(alloc);
+    for view in views {
+        slices.push(text.slice_at(rt, view))?;
+    }
+    Ok(slices)
 }

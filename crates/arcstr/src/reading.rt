@@ -258,8 +258,6 @@ fn move_to_start(bytes: &mut [u8], from: usize, end: usize)
 
 /// The length of a file in bytes, or 0 if it is not known.
 fn size_of_file(file: &impl OpenFile) -> usize {
-    match file.metadata() {
-        Ok(metadata) => metadata.len() as usize,
-        Err(_) => 0,
-    }
+    file.metadata()
+        .map_or(0, |metadata| metadata.len() as usize)
 }

@@ -1,49 +1,41 @@
--- The loop lists the slices of the parts.
+-- The slices are those of the parts that the iterator gives.
 use Rattle.std.proofs.Common.{length}
+use Rattle.arcstr.specs.Slicing.{LiesBetween}
 use Rattle.arcstr.specs.Substr.{slice_of}
-use Rattle.arcstr.proofs.PartLists.{lists_all, lists_at_single, lists_join, lists_more, lists_none, lists_within, next_part_stands}
+use Rattle.arcstr.proofs.PartLists.{lists_all, lists_at_single, lists_join, lists_within, parts_stand, splits_all}
 use Rattle.arcstr.proofs.arc_str.ArcStr.substr_split.Goals as goal
 
-pub loop-part-init : goal.loop-part-init
-loop-part-init g c =
-    lists_none g.P.Pattern.find_in_gives c.args.separator (slice_of c.args.self.now) c.args.self.now.text 0 (length c.args.self.now.text)
-    c.into_iter-part-iterator.result
-    c.new-slices.result.items c.as_str.result.now c.whole.result c.as_str.utf8 c.as_str.ensures c.whole.ensures.value (cc) (cc) (cc) (cc)
-
-pub slice_at-requires : goal.slice_at-requires
-slice_at-requires g c =
-    next_part_stands g.P.Pattern.find_in_gives c.args.separator (slice_of c.args.self.now) c.args.self.now.text 0 (length c.args.self.now.text)
-    c.loop-part.part-iterator c.next.new.self
-    c.loop-part.slices.items c.in-Some.part c.loop-part.invariant c.in-Some.ensures.steps
-
-pub loop-part-preserved : goal.loop-part-preserved
-loop-part-preserved g c =
-    lists_more g.P.Pattern.find_in_gives c.args.separator (slice_of c.args.self.now) c.args.self.now.text 0 (length c.args.self.now.text)
-    c.loop-part.part-iterator c.next.new.self
-    c.loop-part.slices.items c.in-Some.part c.loop-part.invariant c.in-Some.ensures.steps c.slice_at.result c.push.new.self.items c.slice_at.ensures.slice
-    c.slice_at.ensures.text c.slice_at.ensures.within c.in_ok-push.ensures.items
+pub list_slices-requires-clause-stand : goal.list_slices-requires-clause-stand
+list_slices-requires-clause-stand g c =
+    parts_stand g.P.Pattern.find_in_gives c.args.separator c.args.self.now.text c.split_by-parts.result
+    (splits_all g.P.Pattern.find_in_gives c.args.separator c.args.self.now.text c.split_by-parts.result c.as_str.result.now c.whole.result c.as_str.utf8
+    c.as_str.ensures c.whole.ensures.value c.split_by-parts.ensures.rest c.split_by-parts.ensures.begun c.split_by-parts.ensures.pattern)
 
 pub returns-clause-parts : goal.returns-clause-parts
 returns-clause-parts g c =
-    lists_all g.P.Pattern.find_in_gives c.args.separator (slice_of c.args.self.now) c.args.self.now.text 0 (length c.args.self.now.text)
-    c.loop-part.part-iterator c.next.new.self
-    c.loop-part.slices.items c.loop-part.invariant c.in-None.ensures.steps
+    lists_all g.P.Pattern.find_in_gives c.args.separator c.args.self.now.text c.split_by-parts.result
+    (splits_all g.P.Pattern.find_in_gives c.args.separator c.args.self.now.text c.split_by-parts.result c.as_str.result.now c.whole.result c.as_str.utf8
+    c.as_str.ensures c.whole.ensures.value c.split_by-parts.ensures.rest c.split_by-parts.ensures.begun c.split_by-parts.ensures.pattern)
+    (slice_of c.args.self.now) (LiesBetween 0 (length c.args.self.now.text)) c.in_ok-slices.slices.items c.in_ok-slices.ensures.listed
 
 pub returns-clause-within : goal.returns-clause-within
 returns-clause-within g c =
-    lists_within g.P.Pattern.find_in_gives c.args.separator (slice_of c.args.self.now) c.args.self.now.text 0 (length c.args.self.now.text)
-    c.loop-part.part-iterator c.next.new.self
-    c.loop-part.slices.items c.loop-part.invariant c.in-None.ensures.steps
+    lists_within g.P.Pattern.find_in_gives c.args.separator c.args.self.now.text c.split_by-parts.result
+    (splits_all g.P.Pattern.find_in_gives c.args.separator c.args.self.now.text c.split_by-parts.result c.as_str.result.now c.whole.result c.as_str.utf8
+    c.as_str.ensures c.whole.ensures.value c.split_by-parts.ensures.rest c.split_by-parts.ensures.begun c.split_by-parts.ensures.pattern)
+    (slice_of c.args.self.now) (LiesBetween 0 (length c.args.self.now.text)) c.in_ok-slices.slices.items c.in_ok-slices.ensures.listed
 
 pub returns-clause-joined : goal.returns-clause-joined
 returns-clause-joined g c =
-    lists_join g.P.Pattern.find_in_gives c.args.separator (slice_of c.args.self.now) c.args.self.now.text 0 (length c.args.self.now.text)
-    c.loop-part.part-iterator c.next.new.self
-    c.loop-part.slices.items c.loop-part.invariant c.in-None.ensures.steps
+    lists_join g.P.Pattern.find_in_gives c.args.separator c.args.self.now.text c.split_by-parts.result
+    (splits_all g.P.Pattern.find_in_gives c.args.separator c.args.self.now.text c.split_by-parts.result c.as_str.result.now c.whole.result c.as_str.utf8
+    c.as_str.ensures c.whole.ensures.value c.split_by-parts.ensures.rest c.split_by-parts.ensures.begun c.split_by-parts.ensures.pattern)
+    (slice_of c.args.self.now) (LiesBetween 0 (length c.args.self.now.text)) c.in_ok-slices.slices.items c.in_ok-slices.ensures.listed
 
 pub returns-clause-at_a_character : goal.returns-clause-at_a_character
 returns-clause-at_a_character g c =
-    lists_at_single g.P.Pattern.find_in_gives c.args.separator (slice_of c.args.self.now) c.args.self.now.text 0 (length c.args.self.now.text)
-    c.loop-part.part-iterator c.next.new.self
-    c.loop-part.slices.items c.loop-part.invariant c.in-None.ensures.steps (g.P.Pattern.single_char c.args.separator) c.as_str.result.now c.as_str.utf8
-    c.as_str.ensures
+    lists_at_single g.P.Pattern.find_in_gives c.args.separator c.args.self.now.text c.split_by-parts.result
+    (splits_all g.P.Pattern.find_in_gives c.args.separator c.args.self.now.text c.split_by-parts.result c.as_str.result.now c.whole.result c.as_str.utf8
+    c.as_str.ensures c.whole.ensures.value c.split_by-parts.ensures.rest c.split_by-parts.ensures.begun c.split_by-parts.ensures.pattern)
+    (slice_of c.args.self.now) (LiesBetween 0 (length c.args.self.now.text)) c.in_ok-slices.slices.items c.in_ok-slices.ensures.listed
+    (g.P.Pattern.single_char c.args.separator)
