@@ -267,6 +267,32 @@ class WrongBodies(Folder):
             self.assertEqual(len(shares), rooms, number)
             self.assertEqual(sorted(sum(shares, [])), edits_of_crate)
 
+    def test_a_body_that_waits_for_another_is_tried_without_it(self) -> None:
+        """Each body passes where at most so many are tried at once."""
+        for limits, wanted in (
+            ({"a": 4, "b": 2, "c": 1, "d": 4}, ["abcd", "bc", "c"]),
+            ({"a": 1, "b": 1}, ["ab", "a", "b"]),
+            ({"a": 2, "b": 0}, ["ab", "b"]),
+        ):
+            bodies = [edits.WrongBody(self.path, name, 1) for name in limits]
+            sizes: list[str] = []
+
+            def check(_: object, tried: list) -> subprocess.CompletedProcess:
+                sizes.append("".join(body.name for body in tried))
+                return subprocess.CompletedProcess("", 1, "")
+
+            fault = lambda body, *_: "" if len(sizes[-1]) <= limits[body.name] else "missed"
+            stubs = {"fault_of": fault, "read_goals": lambda *_: True, "kept_sum": mock.Mock()}
+            room = wrong_bodies.Room("pair", self.crate, mock.Mock(now={}))
+            with mock.patch.multiple(wrong_bodies, **stubs), mock.patch.object(
+                wrong_bodies.Room, "check", check
+            ):
+                room.try_edits(bodies)
+            self.assertEqual(sizes, wanted)
+            self.assertEqual(room.tried, len(bodies))
+            wrong = [body.name for body in bodies if body.wrong]
+            self.assertEqual(wrong, [name for name in limits if limits[name] == 0])
+
     def test_a_crate_with_several_rooms_is_proved_once_before_them(self) -> None:
         [body], _ = edits.parse(self.path, BODY)
         edits.read_edit(body)
