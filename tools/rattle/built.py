@@ -6,6 +6,7 @@ Beside a library or program that is built stands a file `out/NAME.sum`: the sum 
 the kit and of what was built. `is_current` compares it, and no time of a file.
 """
 import hashlib
+import os
 import shutil
 import subprocess
 import sys
@@ -13,14 +14,20 @@ from collections.abc import Iterable
 from functools import cache
 from pathlib import Path
 
+from kit import check_words
 from progress import Lanes, Progress
-from sources import CRATES, ROOT, below, files_of, is_library, listed_crates
+from sources import CRATES, ROOT, below, files_of, is_library, listed_crates, uses_of
 
 # The processor time of a proof from nothing for each line of a crate's sources, and for each crate.
 SECONDS_A_LINE, SECONDS_A_CRATE = 0.12, 20
 # The libraries that users name.
 USERS = ("arcstr", "arcintern", "arctokens")
 PACKED = ROOT / "PACKED"
+# Where this machine keeps what a later run takes, and there the last lines of checks that proved a
+# crate, each by the sum of what it read.
+CACHE = Path(os.environ.get("XDG_CACHE_HOME") or Path.home() / ".cache")
+LAST_LINES = CACHE / "arcstr-last-lines"
+PROVED = "logic=proved "
 KEPT = "the functions that are proved are kept, and the same command goes on from there"
 
 
@@ -109,7 +116,7 @@ def prove(name: str, crates: Iterable[str]) -> bool:
         status, said = progress.follow(crate, words, CRATES / crate)
         if status == 0:
             note(crate, sources)
-            progress.end(crate, "proved" if "logic=proved" in said else "was proved")
+            progress.end(crate, "proved" if PROVED in said else "was proved")
         elif not progress.ended.is_set():
             progress.say(f"{crate} is not proved, so nothing above it is:")
             print(said, end="", file=sys.stderr)
@@ -124,6 +131,44 @@ def prove(name: str, crates: Iterable[str]) -> bool:
         return all([*pool.map(build, lowest)]) and all(
             map(build, [crate for crate in crates if crate not in lowest])
         )
+
+
+def words_of_check(crate: str, kept: Path) -> list:
+    """A check of a crate, or of a copy of it, over the libraries that are built here, to be run in
+    its folder. `kept` is the folder of what earlier checks proved."""
+    root = f"src/{'lib' if is_library(crate) else 'main'}.rt"
+    built = {name: CRATES / name / "out/rlib" for name in below(crate)}
+    return check_words(crate, root, kept, built, uses_of(crate))
+
+
+def check_whole(crate: str) -> str:
+    """Checks a crate over the libraries that are built here, and keeps what it proves where `rt
+    check` does. Returns the last line, which the machine remembers where it says `proved`."""
+    kept = CRATES / crate / "out/incremental"
+    kept.mkdir(parents=True, exist_ok=True)
+    words, sources = words_of_check(crate, kept), sum_of_sources(crate)
+    ran = subprocess.run(
+        words,
+        cwd=CRATES / crate,
+        stdin=subprocess.DEVNULL,
+        stdout=subprocess.PIPE,
+        stderr=subprocess.STDOUT,
+        text=True,
+        errors="replace",
+    )
+    line = "".join(ran.stdout.splitlines()[-1:])
+    if line.startswith(PROVED) and sources == sum_of_sources(crate):
+        LAST_LINES.mkdir(parents=True, exist_ok=True)
+        (LAST_LINES / sources).write_text(line)
+    return line
+
+
+def last_line(crate: str) -> str:
+    """The last line of a check of a crate, by an earlier check on this machine or by one now."""
+    earlier = LAST_LINES / sum_of_sources(crate)
+    if earlier.is_file():
+        return earlier.read_text()
+    return check_whole(crate) if prove("check", below(crate)) else ""
 
 
 def fault_of_pack() -> str:

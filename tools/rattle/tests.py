@@ -1,13 +1,17 @@
 """Tests of the scripts of this folder: what their parsers read, and the mistakes that they find."""
+import contextlib
 import importlib.util
+import io
 import subprocess
 import sys
 import tempfile
+import time
 import unittest
 from collections.abc import Callable
 from importlib.machinery import SourceFileLoader
 from pathlib import Path
 from types import ModuleType
+from unittest import mock
 
 import edits
 import kit
@@ -256,7 +260,7 @@ class WrongBodies(Folder):
     def test_shares(self) -> None:
         """No edit is lost, and a large crate does not keep one lane busy alone."""
         for number, total, lanes, rooms in (
-            (187, 468, 4, 2),
+            (187, 468, 4, 4),
             (187, 468, 1, 1),
             (187, 187, 4, 4),
             (43, 43, 4, 2),
@@ -267,6 +271,51 @@ class WrongBodies(Folder):
             shares = wrong_bodies.shares_of(edits_of_crate, total, lanes)
             self.assertEqual(len(shares), rooms, number)
             self.assertEqual(sorted(sum(shares, [])), edits_of_crate)
+
+    def test_a_body_that_waits_for_another_is_tried_without_it(self) -> None:
+        """Each body passes where at most so many are tried at once."""
+        for limits, wanted in (
+            ({"a": 4, "b": 2, "c": 1, "d": 4}, ["abcd", "bc", "c"]),
+            ({"a": 1, "b": 1}, ["ab", "a", "b"]),
+            ({"a": 2, "b": 0}, ["ab", "b"]),
+        ):
+            bodies = [edits.WrongBody(self.path, name, 1) for name in limits]
+            sizes: list[str] = []
+
+            def check(_: object, tried: list) -> subprocess.CompletedProcess:
+                sizes.append("".join(body.name for body in tried))
+                return subprocess.CompletedProcess("", 1, "")
+
+            fault = lambda body, *_: "" if len(sizes[-1]) <= limits[body.name] else "missed"
+            stubs = {"fault_of": fault, "read_goals": lambda *_: True, "kept_sum": mock.Mock()}
+            room = wrong_bodies.Room("pair", self.crate, mock.Mock(now={}))
+            with mock.patch.multiple(wrong_bodies, **stubs), mock.patch.object(
+                wrong_bodies.Room, "check", check
+            ):
+                room.try_edits(bodies)
+            self.assertEqual(sizes, wanted)
+            self.assertEqual(room.tried, len(bodies))
+            wrong = [body.name for body in bodies if body.wrong]
+            self.assertEqual(wrong, [name for name in limits if limits[name] == 0])
+
+    def test_a_crate_with_several_rooms_is_proved_once_before_them(self) -> None:
+        [body], _ = edits.parse(self.path, BODY)
+        edits.read_edit(body)
+        done: list[str] = []
+
+        def prove(_: str) -> None:
+            time.sleep(0.1)
+            done.append("proved")
+
+        stubs = {"LANES": 3, "check_whole": prove, "planted_faults": lambda *_: []}
+        tries = lambda *_: done.append("tried")
+        with mock.patch.multiple(wrong_bodies, **stubs), mock.patch.object(
+            wrong_bodies.Room, "try_edits", tries
+        ), contextlib.redirect_stderr(io.StringIO()):
+            for number, wanted in ((45, ["proved", "tried", "tried"]), (30, ["tried"])):
+                done.clear()
+                wrong_bodies.try_all({"pair": [body] * number})
+                self.assertEqual(done, wanted)
 
     def test_planted_bodies_have_to_get_their_verdicts(self) -> None:
         """A prover that rejects all, and one that rejects nothing, are seen."""
