@@ -33,12 +33,11 @@ Plan = list[tuple[str, str]]
 
 OF_PACK = """\
 - These crates are proved, and their built forms came along, about {size} MB. Your checks
-  prove your functions alone, and trust those proofs: the line that begins with `logic=` says
-  `libraries-built=trusted`. `rt verdict` proves these crates again too."""
+  prove your functions alone, and trust those proofs. `rt verdict` proves these crates again too."""
 OF_CLONE = """\
 - These crates are proved in {root}. As long as that folder stays, `rt` takes the
-  proofs from there at your first check, and proves your functions alone: the line that begins
-  with `logic=` says `libraries-built=trusted`. `rt verdict` proves these crates again too."""
+  proofs from there at your first check, and proves your functions alone. `rt verdict` proves
+  these crates again too."""
 NOT_PROVED = """\
 - Not proved in {root}: {names}.
   {first} proves them once: about {time} on {number} processors, and up to 7 GB of memory.
