@@ -86,6 +86,26 @@ pub fn empty_texts(texts: &[ArcStr]) -> usize
     count
 }
 
+ghost use Rattle.std.specs.Prelude.{◌↔◌, IsSome};
+
+/// Returns how many whole rows of this many bytes the text fills; `None` exactly if rows have no
+/// bytes.
+///
+/// ```
+/// let text = ArcStr::from_static("abcde");
+/// assert_eq!(rt; rows_unless_empty(&text, 2), Some(2));
+/// assert_eq!(rt; rows_unless_empty(&text, 0), None);
+/// ```
+pub fn rows_unless_empty(text: &ArcStr, width: usize) -> Option<usize>
+    ensures some { IsSome result ↔ 0 < width }
+    ensures number { IfSome result (λ number. number ≡ length text.now.text / width) }
+{
+    match width {
+        0 => None,
+        positive => Some(rows(text, positive)),
+    }
+}
+
 use std::thread::Threads;
 use std::{io, thread};
 
