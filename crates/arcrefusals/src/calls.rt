@@ -52,15 +52,16 @@ pub(crate) trait Made: Drop {
 /// and what it must make: a text, and how many handles its block has. A row without a text is that
 /// of a function that marks the call and compares what it made.
 macro_rules! rows {
-    (@row $rt:expr, $line:expr, $call:expr, $wanted:expr, $handles:expr) => {
-        $crate::calls::again($rt, $line, $wanted, $handles, $call)
+    (@row $rt:expr, $printed:expr, $line:expr, $call:expr, $wanted:expr, $handles:expr) => {
+        $crate::calls::again($rt, $printed, $line, $wanted, $handles, $call)
     };
-    (@row $rt:expr, $line:expr, $call:expr) => {
-        $crate::calls::again_whole($rt, $line, $call)
+    (@row $rt:expr, $printed:expr, $line:expr, $call:expr) => {
+        $crate::calls::again_whole($rt, $printed, $line, $call)
     };
     ($rt:expr; $($($line:literal)+: $call:expr $(=> $wanted:expr, $handles:expr)?;)+) => {{
-        $(rows!(@row $rt, concat!($($line),+), $call $(, $wanted, $handles)?)?;)+
-        Ok(())
+        let mut printed: std::io::Result<()> = Ok(());
+        $(rows!(@row $rt, &mut printed, concat!($($line),+), $call $(, $wanted, $handles)?);)+
+        printed
     }};
 }
 
@@ -73,36 +74,45 @@ pub(crate) fn again<
     E: Into<Stop>,
     R: Machine,
     F: Copy + FnOnce(&mut G) -> Result<T, E>,
->(rt: &R, line: &str, wanted: &str, handles: usize, call: F) -> io::Result<()>
+>(rt: &R, printed: &mut io::Result<()>, line: &str, wanted: &str, handles: usize, call: F)
     requires { F.IsAlwaysCallable call }
 {
     for _ in 0..TRIES {
         match prepare_and_call(rt, wanted, handles, call) {
             Err(Stop::Refused) => {}
-            ended => return print(rt, line, ended),
+            ended => return print(rt, printed, line, ended),
         }
     }
-    print(rt, line, Err(Stop::Refused))
+    print(rt, printed, line, Err(Stop::Refused));
 }
 
 /// As `again`, for a call that prepares, marks and compares itself.
 pub(crate) fn again_whole<R: Machine, F: Copy + FnOnce() -> Result<(), Stop>>(
     rt: &R,
+    printed: &mut io::Result<()>,
     line: &str,
     call: F,
-) -> io::Result<()>
+)
     requires { F.IsAlwaysCallable call }
 {
     for _ in 0..TRIES {
         match call() {
             Err(Stop::Refused) => {}
-            ended => return print(rt, line, ended),
+            ended => return print(rt, printed, line, ended),
         }
     }
-    print(rt, line, Err(Stop::Refused))
+    print(rt, printed, line, Err(Stop::Refused));
 }
 
-fn print<R: Machine>(rt: &R, line: &str, ended: Result<(), Stop>) -> io::Result<()> {
+/// Prints the line of a call, and keeps the first failure to print.
+fn print<R: Machine>(rt: &R, printed: &mut io::Result<()>, line: &str, ended: Result<(), Stop>) {
+    let now = print_line(rt, line, ended);
+    if printed.is_ok() {
+        *printed = now;
+    }
+}
+
+fn print_line<R: Machine>(rt: &R, line: &str, ended: Result<(), Stop>) -> io::Result<()> {
     let stop = match ended {
         Ok(()) => return eprintln!(rt; "{line}"),
         Err(Stop::Refused) => "refused each time",
