@@ -46,11 +46,12 @@ pub(crate) trait Made: Drop {
     fn is(&self, wanted: &str, handles: usize) -> bool;
 }
 
-/// Makes the calls of a table, and prints the line of each. A row begins with the line: the name of
-/// a call, and what `refusals` counts in it, such as `[+6] [-6]` for 6 bytes that the call is given
-/// and the drop of what it made frees. Then come the call, as a closure of what is prepared for it,
-/// and what it must make: a text, and how many handles its block has. A row without a text is that
-/// of a function that marks the call and compares what it made.
+/// Makes the calls of a table, prints the line of each, and returns the first failure to print. A
+/// row begins with the line: the name of a call, and what `refusals` counts in it, such as
+/// `[+6] [-6]` for 6 bytes that the call is given and the drop of what it made frees. Then come the
+/// call, as a closure of what is prepared for it, and what it must make: a text, and how many
+/// handles its block has. A row without a text is that of a function that marks the call and
+/// compares what it made.
 macro_rules! rows {
     (@row $rt:expr, $printed:expr, $line:expr, $call:expr, $wanted:expr, $handles:expr) => {
         $crate::calls::again($rt, $printed, $line, $wanted, $handles, $call)
