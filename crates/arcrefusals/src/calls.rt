@@ -1,10 +1,9 @@
 //! Makes a call of the library until it is not refused, and says why it was not completed and
 //! compared.
-use crate::{histories, sharing, without_memory};
 use arcbench_core::pool::PoolFault;
 use arcbench_core::script::CopyFault;
 use arcintern::InternFault;
-use arcstr::{ArcStr, JsonFault, ReadFault, TextFault};
+use arcstr::{ArcStr, JsonFault, RangeFault, ReadFault, TextFault};
 use arcstr_world::RunFault;
 use std::alloc::AllocError;
 use std::io;
@@ -27,16 +26,16 @@ pub(crate) trait Given: Drop {
     fn prepare<R: Machine>(rt: &R) -> Result<Self, Stop>;
 
     /// Whether it is as it was prepared, after a refusal and once what was made is dropped.
-    fn is_unchanged<R: Machine>(&self, rt: &R) -> bool;
+    fn is_unchanged(&self) -> bool;
 }
 
-/// Calls that need nothing.
+/// For calls that need nothing.
 impl Given for () {
     fn prepare<R: Machine>(_rt: &R) -> Result<(), Stop> {
         Ok(())
     }
 
-    fn is_unchanged<R: Machine>(&self, _rt: &R) -> bool {
+    fn is_unchanged(&self) -> bool {
         true
     }
 }
@@ -47,57 +46,74 @@ pub(crate) trait Made: Drop {
     fn is(&self, wanted: &str, handles: usize) -> bool;
 }
 
-/// Calls that make one type of another.
-pub(crate) trait Calls<G>: Made {
-    /// Makes the call of this number.
-    fn call<R: Machine>(rt: &R, given: &mut G, number: usize) -> Result<Self, Stop>;
+/// Makes the calls of a table, prints the line of each, and returns the first failure to print. A
+/// row begins with the line: the name of a call, and what `refusals` counts in it, such as
+/// `[+6] [-6]` for 6 bytes that the call is given and the drop of what it made frees. Then come the
+/// call, as a closure of what is prepared for it, and what it must make: a text, and how many
+/// handles its block has. A row without a text is that of a function that marks the call and
+/// compares what it made.
+macro_rules! rows {
+    (@row $rt:expr, $printed:expr, $line:expr, $call:expr, $wanted:expr, $handles:expr) => {
+        $crate::calls::again($rt, $printed, $line, $wanted, $handles, $call)
+    };
+    (@row $rt:expr, $printed:expr, $line:expr, $call:expr) => {
+        $crate::calls::again_whole($rt, $printed, $line, $call)
+    };
+    ($rt:expr; $($($line:literal)+: $call:expr $(=> $wanted:expr, $handles:expr)?;)+) => {{
+        let mut printed: std::io::Result<()> = Ok(());
+        $(rows!(@row $rt, &mut printed, concat!($($line),+), $call $(, $wanted, $handles)?);)+
+        printed
+    }};
 }
 
-/// Makes the call of this number until it is not refused, compares and drops what it made, and
-/// prints its line.
-pub(crate) fn again<G: Given, T: Calls<G>, R: Machine>(
+pub(crate) use rows;
+
+/// Makes a call until it is not refused, compares and drops what it made, and prints its line.
+pub(crate) fn again<
+    G: Given,
+    T: Made,
+    E: Into<Stop>,
+    R: Machine,
+    F: Copy + FnOnce(&mut G) -> Result<T, E>,
+>(rt: &R, printed: &mut io::Result<()>, line: &str, wanted: &str, handles: usize, call: F)
+    requires { F.IsAlwaysCallable call }
+{
+    for _ in 0..TRIES {
+        match prepare_and_call(rt, wanted, handles, call) {
+            Err(Stop::Refused) => {}
+            ended => return print(rt, printed, line, ended),
+        }
+    }
+    print(rt, printed, line, Err(Stop::Refused));
+}
+
+/// As `again`, for a call that prepares, marks and compares itself.
+pub(crate) fn again_whole<R: Machine, F: Copy + FnOnce() -> Result<(), Stop>>(
     rt: &R,
+    printed: &mut io::Result<()>,
     line: &str,
-    number: usize,
-    wanted: &str,
-    handles: usize,
-) -> io::Result<()> {
+    call: F,
+)
+    requires { F.IsAlwaysCallable call }
+{
     for _ in 0..TRIES {
-        match prepare_and_call::<G, T, R>(rt, number, wanted, handles) {
+        match call() {
             Err(Stop::Refused) => {}
-            ended => return print(rt, line, ended),
+            ended => return print(rt, printed, line, ended),
         }
     }
-    print(rt, line, Err(Stop::Refused))
+    print(rt, printed, line, Err(Stop::Refused));
 }
 
-/// As `again`, for calls with functions of their own: those with nothing to drop, and those in
-/// threads.
-pub(crate) fn again_whole<R: Machine>(rt: &R, line: &str, number: usize) -> io::Result<()> {
-    for _ in 0..TRIES {
-        match call_whole(rt, number) {
-            Err(Stop::Refused) => {}
-            ended => return print(rt, line, ended),
-        }
-    }
-    print(rt, line, Err(Stop::Refused))
-}
-
-fn call_whole<R: Machine>(rt: &R, number: usize) -> Result<(), Stop> {
-    match number {
-        0 => without_memory::leak(rt),
-        1 => without_memory::compare_texts(rt),
-        2 => without_memory::hash(rt),
-        3 => without_memory::ends(rt),
-        4 => histories::steps_of_a_world(rt),
-        5 => histories::copy_of_a_script(rt),
-        6 => sharing::callers_in_threads(rt),
-        7 => sharing::words_in_threads(rt),
-        _ => sharing::words_behind_a_gate(rt),
+/// Prints the line of a call, and keeps the first failure to print.
+fn print<R: Machine>(rt: &R, printed: &mut io::Result<()>, line: &str, ended: Result<(), Stop>) {
+    let now = print_line(rt, line, ended);
+    if printed.is_ok() {
+        *printed = now;
     }
 }
 
-fn print<R: Machine>(rt: &R, line: &str, ended: Result<(), Stop>) -> io::Result<()> {
+fn print_line<R: Machine>(rt: &R, line: &str, ended: Result<(), Stop>) -> io::Result<()> {
     let stop = match ended {
         Ok(()) => return eprintln!(rt; "{line}"),
         Err(Stop::Refused) => "refused each time",
@@ -107,18 +123,26 @@ fn print<R: Machine>(rt: &R, line: &str, ended: Result<(), Stop>) -> io::Result<
     println!(rt; "{line}: not so: {stop}")
 }
 
-fn prepare_and_call<G: Given, T: Calls<G>, R: Machine>(
-    rt: &R,
-    number: usize,
-    wanted: &str,
-    handles: usize,
-) -> Result<(), Stop> {
+fn prepare_and_call<
+    G: Given,
+    T: Made,
+    E: Into<Stop>,
+    R: Machine,
+    F: Copy + FnOnce(&mut G) -> Result<T, E>,
+>(rt: &R, wanted: &str, handles: usize, call: F) -> Result<(), Stop>
+    requires { F.IsAlwaysCallable call }
+{
     let mut given = G::prepare(rt)?;
     for _ in 0..TRIES {
         mark(rt);
-        let made = T::call(rt, &mut given, number);
+        let made = call(&mut given);
         mark(rt);
-        match compare(rt, &given, made, wanted, handles) {
+        let ended = match made {
+            Ok(made) => compare_and_drop(rt, made, wanted, handles),
+            Err(fault) => Err(fault.into()),
+        };
+        check(given.is_unchanged())?;
+        match ended {
             Err(Stop::Refused) => {}
             ended => return ended,
         }
@@ -126,27 +150,18 @@ fn prepare_and_call<G: Given, T: Calls<G>, R: Machine>(
     Err(Stop::Refused)
 }
 
-/// Compares what a call made, if it was not refused, drops it as a counted call of its own, and
-/// compares what the call was given.
-pub(crate) fn compare<G: Given, T: Made, R: Machine>(
+/// Compares what a call made, and drops it as a counted part of its own.
+fn compare_and_drop<T: Made, R: Print>(
     rt: &R,
-    given: &G,
-    made: Result<T, Stop>,
+    made: T,
     wanted: &str,
     handles: usize,
 ) -> Result<(), Stop> {
-    let ended = match made {
-        Ok(made) => {
-            let is_right = made.is(wanted, handles);
-            mark(rt);
-            drop(made);
-            mark(rt);
-            check(is_right)
-        }
-        Err(stop) => Err(stop),
-    };
-    check(given.is_unchanged(rt))?;
-    ended
+    let is_right = made.is(wanted, handles);
+    mark(rt);
+    drop(made);
+    mark(rt);
+    check(is_right)
 }
 
 /// Shows the script `refusals` where a counted call begins or ends, by a write of zero bytes to
@@ -196,6 +211,12 @@ impl From<AllocError> for Stop {
 impl From<TextFault> for Stop {
     fn from(fault: TextFault) -> Stop {
         of_fault(fault == TextFault::Memory)
+    }
+}
+
+impl From<RangeFault> for Stop {
+    fn from(_: RangeFault) -> Stop {
+        Stop::Fault
     }
 }
 

@@ -1,29 +1,70 @@
 //! Calls that copy a shared text or a JSON value. A refusal leaves what they copy unchanged, and
 //! they then copy it again.
-use crate::calls::{Calls, Given, Machine, Made, Stop, again, check, is_text};
+use crate::calls::{Given, Machine, Made, Stop, check, is_text, rows};
 use arcstr::{ArcStr, Substr};
 use serde_json::{ToValue, Value};
 use std::borrow::CowStr;
 use std::io;
 
 pub(crate) fn run<R: Machine>(rt: &R) -> io::Result<()> {
-    again::<ArcStr, String, R>(rt, "ArcStr::to_string", 0, "foobar", 1)?;
-    again::<ArcStr, Value, R>(rt, "ArcStr::to_json", 0, "foobar", 1)?;
-    again::<ArcStr, String, R>(rt, "ArcStr::into_cow", 1, "foobar", 1)?;
-    again::<Value, ArcStr, R>(rt, "ArcStr::from_json", 0, "foobar", 1)?;
-    again::<Substr, String, R>(rt, "Substr::to_string", 0, "bar", 1)?;
-    again::<Substr, Value, R>(rt, "Substr::to_json", 0, "bar", 1)?;
-    again::<Substr, String, R>(rt, "Substr::into_cow", 1, "bar", 1)?;
-    again::<Value, Substr, R>(rt, "Substr::from_json", 0, "foobar", 1)?;
-    again::<Substr, ArcStr, R>(rt, "Substr::to_arc_str", 0, "bar", 1)?;
-    again::<ArcStr, ArcStr, R>(rt, "ArcStr::from_iter of texts", 1, "foobarfoobar", 1)?;
-    again::<Substr, ArcStr, R>(rt, "ArcStr::from_iter of slices", 1, "barbar", 1)?;
-    again::<ArcStr, String, R>(rt, "String::from_iter of texts", 2, "foobarfoobar", 1)?;
-    again::<Substr, String, R>(rt, "String::extend by slices", 2, "barbar", 1)?;
-    again::<ArcStr, Value, R>(rt, "ArcStr::to_value", 1, "foobar", 1)?;
-    again::<Substr, Value, R>(rt, "Substr::to_value", 1, "bar", 1)?;
-    again::<ArcStr, toml::Value, R>(rt, "ArcStr::to_value of toml", 0, "foobar", 1)?;
-    again::<Substr, toml::Value, R>(rt, "Substr::to_value of toml", 0, "bar", 1)
+    copy_texts(rt)?;
+    copy_slices(rt)?;
+    copy_values(rt)
+}
+
+fn copy_texts<R: Machine>(rt: &R) -> io::Result<()> {
+    let alloc = rt.alloc();
+    rows! { rt;
+        "ArcStr::to_string: [+6] [-6]":
+            |text: &mut ArcStr| ArcStr::to_string(text, alloc) => "foobar", 1;
+        "ArcStr::to_json: [+6] [-6]":
+            |text: &mut ArcStr| text.to_json(alloc) => "foobar", 1;
+        "ArcStr::to_value: [+6] [-6]":
+            |text: &mut ArcStr| ToValue::to_value(&*text, alloc) => "foobar", 1;
+        "ArcStr::to_value of toml: [+6] [-6]":
+            |text: &mut ArcStr| toml::macros::ToValue::to_value(&*text, alloc) => "foobar", 1;
+        "ArcStr::into_cow: [+6] [-6]":
+            |text: &mut ArcStr| string_of_text(rt, text) => "foobar", 1;
+        "ArcStr::from_iter of texts: [+8 +16 +32 -8 -16] [-32]":
+            |text: &mut ArcStr| two_texts(rt, text).into_iter().collect::<ArcStr>(alloc) =>
+                "foobarfoobar", 1;
+        "String::from_iter of texts: [+8 +16 -8] [-16]":
+            |text: &mut ArcStr| two_texts(rt, text).into_iter().collect::<String>(alloc) =>
+                "foobarfoobar", 1;
+    }
+}
+
+fn copy_slices<R: Machine>(rt: &R) -> io::Result<()> {
+    let alloc = rt.alloc();
+    rows! { rt;
+        "Substr::to_string: [+3] [-3]":
+            |slice: &mut Substr| Substr::to_string(slice, alloc) => "bar", 1;
+        "Substr::to_json: [+3] [-3]":
+            |slice: &mut Substr| slice.to_json(alloc) => "bar", 1;
+        "Substr::to_value: [+3] [-3]":
+            |slice: &mut Substr| ToValue::to_value(&*slice, alloc) => "bar", 1;
+        "Substr::to_value of toml: [+3] [-3]":
+            |slice: &mut Substr| toml::macros::ToValue::to_value(&*slice, alloc) => "bar", 1;
+        "Substr::into_cow: [+3] [-3]":
+            |slice: &mut Substr| string_of_slice(rt, slice) => "bar", 1;
+        "Substr::to_arc_str: [+24] [-24]":
+            |slice: &mut Substr| slice.to_arc_str(alloc) => "bar", 1;
+        "ArcStr::from_iter of slices: [+8 +24 -8] [-24]":
+            |slice: &mut Substr| two_slices(rt, slice).into_iter().collect::<ArcStr>(alloc) =>
+                "barbar", 1;
+        "String::extend by slices: [+8] [-8]":
+            |slice: &mut Substr| extended_string(rt, slice) => "barbar", 1;
+    }
+}
+
+fn copy_values<R: Machine>(rt: &R) -> io::Result<()> {
+    let alloc = rt.alloc();
+    rows! { rt;
+        "ArcStr::from_json: [+24] [-24]":
+            |value: &mut Value| ArcStr::from_json(alloc, value) => "foobar", 1;
+        "Substr::from_json: [+24] [-24]":
+            |value: &mut Value| Substr::from_json(alloc, value) => "foobar", 1;
+    }
 }
 
 impl Given for ArcStr {
@@ -31,7 +72,7 @@ impl Given for ArcStr {
         Ok(ArcStr::from_str(rt.alloc(), "foobar")?)
     }
 
-    fn is_unchanged<R: Machine>(&self, _rt: &R) -> bool {
+    fn is_unchanged(&self) -> bool {
         is_text(self, "foobar", 1)
     }
 }
@@ -43,7 +84,7 @@ impl Given for Substr {
         Ok(Substr::from_parts_unchecked(parent, 3..6))
     }
 
-    fn is_unchanged<R: Machine>(&self, _rt: &R) -> bool {
+    fn is_unchanged(&self) -> bool {
         self.is("bar", 1)
     }
 }
@@ -53,7 +94,7 @@ impl Given for Value {
         Ok(Value::try_from_str(rt.alloc(), "foobar")?)
     }
 
-    fn is_unchanged<R: Machine>(&self, _rt: &R) -> bool {
+    fn is_unchanged(&self) -> bool {
         self.is("foobar", 1)
     }
 }
@@ -76,41 +117,23 @@ impl Made for toml::Value {
     }
 }
 
-impl Calls<ArcStr> for String {
-    fn call<R: Machine>(rt: &R, text: &mut ArcStr, number: usize) -> Result<String, Stop> {
-        match number {
-            0 => return Ok(ArcStr::to_string(text, rt.alloc())?),
-            2 => return Ok(
-                [text.clone(rt), text.clone(rt)]
-                    .into_iter()
-                    .collect::<String>(rt.alloc())?,
-            ),
-            _ => {}
-        }
-        match text.clone(rt).into_cow(rt.alloc()) {
-            Ok(CowStr::Owned(copy)) => Ok(copy),
-            Ok(CowStr::Borrowed(_)) => Err(Stop::Differs),
-            Err(back) => refused_if(is_text(&back, "foobar", 2)),
-        }
+fn two_texts<R: Machine>(rt: &R, text: &ArcStr) -> [ArcStr; 2] {
+    [text.clone(rt), text.clone(rt)]
+}
+
+fn string_of_text<R: Machine>(rt: &R, text: &ArcStr) -> Result<String, Stop> {
+    match text.clone(rt).into_cow(rt.alloc()) {
+        Ok(CowStr::Owned(copy)) => Ok(copy),
+        Ok(CowStr::Borrowed(_)) => Err(Stop::Differs),
+        Err(back) => refused_if(is_text(&back, "foobar", 2)),
     }
 }
 
-impl Calls<Substr> for String {
-    fn call<R: Machine>(rt: &R, slice: &mut Substr, number: usize) -> Result<String, Stop> {
-        match number {
-            0 => return Ok(Substr::to_string(slice, rt.alloc())?),
-            2 => {
-                let mut all = String::new(rt.alloc());
-                all.extend([slice.clone(rt), slice.clone(rt)])?;
-                return Ok(all);
-            }
-            _ => {}
-        }
-        match slice.clone(rt).into_cow(rt.alloc()) {
-            Ok(CowStr::Owned(copy)) => Ok(copy),
-            Ok(CowStr::Borrowed(_)) => Err(Stop::Differs),
-            Err(back) => refused_if(back.is("bar", 2)),
-        }
+fn string_of_slice<R: Machine>(rt: &R, slice: &Substr) -> Result<String, Stop> {
+    match slice.clone(rt).into_cow(rt.alloc()) {
+        Ok(CowStr::Owned(copy)) => Ok(copy),
+        Ok(CowStr::Borrowed(_)) => Err(Stop::Differs),
+        Err(back) => refused_if(back.is("bar", 2)),
     }
 }
 
@@ -120,61 +143,12 @@ fn refused_if(is_unchanged: bool) -> Result<String, Stop> {
     Err(Stop::Refused)
 }
 
-impl Calls<ArcStr> for Value {
-    fn call<R: Machine>(rt: &R, text: &mut ArcStr, number: usize) -> Result<Value, Stop> {
-        if number == 0 {
-            return Ok(text.to_json(rt.alloc())?);
-        }
-        let text: &ArcStr = text;
-        Ok(text.to_value(rt.alloc())?)
-    }
+fn two_slices<R: Machine>(rt: &R, slice: &Substr) -> [Substr; 2] {
+    [slice.clone(rt), slice.clone(rt)]
 }
 
-impl Calls<Substr> for Value {
-    fn call<R: Machine>(rt: &R, slice: &mut Substr, number: usize) -> Result<Value, Stop> {
-        if number == 0 {
-            return Ok(slice.to_json(rt.alloc())?);
-        }
-        let slice: &Substr = slice;
-        Ok(slice.to_value(rt.alloc())?)
-    }
-}
-
-impl Calls<ArcStr> for toml::Value {
-    fn call<R: Machine>(rt: &R, text: &mut ArcStr, _: usize) -> Result<toml::Value, Stop> {
-        let text: &ArcStr = text;
-        Ok(toml::macros::ToValue::to_value(text, rt.alloc())?)
-    }
-}
-
-impl Calls<Substr> for toml::Value {
-    fn call<R: Machine>(rt: &R, slice: &mut Substr, _: usize) -> Result<toml::Value, Stop> {
-        let slice: &Substr = slice;
-        Ok(toml::macros::ToValue::to_value(slice, rt.alloc())?)
-    }
-}
-
-impl Calls<Value> for ArcStr {
-    fn call<R: Machine>(rt: &R, value: &mut Value, _: usize) -> Result<ArcStr, Stop> {
-        Ok(ArcStr::from_json(rt.alloc(), value)?)
-    }
-}
-
-impl Calls<Value> for Substr {
-    fn call<R: Machine>(rt: &R, value: &mut Value, _: usize) -> Result<Substr, Stop> {
-        Ok(Substr::from_json(rt.alloc(), value)?)
-    }
-}
-
-impl Calls<Substr> for ArcStr {
-    fn call<R: Machine>(rt: &R, slice: &mut Substr, number: usize) -> Result<ArcStr, Stop> {
-        if number == 0 {
-            return Ok(slice.to_arc_str(rt.alloc())?);
-        }
-        Ok(
-            [slice.clone(rt), slice.clone(rt)]
-                .into_iter()
-                .collect::<ArcStr>(rt.alloc())?,
-        )
-    }
+fn extended_string<R: Machine>(rt: &R, slice: &Substr) -> Result<String, Stop> {
+    let mut all = String::new(rt.alloc());
+    all.extend(two_slices(rt, slice))?;
+    Ok(all)
 }

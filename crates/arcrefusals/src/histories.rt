@@ -1,5 +1,5 @@
 //! Calls on histories of steps, and on scripts of them.
-use crate::calls::{Calls, Machine, Made, Stop, TRIES, again, again_whole, check, mark};
+use crate::calls::{Machine, Made, Stop, TRIES, check, mark, rows};
 use arcbench_core::port::Port;
 use arcbench_core::script::{answer, copy};
 use arcstr::count::{Reply, Step};
@@ -49,21 +49,23 @@ const SCRIPT: &[u8] = b"limit 5\nmake\nclone 0\nlook 1\nback\n";
 const ANSWER: &str = "made 0\nhandle 1\ncount 2\nbad\n";
 
 pub(crate) fn run<R: Machine>(rt: &R) -> io::Result<()> {
-    again::<(), Vec<Reply>, R>(rt, "run", 0, "", 0)?;
-    again_whole(rt, "World::step", 4)?;
-    again::<(), Vec<u8>, R>(rt, "script::answer", 0, ANSWER, 0)?;
-    again_whole(rt, "script::copy", 5)
+    let alloc = rt.alloc();
+    rows! { rt;
+        "run: [+64 +64 +64 +128 +128 +128 +256 +256 -64 -64 -64 -128 -128 -128 -256] [-256]":
+            |_: &mut ()| arcstr_world::run(alloc, LIMIT, &STEPS) => "", 0;
+        "World::step: [+64 +64] [] [] [] [] [] [] [+128 -64] [] [] [+128 -64] [+256 -128] [] []"
+        " [-128 -256]":
+            || steps_of_a_world(rt);
+        "script::answer: [+8 +16 +32 +64 +64 -8 -16 -64 -64] [-32]":
+            |_: &mut ()| answer(alloc, SCRIPT) => ANSWER, 0;
+        "script::copy: [+8 +16 +32 +33 +64 +64 -8 -16 -32 -33 -64 -64]":
+            || copy_of_a_script(rt);
+    }
 }
 
 impl Made for Vec<Reply> {
     fn is(&self, _wanted: &str, _handles: usize) -> bool {
         self.as_slice() == REPLIES.as_slice()
-    }
-}
-
-impl Calls<()> for Vec<Reply> {
-    fn call<R: Machine>(rt: &R, _: &mut (), _: usize) -> Result<Vec<Reply>, Stop> {
-        Ok(arcstr_world::run(rt.alloc(), LIMIT, &STEPS)?)
     }
 }
 
@@ -73,14 +75,8 @@ impl Made for Vec<u8> {
     }
 }
 
-impl Calls<()> for Vec<u8> {
-    fn call<R: Machine>(rt: &R, _: &mut (), _: usize) -> Result<Vec<u8>, Stop> {
-        Ok(answer(rt.alloc(), SCRIPT)?)
-    }
-}
-
 /// Takes each step, and repeats it while it is refused.
-pub(crate) fn steps_of_a_world<R: AllocGlobal + Print>(rt: &R) -> Result<(), Stop> {
+fn steps_of_a_world<R: AllocGlobal + Print>(rt: &R) -> Result<(), Stop> {
     let mut world = World::new(rt.alloc(), LIMIT)?;
     let ended = take_steps(rt, &mut world);
     mark(rt);
@@ -126,7 +122,7 @@ fn shown(world: &mut World<Global>) -> Result<([Reply; 9], [u64; 6]), Stop> {
 
 /// Calls `copy` with a buffer of the answer's length as output. Nothing is written there if the
 /// call is refused.
-pub(crate) fn copy_of_a_script<R: AllocGlobal + Print>(rt: &R) -> Result<(), Stop> {
+fn copy_of_a_script<R: AllocGlobal + Print>(rt: &R) -> Result<(), Stop> {
     let mut room = [0; 28];
     let mut input = Port::new(SCRIPT);
     let mut output = Port::new(room.as_mut_slice());

@@ -1,6 +1,6 @@
 //! Calls of an interner, with and without texts. A refusal leaves its texts as they were, and the
 //! same call then succeeds.
-use crate::calls::{Calls, Given, Machine, Made, Stop, again, check, count, is_text};
+use crate::calls::{Given, Machine, Made, Stop, check, count, is_text, rows};
 use arcintern::{Interner, SharedInterner, SharedSymbol, Symbol, SymbolMap, WordList};
 use arcstr::{ArcStr, Substr};
 use std::alloc::{AllocError, Global};
@@ -11,32 +11,89 @@ use std::{io, mem};
 const FULL: usize = 12;
 
 pub(crate) fn run<R: Machine>(rt: &R) -> io::Result<()> {
-    again::<(), Interner, R>(rt, "Interner::with_capacity", 0, "", 0)?;
-    again::<Room, Interner, R>(rt, "Interner::intern_arc where there is room", 0, "99", 2)?;
-    again::<Words<0>, Interner, R>(rt, "Interner::intern", 0, "foobar", 1)?;
-    again::<Words<FULL>, Interner, R>(rt, "Interner::intern with a full table", 0, "foobar", 1)?;
-    again::<Handles, Interner, R>(rt, "Interner::intern_arc", 0, "foobar", 3)?;
-    again::<Handles, Interner, R>(rt, "Interner::intern_substr", 1, "foo", 1)?;
-    again::<(), Interner, R>(rt, "Interner::deserialize", 1, "foobar", 1)?;
-    again::<Listed<0>, WordList, R>(rt, "WordList::intern", 0, "foobar", 0)?;
-    again::<(), WordList, R>(rt, "WordList::with_capacity", 0, "", 0)?;
-    again::<(), WordList, R>(rt, "WordList::deserialize", 1, "foobar", 0)?;
-    again::<ListRoom, WordList, R>(rt, "WordList::intern where there is room", 0, DIGITS, 0)?;
-    let line = "WordList::intern with a full table";
-    again::<Listed<FULL>, WordList, R>(rt, line, 0, "foobar", 0)?;
-    again::<Mapped, SymbolMap<u64>, R>(rt, "SymbolMap::insert", 0, "", 0)?;
-    again::<Mapped, SymbolMap<u64>, R>(rt, "SymbolMap::or_insert", 1, "", 0)?;
-    again::<(), SharedInterner, R>(rt, "SharedInterner::new", 0, "", 0)?;
-    again::<(), SharedInterner, R>(rt, "SharedInterner::with_capacity", 1, "", 0)?;
-    let line = "SharedInterner::intern_arc where there is room";
-    again::<SharedRoom, SharedInterner, R>(rt, line, 0, "", 0)?;
-    again::<SharedWords<0>, SharedInterner, R>(rt, "SharedInterner::intern", 0, "", 0)?;
-    let line = "SharedInterner::intern with a full table";
-    again::<SharedWords<FULL>, SharedInterner, R>(rt, line, 0, "", 0)?;
-    again::<SharedWords<FULL>, SharedInterner, R>(rt, "SharedInterner::intern_static", 1, "", 0)?;
-    let line = "SharedInterner::intern of a known word";
-    again::<SharedWords<FULL>, SharedInterner, R>(rt, line, 2, "", 0)?;
-    again::<SharedWords<FULL>, Interner, R>(rt, "SharedInterner::into_interner", 0, "11", 1)
+    fill_interners(rt)?;
+    fill_lists(rt)?;
+    fill_maps(rt)?;
+    make_shared(rt)?;
+    fill_shared(rt)
+}
+
+fn fill_interners<R: Machine>(rt: &R) -> io::Result<()> {
+    let alloc = rt.alloc();
+    rows! { rt;
+        "Interner::with_capacity: [+2304 +2400] [-2304 -2400]":
+            |_: &mut ()| Interner::with_capacity(alloc, 100) => "", 0;
+        "Interner::intern_arc where there is room: [] [-2304 -2400]":
+            |room: &mut Room| intern_all(rt, room) => "99", 2;
+        "Interner::intern: [+24 +96 +160] [-24 -96 -160]":
+            |words: &mut Words<0>| intern(words) => "foobar", 1;
+        "Interner::intern with a full table: [+24 +320 -160] [-24 -24 -24 -24 -24 -24 -24 -24 -24"
+        " -24 -24 -24 -24 -320 -360]":
+            |words: &mut Words<FULL>| intern(words) => "foobar", 1;
+        "Interner::intern_arc: [+96 +160] [-96 -160]":
+            |given: &mut Handles| intern_text(rt, given) => "foobar", 3;
+        "Interner::intern_substr: [+24 +96 +160] [-24 -96 -160]":
+            |given: &mut Handles| intern_slice(rt, given) => "foo", 1;
+        "Interner::deserialize: [+6 +10 +24 +96 +128 +160 -6 -10 -128] [-24 -96 -160]":
+            |_: &mut ()| serde_json::from_str::<Interner>(alloc, "[\"foobar\"]") => "foobar", 1;
+    }
+}
+
+fn fill_lists<R: Machine>(rt: &R) -> io::Result<()> {
+    let alloc = rt.alloc();
+    rows! { rt;
+        "WordList::intern: [+8 +16 +160] [-8 -16 -160]":
+            |words: &mut Listed<0>| list(words) => "foobar", 0;
+        "WordList::with_capacity: [+200 +1275 +1280] [-200 -1275 -1280]":
+            |_: &mut ()| WordList::with_capacity(alloc, 50, 1275) => "", 0;
+        "WordList::deserialize: [+6 +8 +10 +16 +128 +160 -6 -10 -128] [-8 -16 -160]":
+            |_: &mut ()| serde_json::from_str::<WordList>(alloc, "[\"foobar\"]") => "foobar", 0;
+        "WordList::intern where there is room: [] [-200 -1275 -1280]":
+            |room: &mut ListRoom| list_all(rt, room) => DIGITS, 0;
+        "WordList::intern with a full table: [+32 +320 -16 -160] [-32 -64 -320]":
+            |words: &mut Listed<FULL>| list(words) => "foobar", 0;
+    }
+}
+
+fn fill_maps<R: Machine>(rt: &R) -> io::Result<()> {
+    rows! { rt;
+        "SymbolMap::insert: [+208 -64] [-208]":
+            |given: &mut Mapped| insert(rt, given) => "", 0;
+        "SymbolMap::or_insert: [+208 -64] [-208]":
+            |given: &mut Mapped| or_insert(rt, given) => "", 0;
+    }
+}
+
+fn make_shared<R: Machine>(rt: &R) -> io::Result<()> {
+    let alloc = rt.alloc();
+    rows! { rt;
+        "SharedInterner::new: [+2320 +111104] [-2320 -111104]":
+            |_: &mut ()| SharedInterner::new(alloc, 64) => "", 0;
+        "SharedInterner::with_capacity: [+1024 +1024 +1280 +2320 +2560 +3472 +5120] [-1024 -1024"
+        " -1280 -2320 -2560 -3472 -5120]":
+            |_: &mut ()| SharedInterner::with_capacity(alloc, 2, 100) => "", 0;
+    }
+}
+
+fn fill_shared<R: Machine>(rt: &R) -> io::Result<()> {
+    rows! { rt;
+        "SharedInterner::intern_arc where there is room: [] [-1280 -1736 -2048 -2320 -2560 -5120]":
+            |room: &mut SharedRoom| share_all(rt, room) => "", 100;
+        "SharedInterner::intern: [+24 +128 +1280] [-24 -128 -1280 -1736 -2320]":
+            |words: &mut SharedWords<0>| share(rt, words) => "", 1;
+        "SharedInterner::intern with a full table: [+24 +256] [-24 -24 -24 -24 -24 -24 -24 -24 -24"
+        " -24 -24 -24 -24 -128 -256 -1280 -1736 -2320]":
+            |words: &mut SharedWords<FULL>| share(rt, words) => "", 13;
+        "SharedInterner::intern_static: [+256] [-24 -24 -24 -24 -24 -24 -24 -24 -24 -24 -24 -24"
+        " -128 -256 -1280 -1736 -2320]":
+            |words: &mut SharedWords<FULL>| share_literal(rt, words) => "", 13;
+        "SharedInterner::intern of a known word: [] [-24 -24 -24 -24 -24 -24 -24 -24 -24 -24 -24"
+        " -24 -128 -1280 -1736 -2320]":
+            |words: &mut SharedWords<FULL>| share_known(rt, words) => "", 12;
+        "SharedInterner::into_interner: [+160 +288 -128 -1280 -1736 -2320] [-24 -24 -24 -24 -24 -24"
+        " -24 -24 -24 -24 -24 -24 -160 -288]":
+            |words: &mut SharedWords<FULL>| take_all(rt, words) => "11", 1;
+    }
 }
 
 /// An interner whose last text is this one, or which has none if the text is empty.
@@ -45,15 +102,6 @@ impl Made for Interner {
         match self.iter().last() {
             None => wanted.is_empty(),
             Some(text) => is_text(text, wanted, handles),
-        }
-    }
-}
-
-impl Calls<()> for Interner {
-    fn call<R: Machine>(rt: &R, _: &mut (), number: usize) -> Result<Interner, Stop> {
-        match number {
-            0 => Ok(Interner::with_capacity(rt.alloc(), 100)?),
-            _ => Ok(serde_json::from_str(rt.alloc(), "[\"foobar\"]")?),
         }
     }
 }
@@ -82,18 +130,16 @@ impl Given for Room {
         Ok(Room { texts, interner })
     }
 
-    fn is_unchanged<R: Machine>(&self, _rt: &R) -> bool {
+    fn is_unchanged(&self) -> bool {
         self.interner.is_empty()
     }
 }
 
-impl Calls<Room> for Interner {
-    fn call<R: Machine>(rt: &R, room: &mut Room, _: usize) -> Result<Interner, Stop> {
-        for text in &room.texts {
-            room.interner.intern_arc(rt, text)?;
-        }
-        Ok(mem::replace(&mut room.interner, Interner::new(rt.alloc())))
+fn intern_all<R: Machine>(rt: &R, room: &mut Room) -> Result<Interner, Stop> {
+    for text in &room.texts {
+        room.interner.intern_arc(rt, text)?;
     }
+    Ok(mem::replace(&mut room.interner, Interner::new(rt.alloc())))
 }
 
 /// An interner with so many texts. A call that succeeds takes it.
@@ -109,7 +155,7 @@ impl<const TEXTS: usize> Given for Words<TEXTS> {
         Ok(Words(Some(interner)))
     }
 
-    fn is_unchanged<R: Machine>(&self, _rt: &R) -> bool {
+    fn is_unchanged(&self) -> bool {
         match &self.0 {
             None => true,
             Some(interner) => interner.len() == TEXTS && interner.get("foobar").is_none(),
@@ -117,14 +163,12 @@ impl<const TEXTS: usize> Given for Words<TEXTS> {
     }
 }
 
-impl<const TEXTS: usize> Calls<Words<TEXTS>> for Interner {
-    fn call<R: Machine>(_rt: &R, words: &mut Words<TEXTS>, _: usize) -> Result<Interner, Stop> {
-        if let Some(interner) = words.0.as_mut() {
-            let symbol = interner.intern("foobar")?;
-            check(symbol.index() == TEXTS && interner.get("foobar") == Some(symbol))?;
-        }
-        words.0.take().ok_or(Stop::Differs)
+fn intern<const TEXTS: usize>(words: &mut Words<TEXTS>) -> Result<Interner, Stop> {
+    if let Some(interner) = words.0.as_mut() {
+        let symbol = interner.intern("foobar")?;
+        check(symbol.index() == TEXTS && interner.get("foobar") == Some(symbol))?;
     }
+    words.0.take().ok_or(Stop::Differs)
 }
 
 /// A text `foobar`, its slice `foo`, and an interner.
@@ -147,21 +191,21 @@ impl Given for Handles {
         })
     }
 
-    fn is_unchanged<R: Machine>(&self, _rt: &R) -> bool {
+    fn is_unchanged(&self) -> bool {
         count(&self.text) == 2 && self.interner.is_empty()
     }
 }
 
-impl Calls<Handles> for Interner {
-    fn call<R: Machine>(rt: &R, given: &mut Handles, number: usize) -> Result<Interner, Stop> {
-        let symbol = match number {
-            0 => given.interner.intern_arc(rt, &given.text)?,
-            _ => given.interner.intern_substr(rt, &given.slice)?,
-        };
-        let wanted = if number == 0 { "foobar" } else { "foo" };
-        check(given.interner.get(wanted) == Some(symbol))?;
-        Ok(mem::replace(&mut given.interner, Interner::new(rt.alloc())))
-    }
+fn intern_text<R: Machine>(rt: &R, given: &mut Handles) -> Result<Interner, Stop> {
+    let symbol = given.interner.intern_arc(rt, &given.text)?;
+    check(given.interner.get("foobar") == Some(symbol))?;
+    Ok(mem::replace(&mut given.interner, Interner::new(rt.alloc())))
+}
+
+fn intern_slice<R: Machine>(rt: &R, given: &mut Handles) -> Result<Interner, Stop> {
+    let symbol = given.interner.intern_substr(rt, &given.slice)?;
+    check(given.interner.get("foo") == Some(symbol))?;
+    Ok(mem::replace(&mut given.interner, Interner::new(rt.alloc())))
 }
 
 /// A list whose last text is this one.
@@ -170,15 +214,6 @@ impl Made for WordList {
         match self.symbol_at(self.len().saturating_sub(1)) {
             None => wanted.is_empty(),
             Some(last) => self.resolve(last) == Some(wanted),
-        }
-    }
-}
-
-impl Calls<()> for WordList {
-    fn call<R: Machine>(rt: &R, _: &mut (), number: usize) -> Result<WordList, Stop> {
-        match number {
-            0 => Ok(WordList::with_capacity(rt.alloc(), 50, 1275)?),
-            _ => Ok(serde_json::from_str(rt.alloc(), "[\"foobar\"]")?),
         }
     }
 }
@@ -195,18 +230,16 @@ impl Given for ListRoom {
         Ok(ListRoom(WordList::with_capacity(rt.alloc(), 50, 1275)?))
     }
 
-    fn is_unchanged<R: Machine>(&self, _rt: &R) -> bool {
+    fn is_unchanged(&self) -> bool {
         self.0.is_empty()
     }
 }
 
-impl Calls<ListRoom> for WordList {
-    fn call<R: Machine>(rt: &R, room: &mut ListRoom, _: usize) -> Result<WordList, Stop> {
-        for end in 1..51 {
-            room.0.intern(DIGITS.get(..end).ok_or(Stop::Differs)?)?;
-        }
-        Ok(mem::replace(&mut room.0, WordList::new(rt.alloc())))
+fn list_all<R: Machine>(rt: &R, room: &mut ListRoom) -> Result<WordList, Stop> {
+    for end in 1..51 {
+        room.0.intern(DIGITS.get(..end).ok_or(Stop::Differs)?)?;
     }
+    Ok(mem::replace(&mut room.0, WordList::new(rt.alloc())))
 }
 
 /// A list with so many texts. A call that succeeds takes it.
@@ -222,7 +255,7 @@ impl<const TEXTS: usize> Given for Listed<TEXTS> {
         Ok(Listed(Some(words)))
     }
 
-    fn is_unchanged<R: Machine>(&self, _rt: &R) -> bool {
+    fn is_unchanged(&self) -> bool {
         match &self.0 {
             None => true,
             Some(words) => words.len() == TEXTS && words.get("foobar").is_none(),
@@ -230,14 +263,12 @@ impl<const TEXTS: usize> Given for Listed<TEXTS> {
     }
 }
 
-impl<const TEXTS: usize> Calls<Listed<TEXTS>> for WordList {
-    fn call<R: Machine>(_rt: &R, words: &mut Listed<TEXTS>, _: usize) -> Result<WordList, Stop> {
-        if let Some(words) = words.0.as_mut() {
-            let symbol = words.intern("foobar")?;
-            check(symbol.index() == TEXTS && words.get("foobar") == Some(symbol))?;
-        }
-        words.0.take().ok_or(Stop::Differs)
+fn list<const TEXTS: usize>(words: &mut Listed<TEXTS>) -> Result<WordList, Stop> {
+    if let Some(words) = words.0.as_mut() {
+        let symbol = words.intern("foobar")?;
+        check(symbol.index() == TEXTS && words.get("foobar") == Some(symbol))?;
     }
+    words.0.take().ok_or(Stop::Differs)
 }
 
 /// Two symbols, and a map with a value for the first.
@@ -261,7 +292,7 @@ impl Given for Mapped {
         Ok(Mapped { first, last, map })
     }
 
-    fn is_unchanged<R: Machine>(&self, _rt: &R) -> bool {
+    fn is_unchanged(&self) -> bool {
         self.map.iter().next().is_none()
             || self.map.get(self.first) == Some(&1) && self.map.get(self.last).is_none()
     }
@@ -280,40 +311,25 @@ impl Made for SymbolMap<u64> {
     }
 }
 
-impl Calls<Mapped> for SymbolMap<u64> {
-    fn call<R: Machine>(rt: &R, given: &mut Mapped, number: usize) -> Result<SymbolMap<u64>, Stop> {
-        match number {
-            0 => {
-                let before = given.map.insert(given.last, 2).map_err(AllocError::from)?;
-                check(before.is_none())?;
-            }
-            _ => check(
-                *given
-                    .map
-                    .or_insert(given.last, 2)
-                    .map_err(AllocError::from)?
-                    == 2,
-            )?,
-        }
-        Ok(mem::replace(&mut given.map, SymbolMap::new(rt.alloc())))
-    }
+fn insert<R: Machine>(rt: &R, given: &mut Mapped) -> Result<SymbolMap<u64>, Stop> {
+    let before = given.map.insert(given.last, 2).map_err(AllocError::from)?;
+    check(before.is_none())?;
+    Ok(mem::replace(&mut given.map, SymbolMap::new(rt.alloc())))
 }
 
-/// The calls compare it, since that takes `rt`.
+fn or_insert<R: Machine>(rt: &R, given: &mut Mapped) -> Result<SymbolMap<u64>, Stop> {
+    let value = given
+        .map
+        .or_insert(given.last, 2)
+        .map_err(AllocError::from)?;
+    check(*value == 2)?;
+    Ok(mem::replace(&mut given.map, SymbolMap::new(rt.alloc())))
+}
+
+/// An interner of this many texts, which the calls compare.
 impl Made for SharedInterner {
-    fn is(&self, _wanted: &str, _handles: usize) -> bool {
-        true
-    }
-}
-
-impl Calls<()> for SharedInterner {
-    fn call<R: Machine>(rt: &R, _: &mut (), number: usize) -> Result<SharedInterner, Stop> {
-        let interner = match number {
-            0 => SharedInterner::new(rt.alloc(), 64)?,
-            _ => SharedInterner::with_capacity(rt.alloc(), 2, 100)?,
-        };
-        check(interner.is_empty())?;
-        Ok(interner)
+    fn is(&self, _wanted: &str, texts: usize) -> bool {
+        self.len() == texts
     }
 }
 
@@ -331,20 +347,17 @@ impl Given for SharedRoom {
         Ok(SharedRoom { texts, interner })
     }
 
-    fn is_unchanged<R: Machine>(&self, _rt: &R) -> bool {
+    fn is_unchanged(&self) -> bool {
         self.interner.is_none()
     }
 }
 
-impl Calls<SharedRoom> for SharedInterner {
-    fn call<R: Machine>(rt: &R, room: &mut SharedRoom, _: usize) -> Result<SharedInterner, Stop> {
-        let interner = room.interner.take().ok_or(Stop::Differs)?;
-        for text in &room.texts {
-            interner.intern_arc(rt, text)?;
-        }
-        check(interner.len() == 100)?;
-        Ok(interner)
+fn share_all<R: Machine>(rt: &R, room: &mut SharedRoom) -> Result<SharedInterner, Stop> {
+    let interner = room.interner.take().ok_or(Stop::Differs)?;
+    for text in &room.texts {
+        interner.intern_arc(rt, text)?;
     }
+    Ok(interner)
 }
 
 /// As `Words`, for an interner of one shard.
@@ -360,7 +373,7 @@ impl<const TEXTS: usize> Given for SharedWords<TEXTS> {
         Ok(SharedWords(Some(interner)))
     }
 
-    fn is_unchanged<R: Machine>(&self, rt: &R) -> bool {
+    fn is_unchanged(&self) -> bool {
         match &self.0 {
             None => true,
             Some(interner) => interner.len() == TEXTS && interner.get("foobar").is_none(),
@@ -368,39 +381,34 @@ impl<const TEXTS: usize> Given for SharedWords<TEXTS> {
     }
 }
 
-impl<const TEXTS: usize> Calls<SharedWords<TEXTS>> for SharedInterner {
-    fn call<R: Machine>(
-        rt: &R,
-        words: &mut SharedWords<TEXTS>,
-        number: usize,
-    ) -> Result<SharedInterner, Stop> {
-        if let Some(interner) = words.0.as_ref() {
-            match number {
-                2 => intern_known(rt, interner)?,
-                _ => intern_new(rt, interner, number)?,
-            }
-        }
-        words.0.take().ok_or(Stop::Differs)
+fn share<const TEXTS: usize, R: Machine>(
+    rt: &R,
+    words: &mut SharedWords<TEXTS>,
+) -> Result<SharedInterner, Stop> {
+    if let Some(interner) = words.0.as_ref() {
+        let symbol = interner.intern(rt, "foobar")?;
+        check(symbol.number().index() == TEXTS && is_found(rt, interner, &symbol, 1))?;
     }
+    words.0.take().ok_or(Stop::Differs)
 }
 
-/// Interns the text `foobar`, by the call of this number.
-fn intern_new(rt: &impl Wait, interner: &SharedInterner, number: usize) -> Result<(), Stop> {
-    let texts = interner.len();
-    let symbol = match number {
-        0 => interner.intern(rt, "foobar")?,
-        _ => interner.intern_static(rt, "foobar")?,
-    };
-    check(interner.len() == texts.saturating_add(1))?;
-    check(symbol.number().index() == texts)?;
-    let handles = if number == 1 { 0 } else { 1 };
-    check(is_found(rt, interner, &symbol, handles))
+fn share_literal<R: Machine>(
+    rt: &R,
+    words: &mut SharedWords<FULL>,
+) -> Result<SharedInterner, Stop> {
+    if let Some(interner) = words.0.as_ref() {
+        let symbol = interner.intern_static(rt, "foobar")?;
+        check(symbol.number().index() == FULL && is_found(rt, interner, &symbol, 0))?;
+    }
+    words.0.take().ok_or(Stop::Differs)
 }
 
 /// Interns a word that is there.
-fn intern_known(rt: &impl Wait, interner: &SharedInterner) -> Result<(), Stop> {
-    let symbol = interner.intern(rt, "0")?;
-    check(symbol.number().index() == 0)
+fn share_known<R: Machine>(rt: &R, words: &mut SharedWords<FULL>) -> Result<SharedInterner, Stop> {
+    if let Some(interner) = words.0.as_ref() {
+        check(interner.intern(rt, "0")?.number().index() == 0)?;
+    }
+    words.0.take().ok_or(Stop::Differs)
 }
 
 /// Whether the symbol is that of the text `foobar`, whose block has this many handles.
@@ -419,15 +427,13 @@ fn is_found(
 }
 
 /// A refused call returns the shared interner, which is then given again.
-impl Calls<SharedWords<FULL>> for Interner {
-    fn call<R: Machine>(rt: &R, words: &mut SharedWords<FULL>, _: usize) -> Result<Interner, Stop> {
-        let shared = words.0.take().ok_or(Stop::Differs)?;
-        match shared.into_interner(rt) {
-            Ok(interner) => Ok(interner),
-            Err(refused) => {
-                words.0 = Some(refused.value);
-                Err(Stop::Refused)
-            }
+fn take_all<R: Machine>(rt: &R, words: &mut SharedWords<FULL>) -> Result<Interner, Stop> {
+    let shared = words.0.take().ok_or(Stop::Differs)?;
+    match shared.into_interner(rt) {
+        Ok(interner) => Ok(interner),
+        Err(refused) => {
+            words.0 = Some(refused.value);
+            Err(Stop::Refused)
         }
     }
 }

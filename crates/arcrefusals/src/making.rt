@@ -1,54 +1,106 @@
 //! Calls that make a text in a block of its own.
-use crate::calls::{Calls, Machine, Made, Stop, again, check, is_text};
+use crate::calls::{Machine, Made, Stop, check, is_text, rows};
 use arcstr::block::Shared;
-use arcstr::{ArcStr, ArcStrBuilder, Substr, format_arcstr, literal};
+use arcstr::{ArcStr, ArcStrBuilder, Substr, format_arcstr};
 use std::alloc::Global;
 use std::io;
 
 /// A block that a clone marks while more than five handles on it live.
 type Block = Shared<5, Global>;
 
+const FOUR_TIMES: &str = "0123456789abcdef0123456789abcdef0123456789abcdef0123456789abcdef";
+
 pub(crate) fn run<R: Machine>(rt: &R) -> io::Result<()> {
-    again::<(), ArcStr, R>(rt, "ArcStr::from_str", 0, "foobar", 1)?;
-    again::<(), ArcStr, R>(rt, "ArcStr::try_alloc", 1, "foo bar.", 1)?;
-    again::<(), ArcStr, R>(rt, "ArcStr::from_utf8", 2, "foobar", 1)?;
-    let four_times = "0123456789abcdef0123456789abcdef0123456789abcdef0123456789abcdef";
-    again::<(), ArcStr, R>(rt, "ArcStr::try_repeat", 3, "ababab", 1)?;
-    again::<(), ArcStr, R>(rt, "ArcStr::repeat", 4, four_times, 1)?;
-    again::<(), ArcStr, R>(rt, "ArcStr::join", 5, "foo, , bar", 1)?;
-    again::<(), ArcStr, R>(rt, "ArcStr::init_with", 6, "foobar", 1)?;
-    again::<(), ArcStr, R>(rt, "ArcStr::try_from of a String", 11, "foobar", 1)?;
-    again::<(), ArcStr, R>(rt, "ArcStr::try_from of a Vec", 12, "foobar", 1)?;
-    again::<(), ArcStr, R>(rt, "ArcStr::from_iter of characters", 13, "foobar", 1)?;
-    again::<(), ArcStr, R>(rt, "ArcStr::from_iter of strings", 14, "foobar", 1)?;
-    again::<(), ArcStr, R>(rt, "ArcStrBuilder::finish of a full block", 15, "foobar", 1)?;
-    again::<(), ArcStr, R>(rt, "ArcStrBuilder::finish with room left", 16, "foobar", 1)?;
-    again::<(), ArcStr, R>(rt, "ArcStrBuilder::fill", 17, "foobar", 1)?;
-    again::<(), ArcStr, R>(
-        rt,
-        "ArcStrBuilder::push_str that grows",
-        18,
-        "0123456789abcdef",
-        1,
-    )?;
-    again::<(), ArcStr, R>(rt, "ArcStr::read_from", 19, "foobar", 1)?;
-    again::<(), ArcStr, R>(
-        rt,
-        "ArcStr::read_file of an unknown length",
-        20,
-        "Linux\n",
-        1,
-    )?;
-    again::<(), ArcStr, R>(rt, "ArcStrBuilder::read_from", 21, "foobar", 1)?;
-    again::<(), Substr, R>(rt, "Substr::from_str", 0, "foobar", 1)?;
-    again::<(), Substr, R>(rt, "Substr::try_from of a String", 2, "foobar", 1)?;
-    again::<(), Substr, R>(rt, "Substr::try_from of a Vec", 3, "foobar", 1)?;
-    again::<(), ArcStr, R>(rt, "format_arcstr!", 7, "cool 123 and 456", 1)?;
-    again::<(), ArcStr, R>(rt, "ArcStr::deserialize", 8, "foobar", 1)?;
-    again::<(), Substr, R>(rt, "Substr::deserialize", 1, "foobar", 1)?;
-    again::<(), Block, R>(rt, "Shared::from_text", 0, "foobar", 1)?;
-    again::<(), Block, R>(rt, "Shared::init", 1, "aaaaaaaaa", 1)?;
-    again::<(), Block, R>(rt, "Shared::repeat", 2, "ababab", 1)
+    make_texts(rt)?;
+    convert_texts(rt)?;
+    build_texts(rt)?;
+    make_slices(rt)?;
+    make_blocks(rt)
+}
+
+fn make_texts<R: Machine>(rt: &R) -> io::Result<()> {
+    let alloc = rt.alloc();
+    rows! { rt;
+        "ArcStr::from_str: [+24] [-24]":
+            |_: &mut ()| ArcStr::from_str(alloc, "foobar") => "foobar", 1;
+        "ArcStr::try_alloc: [+24] [-24]":
+            |_: &mut ()| ArcStr::try_alloc(alloc, "foo bar.") => "foo bar.", 1;
+        "ArcStr::from_utf8: [+24] [-24]":
+            |_: &mut ()| ArcStr::from_utf8(alloc, b"foobar") => "foobar", 1;
+        "ArcStr::try_repeat: [+24] [-24]":
+            |_: &mut ()| ArcStr::try_repeat(alloc, "ab", 3) => "ababab", 1;
+        "ArcStr::repeat: [+80] [-80]":
+            |_: &mut ()| ArcStr::repeat(alloc, "0123456789abcdef", 4) => FOUR_TIMES, 1;
+        "ArcStr::join: [+32] [-32]":
+            |_: &mut ()| ArcStr::join(alloc, &["foo", "", "bar"], ", ") => "foo, , bar", 1;
+        "ArcStr::init_with: [+24] [-24]":
+            |_: &mut ()| filled_text(alloc) => "foobar", 1;
+        // What is formatted is longer than the room that it first has.
+        "format_arcstr!: [+8 +16 +32 -8 -16] [-32]":
+            |_: &mut ()| format_arcstr!(alloc; "cool {} and {}", 123, 456) => "cool 123 and 456", 1;
+    }
+}
+
+fn convert_texts<R: Machine>(rt: &R) -> io::Result<()> {
+    let alloc = rt.alloc();
+    rows! { rt;
+        "ArcStr::try_from of a String: [+6 +24 -6] [-24]":
+            |_: &mut ()| text_from_string(alloc) => "foobar", 1;
+        "ArcStr::try_from of a Vec: [+6 +24 -6] [-24]":
+            |_: &mut ()| text_from_bytes(alloc) => "foobar", 1;
+        "ArcStr::from_iter of characters: [+8 +24 -8] [-24]":
+            |_: &mut ()| "foobar".chars().collect::<ArcStr>(alloc) => "foobar", 1;
+        "ArcStr::from_iter of strings: [+3 +3 +8 +24 -3 -3 -8] [-24]":
+            |_: &mut ()| joined_strings(alloc) => "foobar", 1;
+        "ArcStr::read_from: [+24 +24 -24] [-24]":
+            |_: &mut ()| ArcStr::read_from(alloc, "foobar".as_bytes()) => "foobar", 1;
+        "ArcStr::read_file of an unknown length: [+24 +24 -24] [-24]":
+            |_: &mut ()| ArcStr::read_file(rt, "/proc/sys/kernel/ostype") => "Linux\n", 1;
+        "ArcStr::deserialize: [+6 +8 +24 -6 -8] [-24]":
+            |_: &mut ()| serde_json::from_str::<ArcStr>(alloc, "\"foobar\"") => "foobar", 1;
+    }
+}
+
+fn build_texts<R: Machine>(rt: &R) -> io::Result<()> {
+    let alloc = rt.alloc();
+    rows! { rt;
+        "ArcStrBuilder::finish of a full block: [+24] [-24]":
+            |_: &mut ()| full_text(alloc) => "foobar", 1;
+        "ArcStrBuilder::finish with room left: [+24 +24 -24] [-24]":
+            |_: &mut ()| built_text(ArcStrBuilder::new(alloc)) => "foobar", 1;
+        "ArcStrBuilder::fill: [+24] [-24]":
+            |_: &mut ()| reserved_text(alloc) => "foobar", 1;
+        "ArcStrBuilder::push_str that grows: [+24 +32 -24] [-32]":
+            |_: &mut ()| grown_text(alloc) => "0123456789abcdef", 1;
+        "ArcStrBuilder::read_from: [+24] [-24]":
+            |_: &mut ()| read_text(alloc) => "foobar", 1;
+    }
+}
+
+fn make_slices<R: Machine>(rt: &R) -> io::Result<()> {
+    let alloc = rt.alloc();
+    rows! { rt;
+        "Substr::from_str: [+24] [-24]":
+            |_: &mut ()| Substr::from_str(alloc, "foobar") => "foobar", 1;
+        "Substr::try_from of a String: [+6 +24 -6] [-24]":
+            |_: &mut ()| slice_from_string(alloc) => "foobar", 1;
+        "Substr::try_from of a Vec: [+6 +24 -6] [-24]":
+            |_: &mut ()| slice_from_bytes(alloc) => "foobar", 1;
+        "Substr::deserialize: [+6 +8 +24 -6 -8] [-24]":
+            |_: &mut ()| serde_json::from_str::<Substr>(alloc, "\"foobar\"") => "foobar", 1;
+    }
+}
+
+fn make_blocks<R: Machine>(rt: &R) -> io::Result<()> {
+    let alloc = rt.alloc();
+    rows! { rt;
+        "Shared::from_text: [+24] [-24]":
+            |_: &mut ()| Block::from_text(alloc, "foobar") => "foobar", 1;
+        "Shared::init: [+32] [-32]":
+            |_: &mut ()| filled_block(alloc) => "aaaaaaaaa", 1;
+        "Shared::repeat: [+24] [-24]":
+            |_: &mut ()| Block::repeat(alloc, "ab", 3) => "ababab", 1;
+    }
 }
 
 impl Made for ArcStr {
@@ -57,35 +109,12 @@ impl Made for ArcStr {
     }
 }
 
-impl Calls<()> for ArcStr {
-    fn call<R: Machine>(rt: &R, _: &mut (), number: usize) -> Result<ArcStr, Stop> {
-        let alloc = rt.alloc();
-        Ok(match number {
-            0 => ArcStr::from_str(alloc, "foobar"),
-            1 => ArcStr::try_alloc(alloc, "foo bar."),
-            2 => ArcStr::from_utf8(alloc, b"foobar"),
-            3 => ArcStr::try_repeat(alloc, "ab", 3),
-            4 => ArcStr::repeat(alloc, "0123456789abcdef", 4),
-            5 => ArcStr::join(alloc, &["foo", "", "bar"], ", "),
-            6 => return filled_text(alloc),
-            // What is formatted is longer than the room that it first has.
-            7 => format_arcstr!(alloc; "cool {} and {}", 123, 456),
-            8 => return Ok(serde_json::from_str::<ArcStr>(alloc, "\"foobar\"")?),
-            9 => ArcStr::from_str(alloc, ""),
-            10 => return Ok(literal!("foobar")),
-            11 => ArcStr::try_from(String::from_str(alloc, "foobar")?),
-            12 => ArcStr::try_from(String::from_str(alloc, "foobar")?.into_bytes()),
-            13 => return Ok("foobar".chars().collect::<ArcStr>(alloc)?),
-            14 => return joined_strings(alloc),
-            15 => return built_text(ArcStrBuilder::with_capacity(alloc, 6)?),
-            16 => return built_text(ArcStrBuilder::new(alloc)),
-            17 => return reserved_text(alloc),
-            18 => return grown_text(alloc),
-            19 => return Ok(ArcStr::read_from(alloc, "foobar".as_bytes())?),
-            20 => return Ok(ArcStr::read_file(rt, "/proc/sys/kernel/ostype")?),
-            _ => return read_text(alloc),
-        }?)
-    }
+fn text_from_string(alloc: Global) -> Result<ArcStr, Stop> {
+    Ok(ArcStr::try_from(String::from_str(alloc, "foobar")?)?)
+}
+
+fn text_from_bytes(alloc: Global) -> Result<ArcStr, Stop> {
+    Ok(ArcStr::try_from(String::from_str(alloc, "foobar")?.into_bytes())?)
 }
 
 fn joined_strings(alloc: Global) -> Result<ArcStr, Stop> {
@@ -94,6 +123,10 @@ fn joined_strings(alloc: Global) -> Result<ArcStr, Stop> {
         String::from_str(alloc, "bar")?,
     ];
     Ok(strings.into_iter().collect::<ArcStr>(alloc)?)
+}
+
+fn full_text(alloc: Global) -> Result<ArcStr, Stop> {
+    built_text(ArcStrBuilder::with_capacity(alloc, 6)?)
 }
 
 fn built_text(mut builder: ArcStrBuilder) -> Result<ArcStr, Stop> {
@@ -146,30 +179,17 @@ impl Made for Substr {
     }
 }
 
-impl Calls<()> for Substr {
-    fn call<R: Machine>(rt: &R, _: &mut (), number: usize) -> Result<Substr, Stop> {
-        match number {
-            0 => Ok(Substr::from_str(rt.alloc(), "foobar")?),
-            1 => Ok(serde_json::from_str::<Substr>(rt.alloc(), "\"foobar\"")?),
-            2 => Ok(Substr::try_from(String::from_str(rt.alloc(), "foobar")?)?),
-            _ => Ok(Substr::try_from(String::from_str(rt.alloc(), "foobar")?.into_bytes())?),
-        }
-    }
+fn slice_from_string(alloc: Global) -> Result<Substr, Stop> {
+    Ok(Substr::try_from(String::from_str(alloc, "foobar")?)?)
+}
+
+fn slice_from_bytes(alloc: Global) -> Result<Substr, Stop> {
+    Ok(Substr::try_from(String::from_str(alloc, "foobar")?.into_bytes())?)
 }
 
 impl Made for Block {
     fn is(&self, wanted: &str, handles: usize) -> bool {
         self.as_str() == wanted && self.look().0 == Some(handles as u64)
-    }
-}
-
-impl Calls<()> for Block {
-    fn call<R: Machine>(rt: &R, _: &mut (), number: usize) -> Result<Block, Stop> {
-        match number {
-            0 => Ok(Block::from_text(rt.alloc(), "foobar")?),
-            1 => filled_block(rt.alloc()),
-            _ => Ok(Block::repeat(rt.alloc(), "ab", 3)?),
-        }
     }
 }
 

@@ -1,14 +1,30 @@
 //! Calls that return handles on texts: callers in threads, and the words of texts. After each
 //! refusal, and once everything that was returned is dropped, each text has only the handle of its
 //! owner.
-use crate::calls::{
-    Calls, Given, Machine, Made, Stop, again, again_whole, check, compare, count, is_text, mark,
-};
+use crate::calls::{Given, Machine, Made, Stop, check, count, is_text, rows};
 use arcbench_core::pool::{Gate, callers};
 use arcstr::{ArcStr, Substr};
 use arctokens::{Substrs, token_list, tokens, tokens_all, tokens_all_with};
 use std::io;
 use std::sync::atomic::{AtomicU64, Ordering};
+
+pub(crate) fn run<R: Machine>(rt: &R) -> io::Result<()> {
+    let alloc = rt.alloc();
+    rows! { rt;
+        "tokens: [+160 +320 -160] [-320]":
+            |text: &mut Letters| tokens(rt, alloc, &text.0) => "abcde", 6;
+        "token_list: [+32 +64 -32] [-64]":
+            |text: &mut Letters| token_list(rt, alloc, &text.0) => "abcde", 2;
+        "callers: [+16 +48 +56 +56 -16 -56 -56] [-48]":
+            |text: &mut ArcStr| callers(rt, alloc, text, 2, &OpenGate) => "foobar", 3;
+        "tokens_all: [+32 +48 +48 +72 +80 +96 +96 +160 +160 +320 -32 -48 -72 -80 -96 -96 -160] [-48"
+        " -160 -320]":
+            |texts: &mut [ArcStr; 2]| tokens_all(rt, alloc, texts.as_slice(), 2) => "abcde", 6;
+        "tokens_all_with: [+48 +48 +72 +72 +72 +96 +96 +120 +160 +160 +320 -48 -72 -72 -72 -96 -96"
+        " -120 -160] [-48 -160 -320]":
+            |texts: &mut [ArcStr; 2]| words_behind_a_gate(rt, texts) => "abcde", 6;
+    }
+}
 
 /// A gate that every worker passes at once.
 struct OpenGate;
@@ -44,14 +60,6 @@ impl Passes {
     }
 }
 
-pub(crate) fn run<R: Machine>(rt: &R) -> io::Result<()> {
-    again::<Letters, Vec<Substr>, R>(rt, "tokens", 0, "abcde", 6)?;
-    again::<Letters, Substrs, R>(rt, "token_list", 0, "abcde", 2)?;
-    again_whole(rt, "callers", 6)?;
-    again_whole(rt, "tokens_all", 7)?;
-    again_whole(rt, "tokens_all_with", 8)
-}
-
 /// A text of more words than a list first has room for.
 #[derive(Drop)]
 struct Letters(ArcStr);
@@ -61,7 +69,7 @@ impl Given for Letters {
         Ok(Letters(ArcStr::from_str(rt.alloc(), "a b c d e")?))
     }
 
-    fn is_unchanged<R: Machine>(&self, _rt: &R) -> bool {
+    fn is_unchanged(&self) -> bool {
         count(&self.0) == 1
     }
 }
@@ -72,49 +80,18 @@ impl Given for [ArcStr; 2] {
         Ok([one, ArcStr::from_str(rt.alloc(), "a b c d e")?])
     }
 
-    fn is_unchanged<R: Machine>(&self, _rt: &R) -> bool {
+    fn is_unchanged(&self) -> bool {
         count(&self[0]) == 1 && count(&self[1]) == 1
     }
 }
 
-impl Calls<Letters> for Vec<Substr> {
-    fn call<R: Machine>(rt: &R, text: &mut Letters, _: usize) -> Result<Vec<Substr>, Stop> {
-        Ok(tokens(rt, rt.alloc(), &text.0)?)
-    }
-}
-
-impl Calls<Letters> for Substrs {
-    fn call<R: Machine>(rt: &R, text: &mut Letters, _: usize) -> Result<Substrs, Stop> {
-        Ok(token_list(rt, rt.alloc(), &text.0)?)
-    }
-}
-
-pub(crate) fn callers_in_threads<R: Machine>(rt: &R) -> Result<(), Stop> {
-    let text = ArcStr::prepare(rt)?;
-    mark(rt);
-    let handles = callers(rt, rt.alloc(), &text, 2, &OpenGate);
-    mark(rt);
-    compare(rt, &text, handles.map_err(Stop::from), "foobar", 3)
-}
-
-pub(crate) fn words_in_threads<R: Machine>(rt: &R) -> Result<(), Stop> {
-    let texts = <[ArcStr; 2]>::prepare(rt)?;
-    mark(rt);
-    let lists = tokens_all(rt, rt.alloc(), texts.as_slice(), 2);
-    mark(rt);
-    compare(rt, &texts, lists.map_err(Stop::from), "abcde", 6)
-}
-
 /// Finds the words of two texts with three workers. If memory is refused, either all workers have
 /// passed the gate or none has.
-pub(crate) fn words_behind_a_gate<R: Machine>(rt: &R) -> Result<(), Stop> {
-    let texts = <[ArcStr; 2]>::prepare(rt)?;
+fn words_behind_a_gate<R: Machine>(rt: &R, texts: &[ArcStr; 2]) -> Result<Vec<Vec<Substr>>, Stop> {
     let gate = Passes::none();
-    mark(rt);
     let lists = tokens_all_with(rt, rt.alloc(), texts.as_slice(), 3, &gate);
-    mark(rt);
     check(gate.are(1) || lists.is_err() && gate.are(0))?;
-    compare(rt, &texts, lists.map_err(Stop::from), "abcde", 6)
+    Ok(lists?)
 }
 
 /// Two handles on a text.

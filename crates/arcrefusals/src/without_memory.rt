@@ -1,6 +1,6 @@
 //! Calls that do not allocate, and so succeed whatever is refused.
-use crate::calls::{Calls, Machine, Made, Stop, again, again_whole, check, count, mark};
-use arcstr::{ArcStr, RangeFault, StrRange, StrView, Substr};
+use crate::calls::{Machine, Made, Stop, check, count, mark, rows};
+use arcstr::{ArcStr, RangeFault, StrRange, StrView, Substr, literal};
 use arcstr_world::World;
 use std::alloc::Global;
 use std::cmp::Ordering;
@@ -8,71 +8,71 @@ use std::hash::{DefaultHasher, Hash, Hasher};
 use std::io;
 
 pub(crate) fn run<R: Machine>(rt: &R) -> io::Result<()> {
-    again::<(), ArcStr, R>(rt, "ArcStr::from_str of an empty text", 9, "", 0)?;
-    again::<(), ArcStr, R>(rt, "literal!", 10, "foobar", 0)?;
-    again::<ArcStr, ArcStr, R>(rt, "ArcStr::clone", 0, "foobar", 2)?;
-    again::<ArcStr, ArcStr, R>(rt, "ArcStr::try_clone", 2, "foobar", 2)?;
-    again::<ArcStr, Substr, R>(rt, "ArcStr::substr", 0, "bar", 2)?;
-    again::<ArcStr, Substr, R>(rt, "ArcStr::substr_trim", 1, "foobar", 2)?;
-    again::<ArcStr, Substr, R>(rt, "ArcStr::try_substr_from", 2, "bar", 2)?;
-    again::<ArcStr, Substr, R>(rt, "ArcStr::substr_using", 3, "bar", 2)?;
-    again::<Substr, Substr, R>(rt, "Substr::substr", 0, "ar", 2)?;
-    again::<Substr, Substr, R>(rt, "Substr::substr_trim", 1, "bar", 2)?;
-    again::<Substr, Substr, R>(rt, "Substr::try_substr_from", 2, "ar", 2)?;
-    again::<Substr, Substr, R>(rt, "Substr::substr_using", 3, "ar", 2)?;
-    let parts =
-        "ArcStr::substr_split_at, substr_split_once, substr_rsplit_once, substr_strip_prefix, substr_strip_suffix";
-    again::<ArcStr, Parts, R>(rt, parts, 0, "bar", 9)?;
-    let parts =
-        "Substr::substr_split_at, substr_split_once, substr_rsplit_once, substr_strip_prefix, substr_strip_suffix";
-    again::<Substr, Parts, R>(rt, parts, 0, "r", 9)?;
-    again_whole(rt, "ArcStr::leak", 0)?;
-    again_whole(rt, "==, cmp", 1)?;
-    again_whole(rt, "hash", 2)?;
-    again_whole(rt, "StrRange::ends, StrView::trim", 3)?;
-    again::<(), World<Global>, R>(rt, "World::new", 0, "", 0)
+    call_nothing(rt)?;
+    call_texts(rt)?;
+    call_slices(rt)
 }
 
-/// A clone, or a text that is joined of two.
-impl Calls<ArcStr> for ArcStr {
-    fn call<R: Machine>(rt: &R, text: &mut ArcStr, number: usize) -> Result<ArcStr, Stop> {
-        match number {
-            0 => Ok(text.clone(rt)),
-            1 => {
-                let texts = [text.clone(rt), text.clone(rt)];
-                Ok(texts.into_iter().collect::<ArcStr>(rt.alloc())?)
-            }
-            _ => text.try_clone(1).ok_or(Stop::Fault),
-        }
+fn call_nothing<R: Machine>(rt: &R) -> io::Result<()> {
+    let alloc = rt.alloc();
+    rows! { rt;
+        "ArcStr::from_str of an empty text: [] []":
+            |_: &mut ()| ArcStr::from_str(alloc, "") => "", 0;
+        "literal!: [] []":
+            |_: &mut ()| Ok::<ArcStr, Stop>(literal!("foobar")) => "foobar", 0;
+        "ArcStr::leak: [] []": || leak(rt);
+        "==, cmp: []": || compare_texts(rt);
+        "hash: []": || hash(rt);
+        "StrRange::ends, StrView::trim: []": || ends(rt);
+        "World::new: [] []":
+            |_: &mut ()| World::new(alloc, 5) => "", 0;
     }
 }
 
-impl Calls<ArcStr> for Substr {
-    fn call<R: Machine>(rt: &R, text: &mut ArcStr, number: usize) -> Result<Substr, Stop> {
-        match number {
-            0 => text.substr(rt, 3..6).map_err(|_| Stop::Fault),
-            1 => Ok(text.substr_trim(rt)),
-            2 => {
-                let view = text.view().cut(3..6).ok_or(Stop::Fault)?;
-                text.try_substr_from(rt, view).ok_or(Stop::Fault)
-            }
-            _ => text.substr_using(rt, |_| 3..6).map_err(|_| Stop::Fault),
-        }
+fn call_texts<R: Machine>(rt: &R) -> io::Result<()> {
+    rows! { rt;
+        "ArcStr::clone: [] []":
+            |text: &mut ArcStr| Ok::<ArcStr, Stop>(text.clone(rt)) => "foobar", 2;
+        "ArcStr::try_clone: [] []":
+            |text: &mut ArcStr| text.try_clone(1).ok_or(Stop::Fault) => "foobar", 2;
+        "ArcStr::substr: [] []":
+            |text: &mut ArcStr| text.substr(rt, 3..6) => "bar", 2;
+        "ArcStr::substr_trim: [] []":
+            |text: &mut ArcStr| Ok::<Substr, Stop>(text.substr_trim(rt)) => "foobar", 2;
+        "ArcStr::try_substr_from: [] []":
+            |text: &mut ArcStr| slice_from_text(rt, text) => "bar", 2;
+        "ArcStr::substr_using: [] []":
+            |text: &mut ArcStr| text.substr_using(rt, |_| 3..6) => "bar", 2;
+        "ArcStr::substr_split_at, substr_split_once, substr_rsplit_once, substr_strip_prefix,"
+        " substr_strip_suffix: [] []":
+            |text: &mut ArcStr| parts_of_text(rt, text) => "bar", 9;
     }
 }
 
-impl Calls<Substr> for Substr {
-    fn call<R: Machine>(rt: &R, slice: &mut Substr, number: usize) -> Result<Substr, Stop> {
-        match number {
-            0 => slice.substr(rt, 1..).map_err(|_| Stop::Fault),
-            1 => Ok(slice.substr_trim(rt)),
-            2 => {
-                let view = slice.view().cut(1..3).ok_or(Stop::Fault)?;
-                slice.try_substr_from(rt, view).ok_or(Stop::Fault)
-            }
-            _ => slice.substr_using(rt, |_| 1..3).map_err(|_| Stop::Fault),
-        }
+fn call_slices<R: Machine>(rt: &R) -> io::Result<()> {
+    rows! { rt;
+        "Substr::substr: [] []":
+            |slice: &mut Substr| slice.substr(rt, 1..) => "ar", 2;
+        "Substr::substr_trim: [] []":
+            |slice: &mut Substr| Ok::<Substr, Stop>(slice.substr_trim(rt)) => "bar", 2;
+        "Substr::try_substr_from: [] []":
+            |slice: &mut Substr| slice_from_slice(rt, slice) => "ar", 2;
+        "Substr::substr_using: [] []":
+            |slice: &mut Substr| slice.substr_using(rt, |_| 1..3) => "ar", 2;
+        "Substr::substr_split_at, substr_split_once, substr_rsplit_once, substr_strip_prefix,"
+        " substr_strip_suffix: [] []":
+            |slice: &mut Substr| parts_of_slice(rt, slice) => "r", 9;
     }
+}
+
+fn slice_from_text<R: Machine>(rt: &R, text: &ArcStr) -> Result<Substr, Stop> {
+    let view = text.view().cut(3..6).ok_or(Stop::Fault)?;
+    text.try_substr_from(rt, view).ok_or(Stop::Fault)
+}
+
+fn slice_from_slice<R: Machine>(rt: &R, slice: &Substr) -> Result<Substr, Stop> {
+    let view = slice.view().cut(1..3).ok_or(Stop::Fault)?;
+    slice.try_substr_from(rt, view).ok_or(Stop::Fault)
 }
 
 /// The slices that the calls of the line return.
@@ -93,28 +93,24 @@ impl Made for Parts {
     }
 }
 
-impl Calls<ArcStr> for Parts {
-    fn call<R: Machine>(rt: &R, text: &mut ArcStr, _: usize) -> Result<Parts, Stop> {
-        Ok((
-            text.substr_split_at(rt, 3),
-            text.substr_split_once(rt, 'o'),
-            text.substr_rsplit_once(rt, "ob"),
-            text.substr_strip_prefix(rt, "foo"),
-            text.substr_strip_suffix(rt, "bar"),
-        ))
-    }
+fn parts_of_text<R: Machine>(rt: &R, text: &ArcStr) -> Result<Parts, Stop> {
+    Ok((
+        text.substr_split_at(rt, 3),
+        text.substr_split_once(rt, 'o'),
+        text.substr_rsplit_once(rt, "ob"),
+        text.substr_strip_prefix(rt, "foo"),
+        text.substr_strip_suffix(rt, "bar"),
+    ))
 }
 
-impl Calls<Substr> for Parts {
-    fn call<R: Machine>(rt: &R, slice: &mut Substr, _: usize) -> Result<Parts, Stop> {
-        Ok((
-            slice.substr_split_at(rt, 2),
-            slice.substr_split_once(rt, 'a'),
-            slice.substr_rsplit_once(rt, "a"),
-            slice.substr_strip_prefix(rt, "ba"),
-            slice.substr_strip_suffix(rt, "ar"),
-        ))
-    }
+fn parts_of_slice<R: Machine>(rt: &R, slice: &Substr) -> Result<Parts, Stop> {
+    Ok((
+        slice.substr_split_at(rt, 2),
+        slice.substr_split_once(rt, 'a'),
+        slice.substr_rsplit_once(rt, "a"),
+        slice.substr_strip_prefix(rt, "ba"),
+        slice.substr_strip_suffix(rt, "ar"),
+    ))
 }
 
 impl Made for World<Global> {
@@ -123,14 +119,8 @@ impl Made for World<Global> {
     }
 }
 
-impl Calls<()> for World<Global> {
-    fn call<R: Machine>(rt: &R, _: &mut (), _: usize) -> Result<World<Global>, Stop> {
-        Ok(World::new(rt.alloc(), 5)?)
-    }
-}
-
 /// Marks a text static, permanently.
-pub(crate) fn leak<R: AllocGlobal + Print>(rt: &R) -> Result<(), Stop> {
+fn leak<R: AllocGlobal + Print>(rt: &R) -> Result<(), Stop> {
     let text = ArcStr::from_str(rt.alloc(), "foobar")?;
     mark(rt);
     let kept = text.leak();
@@ -142,7 +132,7 @@ pub(crate) fn leak<R: AllocGlobal + Print>(rt: &R) -> Result<(), Stop> {
     check(is_marked && kept.as_str() == "foobar")
 }
 
-pub(crate) fn compare_texts<R: AllocGlobal + Print>(rt: &R) -> Result<(), Stop> {
+fn compare_texts<R: AllocGlobal + Print>(rt: &R) -> Result<(), Stop> {
     let one = ArcStr::from_str(rt.alloc(), "foobar")?;
     let other = ArcStr::from_str(rt.alloc(), "foobaz")?;
     mark(rt);
@@ -151,7 +141,7 @@ pub(crate) fn compare_texts<R: AllocGlobal + Print>(rt: &R) -> Result<(), Stop> 
     check(!same && order == Ordering::Less)
 }
 
-pub(crate) fn hash<R: AllocGlobal + Print>(rt: &R) -> Result<(), Stop> {
+fn hash<R: AllocGlobal + Print>(rt: &R) -> Result<(), Stop> {
     let text = ArcStr::from_str(rt.alloc(), "foobar")?;
     let (mut one, mut other) = (DefaultHasher::new(), DefaultHasher::new());
     mark(rt);
@@ -161,7 +151,7 @@ pub(crate) fn hash<R: AllocGlobal + Print>(rt: &R) -> Result<(), Stop> {
     check(one.finish() == other.finish())
 }
 
-pub(crate) fn ends<R: Print>(rt: &R) -> Result<(), Stop> {
+fn ends<R: Print>(rt: &R) -> Result<(), Stop> {
     let view = StrView::whole(" foo ");
     mark(rt);
     let (ends, part) = (StrRange::from(1..).ends(6), view.trim());
