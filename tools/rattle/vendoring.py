@@ -35,9 +35,9 @@ OF_PACK = """\
 - These crates are proved, and their built forms came along, about {size} MB. Your checks
   prove your functions alone, and trust those proofs. `rt verdict` proves these crates again too."""
 OF_CLONE = """\
-- These crates are proved in {root}. As long as that folder stays, `rt` takes the
-  proofs from there at your first check, and proves your functions alone. `rt verdict` proves
-  these crates again too."""
+- The crates that yours use are proved in {root}. As long as that folder stays, `rt` takes
+  the proofs from there at your first check, and proves your functions alone. `rt verdict` proves
+  them again too."""
 NOT_PROVED = """\
 - Not proved in {root}: {names}.
   {first} proves them once: about {time} on {number} processors, and up to 7 GB of memory.
