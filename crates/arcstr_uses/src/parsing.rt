@@ -53,6 +53,8 @@ impl Request {
     /// head that is refused clones no handle. Returns `None` if the first line has no space, or if
     /// the method is empty.
     ///
+    /// The contract says that the parts are slices of the head. The example tests which slices.
+    ///
     /// ```
     /// let head = ArcStr::from_static("GET /a HTTP/1.1\r\nAccept: text\r\nHost: b\r\n");
     /// let request = Request::read(&rt, &head).ok_or("no request")?;
