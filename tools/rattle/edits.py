@@ -16,7 +16,7 @@ from functools import cache
 from pathlib import Path
 from typing import NamedTuple
 
-from sources import CLAUSE, Function, end_of_group, functions, place_of, without_comments
+from sources import Function, functions, place_of
 
 KEYS = ("file:", "in:", "old:", "new:", "refused:")
 
@@ -293,51 +293,31 @@ def copy_function(key: Key, edit: WrongBody, room: Path) -> tuple[Key, Change]:
     body = text[it.start : it.end + 1]
     for change in sorted(edit.changes, reverse=True):
         body = body[: change.start - it.start] + change.new + body[change.end - it.start :]
-    if not copy_proofs(key, copied, room):
-        body = without_clauses(body, {*edit.refused})
+    copy_proofs(key, copied, room)
     body = re.sub(rf"\bfn {key.name}\b", f"fn {copied}", body, count=1)
     return key._replace(name=copied), Change(key.file, it.end + 1, it.end + 1, "\n" + body)
 
 
-def copy_proofs(key: Key, copied: str, room: Path) -> bool:
-    """Copies the folder of a function's proofs under another name. Returns whether there is one."""
+def copy_proofs(key: Key, copied: str, room: Path) -> None:
+    """Copies the folder of a function's proofs under another name."""
     place = [part for part in (*module_of(key.file).split("::"), key.owner, key.name) if part]
-    has_proofs = False
     for folder in [*(room / "proofs").rglob(key.name)]:
         parts = folder.relative_to(room / "proofs").parts
         if [part for part in parts if part != "fn"] != place:
             continue
-        has_proofs = True
         there = shutil.copytree(folder, folder.with_name(copied))
         old, new = (".".join(["", *it.relative_to(room).parts, ""]) for it in (folder, there))
         for proof in there.rglob("*.antt"):
             proof.write_text(proof.read_text().replace(old, new))
-    return has_proofs
-
-
-def without_clauses(function: str, kept: set[str]) -> str:
-    """A function without the `ensures` clauses that have a name, but for these."""
-    text = without_comments(function, literals=False)
-    start = end_of_group(text, text.index("(", re.search(r"\bfn \w+", text).end()))
-    parts, place = [], 0
-    while (found := re.compile(r"[{;]").search(text, start)) and found[0] == "{":
-        end = end_of_group(text, found.start())
-        clause = CLAUSE.search(text, start, found.start())
-        if not clause:
-            break
-        if clause["kind"] == "ensures" and clause["name"] and clause["name"] not in kept:
-            parts.append(function[place : clause.start()])
-            place = end
-        start = end
-    return "".join([*parts, function[place:]])
 
 
 def plant(edits: Iterable[WrongBody], room: Path) -> None:
     """Plants the edits in the sources of a folder, and tells each the functions that it changed
-    there. An edit of a function that may stand twice changes a copy of it."""
+    there. Where several change one function, all but the first change copies of it."""
     changes: list[Change] = []
+    changed: set[Key] = set()
     for edit in edits:
-        if may_copy(edit):
+        if changed & edit.functions:
             [key] = edit.functions
             copied, change = copy_function(key, edit, room)
             edit.planted = {copied}
@@ -345,6 +325,7 @@ def plant(edits: Iterable[WrongBody], room: Path) -> None:
         else:
             edit.planted = edit.functions
             changes += edit.changes
+        changed |= edit.functions
     for file, start, end, new in sorted(changes, reverse=True):
         text = (room / file).read_text()
         # A function that an edit adds gets a line of its own, and so does the one behind it.

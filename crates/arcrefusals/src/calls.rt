@@ -54,10 +54,10 @@ pub(crate) trait Made: Drop {
 /// compares what it made.
 macro_rules! rows {
     (@row $rt:expr, $printed:expr, $line:expr, $call:expr, $wanted:expr, $handles:expr) => {
-        $crate::calls::again($rt, $printed, $line, $wanted, $handles, $call)
+        $crate::calls::retry($rt, $printed, $line, $wanted, $handles, $call)
     };
     (@row $rt:expr, $printed:expr, $line:expr, $call:expr) => {
-        $crate::calls::again_whole($rt, $printed, $line, $call)
+        $crate::calls::retry_whole($rt, $printed, $line, $call)
     };
     ($rt:expr; $($($line:literal)+: $call:expr $(=> $wanted:expr, $handles:expr)?;)+) => {{
         let mut printed: std::io::Result<()> = Ok(());
@@ -69,7 +69,7 @@ macro_rules! rows {
 pub(crate) use rows;
 
 /// Makes a call until it is not refused, compares and drops what it made, and prints its line.
-pub(crate) fn again<
+pub(crate) fn retry<
     G: Given,
     T: Made,
     E: Into<Stop>,
@@ -87,8 +87,8 @@ pub(crate) fn again<
     print(rt, printed, line, Err(Stop::Refused));
 }
 
-/// As `again`, for a call that prepares, marks and compares itself.
-pub(crate) fn again_whole<R: Machine, F: Copy + FnOnce() -> Result<(), Stop>>(
+/// As `retry`, for a call that prepares, marks and compares itself.
+pub(crate) fn retry_whole<R: Machine, F: Copy + FnOnce() -> Result<(), Stop>>(
     rt: &R,
     printed: &mut io::Result<()>,
     line: &str,

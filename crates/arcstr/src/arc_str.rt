@@ -232,7 +232,10 @@ impl ArcStr {
         ensures never_static { IsStatic this.now.kind → IsNone result }
     {
         match &this.form {
-            Form::Counted(shared) => shared.look().0.map(|count| count as usize),
+            Form::Counted(shared) => {
+                let (count, _) = shared.look();
+                count.map(|count| count as usize)
+            }
             Form::Literal(_) | Form::Fixed(_) => None,
         }
     }
@@ -243,7 +246,7 @@ impl ArcStr {
     ///
     /// ```
     /// let text = ArcStr::from_str(rt.alloc(), "foo")?;
-    /// assert!(rt; text.counted().is_some_and(|handle| handle.look().0 == Some(1)));
+    /// assert!(rt; text.counted().is_some_and(|handle| matches!(handle.look(), (Some(1), _))));
     /// assert!(rt; ArcStr::new().counted().is_none());
     /// ```
     pub fn counted(&self) -> Option<&Shared<RC_MAX, Global>>

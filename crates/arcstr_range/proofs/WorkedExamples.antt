@@ -1,6 +1,6 @@
 -- Worked examples of the definitions, by computation.
 use lib.Utf8.{encode}
-use Rattle.std.proofs.Common.{◌≡◌, ℕ, ◌-◌, ◌^◌, List, [], ◌∷◌, get_or, refl, ap, inl, inr, arith, rules}
+use Rattle.std.proofs.Common.{◌≡◌, ℕ, ◌+◌, ◌-◌, ◌^◌, List, [], ◌∷◌, get_or, refl, ap, inl, inr, arith, rules}
 use Rattle.std.specs.Prelude.{codes}
 use Rattle.std.specs.Str.{chars, trim, trim_start, trim_end}
 use Rattle.arcstr_range.specs.declared.range.StrRange.TheVariants.{Between, From, To, Full, Inclusive, ToInclusive}
@@ -15,6 +15,10 @@ a_acute = 97 ∷ 195 ∷ 169 ∷ []
 
 abbrev greatest : ℕ
 greatest = 2 ^ 64 - 1
+
+-- the first length that does not fit in 32 bits
+abbrev wide : ℕ
+wide = 2 ^ 32
 
 -- ends
 ends_between : ends_of (Between 9 8) 3 ≡ (9, 8)
@@ -36,14 +40,14 @@ ends_inclusive = refl
 ends_unbounded : ends_of (ToInclusive greatest) 10 ≡ (0, 2 ^ 64)
 ends_unbounded = refl
 
-ends_wide : ends_of (ToInclusive 4294967295) 4294967296 ≡ (0, 4294967296)
+ends_wide : ends_of (ToInclusive (wide - 1)) wide ≡ (0, wide)
 ends_wide = refl
 
 -- lengths, including some that do not fit in 32 bits
-fits_wide : FitsLength 4294967296 0 4294967296
+fits_wide : FitsLength wide 0 wide
 fits_wide = search rules
 
-fits_wide_empty : FitsLength 4294967296 4294967296 4294967296
+fits_wide_empty : FitsLength wide wide wide
 fits_wide_empty = search rules
 
 fits_greatest : FitsLength greatest 0 greatest
@@ -52,10 +56,10 @@ fits_greatest = search rules
 past_greatest : IsFirstFault (length_rule greatest 0 (2 ^ 64)) PastEnd
 past_greatest = search rules
 
-past_short_end : IsFirstFault (length_rule 10 0 4294967296) PastEnd
+past_short_end : IsFirstFault (length_rule 10 0 wide) PastEnd
 past_short_end = search rules
 
-wide_out_of_order : IsFirstFault (length_rule 4294967296 4294967297 4294967296) OutOfOrder
+wide_out_of_order : IsFirstFault (length_rule wide (wide + 1) wide) OutOfOrder
 wide_out_of_order = search rules
 
 order_before_end : IsFirstFault (length_rule 3 9 8) OutOfOrder

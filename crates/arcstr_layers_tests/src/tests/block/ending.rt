@@ -1,5 +1,5 @@
 //! How handles end, and what is left of the memory.
-use super::made;
+use super::{count_of, made};
 use crate::tests::checks::check_eq;
 use arcstr_block::{End, Shared};
 use linked_list_allocator::LocalHeap;
@@ -28,7 +28,7 @@ fn an_end_is_one_drop(rt: HostRuntime) {
     let first = made(&rt, "foobar");
     let second = first.up(&rt);
     let third = first.up(&rt);
-    check_eq!(rt; (second.end().0, first.look().0), (End::Left, Some(2)));
+    check_eq!(rt; (second.end().0, count_of(&first)), (End::Left, Some(2)));
     drop(third);
-    check_eq!(rt; (first.look().0, first.end().0), (Some(1), End::Freed));
+    check_eq!(rt; (count_of(&first), first.end().0), (Some(1), End::Freed));
 }

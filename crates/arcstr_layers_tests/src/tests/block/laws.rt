@@ -3,7 +3,7 @@ ghost use Rattle.std.specs.Prelude.{◌≡◌, ◌≢◌, ◌≤◌, IsNone, IsT
 ghost use mathlib.Core.List.{IsPrefix};
 ghost use Rattle.arcstr_block.specs.Handle.{IsMarkedIn, SawBack, SawClone};
 
-use super::made;
+use super::{count_of, made};
 use crate::tests::checks::check_eq;
 use arcstr_block::{Down, Fixed, Seen, Shared};
 use std::alloc::Global;
@@ -27,7 +27,7 @@ fn apart_hands_both_back_in_order(rt: HostRuntime) {
     let (first, second) = cloned(&rt, first);
     let (second, other) = second.two_handles_have_two_seats(other);
     check_eq!(rt; (second.as_str(), other.as_str()), ("foobar", "foo"));
-    check_eq!(rt; (first.look().0, other.look().0), (Some(2), Some(1)));
+    check_eq!(rt; (count_of(&first), count_of(&other)), (Some(2), Some(1)));
 }
 
 /// What two looks at one block saw of its one history.
@@ -52,7 +52,7 @@ fn two_looks_agree(rt: HostRuntime) {
     let (_, other) = second.look();
     again.a_block_has_one_history(&seen);
     other.a_block_has_one_history(&seen);
-    check_eq!(rt; second.look().0, Some(2));
+    check_eq!(rt; count_of(&second), Some(2));
 }
 
 /// Ends a handle, and frees what it owes: if it owes anything, its block is not that of the other
@@ -79,7 +79,7 @@ fn no_handle_is_left_on_what_is_owed(rt: HostRuntime) {
     let (left, other) = owes_beside(first, other);
     let (owes, other) = owes_beside(second, other);
     check_eq!(rt; (left, owes), (false, true));
-    check_eq!(rt; (other.as_str(), other.look().0), ("foo", Some(1)));
+    check_eq!(rt; (other.as_str(), count_of(&other)), ("foo", Some(1)));
 }
 
 /// Ends a handle, and frees what it owes: if it owes anything, its block is not that of the
@@ -103,7 +103,7 @@ fn no_lent_handle_is_on_what_is_owed(rt: HostRuntime) {
     let other = &made(&rt, "foo");
     check_eq!(rt; owes_beside_lent(first, &second), false);
     check_eq!(rt; owes_beside_lent(second, other), true);
-    check_eq!(rt; other.look().0, Some(1));
+    check_eq!(rt; count_of(&other), Some(1));
 }
 
 /// Ends a handle, and frees what it owes: if it owes anything, its block is not the permanent one.
@@ -245,7 +245,7 @@ fn what_follows_extends_what_was_seen(rt: HostRuntime) {
     let third = made(&rt, "bar");
     let (clone, _, before) = cloned_in_order(&rt, &third);
     check_eq!(rt; ended(third, &before).is_some(), false);
-    check_eq!(rt; clone.look().0, Some(1));
+    check_eq!(rt; count_of(&clone), Some(1));
     let second = made(&rt, "foo");
     check_eq!(rt; mark_and_look(&second), None);
     let (_, before) = second.look();

@@ -1,3 +1,4 @@
+use super::count_of;
 use crate::tests::checks::{check, check_eq};
 use arcstr_block::{Shared, TextFault, joined_len};
 use linked_list_allocator::LocalHeap;
@@ -6,14 +7,14 @@ use std::alloc::Global;
 #[test]
 fn a_closure_fills_no_bytes(rt: HostRuntime) {
     let empty = Shared::<5, _>::init(rt.alloc(), 0, |_| {}).expect(&rt, "refused");
-    check_eq!(rt; empty.look().0, Some(1));
+    check_eq!(rt; count_of(&empty), Some(1));
 }
 
 /// There may be `usize::MAX` copies of an empty text. They are not made one by one.
 #[test]
 fn copies_of_nothing_are_made_at_once(rt: HostRuntime) {
     let made = &Shared::<5, _>::repeat(rt.alloc(), "", usize::MAX).expect(&rt, "refused");
-    check_eq!(rt; (made.len(), made.look().0), (0, Some(1)));
+    check_eq!(rt; (made.len(), count_of(&made)), (0, Some(1)));
 }
 
 fn is_refused(heap: &LocalHeap) -> bool {

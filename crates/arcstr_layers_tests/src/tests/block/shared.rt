@@ -2,7 +2,7 @@
 ghost use Rattle.std.specs.Prelude.{◌≤◌};
 ghost use Rattle.arcstr_count.specs.declared.words.TheConstants.{RC_MAX};
 
-use super::made;
+use super::{count_of, made};
 use crate::tests::checks::{check, check_eq};
 use arcstr_block::{Down, Fixed, Owed, Seen, Shared, TextFault};
 use linked_list_allocator::LocalHeap;
@@ -89,7 +89,7 @@ fn a_marked_block_ends_no_handle(rt: HostRuntime) {
     let second = first.up(&rt);
     check_eq!(rt; first.fixed().0.is_none(), true);
     let fixed = first.mark();
-    check_eq!(rt; (first.look().0, second.fixed().0.is_some()), (None, true));
+    check_eq!(rt; (count_of(&first), second.fixed().0.is_some()), (None, true));
     check_eq!(rt; (ended(first.down().0), ended(second.down().0)), (1, 1));
     check_eq!(rt; fixed.again().as_str(), "foobar");
 }
@@ -141,11 +141,11 @@ fn a_limit_marks_the_block(rt: HostRuntime) {
 fn a_clone_of_few_tries_counts_marks_and_gives_up(rt: HostRuntime) {
     let text = &Shared::<1, _>::from_text(rt.alloc(), "aé").expect(&rt, "refused");
     check!(rt; text.try_up(0).is_none());
-    check_eq!(rt; text.look().0, Some(1));
+    check_eq!(rt; count_of(&text), Some(1));
     let second = text.try_up(1);
-    check_eq!(rt; (second.is_some(), text.look().0), (true, Some(2)));
+    check_eq!(rt; (second.is_some(), count_of(&text)), (true, Some(2)));
     check!(rt; text.try_up(1).is_some());
-    check_eq!(rt; text.look().0, None);
+    check_eq!(rt; count_of(&text), None);
     check!(rt; text.try_up(0).is_some());
 }
 
@@ -197,7 +197,7 @@ fn look_after_two<const LIMIT: u64, R: Threads + Wait + Sync>(
         || up_together(rt, first, gate),
     );
     let read = second.as_str() == "foobar" && third.as_str() == "foobar";
-    Ok((first.look().0, read, met && also_met))
+    Ok((count_of(&first), read, met && also_met))
 }
 
 #[test]
@@ -241,9 +241,9 @@ fn what_could_not_be_stored_is_dropped(rt: HostRuntime) {
     let Err(refused) = Box::new(&heap, (text.up(&rt), text.up(&rt))) else {
         panic!(rt; "the heap has room for two handles");
     };
-    check_eq!(rt; text.look().0, Some(3));
+    check_eq!(rt; count_of(&text), Some(3));
     check_eq!(rt; TextFault::from(refused), TextFault::Memory);
-    check_eq!(rt; text.look().0, Some(1));
+    check_eq!(rt; count_of(&text), Some(1));
 }
 
 /// Marks the block, and ends the handle.
@@ -294,7 +294,7 @@ fn four_threads_leave_one(rt: HostRuntime) {
     let (gate, alloc) = (&AtomicU64::new(0), rt.alloc());
     let kept = thread::map_indices(&rt, alloc, 4, &|_| clones(&rt, alloc, text, gate));
     let kept = kept.expect(&rt, "no thread");
-    check_eq!(rt; text.look().0, Some(400_001));
+    check_eq!(rt; count_of(&text), Some(400_001));
     drop(kept);
-    check_eq!(rt; text.look().0, Some(1));
+    check_eq!(rt; count_of(&text), Some(1));
 }
