@@ -141,14 +141,19 @@ def words_of_check(crate: str, kept: Path) -> list:
     return check_words(crate, root, kept, built, uses_of(crate))
 
 
-def check_whole(crate: str) -> str:
-    """Checks a crate over the libraries that are built here, and keeps what it proves where `rt
-    check` does. Returns the last line, which the machine remembers where it says `proved`."""
+def last_line(crate: str) -> str:
+    """The last line of a check of a crate, by an earlier check on this machine or by one now, which
+    keeps what it proves where `rt check` does."""
+    sources = sum_of_sources(crate)
+    earlier = LAST_LINES / sources
+    if earlier.is_file():
+        return earlier.read_text()
+    if not prove("check", below(crate)):
+        return ""
     kept = CRATES / crate / "out/incremental"
     kept.mkdir(parents=True, exist_ok=True)
-    words, sources = words_of_check(crate, kept), sum_of_sources(crate)
     ran = subprocess.run(
-        words,
+        words_of_check(crate, kept),
         cwd=CRATES / crate,
         stdin=subprocess.DEVNULL,
         stdout=subprocess.PIPE,
@@ -159,16 +164,8 @@ def check_whole(crate: str) -> str:
     line = "".join(ran.stdout.splitlines()[-1:])
     if line.startswith(PROVED) and sources == sum_of_sources(crate):
         LAST_LINES.mkdir(parents=True, exist_ok=True)
-        (LAST_LINES / sources).write_text(line)
+        earlier.write_text(line)
     return line
-
-
-def last_line(crate: str) -> str:
-    """The last line of a check of a crate, by an earlier check on this machine or by one now."""
-    earlier = LAST_LINES / sum_of_sources(crate)
-    if earlier.is_file():
-        return earlier.read_text()
-    return check_whole(crate) if prove("check", below(crate)) else ""
 
 
 def fault_of_pack() -> str:

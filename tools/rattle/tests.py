@@ -1,11 +1,8 @@
 """Tests of the scripts of this folder: what their parsers read, and the mistakes that they find."""
-import contextlib
 import importlib.util
-import io
 import subprocess
 import sys
 import tempfile
-import time
 import unittest
 from collections.abc import Callable
 from importlib.machinery import SourceFileLoader
@@ -297,25 +294,6 @@ class WrongBodies(Folder):
             self.assertEqual(room.tried, len(bodies))
             wrong = [body.name for body in bodies if body.wrong]
             self.assertEqual(wrong, [name for name in limits if limits[name] == 0])
-
-    def test_a_crate_with_several_rooms_is_proved_once_before_them(self) -> None:
-        [body], _ = edits.parse(self.path, BODY)
-        edits.read_edit(body)
-        done: list[str] = []
-
-        def prove(_: str) -> None:
-            time.sleep(0.1)
-            done.append("proved")
-
-        stubs = {"LANES": 3, "check_whole": prove, "planted_faults": lambda *_: []}
-        tries = lambda *_: done.append("tried")
-        with mock.patch.multiple(wrong_bodies, **stubs), mock.patch.object(
-            wrong_bodies.Room, "try_edits", tries
-        ), contextlib.redirect_stderr(io.StringIO()):
-            for number, wanted in ((45, ["proved", "tried", "tried"]), (30, ["tried"])):
-                done.clear()
-                wrong_bodies.try_all({"pair": [body] * number})
-                self.assertEqual(done, wanted)
 
     def test_planted_bodies_have_to_get_their_verdicts(self) -> None:
         """A prover that rejects all, and one that rejects nothing, are seen."""
