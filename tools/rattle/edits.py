@@ -274,13 +274,14 @@ def module_of(file: str) -> str:
 
 def path_of(key: Key) -> str:
     """The prover's path of a function, or the end of it. A method of a trait stands under the names
-    of the type, the trait and its arguments."""
+    of the type, the trait and those of its arguments that are other types."""
     if key.owner is None:
         return f"{module_of(key.file)}::{key.name}".removeprefix("::")
     trait = key.trait or ""
     # An implementation for a reference has its trait as its owner, and the reference in its place.
     named = f"{trait} {key.owner}" if trait.startswith("&") else f"{key.owner} {trait}"
-    words = re.findall(r"\w+|&", re.sub(r"\bfmt::|'\w+|\bDrop\b", "", named))
+    words = re.findall(r"\w+|&", re.sub(r"\bfmt::|\b\w+::\w+::|'\w+|\bDrop\b", "", named))
+    words = words[:1] + [word for word in words[1:] if word != key.owner or trait.startswith("&")]
     named = "".join("Ref" if word == "&" else word[0].upper() + word[1:] for word in words)
     return f"{named}::{key.name}"
 

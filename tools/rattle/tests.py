@@ -115,6 +115,20 @@ class Edits(Folder):
         self.assertEqual(edits.read_edit(body).wrong, "")
         self.assertEqual({key.owner for key in body.functions}, {"A"})
 
+    def test_the_paths_of_the_prover(self) -> None:
+        for owner, trait, path in (
+            (None, None, "more::f"),
+            ("A", None, "A::f"),
+            ("A", "fmt::Display", "ADisplay::f"),
+            ("A", "log::kv::ToValue", "AToValue::f"),
+            ("A", "FromIterator<A>", "AFromIterator::f"),
+            ("A", "FromIterator<B>", "AFromIteratorB::f"),
+            ("Pattern", "&'a A", "RefAPattern::f"),
+            ("indexmap::Equivalent<B>", "&A", "RefAIndexmapEquivalentB::f"),
+        ):
+            key = edits.Key("src/more.rt", owner, trait, "f")
+            self.assertEqual(edits.path_of(key), path)
+
     def test_mistakes_of_typing_are_told_with_their_lines(self) -> None:
         """Each text has one mistake, which is told."""
         for text, line, part in (
