@@ -26,7 +26,7 @@ pub(crate) enum Family {
 }
 
 /// The name of each figure, with its family.
-const FIGURES: [(&str, Family); 45] = [
+const FIGURES: [(&str, Family); 48] = [
     ("clone_drop", Family::Clones),
     ("clone_drop_bare", Family::Clones),
     ("clone_drop_slice", Family::Clones),
@@ -43,6 +43,9 @@ const FIGURES: [(&str, Family); 45] = [
     ("eq", Family::Comparisons),
     ("cmp", Family::Comparisons),
     ("hash", Family::Comparisons),
+    ("get", Family::Comparisons),
+    ("eq_slice", Family::Comparisons),
+    ("get_slice", Family::Comparisons),
     ("to_json", Family::Json),
     ("from_json", Family::Json),
     ("count", Family::Words),

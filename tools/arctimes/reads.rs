@@ -4,7 +4,7 @@ use crate::figures::no_figure;
 use crate::requests::{Machine, Request};
 use crate::texts::{eight, many, text};
 use anyhow::Result;
-use arcstr::{ArcStr, Substr};
+use arcstr::{ArcStr, StrRange, Substr};
 use std::cmp::Ordering;
 use std::hash::{DefaultHasher, Hash, Hasher};
 
@@ -19,8 +19,29 @@ pub(crate) fn run_comparisons<M: Machine>(rt: &M, request: &Request) -> Result<(
         "eq" => request.time_each(rt, &all, 8, |text| (*text == one) as usize),
         "cmp" => request.time_each(rt, &all, 8, |text| rank(text.cmp(&one))),
         "hash" => request.time_each(rt, &all, 8, hash_of),
+        "get" => request.time_each(rt, &all, 8, |text| length(text.get(1..))),
+        _ => run_comparisons_of_slices(rt, request, &one, &all),
+    }
+}
+
+/// Does to slices of the whole texts what their figures do to the texts.
+fn run_comparisons_of_slices<M: Machine>(
+    rt: &M,
+    request: &Request,
+    one: &ArcStr,
+    all: &[ArcStr],
+) -> Result<()> {
+    let one = one.substr(rt, ..)?;
+    let all = slices_of(rt, all, (..).into())?;
+    match request.figure {
+        "eq_slice" => request.time_each(rt, &all, 8, |slice| (*slice == one) as usize),
+        "get_slice" => request.time_each(rt, &all, 8, |slice| length(slice.get(1..))),
         _ => no_figure(),
     }
+}
+
+fn length(part: Option<&str>) -> usize {
+    part.map_or(0, |part| part.len())
 }
 
 fn rank(order: Ordering) -> usize {
@@ -43,7 +64,7 @@ pub(crate) fn run<M: Machine>(rt: &M, request: &Request) -> Result<()> {
         "read" => request.time_each(rt, &all, 1000, |text| text.len()),
         "read_byte" => request.time_each(rt, &all, 1000, |text| last_byte(text.as_bytes())),
         "read_slice" => {
-            let slices = slices_of(rt, &all)?;
+            let slices = slices_of(rt, &all, (1..15).into())?;
             request.time_each(rt, &slices, 1000, |slice| last_byte(slice.as_bytes()))
         }
         _ => no_figure(),
@@ -68,11 +89,11 @@ fn mixed<M: Machine>(rt: &M, request: &Request) -> Result<Vec<ArcStr>> {
     Ok(handles)
 }
 
-/// Returns the slice `1..15` of each text.
-fn slices_of<M: Machine>(rt: &M, texts: &[ArcStr]) -> Result<Vec<Substr>> {
+/// Returns the slice in this range of each text.
+fn slices_of<M: Machine>(rt: &M, texts: &[ArcStr], range: StrRange) -> Result<Vec<Substr>> {
     let mut slices = Vec::new(rt.alloc());
     for text in texts {
-        slices.push(text.substr(rt, 1..15)?)?;
+        slices.push(text.substr(rt, range)?)?;
     }
     Ok(slices)
 }

@@ -19,6 +19,8 @@ WRONG_ANSWER = re.compile(
     r"\./proofs/(?P<path>.+)/\w+\.antt:\d+:\d+: error: `(?P<goal>[^`]+)`: "
     r"(?!.*(?:has no [f`]|is not in scope|was not admitted))"
 )
+# The most memory that a proof has taken, in bytes.
+A_PROOF = 7_000_000_000
 # How many tests passed and failed.
 TESTED = re.compile(r"^test result: .*? (?P<passed>\d+) passed; (?P<failed>\d+) failed;", re.M)
 PASSED_TEST = re.compile(r"^test .* ok\n", re.M)
@@ -41,6 +43,13 @@ def compiler() -> Path:
 def format_words(files: Iterable[Path]) -> list[str | Path]:
     """Tells which of these files are laid out otherwise than `rt fmt` would."""
     return [compiler(), "fmt", "--check", *files]
+
+
+def ci_words(proofs: int) -> list[str]:
+    """`rt ci` with this many proofs at a time. If there is no memory for so many, it decides."""
+    free = re.search(r"^MemAvailable: +(\d+) kB", Path("/proc/meminfo").read_text(), re.M)
+    has_room = free is not None and proofs * A_PROOF <= int(free[1]) * 1024
+    return [*["env", f"RT_JOBS={proofs}"] * has_room, "rt", "ci"]
 
 
 def check_words(crate: str, root: str, kept: Path, built: dict[str, Path], uses: list[str]) -> list:

@@ -2,6 +2,7 @@
 terminal one line that is renewed each second, and elsewhere a line for each part that is done."""
 import os
 import re
+import resource
 import shutil
 import signal
 import subprocess
@@ -12,6 +13,9 @@ from concurrent.futures import ThreadPoolExecutor
 from typing import Any
 
 PROCESSORS = len(os.sched_getaffinity(0))
+# How many proofs run at a time. Processors beyond two are mostly threads of half as many cores: a
+# proof beside three others then costs half as much processor time again, and all end no sooner.
+PROOFS = max(min(2, PROCESSORS), PROCESSORS // 2)
 # What rt says while it proves a crate, and what it and other scripts say of a part of their work.
 SO_FAR = re.compile(r"(?:so far: |checked .*, )(\d+) of (\d+)\b")
 NEWS = re.compile(r"rt: (.* (?:proved|NOT PROVED))$|(?:wrong-bodies|refusals): (.*)")
@@ -27,6 +31,12 @@ STREAMS: dict[str, Any] = {
 def span(seconds):
     """A time in words, rounded up to ten seconds or to a minute."""
     return f"{-int(-seconds // 10) * 10} s" if seconds <= 90 else f"{-int(-seconds // 60)} min"
+
+
+def processor_time() -> float:
+    """The processor time in seconds of this run and of all that it started and that has ended."""
+    spent = [resource.getrusage(it) for it in (resource.RUSAGE_SELF, resource.RUSAGE_CHILDREN)]
+    return sum(it.ru_utime + it.ru_stime for it in spent)
 
 
 def take_interrupts() -> None:

@@ -74,11 +74,11 @@ def version_of(folder: Path) -> str:
     return file.read_text().strip() if file.exists() else "unversioned"
 
 
-def kit_wanted() -> str:
-    """The kit with which this repository is proved, which its README names."""
-    found = re.search(r"\brattle-kit-\w+", (ROOT / "README.md").read_text())
+def kits_wanted() -> list[str]:
+    """The kits with which this repository is proved, which its README names."""
+    found = sorted({*re.findall(r"\brattle-kit-\w+", (ROOT / "README.md").read_text())})
     assert found, "README.md names no kit"
-    return found[0]
+    return found
 
 
 def contents_of(folder: Path) -> list[str]:
@@ -231,7 +231,7 @@ def prepare(new: Path, crates: list[str]) -> None:
                 shutil.copy(source, new / "crates" / name)
         for both in ("LICENSE", "VERSION"):
             shutil.copy(ROOT / both, new / "crates" / name)
-        (new / "crates" / name / "KIT").write_text(f"{kit_wanted()}\n")
+        (new / "crates" / name / "KIT").write_text(f"{' or '.join(kits_wanted())}\n")
     (new / "crates.txt").write_text("".join(f"{line_of(name, ROOT)}\n" for name in crates))
     prepare_pages(new, crates)
     for name in crates:
@@ -370,11 +370,11 @@ def said_of_proofs(crates: list[str], target: Path, size: int | None) -> str:
 
 
 def said_of_kit() -> list[str]:
-    kit, here = kit_wanted(), built.kit_here()
+    kits, here = kits_wanted(), built.kit_here().partition(" ")[0]
+    kit = " or ".join(kits)
     if not shutil.which("rt"):
         return [NO_RT.format(kit=kit)]
-    of = here.partition(" ")[0]
-    return [] if of == kit else [OTHER_KIT.format(kit=kit, here=of)]
+    return [] if here in kits else [OTHER_KIT.format(kit=kit, here=here)]
 
 
 def lay(target: Path, crates: list[str], after_laying: str) -> list[str]:

@@ -94,7 +94,7 @@ impl ArcStr {
     /// let text = ArcStr::read_from(rt.alloc(), "foobar".as_bytes())?;
     /// assert_eq!(rt; text.as_str(), "foobar");
     /// ```
-    pub fn read_from<R: Read>(alloc: Global, mut reader: R) -> Result<ArcStr, ReadFault>
+    pub fn read_from<R: Read>(alloc: Global, reader: R) -> Result<ArcStr, ReadFault>
     where
         R: Drop,
         ensures text { IfOk result
@@ -104,9 +104,7 @@ impl ArcStr {
         // Promise: An interrupted read is tried again.
         ensures retried { IfErr result IsNoInterrupt }
     {
-        let mut builder = ArcStrBuilder::new(alloc);
-        builder.read_from(&mut reader)?;
-        Ok(builder.finish()?)
+        read_whole(ArcStrBuilder::new(alloc), reader)
     }
 
     /// Reads a file as a text, as `fs::read_to_string` does. The length of the file gives the
@@ -126,10 +124,9 @@ impl ArcStr {
         // Promise: An empty text is the empty literal.
         ensures empty { IfOk result (λ made. made.text ≡ [] → made ≡ literal_of []) }
     {
-        let mut file = File::open(rt, path)?;
-        let mut builder = ArcStrBuilder::with_capacity(rt.alloc(), size_of_file(&file))?;
-        builder.read_from(&mut file)?;
-        Ok(builder.finish()?)
+        let file = File::open(rt, path)?;
+        let builder = ArcStrBuilder::with_capacity(rt.alloc(), size_of_file(&file))?;
+        read_whole(builder, file)
     }
 }
 
@@ -167,6 +164,19 @@ impl ArcStrBuilder {
     }
 }
 
+/// Reads to the end of a reader into a builder of an empty text, and returns the text.
+fn read_whole<R: Read>(mut builder: ArcStrBuilder, mut reader: R) -> Result<ArcStr, ReadFault>
+where
+    R: Drop,
+    requires { builder.text ≡ [] }
+    ensures text { IfOk result (λ made. IfSome (R.remaining reader) (λ bytes. made.text ≡ bytes)) }
+    ensures empty { IfOk result (λ made. made.text ≡ [] → made ≡ literal_of []) }
+    ensures retried { IfErr result IsNoInterrupt }
+{
+    builder.read_from(&mut reader)?;
+    Ok(builder.finish()?)
+}
+
 /// Reads once, after the bytes of an unfinished character, and appends the text that is there then.
 /// Returns how many bytes of an unfinished character stand at the start of the chunk, or `None` at
 /// the end of the input.
@@ -196,7 +206,7 @@ fn read_chunk<R: Read>(
         Ok(count) => {
             let end = unfinished + count;
             let pushed = push_text(builder, &chunk[..end])?;
-            move_to_start(chunk, pushed, end);
+            chunk.copy_within(pushed..end, 0);
             Ok(Some(end - pushed))
         }
         Err(error) if error.kind() == ErrorKind::Interrupted => Ok(Some(unfinished)),
@@ -240,20 +250,6 @@ fn push_text(builder: &mut ArcStrBuilder, bytes: &[u8]) -> Result<usize, TextFau
         }
         None => Ok(0),
     }
-}
-
-/// Copies the bytes from `from` to `end`, of which there are few, to the start.
-fn move_to_start(bytes: &mut [u8], from: usize, end: usize)
-    requires ordered { from ≤ end }
-    requires inside { end ≤ length bytes.old }
-    requires few { end ≤ from + UNFINISHED }
-    ensures moved { take (end - from) bytes.new ≡ drop from (take end bytes.old) }
-    ensures long { length bytes.new ≡ length bytes.old }
-{
-    let count = end - from;
-    let mut moved = [0u8; UNFINISHED];
-    moved[..count].copy_from_slice(&bytes[from..end]);
-    bytes[..count].copy_from_slice(&moved[..count]);
 }
 
 /// The length of a file in bytes, or 0 if it is not known.

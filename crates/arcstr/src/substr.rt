@@ -1,5 +1,5 @@
 //! `Substr`: a slice of a shared text, which keeps its parent alive.
-ghost use Rattle.std.specs.Prelude.{◌≡◌, ◌↔◌, [], length, IsTrue, IsSome, IfSome, MatchResult};
+ghost use Rattle.std.specs.Prelude.{◌≡◌, ◌↔◌, ◌+◌, ◌^◌, ◌<◌, [], length, IsTrue, IsSome, IfSome, MatchResult};
 ghost use Rattle.arcstr_range.specs.Ends.{IsLawful};
 ghost use Rattle.arcstr_range.specs.Text.{SpellsBetween};
 ghost use Rattle.arcstr.specs.TextView.{IsStatic, literal_of};
@@ -33,17 +33,21 @@ use std::sync::Wait;
 pub struct Substr {
     parent: ArcStr,
     start: usize,
-    end: usize,
+    // A length in place of the end, since most calls need the length.
+    length: usize,
+    ghost fits: { start + length < 2 ^ 64 },
 }
 
 impl Model for Substr {
+    ghost use Rattle.std.specs.Prelude.{◌+◌};
     ghost use Rattle.arcstr.specs.Substr.{SubstrView, IsSoundSlice, slice_of};
 
     ghost Value = { SubstrView };
 
-    ghost view = { λ fields. slice_of fields.parent fields.start fields.end };
+    ghost view = { λ fields. slice_of fields.parent fields.start (fields.start + fields.length) };
 
-    ghost invariant = { λ fields. IsSoundSlice (slice_of fields.parent fields.start fields.end) };
+    ghost invariant = { λ fields. IsSoundSlice
+        (slice_of fields.parent fields.start (fields.start + fields.length)) };
 }
 
 impl Substr {
@@ -98,7 +102,7 @@ impl Substr {
         Substr {
             parent,
             start: range.start,
-            end: range.end,
+            length: range.end - range.start,
         }
     }
 
@@ -135,7 +139,7 @@ impl Substr {
         // Promise: The range is in order, inside the parent's text and at character boundaries.
         ensures lawful { IsSoundSlice self.now }
     {
-        self.start..self.end
+        self.start..self.start + self.length
     }
 
     /// Makes another slice with the same byte range of the same parent. Clones the parent's handle
@@ -154,7 +158,7 @@ impl Substr {
         Substr {
             parent: self.parent.clone(rt),
             start: self.start,
-            end: self.end,
+            length: self.length,
         }
     }
 
@@ -167,7 +171,7 @@ impl Substr {
         Some(Substr {
             parent: self.parent.try_clone(tries)?,
             start: self.start,
-            end: self.end,
+            length: self.length,
         })
     }
 
@@ -191,14 +195,14 @@ impl Substr {
     pub fn len(&self) -> usize
         ensures { result ≡ length (text_of self.now) }
     {
-        self.end - self.start
+        self.length
     }
 
     /// As `ArcStr::is_empty`, for the slice's own text.
     pub fn is_empty(&self) -> bool
         ensures { IsTrue result ↔ (text_of self.now ≡ []) }
     {
-        self.start == self.end
+        self.len() == 0
     }
 
     /// As `ArcStr::as_bytes`, for the slice's own text.

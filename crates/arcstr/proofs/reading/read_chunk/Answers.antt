@@ -1,6 +1,19 @@
--- The bytes of the chunk are the text that is appended and the bytes that are moved to its start.
-use Rattle.std.proofs.Common.{◌+◌, ◌++◌, take, drop, sym, ap, ap₂, ◌∙◌, append_assoc, take-append-drop, take-add}
+-- The bytes of the chunk are the text that is appended and the bytes that are copied to its start.
+use Rattle.std.proofs.Common.{◌≡◌, ◌≤◌, ◌+◌, ◌-◌, List, ℕ, ◌++◌, length, take, drop, sym, ap, ap₂, ◌∙◌, append_assoc, take-append-drop, take-add}
+use Rattle.std.proofs.lemmas.List.{drop-take, length-drop, length-take-le}
+use Rattle.std.proofs.lemmas.List.Edits.{take-paste}
+use Rattle.std.specs.List.{copy_within}
+use Rattle.arcstr.proofs.Orders.{arith}
 use Rattle.arcstr.proofs.reading.read_chunk.Goals as goal
+
+-- what is copied to the start of a list stands there
+copied : (xs ys : List ℕ) (from end : ℕ) → from ≤ length (take end xs) → end ≤ length xs → ys ≡ copy_within xs from end 0
+    → take (end - from) ys ≡ drop from (take end xs)
+copied xs ys from end inside long is =
+    let count = end - from in let until = length-take-le end xs long in let behind = length-drop from xs in
+    ap (take count) is ∙ ap (λ n. take n (copy_within xs from end 0)) (omega arith)
+    ∙ take-paste xs 0 (drop from xs) count (omega arith) (omega (arith, inside, until, behind, long))
+    ∙ sym (drop-take from count xs) ∙ ap (λ n. drop from (take n xs)) (omega (arith, inside, until))
 
 pub returns-in_ok-pushed-in-Ok-clause-read : goal.returns-in_ok-pushed-in-Ok-clause-read
 returns-in_ok-pushed-in-Ok-clause-read g c =
@@ -8,7 +21,8 @@ returns-in_ok-pushed-in-Ok-clause-read g c =
     let bytes = c.read_at.new.bytes in let all = take (kept + count) bytes in let read = take count (drop kept bytes) in (
       read,
       c.in-Ok.ensures.ok,
-      ap₂ (λ xs ys. xs ++ ys) c.in_ok-pushed-in-Ok.ensures.text c.move_to_start.ensures.moved
+      ap₂ (λ xs ys. xs ++ ys) c.in_ok-pushed-in-Ok.ensures.text
+          (copied bytes c.copy_within.new.self pushed (kept + count) c.in_ok-pushed-in-Ok.ensures.inside c.in-Ok.ensures.fits c.copy_within.ensures.after)
           ∙ append_assoc before (take pushed all) (drop pushed all)
           ∙ ap (λ xs. before ++ xs) (take-append-drop pushed all ∙ take-add kept count bytes ∙ ap (λ xs. xs ++ read) c.in-Ok.ensures.front)
           ∙ sym (append_assoc before (take kept c.args.chunk.now) read),
