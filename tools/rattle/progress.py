@@ -13,9 +13,9 @@ from concurrent.futures import ThreadPoolExecutor
 from typing import Any
 
 PROCESSORS = len(os.sched_getaffinity(0))
-# How many proofs run at a time. Processors beyond two are mostly threads of half as many cores: a
-# proof beside three others then costs half as much processor time again, and all end no sooner.
-PROOFS = max(min(2, PROCESSORS), PROCESSORS // 2)
+# How many proofs run at a time. Each takes up to 7 GB of memory, and the more run the more processor
+# time each takes: that of `arcstr` 290 s beside one other, and 360 s beside two.
+PROOFS = int(os.environ.get("RT_JOBS", 0)) or max(min(2, PROCESSORS), PROCESSORS // 2)
 # What rt says while it proves a crate, and what it and other scripts say of a part of their work.
 SO_FAR = re.compile(r"(?:so far: |checked .*, )(\d+) of (\d+)\b")
 NEWS = re.compile(r"rt: (.* (?:proved|NOT PROVED))$|(?:wrong-bodies|refusals): (.*)")

@@ -321,7 +321,6 @@ impl Substr {
 
     /// Returns the slice of the same parent between two byte offsets of the slice's own text.
     /// Clones the parent's handle.
-    #[tactic(auto, using(arcstr_range::proofs::Boundaries::cuts_of_cuts))]
     pub(crate) fn clone_between(&self, rt: &impl Wait, range: Range<usize>) -> Substr
         requires { IsLawful (text_of self.now) range.start range.end }
         ensures slice { result ≡ slice_within self.now range.start range.end }

@@ -78,5 +78,3 @@ cut-cut text start end from to in_order within =
 pub ruleset prefixes_at_boundaries = (IsPrefixLength-from_boundary, IsCharBoundary-from_prefix)
 
 pub ruleset slices_by_characters = (SpellsBetween-cut)
-
-pub ruleset cuts_of_cuts = (cut-cut)

@@ -13,7 +13,7 @@ use Rattle.arcstr_range.specs.Text.{cut}
 use Rattle.arcstr_range.specs.Trim.{Trims, TrimsEnd, TrimsStart}
 use Rattle.arcstr_range.specs.View.{IsFoundAt, StandsAt, View, end_of, view_at}
 
-length-cut : (text : List ℕ) (start end : ℕ) → start ≤ end → end ≤ length text → length (cut text start end) ≡ end - start
+pub length-cut : (text : List ℕ) (start end : ℕ) → start ≤ end → end ≤ length text → length (cut text start end) ≡ end - start
 length-cut text start end in_order within = length-take-le (end - start) (drop start text) (omega (arith, length-drop start text))
 
 -- a boundary of a part is a boundary of the whole

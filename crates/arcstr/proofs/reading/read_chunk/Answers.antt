@@ -27,3 +27,13 @@ returns-in_ok-pushed-in-Ok-clause-read g c =
           ∙ ap (λ xs. before ++ xs) (take-append-drop pushed all ∙ take-add kept count bytes ∙ ap (λ xs. xs ++ read) c.in-Ok.ensures.front)
           ∙ sym (append_assoc before (take kept c.args.chunk.now) read),
     )
+
+pub returns-in_ok-pushed-in-Ok-clause-long : goal.returns-in_ok-pushed-in-Ok-clause-long
+returns-in_ok-pushed-in-Ok-clause-long g c = c.copy_within.ensures.len ∙ c.in-Ok.ensures.long
+
+pub returns-in_ok-pushed-in-Ok-clause-few : goal.returns-in_ok-pushed-in-Ok-clause-few
+returns-in_ok-pushed-in-Ok-clause-few g c =
+    omega (arith, c.in_ok-pushed-in-Ok.ensures.few, length-take-le (c.args.unfinished + c.in-Ok.count) c.read_at.new.bytes c.in-Ok.ensures.fits)
+
+pub returns-in_ok-pushed-in-Ok-clause-kept : goal.returns-in_ok-pushed-in-Ok-clause-kept
+returns-in_ok-pushed-in-Ok-clause-kept g c = c.in_ok-pushed-in-Ok.ensures.kept
