@@ -26,7 +26,7 @@ pub(crate) enum Family {
 }
 
 /// The name of each figure, with its family.
-const FIGURES: [(&str, Family); 48] = [
+const FIGURES: [(&str, Family); 49] = [
     ("clone_drop", Family::Clones),
     ("clone_drop_bare", Family::Clones),
     ("clone_drop_slice", Family::Clones),
@@ -51,6 +51,7 @@ const FIGURES: [(&str, Family); 48] = [
     ("count", Family::Words),
     ("ranges", Family::Words),
     ("words", Family::Words),
+    ("token_list", Family::Words),
     ("tokens_all", Family::Words),
     ("script", Family::Scripts),
     ("lines", Family::Parts),

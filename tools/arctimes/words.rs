@@ -5,7 +5,7 @@ use crate::requests::{Form, Machine, Request};
 use crate::texts::add_each;
 use anyhow::Result;
 use arcstr::ArcStr;
-use arctokens::{tokens, tokens_all};
+use arctokens::{token_list, tokens, tokens_all};
 use std::alloc::{AllocError, Global};
 use std::sync::Wait;
 use std::{io, thread};
@@ -14,12 +14,13 @@ use std::{io, thread};
 const FEW_WORDS: &str =
     "the words of a text, \u{e4}\u{df}\u{4e2d} and\u{a0}spaces \u{1} of  two\ttexts\n";
 
-/// What a round finds for a text's words: their number, found by std, their byte ranges, or slices of them.
+/// What a round finds for a text's words: their number, found by std, their byte ranges, slices of them, or the list that holds the text once.
 #[derive(Clone, Copy)]
 enum Found {
     Count,
     Places,
     Slices,
+    List,
 }
 
 pub(crate) fn run<M: Machine>(rt: &M, request: &Request) -> Result<()> {
@@ -28,6 +29,7 @@ pub(crate) fn run<M: Machine>(rt: &M, request: &Request) -> Result<()> {
         "count" => request.time(rt, || count_each(rt, request, &texts, Found::Count)),
         "ranges" => request.time(rt, || count_each(rt, request, &texts, Found::Places)),
         "words" => request.time(rt, || count_each(rt, request, &texts, Found::Slices)),
+        "token_list" => request.time(rt, || count_each(rt, request, &texts, Found::List)),
         "tokens_all" => request.time(rt, || count_all(rt, request, &texts)),
         _ => no_figure(),
     }
@@ -88,6 +90,7 @@ fn words_of_share<R: Wait>(
             Found::Count => text.as_str().split_whitespace().count(),
             Found::Places => places(alloc, text.as_str())?.len(),
             Found::Slices => tokens(rt, alloc, text)?.len(),
+            Found::List => token_list(rt, alloc, text)?.len(),
         };
         sum = sum.wrapping_add(count);
     }

@@ -14,7 +14,7 @@ from collections.abc import Iterable
 from functools import cache
 from pathlib import Path
 
-from kit import check_words
+import kit
 from progress import Lanes, Progress
 from sources import CRATES, ROOT, below, files_of, is_library, listed_crates, uses_of
 
@@ -27,7 +27,6 @@ PACKED = ROOT / "PACKED"
 # crate, each by the sum of what it read.
 CACHE = Path(os.environ.get("XDG_CACHE_HOME") or Path.home() / ".cache")
 LAST_LINES = CACHE / "arcstr-last-lines"
-PROVED = "logic=proved "
 KEPT = "the functions that are proved are kept, and the same command goes on from there"
 
 
@@ -37,8 +36,8 @@ def laid_crates() -> list[str]:
 
 
 def product(crate: str) -> Path:
-    """The file that stands for what a crate is built to. That of a library has sums of the rest."""
-    return CRATES / crate / "out" / (f"rlib/{crate}.rlib/format" if is_library(crate) else crate)
+    """The file that stands for what a crate is built to."""
+    return CRATES / crate / (kit.built_library(crate) if is_library(crate) else f"out/{crate}")
 
 
 def with_below(crates: Iterable[str]) -> list[str]:
@@ -116,7 +115,7 @@ def prove(name: str, crates: Iterable[str]) -> bool:
         status, said = progress.follow(crate, words, CRATES / crate)
         if status == 0:
             note(crate, sources)
-            progress.end(crate, "proved" if PROVED in said else "was proved")
+            progress.end(crate, "proved" if kit.PROVED in said else "was proved")
         elif not progress.ended.is_set():
             progress.say(f"{crate} is not proved, so nothing above it is:")
             print(said, end="", file=sys.stderr)
@@ -138,7 +137,7 @@ def words_of_check(crate: str, kept: Path) -> list:
     its folder. `kept` is the folder of what earlier checks proved."""
     root = f"src/{'lib' if is_library(crate) else 'main'}.rt"
     built = {name: CRATES / name / "out/rlib" for name in below(crate)}
-    return check_words(crate, root, kept, built, uses_of(crate))
+    return kit.check_words(crate, root, kept, built, uses_of(crate))
 
 
 def last_line(crate: str) -> str:
@@ -162,7 +161,7 @@ def last_line(crate: str) -> str:
         errors="replace",
     )
     line = "".join(ran.stdout.splitlines()[-1:])
-    if line.startswith(PROVED) and sources == sum_of_sources(crate):
+    if line.startswith(kit.PROVED) and sources == sum_of_sources(crate):
         LAST_LINES.mkdir(parents=True, exist_ok=True)
         earlier.write_text(line)
     return line
@@ -174,15 +173,15 @@ def fault_of_pack() -> str:
     if not PACKED.is_file():
         return ""
     head, *rows = PACKED.read_text().splitlines() or [""]
-    _, kit, _, number = [*head.split("  "), "", "", "", ""][:4]
+    _, of_kit, _, number = [*head.split("  "), "", "", "", ""][:4]
     files = [row.partition("  ") for row in rows]
     wrong = [path for sum, _, path in files if sum_of(ROOT / path) != sum]
     if wrong or str(len(rows)) != number:
         names = ", ".join([*wrong, PACKED.name][:5])
         return f"this pack is cut or was changed, so unpack it anew: not as packed are {names}"
-    if kit != kit_here():
+    if of_kit != kit_here():
         return (
-            f"this pack is of the kit {kit}, and the kit here is {kit_here()}: "
+            f"this pack is of the kit {of_kit}, and the kit here is {kit_here()}: "
             "take the pack of your kit, or a clone"
         )
     return ""
@@ -209,7 +208,7 @@ def not_built(crates: Iterable[str], folder: Path) -> list[str]:
     """Which of these libraries, lowest first, `rt` would prove in a folder of crates."""
     lacking: list[str] = []
     for crate in crates:
-        is_stamped = (folder / crate / "out/rlib/stamp").is_file() and bool(shutil.which("rt"))
+        is_stamped = (folder / crate / kit.STAMP).is_file() and bool(shutil.which("rt"))
         if {*below(crate)} & {*lacking} or not is_stamped or not takes_as_built(folder / crate):
             lacking.append(crate)
     return lacking

@@ -21,6 +21,13 @@ WRONG_ANSWER = re.compile(
 )
 # The most memory that a proof has taken, in bytes.
 A_PROOF = 7_000_000_000
+# How a last line begins if all is proved.
+PROVED = "logic=proved "
+# How many functions of a crate are checked, and which crate is done.
+SO_FAR = re.compile(r"(?:so far: |checked .*, )(\d+) of (\d+)\b")
+DONE = r"rt: (.* (?:proved|NOT PROVED))$"
+# In a crate's folder, what says that its library is built from the sources there.
+STAMP = "out/rlib/stamp"
 # How many tests passed and failed.
 TESTED = re.compile(r"^test result: .*? (?P<passed>\d+) passed; (?P<failed>\d+) failed;", re.M)
 PASSED_TEST = re.compile(r"^test .* ok\n", re.M)
@@ -43,6 +50,32 @@ def compiler() -> Path:
 def format_words(files: Iterable[Path]) -> list[str | Path]:
     """Tells which of these files are laid out otherwise than `rt fmt` would."""
     return [compiler(), "fmt", "--check", *files]
+
+
+def built_library(crate: str) -> str:
+    """In a crate's folder, the file that stands for its built library. It has sums of the rest."""
+    return f"out/rlib/{crate}.rlib/format"
+
+
+# Proves a library as `rt ci` proves one below another crate, which asks crates.txt for no counts,
+# and marks it as built from its sources. The words are rt's folder, the repository and the crate.
+LIBRARY = f"""import sys
+sys.path.insert(0, sys.argv[1])
+import rtlib
+rtlib.Crate.cuts_libraries = True
+rtlib.COUNTS = ()
+rtlib.guarded()
+crate = rtlib.Crate(sys.argv[2] + "/crates/" + sys.argv[3], sys.argv[2], {{}})
+if status := crate.build_rlib([], True):
+    sys.exit(status)
+with open(crate.folder + "/{STAMP}", "w") as file:
+    file.write(crate.stamp())
+"""
+
+
+def library_words(repository: Path, crate: str) -> list[str | Path]:
+    """Proves a library of a repository from an empty state, without its proofs, to be packed."""
+    return [sys.executable, "-Bc", LIBRARY, folder() / "bin", repository, crate]
 
 
 def ci_words(proofs: int) -> list[str]:

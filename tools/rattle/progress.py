@@ -12,13 +12,14 @@ import time
 from concurrent.futures import ThreadPoolExecutor
 from typing import Any
 
+import kit
+
 PROCESSORS = len(os.sched_getaffinity(0))
 # How many proofs run at a time. Each takes up to 7 GB of memory, and the more run the more processor
 # time each takes: that of `arcstr` 290 s beside one other, and 360 s beside two.
 PROOFS = int(os.environ.get("RT_JOBS", 0)) or max(min(2, PROCESSORS), PROCESSORS // 2)
-# What rt says while it proves a crate, and what it and other scripts say of a part of their work.
-SO_FAR = re.compile(r"(?:so far: |checked .*, )(\d+) of (\d+)\b")
-NEWS = re.compile(r"rt: (.* (?:proved|NOT PROVED))$|(?:wrong-bodies|refusals): (.*)")
+# What rt and other scripts say of a part of their work.
+NEWS = re.compile(rf"{kit.DONE}|(?:wrong-bodies|refusals): (.*)")
 STREAMS: dict[str, Any] = {
     "stdin": subprocess.DEVNULL,
     "stdout": subprocess.PIPE,
@@ -134,7 +135,7 @@ class Progress:
             self.running.add(ran)
             for line in ran.stdout or ():
                 said.append(line)
-                if found := SO_FAR.match(line):
+                if found := kit.SO_FAR.match(line):
                     most = max(most, int(found[1]))
                     self.note(part, f"{most} of {found[2]} functions")
                 elif found := NEWS.match(line):

@@ -17,6 +17,7 @@ from collections.abc import Iterable, Iterator
 from pathlib import Path
 
 import built
+import kit
 from progress import PROCESSORS, span
 from sources import ROOT, below, uses_of
 
@@ -288,7 +289,7 @@ def lay_built(crates: list[str], new: Path) -> int:
 def is_same(old: Path, new: Path) -> bool:
     """Whether a crate lies there as it would be laid, and what is built of it too."""
     same = lambda name: built.sum_of(old / name) == built.sum_of(new / name)
-    return same(LIST) and (not (new / "out").exists() or same("out/rlib/stamp"))
+    return same(LIST) and (not (new / "out").exists() or same(kit.STAMP))
 
 
 def kept_of(old: Path, new: Path) -> list[str]:
@@ -371,10 +372,10 @@ def said_of_proofs(crates: list[str], target: Path, size: int | None) -> str:
 
 def said_of_kit() -> list[str]:
     kits, here = kits_wanted(), built.kit_here().partition(" ")[0]
-    kit = " or ".join(kits)
+    wanted = " or ".join(kits)
     if not shutil.which("rt"):
-        return [NO_RT.format(kit=kit)]
-    return [] if here in kits else [OTHER_KIT.format(kit=kit, here=here)]
+        return [NO_RT.format(kit=wanted)]
+    return [] if here in kits else [OTHER_KIT.format(kit=wanted, here=here)]
 
 
 def lay(target: Path, crates: list[str], after_laying: str) -> list[str]:
