@@ -21,6 +21,8 @@ WRONG_ANSWER = re.compile(
 )
 # The most memory that a proof has taken, in bytes.
 A_PROOF = 7_000_000_000
+# The kits that keep what they proved for its folder alone, and not for each folder of the machine.
+KEEP_BY_FOLDER = ("rattle-kit-13b",)
 # How a last line begins if all is proved.
 PROVED = "logic=proved "
 # How many functions of a crate are checked, and which crate is done.

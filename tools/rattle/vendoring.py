@@ -39,6 +39,10 @@ OF_CLONE = """\
 - The crates that yours use are proved in {root}. As long as that folder stays, `rt` takes
   the proofs from there at your first check, and proves your functions alone. `rt verdict` proves
   them again too."""
+BY_FOLDER = """\
+- The kit here keeps proofs for their folder alone, so none of {root} serves you.
+  {first} proves {names}: about {time} on {number} processors, and
+  up to 7 GB of memory. A pack brings them built."""
 NOT_PROVED = """\
 - Not proved in {root}: {names}.
   {first} proves them once: about {time} on {number} processors, and up to 7 GB of memory.
@@ -361,13 +365,14 @@ def said_of_proofs(crates: list[str], target: Path, size: int | None) -> str:
         return NEITHER.format(root=ROOT)
     users = [name for name in crates if {*named_by(name, target)} - {*crates}]
     asked = built.with_below(users) or crates
-    lacking = built.not_built(asked, built.CRATES)
+    serves = built.kit_here().partition(" ")[0] not in kit.KEEP_BY_FOLDER
+    lacking = built.not_built(asked, built.CRATES) if serves else asked
     if not lacking:
         return OF_CLONE.format(root=ROOT)
     time = span(built.seconds_for(lacking) / PROCESSORS)
     first = "Your first check" if users else "The first check of a crate that uses all of them"
-    names = ", ".join(lacking)
-    return NOT_PROVED.format(root=ROOT, names=names, first=first, time=time, number=PROCESSORS)
+    names, said = ", ".join(lacking), NOT_PROVED if serves else BY_FOLDER
+    return said.format(root=ROOT, names=names, first=first, time=time, number=PROCESSORS)
 
 
 def said_of_kit() -> list[str]:
