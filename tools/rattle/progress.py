@@ -49,8 +49,9 @@ def take_interrupts() -> None:
 
 class Progress:
     """What `with Progress(..)` tells of its block. The work has `total` parts, such as crates, and
-    takes `seconds` of processor time. After an interrupt it says what is `kept`. The block calls
-    `note` for what it learns of a part, and `end` once the part is done.
+    takes `seconds` of processor time, as PROOFS proofs at a time take it. After an interrupt it
+    says what is `kept`. The block calls `note` for what it learns of a part, and `end` once the
+    part is done.
     """
 
     def __init__(self, name, total, parts, seconds, kept):
@@ -59,7 +60,7 @@ class Progress:
             total,
             parts,
             kept,
-            span(seconds / PROCESSORS),
+            span(seconds / PROOFS),
         )
         self.done, self.now, self.running, self.shows, self.begun = (
             0,
