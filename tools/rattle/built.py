@@ -140,9 +140,16 @@ def words_of_check(crate: str, kept: Path) -> list:
     return kit.check_words(crate, root, kept, built, uses_of(crate))
 
 
+def keep_last_lines(said: str) -> None:
+    """Keeps the last lines that `rt ci` told for `last_line`."""
+    LAST_LINES.mkdir(parents=True, exist_ok=True)
+    for crate, line in kit.CHECKED.findall(said):
+        (LAST_LINES / sum_of_sources(crate)).write_text(line)
+
+
 def last_line(crate: str) -> str:
-    """The last line of a check of a crate, by an earlier check on this machine or by one now, which
-    keeps what it proves where `rt check` does."""
+    """The last line of a check of a crate, by `rt ci` or an earlier check on this machine, or by
+    one now, which keeps what it proves where `rt check` does."""
     sources = sum_of_sources(crate)
     earlier = LAST_LINES / sources
     if earlier.is_file():

@@ -25,6 +25,8 @@ A_PROOF = 7_000_000_000
 KEEP_BY_FOLDER = ("rattle-kit-13b",)
 # How a last line begins if all is proved.
 PROVED = "logic=proved "
+# What `rt ci` tells of a crate: its name, and the last line of its check.
+CHECKED = re.compile(rf"^== (\w+)\n(?:(?!== ).*\n)*?({PROVED}.*)$", re.M)
 # How many functions of a crate are checked, and which crate is done.
 SO_FAR = re.compile(r"(?:so far: |checked .*, )(\d+) of (\d+)\b")
 DONE = r"rt: (.* (?:proved|NOT PROVED))$"

@@ -333,6 +333,19 @@ class WrongBodies(Folder):
         self.assertIn("one + one", wrong_bodies.without_bodies(macro))
 
 
+class Kit(unittest.TestCase):
+    def test_the_last_lines_that_ci_tells(self) -> None:
+        """Not those of tests, nor of what is not proved."""
+        said = (
+            "== low\nfn low::f: proved\nlogic=proved functions=1\nlow proved\n"
+            "== low: its tests\nlogic=proved functions=2\n"
+            "== top\nlogic=not-proved\n"
+            "== last\nlogic=proved functions=3\n"
+        )
+        wanted = [("low", "logic=proved functions=1"), ("last", "logic=proved functions=3")]
+        self.assertEqual(kit.CHECKED.findall(said), wanted)
+
+
 class Examples(Folder):
     """tools/rattle/examples finds examples, and reads how they ended."""
 
