@@ -312,6 +312,33 @@ def copy_proofs(key: Key, copied: str, room: Path) -> None:
             proof.write_text(proof.read_text().replace(old, new))
 
 
+def folder_of_proofs(key: Key, room: Path) -> Path:
+    """The folder of a function's proofs. A method of a type stands with the type."""
+    module, type_of = module_of(key.file), rf"^(?:pub(?:\(\w+\))? )?(?:struct|enum) {key.owner}\b"
+    if key.owner and not key.trait:
+        for file in sorted((room / "src").rglob("*.rt")):
+            if re.search(type_of, file.read_text(), re.M):
+                module = module_of(str(file.relative_to(room)))
+    path = path_of(key) if key.owner else key.name
+    return room.joinpath("proofs", *module.split("::"), *path.split("::"))
+
+
+def answer_what_is_not_asked(key: Key, crate: str, room: Path) -> None:
+    """Adds an answer to a goal that a function does not have, if its proof is not all by hand. A
+    check refuses the answer, and then does not look at the open goals of the function once more, to
+    offer answers for them. That takes a fifth of its time."""
+    folder = folder_of_proofs(key, room)
+    if (folder / "Proof.antt").exists():
+        return
+    folder.mkdir(parents=True, exist_ok=True)
+    place = ".".join(folder.relative_to(room / "proofs").parts)
+    answers = folder / "Answers.antt"
+    known = answers.read_text() if answers.exists() else ""
+    if " as goal\n" not in known:
+        known = f"use Rattle.{crate}.proofs.{place}.Goals as goal\n{known}"
+    answers.write_text(f"{known}\npub no_such_goal : goal.no_such_goal\nno_such_goal c = ?\n")
+
+
 def plant(edits: Iterable[WrongBody], room: Path) -> None:
     """Plants the edits in the sources of a folder, and tells each the functions that it changed
     there. Where several change one function, all but the first change copies of it."""

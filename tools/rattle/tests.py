@@ -186,6 +186,33 @@ class Edits(Folder):
         self.assertTrue((self.crate / "proofs/two_another/Proof.antt").is_file())
         self.assertEqual({edits.path_of(key) for key in bodies[1].planted}, {"two_another"})
 
+    def test_the_folders_of_proofs(self) -> None:
+        """A method of a type stands with the type, and one of a trait with its implementation."""
+        self.write("src/types.rt", "pub(crate) struct A {}\npub struct Ab {}\n")
+        for owner, trait, folder in (
+            (None, None, "proofs/more/f"),
+            ("A", None, "proofs/types/A/f"),
+            ("A", "fmt::Display", "proofs/more/ADisplay/f"),
+            ("B", None, "proofs/more/B/f"),
+        ):
+            key = edits.Key("src/more.rt", owner, trait, "f")
+            self.assertEqual(edits.folder_of_proofs(key, self.crate), self.crate / folder)
+
+    def test_an_answer_is_added_to_those_that_are_there(self) -> None:
+        known = "use Rattle.pair.proofs.types.A.f.Goals as goal\n\npub returns : goal.returns\n"
+        self.write("proofs/two/Proof.antt", "use pair.proofs.two.Proof\n")
+        self.write("proofs/more/f/Answers.antt", known)
+        for name, text in (("f", known), ("g", "use Rattle.pair.proofs.more.g.Goals as goal\n")):
+            edits.answer_what_is_not_asked(
+                edits.Key("src/more.rt", None, None, name), "pair", self.crate
+            )
+            answers = (self.crate / f"proofs/more/{name}/Answers.antt").read_text()
+            self.assertTrue(answers.startswith(text) and "goal.no_such_goal" in answers)
+        edits.answer_what_is_not_asked(
+            edits.Key("src/lib.rt", None, None, "two"), "pair", self.crate
+        )
+        self.assertFalse((self.crate / "proofs/two/Answers.antt").exists())
+
     def test_edits_that_may_not_be_copied_stand_in_lists_of_their_own(self) -> None:
         clone = BODY.replace("one + one", "Pair { first: self.first,").replace(": one", ": Pair {")
         texts = [clone, clone.replace("a_mistake", "b"), BODY.replace("a_mistake", "c")]
