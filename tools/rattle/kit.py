@@ -19,8 +19,6 @@ WRONG_ANSWER = re.compile(
     r"\./proofs/(?P<path>.+)/\w+\.antt:\d+:\d+: error: `(?P<goal>[^`]+)`: "
     r"(?!.*(?:has no [f`]|is not in scope|was not admitted))"
 )
-# The most memory that a proof has taken, in bytes.
-A_PROOF = 7_000_000_000
 # The kits that keep what they proved for its folder alone, and not for each folder of the machine.
 KEEP_BY_FOLDER = ("rattle-kit-13b",)
 # How a last line begins if all is proved.
@@ -80,13 +78,6 @@ with open(crate.folder + "/{STAMP}", "w") as file:
 def library_words(repository: Path, crate: str) -> list[str | Path]:
     """Proves a library of a repository from an empty state, without its proofs, to be packed."""
     return [sys.executable, "-Bc", LIBRARY, folder() / "bin", repository, crate]
-
-
-def ci_words(proofs: int) -> list[str]:
-    """`rt ci` with this many proofs at a time. If there is no memory for so many, it decides."""
-    free = re.search(r"^MemAvailable: +(\d+) kB", Path("/proc/meminfo").read_text(), re.M)
-    has_room = free is not None and proofs * A_PROOF <= int(free[1]) * 1024
-    return [*["env", f"RT_JOBS={proofs}"] * has_room, "rt", "ci"]
 
 
 def check_words(crate: str, root: str, kept: Path, built: dict[str, Path], uses: list[str]) -> list:

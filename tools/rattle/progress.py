@@ -15,9 +15,8 @@ from typing import Any
 import kit
 
 PROCESSORS = len(os.sched_getaffinity(0))
-# How many proofs run at a time. Each takes up to 7 GB of memory, and the more run the more processor
-# time each takes: that of `arcstr` 290 s beside one other, and 360 s beside two.
-PROOFS = int(os.environ.get("RT_JOBS", 0)) or max(min(2, PROCESSORS), PROCESSORS // 2)
+# How many proofs run at a time. `rt ci` reads this variable too.
+PROOFS = int(os.environ.get("RT_JOBS", 0)) or min(4, PROCESSORS)
 # What rt and other scripts say of a part of their work.
 NEWS = re.compile(rf"{kit.DONE}|(?:wrong-bodies|refusals): (.*)")
 STREAMS: dict[str, Any] = {
