@@ -1,3 +1,4 @@
 pub mod Lookups
 pub mod Readings
+pub mod TextPlaces
 pub mod Words

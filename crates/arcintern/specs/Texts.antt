@@ -5,10 +5,11 @@ use Rattle.std.specs.declared.io.ErrorKind.{ErrorKind}
 use Rattle.std.specs.declared.io.ErrorKind.TheVariants.{InvalidInput, OutOfMemory}
 use Rattle.arcstr.specs.Substr.{SubstrView}
 use Rattle.arcstr.specs.TextView.{TextView, IsMadeOf}
-use Rattle.boxcar.specs.Table.{Shelves, id_at}
+use Rattle.write_once.specs.WriteOnce.{Place}
 use Rattle.arcintern.specs.declared.fault.InternFault.{InternFault}
 use Rattle.arcintern.specs.declared.fault.InternFault.TheVariants.{Full, Length, Memory}
 use Rattle.arcintern.specs.declared.interner.TheConstants.{MOST_TEXTS}
+use Rattle.arcintern.specs.TextList.{id_at}
 
 -- one of the texts spells this word
 abbrev pub HasWord : List TextView → List ℕ → Type 0
@@ -65,20 +66,20 @@ pub record TextTableView : Type 0 where
 
 -- ---- a shared interner, and its symbols
 
--- what clauses see of a symbol: its number, the text that it stands for, and the bucket of texts that holds it, with the bucket's name
+-- what clauses see of a symbol: its number, the text that it stands for, and the row of texts that holds it, with the row's name
 pub record SymbolView : Type 0 where
   pub number : ℕ
   pub text : TextView
-  pub bucket : ℕ
   pub row : ℕ
+  pub name : ℕ
 
--- the symbol is of the interner with these buckets
-abbrev pub IsSymbolOf : Shelves → SymbolView → Type 0
-IsSymbolOf texts symbol = symbol.row ≡ id_at texts.buckets symbol.bucket
+-- the symbol is of the interner with these rows
+abbrev pub IsSymbolOf : List Place → SymbolView → Type 0
+IsSymbolOf rows symbol = symbol.name ≡ id_at rows symbol.row
 
--- the symbol is of the interner with these buckets, and its text spells this word
-abbrev pub IsSymbolOfWord : Shelves → SymbolView → List ℕ → Type 0
-IsSymbolOfWord texts symbol word = IsSymbolOf texts symbol × (symbol.text.text ≡ word)
+-- the symbol is of the interner with these rows, and its text spells this word
+abbrev pub IsSymbolOfWord : List Place → SymbolView → List ℕ → Type 0
+IsSymbolOfWord rows symbol word = IsSymbolOf rows symbol × (symbol.text.text ≡ word)
 
 -- ---- the faults of an interner: their texts, and their kinds as faults of reading and writing
 

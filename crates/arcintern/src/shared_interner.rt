@@ -10,17 +10,18 @@ use crate::fault::InternFault;
 use crate::interner::{Interner, MOST_TEXTS};
 use crate::symbol::Symbol;
 use arcstr::ArcStr;
-use boxcar::Pushed;
 use shard::Shard;
 use std::alloc::{AllocFailed, Global};
 use std::fmt;
 use std::hash::{BuildHasher, BuildHasherDefault, FoldHasher};
 use std::marker::Model;
 use std::sync::Wait;
+use text_list::{Row, TextList};
+use write_once::Written;
 
 mod interning;
 mod shard;
-mod shared_slots;
+mod text_list;
 
 /// Keeps each distinct text once, as an `ArcStr`, for any number of threads.
 ///
@@ -51,18 +52,16 @@ mod shared_slots;
 #[derive(Drop)]
 pub struct SharedInterner<S: BuildHasher = BuildHasherDefault<FoldHasher>> {
     shards: Vec<Shard>,
-    texts: boxcar::Vec<ArcStr>,
+    texts: TextList,
     alloc: Global,
     hash_builder: S,
 }
 
 impl<S: BuildHasher> Model for SharedInterner<S> {
-    ghost use Rattle.std.specs.Prelude.{◌≤◌, length};
-    ghost use Rattle.boxcar.specs.Table.{Shelves, shelves_coded};
+    ghost use Rattle.std.specs.Prelude.{◌≤◌, List, length};
+    ghost use Rattle.write_once.specs.WriteOnce.{Place};
 
-    ghost Value = { Shelves };
-
-    ghost coded = { shelves_coded };
+    ghost Value = { List Place };
 
     ghost view = { λ interner. interner.texts };
 
@@ -135,7 +134,7 @@ impl<S: BuildHasher + Drop> SharedInterner<S> {
         requires { (1 ≤ shards) × (shards ≤ 64) }
         ensures { IfErr result (λ fault. fault ≡ InternFault.Memory) }
     {
-        let texts = boxcar::Vec::with_capacity(alloc, room)?;
+        let texts = TextList::with_capacity(alloc, room)?;
         let shards = empty_shards(alloc, shards, room.div_ceil(shards))?;
         Ok(SharedInterner {
             shards,
@@ -158,7 +157,7 @@ impl<S: BuildHasher> SharedInterner<S> {
         requires { IsSymbolOf self.now symbol.now }
         ensures { result.now ≡ symbol.now.text }
     {
-        self.texts.value(&symbol.text)
+        self.texts.text(symbol)
     }
 
     /// Proves that two symbols of this interner with one number have one text. It does nothing when
@@ -175,7 +174,7 @@ impl<S: BuildHasher> SharedInterner<S> {
         requires same { one.now.number ≡ other.now.number }
         ensures { one.now.text ≡ other.now.text }
     {
-        self.texts.agrees(&one.text, &other.text);
+        one.agrees(other);
     }
 
     /// Returns the symbol with this number, or `None` if no text has it: the number is another
@@ -192,8 +191,7 @@ impl<S: BuildHasher> SharedInterner<S> {
         ensures of { IfSome result (λ symbol. IsSymbolOf self.now symbol) }
         ensures number { IfSome result (λ symbol. symbol.number ≡ number) }
     {
-        let text = self.texts.witness(number.index())?;
-        Some(SharedSymbol { text })
+        self.texts.symbol_at(number.index())
     }
 
     /// Returns the number of texts. It may miss texts that other threads are adding. Takes no lock.
@@ -205,7 +203,7 @@ impl<S: BuildHasher> SharedInterner<S> {
     /// assert_eq!(rt; interner.len(), 1);
     /// ```
     pub fn len(&self) -> usize {
-        self.texts.count()
+        self.texts.len()
     }
 
     /// Returns whether there are no texts.
@@ -332,23 +330,31 @@ fn empty_shards(alloc: Global, shards: usize, room: usize) -> Result<Vec<Shard>,
 /// ```
 #[derive(Drop)]
 pub struct SharedSymbol {
-    pub(crate) text: Pushed<ArcStr>,
+    pub(crate) number: usize,
+    pub(crate) row: usize,
+    pub(crate) place: usize,
+    pub(crate) made: Written<Row>,
+    pub(crate) text: Written<ArcStr>,
 }
 
 impl Model for SharedSymbol {
-    ghost use Rattle.std.specs.Prelude.{◌^◌, ◌<◌};
+    ghost use Rattle.std.specs.Prelude.{◌≡◌, ◌+◌, ◌^◌, ◌<◌, length};
+    ghost use Rattle.arcintern.specs.TextList.{IsAt, id_at};
     ghost use Rattle.arcintern.specs.Texts.{SymbolView};
 
     ghost Value = { SymbolView };
 
     ghost view = { λ symbol. record {
-      number = symbol.text.index;
+      number = symbol.number;
       text = symbol.text.value;
-      bucket = symbol.text.bucket;
-      row = symbol.text.row;
+      row = symbol.row;
+      name = symbol.made.of;
     } };
 
-    ghost invariant = { λ symbol. symbol.text.index < 2 ^ 32 };
+    ghost invariant = { λ symbol. (symbol.number + 1 < 2 ^ 32) × (symbol.row < 224)
+        × IsAt symbol.number symbol.row symbol.place
+        × (symbol.place < length symbol.made.value.items)
+        × (symbol.text.of ≡ id_at symbol.made.value.items symbol.place) };
 }
 
 impl SharedSymbol {
@@ -362,7 +368,7 @@ impl SharedSymbol {
     pub fn number(&self) -> Symbol
         ensures { result ≡ self.now.number }
     {
-        Symbol::at(self.text.index())
+        Symbol::at(self.number)
     }
 
     /// Returns the same symbol once more.
@@ -376,8 +382,22 @@ impl SharedSymbol {
         ensures { result ≡ self.now }
     {
         SharedSymbol {
+            number: self.number,
+            row: self.row,
+            place: self.place,
+            made: self.made.again(),
             text: self.text.again(),
         }
+    }
+
+    /// Proves that two symbols of one list with one number have one text.
+    fn agrees(&self, other: &SharedSymbol)
+        requires name { self.now.row ≡ other.now.row → self.now.name ≡ other.now.name }
+        requires same { self.now.number ≡ other.now.number }
+        ensures { self.now.text ≡ other.now.text }
+    {
+        self.made.agrees(&other.made);
+        self.text.agrees(&other.text);
     }
 }
 
@@ -394,7 +414,7 @@ impl SharedSymbol {
 /// ```
 #[derive(Drop)]
 pub struct SharedTexts<'a> {
-    texts: &'a boxcar::Vec<ArcStr>,
+    texts: &'a TextList,
     index: usize,
     /// All numbers are below it.
     pub(crate) end: usize,
@@ -403,14 +423,14 @@ pub struct SharedTexts<'a> {
 
 impl<'a> SharedTexts<'a> {
     /// Makes an iterator over the texts whose numbers are below the count of them now.
-    pub(crate) fn of(texts: &'a boxcar::Vec<ArcStr>) -> SharedTexts<'a>
+    pub(crate) fn of(texts: &'a TextList) -> SharedTexts<'a>
         ensures texts { result.texts.now ≡ texts.now }
         ensures first { result.index ≡ 0 }
     {
         SharedTexts {
             texts,
             index: 0,
-            end: texts.count().min(MOST_TEXTS),
+            end: texts.len().min(MOST_TEXTS),
         }
     }
 }
@@ -430,9 +450,9 @@ impl<'a> Iterator for SharedTexts<'a> {
         while self.index < self.end {
             let index = self.index;
             self.index += 1;
-            if let Some(text) = self.texts.witness(index) {
-                let value = self.texts.value(&text);
-                return Some((SharedSymbol { text }, value));
+            if let Some(symbol) = self.texts.symbol_at(index) {
+                let text = self.texts.text(&symbol);
+                return Some((symbol, text));
             }
         }
         None

@@ -7,6 +7,7 @@ ghost use Rattle.arcintern.specs.Texts.{IsSymbolOf, IsSymbolOfWord, IsWhole};
 use crate::fault::InternFault;
 use crate::interner::{MOST_TEXTS, copy_of, is_whole};
 use crate::shared_interner::shard::Shard;
+use crate::shared_interner::text_list::TextList;
 use crate::shared_interner::{SharedInterner, SharedSymbol};
 use crate::slots::{half_of, hash_of_word};
 use arcstr::{ArcStr, Substr};
@@ -136,9 +137,8 @@ impl<S: BuildHasher> SharedInterner<S> {
     fn find_in(&self, shard: &Shard, hash: u64, word: &str) -> Option<SharedSymbol>
         ensures { IfSome result (λ symbol. IsSymbolOfWord self.now symbol word.now) }
     {
-        let slots = shard.slots()?;
         let texts = &self.texts;
-        slots.find(half_of(hash), |number| symbol_if_word(texts, number, word))
+        shard.find(half_of(hash), |number| symbol_if_word(texts, number, word))
     }
 
     /// Returns the symbol of the word with this hash. If there is none, adds `whole` or, without
@@ -185,26 +185,20 @@ impl<S: BuildHasher> SharedInterner<S> {
         ensures text { IfOk result (λ symbol. symbol.text ≡ text) }
         ensures never_too_long { ¬ (IsErrOf result InternFault.Length) }
     {
-        let slots = shard.slots_with_room(*used)?;
-        let Ok(text) = self.texts.push_shown(rt, text) else {
-            return Err(InternFault::Memory);
-        };
-        if text.index() >= MOST_TEXTS {
-            return Err(InternFault::Full);
-        }
-        slots.put(half_of(hash), text.index() as u32);
-        *used = used.saturating_add(1);
-        Ok(SharedSymbol { text })
+        shard.make_room(self.alloc, used)?;
+        let symbol = self.texts.push(rt, text)?;
+        shard.put(used, half_of(hash), symbol.number as u32);
+        Ok(symbol)
     }
 }
 
 /// Returns the symbol of this number, if its text spells the word.
-fn symbol_if_word(texts: &boxcar::Vec<ArcStr>, number: u32, word: &str) -> Option<SharedSymbol>
+fn symbol_if_word(texts: &TextList, number: u32, word: &str) -> Option<SharedSymbol>
     ensures { IfSome result (λ symbol. IsSymbolOfWord texts.now symbol word.now) }
 {
-    let text = texts.witness(number as usize)?;
-    if texts.value(&text).eq_str(word) {
-        Some(SharedSymbol { text })
+    let symbol = texts.symbol_at(number as usize)?;
+    if texts.text(&symbol).eq_str(word) {
+        Some(symbol)
     } else {
         None
     }
