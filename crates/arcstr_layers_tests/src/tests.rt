@@ -3,3 +3,4 @@ mod checks;
 mod count;
 mod range;
 mod world;
+mod write_once;

@@ -29,8 +29,11 @@ module _ (R : RattleType) (γ : ℕ) where
 
 pub place_sync : (R : RattleType) → IsSend R → IsSync R → IsSync (WriteOnce.the_row R)
 place_sync R s y = record {
-  shared = λ d b o κ t. ((λ νs. chain-Keyless νs κ t.0), λ u.
-      ((tt, ((tt, told_keyless R d.id u.0 u.1), tie_keyless R d.id t b o u.1)), lent_keyless R d.id s y t b o u.1));
+  shared = λ d b o κ t. (
+    (λ νs. chain-Keyless νs κ t.0),
+    λ u.
+        ((tt, ((tt, told_keyless R d.id u.0 u.1), tie_keyless R d.id t b o u.1)), lent_keyless R d.id s y t b o u.1),
+  );
 }
 
 pub place_send : (R : RattleType) → IsSend R → IsSend (WriteOnce.the_row R)

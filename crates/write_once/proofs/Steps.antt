@@ -73,7 +73,7 @@ module _ {M : Type 1} {𝓤 : Ura M} (𝓛 : Logic 𝓤) (R : RattleType) (γ : 
   abbrev Next : (ℕ → ℕ) → (ℕ → Fml) → ℕ → S → Pr
   Next f after n s = ⟦ beside (f n) s ⟧ ∗ ⟦ after n ⟧
 
-  -- one step on the word: from n to f n, with what is had after it
+  -- one step on the word: from n to f n, with `after n` behind it
   stepped : (q : Share) (f : ℕ → ℕ) (after : ℕ → Fml) (X : Pr) → ((n : ℕ) (s : S) → ⟦ beside n s ⟧ ∗ X ⊢ upd 𝓤 (ex 𝓤 (Next f after n)))
       → A.inv (fbor α I) ∗ (A.lft α q ∗ X) ⊢ asks 𝓛 (block_ptr b (o + 0)) f always (λ n. fsep (flft α q) (after n))
   stepped q f after X law = let e : ℕ = o + 0 in let G : Pr = ex 𝓤 (Lies 𝓛 α q I b e f always after) in

@@ -15,8 +15,8 @@ use std::sync::atomic::raw;
 /// A place for one value, which one thread writes once, and which any thread can then read.
 ///
 /// A place takes one word of 8 bytes beside its value. It begins with a blank value that the caller
-/// gives, which no call reads. Whoever has a `Written` of the place reads its value without a test.
-/// A contract sees of a place only its `id`, which tells it from all others.
+/// gives and `write` drops. Whoever has a `Written` of the place reads its value without a test. A
+/// contract sees of a place only its `id`, which tells it from all others.
 ///
 /// ```
 /// let place = WriteOnce::new(0_u64);

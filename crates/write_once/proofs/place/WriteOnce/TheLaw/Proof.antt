@@ -228,7 +228,7 @@ module _ (m : Member) (L : Laws (row_of m)) {M : Type 1} {𝓤 : Ura M} (𝓛 : 
 shared_laws : (T : RattleType) (γ : GName) (b o : ℕ) → ShrLaws (shared_at T γ b o)
 shared_laws T γ b o = record {
   contraction = λ M 𝓤 𝓛 κ. qed 𝓛 (‵ (shared_at T γ b o κ) ∷ []) ∵ fpick ! (λ t. use1 𝓛 (‵ (kept T γ t b o κ) ⊛ ‵ (kept T γ t b o κ)) (kept_dup 𝓛 T γ t b o κ) $
-  split ! $
+      split ! $
       fpack ! Turn (λ u. kept T γ u b o κ) t $ move ! (1 ∷ []) $ fpack ! Turn (λ u. kept T γ u b o κ) t $ done !);
   mono = λ M 𝓤 𝓛 κ' κ. qed 𝓛 (‵ (before κ' κ) ∷ ‵ (shared_at T γ b o κ) ∷ []) ∵ move ! (1 ∷ []) $ fpick ! (λ t. fsplit ! $ move ! (2 ∷ 0 ∷ []) $
       use2 𝓛 (‵ (before κ' t.0)) ((ends_shr_laws t.0).mono M 𝓤 𝓛 κ' κ) $ fjoin ! $ fpack ! Turn (λ u. kept T γ u b o κ') t $ done !);
@@ -238,9 +238,18 @@ pub shares : (T : RattleType) (L : Laws T) → statement T L
 shares T L =
     let m : Member = record { row = T; ty = layout T } in
     let same : T ≡ row_of m = λ i. record {
-      Denot = T.Denot; mir = L.one i; written = T.written; reaches = T.reaches; lives = T.lives; own_val = T.own_val; exit = T.exit; coded = T.coded; shr_at = T.shr_at } in
+      Denot = T.Denot;
+      mir = L.one i;
+      written = T.written;
+      reaches = T.reaches;
+      lives = T.lives;
+      own_val = T.own_val;
+      exit = T.exit;
+      coded = T.coded;
+      shr_at = T.shr_at;
+    } in
     subst (λ (R : RattleType). Law (C.the_written R)) (sym same) (record {
       shr_laws = λ d b o. shared_laws (row_of m) d.id b o;
       shares = λ M 𝓤 𝓛 d κ ts b o inc sp. made m (subst Laws same L) 𝓛 d b o κ ts (Incl-trans inc (Incl-trans (meet_⊑_left (T.lives ++ []) _)
-      (meet_⊑_left T.lives []))) sp;
+          (meet_⊑_left T.lives []))) sp;
     })

@@ -1,4 +1,4 @@
--- `into_inner` takes the field out.
+-- `into_inner` takes the value out of its field.
 use Rattle.std.proofs.Common.{◌≡◌, List, [], ◌∷◌, ◌++◌, sym, refl, ap, ◌∙◌, subst, w64}
 use mir.Syntax.{a_type}
 use mir.Val.{Val, vint, vstruct, vcons, vnil}

@@ -1,4 +1,4 @@
--- `new` makes a blank place, under a new name.
+-- `new` makes a blank place, with a new name.
 use Rattle.std.proofs.Common.{ℕ, List, [], ◌∷◌, sym, refl, subst, lit<, w64}
 use mir.Syntax.{a_type}
 use mir.Val.{Val, vint, vstruct, vcons, vnil}

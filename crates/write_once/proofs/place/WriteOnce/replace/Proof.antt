@@ -1,4 +1,4 @@
--- `replace` takes the right to write, uses it, shares the value and says so.
+-- `replace` wins the right to write by the compare-exchange, exchanges the values, shares the new one, and stores 2 with the share and the name.
 use Rattle.std.proofs.Common.{◌≡◌, ℕ, ◌+◌, List, [], ◌∷◌, sym, refl, subst, lit<, w64, eqb→eq}
 use mir.Syntax.{a_type}
 use mir.Val.{Val, vint, vptr, vcons, vnil}
@@ -9,7 +9,7 @@ use base.Fml.{Lft, Share, Fml, Incl-trans, ftrue, fsep, flft, finv, fbor}
 use prog.Wp.{WpFn}
 use types.Kit.{any_q, post}
 use prog.Wp.{Wp, after_seq, after_block}
-use types.Kit.{mean, ‵, raw, ◌⊛◌, some, later, at_ret, ◌$◌, ◌∵◌, !, qed, by, move, keep, drop, use0, use1, use2, use3, split, split3, join, fsplit, fsplit3}
+use types.Kit.{mean, ‵, raw, ◌⊛◌, some, later, at_ret, ◌$◌, ◌∵◌, !, qed, by, move, keep, use0, use1, use2, use3, split, split3, join, fsplit, fsplit3}
 use types.Kit.{fjoin, fpick, pick, learn, await, rewrite}
 use types.Run.{stop, fld, addr, lit, of_opd, bin, no_more, and_then, first, blocks, branches, exec, calls, returns, enter, assigns, store_raw, look_raw, load}
 use types.ByLocal.{alloc_all, pass_all, free_all, look_at, get, through, sets, sets_last, lands_as, env}

@@ -1,4 +1,4 @@
--- `value` looks at the word, where the token rules out all but a written value.
+-- `value` is one load. The `Written` rules out all words but 2, and at 2 the invariant has a share of the value.
 use Rattle.std.proofs.Common.{◌≡◌, ℕ, ◌+◌, List, [], ◌∷◌, sym, refl, lit<}
 use mir.Syntax.{a_type, named}
 use mir.Val.{Val, vptr}

@@ -1,4 +1,4 @@
--- `witness` looks at the word, and at 2 knows the value for good.
+-- `witness` is one load. If it finds 2, the name of the place says the value.
 use Rattle.std.proofs.Common.{◌≡◌, ℕ, ◌+◌, [], ◌∷◌, refl, lit<, eqb→eq}
 use mir.Syntax.{a_type, named}
 use mir.Val.{Val, vptr, vcons, vnil}

@@ -1,4 +1,4 @@
--- A `&` to a `Written` holds what it knows, which can be had twice. Assumes `Logic`.
+-- A `&` to a `Written` has what the `Written` says, which can be copied. Assumes `Logic`.
 use mathlib.Core.List.{[], ◌∷◌}
 use seplogic.Ra.Ura.{Ura}
 use base.Logic.{ent, sep, wand, snd∗, apply∗}
@@ -25,7 +25,10 @@ lends_twice {𝓤 = 𝓤} 𝓛 P twice l κ ts inc sp = let Back = 𝓛.H.⇛ (s
 
 pub shares : (T : RattleType) (L : Laws T) → statement T L
 shares T L = of_Lends (C.struct T) (C.the_codes T.Denot T.coded (P.the_row T).coded) (C.the_heap T) (C.the_lent T)
-    (λ d p. record { contraction = λ M 𝓤 𝓛 κ. 𝓛.names.res_dup d.of (mark T (full d.value)); mono = λ M 𝓤 𝓛 κ' κ. snd∗ 𝓤 (sem 𝓛 (before κ' κ))
-    (sem 𝓛 (written T d.of d.value)) })
+    (λ d p. record {
+      contraction = λ M 𝓤 𝓛 κ. 𝓛.names.res_dup d.of (mark T (full d.value));
+      mono = λ M 𝓤 𝓛 κ' κ. snd∗ 𝓤 (sem 𝓛 (before κ' κ))
+          (sem 𝓛 (written T d.of d.value));
+    })
     (copy_shared (P.the_field T) (field_copy (P.the_type T) tt), tt)
     (λ M 𝓤 𝓛 d p. lends_twice 𝓛 (written T d.of d.value) (𝓛.names.res_dup d.of (mark T (full d.value))) (C.the_row T).lives)

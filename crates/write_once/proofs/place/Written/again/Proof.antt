@@ -1,4 +1,4 @@
--- `again` copies what the token knows.
+-- `again` copies what the `Written` says.
 use Rattle.std.proofs.Common.{◌≡◌, ℕ, [], ◌∷◌, refl}
 use mir.Syntax.{a_type, named}
 use mir.Val.{Val, vptr}

@@ -1,4 +1,4 @@
--- Two tokens of one slot know one value.
+-- Two `Written` of one place say one value.
 use Rattle.std.proofs.Common.{◌≡◌, ℕ, List, [], ◌∷◌, refl}
 use mir.Syntax.{a_type, named}
 use mir.Val.{Val, vunit, vptr}
