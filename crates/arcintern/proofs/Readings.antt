@@ -1,5 +1,5 @@
 -- What a format has given of a list of texts.
-use Rattle.std.proofs.Common.{◌≡◌, ℕ, List, [], ◌∷◌, ◌++◌, refl, subst}
+use Rattle.std.proofs.Common.{ℕ, List, [], ◌∷◌, ◌++◌, refl, subst}
 use Rattle.serde.specs.Event.{Event, text}
 use Rattle.serde.specs.Steps.{Gives, Stays}
 use Rattle.serde.specs.declared.deserializer.Deserializer.{Deserializer}

@@ -23,9 +23,10 @@ module _ (number top : ℕ) (low : 2 ^ top ≤ number + 32) (high : number + 32 
   pub lies : IsAt number (row_of number top) ((number + 32) % 2 ^ (top - 3))
   lies = let a = top_above in let b = eighth_above in let c = eighth_below in let pos = pow_pos (top - 3) in
       let e : row_of number top / 8 + 2 ≡ top - 3 = omega arith in let is : span (row_of number top) ≡ 2 ^ (top - 3) = ap (λ (k : ℕ). 2 ^ k) e in
-      let s : 8 + row_of number top % 8 ≡ (number + 32) / 2 ^ (top - 3) = omega arith in
-      (subst (λ (k : ℕ). (number + 32) % 2 ^ (top - 3) < k) (sym is) (omega arith),
-      ap (λ (k : ℕ). k * span (row_of number top) + (number + 32) % 2 ^ (top - 3)) s ∙ ap (λ (k : ℕ). (number + 32) / 2 ^ (top - 3) * k + (number + 32) % 2 ^ (top - 3)) is ∙ omega arith)
+      let s : 8 + row_of number top % 8 ≡ (number + 32) / 2 ^ (top - 3) = omega arith in (
+        subst (λ (k : ℕ). (number + 32) % 2 ^ (top - 3) < k) (sym is) (omega arith),
+        ap (λ (k : ℕ). k * span (row_of number top) + (number + 32) % 2 ^ (top - 3)) s ∙ ap (λ (k : ℕ). (number + 32) / 2 ^ (top - 3) * k + (number + 32) % 2 ^ (top - 3)) is ∙ omega arith,
+      )
 
 -- a later row has later numbers
 below : (number row place other there : ℕ) → IsAt number row place → IsAt number other there → ¬ (row < other)

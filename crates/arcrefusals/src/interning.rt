@@ -67,31 +67,34 @@ fn fill_maps<R: Machine>(rt: &R) -> io::Result<()> {
 fn make_shared<R: Machine>(rt: &R) -> io::Result<()> {
     let alloc = rt.alloc();
     rows! { rt;
-        "SharedInterner::new: [+2320 +111104] [-2320 -111104]":
+        "SharedInterner::new: [+7168 +62976] [-7168 -62976]":
             |_: &mut ()| SharedInterner::new(alloc, 64) => "", 0;
-        "SharedInterner::with_capacity: [+1024 +1024 +1280 +2320 +2560 +3472 +5120] [-1024 -1024"
-        " -1280 -2320 -2560 -3472 -5120]":
+        "SharedInterner::with_capacity: [+128 +128 +128 +128 +128 +128 +128 +128 +128 +128 +128"
+        " +128 +256 +256 +256 +256 +256 +256 +256 +256 +256 +256 +512 +512 +512 +1968 +7168] [-128"
+        " -128 -128 -128 -128 -128 -128 -128 -128 -128 -128 -128 -256 -256 -256 -256 -256 -256"
+        " -256 -256 -256 -256 -512 -512 -512 -1968 -7168]":
             |_: &mut ()| SharedInterner::with_capacity(alloc, 2, 100) => "", 0;
     }
 }
 
 fn fill_shared<R: Machine>(rt: &R) -> io::Result<()> {
     rows! { rt;
-        "SharedInterner::intern_arc where there is room: [] [-1280 -1736 -2048 -2320 -2560 -5120]":
+        "SharedInterner::intern_arc where there is room: [] [-128 -128 -128 -128 -128 -128 -128"
+        " -128 -128 -128 -256 -256 -256 -256 -256 -256 -256 -256 -256 -512 -512 -984 -1024 -7168]":
             |room: &mut SharedRoom| share_all(rt, room) => "", 100;
-        "SharedInterner::intern: [+24 +128 +1280] [-24 -128 -1280 -1736 -2320]":
+        "SharedInterner::intern: [+24 +128 +128] [-24 -128 -128 -984 -7168]":
             |words: &mut SharedWords<0>| share(rt, words) => "", 1;
-        "SharedInterner::intern with a full table: [+24 +256] [-24 -24 -24 -24 -24 -24 -24 -24 -24"
-        " -24 -24 -24 -24 -128 -256 -1280 -1736 -2320]":
+        "SharedInterner::intern with a full table: [+24 +128 +128] [-24 -24 -24 -24 -24 -24 -24"
+        " -24 -24 -24 -24 -24 -24 -128 -128 -128 -128 -128 -128 -984 -7168]":
             |words: &mut SharedWords<FULL>| share(rt, words) => "", 13;
-        "SharedInterner::intern_static: [+256] [-24 -24 -24 -24 -24 -24 -24 -24 -24 -24 -24 -24"
-        " -128 -256 -1280 -1736 -2320]":
+        "SharedInterner::intern_static: [+128 +128] [-24 -24 -24 -24 -24 -24 -24 -24 -24 -24 -24"
+        " -24 -128 -128 -128 -128 -128 -128 -984 -7168]":
             |words: &mut SharedWords<FULL>| share_literal(rt, words) => "", 13;
         "SharedInterner::intern of a known word: [] [-24 -24 -24 -24 -24 -24 -24 -24 -24 -24 -24"
-        " -24 -128 -1280 -1736 -2320]":
+        " -24 -128 -128 -128 -128 -984 -7168]":
             |words: &mut SharedWords<FULL>| share_known(rt, words) => "", 12;
-        "SharedInterner::into_interner: [+160 +288 -128 -1280 -1736 -2320] [-24 -24 -24 -24 -24 -24"
-        " -24 -24 -24 -24 -24 -24 -160 -288]":
+        "SharedInterner::into_interner: [+160 +288 -128 -128 -128 -128 -984 -7168] [-24 -24 -24"
+        " -24 -24 -24 -24 -24 -24 -24 -24 -24 -160 -288]":
             |words: &mut SharedWords<FULL>| take_all(rt, words) => "11", 1;
     }
 }

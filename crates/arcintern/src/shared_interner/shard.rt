@@ -179,7 +179,9 @@ impl Shard {
     /// search then has to pass it. Returns how many slots are empty now and were not before.
     fn clear_moved(&self, last: usize, mask: usize, wraps: bool) -> usize {
         let mut emptied = 0_usize;
-        let mut is_last = self.slots_from(mask / 2 + 1).is_some_and(|slots| is_empty(slots));
+        let mut is_last = self
+            .slots_from(mask / 2 + 1)
+            .is_some_and(|slots| is_empty(slots));
         for from_last in 0..=last {
             let number = last - from_last;
             let slots = self.piece(number).unwrap_or(&[]);

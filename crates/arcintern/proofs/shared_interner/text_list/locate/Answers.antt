@@ -1,4 +1,4 @@
-use Rattle.std.proofs.Common.{arith, ◌≡◌, ℕ, ◌+◌, ◌-◌, ◌*◌, ◌/◌, ◌%◌, ◌^◌, ◌<◌, ◌≤◌, sym, subst, lt_of_not-le, pow_mono}
+use Rattle.std.proofs.Common.{arith, ℕ, ◌+◌, ◌-◌, ◌*◌, ◌/◌, ◌%◌, ◌^◌, ◌<◌, ◌≤◌, sym, subst, lt_of_not-le, pow_mono}
 use Rattle.arcintern.specs.TextList.{IsAt}
 use Rattle.arcintern.proofs.TextPlaces.{eighth_above, eighth_below, lies, top_above}
 use Rattle.arcintern.proofs.shared_interner.text_list.locate.Goals as goal
