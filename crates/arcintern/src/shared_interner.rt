@@ -32,8 +32,9 @@ mod text_list;
 /// texts were added. Only a call that runs out of memory while other threads add texts can leave a
 /// number without a text.
 ///
-/// A table that is too short is kept until the interner is dropped, since a thread may be reading
-/// it. After `with_capacity`, a table grows only if its shard gets more than its part of the texts.
+/// A table grows in place, since a thread may be reading it: it gets one more piece, as long as all
+/// before it. After `with_capacity`, a table grows only if its shard gets more than its part of the
+/// texts.
 ///
 /// The contracts do not say that a call succeeds, that `get` finds a word, that a word has one
 /// number, which number is next, or what `len` answers. The tests `words_are_told_apart`,
@@ -71,8 +72,8 @@ impl<S: BuildHasher> Model for SharedInterner<S> {
 
 impl SharedInterner<BuildHasherDefault<FoldHasher>> {
     /// Makes an interner without texts. The caller must ensure that there are 1 to 64 shards. A
-    /// power of two is best, as many as threads or more. A shard takes 1.7 KB. `Memory` is the only
-    /// fault.
+    /// power of two is best, as many as threads or more. The list of the texts takes 7 KB, and a
+    /// shard 1 KB. `Memory` is the only fault.
     ///
     /// ```
     /// let interner = SharedInterner::new(rt.alloc(), 1)?;

@@ -171,8 +171,7 @@ impl<S: BuildHasher> SharedInterner<S> {
         }
     }
 
-    /// Adds a text, with the next number, to the table of its shard. A text beyond the last number
-    /// stays in the list, where no call finds it.
+    /// Adds a text, with the next number, to the list and to the table of its shard.
     fn add(
         &self,
         rt: &impl Wait,

@@ -19,8 +19,8 @@ const ROWS: usize = 224;
 /// The places of some texts. A place without a text has the empty literal.
 pub(crate) type Row = Vec<WriteOnce<ArcStr>>;
 
-/// A list that only grows. Its rows are made as they are needed, so at most a ninth of the places
-/// has no text, and a text stays where it is.
+/// A list that only grows, and in which a text stays where it is. It has eight rows of each length,
+/// made as they are needed. So in a long list at most about a ninth of the places has no text.
 #[derive(Drop)]
 pub(crate) struct TextList {
     rows: Vec<WriteOnce<Row>>,
