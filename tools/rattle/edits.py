@@ -19,6 +19,8 @@ from typing import NamedTuple
 from sources import Function, functions, place_of
 
 KEYS = ("file:", "in:", "old:", "new:", "refused:")
+# The goal of `answer_what_is_not_asked`, which no function has.
+NOT_ASKED = "no_such_goal"
 
 
 class Key(NamedTuple):
@@ -336,7 +338,7 @@ def answer_what_is_not_asked(key: Key, crate: str, room: Path) -> None:
     known = answers.read_text() if answers.exists() else ""
     if " as goal\n" not in known:
         known = f"use Rattle.{crate}.proofs.{place}.Goals as goal\n{known}"
-    answers.write_text(f"{known}\npub no_such_goal : goal.no_such_goal\nno_such_goal c = ?\n")
+    answers.write_text(f"{known}\npub {NOT_ASKED} : goal.{NOT_ASKED}\n{NOT_ASKED} c = ?\n")
 
 
 def plant(edits: Iterable[WrongBody], room: Path) -> None:

@@ -1,5 +1,6 @@
 -- Where the text with a number lies in the list of a shared interner, and that it lies nowhere else.
-use Rattle.std.proofs.Common.{◌≡◌, ℕ, suc, ◌+◌, ◌-◌, ◌*◌, ◌/◌, ◌%◌, ◌^◌, ◌<◌, ◌≤◌, ap, sym, ◌∙◌, subst, arith, pow_mono, pow_pos, pow-add, suc-mul, lt_of_not-le, le-div_iff_mul-le, div-lt_iff_lt-mul, mul-le-mul_right, ◌⊎◌, inl, inr}
+use Rattle.std.proofs.Common.{◌≡◌, ℕ, suc, ◌+◌, ◌-◌, ◌*◌, ◌/◌, ◌%◌, ◌^◌, ◌<◌, ◌≤◌, ap, sym, ◌∙◌, subst, arith, ◌⊎◌, inl, inr}
+use Rattle.std.proofs.Common.{pow_mono, pow_pos, pow-add, suc-mul, lt_of_not-le, le-div_iff_mul-le, div-lt_iff_lt-mul, mul-le-mul_right}
 use Rattle.std.proofs.lemmas.Bool.{cases_lt}
 use Rattle.arcintern.specs.TextList.{IsAt, span}
 
@@ -25,7 +26,8 @@ module _ (number top : ℕ) (low : 2 ^ top ≤ number + 32) (high : number + 32 
       let e : row_of number top / 8 + 2 ≡ top - 3 = omega arith in let is : span (row_of number top) ≡ 2 ^ (top - 3) = ap (λ (k : ℕ). 2 ^ k) e in
       let s : 8 + row_of number top % 8 ≡ (number + 32) / 2 ^ (top - 3) = omega arith in (
         subst (λ (k : ℕ). (number + 32) % 2 ^ (top - 3) < k) (sym is) (omega arith),
-        ap (λ (k : ℕ). k * span (row_of number top) + (number + 32) % 2 ^ (top - 3)) s ∙ ap (λ (k : ℕ). (number + 32) / 2 ^ (top - 3) * k + (number + 32) % 2 ^ (top - 3)) is ∙ omega arith,
+        ap (λ (k : ℕ). k * span (row_of number top) + (number + 32) % 2 ^ (top - 3)) s
+            ∙ ap (λ (k : ℕ). (number + 32) / 2 ^ (top - 3) * k + (number + 32) % 2 ^ (top - 3)) is ∙ omega arith,
       )
 
 -- a later row has later numbers
@@ -33,16 +35,24 @@ below : (number row place other there : ℕ) → IsAt number row place → IsAt 
 below number row place other there one two less = by (cases_lt (row / 8) (other / 8))
   where
     by : (row / 8 < other / 8) ⊎ (other / 8 ≤ row / 8) → ⊥
-    by (inl shorter) = let high = mul-le-mul_right (span row) (let e : 8 + row % 8 ≤ 15 = omega arith in e) in let low = mul-le-mul_right (span other) (let e : 8 ≤ 8 + other % 8 = omega arith in e) in
-        let twice : 2 ^ (row / 8 + 2 + 1) ≡ span row * 2 = pow-add 2 (row / 8 + 2) 1 in let more : 2 ^ (row / 8 + 2 + 1) ≤ span other = pow_mono (omega arith) in
+    by (inl shorter) = let high = mul-le-mul_right (span row) (let e : 8 + row % 8 ≤ 15 = omega arith in e) in
+        let low = mul-le-mul_right (span other) (let e : 8 ≤ 8 + other % 8 = omega arith in e) in
+        let twice : 2 ^ (row / 8 + 2 + 1) ≡ span row * 2 = pow-add 2 (row / 8 + 2) 1 in
+        let more : 2 ^ (row / 8 + 2 + 1) ≤ span other = pow_mono (omega arith) in
         let a = one.0 in let b = one.1 in let c = two.1 in omega arith
-    by (inr no_longer) = let e : row / 8 ≡ other / 8 = omega arith in let is : span row ≡ span other = ap (λ (k : ℕ). 2 ^ (k + 2)) e in
-        let more : suc (8 + row % 8) * span row ≤ (8 + other % 8) * span row = mul-le-mul_right (span row) (omega arith) in let next = suc-mul (8 + row % 8) (span row) in
-        let c : (8 + other % 8) * span row + there ≡ number + 32 = ap (λ (k : ℕ). (8 + other % 8) * k + there) is ∙ two.1 in let a = one.0 in let b = one.1 in omega arith
+    by (inr no_longer) = let e : row / 8 ≡ other / 8 = omega arith in
+        let is : span row ≡ span other = ap (λ (k : ℕ). 2 ^ (k + 2)) e in
+        let more : suc (8 + row % 8) * span row ≤ (8 + other % 8) * span row = mul-le-mul_right (span row) (omega arith) in
+        let next = suc-mul (8 + row % 8) (span row) in
+        let c : (8 + other % 8) * span row + there ≡ number + 32 = ap (λ (k : ℕ). (8 + other % 8) * k + there) is ∙ two.1 in
+        let a = one.0 in let b = one.1 in omega arith
 
 pub one_row : (number row place other there : ℕ) → IsAt number row place → IsAt number other there → row ≡ other
-one_row number row place other there one two = let p = below number row place other there one two in let q = below number other there row place two one in omega arith
+one_row number row place other there one two =
+    let p = below number row place other there one two in let q = below number other there row place two one in omega arith
 
 pub one_place : (number row place other there : ℕ) → IsAt number row place → IsAt number other there → place ≡ there
 one_place number row place other there one two =
-    let e : (8 + row % 8) * span row ≡ (8 + other % 8) * span other = ap (λ (k : ℕ). (8 + k % 8) * span k) (one_row number row place other there one two) in let a = one.1 in let b = two.1 in omega arith
+    let e : (8 + row % 8) * span row ≡ (8 + other % 8) * span other =
+    ap (λ (k : ℕ). (8 + k % 8) * span k) (one_row number row place other there one two) in
+    let a = one.1 in let b = two.1 in omega arith

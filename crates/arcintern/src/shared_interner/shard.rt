@@ -1,5 +1,5 @@
 //! The part of a shared interner that has a table and a lock of its own.
-ghost use Rattle.std.specs.Prelude.{◌+◌, ◌<◌, ℕ, IfSome, Some};
+ghost use Rattle.std.specs.Prelude.{◌+◌, ◌<◌, ℕ, IfOk, IfSome, Some};
 
 use crate::slots::{NUMBERS, slots_for};
 use std::alloc::{AllocError, Global};
@@ -43,29 +43,20 @@ impl Shard {
             used: Mutex::new(0),
         };
         if words > 0 {
-            let slots = slots_for(words)?;
-            for piece in 0..=piece_of(slots.wrapping_sub(1)) {
-                let mask = shard.add_piece(alloc, piece)?;
-                shard.mask.store(mask, Ordering::Release);
+            let mask = slots_for(words)?.wrapping_sub(1);
+            for piece in 0..=piece_of(mask) {
+                shard.add_piece(piece, empty_slots(alloc, len_of(piece))?)?;
             }
+            shard.mask.store(mask, Ordering::Release);
         }
         Ok(shard)
     }
 
-    /// Adds a piece of empty slots. Returns the number of all slots less 1.
-    fn add_piece(&self, alloc: Global, number: usize) -> Result<usize, AllocError> {
-        let Some(piece) = self.pieces.get(number) else {
-            return Err(AllocError);
-        };
-        let all = 16_usize << number;
-        let len = if number == 0 { all } else { all / 2 };
-        let mut slots = Vec::with_capacity(alloc, len)?;
-        for _ in 0..len {
-            slots.push(AtomicU64::new(0))?;
-        }
-        match piece.write(slots) {
-            Ok(_) => Ok(all - 1),
-            Err(_) => Err(AllocError),
+    /// Adds a piece, which has these slots.
+    fn add_piece(&self, number: usize, slots: Vec<AtomicU64>) -> Result<(), AllocError> {
+        match self.pieces.get(number).map(|piece| piece.write(slots)) {
+            Some(Ok(_)) => Ok(()),
+            Some(Err(_)) | None => Err(AllocError),
         }
     }
 
@@ -82,52 +73,76 @@ impl Shard {
     }
 
     /// Returns what `look` answers for the first number under this half of a hash for which that is
-    /// `Some`. Where the table has grown meanwhile, the search begins again, since a number may
-    /// have moved away before it came there.
+    /// `Some`.
     #[inline(always)]
     pub(crate) fn find<T, F: Fn(u32) -> Option<T>>(&self, half: u32, look: F) -> Option<T>
         requires { F.IsAlwaysCallable look }
         ensures found { IfSome result (λ found. (number : ℕ) × (number < NUMBERS)
             × F.post look number (Some found)) }
     {
-        let mut mask = self.mask.load(Ordering::Acquire);
-        for _ in 0..PIECES {
-            if let Some(found) = self.search(half, mask, &look) {
-                return Some(found);
-            }
-            let grown = self.mask.load(Ordering::Acquire);
-            if grown == mask {
-                return None;
-            }
-            mask = grown;
+        let mask = self.mask.load(Ordering::Acquire);
+        match self.search(half, half as usize & mask, &look) {
+            Ok(found) => Some(found),
+            Err(None) if self.mask.load(Ordering::Acquire) == mask => None,
+            Err(_) => self.find_on(half, &look),
         }
-        None
     }
 
-    /// As `find`, in a table with this mask.
-    #[inline(always)]
-    fn search<T, F: Fn(u32) -> Option<T>>(&self, half: u32, mask: usize, look: &F) -> Option<T>
+    /// As `find`, where a search passes the end of a piece, or the table grows meanwhile. Then the
+    /// search begins again, since a number may have moved away before it came there.
+    #[cold]
+    fn find_on<T, F: Fn(u32) -> Option<T>>(&self, half: u32, look: &F) -> Option<T>
         requires { F.IsAlwaysCallable look.now }
         ensures found { IfSome result (λ found. (number : ℕ) × (number < NUMBERS)
             × F.post look.now number (Some found)) }
     {
+        let mut mask = self.mask.load(Ordering::Acquire);
         let mut index = half as usize & mask;
-        for _ in 0..=PIECES {
-            let slots = self.slots_from(index)?;
-            for slot in slots {
-                let slot = slot.load(Ordering::Acquire);
-                if slot == 0 {
-                    return None;
-                }
-                if slot >> 32 == half as u64 {
-                    if let Some(found) = look(((slot % NUMBERS) as u32).wrapping_sub(1)) {
-                        return Some(found);
+        for _ in 0..PIECES * PIECES {
+            match self.search(half, index, look) {
+                Ok(found) => return Some(found),
+                Err(Some(next)) => index = next & mask,
+                Err(None) => {
+                    let grown = self.mask.load(Ordering::Acquire);
+                    if grown == mask {
+                        return None;
                     }
+                    mask = grown;
+                    index = half as usize & mask;
                 }
             }
-            index = index.wrapping_add(slots.len()) & mask;
         }
         None
+    }
+
+    /// As `find`, from the slot with this index to the end of its piece. Returns the index behind
+    /// that as `Err`, or no index if the search comes to an empty slot.
+    #[inline(always)]
+    fn search<T, F: Fn(u32) -> Option<T>>(
+        &self,
+        half: u32,
+        index: usize,
+        look: &F,
+    ) -> Result<T, Option<usize>>
+        requires { F.IsAlwaysCallable look.now }
+        ensures found { IfOk result (λ found. (number : ℕ) × (number < NUMBERS)
+            × F.post look.now number (Some found)) }
+    {
+        let Some(slots) = self.slots_from(index) else {
+            return Err(None);
+        };
+        for slot in slots {
+            let slot = slot.load(Ordering::Acquire);
+            if slot == 0 {
+                return Err(None);
+            }
+            if slot >> 32 == half as u64 {
+                if let Some(found) = look(((slot % NUMBERS) as u32).wrapping_sub(1)) {
+                    return Ok(found);
+                }
+            }
+        }
+        Err(Some(index.wrapping_add(slots.len())))
     }
 
     /// Makes room for one more word. A quarter of the slots stays empty.
@@ -141,38 +156,56 @@ impl Shard {
 
     /// Doubles the table. Returns how many slots are not empty then.
     fn grow(&self, alloc: Global, mask: usize, used: usize) -> Result<usize, AllocError> {
+        let last = piece_of(mask);
         if mask == 0 {
-            let first = self.add_piece(alloc, 0)?;
-            self.mask.store(first, Ordering::Release);
+            self.add_piece(0, empty_slots(alloc, len_of(0))?)?;
+            self.mask
+                .store(len_of(0).wrapping_sub(1), Ordering::Release);
             return Ok(0);
         }
-        let last = piece_of(mask);
-        let longer = self.add_piece(alloc, last.saturating_add(1))?;
-        let (taken, wraps) = self.copy_numbers(last, mask, longer);
+        let len = mask.saturating_add(1);
+        let longer = mask.saturating_add(len);
+        let mut slots = empty_slots(alloc, len)?;
+        let (mut taken, wraps) = self.copy_numbers(last, longer, &mut slots);
+        self.add_piece(last.saturating_add(1), slots)?;
+        if wraps {
+            taken = taken.saturating_add(self.copy_to_the_start(mask, longer));
+        }
         self.mask.store(longer, Ordering::Release);
         let emptied = self.clear_moved(last, longer, wraps);
         Ok(used.saturating_add(taken).saturating_sub(emptied))
     }
 
-    /// Copies the numbers that move to where a search in the longer table finds them. Returns how
-    /// many empty slots that takes, and whether some are in a piece that was there before. These
-    /// are not copied again.
-    fn copy_numbers(&self, last: usize, mask: usize, longer: usize) -> (usize, bool) {
+    /// Copies the numbers that move to the slots of a piece behind the last, where a search finds
+    /// them. Returns how many, and whether there are others, for which a search passes the end.
+    fn copy_numbers(&self, last: usize, mask: usize, slots: &mut Vec<AtomicU64>) -> (usize, bool) {
         let (mut taken, mut wraps) = (0_usize, false);
         for number in 0..=last {
-            let slots = self.piece(number).unwrap_or(&[]);
-            for (offset, slot) in slots.iter().enumerate() {
+            let moving = self.piece(number).unwrap_or(&[]);
+            for (offset, slot) in moving.iter().enumerate() {
                 let slot = slot.load(Ordering::Acquire);
-                if moves(slot, index_in(number, slots, offset), longer)
-                    && (!wraps || self.index_of(slot, longer).is_none())
-                {
-                    let (index, was_empty) = self.place(slot, longer);
-                    taken = taken.saturating_add(was_empty as usize);
-                    wraps = wraps || index <= mask;
+                if moves(slot, index_in(number, moving, offset), mask) {
+                    let is_copied = put_into(slots, home(slot, mask), slot);
+                    taken = taken.saturating_add(is_copied as usize);
+                    wraps = wraps || !is_copied;
                 }
             }
         }
         (taken, wraps)
+    }
+
+    /// Copies the numbers that move and have no slot yet, at the start of the table. Returns how
+    /// many empty slots that takes.
+    #[cold]
+    fn copy_to_the_start(&self, mask: usize, longer: usize) -> usize {
+        let mut taken = 0_usize;
+        for index in 0..=mask {
+            let slot = self.read(index);
+            if moves(slot, index, longer) && self.index_of(slot, longer).is_none() {
+                taken = taken.saturating_add(self.place(slot, longer) as usize);
+            }
+        }
+        taken
     }
 
     /// Clears the slots whose numbers have moved. Such a slot is empty if the next one is, since no
@@ -219,26 +252,26 @@ impl Shard {
         requires { number + 1 < NUMBERS }
     {
         let slot = half as u64 * NUMBERS + number as u64 + 1;
-        let (_, was_empty) = self.place(slot, self.mask.load(Ordering::Acquire));
+        let was_empty = self.place(slot, self.mask.load(Ordering::Acquire));
         *used = used.saturating_add(was_empty as usize);
     }
 
-    /// Writes a slot to the first index from its home on that has no number. Returns the index, and
-    /// whether its slot was empty.
-    fn place(&self, slot: u64, mask: usize) -> (usize, bool) {
+    /// Writes a slot to the first place from its home on that has no number. Returns whether that
+    /// was empty.
+    fn place(&self, slot: u64, mask: usize) -> bool {
         let mut index = home(slot, mask);
-        for _ in 0..=mask {
-            let Some([place, ..]) = self.slots_from(index) else {
-                break;
-            };
-            let there = place.load(Ordering::Acquire);
-            if there == 0 || there == MOVED {
-                place.store(slot, Ordering::Release);
-                return (index, there == 0);
+        for _ in 0..=PIECES {
+            let slots = self.slots_from(index).unwrap_or(&[]);
+            for place in slots {
+                let there = place.load(Ordering::Acquire);
+                if there == 0 || there == MOVED {
+                    place.store(slot, Ordering::Release);
+                    return there == 0;
+                }
             }
-            index = index.wrapping_add(1) & mask;
+            index = index.wrapping_add(slots.len()) & mask;
         }
-        (index, false)
+        false
     }
 
     /// Returns what the slot with this index holds.
@@ -250,9 +283,41 @@ impl Shard {
     }
 }
 
+/// Makes slots that are empty.
+fn empty_slots(alloc: Global, len: usize) -> Result<Vec<AtomicU64>, AllocError> {
+    let mut slots = Vec::with_capacity(alloc, len)?;
+    for _ in 0..len {
+        slots.push(AtomicU64::new(0))?;
+    }
+    Ok(slots)
+}
+
+/// Puts a slot into the first empty one from its home on, in slots that no other thread sees.
+/// A home before them is the first. Returns whether there is one.
+fn put_into(slots: &mut Vec<AtomicU64>, home: usize, slot: u64) -> bool {
+    let first = home.saturating_sub(slots.len());
+    for place in slots.iter_mut().skip(first) {
+        let there = place.get_mut();
+        if *there == 0 {
+            *there = slot;
+            return true;
+        }
+    }
+    false
+}
+
 /// Returns the number of the piece that has the slot with this index.
 fn piece_of(index: usize) -> usize {
     (index.max(15).ilog2() as usize).wrapping_sub(3)
+}
+
+/// Returns how many slots a piece has.
+fn len_of(piece: usize) -> usize {
+    if piece == 0 {
+        16
+    } else {
+        8_usize << piece.min(59)
+    }
 }
 
 /// Returns where a search for this slot begins.

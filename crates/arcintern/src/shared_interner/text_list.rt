@@ -43,22 +43,18 @@ impl Model for TextList {
     ghost invariant = { λ list. length list.rows.items ≡ 224 };
 }
 
-/// Makes the list of the rows, none of which is made.
-fn empty_rows(alloc: Global) -> Result<Vec<WriteOnce<Row>>, AllocError>
-    ensures { IfOk result (λ rows. length rows.items ≡ 224) }
+/// Makes places that are not written.
+fn empty_places<T: Drop, F: Fn() -> T>(
+    alloc: Global,
+    len: usize,
+    blank: F,
+) -> Result<Vec<WriteOnce<T>>, AllocError>
+    requires { F.IsAlwaysCallable blank }
+    ensures { IfOk result (λ places. length places.items ≡ len) }
 {
-    let mut rows = Vec::with_capacity(alloc, ROWS)?;
-    while rows.len() < ROWS {
-        rows.push_reserved(WriteOnce::new(Vec::new(alloc)));
-    }
-    Ok(rows)
-}
-
-/// Makes a row of places without texts.
-fn empty_row(alloc: Global, len: usize) -> Result<Row, AllocError> {
     let mut places = Vec::with_capacity(alloc, len)?;
-    for _ in 0..len {
-        places.push(WriteOnce::new(ArcStr::new()))?;
+    while places.len() < len {
+        places.push_reserved(WriteOnce::new(blank()));
     }
     Ok(places)
 }
@@ -88,7 +84,7 @@ impl TextList {
     /// Makes a list without texts, with room for this many.
     pub(crate) fn with_capacity(alloc: Global, texts: usize) -> Result<TextList, AllocError> {
         let list = TextList {
-            rows: empty_rows(alloc)?,
+            rows: empty_places(alloc, ROWS, || Vec::new(alloc))?,
             making: Mutex::new(()),
             taken: AtomicUsize::new(0),
             count: AtomicUsize::new(0),
@@ -106,7 +102,7 @@ impl TextList {
         requires { row < 224 }
         ensures { IfOk result (λ made. made.of ≡ id_at self.now row) }
     {
-        let places = empty_row(*self.rows.allocator(), 4 << (row / 8))?;
+        let places = empty_places(*self.rows.allocator(), 4 << (row / 8), || ArcStr::new())?;
         match self.rows[row].write(places) {
             Ok(made) => Ok(made),
             Err(_) => Err(AllocError),
@@ -114,13 +110,23 @@ impl TextList {
     }
 
     /// Returns the row, which is made if it is not there.
+    #[inline(always)]
     fn row(&self, rt: &impl Wait, row: usize) -> Result<Written<Row>, AllocError>
         requires { row < 224 }
         ensures { IfOk result (λ made. made.of ≡ id_at self.now row) }
     {
-        if let Some(made) = self.rows[row].witness() {
-            return Ok(made);
+        match self.rows[row].witness() {
+            Some(made) => Ok(made),
+            None => self.made_row(rt, row),
         }
+    }
+
+    /// As `row`, once no other thread makes a row.
+    #[cold]
+    fn made_row(&self, rt: &impl Wait, row: usize) -> Result<Written<Row>, AllocError>
+        requires { row < 224 }
+        ensures { IfOk result (λ made. made.of ≡ id_at self.now row) }
+    {
         let _making = self.making.lock(rt);
         match self.rows[row].witness() {
             Some(made) => Ok(made),
@@ -136,15 +142,20 @@ impl TextList {
         ensures never_too_long { ¬ (IsErrOf result InternFault.Length) }
     {
         let next = self.taken.load(Ordering::Acquire);
-        if next < MOST_TEXTS {
-            self.row(rt, locate(next).0)?;
-        }
-        let number = self.taken.fetch_add(1, Ordering::AcqRel);
-        if number >= MOST_TEXTS {
+        if next >= MOST_TEXTS {
             return Err(InternFault::Full);
         }
-        let (row, place) = locate(number);
+        let (row, place) = locate(next);
         let made = self.row(rt, row)?;
+        let number = self.taken.fetch_add(1, Ordering::AcqRel);
+        let (row, place, made) = if number == next {
+            (row, place, made)
+        } else if number < MOST_TEXTS {
+            let (row, place) = locate(number);
+            (row, place, self.row(rt, row)?)
+        } else {
+            return Err(InternFault::Full);
+        };
         let Some(empty) = self.rows[row].value(&made).get(place) else {
             return Err(InternFault::Memory);
         };

@@ -11,7 +11,8 @@ overflow_sub-row c = top_above c.args.number c.ilog2-top.result c.ilog2-top.ensu
 
 pub overflow_sub-row-2 : goal.overflow_sub-row-2
 overflow_sub-row-2 c = let n = c.args.number in let t = c.ilog2-top.result in
-    subst (λ (span : ℕ). 8 ≤ (n + 32) / span) (sym c.power_of_two-span.ensures) (eighth_above n t c.ilog2-top.ensures.power_le c.ilog2-top.ensures.next_power_gt)
+    subst (λ (span : ℕ). 8 ≤ (n + 32) / span) (sym c.power_of_two-span.ensures)
+    (eighth_above n t c.ilog2-top.ensures.power_le c.ilog2-top.ensures.next_power_gt)
 
 pub returns-clause-at : goal.returns-clause-at
 returns-clause-at c = let n = c.args.number in let t = c.ilog2-top.result in
@@ -19,8 +20,8 @@ returns-clause-at c = let n = c.args.number in let t = c.ilog2-top.result in
     (lies n t c.ilog2-top.ensures.power_le c.ilog2-top.ensures.next_power_gt)
 
 pub returns-clause-row : goal.returns-clause-row
-returns-clause-row c = let n = c.args.number in let t = c.ilog2-top.result in let low = c.ilog2-top.ensures.power_le in let high = c.ilog2-top.ensures.next_power_gt in
-    let a = top_above n t low high in
+returns-clause-row c = let n = c.args.number in let t = c.ilog2-top.result in let low = c.ilog2-top.ensures.power_le in
+    let high = c.ilog2-top.ensures.next_power_gt in let a = top_above n t low high in
     let small : t < 33 = lt_of_not-le (λ (less : 33 ≤ t). let p : 8589934592 ≤ 2 ^ t = pow_mono less in omega arith) in
     subst (λ (span : ℕ). (t - 5) * 8 + ((n + 32) / span - 8) < 224) (sym c.power_of_two-span.ensures)
     (let b = eighth_above n t low high in let d = eighth_below n t low high in omega arith)
