@@ -12,11 +12,19 @@ use write_once::WriteOnce;
 /// numbers.
 const PIECES: usize = 30;
 
+/// How many slots a group has.
+const GROUP: usize = 8;
+
+/// The slots of some words whose halves of hashes end alike but for three bits. These say where in
+/// the group a search begins. It ends at an empty slot, and from a full group it goes on to the
+/// next.
+type Group = [AtomicU64; GROUP];
+
 /// A slot whose number has moved to another. It is not empty, so a search passes it.
 const MOVED: u64 = NUMBERS;
 
-/// The words whose hashes pick this shard: a table of slots as `Slots` has them, where a search
-/// that passes the last slot goes on at the first.
+/// The words whose hashes pick this shard: a table of slots, which hold the same as those of
+/// `Slots`, in groups.
 ///
 /// Threads read the table while another adds a word, so its memory stays where it is. A table that
 /// is too short gets one more piece, which is as long as all before it. About half of the numbers
@@ -26,9 +34,9 @@ const MOVED: u64 = NUMBERS;
 /// checks that.
 #[derive(Drop)]
 pub(crate) struct Shard {
-    /// The first has 16 slots.
-    pieces: [WriteOnce<Vec<AtomicU64>>; PIECES],
-    /// The number of all slots less 1, or 0 where there is none.
+    /// The first has two groups.
+    pieces: [WriteOnce<Vec<Group>>; PIECES],
+    /// The number of all groups less 1, or 0 where there is none.
     mask: AtomicUsize,
     /// How many slots are not empty. Whoever adds a word holds it.
     pub(crate) used: Mutex<usize>,
@@ -43,33 +51,35 @@ impl Shard {
             used: Mutex::new(0),
         };
         if words > 0 {
-            let mask = slots_for(words)?.wrapping_sub(1);
+            let mask = (slots_for(words)? / GROUP).wrapping_sub(1);
             for piece in 0..=piece_of(mask) {
-                shard.add_piece(piece, empty_slots(alloc, len_of(piece))?)?;
+                shard.add_piece(piece, empty_groups(alloc, len_of(piece))?)?;
             }
             shard.mask.store(mask, Ordering::Release);
         }
         Ok(shard)
     }
 
-    /// Adds a piece, which has these slots.
-    fn add_piece(&self, number: usize, slots: Vec<AtomicU64>) -> Result<(), AllocError> {
-        match self.pieces.get(number).map(|piece| piece.write(slots)) {
+    /// Adds a piece, which has these groups.
+    fn add_piece(&self, number: usize, groups: Vec<Group>) -> Result<(), AllocError> {
+        match self.pieces.get(number).map(|piece| piece.write(groups)) {
             Some(Ok(_)) => Ok(()),
             Some(Err(_)) | None => Err(AllocError),
         }
     }
 
-    /// Returns the slots of a piece.
-    fn piece(&self, number: usize) -> Option<&[AtomicU64]> {
+    /// Returns the groups of a piece.
+    #[inline(always)]
+    fn piece(&self, number: usize) -> Option<&[Group]> {
         let piece = self.pieces.get(number)?;
         Some(piece.value(&piece.witness()?))
     }
 
-    /// Returns the slots from this index on, of the piece that has it.
-    fn slots_from(&self, index: usize) -> Option<&[AtomicU64]> {
-        let slots = self.piece(piece_of(index))?;
-        slots.get(index & slots.len().wrapping_sub(1)..)
+    /// Returns the group with this index.
+    #[inline(always)]
+    fn group(&self, index: usize) -> Option<&Group> {
+        let groups = self.piece(piece_of(index))?;
+        groups.get(index & groups.len().wrapping_sub(1))
     }
 
     /// Returns what `look` answers for the first number under this half of a hash for which that is
@@ -81,74 +91,60 @@ impl Shard {
             × F.post look number (Some found)) }
     {
         let mask = self.mask.load(Ordering::Acquire);
-        match self.search(half, half as usize & mask, &look) {
+        let index = home(half, mask);
+        match search(self.group(index)?, half, &look) {
             Ok(found) => Some(found),
-            Err(None) if self.mask.load(Ordering::Acquire) == mask => None,
-            Err(_) => self.find_on(half, &look),
+            Err(is_empty) => {
+                if is_empty && self.mask.load(Ordering::Acquire) == mask {
+                    None
+                } else {
+                    self.find_on(half, mask, index, &look)
+                }
+            }
         }
     }
 
-    /// As `find`, where a search passes the end of a piece, or the table grows meanwhile. Then the
-    /// search begins again, since a number may have moved away before it came there.
+    /// As `find`, in the groups behind this one. Where the table has grown meanwhile, the search
+    /// begins again, since a number may have moved away before it came there.
     #[cold]
-    fn find_on<T, F: Fn(u32) -> Option<T>>(&self, half: u32, look: &F) -> Option<T>
+    fn find_on<T, F: Fn(u32) -> Option<T>>(
+        &self,
+        half: u32,
+        mask: usize,
+        index: usize,
+        look: &F,
+    ) -> Option<T>
         requires { F.IsAlwaysCallable look.now }
         ensures found { IfSome result (λ found. (number : ℕ) × (number < NUMBERS)
             × F.post look.now number (Some found)) }
     {
-        let mut mask = self.mask.load(Ordering::Acquire);
-        let mut index = half as usize & mask;
-        for _ in 0..PIECES * PIECES {
-            match self.search(half, index, look) {
-                Ok(found) => return Some(found),
-                Err(Some(next)) => index = next & mask,
-                Err(None) => {
-                    let grown = self.mask.load(Ordering::Acquire);
-                    if grown == mask {
-                        return None;
-                    }
-                    mask = grown;
-                    index = half as usize & mask;
+        let (mut mask, mut index) = (mask, index);
+        for _ in 0..PIECES {
+            for _ in 0..=mask {
+                index = index.wrapping_add(1) & mask;
+                match search(self.group(index)?, half, look) {
+                    Ok(found) => return Some(found),
+                    Err(true) => break,
+                    Err(false) => {}
                 }
             }
+            let grown = self.mask.load(Ordering::Acquire);
+            if grown == mask {
+                return None;
+            }
+            mask = grown;
+            index = home(half, mask).wrapping_sub(1);
         }
         None
-    }
-
-    /// As `find`, from the slot with this index to the end of its piece. Returns the index behind
-    /// that as `Err`, or no index if the search comes to an empty slot.
-    #[inline(always)]
-    fn search<T, F: Fn(u32) -> Option<T>>(
-        &self,
-        half: u32,
-        index: usize,
-        look: &F,
-    ) -> Result<T, Option<usize>>
-        requires { F.IsAlwaysCallable look.now }
-        ensures found { IfOk result (λ found. (number : ℕ) × (number < NUMBERS)
-            × F.post look.now number (Some found)) }
-    {
-        let Some(slots) = self.slots_from(index) else {
-            return Err(None);
-        };
-        for slot in slots {
-            let slot = slot.load(Ordering::Acquire);
-            if slot == 0 {
-                return Err(None);
-            }
-            if slot >> 32 == half as u64 {
-                if let Some(found) = look(((slot % NUMBERS) as u32).wrapping_sub(1)) {
-                    return Ok(found);
-                }
-            }
-        }
-        Err(Some(index.wrapping_add(slots.len())))
     }
 
     /// Makes room for one more word. A quarter of the slots stays empty.
     pub(crate) fn make_room(&self, alloc: Global, used: &mut usize) -> Result<(), AllocError> {
         let mask = self.mask.load(Ordering::Acquire);
-        if *used >= mask - mask / 4 {
+        if mask == 0 {
+            self.add_piece(0, empty_groups(alloc, 2)?)?;
+            self.mask.store(1, Ordering::Release);
+        } else if *used / 6 > mask {
             *used = self.grow(alloc, mask, *used)?;
         }
         Ok(())
@@ -157,17 +153,11 @@ impl Shard {
     /// Doubles the table. Returns how many slots are not empty then.
     fn grow(&self, alloc: Global, mask: usize, used: usize) -> Result<usize, AllocError> {
         let last = piece_of(mask);
-        if mask == 0 {
-            self.add_piece(0, empty_slots(alloc, len_of(0))?)?;
-            self.mask
-                .store(len_of(0).wrapping_sub(1), Ordering::Release);
-            return Ok(0);
-        }
         let len = mask.saturating_add(1);
         let longer = mask.saturating_add(len);
-        let mut slots = empty_slots(alloc, len)?;
-        let (mut taken, wraps) = self.copy_numbers(last, longer, &mut slots);
-        self.add_piece(last.saturating_add(1), slots)?;
+        let mut groups = empty_groups(alloc, len)?;
+        let (mut taken, wraps) = self.copy_numbers(last, longer, &mut groups);
+        self.add_piece(last.saturating_add(1), groups)?;
         if wraps {
             taken = taken.saturating_add(self.copy_to_the_start(mask, longer));
         }
@@ -176,73 +166,81 @@ impl Shard {
         Ok(used.saturating_add(taken).saturating_sub(emptied))
     }
 
-    /// Copies the numbers that move to the slots of a piece behind the last, where a search finds
+    /// Copies the numbers that move to the groups of a piece behind the last, where a search finds
     /// them. Returns how many, and whether there are others, for which a search passes the end.
-    fn copy_numbers(&self, last: usize, mask: usize, slots: &mut Vec<AtomicU64>) -> (usize, bool) {
+    fn copy_numbers(&self, last: usize, mask: usize, groups: &mut Vec<Group>) -> (usize, bool) {
         let (mut taken, mut wraps) = (0_usize, false);
         for number in 0..=last {
-            let moving = self.piece(number).unwrap_or(&[]);
-            for (offset, slot) in moving.iter().enumerate() {
-                let slot = slot.load(Ordering::Acquire);
-                if moves(slot, index_in(number, moving, offset), mask) {
-                    let is_copied = put_into(slots, home(slot, mask), slot);
-                    taken = taken.saturating_add(is_copied as usize);
-                    wraps = wraps || !is_copied;
+            let Some(moving) = self.piece(number) else {
+                break;
+            };
+            for (offset, group) in moving.iter().enumerate() {
+                let index = index_in(number, moving.len(), offset);
+                for slot in group {
+                    let slot = slot.load(Ordering::Acquire);
+                    if moves(slot, index, mask) {
+                        let is_copied = put_behind(groups, mask, slot);
+                        taken = taken.saturating_add(is_copied as usize);
+                        wraps = wraps || !is_copied;
+                    }
                 }
             }
         }
         (taken, wraps)
     }
 
-    /// Copies the numbers that move and have no slot yet, at the start of the table. Returns how
+    /// Copies the numbers that move and have no slot yet, to the start of the table. Returns how
     /// many empty slots that takes.
     #[cold]
     fn copy_to_the_start(&self, mask: usize, longer: usize) -> usize {
         let mut taken = 0_usize;
         for index in 0..=mask {
-            let slot = self.read(index);
-            if moves(slot, index, longer) && self.index_of(slot, longer).is_none() {
-                taken = taken.saturating_add(self.place(slot, longer) as usize);
+            if let Some(group) = self.group(index) {
+                for slot in group {
+                    let slot = slot.load(Ordering::Acquire);
+                    if moves(slot, index, longer) && self.index_of(slot, longer).is_none() {
+                        taken = taken.saturating_add(self.place(slot, longer) as usize);
+                    }
+                }
             }
         }
         taken
     }
 
-    /// Clears the slots whose numbers have moved. Such a slot is empty if the next one is, since no
-    /// search then has to pass it. Returns how many slots are empty now and were not before.
+    /// Clears the slots whose numbers have moved. Returns how many slots are empty now and were not
+    /// before.
     fn clear_moved(&self, last: usize, mask: usize, wraps: bool) -> usize {
         let mut emptied = 0_usize;
-        let mut is_last = self
-            .slots_from(mask / 2 + 1)
-            .is_some_and(|slots| is_empty(slots));
-        for from_last in 0..=last {
-            let number = last - from_last;
-            let slots = self.piece(number).unwrap_or(&[]);
-            for (offset, place) in slots.iter().enumerate().rev() {
-                let slot = place.load(Ordering::Acquire);
-                let index = index_in(number, slots, offset);
-                let has_moved = moves(slot, index, mask)
-                    && (!wraps || self.index_of(slot, mask) != Some(index));
-                if has_moved || slot == MOVED {
-                    place.store(if is_last { 0 } else { MOVED }, Ordering::Release);
-                    emptied = emptied.saturating_add(is_last as usize);
-                } else {
-                    is_last = slot == 0;
-                }
+        for number in 0..=last {
+            let Some(groups) = self.piece(number) else {
+                break;
+            };
+            for (offset, group) in groups.iter().enumerate() {
+                let index = index_in(number, groups.len(), offset);
+                let has_moved = |slot: u64| {
+                    slot == MOVED
+                        || moves(slot, index, mask)
+                            && (!wraps || self.index_of(slot, mask) != Some(index))
+                };
+                emptied = emptied.saturating_add(clear_group(group, has_moved));
             }
         }
         emptied
     }
 
-    /// Returns the index to which a search for this slot comes, in a table with this mask.
+    /// Returns the index of the group in which a search finds this slot.
     fn index_of(&self, slot: u64, mask: usize) -> Option<usize> {
-        let mut index = home(slot, mask);
+        let mut index = home(half_in(slot), mask);
         for _ in 0..=mask {
-            match self.read(index) {
-                0 => return None,
-                there if there == slot => return Some(index),
-                _ => index = index.wrapping_add(1) & mask,
+            let group = self.group(index)?;
+            for step in 0..GROUP {
+                match group[place_at(slot, step)].load(Ordering::Acquire) {
+                    0 => return None,
+                    there if there == slot => return Some(index),
+                    _ => {}
+                }
             }
+            index = index.wrapping_add(1) & mask;
         }
         None
     }
@@ -256,94 +254,137 @@ impl Shard {
         *used = used.saturating_add(was_empty as usize);
     }
 
-    /// Writes a slot to the first place from its home on that has no number. Returns whether that
+    /// Writes a slot to the first place at which a search comes to no number. Returns whether that
     /// was empty.
     fn place(&self, slot: u64, mask: usize) -> bool {
-        let mut index = home(slot, mask);
-        for _ in 0..=PIECES {
-            let slots = self.slots_from(index).unwrap_or(&[]);
-            for place in slots {
+        let mut index = home(half_in(slot), mask);
+        for _ in 0..=mask {
+            let Some(group) = self.group(index) else {
+                break;
+            };
+            for step in 0..GROUP {
+                let place = &group[place_at(slot, step)];
                 let there = place.load(Ordering::Acquire);
                 if there == 0 || there == MOVED {
                     place.store(slot, Ordering::Release);
                     return there == 0;
                 }
             }
-            index = index.wrapping_add(slots.len()) & mask;
+            index = index.wrapping_add(1) & mask;
         }
         false
     }
+}
 
-    /// Returns what the slot with this index holds.
-    fn read(&self, index: usize) -> u64 {
-        match self.slots_from(index) {
-            Some([slot, ..]) => slot.load(Ordering::Acquire),
-            Some([]) | None => 0,
+/// As `Shard::find`, in one group. Otherwise, returns whether the search comes to an empty slot.
+#[inline(always)]
+fn search<T, F: Fn(u32) -> Option<T>>(group: &Group, half: u32, look: &F) -> Result<T, bool>
+    requires { F.IsAlwaysCallable look.now }
+    ensures found { IfOk result (λ found. (number : ℕ) × (number < NUMBERS)
+        × F.post look.now number (Some found)) }
+{
+    let start = half as usize % GROUP;
+    for step in 0..GROUP {
+        let slot = group[(start + step) % GROUP].load(Ordering::Acquire);
+        if slot == 0 {
+            return Err(true);
+        }
+        if slot >> 32 == half as u64 {
+            if let Some(found) = look(((slot % NUMBERS) as u32).wrapping_sub(1)) {
+                return Ok(found);
+            }
         }
     }
+    Err(false)
 }
 
-/// Makes slots that are empty.
-fn empty_slots(alloc: Global, len: usize) -> Result<Vec<AtomicU64>, AllocError> {
-    let mut slots = Vec::with_capacity(alloc, len)?;
+/// Makes groups of empty slots.
+fn empty_groups(alloc: Global, len: usize) -> Result<Vec<Group>, AllocError> {
+    let mut groups = Vec::with_capacity(alloc, len)?;
     for _ in 0..len {
-        slots.push(AtomicU64::new(0))?;
+        groups.push(array::from_fn(|_| AtomicU64::new(0)))?;
     }
-    Ok(slots)
+    Ok(groups)
 }
 
-/// Puts a slot into the first empty one from its home on, in slots that no other thread sees.
-/// A home before them is the first. Returns whether there is one.
-fn put_into(slots: &mut Vec<AtomicU64>, home: usize, slot: u64) -> bool {
-    let first = home.saturating_sub(slots.len());
-    for place in slots.iter_mut().skip(first) {
-        let there = place.get_mut();
-        if *there == 0 {
-            *there = slot;
-            return true;
+/// Puts a slot into the last groups of a table, which no other thread sees: to the first empty
+/// place to which a search comes there. Returns whether there is one.
+fn put_behind(groups: &mut Vec<Group>, mask: usize, slot: u64) -> bool {
+    let first = home(half_in(slot), mask).saturating_sub(groups.len());
+    for group in groups.iter_mut().skip(first) {
+        for step in 0..GROUP {
+            let place = group[place_at(slot, step)].get_mut();
+            if *place == 0 {
+                *place = slot;
+                return true;
+            }
         }
     }
     false
 }
 
-/// Returns the number of the piece that has the slot with this index.
-fn piece_of(index: usize) -> usize {
-    (index.max(15).ilog2() as usize).wrapping_sub(3)
-}
-
-/// Returns how many slots a piece has.
-fn len_of(piece: usize) -> usize {
-    if piece == 0 {
-        16
-    } else {
-        8_usize << piece.min(59)
+/// Clears the slots of a group whose numbers have moved. Such a slot is empty if the next one is,
+/// since no search then has to pass it. Returns how many slots are empty now and were not before.
+fn clear_group<F: Fn(u64) -> bool>(group: &Group, has_moved: F) -> usize
+    requires { F.IsAlwaysCallable has_moved }
+{
+    let empty = group
+        .iter()
+        .position(|slot| slot.load(Ordering::Acquire) == 0);
+    let (behind, mut is_last) = (empty.unwrap_or(0) % GROUP, empty.is_some());
+    let mut emptied = 0_usize;
+    for step in 0..GROUP {
+        let place = &group[(behind + GROUP - step) % GROUP];
+        let slot = place.load(Ordering::Acquire);
+        if has_moved(slot) {
+            place.store(if is_last { 0 } else { MOVED }, Ordering::Release);
+            emptied = emptied.saturating_add(is_last as usize);
+        } else {
+            is_last = slot == 0;
+        }
     }
+    emptied
 }
 
-/// Returns where a search for this slot begins.
-fn home(slot: u64, mask: usize) -> usize {
-    (slot >> 32) as usize & mask
+/// Returns the number of the piece that has the group with this index.
+fn piece_of(index: usize) -> usize {
+    index.max(1).ilog2() as usize
 }
 
-/// Returns whether a slot with this index has a number that moves when the mask gets this long: a
-/// search for it begins behind it.
-fn moves(slot: u64, index: usize, mask: usize) -> bool {
-    slot != MOVED && slot != 0 && home(slot, mask) > index
+/// Returns how many groups a piece has.
+fn len_of(piece: usize) -> usize {
+    1 << piece.clamp(1, 60)
 }
 
-/// Returns the index in the table of the slot with this offset in a piece.
-fn index_in(number: usize, slots: &[AtomicU64], offset: usize) -> usize {
+/// Returns the index in the table of the group with this offset in a piece of this length.
+fn index_in(number: usize, len: usize, offset: usize) -> usize {
     if number == 0 {
         offset
     } else {
-        slots.len().wrapping_add(offset)
+        len.wrapping_add(offset)
     }
 }
 
-/// Returns whether the first slot is empty.
-fn is_empty(slots: &[AtomicU64]) -> bool {
-    match slots {
-        [slot, ..] => slot.load(Ordering::Acquire) == 0,
-        [] => false,
-    }
+/// Returns half of the hash of the word that this slot is of.
+fn half_in(slot: u64) -> u32 {
+    (slot >> 32) as u32
+}
+
+/// Returns the group where a search for words with this half of a hash begins.
+fn home(half: u32, mask: usize) -> usize {
+    half as usize / GROUP & mask
+}
+
+/// Returns the place of a group to which a search for this slot comes by so many steps.
+fn place_at(slot: u64, step: usize) -> usize
+    requires { step < 8 }
+    ensures { result < 8 }
+{
+    (half_in(slot) as usize % GROUP + step) % GROUP
+}
+
+/// Returns whether a slot of the group with this index has a number that moves when the mask gets
+/// this long: a search for it begins behind that group.
+fn moves(slot: u64, index: usize, mask: usize) -> bool {
+    slot != MOVED && slot != 0 && home(half_in(slot), mask) > index
 }
