@@ -156,20 +156,29 @@ impl Shard {
         let len = mask.saturating_add(1);
         let longer = mask.saturating_add(len);
         let mut groups = empty_groups(alloc, len)?;
-        let (mut taken, wraps) = self.copy_numbers(last, longer, &mut groups);
+        let (mut taken, lowest) = self.copy_numbers(last, longer, &mut groups);
         self.add_piece(last.saturating_add(1), groups)?;
-        if wraps {
+        if lowest.is_none() {
             taken = taken.saturating_add(self.copy_to_the_start(mask, longer));
         }
         self.mask.store(longer, Ordering::Release);
-        let emptied = self.clear_moved(last, longer, wraps);
+        let emptied = match lowest {
+            Some(lowest) => self.clear_moved(last, longer, lowest),
+            None => self.mark_moved(mask, longer),
+        };
         Ok(used.saturating_add(taken).saturating_sub(emptied))
     }
 
     /// Copies the numbers that move to the groups of a piece behind the last, where a search finds
-    /// them. Returns how many, and whether there are others, for which a search passes the end.
-    fn copy_numbers(&self, last: usize, mask: usize, groups: &mut Vec<Group>) -> (usize, bool) {
-        let (mut taken, mut wraps) = (0_usize, false);
+    /// them. Returns how many, and the lowest home of one. Returns no home if there are others, for
+    /// which a search passes the end.
+    fn copy_numbers(
+        &self,
+        last: usize,
+        mask: usize,
+        groups: &mut Vec<Group>,
+    ) -> (usize, Option<usize>) {
+        let (mut taken, mut lowest, mut wraps) = (0_usize, mask, false);
         for number in 0..=last {
             let Some(moving) = self.piece(number) else {
                 break;
@@ -181,12 +190,13 @@ impl Shard {
                     if moves(slot, index, mask) {
                         let is_copied = put_behind(groups, mask, slot);
                         taken = taken.saturating_add(is_copied as usize);
+                        lowest = lowest.min(home(half_in(slot), mask));
                         wraps = wraps || !is_copied;
                     }
                 }
             }
         }
-        (taken, wraps)
+        (taken, if wraps { None } else { Some(lowest) })
     }
 
     /// Copies the numbers that move and have no slot yet, to the start of the table. Returns how
@@ -207,25 +217,49 @@ impl Shard {
         taken
     }
 
-    /// Clears the slots whose numbers have moved. Returns how many slots are empty now and were not
-    /// before.
-    fn clear_moved(&self, last: usize, mask: usize, wraps: bool) -> usize {
-        let mut emptied = 0_usize;
-        for number in 0..=last {
+    /// Clears the slots whose numbers have moved, where `lowest` is the lowest home of a number that
+    /// moved. Returns how many slots are empty now and were not before.
+    fn clear_moved(&self, last: usize, mask: usize, lowest: usize) -> usize {
+        let (mut emptied, mut lowest) = (0_usize, lowest);
+        for from_last in 0..=last {
+            let number = last - from_last;
             let Some(groups) = self.piece(number) else {
                 break;
             };
-            for (offset, group) in groups.iter().enumerate() {
+            for (offset, group) in groups.iter().enumerate().rev() {
                 let index = index_in(number, groups.len(), offset);
-                let has_moved = |slot: u64| {
-                    slot == MOVED
-                        || moves(slot, index, mask)
-                            && (!wraps || self.index_of(slot, mask) != Some(index))
-                };
-                emptied = emptied.saturating_add(clear_group(group, has_moved));
+                let passed = passed_places(group, index, mask, lowest <= index);
+                for (place, bit) in group.iter().zip(0_u32..) {
+                    let slot = place.load(Ordering::Acquire);
+                    if slot == MOVED || moves(slot, index, mask) {
+                        let is_passed = passed >> (bit % 8) & 1 == 1;
+                        place.store(if is_passed { MOVED } else { 0 }, Ordering::Release);
+                        emptied = emptied.saturating_add(!is_passed as usize);
+                    } else if slot != 0 {
+                        lowest = lowest.min(home(half_in(slot), mask));
+                    }
+                }
             }
         }
         emptied
+    }
+
+    /// As `clear_moved`, where a search for a number may pass the end. No slot is empty then that
+    /// was not before.
+    #[cold]
+    fn mark_moved(&self, mask: usize, longer: usize) -> usize {
+        for index in 0..=mask {
+            let Some(group) = self.group(index) else {
+                break;
+            };
+            for place in group {
+                let slot = place.load(Ordering::Acquire);
+                if moves(slot, index, longer) && self.index_of(slot, longer) != Some(index) {
+                    place.store(MOVED, Ordering::Release);
+                }
+            }
+        }
+        0
     }
 
     /// Returns the index of the group in which a search finds this slot.
@@ -323,27 +357,20 @@ fn put_behind(groups: &mut Vec<Group>, mask: usize, slot: u64) -> bool {
     false
 }
 
-/// Clears the slots of a group whose numbers have moved. Such a slot is empty if the next one is,
-/// since no search then has to pass it. Returns how many slots are empty now and were not before.
-fn clear_group<F: Fn(u64) -> bool>(group: &Group, has_moved: F) -> usize
-    requires { F.IsAlwaysCallable has_moved }
-{
-    let empty = group
-        .iter()
-        .position(|slot| slot.load(Ordering::Acquire) == 0);
-    let (behind, mut is_last) = (empty.unwrap_or(0) % GROUP, empty.is_some());
-    let mut emptied = 0_usize;
-    for step in 0..GROUP {
-        let place = &group[(behind + GROUP - step) % GROUP];
+/// Returns the places of a group that a search passes which ends at a number that stays there, as
+/// bits. If a search passes the whole group, these are all.
+fn passed_places(group: &Group, index: usize, mask: usize, is_passed: bool) -> u32 {
+    let mut passed = if is_passed { 255 } else { 0 };
+    for (place, at) in group.iter().zip(0_u32..) {
         let slot = place.load(Ordering::Acquire);
-        if has_moved(slot) {
-            place.store(if is_last { 0 } else { MOVED }, Ordering::Release);
-            emptied = emptied.saturating_add(is_last as usize);
-        } else {
-            is_last = slot == 0;
+        if slot != 0 && slot != MOVED && !moves(slot, index, mask) {
+            let start = half_in(slot) % 8;
+            let steps = at.wrapping_sub(start) % 8;
+            let run = ((1_u32 << steps) - 1) << start;
+            passed |= run | run >> 8;
         }
     }
-    emptied
+    passed
 }
 
 /// Returns the number of the piece that has the group with this index.
