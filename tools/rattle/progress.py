@@ -15,8 +15,9 @@ from typing import Any
 import kit
 
 PROCESSORS = len(os.sched_getaffinity(0))
-# How many proofs run at a time. `rt ci` reads this variable too.
-PROOFS = int(os.environ.get("RT_JOBS", 0)) or min(4, PROCESSORS)
+# How many proofs run at a time. Of four processors one stays free, since the fourth proof makes each
+# take more processor time. `rt ci` reads this variable too.
+PROOFS = int(os.environ.setdefault("RT_JOBS", str(min(3, PROCESSORS))))
 # What rt and other scripts say of a part of their work.
 NEWS = re.compile(rf"{kit.DONE}|(?:wrong-bodies|refusals): (.*)")
 STREAMS: dict[str, Any] = {

@@ -217,8 +217,8 @@ impl Shard {
         taken
     }
 
-    /// Clears the slots whose numbers have moved, where `lowest` is the lowest home of a number that
-    /// moved. Returns how many slots are empty now and were not before.
+    /// Clears the slots whose numbers have moved, given the lowest home of these. Returns how many
+    /// slots are empty now and were not before.
     fn clear_moved(&self, last: usize, mask: usize, lowest: usize) -> usize {
         let (mut emptied, mut lowest) = (0_usize, lowest);
         for from_last in 0..=last {
