@@ -1,10 +1,12 @@
 //! Words of one hash.
 use crate::tests::checks::{check, check_eq};
-use arcintern::{Interner, SharedInterner};
-use std::alloc::AllocGlobal;
+use arcintern::{InternFault, Interner, SharedInterner};
+use std::alloc::{AllocGlobal, Global};
 use std::hash::{BuildHasher, Hasher};
 use std::process::Abort;
 use std::sync::Wait;
+use std::thread;
+use std::thread::Threads;
 
 /// Gives each word the hash 7.
 #[derive(Clone, Copy)]
@@ -96,4 +98,96 @@ fn check_growth(rt: &(impl Abort + AllocGlobal)) {
 #[test]
 fn a_hundred_words_have_one_hash(rt: HostRuntime) {
     check_growth(&rt);
+}
+
+/// Gives each word a hash of ones that ends in nine zeros. So all words are in the first slots of
+/// a table until it has 1,024 slots, and then move at once.
+#[derive(Clone, Copy)]
+struct MovesAtOnce;
+
+impl Hasher for MovesAtOnce {
+    ghost write = { λ h _. h };
+
+    ghost finish = { λ _. 4294966784 };
+
+    fn finish(&self) -> u64 {
+        4_294_966_784
+    }
+
+    fn write(&mut self, _bytes: &[u8]) {}
+}
+
+impl BuildHasher for MovesAtOnce {
+    type Hasher = MovesAtOnce;
+
+    ghost build_hasher = { λ s. s };
+
+    fn build_hasher(&self) -> MovesAtOnce {
+        *self
+    }
+}
+
+/// How many words are there before other threads look for them.
+const KNOWN: usize = 360;
+
+/// How many words are there after their table has grown.
+const ALL: usize = 400;
+
+/// How many threads there are: one adds words.
+const THREADS: usize = 4;
+
+/// Interns the words from the number `first` on, before `end`.
+fn intern_words(
+    rt: &impl Wait,
+    alloc: Global,
+    interner: &SharedInterner<MovesAtOnce>,
+    first: usize,
+    end: usize,
+) -> Result<(), InternFault> {
+    for number in first..end {
+        interner.intern(rt, &format!(in alloc; "{number}")?)?;
+    }
+    Ok(())
+}
+
+/// As the last worker, adds words until their table has grown. As another, looks for the last known
+/// words until all are there, and answers whether each was found.
+fn add_or_find(
+    rt: &impl Wait,
+    alloc: Global,
+    interner: &SharedInterner<MovesAtOnce>,
+    worker: usize,
+) -> Result<bool, InternFault> {
+    if worker == THREADS - 1 {
+        intern_words(rt, alloc, interner, KNOWN, ALL)?;
+    }
+    for turn in 0..100_000_usize {
+        if interner.len() == ALL {
+            break;
+        }
+        let word = format!(in alloc; "{}", KNOWN - 1 - turn % 100)?;
+        if interner.get(&word).is_none() {
+            return Ok(false);
+        }
+    }
+    Ok(true)
+}
+
+/// Asserts that each known word is found while all words move.
+fn check_moves<R: Abort + AllocGlobal + Threads + Wait + Sync>(rt: &R) {
+    let alloc = rt.alloc();
+    let interner = &SharedInterner::with_hasher(alloc, 1, MovesAtOnce).expect(rt, "refused");
+    check!(*rt; intern_words(rt, alloc, interner, 0, KNOWN).is_ok());
+    let work = |worker: usize| add_or_find(rt, alloc, interner, worker);
+    for found in thread::map_indices(rt, alloc, THREADS, &work).expect(rt, "refused") {
+        check!(*rt; found.expect(rt, "refused"));
+    }
+    check_eq!(*rt; interner.len(), ALL);
+}
+
+#[test]
+fn known_words_of_one_hash_are_found_while_they_move(rt: HostRuntime) {
+    for _ in 0..10 {
+        check_moves(&rt);
+    }
 }
