@@ -1,6 +1,6 @@
 mod block;
 mod checks;
 mod count;
+mod places;
 mod range;
 mod world;
-mod write_once;
