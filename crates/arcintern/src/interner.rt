@@ -123,7 +123,7 @@ impl<S: BuildHasher> Interner<S> {
     }
 
     /// Makes an interner of the texts of a shared interner, each under the number that it has
-    /// there. Returns the hasher out of memory, or if a number has no text.
+    /// there. Returns the hasher out of memory.
     pub(crate) fn of_texts(
         rt: &impl Wait,
         alloc: Global,
@@ -147,7 +147,8 @@ impl<S: BuildHasher> Interner<S> {
         }
     }
 
-    /// Adds a clone of each text. If there are then as many texts as numbers, each has its number.
+    /// Adds a clone of each text. Refuses if a number has no text, as the texts after it would get
+    /// other numbers. `TextList` has no such number, but no contract says that.
     fn add_all(&mut self, rt: &impl Wait, texts: SharedTexts<'_>) -> Result<(), InternFault>
         ensures once { OnOk result (HasEachOnce self.new) }
     {

@@ -29,8 +29,7 @@ mod text_list;
 /// and a lock for whoever adds one. The texts themselves lie in one list that only grows. A known
 /// word and a text are read without a lock. So a symbol stands for one text as long as the interner
 /// lives, whatever other threads do. The numbers are 0, 1, 2 and so on, in the order in which the
-/// texts were added. Only a call that runs out of memory while other threads add texts can leave a
-/// number without a text.
+/// texts were added, and none is left out.
 ///
 /// A table grows in place, since a thread may be reading it: it gets one more piece, as long as all
 /// before it. After `with_capacity`, a table grows only if its shard gets more than its part of the
@@ -242,10 +241,7 @@ impl<S: BuildHasher> SharedInterner<S> {
     /// It gets a clone of each text, and this interner is dropped. So no text is copied, and each
     /// count is as it was. The list of the texts and the table are allocated.
     ///
-    /// A refused call returns this interner as it was, in the fault. The call is refused out of
-    /// memory. It is also refused if a number has no text, since the texts after it would get other
-    /// numbers. Then `iter` yields fewer texts than `len` returns, and each further call is refused
-    /// too.
+    /// A call is refused out of memory, and returns this interner as it was, in the fault.
     ///
     /// The contract does not say which texts the `Interner` has. The test
     /// `words_of_threads_keep_their_numbers` checks that.

@@ -12,31 +12,23 @@ use write_once::WriteOnce;
 /// numbers.
 const PIECES: usize = 30;
 
-/// How many slots a group has.
-const GROUP: usize = 8;
-
-/// The slots of some words whose halves of hashes end alike but for three bits. These say where in
-/// the group a search begins. It ends at an empty slot, and from a full group it goes on to the
-/// next.
-type Group = [AtomicU64; GROUP];
-
 /// A slot whose number has moved to another. It is not empty, so a search passes it.
 const MOVED: u64 = NUMBERS;
 
 /// The words whose hashes pick this shard: a table of slots, which hold the same as those of
-/// `Slots`, in groups.
+/// `Slots`. A search that passes the last slot goes on at the first.
 ///
 /// Threads read the table while another adds a word, so its memory stays where it is. A table that
 /// is too short gets one more piece, which is as long as all before it. About half of the numbers
 /// move there.
 ///
-/// No contract says that a search finds a slot. The test `known_words_are_found_while_tables_grow`
-/// checks that.
+/// No contract says that a search finds a slot. The tests `known_words_are_found_while_tables_grow`
+/// and `known_words_of_one_hash_are_found_while_they_move` check that.
 #[derive(Drop)]
 pub(crate) struct Shard {
-    /// The first has two groups.
-    pieces: [WriteOnce<Vec<Group>>; PIECES],
-    /// The number of all groups less 1, or 0 where there is none.
+    /// The first has 16 slots.
+    pieces: [WriteOnce<Vec<AtomicU64>>; PIECES],
+    /// The number of all slots less 1, or 0 where there is none.
     mask: AtomicUsize,
     /// How many slots are not empty. Whoever adds a word holds it.
     pub(crate) used: Mutex<usize>,
@@ -51,35 +43,38 @@ impl Shard {
             used: Mutex::new(0),
         };
         if words > 0 {
-            let mask = (slots_for(words)? / GROUP).wrapping_sub(1);
+            let mask = slots_for(words)? - 1;
             for piece in 0..=piece_of(mask) {
-                shard.add_piece(piece, empty_groups(alloc, len_of(piece))?)?;
+                shard.add_piece(piece, empty_slots(alloc, len_of(piece))?)?;
             }
             shard.mask.store(mask, Ordering::Release);
         }
         Ok(shard)
     }
 
-    /// Adds a piece, which has these groups.
-    fn add_piece(&self, number: usize, groups: Vec<Group>) -> Result<(), AllocError> {
-        match self.pieces.get(number).map(|piece| piece.write(groups)) {
-            Some(Ok(_)) => Ok(()),
-            Some(Err(_)) | None => Err(AllocError),
-        }
+    /// Adds a piece, which has these slots.
+    fn add_piece(&self, number: usize, slots: Vec<AtomicU64>) -> Result<(), AllocError> {
+        let Some(piece) = self.pieces.get(number) else {
+            return Err(AllocError);
+        };
+        let Ok(_) = piece.write(slots) else {
+            return Err(AllocError);
+        };
+        Ok(())
     }
 
-    /// Returns the groups of a piece.
+    /// Returns the slots of a piece.
     #[inline(always)]
-    fn piece(&self, number: usize) -> Option<&[Group]> {
+    fn piece(&self, number: usize) -> Option<&[AtomicU64]> {
         let piece = self.pieces.get(number)?;
         Some(piece.value(&piece.witness()?))
     }
 
-    /// Returns the group with this index.
+    /// Returns the slots from this index to the end of its piece.
     #[inline(always)]
-    fn group(&self, index: usize) -> Option<&Group> {
-        let groups = self.piece(piece_of(index))?;
-        groups.get(index & groups.len().wrapping_sub(1))
+    fn slots_from(&self, index: usize) -> Option<&[AtomicU64]> {
+        let slots = self.piece(piece_of(index))?;
+        slots.get(index & slots.len().wrapping_sub(1)..)
     }
 
     /// Returns what `look` answers for the first number under this half of a hash for which that is
@@ -91,41 +86,35 @@ impl Shard {
             × F.post look number (Some found)) }
     {
         let mask = self.mask.load(Ordering::Acquire);
-        let index = home(half, mask);
-        match search(self.group(index)?, half, &look) {
+        match search(self.slots_from(half as usize & mask)?, half, &look) {
             Ok(found) => Some(found),
             Err(is_empty) => {
                 if is_empty && self.mask.load(Ordering::Acquire) == mask {
                     None
                 } else {
-                    self.find_on(half, mask, index, &look)
+                    self.find_further(half, &look)
                 }
             }
         }
     }
 
-    /// As `find`, in the groups behind this one. Where the table has grown meanwhile, the search
-    /// begins again, since a number may have moved away before it came there.
+    /// As `find`, through all pieces. Where the table has grown meanwhile, the search begins again,
+    /// since a number may have moved away before it came there.
     #[cold]
-    fn find_on<T, F: Fn(u32) -> Option<T>>(
-        &self,
-        half: u32,
-        mask: usize,
-        index: usize,
-        look: &F,
-    ) -> Option<T>
+    fn find_further<T, F: Fn(u32) -> Option<T>>(&self, half: u32, look: &F) -> Option<T>
         requires { F.IsAlwaysCallable look.now }
         ensures found { IfSome result (λ found. (number : ℕ) × (number < NUMBERS)
             × F.post look.now number (Some found)) }
     {
-        let (mut mask, mut index) = (mask, index);
+        let mut mask = self.mask.load(Ordering::Acquire);
         for _ in 0..PIECES {
-            for _ in 0..=mask {
-                index = index.wrapping_add(1) & mask;
-                match search(self.group(index)?, half, look) {
+            let mut index = half as usize & mask;
+            for _ in 0..=PIECES {
+                let slots = self.slots_from(index)?;
+                match search(slots, half, look) {
                     Ok(found) => return Some(found),
                     Err(true) => break,
-                    Err(false) => {}
+                    Err(false) => index = index.wrapping_add(slots.len()) & mask,
                 }
             }
             let grown = self.mask.load(Ordering::Acquire);
@@ -133,7 +122,6 @@ impl Shard {
                 return None;
             }
             mask = grown;
-            index = home(half, mask).wrapping_sub(1);
         }
         None
     }
@@ -142,9 +130,9 @@ impl Shard {
     pub(crate) fn make_room(&self, alloc: Global, used: &mut usize) -> Result<(), AllocError> {
         let mask = self.mask.load(Ordering::Acquire);
         if mask == 0 {
-            self.add_piece(0, empty_groups(alloc, 2)?)?;
-            self.mask.store(1, Ordering::Release);
-        } else if *used / 6 > mask {
+            self.add_piece(0, empty_slots(alloc, 16)?)?;
+            self.mask.store(15, Ordering::Release);
+        } else if *used >= mask - mask / 4 {
             *used = self.grow(alloc, mask, *used)?;
         }
         Ok(())
@@ -155,48 +143,43 @@ impl Shard {
         let last = piece_of(mask);
         let len = mask.saturating_add(1);
         let longer = mask.saturating_add(len);
-        let mut groups = empty_groups(alloc, len)?;
-        let (mut taken, lowest) = self.copy_numbers(last, longer, &mut groups);
-        self.add_piece(last.saturating_add(1), groups)?;
-        if lowest.is_none() {
+        let mut slots = empty_slots(alloc, len)?;
+        let moved = self.copy_numbers(last, longer, &mut slots);
+        self.add_piece(last.saturating_add(1), slots)?;
+        let (mut taken, mut start) = (moved.copied, 0);
+        if moved.passes_end {
             taken = taken.saturating_add(self.copy_to_the_start(mask, longer));
+            start = self.first_empty(len);
         }
         self.mask.store(longer, Ordering::Release);
-        let emptied = match lowest {
-            Some(lowest) => self.clear_moved(last, longer, lowest),
-            None => self.mark_moved(mask, longer),
-        };
+        self.mark_moved(start, longer);
+        let emptied = self.clear_moved(last, longer, start, moved.lowest);
         Ok(used.saturating_add(taken).saturating_sub(emptied))
     }
 
-    /// Copies the numbers that move to the groups of a piece behind the last, where a search finds
-    /// them. Returns how many, and the lowest home of one. Returns no home if there are others, for
-    /// which a search passes the end.
-    fn copy_numbers(
-        &self,
-        last: usize,
-        mask: usize,
-        groups: &mut Vec<Group>,
-    ) -> (usize, Option<usize>) {
-        let (mut taken, mut lowest, mut wraps) = (0_usize, mask, false);
+    /// Copies the numbers that move to the slots of a piece behind the last, where a search finds
+    /// them.
+    fn copy_numbers(&self, last: usize, mask: usize, slots: &mut Vec<AtomicU64>) -> Moved {
+        let (mut copied, mut lowest, mut passes_end) = (0_usize, mask, false);
         for number in 0..=last {
             let Some(moving) = self.piece(number) else {
                 break;
             };
-            for (offset, group) in moving.iter().enumerate() {
-                let index = index_in(number, moving.len(), offset);
-                for slot in group {
-                    let slot = slot.load(Ordering::Acquire);
-                    if moves(slot, index, mask) {
-                        let is_copied = put_behind(groups, mask, slot);
-                        taken = taken.saturating_add(is_copied as usize);
-                        lowest = lowest.min(home(half_in(slot), mask));
-                        wraps = wraps || !is_copied;
-                    }
+            for (offset, slot) in moving.iter().enumerate() {
+                let slot = slot.load(Ordering::Acquire);
+                if moves(slot, index_in(number, moving.len(), offset), mask) {
+                    let is_copied = put_behind(slots, mask, slot);
+                    copied = copied.saturating_add(is_copied as usize);
+                    lowest = lowest.min(home(slot, mask));
+                    passes_end = passes_end || !is_copied;
                 }
             }
         }
-        (taken, if wraps { None } else { Some(lowest) })
+        Moved {
+            copied,
+            lowest,
+            passes_end,
+        }
     }
 
     /// Copies the numbers that move and have no slot yet, to the start of the table. Returns how
@@ -205,76 +188,88 @@ impl Shard {
     fn copy_to_the_start(&self, mask: usize, longer: usize) -> usize {
         let mut taken = 0_usize;
         for index in 0..=mask {
-            if let Some(group) = self.group(index) {
-                for slot in group {
-                    let slot = slot.load(Ordering::Acquire);
-                    if moves(slot, index, longer) && self.index_of(slot, longer).is_none() {
-                        taken = taken.saturating_add(self.place(slot, longer) as usize);
-                    }
-                }
+            let slot = self.slot(index);
+            if moves(slot, index, longer) && self.index_of(slot, longer).is_none() {
+                taken = taken.saturating_add(self.place(slot, longer) as usize);
             }
         }
         taken
     }
 
-    /// Clears the slots whose numbers have moved, given the lowest home of these. Returns how many
-    /// slots are empty now and were not before.
-    fn clear_moved(&self, last: usize, mask: usize, lowest: usize) -> usize {
+    /// Returns the index of the first empty slot of these, and else how many there are.
+    #[cold]
+    fn first_empty(&self, len: usize) -> usize {
+        for index in 0..len {
+            if self.slot(index) == 0 {
+                return index;
+            }
+        }
+        len
+    }
+
+    /// Marks the slots below `start` whose numbers have moved. A search that passes the end of the
+    /// table passes them too, so none of them becomes empty.
+    fn mark_moved(&self, start: usize, mask: usize) {
+        for index in 0..start {
+            let slot = self.slot(index);
+            if moves(slot, index, mask) && self.index_of(slot, mask) != Some(index) {
+                if let Some(place) = self.place_at(index) {
+                    place.store(MOVED, Ordering::Release);
+                }
+            }
+        }
+    }
+
+    /// Empties the slots from `start` on whose numbers have moved, but marks those that a search
+    /// passes. `lowest` is the lowest home of the numbers that have moved. Returns how many slots
+    /// it empties.
+    fn clear_moved(&self, last: usize, mask: usize, start: usize, lowest: usize) -> usize {
         let (mut emptied, mut lowest) = (0_usize, lowest);
         for from_last in 0..=last {
             let number = last - from_last;
-            let Some(groups) = self.piece(number) else {
+            let Some(slots) = self.piece(number) else {
                 break;
             };
-            for (offset, group) in groups.iter().enumerate().rev() {
-                let index = index_in(number, groups.len(), offset);
-                let passed = passed_places(group, index, mask, lowest <= index);
-                for (place, bit) in group.iter().zip(0_u32..) {
-                    let slot = place.load(Ordering::Acquire);
-                    if slot == MOVED || moves(slot, index, mask) {
-                        let is_passed = passed >> (bit % 8) & 1 == 1;
-                        place.store(if is_passed { MOVED } else { 0 }, Ordering::Release);
-                        emptied = emptied.saturating_add(!is_passed as usize);
-                    } else if slot != 0 {
-                        lowest = lowest.min(home(half_in(slot), mask));
-                    }
+            for (offset, place) in slots.iter().enumerate().rev() {
+                let index = index_in(number, slots.len(), offset);
+                if index < start {
+                    break;
+                }
+                let slot = place.load(Ordering::Acquire);
+                if slot == MOVED || moves(slot, index, mask) {
+                    let is_passed = lowest <= index;
+                    place.store(if is_passed { MOVED } else { 0 }, Ordering::Release);
+                    emptied = emptied.saturating_add(!is_passed as usize);
+                } else if slot != 0 {
+                    lowest = lowest.min(home(slot, mask));
                 }
             }
         }
         emptied
     }
 
-    /// As `clear_moved`, where a search for a number may pass the end. No slot is empty then that
-    /// was not before.
-    #[cold]
-    fn mark_moved(&self, mask: usize, longer: usize) -> usize {
-        for index in 0..=mask {
-            let Some(group) = self.group(index) else {
-                break;
-            };
-            for place in group {
-                let slot = place.load(Ordering::Acquire);
-                if moves(slot, index, longer) && self.index_of(slot, longer) != Some(index) {
-                    place.store(MOVED, Ordering::Release);
-                }
-            }
-        }
-        0
+    /// Returns the place of the slot with this index.
+    fn place_at(&self, index: usize) -> Option<&AtomicU64> {
+        self.slots_from(index)?.first()
     }
 
-    /// Returns the index of the group in which a search finds this slot.
+    /// Returns the slot with this index.
+    fn slot(&self, index: usize) -> u64 {
+        match self.place_at(index) {
+            Some(place) => place.load(Ordering::Acquire),
+            None => 0,
+        }
+    }
+
+    /// Returns the index of the first slot that is the same as this one, in the order of a search.
     fn index_of(&self, slot: u64, mask: usize) -> Option<usize> {
-        let mut index = home(half_in(slot), mask);
+        let mut index = home(slot, mask);
         for _ in 0..=mask {
-            let group = self.group(index)?;
-            for step in 0..GROUP {
-                match group[place_at(slot, step)].load(Ordering::Acquire) {
-                    0 => return None,
-                    there if there == slot => return Some(index),
-                    _ => {}
-                }
+            match self.slot(index) {
+                0 => return None,
+                there if there == slot => return Some(index),
+                _ => index = index.wrapping_add(1) & mask,
             }
-            index = index.wrapping_add(1) & mask;
         }
         None
     }
@@ -291,35 +286,48 @@ impl Shard {
     /// Writes a slot to the first place at which a search comes to no number. Returns whether that
     /// was empty.
     fn place(&self, slot: u64, mask: usize) -> bool {
-        let mut index = home(half_in(slot), mask);
-        for _ in 0..=mask {
-            let Some(group) = self.group(index) else {
+        let mut index = home(slot, mask);
+        for _ in 0..=PIECES {
+            let Some(slots) = self.slots_from(index) else {
                 break;
             };
-            for step in 0..GROUP {
-                let place = &group[place_at(slot, step)];
+            for place in slots {
                 let there = place.load(Ordering::Acquire);
                 if there == 0 || there == MOVED {
                     place.store(slot, Ordering::Release);
                     return there == 0;
                 }
             }
-            index = index.wrapping_add(1) & mask;
+            index = index.wrapping_add(slots.len()) & mask;
         }
         false
     }
 }
 
-/// As `Shard::find`, in one group. Otherwise, returns whether the search comes to an empty slot.
+/// What a table that grows has copied to its new piece.
+#[derive(Drop)]
+struct Moved {
+    /// How many numbers.
+    copied: usize,
+    /// The lowest index where a search for a number that moves begins.
+    lowest: usize,
+    /// Whether there are others, for which a search passes the end of the table.
+    passes_end: bool,
+}
+
+/// As `Shard::find`, in these slots. Otherwise, returns whether the search comes to an empty slot.
 #[inline(always)]
-fn search<T, F: Fn(u32) -> Option<T>>(group: &Group, half: u32, look: &F) -> Result<T, bool>
+fn search<T, F: Fn(u32) -> Option<T>>(
+    slots: &[AtomicU64],
+    half: u32,
+    look: &F,
+) -> Result<T, bool>
     requires { F.IsAlwaysCallable look.now }
     ensures found { IfOk result (λ found. (number : ℕ) × (number < NUMBERS)
         × F.post look.now number (Some found)) }
 {
-    let start = half as usize % GROUP;
-    for step in 0..GROUP {
-        let slot = group[(start + step) % GROUP].load(Ordering::Acquire);
+    for slot in slots {
+        let slot = slot.load(Ordering::Acquire);
         if slot == 0 {
             return Err(true);
         }
@@ -332,58 +340,40 @@ fn search<T, F: Fn(u32) -> Option<T>>(group: &Group, half: u32, look: &F) -> Res
     Err(false)
 }
 
-/// Makes groups of empty slots.
-fn empty_groups(alloc: Global, len: usize) -> Result<Vec<Group>, AllocError> {
-    let mut groups = Vec::with_capacity(alloc, len)?;
+/// Makes empty slots.
+fn empty_slots(alloc: Global, len: usize) -> Result<Vec<AtomicU64>, AllocError> {
+    let mut slots = Vec::with_capacity(alloc, len)?;
     for _ in 0..len {
-        groups.push(array::from_fn(|_| AtomicU64::new(0)))?;
+        slots.push(AtomicU64::new(0))?;
     }
-    Ok(groups)
+    Ok(slots)
 }
 
-/// Puts a slot into the last groups of a table, which no other thread sees: to the first empty
+/// Puts a slot into the last piece of a table, which no other thread sees: to the first empty
 /// place to which a search comes there. Returns whether there is one.
-fn put_behind(groups: &mut Vec<Group>, mask: usize, slot: u64) -> bool {
-    let first = home(half_in(slot), mask).saturating_sub(groups.len());
-    for group in groups.iter_mut().skip(first) {
-        for step in 0..GROUP {
-            let place = group[place_at(slot, step)].get_mut();
-            if *place == 0 {
-                *place = slot;
-                return true;
-            }
+fn put_behind(slots: &mut Vec<AtomicU64>, mask: usize, slot: u64) -> bool {
+    let first = home(slot, mask).saturating_sub(slots.len());
+    for place in slots.iter_mut().skip(first) {
+        let place = place.get_mut();
+        if *place == 0 {
+            *place = slot;
+            return true;
         }
     }
     false
 }
 
-/// Returns the places of a group that a search passes which ends at a number that stays there, as
-/// bits. If a search passes the whole group, these are all.
-fn passed_places(group: &Group, index: usize, mask: usize, is_passed: bool) -> u32 {
-    let mut passed = if is_passed { 255 } else { 0 };
-    for (place, at) in group.iter().zip(0_u32..) {
-        let slot = place.load(Ordering::Acquire);
-        if slot != 0 && slot != MOVED && !moves(slot, index, mask) {
-            let start = half_in(slot) % 8;
-            let steps = at.wrapping_sub(start) % 8;
-            let run = ((1_u32 << steps) - 1) << start;
-            passed |= run | run >> 8;
-        }
-    }
-    passed
-}
-
-/// Returns the number of the piece that has the group with this index.
+/// Returns the number of the piece that has the slot with this index.
 fn piece_of(index: usize) -> usize {
-    index.max(1).ilog2() as usize
+    (index / 8).max(1).ilog2() as usize
 }
 
-/// Returns how many groups a piece has.
+/// Returns how many slots a piece has.
 fn len_of(piece: usize) -> usize {
-    1 << piece.clamp(1, 60)
+    8 << piece.clamp(1, 60)
 }
 
-/// Returns the index in the table of the group with this offset in a piece of this length.
+/// Returns the index in the table of the slot with this offset in a piece of this length.
 fn index_in(number: usize, len: usize, offset: usize) -> usize {
     if number == 0 {
         offset
@@ -392,26 +382,14 @@ fn index_in(number: usize, len: usize, offset: usize) -> usize {
     }
 }
 
-/// Returns half of the hash of the word that this slot is of.
-fn half_in(slot: u64) -> u32 {
-    (slot >> 32) as u32
+/// Returns the index where a search for this slot begins: half of a hash, of as many bits as the
+/// mask has.
+fn home(slot: u64, mask: usize) -> usize {
+    (slot >> 32) as usize & mask
 }
 
-/// Returns the group where a search for words with this half of a hash begins.
-fn home(half: u32, mask: usize) -> usize {
-    half as usize / GROUP & mask
-}
-
-/// Returns the place of a group to which a search for this slot comes by so many steps.
-fn place_at(slot: u64, step: usize) -> usize
-    requires { step < 8 }
-    ensures { result < 8 }
-{
-    (half_in(slot) as usize % GROUP + step) % GROUP
-}
-
-/// Returns whether a slot of the group with this index has a number that moves when the mask gets
-/// this long: a search for it begins behind that group.
+/// Returns whether a slot with this index has a number that moves when the mask gets this long: a
+/// search for it begins behind that slot.
 fn moves(slot: u64, index: usize, mask: usize) -> bool {
-    slot != MOVED && slot != 0 && home(half_in(slot), mask) > index
+    slot != MOVED && slot != 0 && home(slot, mask) > index
 }

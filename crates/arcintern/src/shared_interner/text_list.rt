@@ -26,9 +26,7 @@ pub(crate) struct TextList {
     rows: Vec<WriteOnce<Row>>,
     /// Whoever makes a row holds it.
     making: Mutex<()>,
-    /// The number of the next text.
-    taken: AtomicUsize,
-    /// How many texts are there.
+    /// How many texts are there. All numbers below it are taken.
     count: AtomicUsize,
 }
 
@@ -86,7 +84,6 @@ impl TextList {
         let list = TextList {
             rows: empty_places(alloc, ROWS, || Vec::new(alloc))?,
             making: Mutex::new(()),
-            taken: AtomicUsize::new(0),
             count: AtomicUsize::new(0),
         };
         if let Some(last) = texts.min(MOST_TEXTS).checked_sub(1) {
@@ -103,10 +100,10 @@ impl TextList {
         ensures { IfOk result (λ made. made.of ≡ id_at self.now row) }
     {
         let places = empty_places(*self.rows.allocator(), 4 << (row / 8), || ArcStr::new())?;
-        match self.rows[row].write(places) {
-            Ok(made) => Ok(made),
-            Err(_) => Err(AllocError),
-        }
+        let Ok(made) = self.rows[row].write(places) else {
+            return Err(AllocError);
+        };
+        Ok(made)
     }
 
     /// Returns the row, which is made if it is not there.
@@ -134,42 +131,37 @@ impl TextList {
         }
     }
 
-    /// Adds a text, under the next number. Its row is made before the number is taken, so out of
-    /// memory a number has no text only if another thread took one in between.
+    /// Adds a text, under the lowest number that no text has, or is about to have in another
+    /// thread. So each number below that of a text is taken too, also where memory is out.
     pub(crate) fn push(&self, rt: &impl Wait, text: ArcStr) -> Result<SharedSymbol, InternFault>
         ensures of { IfOk result (λ symbol. IsSymbolOf self.now symbol) }
         ensures text { IfOk result (λ symbol. symbol.text ≡ text) }
         ensures never_too_long { ¬ (IsErrOf result InternFault.Length) }
     {
-        let next = self.taken.load(Ordering::Acquire);
-        if next >= MOST_TEXTS {
-            return Err(InternFault::Full);
-        }
-        let (row, place) = locate(next);
-        let made = self.row(rt, row)?;
-        let number = self.taken.fetch_add(1, Ordering::AcqRel);
-        let (row, place, made) = if number == next {
-            (row, place, made)
-        } else if number < MOST_TEXTS {
+        let mut text = text;
+        let mut number = self.count.load(Ordering::Acquire);
+        while number < MOST_TEXTS {
             let (row, place) = locate(number);
-            (row, place, self.row(rt, row)?)
-        } else {
-            return Err(InternFault::Full);
-        };
-        let Some(empty) = self.rows[row].value(&made).get(place) else {
-            return Err(InternFault::Memory);
-        };
-        let Ok(text) = empty.write(text) else {
-            return Err(InternFault::Memory);
-        };
-        self.count.fetch_add(1, Ordering::AcqRel);
-        Ok(SharedSymbol {
-            number,
-            row,
-            place,
-            made,
-            text,
-        })
+            let made = self.row(rt, row)?;
+            let Some(empty) = self.rows[row].value(&made).get(place) else {
+                return Err(InternFault::Memory);
+            };
+            match empty.write(text) {
+                Ok(text) => {
+                    self.count.fetch_add(1, Ordering::AcqRel);
+                    return Ok(SharedSymbol {
+                        number,
+                        row,
+                        place,
+                        made,
+                        text,
+                    });
+                }
+                Err(back) => text = back,
+            }
+            number += 1;
+        }
+        Err(InternFault::Full)
     }
 
     /// Returns how many texts there are.
