@@ -317,11 +317,7 @@ struct Moved {
 
 /// As `Shard::find`, in these slots. Otherwise, returns whether the search comes to an empty slot.
 #[inline(always)]
-fn search<T, F: Fn(u32) -> Option<T>>(
-    slots: &[AtomicU64],
-    half: u32,
-    look: &F,
-) -> Result<T, bool>
+fn search<T, F: Fn(u32) -> Option<T>>(slots: &[AtomicU64], half: u32, look: &F) -> Result<T, bool>
     requires { F.IsAlwaysCallable look.now }
     ensures found { IfOk result (λ found. (number : ℕ) × (number < NUMBERS)
         × F.post look.now number (Some found)) }
