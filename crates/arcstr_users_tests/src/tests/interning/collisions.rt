@@ -8,28 +8,30 @@ use std::sync::Wait;
 use std::thread;
 use std::thread::Threads;
 
-/// Gives each word the hash 7.
+/// Gives each word the hash `hash`.
 #[derive(Clone, Copy)]
-pub(crate) struct Collides;
+pub(crate) struct OneHash {
+    pub(crate) hash: u64,
+}
 
-impl Hasher for Collides {
-    ghost write = { λ h _. h };
+impl Hasher for OneHash {
+    ghost write = { λ hasher _. hasher };
 
-    ghost finish = { λ _. 7 };
+    ghost finish = { λ hasher. hasher.hash };
 
     fn finish(&self) -> u64 {
-        7
+        self.hash
     }
 
     fn write(&mut self, _bytes: &[u8]) {}
 }
 
-impl BuildHasher for Collides {
-    type Hasher = Collides;
+impl BuildHasher for OneHash {
+    type Hasher = OneHash;
 
-    ghost build_hasher = { λ s. s };
+    ghost build_hasher = { λ hasher. hasher };
 
-    fn build_hasher(&self) -> Collides {
+    fn build_hasher(&self) -> OneHash {
         *self
     }
 }
@@ -38,7 +40,7 @@ const WORDS: [&str; 5] = ["foo", "bar", "", "bar ", "é"];
 
 #[test]
 fn an_interner_tells_words_of_one_hash_apart(rt: HostRuntime) {
-    let mut interner = Interner::with_hasher(rt.alloc(), Collides);
+    let mut interner = Interner::with_hasher(rt.alloc(), OneHash { hash: 7 });
     for _ in 0..2 {
         for (index, word) in WORDS.iter().enumerate() {
             check_eq!(rt; interner.intern(*word).expect(&rt, "refused").index(), index);
@@ -54,7 +56,7 @@ fn an_interner_tells_words_of_one_hash_apart(rt: HostRuntime) {
 /// then found.
 fn check_shared(
     rt: &(impl Abort + Wait),
-    interner: &SharedInterner<Collides>,
+    interner: &SharedInterner<OneHash>,
     word: &str,
     index: usize,
 ) {
@@ -67,7 +69,9 @@ fn check_shared(
 
 #[test]
 fn a_shared_interner_tells_words_of_one_hash_apart(ref rt: HostRuntime) {
-    let interner = SharedInterner::with_hasher(rt.alloc(), 3, Collides).expect(rt, "refused");
+    let interner = SharedInterner::with_hasher(rt.alloc(), 3, OneHash { hash: 7 }).expect(
+        rt, "refused",
+    );
     for _ in 0..2 {
         for (index, word) in WORDS.iter().enumerate() {
             check_shared(rt, &interner, word, index);
@@ -84,7 +88,7 @@ fn a_shared_interner_tells_words_of_one_hash_apart(ref rt: HostRuntime) {
 
 /// Asserts that the table grows for words of one hash.
 fn check_growth(rt: &(impl Abort + AllocGlobal)) {
-    let mut interner = Interner::with_hasher(rt.alloc(), Collides);
+    let mut interner = Interner::with_hasher(rt.alloc(), OneHash { hash: 7 });
     for number in 0..100 {
         let word = format!(in rt.alloc(); "{number}").expect(rt, "no memory");
         check_eq!(*rt; interner.intern(&word).expect(rt, "refused").index(), number);
@@ -100,32 +104,28 @@ fn a_hundred_words_have_one_hash(rt: HostRuntime) {
     check_growth(&rt);
 }
 
-/// Gives each word a hash of ones that ends in nine zeros. So all words are in the first slots of
-/// a table until it has 1,024 slots, and then move at once.
-#[derive(Clone, Copy)]
-struct MovesAtOnce;
-
-impl Hasher for MovesAtOnce {
-    ghost write = { λ h _. h };
-
-    ghost finish = { λ _. 4294966784 };
-
-    fn finish(&self) -> u64 {
-        4_294_966_784
+/// A search for each word begins at the last slot, in a table of any length, and passes its end.
+#[test]
+fn a_hundred_words_pass_the_end_of_a_table(ref rt: HostRuntime) {
+    let hasher = OneHash {
+        hash: 4_294_967_295,
+    };
+    let interner = SharedInterner::with_hasher(rt.alloc(), 1, hasher).expect(rt, "refused");
+    for number in 0..100 {
+        let word = format!(in rt.alloc(); "{number}").expect(rt, "no memory");
+        check_shared(rt, &interner, &word, number);
     }
-
-    fn write(&mut self, _bytes: &[u8]) {}
-}
-
-impl BuildHasher for MovesAtOnce {
-    type Hasher = MovesAtOnce;
-
-    ghost build_hasher = { λ s. s };
-
-    fn build_hasher(&self) -> MovesAtOnce {
-        *self
+    for number in 0..100 {
+        let word = format!(in rt.alloc(); "{number}").expect(rt, "no memory");
+        check_shared(rt, &interner, &word, number);
     }
 }
+
+/// A hash of ones that ends in nine zeros. All its words are in the first slots of a table until it
+/// has 1,024 slots, and then move at once.
+const MOVES_AT_ONCE: OneHash = OneHash {
+    hash: 4_294_966_784,
+};
 
 /// How many words are there before other threads look for them.
 const KNOWN: usize = 360;
@@ -140,7 +140,7 @@ const THREADS: usize = 4;
 fn intern_words(
     rt: &impl Wait,
     alloc: Global,
-    interner: &SharedInterner<MovesAtOnce>,
+    interner: &SharedInterner<OneHash>,
     first: usize,
     end: usize,
 ) -> Result<(), InternFault> {
@@ -155,7 +155,7 @@ fn intern_words(
 fn add_or_find(
     rt: &impl Wait,
     alloc: Global,
-    interner: &SharedInterner<MovesAtOnce>,
+    interner: &SharedInterner<OneHash>,
     worker: usize,
 ) -> Result<bool, InternFault> {
     if worker == THREADS - 1 {
@@ -176,7 +176,7 @@ fn add_or_find(
 /// Asserts that each known word is found while all words move.
 fn check_moves<R: Abort + AllocGlobal + Threads + Wait + Sync>(rt: &R) {
     let alloc = rt.alloc();
-    let interner = &SharedInterner::with_hasher(alloc, 1, MovesAtOnce).expect(rt, "refused");
+    let interner = &SharedInterner::with_hasher(alloc, 1, MOVES_AT_ONCE).expect(rt, "refused");
     check!(*rt; intern_words(rt, alloc, interner, 0, KNOWN).is_ok());
     let work = |worker: usize| add_or_find(rt, alloc, interner, worker);
     for found in thread::map_indices(rt, alloc, THREADS, &work).expect(rt, "refused") {

@@ -305,7 +305,7 @@ fn words_are_numbered_as_they_come(rt: HostRuntime) {
 }
 
 /// How many words one shard gets: one less than a power of two.
-const MANY: usize = (1 << 15) - 1;
+const MANY: usize = (1 << 13) - 1;
 
 #[test]
 fn many_words_of_one_shard_are_numbered_as_they_come(rt: HostRuntime) {
@@ -320,7 +320,7 @@ fn many_words_of_one_shard_are_numbered_as_they_come(rt: HostRuntime) {
         .expect(&rt, "not found");
     check!(rt; interner.symbol_at(last.number()).is_some());
     check_absent(&rt, letters, |word: &str| interner.get(word).is_some());
-    check_eq!(rt; (interner.len(), interner.iter().count()), (32_767, 32_767));
+    check_eq!(rt; (interner.len(), interner.iter().count()), (8_191, 8_191));
 }
 
 #[test]

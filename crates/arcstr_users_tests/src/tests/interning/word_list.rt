@@ -1,6 +1,6 @@
 //! Word lists of a few words, of many and of words of one hash, and symbol maps.
 use crate::tests::checks::{check, check_eq};
-use crate::tests::interning::collisions::Collides;
+use crate::tests::interning::collisions::OneHash;
 use crate::tests::interning::{WORDS, check_absent, letters, word_at};
 use crate::tests::made;
 use arcintern::{Symbol, SymbolMap, WordList};
@@ -63,7 +63,7 @@ fn words_of_a_list_are_numbered_as_they_come(rt: HostRuntime) {
 
 #[test]
 fn a_list_tells_words_of_one_hash_apart(rt: HostRuntime) {
-    let mut words = WordList::with_hasher(rt.alloc(), Collides);
+    let mut words = WordList::with_hasher(rt.alloc(), OneHash { hash: 7 });
     for _ in 0..2 {
         for number in 0..100 {
             let symbol = words.intern(&word_of(&rt, number)).expect(&rt, "refused");
