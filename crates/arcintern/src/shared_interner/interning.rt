@@ -143,7 +143,9 @@ impl<S: BuildHasher> SharedInterner<S> {
 
     /// Returns the symbol of the word with this hash. If there is none, adds `whole` or, without
     /// one, a copy of the word. That text is made before the lock is taken, and dropped if another
-    /// thread has added the word meanwhile.
+    /// thread has added the word meanwhile. The count of the texts tells whether one was added at
+    /// all, since each thread counts its text after it wrote its slot, and before it gives the lock
+    /// back.
     pub(crate) fn find_or_add(
         &self,
         rt: &impl Wait,
@@ -156,19 +158,22 @@ impl<S: BuildHasher> SharedInterner<S> {
         ensures too_long { IsErrOf result InternFault.Length
             → IsNone whole.entry × IsTooLong (length word.now) }
     {
+        let count = self.len();
         if let Some(symbol) = self.find(hash, word) {
             return Ok(symbol);
         }
-        if self.len() >= MOST_TEXTS {
+        if count >= MOST_TEXTS {
             return Err(InternFault::Full);
         }
         let text = text_to_keep(rt, self.alloc, word, whole)?;
         let shard = &self.shards[shard_of(hash, self.shards.len())];
         let mut used = shard.used.lock(rt);
-        match self.find_in(shard, hash, word) {
-            Some(symbol) => Ok(symbol),
-            None => self.add(rt, shard, &mut used, hash, text),
+        if self.len() != count {
+            if let Some(symbol) = self.find_in(shard, hash, word) {
+                return Ok(symbol);
+            }
         }
+        self.add(rt, shard, &mut used, hash, text)
     }
 
     /// Adds a text, with the next number, to the list and to the table of its shard.
@@ -187,6 +192,7 @@ impl<S: BuildHasher> SharedInterner<S> {
         shard.make_room(self.alloc, used)?;
         let symbol = self.texts.push(rt, text)?;
         shard.put(used, half_of(hash), symbol.number as u32);
+        self.texts.count_one();
         Ok(symbol)
     }
 }

@@ -86,29 +86,36 @@ impl Shard {
             × F.post look number (Some found)) }
     {
         let mask = self.mask.load(Ordering::Acquire);
-        match search(self.slots_from(half as usize & mask)?, half, &look) {
+        let index = half as usize & mask;
+        let slots = self.slots_from(index)?;
+        match search(slots, half, &look) {
             Ok(found) => Some(found),
             Err(is_empty) => {
                 if is_empty && self.mask.load(Ordering::Acquire) == mask {
                     None
                 } else {
-                    self.find_further(half, &look)
+                    self.find_further(half, mask, index.wrapping_add(slots.len()) & mask, &look)
                 }
             }
         }
     }
 
-    /// As `find`, through all pieces. Where the table has grown meanwhile, the search begins again,
+    /// As `find`, from this index on. Where the table has grown meanwhile, the search begins again,
     /// since a number may have moved away before it came there.
     #[cold]
-    fn find_further<T, F: Fn(u32) -> Option<T>>(&self, half: u32, look: &F) -> Option<T>
+    fn find_further<T, F: Fn(u32) -> Option<T>>(
+        &self,
+        half: u32,
+        mask: usize,
+        index: usize,
+        look: &F,
+    ) -> Option<T>
         requires { F.IsAlwaysCallable look.now }
         ensures found { IfSome result (λ found. (number : ℕ) × (number < NUMBERS)
             × F.post look.now number (Some found)) }
     {
-        let mut mask = self.mask.load(Ordering::Acquire);
+        let (mut mask, mut index) = (mask, index);
         for _ in 0..PIECES {
-            let mut index = half as usize & mask;
             for _ in 0..=PIECES {
                 let slots = self.slots_from(index)?;
                 match search(slots, half, look) {
@@ -122,6 +129,7 @@ impl Shard {
                 return None;
             }
             mask = grown;
+            index = half as usize & mask;
         }
         None
     }
@@ -238,10 +246,10 @@ impl Shard {
                 let slot = place.load(Ordering::Acquire);
                 if slot == MOVED || moves(slot, index, mask) {
                     let is_passed = lowest <= index;
-                    place.store(if is_passed { MOVED } else { 0 }, Ordering::Release);
+                    place.store(is_passed as u64 * MOVED, Ordering::Release);
                     emptied = emptied.saturating_add(!is_passed as usize);
-                } else if slot != 0 {
-                    lowest = lowest.min(home(slot, mask));
+                } else {
+                    lowest = lowest.min(if slot == 0 { mask } else { home(slot, mask) });
                 }
             }
         }

@@ -26,7 +26,7 @@ pub(crate) struct TextList {
     rows: Vec<WriteOnce<Row>>,
     /// Whoever makes a row holds it.
     making: Mutex<()>,
-    /// How many texts are there. All numbers below it are taken.
+    /// How many texts were added. All numbers below it are taken.
     count: AtomicUsize,
 }
 
@@ -131,8 +131,7 @@ impl TextList {
         }
     }
 
-    /// Adds a text, under the lowest number that no text has, or is about to have in another
-    /// thread. So each number below that of a text is taken too, also where memory is out.
+    /// Writes a text to the place of the lowest number that is not taken. `count_one` has to follow.
     pub(crate) fn push(&self, rt: &impl Wait, text: ArcStr) -> Result<SharedSymbol, InternFault>
         ensures of { IfOk result (λ symbol. IsSymbolOf self.now symbol) }
         ensures text { IfOk result (λ symbol. symbol.text ≡ text) }
@@ -148,7 +147,6 @@ impl TextList {
             };
             match empty.write(text) {
                 Ok(text) => {
-                    self.count.fetch_add(1, Ordering::AcqRel);
                     return Ok(SharedSymbol {
                         number,
                         row,
@@ -164,7 +162,12 @@ impl TextList {
         Err(InternFault::Full)
     }
 
-    /// Returns how many texts there are.
+    /// Counts one more text. Its slot is written by now: `find_or_add` needs that.
+    pub(crate) fn count_one(&self) {
+        self.count.fetch_add(1, Ordering::AcqRel);
+    }
+
+    /// Returns how many texts were added.
     pub(crate) fn len(&self) -> usize {
         self.count.load(Ordering::Acquire)
     }
