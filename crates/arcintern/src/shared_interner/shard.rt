@@ -166,28 +166,31 @@ impl Shard {
     }
 
     /// Copies the numbers that move to the slots of a piece behind the last, where a search finds
-    /// them.
+    /// them. They are gathered without a branch, since no processor predicts which of them move.
     fn copy_numbers(&self, last: usize, mask: usize, slots: &mut Vec<AtomicU64>) -> Moved {
-        let (mut copied, mut lowest, mut passes_end) = (0_usize, mask, false);
+        let mut moved = Moved {
+            copied: 0,
+            lowest: mask,
+            passes_end: false,
+        };
         for number in 0..=last {
             let Some(moving) = self.piece(number) else {
                 break;
             };
+            let (mut found, mut count) = ([0_u64; 16], 0_usize);
             for (offset, slot) in moving.iter().enumerate() {
                 let slot = slot.load(Ordering::Acquire);
-                if moves(slot, index_in(number, moving.len(), offset), mask) {
-                    let is_copied = put_behind(slots, mask, slot);
-                    copied = copied.saturating_add(is_copied as usize);
-                    lowest = lowest.min(home(slot, mask));
-                    passes_end = passes_end || !is_copied;
+                let index = index_in(number, moving.len(), offset);
+                found[count % 16] = slot;
+                count = count.saturating_add(moves(slot, index, mask) as usize);
+                if count == 16 {
+                    moved.copy(&found, count, mask, slots);
+                    count = 0;
                 }
             }
+            moved.copy(&found, count, mask, slots);
         }
-        Moved {
-            copied,
-            lowest,
-            passes_end,
-        }
+        moved
     }
 
     /// Copies the numbers that move and have no slot yet, to the start of the table. Returns how
@@ -323,6 +326,18 @@ struct Moved {
     passes_end: bool,
 }
 
+impl Moved {
+    /// Copies the first slots of these, which all move.
+    fn copy(&mut self, found: &[u64], count: usize, mask: usize, slots: &mut Vec<AtomicU64>) {
+        for slot in found.iter().take(count) {
+            let is_copied = put_behind(slots, mask, *slot);
+            self.copied = self.copied.saturating_add(is_copied as usize);
+            self.lowest = self.lowest.min(home(*slot, mask));
+            self.passes_end = self.passes_end || !is_copied;
+        }
+    }
+}
+
 /// As `Shard::find`, in these slots. Otherwise, returns whether the search comes to an empty slot.
 #[inline(always)]
 fn search<T, F: Fn(u32) -> Option<T>>(slots: &[AtomicU64], half: u32, look: &F) -> Result<T, bool>
@@ -395,5 +410,5 @@ fn home(slot: u64, mask: usize) -> usize {
 /// Returns whether a slot with this index has a number that moves when the mask gets this long: a
 /// search for it begins behind that slot.
 fn moves(slot: u64, index: usize, mask: usize) -> bool {
-    slot != MOVED && slot != 0 && home(slot, mask) > index
+    (slot != MOVED) & (slot != 0) & (home(slot, mask) > index)
 }
