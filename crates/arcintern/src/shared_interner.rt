@@ -191,7 +191,10 @@ impl<S: BuildHasher> SharedInterner<S> {
         ensures of { IfSome result (λ symbol. IsSymbolOf self.now symbol) }
         ensures number { IfSome result (λ symbol. symbol.number ≡ number) }
     {
-        self.texts.symbol_at(number.index())
+        match self.texts.at(number.index()) {
+            Some((symbol, _)) => Some(symbol),
+            None => None,
+        }
     }
 
     /// Returns the number of texts. It may miss texts that other threads are adding. Takes no lock.
@@ -447,9 +450,8 @@ impl<'a> Iterator for SharedTexts<'a> {
         while self.index < self.end {
             let index = self.index;
             self.index += 1;
-            if let Some(symbol) = self.texts.symbol_at(index) {
-                let text = self.texts.text(&symbol);
-                return Some((symbol, text));
+            if let Some(found) = self.texts.at(index) {
+                return Some(found);
             }
         }
         None

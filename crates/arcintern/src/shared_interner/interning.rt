@@ -201,8 +201,8 @@ impl<S: BuildHasher> SharedInterner<S> {
 fn symbol_if_word(texts: &TextList, number: u32, word: &str) -> Option<SharedSymbol>
     ensures { IfSome result (λ symbol. IsSymbolOfWord texts.now symbol word.now) }
 {
-    let symbol = texts.symbol_at(number as usize)?;
-    if texts.text(&symbol).eq_str(word) {
+    let (symbol, text) = texts.at(number as usize)?;
+    if text.eq_str(word) {
         Some(symbol)
     } else {
         None

@@ -172,25 +172,29 @@ impl TextList {
         self.count.load(Ordering::Acquire)
     }
 
-    /// Returns the symbol with this number, if it has a text now.
+    /// Returns the symbol with this number and its text, if it has one now.
     #[inline(always)]
-    pub(crate) fn symbol_at(&self, number: usize) -> Option<SharedSymbol>
-        ensures of { IfSome result (λ symbol. IsSymbolOf self.now symbol) }
-        ensures number { IfSome result (λ symbol. symbol.number ≡ number) }
+    pub(crate) fn at(&self, number: usize) -> Option<(SharedSymbol, &ArcStr)>
+        ensures of { IfSome result (λ found. IsSymbolOf self.now found.0) }
+        ensures number { IfSome result (λ found. found.0.number ≡ number) }
+        ensures text { IfSome result (λ found. found.1.now ≡ found.0.text) }
     {
         if number >= MOST_TEXTS {
             return None;
         }
         let (row, place) = locate(number);
         let made = self.rows[row].witness()?;
-        let text = self.rows[row].value(&made).get(place)?.witness()?;
-        Some(SharedSymbol {
+        let there = self.rows[row].value(&made).get(place)?;
+        let text = there.witness()?;
+        let found = there.value(&text);
+        let symbol = SharedSymbol {
             number,
             row,
             place,
             made,
             text,
-        })
+        };
+        Some((symbol, found))
     }
 
     /// Returns the text of a symbol of this list.
