@@ -131,7 +131,8 @@ impl TextList {
         }
     }
 
-    /// Writes a text to the place of the lowest number that is not taken. `count_one` has to follow.
+    /// Writes a text to the place of the lowest number that is not taken. A call of `count_one` has
+    /// to follow.
     pub(crate) fn push(&self, rt: &impl Wait, text: ArcStr) -> Result<SharedSymbol, InternFault>
         ensures of { IfOk result (λ symbol. IsSymbolOf self.now symbol) }
         ensures text { IfOk result (λ symbol. symbol.text ≡ text) }
