@@ -132,12 +132,12 @@ fn add_or_find(
     worker: usize,
 ) -> Result<bool, InternFault> {
     if worker == THREADS - 1 {
-        for number in TOGETHER..5 * WORDS {
+        for number in TOGETHER..2 * WORDS {
             interner.intern(rt, &word_of(alloc, number)?)?;
         }
     }
     for turn in 0..2_000_000_usize {
-        if interner.len() == 5 * WORDS {
+        if interner.len() == 2 * WORDS {
             break;
         }
         if interner.get(&word_of(alloc, turn % TOGETHER)?).is_none() {
@@ -162,7 +162,7 @@ fn known_words_are_found_while_tables_grow(ref rt: HostRuntime) {
     for found in thread::map_indices(rt, alloc, THREADS, &work).expect(rt, "refused") {
         check!(rt; found.expect(rt, "refused"));
     }
-    check_eq!(rt; interner.len(), 5 * WORDS);
+    check_eq!(rt; interner.len(), 2 * WORDS);
 }
 
 /// Asserts that the word is new, and then found with its text.
