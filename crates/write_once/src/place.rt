@@ -18,6 +18,9 @@ use std::sync::atomic::raw;
 /// gives and `write` drops. Whoever has a `Written` of the place reads its value without a test. A
 /// contract sees of a place only its `id`, which tells it from all others.
 ///
+/// The contracts do not say that `write` succeeds or that `witness` finds a value. The tests
+/// `the_first_write_succeeds` and `one_of_two_threads_writes` check that.
+///
 /// ```
 /// let place = WriteOnce::new(0_u64);
 /// assert!(rt; place.witness().is_none());
