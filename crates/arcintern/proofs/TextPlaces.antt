@@ -56,3 +56,10 @@ one_place number row place other there one two =
     let e : (8 + row % 8) * span row ≡ (8 + other % 8) * span other =
     ap (λ (k : ℕ). (8 + k % 8) * span k) (one_row number row place other there one two) in
     let a = one.1 in let b = two.1 in omega arith
+
+-- what holds where a number lies, holds at each row and place where it lies
+pub everywhere : (P : ℕ → ℕ → Type 0) (number row place : ℕ) → IsAt number row place → P row place
+    → (other there : ℕ) → IsAt number other there → P other there
+everywhere P number row place one holds other there two =
+    let moved = subst (λ (p : ℕ). P row p) (one_place number row place other there one two) holds in
+    subst (λ (r : ℕ). P r there) (one_row number row place other there one two) moved

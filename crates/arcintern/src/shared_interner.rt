@@ -174,7 +174,7 @@ impl<S: BuildHasher> SharedInterner<S> {
         requires same { one.now.number ≡ other.now.number }
         ensures { one.now.text ≡ other.now.text }
     {
-        one.agrees(other);
+        self.texts.one_number_has_one_text(one, other);
     }
 
     /// Returns the symbol with this number, or `None` if no text has it: the number is another
@@ -318,9 +318,9 @@ fn empty_shards(alloc: Global, shards: usize, room: usize) -> Result<Vec<Shard>,
     Ok(tables)
 }
 
-/// Stands for one text of one shared interner. It takes 24 bytes. A contract sees its number and
-/// its text, which other threads cannot change. The number alone is a `Symbol` of 4 bytes, which
-/// can be copied, compared, ordered and hashed.
+/// Stands for one text of one shared interner. It takes 4 bytes. A contract sees its number and its
+/// text, which other threads cannot change. The number alone is a `Symbol`, which can be copied,
+/// compared, ordered and hashed.
 ///
 /// ```
 /// let interner = SharedInterner::new(rt.alloc(), 8)?;
@@ -330,16 +330,14 @@ fn empty_shards(alloc: Global, shards: usize, room: usize) -> Result<Vec<Shard>,
 /// ```
 #[derive(Drop)]
 pub struct SharedSymbol {
-    pub(crate) number: usize,
-    pub(crate) row: usize,
-    pub(crate) place: usize,
+    pub(crate) number: u32,
     pub(crate) made: Written<Row>,
     pub(crate) text: Written<ArcStr>,
 }
 
 impl Model for SharedSymbol {
-    ghost use Rattle.std.specs.Prelude.{◌≡◌, ◌+◌, ◌^◌, ◌<◌, length};
-    ghost use Rattle.arcintern.specs.TextList.{IsAt, id_at};
+    ghost use Rattle.std.specs.Prelude.{ℕ, ◌+◌, ◌^◌, ◌<◌};
+    ghost use Rattle.arcintern.specs.TextList.{HasIdAt, IsAt};
     ghost use Rattle.arcintern.specs.Texts.{SymbolView};
 
     ghost Value = { SymbolView };
@@ -347,14 +345,12 @@ impl Model for SharedSymbol {
     ghost view = { λ symbol. record {
       number = symbol.number;
       text = symbol.text.value;
-      row = symbol.row;
       name = symbol.made.of;
     } };
 
-    ghost invariant = { λ symbol. (symbol.number + 1 < 2 ^ 32) × (symbol.row < 224)
-        × IsAt symbol.number symbol.row symbol.place
-        × (symbol.place < length symbol.made.value.items)
-        × (symbol.text.of ≡ id_at symbol.made.value.items symbol.place) };
+    ghost invariant = { λ symbol. (symbol.number + 1 < 2 ^ 32)
+        × ((row place : ℕ) → IsAt symbol.number row place
+        → HasIdAt symbol.made.value.items place symbol.text.of) };
 }
 
 impl SharedSymbol {
@@ -368,7 +364,7 @@ impl SharedSymbol {
     pub fn number(&self) -> Symbol
         ensures { result ≡ self.now.number }
     {
-        Symbol::at(self.number)
+        Symbol::at(self.number as usize)
     }
 
     /// Returns the same symbol once more.
@@ -383,21 +379,9 @@ impl SharedSymbol {
     {
         SharedSymbol {
             number: self.number,
-            row: self.row,
-            place: self.place,
             made: self.made.again(),
             text: self.text.again(),
         }
-    }
-
-    /// Proves that two symbols of one list with one number have one text.
-    fn agrees(&self, other: &SharedSymbol)
-        requires name { self.now.row ≡ other.now.row → self.now.name ≡ other.now.name }
-        requires same { self.now.number ≡ other.now.number }
-        ensures { self.now.text ≡ other.now.text }
-    {
-        self.made.agrees(&other.made);
-        self.text.agrees(&other.text);
     }
 }
 

@@ -191,7 +191,8 @@ impl<S: BuildHasher> SharedInterner<S> {
     {
         shard.make_room(self.alloc, used)?;
         let symbol = self.texts.push(rt, text)?;
-        shard.put(used, half_of(hash), symbol.number as u32);
+        let number = symbol.number;
+        shard.put(used, half_of(hash), number);
         self.texts.count_one();
         Ok(symbol)
     }

@@ -106,13 +106,32 @@ impl TextList {
         Ok(made)
     }
 
+    /// Returns the row if it is made.
+    #[inline(always)]
+    fn made(&self, row: usize) -> Option<Written<Row>>
+        requires { row < 224 }
+        ensures { IfSome result (λ made. made.of ≡ id_at self.now row) }
+    {
+        self.rows[row].witness()
+    }
+
+    /// Returns the places of a row that is made.
+    #[inline(always)]
+    fn places<'a>(&'a self, row: usize, made: &Written<Row>) -> &'a Row
+        requires row { row < 224 }
+        requires made { made.now.of ≡ id_at self.now row }
+        ensures { result.now ≡ made.now.value }
+    {
+        self.rows[row].value(made)
+    }
+
     /// Returns the row, which is made if it is not there.
     #[inline(always)]
     fn row(&self, rt: &impl Wait, row: usize) -> Result<Written<Row>, AllocError>
         requires { row < 224 }
         ensures { IfOk result (λ made. made.of ≡ id_at self.now row) }
     {
-        match self.rows[row].witness() {
+        match self.made(row) {
             Some(made) => Ok(made),
             None => self.made_row(rt, row),
         }
@@ -125,7 +144,7 @@ impl TextList {
         ensures { IfOk result (λ made. made.of ≡ id_at self.now row) }
     {
         let _making = self.making.lock(rt);
-        match self.rows[row].witness() {
+        match self.made(row) {
             Some(made) => Ok(made),
             None => self.make_row(row),
         }
@@ -143,15 +162,13 @@ impl TextList {
         while number < MOST_TEXTS {
             let (row, place) = locate(number);
             let made = self.row(rt, row)?;
-            let Some(empty) = self.rows[row].value(&made).get(place) else {
+            let Some(empty) = self.places(row, &made).get(place) else {
                 return Err(InternFault::Memory);
             };
             match empty.write(text) {
                 Ok(text) => {
                     return Ok(SharedSymbol {
-                        number,
-                        row,
-                        place,
+                        number: number as u32,
                         made,
                         text,
                     });
@@ -184,14 +201,12 @@ impl TextList {
             return None;
         }
         let (row, place) = locate(number);
-        let made = self.rows[row].witness()?;
-        let there = self.rows[row].value(&made).get(place)?;
+        let made = self.made(row)?;
+        let there = self.places(row, &made).get(place)?;
         let text = there.witness()?;
         let found = there.value(&text);
         let symbol = SharedSymbol {
-            number,
-            row,
-            place,
+            number: number as u32,
             made,
             text,
         };
@@ -204,6 +219,20 @@ impl TextList {
         requires { IsSymbolOf self.now symbol.now }
         ensures { result.now ≡ symbol.now.text }
     {
-        self.rows[symbol.row].value(&symbol.made)[symbol.place].value(&symbol.text)
+        let (row, place) = locate(symbol.number as usize);
+        self.places(row, &symbol.made)[place].value(&symbol.text)
+    }
+
+    /// Proves that two symbols of this list with one number have one text. `locate` only shows that
+    /// there is a place with that number.
+    pub(crate) fn one_number_has_one_text(&self, one: &SharedSymbol, other: &SharedSymbol)
+        requires one { IsSymbolOf self.now one.now }
+        requires other { IsSymbolOf self.now other.now }
+        requires same { one.now.number ≡ other.now.number }
+        ensures { one.now.text ≡ other.now.text }
+    {
+        locate(one.number as usize);
+        one.made.agrees(&other.made);
+        one.text.agrees(&other.text);
     }
 }
