@@ -1,12 +1,19 @@
--- Where the text with a number lies in the list of a shared interner, and that it lies nowhere else.
-use Rattle.std.proofs.Common.{◌≡◌, ℕ, suc, ◌+◌, ◌-◌, ◌*◌, ◌/◌, ◌%◌, ◌^◌, ◌<◌, ◌≤◌, ap, sym, ◌∙◌, subst, arith, ◌⊎◌, inl, inr}
-use Rattle.std.proofs.Common.{pow_mono, pow_pos, pow-add, suc-mul, lt_of_not-le, le-div_iff_mul-le, div-lt_iff_lt-mul, mul-le-mul_right}
-use Rattle.std.proofs.lemmas.Bool.{cases_lt}
-use Rattle.arcintern.specs.TextList.{IsAt, span}
+-- The exponent of the greatest power of two up to a number, and what is so of it in the list of a shared interner.
+use Rattle.std.proofs.Common.{◌≡◌, ℕ, zero, suc, ◌+◌, ◌-◌, ◌*◌, ◌/◌, ◌^◌, ◌<◌, ◌≤◌, ap, sym, ◌∙◌, arith}
+use Rattle.std.proofs.Common.{pow_mono, pow_pos, pow-add, lt_of_not-le, le-div_iff_mul-le, div-lt_iff_lt-mul}
+use Rattle.std.proofs.lemmas.Bool.{cond_above, cond_below}
+use Rattle.arcintern.specs.TextList.{top_of}
 
--- the row of a number, if 2 ^ top is the greatest power of two that is at most the number plus 32
-abbrev pub row_of : ℕ → ℕ → ℕ
-row_of number top = (top - 5) * 8 + ((number + 32) / 2 ^ (top - 3) - 8)
+pub top_is : (bits top number : ℕ) → 2 ^ top ≤ number → number < 2 * 2 ^ top → top ≤ bits → top_of bits number ≡ top
+unfolding top_of
+top_is zero top number low high few = let e : top ≡ 0 = omega arith in sym e
+top_is (suc bits) zero number low high few = sym (cond_below number 2 0 (suc (top_of bits (number / 2))) (omega arith))
+top_is (suc bits) (suc top) number low high few =
+    let e : suc top ≡ 1 + top = omega arith in
+    let double : 2 ^ suc top ≡ 2 * 2 ^ top = ap (λ (k : ℕ). 2 ^ k) e ∙ pow-add 2 1 top in
+    let half = top_is bits top (number / 2) (omega arith) (omega arith) (omega arith) in
+    let above : 2 ≤ number = let p : 0 < 2 ^ top = pow_pos top in omega arith in
+    sym (cond_above number 2 0 (suc (top_of bits (number / 2))) (suc top) above (sym (ap suc half)))
 
 module _ (number top : ℕ) (low : 2 ^ top ≤ number + 32) (high : number + 32 < 2 * 2 ^ top) where
   pub top_above : 5 ≤ top
@@ -21,45 +28,5 @@ module _ (number top : ℕ) (low : 2 ^ top ≤ number + 32) (high : number + 32 
   pub eighth_below : (number + 32) / 2 ^ (top - 3) < 16
   eighth_below = let e = eight in (div-lt_iff_lt-mul {k = 2 ^ (top - 3)} {x = number + 32} {y = 16} (pow_pos (top - 3))).1 (omega arith)
 
-  pub lies : IsAt number (row_of number top) ((number + 32) % 2 ^ (top - 3))
-  lies = let a = top_above in let b = eighth_above in let c = eighth_below in let pos = pow_pos (top - 3) in
-      let e : row_of number top / 8 + 2 ≡ top - 3 = omega arith in let is : span (row_of number top) ≡ 2 ^ (top - 3) = ap (λ (k : ℕ). 2 ^ k) e in
-      let s : 8 + row_of number top % 8 ≡ (number + 32) / 2 ^ (top - 3) = omega arith in (
-        subst (λ (k : ℕ). (number + 32) % 2 ^ (top - 3) < k) (sym is) (omega arith),
-        ap (λ (k : ℕ). k * span (row_of number top) + (number + 32) % 2 ^ (top - 3)) s
-            ∙ ap (λ (k : ℕ). (number + 32) / 2 ^ (top - 3) * k + (number + 32) % 2 ^ (top - 3)) is ∙ omega arith,
-      )
-
--- a later row has later numbers
-below : (number row place other there : ℕ) → IsAt number row place → IsAt number other there → ¬ (row < other)
-below number row place other there one two less = by (cases_lt (row / 8) (other / 8))
-  where
-    by : (row / 8 < other / 8) ⊎ (other / 8 ≤ row / 8) → ⊥
-    by (inl shorter) = let high = mul-le-mul_right (span row) (let e : 8 + row % 8 ≤ 15 = omega arith in e) in
-        let low = mul-le-mul_right (span other) (let e : 8 ≤ 8 + other % 8 = omega arith in e) in
-        let twice : 2 ^ (row / 8 + 2 + 1) ≡ span row * 2 = pow-add 2 (row / 8 + 2) 1 in
-        let more : 2 ^ (row / 8 + 2 + 1) ≤ span other = pow_mono (omega arith) in
-        let a = one.0 in let b = one.1 in let c = two.1 in omega arith
-    by (inr no_longer) = let e : row / 8 ≡ other / 8 = omega arith in
-        let is : span row ≡ span other = ap (λ (k : ℕ). 2 ^ (k + 2)) e in
-        let more : suc (8 + row % 8) * span row ≤ (8 + other % 8) * span row = mul-le-mul_right (span row) (omega arith) in
-        let next = suc-mul (8 + row % 8) (span row) in
-        let c : (8 + other % 8) * span row + there ≡ number + 32 = ap (λ (k : ℕ). (8 + other % 8) * k + there) is ∙ two.1 in
-        let a = one.0 in let b = one.1 in omega arith
-
-pub one_row : (number row place other there : ℕ) → IsAt number row place → IsAt number other there → row ≡ other
-one_row number row place other there one two =
-    let p = below number row place other there one two in let q = below number other there row place two one in omega arith
-
-pub one_place : (number row place other there : ℕ) → IsAt number row place → IsAt number other there → place ≡ there
-one_place number row place other there one two =
-    let e : (8 + row % 8) * span row ≡ (8 + other % 8) * span other =
-    ap (λ (k : ℕ). (8 + k % 8) * span k) (one_row number row place other there one two) in
-    let a = one.1 in let b = two.1 in omega arith
-
--- what holds where a number lies, holds at each row and place where it lies
-pub everywhere : (P : ℕ → ℕ → Type 0) (number row place : ℕ) → IsAt number row place → P row place
-    → (other there : ℕ) → IsAt number other there → P other there
-everywhere P number row place one holds other there two =
-    let moved = subst (λ (p : ℕ). P row p) (one_place number row place other there one two) holds in
-    subst (λ (r : ℕ). P r there) (one_row number row place other there one two) moved
+  pub top_below : number < 4294967295 → top ≤ 32
+  top_below few = let below : top < 33 = lt_of_not-le (λ (le : 33 ≤ top). let p : 8589934592 ≤ 2 ^ top = pow_mono le in omega arith) in omega arith

@@ -1,19 +1,24 @@
 -- How the texts of a shared interner lie in its list: in rows of places. The first eight rows have four places each, the next eight rows eight, and so on.
-use Rattle.std.specs.Prelude.{◌≡◌, ℕ, ◌+◌, ◌*◌, ◌/◌, ◌%◌, ◌^◌, ◌<◌, List, length, slice_index_or}
+use Rattle.std.specs.Prelude.{ℕ, zero, suc, ◌+◌, ◌-◌, ◌*◌, ◌/◌, ◌%◌, ◌^◌, nat_lt, if◌then◌else◌, List, slice_index_or}
 use Rattle.write_once.specs.WriteOnce.{Place}
 
--- how many places a row has
-abbrev pub span : ℕ → ℕ
-span row = 2 ^ (row / 8 + 2)
+-- the exponent of the greatest power of two up to a number, which has at most so many bits
+unfoldable pub top_of : ℕ → ℕ → ℕ
+top_of zero number = 0
+top_of (suc bits) number = if nat_lt number 2 then 0 else suc (top_of bits (number / 2))
 
--- the text with this number lies in this row, at this place of it
-abbrev pub IsAt : ℕ → ℕ → ℕ → Type 0
-IsAt number row place = (place < span row) × ((8 + row % 8) * span row + place ≡ number + 32)
+-- how many places the row has where the text with this number lies
+unfoldable pub span_of : ℕ → ℕ
+span_of number = 2 ^ (top_of 32 (number + 32) - 3)
+
+-- that row
+unfoldable pub row_of : ℕ → ℕ
+row_of number = (top_of 32 (number + 32) - 5) * 8 + ((number + 32) / span_of number - 8)
+
+-- the place of that text in its row
+unfoldable pub place_of : ℕ → ℕ
+place_of number = (number + 32) % span_of number
 
 -- the name of one of these places, by its index
 abbrev pub id_at : List Place → ℕ → ℕ
 id_at places index = (slice_index_or places index record { id = 0 }).id
-
--- there is a place at the index, and this is its name
-abbrev pub HasIdAt : List Place → ℕ → ℕ → Type 0
-HasIdAt places index id = (index < length places) × (id ≡ id_at places index)

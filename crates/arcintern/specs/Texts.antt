@@ -9,7 +9,7 @@ use Rattle.write_once.specs.WriteOnce.{Place}
 use Rattle.arcintern.specs.declared.fault.InternFault.{InternFault}
 use Rattle.arcintern.specs.declared.fault.InternFault.TheVariants.{Full, Length, Memory}
 use Rattle.arcintern.specs.declared.interner.TheConstants.{MOST_TEXTS}
-use Rattle.arcintern.specs.TextList.{IsAt, id_at}
+use Rattle.arcintern.specs.TextList.{id_at, row_of}
 
 -- one of the texts spells this word
 abbrev pub HasWord : List TextView → List ℕ → Type 0
@@ -72,10 +72,9 @@ pub record SymbolView : Type 0 where
   pub text : TextView
   pub name : ℕ
 
--- the symbol is of the interner with these rows
-pub record IsSymbolOf (rows : List Place) (symbol : SymbolView) : Type 0 where
-  -- its name is that of the row where the text with its number lies
-  pub name : (row place : ℕ) → IsAt symbol.number row place → symbol.name ≡ id_at rows row
+-- the symbol is of the interner with these rows: its name is that of the row where the text with its number lies
+abbrev pub IsSymbolOf : List Place → SymbolView → Type 0
+IsSymbolOf rows symbol = symbol.name ≡ id_at rows (row_of symbol.number)
 
 -- the symbol is of the interner with these rows, and its text spells this word
 abbrev pub IsSymbolOfWord : List Place → SymbolView → List ℕ → Type 0

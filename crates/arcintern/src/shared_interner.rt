@@ -174,7 +174,7 @@ impl<S: BuildHasher> SharedInterner<S> {
         requires same { one.now.number ≡ other.now.number }
         ensures { one.now.text ≡ other.now.text }
     {
-        self.texts.one_number_has_one_text(one, other);
+        one.agrees(other);
     }
 
     /// Returns the symbol with this number, or `None` if no text has it: the number is another
@@ -336,8 +336,8 @@ pub struct SharedSymbol {
 }
 
 impl Model for SharedSymbol {
-    ghost use Rattle.std.specs.Prelude.{ℕ, ◌+◌, ◌^◌, ◌<◌};
-    ghost use Rattle.arcintern.specs.TextList.{HasIdAt, IsAt};
+    ghost use Rattle.std.specs.Prelude.{◌≡◌, ◌+◌, ◌^◌, ◌<◌, length};
+    ghost use Rattle.arcintern.specs.TextList.{id_at, place_of};
     ghost use Rattle.arcintern.specs.Texts.{SymbolView};
 
     ghost Value = { SymbolView };
@@ -349,8 +349,8 @@ impl Model for SharedSymbol {
     } };
 
     ghost invariant = { λ symbol. (symbol.number + 1 < 2 ^ 32)
-        × ((row place : ℕ) → IsAt symbol.number row place
-        → HasIdAt symbol.made.value.items place symbol.text.of) };
+        × (place_of symbol.number < length symbol.made.value.items)
+        × (symbol.text.of ≡ id_at symbol.made.value.items (place_of symbol.number)) };
 }
 
 impl SharedSymbol {
@@ -382,6 +382,16 @@ impl SharedSymbol {
             made: self.made.again(),
             text: self.text.again(),
         }
+    }
+
+    /// Proves that two symbols of one list with one number have one text.
+    fn agrees(&self, other: &SharedSymbol)
+        requires name { self.now.name ≡ other.now.name }
+        requires same { self.now.number ≡ other.now.number }
+        ensures { self.now.text ≡ other.now.text }
+    {
+        self.made.agrees(&other.made);
+        self.text.agrees(&other.text);
     }
 }
 

@@ -1,6 +1,6 @@
 //! The texts of a shared interner: a list that threads read without a lock while others add to it.
 ghost use Rattle.std.specs.Prelude.{◌≡◌, ◌+◌, ◌*◌, ◌^◌, ◌<◌, ◌≤◌, IfOk, IfSome, IsErrOf, length};
-ghost use Rattle.arcintern.specs.TextList.{IsAt, id_at, span};
+ghost use Rattle.arcintern.specs.TextList.{id_at, place_of, row_of};
 ghost use Rattle.arcintern.specs.Texts.{IsSymbolOf};
 
 use crate::fault::InternFault;
@@ -68,8 +68,9 @@ fn power_of_two(exponent: usize) -> usize
 /// Returns the row that has the text with this number, and its place there.
 fn locate(number: usize) -> (usize, usize)
     requires { number < MOST_TEXTS }
-    ensures at { IsAt number result.0 result.1 }
-    ensures row { result.0 < 224 }
+    ensures row { result.0 ≡ row_of number }
+    ensures place { result.1 ≡ place_of number }
+    ensures small { result.0 < 224 }
 {
     let skewed = number + 32;
     let top = skewed.ilog2() as usize;
@@ -221,18 +222,5 @@ impl TextList {
     {
         let (row, place) = locate(symbol.number as usize);
         self.places(row, &symbol.made)[place].value(&symbol.text)
-    }
-
-    /// Proves that two symbols of this list with one number have one text. `locate` only shows that
-    /// there is a place with that number.
-    pub(crate) fn one_number_has_one_text(&self, one: &SharedSymbol, other: &SharedSymbol)
-        requires one { IsSymbolOf self.now one.now }
-        requires other { IsSymbolOf self.now other.now }
-        requires same { one.now.number ≡ other.now.number }
-        ensures { one.now.text ≡ other.now.text }
-    {
-        locate(one.number as usize);
-        one.made.agrees(&other.made);
-        one.text.agrees(&other.text);
     }
 }
