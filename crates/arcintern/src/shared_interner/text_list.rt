@@ -107,32 +107,13 @@ impl TextList {
         Ok(made)
     }
 
-    /// Returns the row if it is made.
-    #[inline(always)]
-    fn made(&self, row: usize) -> Option<Written<Row>>
-        requires { row < 224 }
-        ensures { IfSome result (λ made. made.of ≡ id_at self.now row) }
-    {
-        self.rows[row].witness()
-    }
-
-    /// Returns the places of a row that is made.
-    #[inline(always)]
-    fn places<'a>(&'a self, row: usize, made: &Written<Row>) -> &'a Row
-        requires row { row < 224 }
-        requires made { made.now.of ≡ id_at self.now row }
-        ensures { result.now ≡ made.now.value }
-    {
-        self.rows[row].value(made)
-    }
-
     /// Returns the row, which is made if it is not there.
     #[inline(always)]
     fn row(&self, rt: &impl Wait, row: usize) -> Result<Written<Row>, AllocError>
         requires { row < 224 }
         ensures { IfOk result (λ made. made.of ≡ id_at self.now row) }
     {
-        match self.made(row) {
+        match self.rows[row].witness() {
             Some(made) => Ok(made),
             None => self.made_row(rt, row),
         }
@@ -145,7 +126,7 @@ impl TextList {
         ensures { IfOk result (λ made. made.of ≡ id_at self.now row) }
     {
         let _making = self.making.lock(rt);
-        match self.made(row) {
+        match self.rows[row].witness() {
             Some(made) => Ok(made),
             None => self.make_row(row),
         }
@@ -163,7 +144,7 @@ impl TextList {
         while number < MOST_TEXTS {
             let (row, place) = locate(number);
             let made = self.row(rt, row)?;
-            let Some(empty) = self.places(row, &made).get(place) else {
+            let Some(empty) = self.rows[row].value(&made).get(place) else {
                 return Err(InternFault::Memory);
             };
             match empty.write(text) {
@@ -202,8 +183,8 @@ impl TextList {
             return None;
         }
         let (row, place) = locate(number);
-        let made = self.made(row)?;
-        let there = self.places(row, &made).get(place)?;
+        let made = self.rows[row].witness()?;
+        let there = self.rows[row].value(&made).get(place)?;
         let text = there.witness()?;
         let found = there.value(&text);
         let symbol = SharedSymbol {
@@ -221,6 +202,6 @@ impl TextList {
         ensures { result.now ≡ symbol.now.text }
     {
         let (row, place) = locate(symbol.number as usize);
-        self.places(row, &symbol.made)[place].value(&symbol.text)
+        self.rows[row].value(&symbol.made)[place].value(&symbol.text)
     }
 }
