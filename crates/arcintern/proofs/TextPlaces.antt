@@ -1,32 +1,56 @@
 -- The exponent of the greatest power of two up to a number, and what is so of it in the list of a shared interner.
-use Rattle.std.proofs.Common.{◌≡◌, ℕ, zero, suc, ◌+◌, ◌-◌, ◌*◌, ◌/◌, ◌^◌, ◌<◌, ◌≤◌, ap, sym, ◌∙◌, arith}
+use Rattle.std.proofs.Common.{◌≡◌, ℕ, zero, suc, ◌+◌, ◌-◌, ◌*◌, ◌/◌, ◌^◌, ◌<◌, ◌≤◌, refl, ap, subst, ◌∙◌, ◌⊎◌, inl, inr, arith}
 use Rattle.std.proofs.Common.{pow_mono, pow_pos, pow-add, lt_of_not-le, le-div_iff_mul-le, div-lt_iff_lt-mul}
-use Rattle.std.proofs.lemmas.Bool.{cond_above, cond_below}
-use Rattle.arcintern.specs.TextList.{top_of}
+use Rattle.std.proofs.lemmas.Bool.{cases_lt, cond_above, cond_below}
+use Rattle.arcintern.specs.TextList.{row_of, top_of}
 
-pub top_is : (bits top number : ℕ) → 2 ^ top ≤ number → number < 2 * 2 ^ top → top ≤ bits → top_of bits number ≡ top
+double : (top : ℕ) → 2 ^ suc top ≡ 2 * 2 ^ top
+double top = let e : suc top ≡ 1 + top = omega arith in ap (λ (k : ℕ). 2 ^ k) e ∙ pow-add 2 1 top
+
+-- this power of two is at most the number, and twice it is more
+abbrev pub IsTopOf : ℕ → ℕ → Type 0
+IsTopOf number top = (2 ^ top ≤ number) × (number < 2 * 2 ^ top)
+
+is_top : (bits number : ℕ) → 1 ≤ number → number < 2 * 2 ^ bits → IsTopOf number (top_of bits number)
 unfolding top_of
-top_is zero top number low high few = let e : top ≡ 0 = omega arith in sym e
-top_is (suc bits) zero number low high few = sym (cond_below number 2 0 (suc (top_of bits (number / 2))) (omega arith))
-top_is (suc bits) (suc top) number low high few =
-    let e : suc top ≡ 1 + top = omega arith in
-    let double : 2 ^ suc top ≡ 2 * 2 ^ top = ap (λ (k : ℕ). 2 ^ k) e ∙ pow-add 2 1 top in
-    let half = top_is bits top (number / 2) (omega arith) (omega arith) (omega arith) in
-    let above : 2 ≤ number = let p : 0 < 2 ^ top = pow_pos top in omega arith in
-    sym (cond_above number 2 0 (suc (top_of bits (number / 2))) (suc top) above (sym (ap suc half)))
+is_top zero number some few = (some, few)
+is_top (suc bits) number some few =
+    by (λ (more : 2 ≤ number). let d = double bits in is_top bits (number / 2) (omega arith) (omega arith)) (cases_lt number 2)
+  where
+    by : (2 ≤ number → IsTopOf (number / 2) (top_of bits (number / 2))) → (number < 2) ⊎ (2 ≤ number) → IsTopOf number (top_of (suc bits) number)
+    by half (inl less) = subst (IsTopOf number) (cond_below number 2 0 (suc (top_of bits (number / 2))) less) (some, less)
+    by half (inr more) = let top = top_of bits (number / 2) in let d = double top in let low = (half more).0 in let high = (half more).1 in
+        subst (IsTopOf number) (cond_above number 2 0 (suc top) (suc top) more refl) (omega arith, omega arith)
 
-module _ (number top : ℕ) (low : 2 ^ top ≤ number + 32) (high : number + 32 < 2 * 2 ^ top) where
+no_less : (number top other : ℕ) → IsTopOf number top → IsTopOf number other → other < suc top
+no_less number top other one two = lt_of_not-le (λ (less : suc top ≤ other).
+    let p : 2 ^ suc top ≤ 2 ^ other = pow_mono less in let d = double top in let a = one.1 in let b = two.0 in omega arith)
+
+module _ (number : ℕ) (few : number < 4294967295) where
+  pub found : (top : ℕ) → IsTopOf (number + 32) top → top ≡ top_of 32 (number + 32)
+  found top is = let lies = is_top 32 (number + 32) (omega arith) (omega arith) in let a = no_less (number + 32) top (top_of 32 (number + 32)) is lies in
+      let b = no_less (number + 32) (top_of 32 (number + 32)) top lies is in omega arith
+
+module _ (number top : ℕ) (is : IsTopOf (number + 32) top) where
   pub top_above : 5 ≤ top
-  top_above = lt_of_not-le (λ (le : top ≤ 4). let p : 2 ^ top ≤ 16 = pow_mono le in omega arith)
+  top_above = let high = is.1 in lt_of_not-le (λ (le : top ≤ 4). let p : 2 ^ top ≤ 16 = pow_mono le in omega arith)
 
-  eight : 2 ^ top ≡ 8 * 2 ^ (top - 3)
-  eight = let a = top_above in let e : 3 + (top - 3) ≡ top = omega arith in sym (ap (λ (k : ℕ). 2 ^ k) e) ∙ pow-add 2 3 (top - 3)
+  pub eighth_above : 8 ≤ (number + 32) * 8 / 2 ^ top
+  eighth_above = let low = is.0 in (le-div_iff_mul-le {k = 2 ^ top} {x = 8} {y = (number + 32) * 8} (pow_pos top)).1 (omega arith)
 
-  pub eighth_above : 8 ≤ (number + 32) / 2 ^ (top - 3)
-  eighth_above = let e = eight in (le-div_iff_mul-le {k = 2 ^ (top - 3)} {x = 8} {y = number + 32} (pow_pos (top - 3))).1 (omega arith)
+  pub eighth_below : (number + 32) * 8 / 2 ^ top < 16
+  eighth_below = let high = is.1 in (div-lt_iff_lt-mul {k = 2 ^ top} {x = (number + 32) * 8} {y = 16} (pow_pos top)).1 (omega arith)
 
-  pub eighth_below : (number + 32) / 2 ^ (top - 3) < 16
-  eighth_below = let e = eight in (div-lt_iff_lt-mul {k = 2 ^ (top - 3)} {x = number + 32} {y = 16} (pow_pos (top - 3))).1 (omega arith)
+  pub top_below : number < 4294967295 → top < 33
+  top_below few = let low = is.0 in lt_of_not-le (λ (le : 33 ≤ top). let p : 8589934592 ≤ 2 ^ top = pow_mono le in omega arith)
 
-  pub top_below : number < 4294967295 → top ≤ 32
-  top_below few = let below : top < 33 = lt_of_not-le (λ (le : 33 ≤ top). let p : 8589934592 ≤ 2 ^ top = pow_mono le in omega arith) in omega arith
+-- the exponent of a number plus 32, by its row
+pub top_of_row : (number : ℕ) → number < 4294967295 → row_of number / 8 + 5 ≡ top_of 32 (number + 32)
+unfolding row_of
+top_of_row number few = let top = top_of 32 (number + 32) in let is : IsTopOf (number + 32) top = is_top 32 (number + 32) (omega arith) (omega arith) in
+    let a = top_above number top is in let b = eighth_above number top is in let c = eighth_below number top is in omega arith
+
+pub below_224 : (number : ℕ) → number < 4294967295 → row_of number < 224
+unfolding row_of
+below_224 number few = let top = top_of 32 (number + 32) in let is : IsTopOf (number + 32) top = is_top 32 (number + 32) (omega arith) (omega arith) in
+    let a = top_above number top is in let b = eighth_above number top is in let c = eighth_below number top is in let d = top_below number top is few in omega arith

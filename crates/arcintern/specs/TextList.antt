@@ -2,22 +2,18 @@
 use Rattle.std.specs.Prelude.{ℕ, zero, suc, ◌+◌, ◌-◌, ◌*◌, ◌/◌, ◌%◌, ◌^◌, nat_lt, if◌then◌else◌, List, slice_index_or}
 use Rattle.write_once.specs.WriteOnce.{Place}
 
--- the exponent of the greatest power of two up to a number, which has at most so many bits
+-- the exponent of the greatest power of two up to a number, for a number of at most so many bits and one
 unfoldable pub top_of : ℕ → ℕ → ℕ
 top_of zero number = 0
 top_of (suc bits) number = if nat_lt number 2 then 0 else suc (top_of bits (number / 2))
 
--- how many places the row has where the text with this number lies
-unfoldable pub span_of : ℕ → ℕ
-span_of number = 2 ^ (top_of 32 (number + 32) - 3)
-
--- that row
+-- the row where the text with this number lies. Eight rows hold the numbers that have one exponent when 32 is added
 unfoldable pub row_of : ℕ → ℕ
-row_of number = (top_of 32 (number + 32) - 5) * 8 + ((number + 32) / span_of number - 8)
+row_of number = (top_of 32 (number + 32) - 5) * 8 + ((number + 32) * 8 / 2 ^ top_of 32 (number + 32) - 8)
 
 -- the place of that text in its row
 unfoldable pub place_of : ℕ → ℕ
-place_of number = (number + 32) % span_of number
+place_of number = (number + 32) * 8 % 2 ^ top_of 32 (number + 32) / 8
 
 -- the name of one of these places, by its index
 abbrev pub id_at : List Place → ℕ → ℕ

@@ -9,7 +9,7 @@ use Rattle.write_once.specs.WriteOnce.{Place}
 use Rattle.arcintern.specs.declared.fault.InternFault.{InternFault}
 use Rattle.arcintern.specs.declared.fault.InternFault.TheVariants.{Full, Length, Memory}
 use Rattle.arcintern.specs.declared.interner.TheConstants.{MOST_TEXTS}
-use Rattle.arcintern.specs.TextList.{id_at, row_of}
+use Rattle.arcintern.specs.TextList.{id_at}
 
 -- one of the texts spells this word
 abbrev pub HasWord : List TextView → List ℕ → Type 0
@@ -66,15 +66,16 @@ pub record TextTableView : Type 0 where
 
 -- ---- a shared interner, and its symbols
 
--- what clauses see of a symbol: its number, the text that it stands for, and the name of the row of texts that holds it
+-- what clauses see of a symbol: its number, the text that it stands for, and the row of texts that holds it, with the row's name
 pub record SymbolView : Type 0 where
   pub number : ℕ
   pub text : TextView
+  pub row : ℕ
   pub name : ℕ
 
--- the symbol is of the interner with these rows: its name is that of the row where the text with its number lies
+-- the symbol is of the interner with these rows
 abbrev pub IsSymbolOf : List Place → SymbolView → Type 0
-IsSymbolOf rows symbol = symbol.name ≡ id_at rows (row_of symbol.number)
+IsSymbolOf rows symbol = symbol.name ≡ id_at rows symbol.row
 
 -- the symbol is of the interner with these rows, and its text spells this word
 abbrev pub IsSymbolOfWord : List Place → SymbolView → List ℕ → Type 0

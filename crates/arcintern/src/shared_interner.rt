@@ -318,9 +318,9 @@ fn empty_shards(alloc: Global, shards: usize, room: usize) -> Result<Vec<Shard>,
     Ok(tables)
 }
 
-/// Stands for one text of one shared interner. It takes 4 bytes. A contract sees its number and its
-/// text, which other threads cannot change. The number alone is a `Symbol`, which can be copied,
-/// compared, ordered and hashed.
+/// Stands for one text of one shared interner. It takes 8 bytes. A contract sees its number and its
+/// text, which other threads cannot change. The number alone is a `Symbol` of 4 bytes, which can be
+/// copied, compared, ordered and hashed.
 ///
 /// ```
 /// let interner = SharedInterner::new(rt.alloc(), 8)?;
@@ -331,13 +331,14 @@ fn empty_shards(alloc: Global, shards: usize, room: usize) -> Result<Vec<Shard>,
 #[derive(Drop)]
 pub struct SharedSymbol {
     pub(crate) number: u32,
+    pub(crate) row: u8,
     pub(crate) made: Written<Row>,
     pub(crate) text: Written<ArcStr>,
 }
 
 impl Model for SharedSymbol {
     ghost use Rattle.std.specs.Prelude.{◌≡◌, ◌+◌, ◌^◌, ◌<◌, length};
-    ghost use Rattle.arcintern.specs.TextList.{id_at, place_of};
+    ghost use Rattle.arcintern.specs.TextList.{id_at, place_of, row_of};
     ghost use Rattle.arcintern.specs.Texts.{SymbolView};
 
     ghost Value = { SymbolView };
@@ -345,10 +346,12 @@ impl Model for SharedSymbol {
     ghost view = { λ symbol. record {
       number = symbol.number;
       text = symbol.text.value;
+      row = symbol.row;
       name = symbol.made.of;
     } };
 
-    ghost invariant = { λ symbol. (symbol.number + 1 < 2 ^ 32)
+    ghost invariant = { λ symbol. (symbol.number + 1 < 2 ^ 32) × (symbol.row < 224)
+        × (symbol.row ≡ row_of symbol.number)
         × (place_of symbol.number < length symbol.made.value.items)
         × (symbol.text.of ≡ id_at symbol.made.value.items (place_of symbol.number)) };
 }
@@ -379,6 +382,7 @@ impl SharedSymbol {
     {
         SharedSymbol {
             number: self.number,
+            row: self.row,
             made: self.made.again(),
             text: self.text.again(),
         }
@@ -386,7 +390,7 @@ impl SharedSymbol {
 
     /// Proves that two symbols of one list with one number have one text.
     fn agrees(&self, other: &SharedSymbol)
-        requires name { self.now.name ≡ other.now.name }
+        requires name { self.now.row ≡ other.now.row → self.now.name ≡ other.now.name }
         requires same { self.now.number ≡ other.now.number }
         ensures { self.now.text ≡ other.now.text }
     {

@@ -72,11 +72,19 @@ fn locate(number: usize) -> (usize, usize)
     ensures place { result.1 ≡ place_of number }
     ensures small { result.0 < 224 }
 {
-    let skewed = number + 32;
-    let top = skewed.ilog2() as usize;
-    let span = power_of_two(top - 3);
-    let row = (top - 5) * 8 + (skewed / span - 8);
-    (row, skewed % span)
+    let top = (number + 32).ilog2() as usize;
+    let (eighths, span) = ((number + 32) * 8, power_of_two(top));
+    let row = (top - 5) * 8 + (eighths / span - 8);
+    (row, eighths % span / 8)
+}
+
+/// Returns the place in this row of the text with this number.
+fn place_in(row: usize, number: usize) -> usize
+    requires number { number < MOST_TEXTS }
+    requires row { row ≡ row_of number }
+    ensures { result ≡ place_of number }
+{
+    (number + 32) * 8 % power_of_two(row / 8 + 5) / 8
 }
 
 impl TextList {
@@ -151,6 +159,7 @@ impl TextList {
                 Ok(text) => {
                     return Ok(SharedSymbol {
                         number: number as u32,
+                        row: row as u8,
                         made,
                         text,
                     });
@@ -189,6 +198,7 @@ impl TextList {
         let found = there.value(&text);
         let symbol = SharedSymbol {
             number: number as u32,
+            row: row as u8,
             made,
             text,
         };
@@ -201,7 +211,8 @@ impl TextList {
         requires { IsSymbolOf self.now symbol.now }
         ensures { result.now ≡ symbol.now.text }
     {
-        let (row, place) = locate(symbol.number as usize);
+        let row = symbol.row as usize;
+        let place = place_in(row, symbol.number as usize);
         self.rows[row].value(&symbol.made)[place].value(&symbol.text)
     }
 }
