@@ -7,7 +7,6 @@ ghost use Rattle.arcintern.specs.Texts.{IsSymbolOf, IsSymbolOfWord, IsWhole};
 use crate::fault::InternFault;
 use crate::interner::{MOST_TEXTS, copy_of, is_whole};
 use crate::shared_interner::shard::Shard;
-use crate::shared_interner::text_list::TextList;
 use crate::shared_interner::{SharedInterner, SharedSymbol};
 use crate::slots::{half_of, hash_of_word};
 use arcstr::{ArcStr, Substr};
@@ -130,15 +129,7 @@ impl<S: BuildHasher> SharedInterner<S> {
         ensures { IfSome result (λ symbol. IsSymbolOfWord self.now symbol word.now) }
     {
         let shard = &self.shards[shard_of(hash, self.shards.len())];
-        self.find_in(shard, hash, word)
-    }
-
-    /// Returns the symbol of the word with this hash, in the table of its shard.
-    fn find_in(&self, shard: &Shard, hash: u64, word: &str) -> Option<SharedSymbol>
-        ensures { IfSome result (λ symbol. IsSymbolOfWord self.now symbol word.now) }
-    {
-        let texts = &self.texts;
-        shard.find(half_of(hash), |number| symbol_if_word(texts, number, word))
+        shard.find(half_of(hash), &self.texts, word)
     }
 
     /// Returns the symbol of the word with this hash. If there is none, adds `whole` or, without
@@ -169,7 +160,7 @@ impl<S: BuildHasher> SharedInterner<S> {
         let shard = &self.shards[shard_of(hash, self.shards.len())];
         let mut used = shard.used.lock(rt);
         if self.len() != count {
-            if let Some(symbol) = self.find_in(shard, hash, word) {
+            if let Some(symbol) = shard.find(half_of(hash), &self.texts, word) {
                 return Ok(symbol);
             }
         }
@@ -195,18 +186,6 @@ impl<S: BuildHasher> SharedInterner<S> {
         shard.put(used, half_of(hash), number);
         self.texts.count_one();
         Ok(symbol)
-    }
-}
-
-/// Returns the symbol of this number, if its text spells the word.
-fn symbol_if_word(texts: &TextList, number: u32, word: &str) -> Option<SharedSymbol>
-    ensures { IfSome result (λ symbol. IsSymbolOfWord texts.now symbol word.now) }
-{
-    let (symbol, text) = texts.at(number as usize)?;
-    if text.eq_str(word) {
-        Some(symbol)
-    } else {
-        None
     }
 }
 

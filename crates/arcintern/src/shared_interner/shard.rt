@@ -1,6 +1,9 @@
 //! The part of a shared interner that has a table and a lock of its own.
-ghost use Rattle.std.specs.Prelude.{◌+◌, ◌<◌, ℕ, IfOk, IfSome, Some};
+ghost use Rattle.std.specs.Prelude.{◌+◌, ◌<◌, IfOk, IfSome};
+ghost use Rattle.arcintern.specs.Texts.{IsSymbolOfWord};
 
+use crate::shared_interner::SharedSymbol;
+use crate::shared_interner::text_list::TextList;
 use crate::slots::{NUMBERS, slots_for};
 use std::alloc::{AllocError, Global};
 use std::array;
@@ -71,65 +74,51 @@ impl Shard {
     }
 
     /// Returns the slots from this index to the end of its piece.
-    #[inline(always)]
     fn slots_from(&self, index: usize) -> Option<&[AtomicU64]> {
         let slots = self.piece(piece_of(index))?;
         slots.get(index & slots.len().wrapping_sub(1)..)
     }
 
-    /// Returns what `look` answers for the first number under this half of a hash for which that is
-    /// `Some`.
-    #[inline(always)]
-    pub(crate) fn find<T, F: Fn(u32) -> Option<T>>(&self, half: u32, look: F) -> Option<T>
-        requires { F.IsAlwaysCallable look }
-        ensures found { IfSome result (λ found. (number : ℕ) × (number < NUMBERS)
-            × F.post look number (Some found)) }
+    /// Returns the symbol of this word, whose hash has this half, if a text of the list spells it.
+    ///
+    /// Most searches end in one piece, and at the first number under the half. `find_slowly` does
+    /// the others.
+    pub(crate) fn find(&self, half: u32, texts: &TextList, word: &str) -> Option<SharedSymbol>
+        ensures { IfSome result (λ symbol. IsSymbolOfWord texts.now symbol word.now) }
     {
         let mask = self.mask.load(Ordering::Acquire);
         let index = half as usize & mask;
-        let slots = self.slots_from(index)?;
-        match search(slots, half, &look) {
-            Ok(found) => Some(found),
-            Err(is_empty) => {
-                if is_empty && self.mask.load(Ordering::Acquire) == mask {
-                    None
-                } else {
-                    self.find_further(half, mask, index.wrapping_add(slots.len()) & mask, &look)
-                }
-            }
+        let slots = self.piece(piece_of(index))?;
+        let slot = first_of(slots, index & slots.len().wrapping_sub(1), half);
+        if slot == 0 && self.mask.load(Ordering::Acquire) == mask {
+            return None;
+        }
+        match texts.find(number_in(slot), word) {
+            Some(symbol) => Some(symbol),
+            None => self.find_slowly(half, texts, word),
         }
     }
 
-    /// As `find`, from this index on. Where the table has grown meanwhile, the search begins again,
-    /// since a number may have moved away before it came there.
+    /// As `find`, in all pieces and at all numbers. Where the table has grown meanwhile, the search
+    /// begins again, since a number may have moved away before it came there.
     #[cold]
-    fn find_further<T, F: Fn(u32) -> Option<T>>(
-        &self,
-        half: u32,
-        mask: usize,
-        index: usize,
-        look: &F,
-    ) -> Option<T>
-        requires { F.IsAlwaysCallable look.now }
-        ensures found { IfSome result (λ found. (number : ℕ) × (number < NUMBERS)
-            × F.post look.now number (Some found)) }
+    fn find_slowly(&self, half: u32, texts: &TextList, word: &str) -> Option<SharedSymbol>
+        ensures { IfSome result (λ symbol. IsSymbolOfWord texts.now symbol word.now) }
     {
-        let (mut mask, mut index) = (mask, index);
         for _ in 0..PIECES {
+            let mask = self.mask.load(Ordering::Acquire);
+            let mut index = half as usize & mask;
             for _ in 0..=PIECES {
                 let slots = self.slots_from(index)?;
-                match search(slots, half, look) {
-                    Ok(found) => return Some(found),
+                match search(slots, half, texts, word) {
+                    Ok(symbol) => return Some(symbol),
                     Err(true) => break,
                     Err(false) => index = index.wrapping_add(slots.len()) & mask,
                 }
             }
-            let grown = self.mask.load(Ordering::Acquire);
-            if grown == mask {
+            if self.mask.load(Ordering::Acquire) == mask {
                 return None;
             }
-            mask = grown;
-            index = half as usize & mask;
         }
         None
     }
@@ -338,12 +327,34 @@ impl Moved {
     }
 }
 
-/// As `Shard::find`, in these slots. Otherwise, returns whether the search comes to an empty slot.
+/// Returns the first of these slots, from this offset on, that is empty or has this half of a hash,
+/// and `MOVED` if there is none.
 #[inline(always)]
-fn search<T, F: Fn(u32) -> Option<T>>(slots: &[AtomicU64], half: u32, look: &F) -> Result<T, bool>
-    requires { F.IsAlwaysCallable look.now }
-    ensures found { IfOk result (λ found. (number : ℕ) × (number < NUMBERS)
-        × F.post look.now number (Some found)) }
+fn first_of(slots: &[AtomicU64], from: usize, half: u32) -> u64 {
+    let mut offset = from;
+    while let Some(slot) = slots.get(offset) {
+        let slot = slot.load(Ordering::Acquire);
+        if slot == 0 || slot >> 32 == half as u64 {
+            return slot;
+        }
+        offset += 1;
+    }
+    MOVED
+}
+
+/// Returns the number in a slot, which is no text's where the slot is empty or `MOVED`.
+fn number_in(slot: u64) -> usize {
+    ((slot % NUMBERS) as u32).wrapping_sub(1) as usize
+}
+
+/// As `Shard::find`, in these slots. Otherwise, returns whether the search comes to an empty slot.
+fn search(
+    slots: &[AtomicU64],
+    half: u32,
+    texts: &TextList,
+    word: &str,
+) -> Result<SharedSymbol, bool>
+    ensures { IfOk result (λ symbol. IsSymbolOfWord texts.now symbol word.now) }
 {
     for slot in slots {
         let slot = slot.load(Ordering::Acquire);
@@ -351,8 +362,8 @@ fn search<T, F: Fn(u32) -> Option<T>>(slots: &[AtomicU64], half: u32, look: &F) 
             return Err(true);
         }
         if slot >> 32 == half as u64 {
-            if let Some(found) = look(((slot % NUMBERS) as u32).wrapping_sub(1)) {
-                return Ok(found);
+            if let Some(symbol) = texts.find(number_in(slot), word) {
+                return Ok(symbol);
             }
         }
     }
@@ -384,7 +395,7 @@ fn put_behind(slots: &mut Vec<AtomicU64>, mask: usize, slot: u64) -> bool {
 
 /// Returns the number of the piece that has the slot with this index.
 fn piece_of(index: usize) -> usize {
-    (index / 8).max(1).ilog2() as usize
+    (index | 8).ilog2() as usize - 3
 }
 
 /// Returns how many slots a piece has.

@@ -1,7 +1,7 @@
 //! The texts of a shared interner: a list that threads read without a lock while others add to it.
 ghost use Rattle.std.specs.Prelude.{◌≡◌, ◌+◌, ◌*◌, ◌^◌, ◌<◌, ◌≤◌, IfOk, IfSome, IsErrOf, length};
 ghost use Rattle.arcintern.specs.TextList.{id_at, place_of, row_of};
-ghost use Rattle.arcintern.specs.Texts.{IsSymbolOf};
+ghost use Rattle.arcintern.specs.Texts.{IsSymbolOf, IsSymbolOfWord};
 
 use crate::fault::InternFault;
 use crate::interner::MOST_TEXTS;
@@ -203,6 +203,19 @@ impl TextList {
             text,
         };
         Some((symbol, found))
+    }
+
+    /// Returns the symbol with this number, if its text spells the word.
+    #[inline(always)]
+    pub(crate) fn find(&self, number: usize, word: &str) -> Option<SharedSymbol>
+        ensures { IfSome result (λ symbol. IsSymbolOfWord self.now symbol word.now) }
+    {
+        let (symbol, text) = self.at(number)?;
+        if text.eq_str(word) {
+            Some(symbol)
+        } else {
+            None
+        }
     }
 
     /// Returns the text of a symbol of this list.
