@@ -330,30 +330,30 @@ fn empty_shards(alloc: Global, shards: usize, room: usize) -> Result<Vec<Shard>,
 /// ```
 #[derive(Drop)]
 pub struct SharedSymbol {
-    pub(crate) number: u32,
-    pub(crate) row: u8,
+    /// 256 times the number, and the row.
+    pub(crate) bits: u64,
     pub(crate) made: Written<Row>,
     pub(crate) text: Written<ArcStr>,
 }
 
 impl Model for SharedSymbol {
-    ghost use Rattle.std.specs.Prelude.{◌≡◌, ◌+◌, ◌^◌, ◌<◌, length};
+    ghost use Rattle.std.specs.Prelude.{◌≡◌, ◌+◌, ◌/◌, ◌%◌, ◌^◌, ◌<◌, length};
     ghost use Rattle.arcintern.specs.TextList.{id_at, place_of, row_of};
     ghost use Rattle.arcintern.specs.Texts.{SymbolView};
 
     ghost Value = { SymbolView };
 
     ghost view = { λ symbol. record {
-      number = symbol.number;
+      number = symbol.bits / 256;
       text = symbol.text.value;
-      row = symbol.row;
+      row = symbol.bits % 256;
       name = symbol.made.of;
     } };
 
-    ghost invariant = { λ symbol. (symbol.number + 1 < 2 ^ 32) × (symbol.row < 224)
-        × (symbol.row ≡ row_of symbol.number)
-        × (place_of symbol.number < length symbol.made.value.items)
-        × (symbol.text.of ≡ id_at symbol.made.value.items (place_of symbol.number)) };
+    ghost invariant = { λ symbol. (symbol.bits / 256 + 1 < 2 ^ 32) × (symbol.bits % 256 < 224)
+        × (symbol.bits % 256 ≡ row_of (symbol.bits / 256))
+        × (place_of (symbol.bits / 256) < length symbol.made.value.items)
+        × (symbol.text.of ≡ id_at symbol.made.value.items (place_of (symbol.bits / 256))) };
 }
 
 impl SharedSymbol {
@@ -367,7 +367,7 @@ impl SharedSymbol {
     pub fn number(&self) -> Symbol
         ensures { result ≡ self.now.number }
     {
-        Symbol::at(self.number as usize)
+        Symbol::at((self.bits / 256) as usize)
     }
 
     /// Returns the same symbol once more.
@@ -381,8 +381,7 @@ impl SharedSymbol {
         ensures { result ≡ self.now }
     {
         SharedSymbol {
-            number: self.number,
-            row: self.row,
+            bits: self.bits,
             made: self.made.again(),
             text: self.text.again(),
         }

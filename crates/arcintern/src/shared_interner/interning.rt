@@ -182,7 +182,7 @@ impl<S: BuildHasher> SharedInterner<S> {
     {
         shard.make_room(self.alloc, used)?;
         let symbol = self.texts.push(rt, text)?;
-        let number = symbol.number;
+        let number = (symbol.bits / 256) as u32;
         shard.put(used, half_of(hash), number);
         self.texts.count_one();
         Ok(symbol)

@@ -1,5 +1,5 @@
 //! The texts of a shared interner: a list that threads read without a lock while others add to it.
-ghost use Rattle.std.specs.Prelude.{◌≡◌, ◌+◌, ◌*◌, ◌^◌, ◌<◌, ◌≤◌, IfOk, IfSome, IsErrOf, length};
+ghost use Rattle.std.specs.Prelude.{◌≡◌, ◌+◌, ◌*◌, ◌/◌, ◌%◌, ◌^◌, ◌<◌, ◌≤◌, IfOk, IfSome, IsErrOf, length};
 ghost use Rattle.arcintern.specs.TextList.{id_at, place_of, row_of};
 ghost use Rattle.arcintern.specs.Texts.{IsSymbolOf, IsSymbolOfWord};
 
@@ -87,6 +87,16 @@ fn place_in(row: usize, number: usize) -> usize
     (number + 32) * 8 % power_of_two(row / 8 + 5) / 8
 }
 
+/// Returns the number and the row of a symbol in one.
+fn bits_of(number: usize, row: usize) -> u64
+    requires number { number < MOST_TEXTS }
+    requires row { row < 256 }
+    ensures number { result / 256 ≡ number }
+    ensures row { result % 256 ≡ row }
+{
+    number as u64 * 256 + row as u64
+}
+
 impl TextList {
     /// Makes a list without texts, with room for this many.
     pub(crate) fn with_capacity(alloc: Global, texts: usize) -> Result<TextList, AllocError> {
@@ -158,8 +168,7 @@ impl TextList {
             match empty.write(text) {
                 Ok(text) => {
                     return Ok(SharedSymbol {
-                        number: number as u32,
-                        row: row as u8,
+                        bits: bits_of(number, row),
                         made,
                         text,
                     });
@@ -197,8 +206,7 @@ impl TextList {
         let text = there.witness()?;
         let found = there.value(&text);
         let symbol = SharedSymbol {
-            number: number as u32,
-            row: row as u8,
+            bits: bits_of(number, row),
             made,
             text,
         };
@@ -224,8 +232,8 @@ impl TextList {
         requires { IsSymbolOf self.now symbol.now }
         ensures { result.now ≡ symbol.now.text }
     {
-        let row = symbol.row as usize;
-        let place = place_in(row, symbol.number as usize);
+        let row = (symbol.bits % 256) as usize;
+        let place = place_in(row, (symbol.bits / 256) as usize);
         self.rows[row].value(&symbol.made)[place].value(&symbol.text)
     }
 }
