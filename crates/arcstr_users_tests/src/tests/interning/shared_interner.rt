@@ -379,5 +379,5 @@ fn an_interner_with_room_numbers_words_as_another(ref rt: HostRuntime) {
 
 #[test]
 fn symbols_are_small(rt: HostRuntime) {
-    check_eq!(rt; (size_of::<Symbol>(), size_of::<SharedSymbol>()), (4, 4));
+    check_eq!(rt; (size_of::<Symbol>(), size_of::<SharedSymbol>()), (4, 8));
 }
