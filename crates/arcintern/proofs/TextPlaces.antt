@@ -1,5 +1,5 @@
 -- The exponent of the greatest power of two up to a number, and what is so of it in the list of a shared interner.
-use Rattle.std.proofs.Common.{◌≡◌, ℕ, zero, suc, ◌+◌, ◌-◌, ◌*◌, ◌/◌, ◌^◌, ◌<◌, ◌≤◌, refl, ap, subst, ◌∙◌, ◌⊎◌, inl, inr, arith}
+use Rattle.std.proofs.Common.{◌≡◌, ℕ, zero, suc, ◌+◌, ◌*◌, ◌/◌, ◌^◌, ◌<◌, ◌≤◌, refl, ap, subst, ◌∙◌, ◌⊎◌, inl, inr, arith}
 use Rattle.std.proofs.Common.{pow_mono, pow_pos, pow-add, lt_of_not-le, le-div_iff_mul-le, div-lt_iff_lt-mul}
 use Rattle.std.proofs.lemmas.Bool.{cases_lt, cond_above, cond_below}
 use Rattle.arcintern.specs.TextList.{row_of, top_of}
@@ -50,7 +50,9 @@ unfolding row_of
 top_of_row number few = let top = top_of 32 (number + 32) in let is : IsTopOf (number + 32) top = is_top 32 (number + 32) (omega arith) (omega arith) in
     let a = top_above number top is in let b = eighth_above number top is in let c = eighth_below number top is in omega arith
 
+-- a row is one of 224
 pub below_224 : (number : ℕ) → number < 4294967295 → row_of number < 224
 unfolding row_of
 below_224 number few = let top = top_of 32 (number + 32) in let is : IsTopOf (number + 32) top = is_top 32 (number + 32) (omega arith) (omega arith) in
-    let a = top_above number top is in let b = eighth_above number top is in let c = eighth_below number top is in let d = top_below number top is few in omega arith
+    let a = top_above number top is in let b = eighth_above number top is in let c = eighth_below number top is in
+    let d = top_below number top is few in omega arith

@@ -1,4 +1,4 @@
-use Rattle.std.proofs.Common.{arith, ◌<◌, ◌≤◌, ◌^◌, ◌*◌, lt_of_not-le, pow_mono}
+use Rattle.std.proofs.Common.{arith, ◌<◌, ◌≤◌, ◌^◌, lt_of_not-le, pow_mono}
 use Rattle.std.specs.Int.Bits.{bit_or}
 use Rattle.std.proofs.lemmas.Nat.{le_or_r}
 use Rattle.arcintern.proofs.shared_interner.shard.piece_of.Goals as goal

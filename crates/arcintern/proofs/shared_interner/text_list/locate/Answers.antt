@@ -1,5 +1,5 @@
 use Rattle.std.proofs.Common.{arith, rules, ℕ, ◌≡◌, ◌+◌, ◌-◌, ◌*◌, ◌/◌, ◌%◌, ◌^◌, ◌<◌, ◌≤◌, sym, subst}
-use Rattle.arcintern.specs.TextList.{place_of, row_of, top_of}
+use Rattle.arcintern.specs.TextList.{place_of, row_of}
 use Rattle.arcintern.proofs.TextPlaces.{eighth_above, eighth_below, found, top_above, top_below}
 use Rattle.arcintern.proofs.shared_interner.text_list.locate.Goals as goal
 

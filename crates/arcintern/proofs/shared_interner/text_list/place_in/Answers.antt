@@ -1,5 +1,5 @@
-use Rattle.std.proofs.Common.{arith, rules, ℕ, ◌≡◌, ◌+◌, ◌*◌, ◌/◌, ◌%◌, ◌^◌, ◌<◌, sym, ap, ◌∙◌, subst}
-use Rattle.arcintern.specs.TextList.{place_of, row_of, top_of}
+use Rattle.std.proofs.Common.{arith, ℕ, ◌≡◌, ◌+◌, ◌*◌, ◌/◌, ◌%◌, ◌^◌, sym, ap, ◌∙◌, subst}
+use Rattle.arcintern.specs.TextList.{place_of, top_of}
 use Rattle.arcintern.proofs.TextPlaces.{below_224, top_of_row}
 use Rattle.arcintern.proofs.shared_interner.text_list.place_in.Goals as goal
 
