@@ -1,8 +1,9 @@
 -- The exponent of the greatest power of two up to a number, and what is so of it in the list of a shared interner.
-use Rattle.std.proofs.Common.{◌≡◌, ℕ, zero, suc, ◌+◌, ◌*◌, ◌/◌, ◌^◌, ◌<◌, ◌≤◌, refl, ap, subst, ◌∙◌, ◌⊎◌, inl, inr, arith}
-use Rattle.std.proofs.Common.{pow_mono, pow_pos, pow-add, lt_of_not-le, le-div_iff_mul-le, div-lt_iff_lt-mul}
+use Rattle.std.proofs.Common.{◌≡◌, ℕ, zero, suc, ◌+◌, ◌-◌, ◌*◌, ◌/◌, ◌%◌, ◌^◌, ◌<◌, ◌≤◌, refl, ap, sym, subst, ◌∙◌, ◌⊎◌, inl, inr, arith}
+use Rattle.std.proofs.Common.{pow_mono, pow_pos, pow-add, lt_of_not-le, le-div_iff_mul-le, div-lt_iff_lt-mul, mod-lt, mul_assoc, mul_comm}
+use Rattle.std.proofs.Math.Nat.{div-add-mod}
 use Rattle.std.proofs.lemmas.Bool.{cases_lt, cond_above, cond_below}
-use Rattle.arcintern.specs.TextList.{row_of, top_of}
+use Rattle.arcintern.specs.TextList.{IsAt, row_of, span, top_of}
 
 double : (top : ℕ) → 2 ^ suc top ≡ 2 * 2 ^ top
 double top = let e : suc top ≡ 1 + top = omega arith in ap (λ (k : ℕ). 2 ^ k) e ∙ pow-add 2 1 top
@@ -43,6 +44,20 @@ module _ (number top : ℕ) (is : IsTopOf (number + 32) top) where
 
   pub top_below : number < 4294967295 → top < 33
   top_below few = let low = is.0 in lt_of_not-le (λ (le : 33 ≤ top). let p : 8589934592 ≤ 2 ^ top = pow_mono le in omega arith)
+
+  eight : 2 ^ top ≡ 8 * 2 ^ (top - 3)
+  eight = let a = top_above in let e : 3 + (top - 3) ≡ top = omega arith in sym (ap (λ (k : ℕ). 2 ^ k) e) ∙ pow-add 2 3 (top - 3)
+
+  -- the row and the place by this exponent are where the number lies
+  pub lies : IsAt number ((top - 5) * 8 + ((number + 32) * 8 / 2 ^ top - 8)) ((number + 32) * 8 % 2 ^ top / 8)
+  lies = let q = (number + 32) * 8 / 2 ^ top in let r = (number + 32) * 8 % 2 ^ top in let m = 2 ^ (top - 3) in let row = (top - 5) * 8 + (q - 8) in
+      let a = top_above in let b = eighth_above in let c = eighth_below in let less : r < 2 ^ top = mod-lt ((number + 32) * 8) (pow_pos top) in
+      let whole : 2 ^ top * q + r ≡ (number + 32) * 8 = div-add-mod ((number + 32) * 8) (2 ^ top) in
+      let part : 2 ^ top * q ≡ 8 * (m * q) = ap (λ (k : ℕ). k * q) eight ∙ mul_assoc 8 m q in let swap = mul_comm q m in let twice = eight in
+      let e : row / 8 + 2 ≡ top - 3 = omega arith in let is : span row ≡ m = ap (λ (k : ℕ). 2 ^ k) e in let s : 8 + row % 8 ≡ q = omega arith in (
+        subst (λ (k : ℕ). r / 8 < k) (sym is) (omega arith),
+        ap (λ (k : ℕ). k * span row + r / 8) s ∙ ap (λ (k : ℕ). q * k + r / 8) is ∙ omega arith,
+      )
 
 -- the exponent of a number plus 32, by its row
 pub top_of_row : (number : ℕ) → number < 4294967295 → row_of number / 8 + 5 ≡ top_of 32 (number + 32)

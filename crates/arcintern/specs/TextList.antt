@@ -1,6 +1,14 @@
 -- How the texts of a shared interner lie in its list: in rows of places. The first eight rows have four places each, the next eight rows eight, and so on.
-use Rattle.std.specs.Prelude.{ℕ, zero, suc, ◌+◌, ◌-◌, ◌*◌, ◌/◌, ◌%◌, ◌^◌, nat_lt, if◌then◌else◌, List, slice_index_or}
+use Rattle.std.specs.Prelude.{◌≡◌, ℕ, zero, suc, ◌+◌, ◌-◌, ◌*◌, ◌/◌, ◌%◌, ◌^◌, ◌<◌, nat_lt, if◌then◌else◌, List, slice_index_or}
 use Rattle.write_once.specs.WriteOnce.{Place}
+
+-- how many places a row has
+abbrev pub span : ℕ → ℕ
+span row = 2 ^ (row / 8 + 2)
+
+-- the text with this number lies in this row, at this place of it. The rows before it have (8 + row % 8) * span row - 32 places
+abbrev pub IsAt : ℕ → ℕ → ℕ → Type 0
+IsAt number row place = (place < span row) × ((8 + row % 8) * span row + place ≡ number + 32)
 
 -- the exponent of the greatest power of two up to a number, for a number of at most so many bits and one
 unfoldable pub top_of : ℕ → ℕ → ℕ

@@ -11,6 +11,9 @@ use std::hash::{BuildHasher, Hasher};
 /// How many values 32 bits have: half of a hash, or the number plus 1 in a slot.
 pub(crate) const NUMBERS: u64 = 1 << 32;
 
+/// A table with at most this many slots is short.
+const SHORT: usize = 1 << 14;
+
 /// Returns the hash of the word: what the hasher finishes with after one write of its bytes.
 #[tactic(auto, unfolding(crate::specs::Slots::hash_of_word))]
 pub(crate) fn hash_of_word<S: BuildHasher>(hash_builder: &S, word: &str) -> u64
@@ -144,12 +147,14 @@ impl Slots {
         Ok(empty)
     }
 
-    /// Moves the slots to a table that is twice as long.
+    /// Moves the slots to a table that is twice as long, and four times while it is short, so that a
+    /// slot moves less often.
     fn grow(&mut self) -> Result<(), AllocError>
         ensures kept { KeepsSlots self.old.slots.items self.old.mask
             self.new.slots.items self.new.mask }
     {
-        let len = self.mask.saturating_add(1).saturating_mul(2).max(16);
+        let times = if self.mask < SHORT { 4 } else { 2 };
+        let len = self.mask.saturating_add(1).saturating_mul(times).max(16);
         let mut longer = Slots::with_len(*self.slots.allocator(), len)?;
         for slot in &self.slots {
             longer.take_over(*slot)?;

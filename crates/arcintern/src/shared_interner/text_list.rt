@@ -1,6 +1,6 @@
 //! The texts of a shared interner: a list that threads read without a lock while others add to it.
 ghost use Rattle.std.specs.Prelude.{◌≡◌, ◌+◌, ◌*◌, ◌/◌, ◌%◌, ◌^◌, ◌<◌, ◌≤◌, IfOk, IfSome, IsErrOf, length};
-ghost use Rattle.arcintern.specs.TextList.{id_at, place_of, row_of};
+ghost use Rattle.arcintern.specs.TextList.{IsAt, id_at, place_of, row_of};
 ghost use Rattle.arcintern.specs.Texts.{IsSymbolOf, IsSymbolOfWord};
 
 use crate::fault::InternFault;
@@ -68,6 +68,7 @@ fn power_of_two(exponent: usize) -> usize
 /// Returns the row that has the text with this number, and its place there.
 fn locate(number: usize) -> (usize, usize)
     requires { number < MOST_TEXTS }
+    ensures at { IsAt number result.0 result.1 }
     ensures row { result.0 ≡ row_of number }
     ensures place { result.1 ≡ place_of number }
     ensures small { result.0 < 224 }

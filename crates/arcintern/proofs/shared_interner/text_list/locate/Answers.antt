@@ -1,6 +1,6 @@
 use Rattle.std.proofs.Common.{arith, rules, ℕ, ◌≡◌, ◌+◌, ◌-◌, ◌*◌, ◌/◌, ◌%◌, ◌^◌, ◌<◌, ◌≤◌, sym, subst}
-use Rattle.arcintern.specs.TextList.{place_of, row_of}
-use Rattle.arcintern.proofs.TextPlaces.{eighth_above, eighth_below, found, top_above, top_below}
+use Rattle.arcintern.specs.TextList.{IsAt, place_of, row_of}
+use Rattle.arcintern.proofs.TextPlaces.{eighth_above, eighth_below, found, lies, top_above, top_below}
 use Rattle.arcintern.proofs.shared_interner.text_list.locate.Goals as goal
 
 pub overflow_sub-row : goal.overflow_sub-row
@@ -10,6 +10,11 @@ pub overflow_sub-row-2 : goal.overflow_sub-row-2
 overflow_sub-row-2 c = let n = c.args.number in let t = c.ilog2-top.result in
     subst (λ (span : ℕ). 8 ≤ (n + 32) * 8 / span) (sym c.power_of_two-span.ensures)
     (eighth_above n t (c.ilog2-top.ensures.power_le, c.ilog2-top.ensures.next_power_gt))
+
+pub returns-clause-at : goal.returns-clause-at
+returns-clause-at c = let n = c.args.number in let t = c.ilog2-top.result in
+    subst (λ (span : ℕ). IsAt n ((t - 5) * 8 + ((n + 32) * 8 / span - 8)) ((n + 32) * 8 % span / 8)) (sym c.power_of_two-span.ensures)
+    (lies n t (c.ilog2-top.ensures.power_le, c.ilog2-top.ensures.next_power_gt))
 
 pub returns-clause-row : goal.returns-clause-row
 unfolding row_of
