@@ -27,8 +27,8 @@ fn fill_interners<R: Machine>(rt: &R) -> io::Result<()> {
             |room: &mut Room| intern_all(rt, room) => "99", 2;
         "Interner::intern: [+24 +96 +160] [-24 -96 -160]":
             |words: &mut Words<0>| intern(words) => "foobar", 1;
-        "Interner::intern with a full table: [+24 +320 -160] [-24 -24 -24 -24 -24 -24 -24 -24 -24"
-        " -24 -24 -24 -24 -320 -360]":
+        "Interner::intern with a full table: [+24 +640 -160] [-24 -24 -24 -24 -24 -24 -24 -24 -24"
+        " -24 -24 -24 -24 -360 -640]":
             |words: &mut Words<FULL>| intern(words) => "foobar", 1;
         "Interner::intern_arc: [+96 +160] [-96 -160]":
             |given: &mut Handles| intern_text(rt, given) => "foobar", 3;
@@ -50,7 +50,7 @@ fn fill_lists<R: Machine>(rt: &R) -> io::Result<()> {
             |_: &mut ()| serde_json::from_str::<WordList>(alloc, "[\"foobar\"]") => "foobar", 0;
         "WordList::intern where there is room: [] [-200 -1275 -1280]":
             |room: &mut ListRoom| list_all(rt, room) => DIGITS, 0;
-        "WordList::intern with a full table: [+32 +320 -16 -160] [-32 -64 -320]":
+        "WordList::intern with a full table: [+32 +640 -16 -160] [-32 -64 -640]":
             |words: &mut Listed<FULL>| list(words) => "foobar", 0;
     }
 }
