@@ -56,17 +56,47 @@ impl Entry {
             × (entry.title.parent ≡ line.now.parent)) }
         ensures line { IfErr result (λ fault. fault.line ≡ number) }
     {
-        let no_title = Fault::at(number, line, Reason::NoTitle);
-        let (author, rest) = line.substr_split_once(rt, ';').ok_or(no_title)?;
-        let no_year = Fault::at(number, &rest, Reason::NoYear);
-        let (title, year) = rest.substr_split_once(rt, ';').ok_or(no_year)?;
-        let bad_year = Fault::at(number, &year, Reason::BadYear);
+        let (author, rest) = split(rt, number, line, Reason::NoTitle)?;
+        let (title, year) = title_and_year(rt, number, &rest)?;
+        let author = author.substr_trim(rt);
         Ok(Entry {
-            author: author.substr_trim(rt),
-            title: title.substr_trim(rt),
-            year: year.trim().parse::<i64>().ok().ok_or(bad_year)?,
+            author,
+            title,
+            year,
         })
     }
+}
+
+/// The two sides of the next semicolon, or a fault for this reason.
+fn split(
+    rt: &impl Wait,
+    number: usize,
+    part: &Substr,
+    reason: Reason,
+) -> Result<(Substr, Substr), Fault>
+    ensures kept { IfOk result (λ sides. (sides.0.parent ≡ part.now.parent)
+        × (sides.1.parent ≡ part.now.parent)) }
+    ensures line { IfErr result (λ fault. fault.line ≡ number) }
+{
+    let fault = Fault::at(number, part, reason);
+    part.substr_split_once(rt, ';').ok_or(fault)
+}
+
+/// The fields behind the author.
+fn title_and_year(rt: &impl Wait, number: usize, rest: &Substr) -> Result<(Substr, i64), Fault>
+    ensures kept { IfOk result (λ fields. fields.0.parent ≡ rest.now.parent) }
+    ensures line { IfErr result (λ fault. fault.line ≡ number) }
+{
+    let (title, year) = split(rt, number, rest, Reason::NoYear)?;
+    let year = year_of(number, &year)?;
+    Ok((title.substr_trim(rt), year))
+}
+
+fn year_of(number: usize, part: &Substr) -> Result<i64, Fault>
+    ensures line { IfErr result (λ fault. fault.line ≡ number) }
+{
+    let fault = Fault::at(number, part, Reason::BadYear);
+    part.trim().parse::<i64>().ok().ok_or(fault)
 }
 
 /// A book of the library.

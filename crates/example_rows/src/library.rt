@@ -37,23 +37,14 @@ pub struct Library {
 impl Library {
     /// Opens the file or makes it, and begins a transaction.
     pub fn open(rt: &HostRuntime, alloc: Global, path: &str) -> Result<Library> {
-        let database = Connection::open(rt, path);
-        let mut database = database.context(format_args!("{path} cannot be opened"))?;
-        database
-            .execute_batch(TABLES)
-            .context(format_args!("the tables of {path} cannot be made"))?;
         let authors = LruCache::new(alloc, NonZeroUsize::new(REMEMBERED).unwrap())?;
+        let database = open_database(rt, path)?;
         Ok(Library { database, authors })
     }
 
     /// Commits what was added. Without this call nothing is added.
     pub fn close(self) -> Result<(), Error> {
-        let Library {
-            mut database,
-            authors: _,
-        } = self;
-        database.execute_batch("COMMIT")?;
-        database.close()
+        commit(self.database)
     }
 
     /// Adds a book, unless the author has one with its title.
@@ -89,6 +80,21 @@ impl Library {
         }
         Ok(books)
     }
+}
+
+/// Opens the database file or makes it, and begins a transaction.
+fn open_database(rt: &HostRuntime, path: &str) -> Result<Connection<FileStore<File>>> {
+    let database = Connection::open(rt, path);
+    let mut database = database.context(format_args!("{path} cannot be opened"))?;
+    database
+        .execute_batch(TABLES)
+        .context(format_args!("the tables of {path} cannot be made"))?;
+    Ok(database)
+}
+
+fn commit(mut database: Connection<FileStore<File>>) -> Result<(), Error> {
+    database.execute_batch("COMMIT")?;
+    database.close()
 }
 
 /// The book of a row. If the one before has the same author, they share the author's text.

@@ -6,7 +6,7 @@
 mod book;
 mod library;
 
-use crate::book::{Entry, Fault};
+use crate::book::{Book, Entry, Fault};
 use crate::library::Library;
 use anyhow::{Context, Result};
 use arcstr::{ArcStr, Substr};
@@ -21,19 +21,32 @@ fn main(rt: HostRuntime) -> Result<()> {
     let mut words = env::args(&rt).context("the arguments cannot be read")?;
     let path = words.nth(1).context("the name of a file is missing")?;
     let text = read_input(&rt, rt.stdin())?;
-    let mut library = Library::open(&rt, alloc, &path)?;
-    let faults = add_lines(&rt, alloc, &mut library, &text);
+    let library = Library::open(&rt, alloc, &path)?;
+    print_all(&rt, &add_books(&rt, alloc, library, &path, &text)?)?;
+    let library = Library::open(&rt, alloc, &path)?;
+    print_all(&rt, &all_books(&rt, alloc, library, &path)?)
+}
+
+/// Adds the books of the text to the file. Returns the faults of the lines that are no book.
+fn add_books(
+    rt: &impl Wait,
+    alloc: Global,
+    mut library: Library,
+    path: &str,
+    text: &Substr,
+) -> Result<Vec<Fault>> {
+    let faults = add_lines(rt, alloc, &mut library, text);
     let faults = faults.context(format_args!("no book was added to {path}"))?;
     library
         .close()
         .context(format_args!("{path} keeps none of the books"))?;
-    print_all(&rt, &faults)?;
-    let mut library = Library::open(&rt, alloc, &path)?;
-    let books = library.books(&rt, alloc);
-    print_all(
-        &rt,
-        &books.context(format_args!("the books of {path} cannot be read"))?,
-    )
+    Ok(faults)
+}
+
+/// The books of the file, in the order of their authors.
+fn all_books(rt: &impl Wait, alloc: Global, mut library: Library, path: &str) -> Result<Vec<Book>> {
+    let books = library.books(rt, alloc);
+    books.context(format_args!("the books of {path} cannot be read"))
 }
 
 /// Reads standard input, and says so where it is a terminal. A byte order mark at its start is no

@@ -22,13 +22,21 @@ fn main(rt: HostRuntime) -> Result<()> {
         eprintln!(rt; "reading standard input: a table with the fields region, product and cents")?;
     }
     let table = Table::read(rt.alloc(), input, RandomState::new(&rt)?);
-    let table = table.context("standard input cannot be read")?;
+    print(
+        &rt,
+        rt.alloc(),
+        &table.context("standard input cannot be read")?,
+    )
+}
+
+/// Prints the faults and the sums.
+fn print(rt: &(impl Print + Threads + Sync), alloc: Global, table: &Table) -> Result<()> {
     for fault in &table.faults {
         println!(rt; "{fault}")?;
     }
-    print_sums(&rt, rt.alloc(), &table.regions, &table.cents)?;
-    print_sums(&rt, rt.alloc(), &table.products, &table.cents)?;
-    print_line(&rt, "total", total(&rt, &table.cents))?;
+    print_sums(rt, alloc, &table.regions, &table.cents)?;
+    print_sums(rt, alloc, &table.products, &table.cents)?;
+    print_line(rt, "total", total(rt, &table.cents))?;
     Ok(())
 }
 

@@ -33,14 +33,19 @@ impl Table {
             cents: Vec::new(alloc),
             faults: Vec::new(alloc),
         };
-        let mut reader = Reader::from_reader(alloc, input);
+        table.add_rows(alloc, Reader::from_reader(alloc, input))?;
+        Ok(table)
+    }
+
+    /// Adds the rows, or their faults.
+    fn add_rows(&mut self, alloc: Global, mut reader: Reader<impl Read + Drop>) -> Result<()> {
         for row in reader.records() {
             match row {
-                Ok(row) => table.add(alloc, &row)?,
-                Err(error) => table.faults.push(fault_of(error)?)?,
+                Ok(row) => self.add(alloc, &row)?,
+                Err(error) => self.faults.push(fault_of(error)?)?,
             }
         }
-        Ok(table)
+        Ok(())
     }
 
     /// Adds a row, or its fault.
