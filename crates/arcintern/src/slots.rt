@@ -147,8 +147,8 @@ impl Slots {
         Ok(empty)
     }
 
-    /// Moves the slots to a table that is twice as long, and four times while it is short, so that a
-    /// slot moves less often.
+    /// Moves the slots to a table that is twice as long, or four times while it is short, so a slot
+    /// moves less often.
     fn grow(&mut self) -> Result<(), AllocError>
         ensures kept { KeepsSlots self.old.slots.items self.old.mask
             self.new.slots.items self.new.mask }
