@@ -1,5 +1,5 @@
-//! Two million words for each interner, which has room for them all: a call that is out of memory,
-//! or does not find a word, without a reason shows here.
+//! Interns two million words in each interner. A call that fails although there is memory, and a
+//! word that is not found, show in the numbers that are printed.
 use crate::calls::Machine;
 use arcintern::{Interner, SharedInterner, WordList};
 use std::io;
@@ -38,7 +38,7 @@ impl Numbers for WordList {
     }
 }
 
-/// A shared interner, with the leave to wait.
+/// A shared interner, with the permission to wait.
 #[derive(Drop)]
 struct Shared<'a, R> {
     rt: &'a R,
