@@ -30,6 +30,7 @@ class Key(NamedTuple):
     owner: str | None
     trait: str | None
     name: str
+    arguments: tuple[str, ...] = ()
 
 
 class Hunk(NamedTuple):
@@ -84,7 +85,7 @@ def shown(path: Path, line: int) -> str:
 
 
 def key_of(file: str, it: Function) -> Key:
-    return Key(file, it.owner, it.trait or it.lent, it.name)
+    return Key(file, it.owner, it.trait or it.lent, it.name, it.arguments)
 
 
 @cache
@@ -275,17 +276,20 @@ def module_of(file: str) -> str:
 
 
 def path_of(key: Key) -> str:
-    """The prover's path of a function, or the end of it. A method of a trait stands under the names
-    of the type, the trait and those of its arguments that are other types."""
+    """The prover's path of a function, or the end of it. A method of a type stands under the names
+    of the type and of its arguments, and one of a trait in the module of the implementation, under
+    the names of the type, the trait and those of its arguments that are other types."""
+    trait, module = key.trait or "", module_of(key.file)
     if key.owner is None:
-        return f"{module_of(key.file)}::{key.name}".removeprefix("::")
-    trait = key.trait or ""
+        return f"{module}::{key.name}".removeprefix("::")
+    if not trait:
+        return f"{'+'.join([key.owner, *key.arguments])}::{key.name}"
     # An implementation for a reference has its trait as its owner, and the reference in its place.
     named = f"{trait} {key.owner}" if trait.startswith("&") else f"{key.owner} {trait}"
     words = re.findall(r"\w+|&", re.sub(r"\bfmt::|\b\w+::\w+::|'\w+|\bDrop\b", "", named))
     words = words[:1] + [word for word in words[1:] if word != key.owner or trait.startswith("&")]
     named = "".join("Ref" if word == "&" else word[0].upper() + word[1:] for word in words)
-    return f"{named}::{key.name}"
+    return f"{module}::{named}::{key.name}".removeprefix("::")
 
 
 def copy_function(key: Key, edit: WrongBody, room: Path) -> tuple[Key, Change]:
@@ -316,13 +320,15 @@ def copy_proofs(key: Key, copied: str, room: Path) -> None:
 
 def folder_of_proofs(key: Key, room: Path) -> Path:
     """The folder of a function's proofs. A method of a type stands with the type."""
-    module, type_of = module_of(key.file), rf"^(?:pub(?:\(\w+\))? )?(?:struct|enum) {key.owner}\b"
+    path = path_of(key)
     if key.owner and not key.trait:
+        module = module_of(key.file)
+        type_of = rf"^(?:pub(?:\(\w+\))? )?(?:struct|enum) {key.owner}\b"
         for file in sorted((room / "src").rglob("*.rt")):
             if re.search(type_of, file.read_text(), re.M):
                 module = module_of(str(file.relative_to(room)))
-    path = path_of(key) if key.owner else key.name
-    return room.joinpath("proofs", *module.split("::"), *path.split("::"))
+        path = f"{module}::{path}".removeprefix("::")
+    return room.joinpath("proofs", *path.split("::"))
 
 
 def answer_what_is_not_asked(key: Key, crate: str, room: Path) -> None:

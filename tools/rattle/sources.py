@@ -22,9 +22,9 @@ FUNCTION = re.compile(
     re.M,
 )
 OWNER = re.compile(
-    r"^(?:unsafe )?(?:impl\b(?:<[^{]*?>)? "
+    r"^(?:unsafe )?(?:impl\b(?P<parameters><[^{]*?>)? "
     r"(?:(?P<own>[^{;\n]*?) for (?P<lent>&(?:'\w+ )?\w+)"
-    r"|(?:(?P<trait>[^{;\n]*?) for )?(?P<type>\w+(?:::\w+)*))"
+    r"|(?:(?P<trait>[^{;\n]*?) for )?(?P<type>\w+(?:::\w+)*)(?P<arguments><[^{;\n]*>)?)"
     r"|(?P<open>pub )?trait (?P<new>\w+))[^;{]*\{",
     re.M,
 )
@@ -183,7 +183,8 @@ class Function:
     """A function: its type or trait where it has one, the trait that it implements, where it stands
     in its file, its `ensures` clauses by name (`None` for a clause without one), whether it has a
     `requires`, and its body. A function of a trait for a reference, as
-    `impl Equivalent<ArcStr> for &str`, has the trait as its type, and the reference as `lent`."""
+    `impl Equivalent<ArcStr> for &str`, has the trait as its type, and the reference as `lent`. One
+    of `impl Table<Vec<u8>>` has the `arguments` Vec and u8."""
 
     name: str
     owner: str | None
@@ -194,6 +195,7 @@ class Function:
     end: int = 0
     trait: str | None = None
     lent: str | None = None
+    arguments: tuple[str, ...] = ()
     ensures: dict[str | None, str] = field(default_factory=dict)
     requires: bool = False
     body: str = ""
@@ -201,6 +203,14 @@ class Function:
 
     def call(self) -> str:
         return f"{self.owner}::{self.name}" if self.owner else self.name
+
+
+def arguments_of(part: dict[str, str | None]) -> tuple[str, ...]:
+    """The types to which an implementation applies its type, without its own parameters."""
+    own, names = (
+        re.findall(r"'?\b\w+\b(?!::)", part.get(it) or "") for it in ("parameters", "arguments")
+    )
+    return tuple(name for name in names if name not in own)
 
 
 def end_of_group(text: str, start: int) -> int:
@@ -254,6 +264,7 @@ def functions(file: Path, source: str | None = None) -> Iterator[Function]:
             found.start(),
             trait=part.get("trait"),
             lent=part.get("lent"),
+            arguments=arguments_of(part),
         )
         parameters = end_of_group(text, text.index("(", found.end()))
         read_contract(function, text, shown, source, parameters)

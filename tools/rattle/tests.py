@@ -119,15 +119,27 @@ class Edits(Folder):
         for owner, trait, path in (
             (None, None, "more::f"),
             ("A", None, "A::f"),
-            ("A", "fmt::Display", "ADisplay::f"),
-            ("A", "log::kv::ToValue", "AToValue::f"),
-            ("A", "FromIterator<A>", "AFromIterator::f"),
-            ("A", "FromIterator<B>", "AFromIteratorB::f"),
-            ("Pattern", "&'a A", "RefAPattern::f"),
-            ("indexmap::Equivalent<B>", "&A", "RefAIndexmapEquivalentB::f"),
+            ("A", "fmt::Display", "more::ADisplay::f"),
+            ("A", "log::kv::ToValue", "more::AToValue::f"),
+            ("A", "FromIterator<A>", "more::AFromIterator::f"),
+            ("A", "FromIterator<B>", "more::AFromIteratorB::f"),
+            ("Pattern", "&'a A", "more::RefAPattern::f"),
+            ("indexmap::Equivalent<B>", "&A", "more::RefAIndexmapEquivalentB::f"),
         ):
             key = edits.Key("src/more.rt", owner, trait, "f")
             self.assertEqual(edits.path_of(key), path)
+
+    def test_the_path_of_a_type_with_arguments(self) -> None:
+        """The parameters of an implementation are no arguments."""
+        for head, path in (
+            ("impl A<B<C>>", "A+B+C::f"),
+            ("impl A<std::B, u8>", "A+B+u8::f"),
+            ("impl<B: C> A<B>", "A::f"),
+            ("impl<'a, B> A<'a, B>", "A::f"),
+        ):
+            file = self.crate / "src/more.rt"
+            [found] = edits.functions_in(file, f"{head} {{\n    fn f() {{\n    }}\n}}\n")
+            self.assertEqual(edits.path_of(edits.key_of("src/more.rt", found)), path)
 
     def test_mistakes_of_typing_are_told_with_their_lines(self) -> None:
         """Each text has one mistake, which is told."""
@@ -296,10 +308,11 @@ class WrongBodies(Folder):
             self.assertEqual(wrong_bodies.is_changed(body, files, before), is_changed, files)
 
     def test_shares(self) -> None:
-        """No edit is lost, and a large crate does not keep one lane busy alone."""
+        """No edit is lost, and a large crate has more rooms only where it fills more lanes."""
         for number, total, lanes, rooms in (
-            (187, 468, 4, 4),
+            (187, 468, 4, 2),
             (187, 468, 1, 1),
+            (283, 735, 3, 1),
             (187, 187, 4, 4),
             (43, 43, 4, 2),
             (1, 1, 4, 1),
@@ -309,6 +322,14 @@ class WrongBodies(Folder):
             shares = wrong_bodies.shares_of(edits_of_crate, total, lanes)
             self.assertEqual(len(shares), rooms, number)
             self.assertEqual(sorted(sum(shares, [])), edits_of_crate)
+
+    def test_parts(self) -> None:
+        """No edit is lost, and no check tries many."""
+        for number, sizes in ((1, [1]), (100, [100]), (101, [51, 50]), (283, [95, 94, 94])):
+            batch = [*range(number)]
+            parts = wrong_bodies.parts_of_batch(batch)
+            self.assertEqual([*map(len, parts)], sizes)
+            self.assertEqual(sorted(sum(parts, [])), batch)
 
     def test_a_body_that_waits_for_another_is_tried_without_it(self) -> None:
         """Each body passes where at most so many are tried at once."""
