@@ -331,13 +331,22 @@ impl Moved {
 /// and `MOVED` if there is none.
 #[inline(always)]
 fn first_of(slots: &[AtomicU64], from: usize, half: u32) -> u64 {
+    // Two slots at a time, without a branch between them: no processor predicts at which of them a
+    // search ends.
+    let half = half as u64;
     let mut offset = from;
     while let Some(slot) = slots.get(offset) {
-        let slot = slot.load(Ordering::Acquire);
-        if slot == 0 || slot >> 32 == half as u64 {
+        let first = slot.load(Ordering::Acquire);
+        let second = match slots.get(offset + 1) {
+            Some(slot) => slot.load(Ordering::Acquire),
+            None => MOVED,
+        };
+        let is_first = (first == 0) | (first >> 32 == half);
+        let slot = if is_first { first } else { second };
+        if (slot == 0) | (slot >> 32 == half) {
             return slot;
         }
-        offset += 1;
+        offset = offset.saturating_add(2);
     }
     MOVED
 }
