@@ -332,11 +332,13 @@ class WrongBodies(Folder):
             self.assertEqual(sorted(sum(parts, [])), batch)
 
     def test_a_body_that_waits_for_another_is_tried_without_it(self) -> None:
-        """Each body passes where at most so many are tried at once."""
+        """Each body passes where at most so many are tried at once, and a check tries four. What
+        two checks leave is tried in one."""
         for limits, wanted in (
             ({"a": 4, "b": 2, "c": 1, "d": 4}, ["abcd", "bc", "c"]),
             ({"a": 1, "b": 1}, ["ab", "a", "b"]),
             ({"a": 2, "b": 0}, ["ab", "b"]),
+            ({"a": 3, "b": 3, "c": 2, "d": 2, "e": 3, "f": 3}, ["ace", "bdf", "cd"]),
         ):
             bodies = [edits.WrongBody(self.path, name, 1) for name in limits]
             sizes: list[str] = []
@@ -347,6 +349,7 @@ class WrongBodies(Folder):
 
             fault = lambda body, *_: "" if len(sizes[-1]) <= limits[body.name] else "missed"
             stubs = {"fault_of": fault, "read_goals": lambda *_: True, "kept_sum": mock.Mock()}
+            stubs["A_CHECK"] = 4
             room = wrong_bodies.Room("pair", self.crate, mock.Mock(now={}))
             with mock.patch.multiple(wrong_bodies, **stubs), mock.patch.object(
                 wrong_bodies.Room, "check", check
