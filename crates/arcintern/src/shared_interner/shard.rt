@@ -15,8 +15,9 @@ use write_once::WriteOnce;
 /// numbers.
 const PIECES: usize = 30;
 
-/// A slot whose number has moved to another. It is not empty, so a search passes it.
-const MOVED: u64 = NUMBERS;
+/// A slot whose number has moved to another. It is not empty, so a search passes it. Its home is
+/// the last slot of any table.
+const MOVED: u64 = NUMBERS * (NUMBERS - 1);
 
 /// The words whose hashes pick this shard: a table of slots, which hold the same as those of
 /// `Slots`. A search that passes the last slot goes on at the first.
@@ -171,7 +172,7 @@ impl Shard {
                 let slot = slot.load(Ordering::Acquire);
                 let index = index_in(number, moving.len(), offset);
                 found[count % 16] = slot;
-                count = count.saturating_add(moves(slot, index, mask) as usize);
+                count = count.wrapping_add(moves(slot, index, mask) as usize);
                 if count == 16 {
                     moved.copy(&found, count, mask, slots);
                     count = 0;
@@ -222,7 +223,7 @@ impl Shard {
 
     /// Empties the slots from `start` on whose numbers have moved, but marks those that a search
     /// passes. `lowest` is the lowest home of the numbers that have moved. Returns how many slots
-    /// it empties.
+    /// it empties. They are gathered as by `copy_numbers`.
     fn clear_moved(&self, last: usize, mask: usize, start: usize, lowest: usize) -> usize {
         let (mut emptied, mut lowest) = (0_usize, lowest);
         for from_last in 0..=last {
@@ -230,20 +231,25 @@ impl Shard {
             let Some(slots) = self.piece(number) else {
                 break;
             };
-            for (offset, place) in slots.iter().enumerate().rev() {
-                let index = index_in(number, slots.len(), offset);
-                if index < start {
-                    break;
-                }
-                let slot = place.load(Ordering::Acquire);
-                if slot == MOVED || moves(slot, index, mask) {
-                    let is_passed = lowest <= index;
-                    place.store(is_passed as u64 * MOVED, Ordering::Release);
-                    emptied = emptied.saturating_add(!is_passed as usize);
-                } else {
-                    lowest = lowest.min(if slot == 0 { mask } else { home(slot, mask) });
+            let first = index_in(number, slots.len(), 0);
+            let Some(slots) = slots.get(start.saturating_sub(first)..) else {
+                break;
+            };
+            let first = first.max(start);
+            let (mut found, mut count) = ([0_usize; 16], 0_usize);
+            for (offset, slot) in slots.iter().enumerate().rev() {
+                let slot = slot.load(Ordering::Acquire);
+                let index = first.wrapping_add(offset);
+                found[count % 16] = (offset << 1) | (lowest <= index) as usize;
+                count = count.wrapping_add((home(slot, mask) > index) as usize);
+                // No number that moves has a lower home. Less 1, an empty slot has the last one.
+                lowest = lowest.min(home(slot.wrapping_sub(1), mask));
+                if count == 16 {
+                    emptied = emptied.saturating_add(clear(slots, &found, count));
+                    count = 0;
                 }
             }
+            emptied = emptied.saturating_add(clear(slots, &found, count));
         }
         emptied
     }
@@ -293,7 +299,7 @@ impl Shard {
             };
             for place in slots {
                 let there = place.load(Ordering::Acquire);
-                if there == 0 || there == MOVED {
+                if !has_number(there) {
                     place.store(slot, Ordering::Release);
                     return there == 0;
                 }
@@ -356,6 +362,11 @@ fn number_in(slot: u64) -> usize {
     ((slot % NUMBERS) as u32).wrapping_sub(1) as usize
 }
 
+/// Returns whether a slot has a number: it is neither empty nor `MOVED`.
+fn has_number(slot: u64) -> bool {
+    slot % NUMBERS != 0
+}
+
 /// As `Shard::find`, in these slots. Otherwise, returns whether the search comes to an empty slot.
 fn search(
     slots: &[AtomicU64],
@@ -377,6 +388,20 @@ fn search(
         }
     }
     Err(false)
+}
+
+/// Empties slots, but marks those that a search passes. The first `count` of `found` are twice a
+/// slot's offset, and 1 more where a search passes it. Returns how many slots it empties.
+fn clear(slots: &[AtomicU64], found: &[usize], count: usize) -> usize {
+    let mut emptied = count;
+    for slot in found.iter().take(count) {
+        let is_passed = slot & 1;
+        if let Some(place) = slots.get(slot >> 1) {
+            place.store(is_passed as u64 * MOVED, Ordering::Release);
+        }
+        emptied = emptied.saturating_sub(is_passed);
+    }
+    emptied
 }
 
 /// Makes empty slots.
@@ -430,5 +455,5 @@ fn home(slot: u64, mask: usize) -> usize {
 /// Returns whether a slot with this index has a number that moves when the mask gets this long: a
 /// search for it begins behind that slot.
 fn moves(slot: u64, index: usize, mask: usize) -> bool {
-    (slot != MOVED) & (slot != 0) & (home(slot, mask) > index)
+    has_number(slot) & (home(slot, mask) > index)
 }
