@@ -333,14 +333,20 @@ class WrongBodies(Folder):
 
     def test_a_body_that_waits_for_another_is_tried_without_it(self) -> None:
         """Each body passes where at most so many are tried at once, and a check tries four. What
-        two checks leave is tried in one."""
-        for limits, wanted in (
-            ({"a": 4, "b": 2, "c": 1, "d": 4}, ["abcd", "bc", "c"]),
-            ({"a": 1, "b": 1}, ["ab", "a", "b"]),
-            ({"a": 2, "b": 0}, ["ab", "b"]),
-            ({"a": 3, "b": 3, "c": 2, "d": 2, "e": 3, "f": 3}, ["ace", "bdf", "cd"]),
+        two checks leave is tried in one, and so are those of one function that may not be copied,
+        which `of_one` names."""
+        key = edits.Key("src/lib.rt", "Pair", "Clone", "clone")
+        for limits, of_one, wanted in (
+            ({"a": 4, "b": 2, "c": 1, "d": 4}, "", ["abcd", "bc", "c"]),
+            ({"a": 1, "b": 1}, "", ["ab", "a", "b"]),
+            ({"a": 2, "b": 0}, "", ["ab", "b"]),
+            ({"a": 3, "b": 3, "c": 2, "d": 2, "e": 3, "f": 3}, "", ["ace", "bdf", "cd"]),
+            ({"a": 2, "b": 2, "c": 2}, "ab", ["ac", "b"]),
+            ({"a": 1, "b": 2, "c": 2}, "bc", ["ab", "ca", "a"]),
         ):
             bodies = [edits.WrongBody(self.path, name, 1) for name in limits]
+            for body in bodies:
+                body.functions = {key} if body.name in of_one else set()
             sizes: list[str] = []
 
             def check(_: object, tried: list) -> subprocess.CompletedProcess:
