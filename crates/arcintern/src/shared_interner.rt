@@ -52,9 +52,9 @@ mod text_list;
 #[derive(Drop)]
 pub struct SharedInterner<S: BuildHasher = BuildHasherDefault<FoldHasher>> {
     shards: Vec<Shard>,
-    texts: TextList,
     alloc: Global,
     hash_builder: S,
+    texts: TextList,
 }
 
 impl<S: BuildHasher> Model for SharedInterner<S> {
@@ -197,7 +197,8 @@ impl<S: BuildHasher> SharedInterner<S> {
         }
     }
 
-    /// Returns the number of texts. It may miss texts that other threads are adding. Takes no lock.
+    /// Returns the number of texts. It may count or miss a text that another thread is adding.
+    /// Takes no lock.
     ///
     /// ```
     /// let interner = SharedInterner::new(rt.alloc(), 8)?;

@@ -2,11 +2,10 @@
 ghost use Rattle.std.specs.Prelude.{◌≡◌, ◌<◌, ◌≤◌, IfOk, IfSome, IsErrOf, IsNone, length};
 ghost use Rattle.arcstr.specs.Making.{IsTooLong};
 ghost use Rattle.arcstr.specs.Substr.{text_of};
-ghost use Rattle.arcintern.specs.Texts.{IsSymbolOf, IsSymbolOfWord, IsWhole};
+ghost use Rattle.arcintern.specs.Texts.{IsSymbolOfWord, IsWhole};
 
 use crate::fault::InternFault;
 use crate::interner::{MOST_TEXTS, copy_of, is_whole};
-use crate::shared_interner::shard::Shard;
 use crate::shared_interner::{SharedInterner, SharedSymbol};
 use crate::slots::{half_of, hash_of_word};
 use arcstr::{ArcStr, Substr};
@@ -134,9 +133,11 @@ impl<S: BuildHasher> SharedInterner<S> {
 
     /// Returns the symbol of the word with this hash. If there is none, adds `whole` or, without
     /// one, a copy of the word. That text is made before the lock is taken, and dropped if another
-    /// thread has added the word meanwhile. The count of the texts tells whether one was added at
-    /// all, since each thread counts its text after it wrote its slot, and before it gives the lock
-    /// back.
+    /// thread has added the word meanwhile.
+    ///
+    /// Whoever adds a word puts it where a search first comes to no number. So if the table has not
+    /// grown since the search, a word that was added after it is met on the way to the place for
+    /// this one, and `place_for` tells.
     pub(crate) fn find_or_add(
         &self,
         rt: &impl Wait,
@@ -149,42 +150,26 @@ impl<S: BuildHasher> SharedInterner<S> {
         ensures too_long { IsErrOf result InternFault.Length
             → IsNone whole.entry × IsTooLong (length word.now) }
     {
-        let count = self.len();
-        if let Some(symbol) = self.find(hash, word) {
+        let shard = &self.shards[shard_of(hash, self.shards.len())];
+        let half = half_of(hash);
+        let mask = shard.mask();
+        if let Some(symbol) = shard.find(half, &self.texts, word) {
             return Ok(symbol);
         }
-        if count >= MOST_TEXTS {
+        if self.len() >= MOST_TEXTS {
             return Err(InternFault::Full);
         }
         let text = text_to_keep(rt, self.alloc, word, whole)?;
-        let shard = &self.shards[shard_of(hash, self.shards.len())];
         let mut used = shard.used.lock(rt);
-        if self.len() != count {
-            if let Some(symbol) = shard.find(half_of(hash), &self.texts, word) {
+        shard.make_room(self.alloc, &mut used)?;
+        let place = shard.place_for(half, mask);
+        if place.is_none() {
+            if let Some(symbol) = shard.find(half, &self.texts, word) {
                 return Ok(symbol);
             }
         }
-        self.add(rt, shard, &mut used, hash, text)
-    }
-
-    /// Adds a text, with the next number, to the list and to the table of its shard.
-    fn add(
-        &self,
-        rt: &impl Wait,
-        shard: &Shard,
-        used: &mut usize,
-        hash: u64,
-        text: ArcStr,
-    ) -> Result<SharedSymbol, InternFault>
-        ensures of { IfOk result (λ symbol. IsSymbolOf self.now symbol) }
-        ensures text { IfOk result (λ symbol. symbol.text ≡ text) }
-        ensures never_too_long { ¬ (IsErrOf result InternFault.Length) }
-    {
-        shard.make_room(self.alloc, used)?;
         let symbol = self.texts.push(rt, text)?;
-        let number = (symbol.bits / 256) as u32;
-        shard.put(used, half_of(hash), number);
-        self.texts.count_one();
+        shard.put(&mut used, half, (symbol.bits / 256) as u32, place);
         Ok(symbol)
     }
 }

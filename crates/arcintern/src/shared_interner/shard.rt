@@ -19,6 +19,9 @@ const PIECES: usize = 30;
 /// the last slot of any table.
 const MOVED: u64 = NUMBERS * (NUMBERS - 1);
 
+/// What no slot has as its half of a hash.
+const NO_HALF: u64 = NUMBERS;
+
 /// The words whose hashes pick this shard: a table of slots, which hold the same as those of
 /// `Slots`. A search that passes the last slot goes on at the first.
 ///
@@ -280,33 +283,61 @@ impl Shard {
         None
     }
 
-    /// Puts a number into the table, under half of a hash.
-    pub(crate) fn put(&self, used: &mut usize, half: u32, number: u32)
+    /// Returns the number of all slots less 1, or 0 where there is none.
+    pub(crate) fn mask(&self) -> usize {
+        self.mask.load(Ordering::Acquire)
+    }
+
+    /// Returns where a number under this half of a hash is to be put. Returns `None` if the table
+    /// has grown since it had this mask, or if a number under the half was put into it since then.
+    pub(crate) fn place_for(&self, half: u32, mask: usize) -> Option<&AtomicU64> {
+        if self.mask() == mask {
+            self.free_place(half as usize & mask, mask, half as u64)
+        } else {
+            None
+        }
+    }
+
+    /// Puts a number into the table, under half of a hash: at this place, which `place_for` gave,
+    /// or at the first one.
+    pub(crate) fn put(&self, used: &mut usize, half: u32, number: u32, place: Option<&AtomicU64>)
         requires { number + 1 < NUMBERS }
     {
         let slot = half as u64 * NUMBERS + number as u64 + 1;
-        let was_empty = self.place(slot, self.mask.load(Ordering::Acquire));
+        let was_empty = match place {
+            Some(place) => write(place, slot),
+            None => self.place(slot, self.mask()),
+        };
         *used = used.saturating_add(was_empty as usize);
     }
 
     /// Writes a slot to the first place at which a search comes to no number. Returns whether that
     /// was empty.
     fn place(&self, slot: u64, mask: usize) -> bool {
-        let mut index = home(slot, mask);
+        match self.free_place(home(slot, mask), mask, NO_HALF) {
+            Some(place) => write(place, slot),
+            None => false,
+        }
+    }
+
+    /// Returns the first place at which a search from this index comes to no number, unless it
+    /// passes a number under this half of a hash.
+    fn free_place(&self, from: usize, mask: usize, half: u64) -> Option<&AtomicU64> {
+        let mut index = from;
         for _ in 0..=PIECES {
-            let Some(slots) = self.slots_from(index) else {
-                break;
-            };
+            let slots = self.slots_from(index)?;
             for place in slots {
-                let there = place.load(Ordering::Acquire);
-                if !has_number(there) {
-                    place.store(slot, Ordering::Release);
-                    return there == 0;
+                let slot = place.load(Ordering::Acquire);
+                if !has_number(slot) {
+                    return Some(place);
+                }
+                if slot >> 32 == half {
+                    return None;
                 }
             }
             index = index.wrapping_add(slots.len()) & mask;
         }
-        false
+        None
     }
 }
 
@@ -355,6 +386,13 @@ fn first_of(slots: &[AtomicU64], from: usize, half: u32) -> u64 {
         offset = offset.saturating_add(2);
     }
     MOVED
+}
+
+/// Writes a slot to a place. Returns whether that was empty.
+fn write(place: &AtomicU64, slot: u64) -> bool {
+    let was_empty = place.load(Ordering::Acquire) == 0;
+    place.store(slot, Ordering::Release);
+    was_empty
 }
 
 /// Returns the number in a slot, which is no text's where the slot is empty or `MOVED`.

@@ -26,8 +26,10 @@ pub(crate) struct TextList {
     rows: Vec<WriteOnce<Row>>,
     /// Whoever makes a row holds it.
     making: Mutex<()>,
-    /// How many texts were added. All numbers below it are taken.
-    count: AtomicUsize,
+    /// Keeps what a search reads out of the line of memory that each new text changes.
+    apart: [u64; 8],
+    /// All numbers below it are taken: by a text, or by a thread that is writing one there.
+    next: AtomicUsize,
 }
 
 impl Model for TextList {
@@ -104,7 +106,8 @@ impl TextList {
         let list = TextList {
             rows: empty_places(alloc, ROWS, || Vec::new(alloc))?,
             making: Mutex::new(()),
-            count: AtomicUsize::new(0),
+            apart: [0; 8],
+            next: AtomicUsize::new(0),
         };
         if let Some(last) = texts.min(MOST_TEXTS).checked_sub(1) {
             for row in 0..=locate(last).0 {
@@ -151,21 +154,25 @@ impl TextList {
         }
     }
 
-    /// Writes a text to the place of the lowest number that is not taken. A call of `count_one` has
-    /// to follow.
+    /// Takes the next number, and writes a text to its place. Nothing can fail once the number is
+    /// taken, so none is left out.
     pub(crate) fn push(&self, rt: &impl Wait, text: ArcStr) -> Result<SharedSymbol, InternFault>
         ensures of { IfOk result (λ symbol. IsSymbolOf self.now symbol) }
         ensures text { IfOk result (λ symbol. symbol.text ≡ text) }
         ensures never_too_long { ¬ (IsErrOf result InternFault.Length) }
     {
         let mut text = text;
-        let mut number = self.count.load(Ordering::Acquire);
+        let mut number = self.len();
         while number < MOST_TEXTS {
             let (row, place) = locate(number);
             let made = self.row(rt, row)?;
             let Some(empty) = self.rows[row].value(&made).get(place) else {
                 return Err(InternFault::Memory);
             };
+            if let Err(next) = self.take(number) {
+                number = next.max(number + 1);
+                continue;
+            }
             match empty.write(text) {
                 Ok(text) => {
                     return Ok(SharedSymbol {
@@ -181,14 +188,17 @@ impl TextList {
         Err(InternFault::Full)
     }
 
-    /// Counts one more text. Its slot is written by now: `find_or_add` needs that.
-    pub(crate) fn count_one(&self) {
-        self.count.fetch_add(1, Ordering::AcqRel);
+    /// Takes this number if it is the next one, and else returns that.
+    fn take(&self, number: usize) -> Result<usize, usize>
+        requires { number < MOST_TEXTS }
+    {
+        let (taken, next) = (Ordering::AcqRel, Ordering::Acquire);
+        self.next.compare_exchange(number, number + 1, taken, next)
     }
 
-    /// Returns how many texts were added.
+    /// Returns how many numbers are taken.
     pub(crate) fn len(&self) -> usize {
-        self.count.load(Ordering::Acquire)
+        self.next.load(Ordering::Acquire)
     }
 
     /// Returns the symbol with this number and its text, if it has one now.
