@@ -366,6 +366,13 @@ class WrongBodies(Folder):
             wrong = [body.name for body in bodies if body.wrong]
             self.assertEqual(wrong, [name for name in limits if limits[name] == 0])
 
+    def test_a_body_that_is_not_tried_is_missed(self) -> None:
+        for tried, faults in ((2, []), (1, ["1 of 2 wrong bodies were tried"])):
+            stubs = {"Progress": mock.MagicMock(), "planted_faults": lambda *_: []}
+            stubs["try_share"] = lambda *_: tried
+            with mock.patch.multiple(wrong_bodies, **stubs):
+                self.assertEqual(wrong_bodies.try_all({"pair": [..., ...]}), (tried, faults))
+
     def test_planted_bodies_have_to_get_their_verdicts(self) -> None:
         """A prover that rejects all, and one that rejects nothing, are seen."""
         [body], _ = edits.parse(self.path, BODY)

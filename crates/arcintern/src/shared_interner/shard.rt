@@ -289,7 +289,7 @@ impl Shard {
     }
 
     /// Returns where a number under this half of a hash is to be put. Returns `None` if the table
-    /// has grown since it had this mask, or if a number under the half was put into it since then.
+    /// has grown since it had this mask, or if the way there passes a number under the half.
     pub(crate) fn place_for(&self, half: u32, mask: usize) -> Option<&AtomicU64> {
         if self.mask() == mask {
             self.free_place(half as usize & mask, mask, half as u64)
