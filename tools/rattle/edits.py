@@ -368,6 +368,17 @@ def plant(edits: Iterable[WrongBody], room: Path) -> None:
         (room / file).write_text(text[:start] + new.replace("} pub fn ", "}\npub fn ") + text[end:])
 
 
+def leave_out_main(edits: Iterable[WrongBody], room: Path) -> None:
+    """Makes a library of a program in a folder, if none of these edits changes its `main`. Of a
+    program the prover reads the code of all libraries below it first, which takes it a minute."""
+    root = room / "src/main.rt"
+    if not root.is_file() or any(key.name == "main" for edit in edits for key in edit.planted):
+        return
+    text = root.read_text()
+    [main] = [it for it in functions_in(root, text) if it.owner is None and it.name == "main"]
+    root.write_text(text[: main.start] + text[main.end + 1 :])
+
+
 def wrong_bodies_of(crate: Path) -> tuple[list[WrongBody], list[str]]:
     """The wrong bodies of a crate's folder, with what each changes, and what is wrong in their
     files."""

@@ -198,6 +198,18 @@ class Edits(Folder):
         self.assertTrue((self.crate / "proofs/two_another/Proof.antt").is_file())
         self.assertEqual({edits.path_of(key) for key in bodies[1].planted}, {"two_another"})
 
+    def test_a_program_is_checked_without_its_main(self) -> None:
+        main = "/// Prints.\nfn main(rt: HostRuntime) {\n    two();\n}\n"
+        of_main = BODY.replace("one + one", "two();").replace(": one", ": two(); two();")
+        for text, is_left in ((BODY, False), (of_main, True)):
+            self.write("src/main.rt", SOURCE + main)
+            [body], _ = edits.parse(self.path, f"file: src/main.rt\n{text}")
+            edits.plant([edits.read_edit(body)], self.crate)
+            edits.leave_out_main([body], self.crate)
+            left = (self.crate / "src/main.rt").read_text()
+            self.assertEqual("fn main" in left, is_left)
+            self.assertIn("fn two", left)
+
     def test_the_folders_of_proofs(self) -> None:
         """A method of a type stands with the type, and one of a trait with its implementation."""
         self.write("src/types.rt", "pub(crate) struct A {}\npub struct Ab {}\n")
@@ -325,7 +337,7 @@ class WrongBodies(Folder):
 
     def test_parts(self) -> None:
         """No edit is lost, and no check tries many."""
-        for number, sizes in ((1, [1]), (100, [100]), (101, [51, 50]), (283, [95, 94, 94])):
+        for number, sizes in ((1, [1]), (140, [140]), (141, [71, 70]), (283, [95, 94, 94])):
             batch = [*range(number)]
             parts = wrong_bodies.parts_of_batch(batch)
             self.assertEqual([*map(len, parts)], sizes)

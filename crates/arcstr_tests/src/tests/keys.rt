@@ -7,6 +7,7 @@ use indexmap::{IndexMap, IndexSet};
 use std::alloc::AllocGlobal;
 use std::collections::{BTreeMap, BTreeSet, HashMap, HashSet};
 use std::process::Abort;
+use std::sync::Wait;
 
 /// Inserts the key. Aborts if out of memory.
 fn insert(rt: &impl Abort, map: &mut HashMap<ArcStr, u8>, key: ArcStr, value: u8) {
@@ -135,64 +136,106 @@ fn an_index_set_of_slices_is_read_by_a_str(rt: HostRuntime) {
 }
 
 #[test]
-fn maps_of_texts_are_read_by_a_slice(rt: HostRuntime) {
+fn a_hash_map_of_texts_is_read_by_a_slice(rt: HostRuntime) {
     let (slice, foo) = (&part(&rt, &made(&rt, "é foo"), 3..), &made(&rt, "foo"));
     let map = map_of(&rt, foo.clone(&rt));
     check_eq!(rt; map.get(slice), Some(&2));
     check_eq!(rt; map.get(&part(&rt, slice.parent(), ..)), None);
+    check_count(&rt, slice.parent(), Some(1));
+    check_count(&rt, foo, Some(2));
+}
+
+#[test]
+fn an_index_map_of_texts_is_read_by_a_slice(rt: HostRuntime) {
+    let (slice, foo) = (&part(&rt, &made(&rt, "é foo"), 3..), &made(&rt, "foo"));
     let map = index_map_of(&rt, foo.clone(&rt));
     check_eq!(rt; map.get_index_of(slice), Some(0));
     check_eq!(rt; map.get(&part(&rt, slice.parent(), ..)), None);
     check_count(&rt, slice.parent(), Some(1));
-    check_count(&rt, foo, Some(3));
+    check_count(&rt, foo, Some(2));
+}
+
+/// Returns a set of these texts.
+fn sorted_set_of(rt: &(impl Abort + AllocGlobal + Wait), texts: [&ArcStr; 3]) -> BTreeSet<ArcStr> {
+    let mut set = BTreeSet::new(rt.alloc());
+    for text in texts {
+        set.insert(text.clone(rt)).expect(rt, "no memory");
+    }
+    set
+}
+
+/// Asserts what a set of `a`, `b` and `é` answers to the slices of `abéc`, of which it loses `é`.
+fn check_sorted_set(rt: &(impl Abort + Wait), set: &mut BTreeSet<ArcStr>, text: &ArcStr) {
+    check!(rt; set.contains(&part(rt, text, 1..2)));
+    check!(rt; set.remove(&part(rt, text, 2..4)));
+    check!(rt; !set.contains(&part(rt, text, 4..)));
+    check_eq!(rt; set.len(), 2);
+}
+
+/// Asserts how many handles three texts have.
+fn check_counts(rt: &impl Abort, texts: [&ArcStr; 3], wanted: [usize; 3]) {
+    for (text, count) in texts.into_iter().zip(wanted) {
+        check_count(rt, text, Some(count));
+    }
 }
 
 #[test]
 fn a_sorted_set_of_texts_is_read_by_a_slice(rt: HostRuntime) {
-    let mut set = BTreeSet::new(rt.alloc());
     let keys = [&made(&rt, "a"), &made(&rt, "b"), &made(&rt, "é")];
-    for key in keys {
-        set.insert(key.clone(&rt)).expect(&rt, "no memory");
-    }
+    let mut set = sorted_set_of(&rt, keys);
     let text = &made(&rt, "abéc");
-    check!(rt; set.contains(&part(&rt, text, 1..2)));
-    check!(rt; set.remove(&part(&rt, text, 2..4)));
-    check!(rt; !set.contains(&part(&rt, text, 4..)));
-    check_eq!(rt; set.len(), 2);
-    for (key, count) in keys.into_iter().zip([2, 2, 1]) {
-        check_count(&rt, key, Some(count));
-    }
+    check_sorted_set(&rt, &mut set, text);
+    check_counts(&rt, keys, [2, 2, 1]);
     check_count(&rt, text, Some(1));
+}
+
+/// Returns a map whose keys are slices of these whole texts.
+fn sorted_map_of(
+    rt: &(impl Abort + AllocGlobal + Wait),
+    texts: [&ArcStr; 3],
+) -> BTreeMap<Substr, u8> {
+    let mut map = BTreeMap::new(rt.alloc());
+    for (text, value) in texts.into_iter().zip([0, 1, 2]) {
+        insert_sorted(rt, &mut map, Substr::full(text.clone(rt)), value);
+    }
+    map
+}
+
+/// Asserts what a map of `b`, `é` and `a` answers to the text `a`. It loses `é`.
+fn check_sorted_map(rt: &impl Abort, map: &mut BTreeMap<Substr, u8>, name: &ArcStr) {
+    check_eq!(rt; map.get(name), Some(&2));
+    check_eq!(rt; map.get(&literal!("")), None);
+    check_eq!(rt; map.remove(&literal!("é")), Some(1));
 }
 
 #[test]
 fn a_sorted_map_of_slices_is_read_by_a_text(rt: HostRuntime) {
-    let mut map = BTreeMap::new(rt.alloc());
     let keys = [&made(&rt, "b"), &made(&rt, "é"), &made(&rt, "a")];
-    for (key, value) in keys.into_iter().zip([0, 1, 2]) {
-        insert_sorted(&rt, &mut map, Substr::full(key.clone(&rt)), value);
-    }
+    let mut map = sorted_map_of(&rt, keys);
     let name = &made(&rt, "a");
-    check_eq!(rt; map.get(name), Some(&2));
-    check_eq!(rt; map.get(&literal!("")), None);
-    check_eq!(rt; map.remove(&literal!("é")), Some(1));
-    for (key, count) in keys.into_iter().zip([2, 1, 2]) {
-        check_count(&rt, key, Some(count));
-    }
+    check_sorted_map(&rt, &mut map, name);
+    check_counts(&rt, keys, [2, 1, 2]);
     check_count(&rt, name, Some(1));
 }
 
 #[test]
-fn sets_of_slices_are_read_by_a_text(rt: HostRuntime) {
+fn a_hash_set_of_slices_is_read_by_a_text(rt: HostRuntime) {
     let (text, foo) = (&made(&rt, "é foo"), &made(&rt, "foo"));
     let mut set = HashSet::new(rt.alloc());
     set.insert(part(&rt, text, 3..)).expect(&rt, "no memory");
     check!(rt; set.contains(foo));
     check!(rt; !set.contains(text));
+    check_count(&rt, foo, Some(1));
+    check_count(&rt, text, Some(2));
+}
+
+#[test]
+fn an_index_set_of_slices_is_read_by_a_text(rt: HostRuntime) {
+    let (text, foo) = (&made(&rt, "é foo"), &made(&rt, "foo"));
     let mut set: IndexSet<Substr> = IndexSet::new(rt.alloc());
     set.insert(part(&rt, text, 3..)).expect(&rt, "no memory");
     check_eq!(rt; set.get_index_of(foo), Some(0));
     check!(rt; !set.contains(text));
     check_count(&rt, foo, Some(1));
-    check_count(&rt, text, Some(3));
+    check_count(&rt, text, Some(2));
 }

@@ -7,6 +7,7 @@ use serde_json::Value;
 use std::alloc::AllocGlobal;
 use std::collections::{BTreeMap, HashMap};
 use std::process::Abort;
+use std::sync::Wait;
 
 /// The length of the long text.
 const LONG: usize = 20_000_000;
@@ -135,17 +136,25 @@ fn a_long_slice_is_sliced(rt: HostRuntime) {
     check_ends(&rt, slice.substr_strip_suffix(&rt, '\n'), 0, LONG - 1);
 }
 
+fn check_hashed(rt: &(impl Abort + AllocGlobal + Wait), key: &ArcStr, slice: &Substr) {
+    let mut map = HashMap::new(rt.alloc());
+    let stored: Result<_, _> = map.insert(key.clone(rt), 1u8);
+    check!(rt; stored.is_ok());
+    check_eq!(rt; map.get(slice), Some(&1));
+}
+
+fn check_sorted(rt: &(impl Abort + AllocGlobal + Wait), key: &Substr, text: &ArcStr) {
+    let mut map = BTreeMap::new(rt.alloc());
+    let stored: Result<_, _> = map.insert(key.clone(rt), 2u8);
+    check!(rt; stored.is_ok());
+    check_eq!(rt; map.get(text), Some(&2));
+}
+
 #[test]
 fn a_long_text_is_compared_and_looked_up(rt: HostRuntime) {
     let text = &long_text(&rt);
     let (copy, slice) = (&made(&rt, text.as_str()), &part(&rt, text, ..));
     check!(rt; text == copy && *slice > part(&rt, copy, ..LAST));
-    let mut map = HashMap::new(rt.alloc());
-    let stored: Result<_, _> = map.insert(copy.clone(&rt), 1u8);
-    check!(rt; stored.is_ok());
-    check_eq!(rt; map.get(slice), Some(&1));
-    let mut map = BTreeMap::new(rt.alloc());
-    let stored: Result<_, _> = map.insert(slice.clone(&rt), 2u8);
-    check!(rt; stored.is_ok());
-    check_eq!(rt; map.get(copy), Some(&2));
+    check_hashed(&rt, copy, slice);
+    check_sorted(&rt, slice, copy);
 }

@@ -10,8 +10,10 @@ use std::sync::Wait;
 /// taken from.
 type Wanted = &'static [(&'static str, usize)];
 
-/// Texts, their parts between commas, their lines and their words.
-const LISTS: [(&str, Wanted, Wanted, Wanted); 5] = [
+/// A text, its parts between commas, its lines and its words.
+type Lists = (&'static str, Wanted, Wanted, Wanted);
+
+const LISTS: &[Lists] = &[
     (",", &[("", 0), ("", 1)], &[(",", 0)], &[(",", 0)]),
     ("\n", &[("\n", 0)], &[("", 0)], &[]),
     (
@@ -55,26 +57,16 @@ fn check_list(
     check_count(rt, parent, Some(1));
 }
 
-fn check_lists_of_text(
-    rt: &(impl Abort + AllocGlobal + Wait),
-    text: &ArcStr,
-    parts: Wanted,
-    lines: Wanted,
-    words: Wanted,
-) {
+fn check_lists_of_text(rt: &(impl Abort + AllocGlobal + Wait), text: &ArcStr, row: &Lists) {
+    let (_, parts, lines, words) = *row;
     let alloc = rt.alloc();
     check_list(rt, text, 0, text.substr_split(rt, alloc, ','), parts);
     check_list(rt, text, 0, text.substr_lines(rt, alloc), lines);
     check_list(rt, text, 0, text.substr_split_whitespace(rt, alloc), words);
 }
 
-fn check_lists_of_slice(
-    rt: &(impl Abort + AllocGlobal + Wait),
-    slice: &Substr,
-    parts: Wanted,
-    lines: Wanted,
-    words: Wanted,
-) {
+fn check_lists_of_slice(rt: &(impl Abort + AllocGlobal + Wait), slice: &Substr, row: &Lists) {
+    let (_, parts, lines, words) = *row;
     let (alloc, parent) = (rt.alloc(), slice.parent());
     let start = slice.range().start;
     check_list(rt, parent, start, slice.substr_split(rt, alloc, ','), parts);
@@ -85,14 +77,16 @@ fn check_lists_of_slice(
 
 #[test]
 fn texts_are_listed_as_str_lists_them(rt: HostRuntime) {
-    for (text, parts, lines, words) in LISTS {
-        check_lists_of_text(&rt, &made(&rt, text), parts, lines, words);
-        check_lists_of_slice(&rt, &middle(&rt, text), parts, lines, words);
+    for row in LISTS {
+        check_lists_of_text(&rt, &made(&rt, row.0), row);
+        check_lists_of_slice(&rt, &middle(&rt, row.0), row);
     }
 }
 
-/// Texts, separators of several bytes or of none, and the parts between them.
-const SPLITS: [(&str, &str, Wanted); 7] = [
+/// A text, a separator of several bytes or of none, and the parts between them.
+type Split = (&'static str, &'static str, Wanted);
+
+const SPLITS: &[Split] = &[
     ("a, b,c", ", ", &[("a", 0), ("b,c", 3)]),
     ("a\n\nb\n\n", "\n\n", &[("a", 0), ("b", 3), ("", 6)]),
     ("::", "::", &[("", 0), ("", 2)]),
@@ -110,17 +104,31 @@ fn check_split_of_str(rt: &impl Abort, text: &str, separator: &str, parts: Wante
     }
 }
 
+fn check_split_of_text(rt: &(impl Abort + AllocGlobal + Wait), row: &Split) {
+    let (text, separator, parts) = *row;
+    let own = &made(rt, text);
+    check_list(
+        rt,
+        own,
+        0,
+        own.substr_split(rt, rt.alloc(), separator),
+        parts,
+    );
+}
+
+fn check_split_of_slice(rt: &(impl Abort + AllocGlobal + Wait), row: &Split) {
+    let (text, separator, parts) = *row;
+    let slice = &middle(rt, text);
+    let list = slice.substr_split(rt, rt.alloc(), separator);
+    check_list(rt, slice.parent(), slice.range().start, list, parts);
+}
+
 #[test]
 fn texts_are_split_at_a_text_as_str_splits_them(rt: HostRuntime) {
-    let alloc = rt.alloc();
-    for (text, separator, parts) in SPLITS {
-        check_split_of_str(&rt, text, separator, parts);
-        let own = made(&rt, text);
-        check_list(&rt, &own, 0, own.substr_split(&rt, alloc, separator), parts);
-        let slice = middle(&rt, text);
-        let (parent, start) = (slice.parent(), slice.range().start);
-        let list = slice.substr_split(&rt, alloc, separator);
-        check_list(&rt, parent, start, list, parts);
+    for row in SPLITS {
+        check_split_of_str(&rt, row.0, row.1, row.2);
+        check_split_of_text(&rt, row);
+        check_split_of_slice(&rt, row);
     }
 }
 

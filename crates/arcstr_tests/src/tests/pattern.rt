@@ -20,6 +20,12 @@ fn a_text_is_searched_for_a_text(rt: HostRuntime) {
     check_eq!(rt; text.rfind(dash), Some(4));
     check!(rt; !text.starts_with(dash));
     check!(rt; !text.ends_with(dash));
+    check_count(&rt, dash, Some(1));
+}
+
+#[test]
+fn a_text_is_split_and_stripped_by_a_text(rt: HostRuntime) {
+    let (text, dash) = (&made(&rt, "a-é-b"), &made(&rt, "-"));
     check_part(&rt, text.split(dash).nth(1), Some("é"));
     check_part(&rt, text.strip_prefix(&literal!("a-")), Some("é-b"));
     check_part(&rt, text.strip_suffix(&literal!("-b")), Some("a-é"));

@@ -300,26 +300,35 @@ fn views_in_a_loop_become_slices(rt: HostRuntime) {
     }
 }
 
+/// Returns the slice from the start of one to the end of another. Without a contract, a test that
+/// calls it some times is proved faster.
+fn reach(rt: &(impl Abort + Wait), first: &Substr, last: &Substr) -> Substr {
+    first.substr_to(rt, last).expect(rt, "no slice")
+}
+
+fn reaches(rt: &impl Wait, first: &Substr, last: &Substr) -> bool {
+    first.substr_to(rt, last).is_some()
+}
+
 #[test]
 fn a_slice_reaches_to_the_end_of_another(rt: HostRuntime) {
     let text = made(&rt, "f(a, é);");
     let (name, last) = (part(&rt, &text, ..1), part(&rt, &text, 5..8));
-    let call = name.substr_to(&rt, &last).expect(&rt, "no slice");
-    check_eq!(rt; (call.as_str(), call.range()), ("f(a, é)", 0..8));
-    let own = last.substr_to(&rt, &last).expect(&rt, "no slice");
-    check_eq!(rt; own.range(), 5..8);
+    let call = reach(&rt, &name, &last);
+    check_slice(&rt, &call, "f(a, é)", 0..8);
+    let own = reach(&rt, &last, &last);
+    check_slice(&rt, &own, "é)", 5..8);
     check_count(&rt, &text, Some(5));
-    check!(rt; last.substr_to(&rt, &name).is_none());
-    let empty = part(&rt, &text, 5..5);
-    let nothing = last.substr_to(&rt, &empty).expect(&rt, "no slice");
-    check_eq!(rt; nothing.range(), 5..5);
+    check!(rt; !reaches(&rt, &last, &name));
+    let nothing = reach(&rt, &last, &part(&rt, &text, 5..5));
+    check_slice(&rt, &nothing, "", 5..5);
 }
 
 #[test]
 fn the_end_of_a_slice_of_another_text_is_tested(rt: HostRuntime) {
     let (text, other) = (made(&rt, "é"), made(&rt, "abc"));
     let own = part(&rt, &text, ..0);
-    check!(rt; own.substr_to(&rt, &part(&rt, &other, ..1)).is_none());
-    check!(rt; own.substr_to(&rt, &part(&rt, &other, 1..3)).is_none());
+    check!(rt; !reaches(&rt, &own, &part(&rt, &other, ..1)));
+    check!(rt; !reaches(&rt, &own, &part(&rt, &other, 1..3)));
     check_count(&rt, &text, Some(2));
 }

@@ -3,6 +3,7 @@
 use crate::tests::checks::check_eq;
 use crate::tests::steps::{check_count, made, middle};
 use arcstr::{ArcStr, RangeFault, Substr};
+use std::alloc::AllocGlobal;
 use std::process::Abort;
 use std::sync::Wait;
 
@@ -10,7 +11,9 @@ use std::sync::Wait;
 type Pair = Option<(&'static str, &'static str, usize)>;
 
 /// A text, a separator, and the results of `split_once` and `rsplit_once`.
-const SPLIT_ONCE: [(&str, &str, Pair, Pair); 11] = [
+type SplitOnce = (&'static str, &'static str, Pair, Pair);
+
+const SPLIT_ONCE: &[SplitOnce] = &[
     ("cfg", "=", None, None),
     ("cfg=", "=", Some(("cfg", "", 4)), Some(("cfg", "", 4))),
     (
@@ -90,11 +93,16 @@ fn check_split_slice(
     check_pair(rt, slice.parent(), start, parts, last);
 }
 
+fn check_split(rt: &(impl Abort + AllocGlobal + Wait), row: &SplitOnce) {
+    let (text, separator, first, last) = *row;
+    check_split_text(rt, &made(rt, text), separator, first, last);
+    check_split_slice(rt, &middle(rt, text), separator, first, last);
+}
+
 #[test]
 fn texts_are_split_as_str_is(rt: HostRuntime) {
-    for (text, separator, first, last) in SPLIT_ONCE {
-        check_split_text(&rt, &made(&rt, text), separator, first, last);
-        check_split_slice(&rt, &middle(&rt, text), separator, first, last);
+    for row in SPLIT_ONCE {
+        check_split(&rt, row);
     }
 }
 
@@ -112,8 +120,10 @@ fn texts_are_split_at_a_character(rt: HostRuntime) {
     check_pair(&rt, parent, 6, slice.substr_split_once(&rt, '='), None);
 }
 
-/// Byte offsets in `Löf`, and the result of `split_at`.
-const SPLIT_AT: [(usize, Result<(&str, &str), RangeFault>); 5] = [
+/// A byte offset in `Löf`, and the result of `split_at`.
+type SplitAt = (usize, Result<(&'static str, &'static str), RangeFault>);
+
+const SPLIT_AT: &[SplitAt] = &[
     (0, Ok(("", "Löf"))),
     (1, Ok(("L", "öf"))),
     (2, Err(RangeFault::OffBoundary)),
@@ -127,7 +137,7 @@ fn check_split_at(
     parent: &ArcStr,
     start: usize,
     parts: Result<(Substr, Substr), RangeFault>,
-    (place, wanted): (usize, Result<(&'static str, &'static str), RangeFault>),
+    (place, wanted): SplitAt,
 ) {
     check_eq!(rt; parts.as_ref().err().copied(), wanted.err());
     let wanted = wanted.ok().map(|wanted| (wanted.0, wanted.1, place));
@@ -139,15 +149,26 @@ fn texts_are_split_at_a_place_as_str_is(rt: HostRuntime) {
     let text = made(&rt, "Löf");
     let slice = middle(&rt, "Löf");
     for row in SPLIT_AT {
-        let parts = text.substr_split_at(&rt, row.0);
-        check_split_at(&rt, &text, 0, parts, row);
-        let parts = slice.substr_split_at(&rt, row.0);
-        check_split_at(&rt, slice.parent(), 4, parts, row);
+        check_split_at(&rt, &text, 0, text.substr_split_at(&rt, row.0), *row);
+        check_split_at(
+            &rt,
+            slice.parent(),
+            4,
+            slice.substr_split_at(&rt, row.0),
+            *row,
+        );
     }
 }
 
 /// A text, a prefix or suffix, and the results of `strip_prefix` and `strip_suffix`.
-const STRIP: [(&str, &str, Option<&str>, Option<&str>); 8] = [
+type Strip = (
+    &'static str,
+    &'static str,
+    Option<&'static str>,
+    Option<&'static str>,
+);
+
+const STRIP: &[Strip] = &[
     ("foo:bar", "foo:", Some("bar"), None),
     ("foo:bar", "bar", None, Some("foo:")),
     ("foofoo", "foo", Some("foo"), Some("foo")),
@@ -176,27 +197,51 @@ fn check_rest(
     check_count(rt, parent, Some(1));
 }
 
+fn check_stripped_text(rt: &(impl Abort + AllocGlobal + Wait), row: &Strip) {
+    let (text, affix, after, before) = *row;
+    let text = &made(rt, text);
+    check_rest(
+        rt,
+        text,
+        affix.len(),
+        text.substr_strip_prefix(rt, affix),
+        after,
+    );
+    check_rest(rt, text, 0, text.substr_strip_suffix(rt, affix), before);
+}
+
+fn check_stripped_slice(rt: &(impl Abort + AllocGlobal + Wait), row: &Strip) {
+    let (text, affix, after, before) = *row;
+    let slice = &middle(rt, text);
+    let start = slice.range().start;
+    let rest = slice.substr_strip_prefix(rt, affix);
+    check_rest(
+        rt,
+        slice.parent(),
+        start.saturating_add(affix.len()),
+        rest,
+        after,
+    );
+    check_rest(
+        rt,
+        slice.parent(),
+        start,
+        slice.substr_strip_suffix(rt, affix),
+        before,
+    );
+}
+
 #[test]
 fn texts_are_stripped_as_str_is(rt: HostRuntime) {
-    for (text, affix, after, before) in STRIP {
-        let text = &made(&rt, text);
-        let rest = text.substr_strip_prefix(&rt, affix);
-        check_rest(&rt, text, affix.len(), rest, after);
-        let rest = text.substr_strip_suffix(&rt, affix);
-        check_rest(&rt, text, 0, rest, before);
+    for row in STRIP {
+        check_stripped_text(&rt, row);
     }
 }
 
 #[test]
 fn slices_are_stripped_as_str_is(rt: HostRuntime) {
-    for (text, affix, after, before) in STRIP {
-        let slice = &middle(&rt, text);
-        let start = slice.range().start;
-        let rest = slice.substr_strip_prefix(&rt, affix);
-        let after_affix = start.saturating_add(affix.len());
-        check_rest(&rt, slice.parent(), after_affix, rest, after);
-        let rest = slice.substr_strip_suffix(&rt, affix);
-        check_rest(&rt, slice.parent(), start, rest, before);
+    for row in STRIP {
+        check_stripped_slice(&rt, row);
     }
 }
 

@@ -6,7 +6,15 @@ use std::sync::Wait;
 
 /// A text, the results of `trim`, `trim_start` and `trim_end`, and where the first two start. Most
 /// are examples in Rust's documentation of `str`.
-const TRIM: [(&str, &str, &str, &str, usize); 5] = [
+type Trim = (
+    &'static str,
+    &'static str,
+    &'static str,
+    &'static str,
+    usize,
+);
+
+const TRIM: &[Trim] = &[
     (
         "\n Hello\tworld\t\n",
         "Hello\tworld",
@@ -26,16 +34,16 @@ fn check_trimmed(rt: &impl Abort, slice: &Substr, text: &str, start: usize) {
     check_count(rt, slice.parent(), Some(2));
 }
 
-fn check_text(rt: &(impl Abort + Wait), text: &ArcStr, row: (&str, &str, &str, usize)) {
-    let (both, start, end, place) = row;
+fn check_text(rt: &(impl Abort + Wait), text: &ArcStr, row: &Trim) {
+    let (_, both, start, end, place) = *row;
     check_trimmed(rt, &text.substr_trim(rt), both, place);
     check_trimmed(rt, &text.substr_trim_start(rt), start, place);
     check_trimmed(rt, &text.substr_trim_end(rt), end, 0);
     check_count(rt, text, Some(1));
 }
 
-fn check_slice_of(rt: &(impl Abort + Wait), slice: &Substr, row: (&str, &str, &str, usize)) {
-    let (both, start, end, place) = row;
+fn check_slice_of(rt: &(impl Abort + Wait), slice: &Substr, row: &Trim) {
+    let (_, both, start, end, place) = *row;
     let first = slice.range().start;
     let place = first.saturating_add(place);
     check_trimmed(rt, &slice.substr_trim(rt), both, place);
@@ -46,9 +54,8 @@ fn check_slice_of(rt: &(impl Abort + Wait), slice: &Substr, row: (&str, &str, &s
 
 #[test]
 fn texts_are_trimmed_as_str_is(rt: HostRuntime) {
-    for (text, both, start, end, place) in TRIM {
-        let row = (both, start, end, place);
-        check_text(&rt, &made(&rt, text), row);
-        check_slice_of(&rt, &middle(&rt, text), row);
+    for row in TRIM {
+        check_text(&rt, &made(&rt, row.0), row);
+        check_slice_of(&rt, &middle(&rt, row.0), row);
     }
 }
