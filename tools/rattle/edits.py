@@ -21,6 +21,13 @@ from sources import Function, functions, place_of
 KEYS = ("file:", "in:", "old:", "new:", "refused:")
 # The goal of `answer_what_is_not_asked`, which no function has.
 NOT_ASKED = "no_such_goal"
+# The body that `leave_out_bodies` leaves, and its proof.
+NO_BODY = " loop {} "
+HOLE = """use Rattle.{crate}.proofs.{place}.Statement.{{statement}}
+
+pub {name}_spec : {{M : Type 1}} → statement M
+{name}_spec = ?
+"""
 
 
 class Key(NamedTuple):
@@ -318,15 +325,33 @@ def copy_proofs(key: Key, copied: str, room: Path) -> None:
             proof.write_text(proof.read_text().replace(old, new))
 
 
+@cache
+def module_of_type(owner: str, room: Path) -> str | None:
+    """The module in which a type is declared. None if it is not declared in the folder."""
+    type_of = re.compile(rf"^(?:pub(?:\(\w+\))? )?(?:struct|enum) {owner}\b", re.M)
+    files = (file for file in (room / "src").rglob("*.rt") if type_of.search(file.read_text()))
+    return next((module_of(str(file.relative_to(room))) for file in files), None)
+
+
+def head_of(it: Function, text: str) -> str:
+    """A function before its body."""
+    return text[it.start : it.end - 1 - len(it.raw_body)]
+
+
+def is_seen_outside(key: Key, room: Path) -> bool:
+    """Whether other modules see a function."""
+    text = (room / key.file).read_text()
+    found = (it for it in functions_in(room / key.file, text) if key_of(key.file, it) == key)
+    return any(re.search(r"^ *pub\b", head_of(it, text), re.M) for it in found)
+
+
 def folder_of_proofs(key: Key, room: Path) -> Path:
-    """The folder of a function's proofs. A method of a type stands with the type."""
+    """The folder of a function's proofs. A method that other modules see stands with its type."""
     path = path_of(key)
     if key.owner and not key.trait:
         module = module_of(key.file)
-        type_of = rf"^(?:pub(?:\(\w+\))? )?(?:struct|enum) {key.owner}\b"
-        for file in sorted((room / "src").rglob("*.rt")):
-            if re.search(type_of, file.read_text(), re.M):
-                module = module_of(str(file.relative_to(room)))
+        if is_seen_outside(key, room):
+            module = module_of_type(key.owner, room) or module
         path = f"{module}::{path}".removeprefix("::")
     return room.joinpath("proofs", *path.split("::"))
 
@@ -366,6 +391,42 @@ def plant(edits: Iterable[WrongBody], room: Path) -> None:
         text = (room / file).read_text()
         # A function that an edit adds gets a line of its own, and so does the one behind it.
         (room / file).write_text(text[:start] + new.replace("} pub fn ", "}\npub fn ") + text[end:])
+
+
+def is_known_by_its_body(it: Function, head: str, room: Path) -> bool:
+    """Whether more of a function than its contract may be used, or its proof may stand elsewhere: a
+    constant is computed, an `impl` that it returns is a type of its body, a cycle has one proof,
+    and a trait is of all its implementations."""
+    is_of_trait = it.trait or it.lent or it.owner and module_of_type(it.owner, room) is None
+    return bool(is_of_trait or re.search(r"\bconst fn\b|-> impl\b|#\[cycle\b", head))
+
+
+def leave_out_bodies(edits: Iterable[WrongBody], crate: str, room: Path) -> None:
+    """Leaves the functions that no edit changes their contracts alone. Their proof is a hole, so
+    nothing of what they call is read, and what calls them waits for no proof."""
+    planted = {key for edit in edits for key in edit.planted}
+    for path in sorted((room / "src").rglob("*.rt")):
+        file, text = str(path.relative_to(room)), path.read_text()
+        # What a macro writes may stand in any function.
+        found = [] if "macro_rules!" in text else functions_in(path, text)
+        for it in sorted(found, key=lambda it: -it.end):
+            head, key = head_of(it, text), key_of(file, it)
+            is_inner = any(other.start < it.start < other.end for other in found)
+            if key in planted or is_inner or not it.raw_body or it.name == "main":
+                continue
+            if not is_known_by_its_body(it, head, room):
+                leave_out_proof(key, crate, room)
+                text = text[: it.start] + head + NO_BODY + text[it.end - 1 :]
+        path.write_text(text)
+
+
+def leave_out_proof(key: Key, crate: str, room: Path) -> None:
+    folder = folder_of_proofs(key, room)
+    shutil.rmtree(folder, ignore_errors=True)
+    folder.mkdir(parents=True)
+    place = ".".join(folder.relative_to(room / "proofs").parts)
+    hole = HOLE.format(crate=crate, place=place, name=key.name)
+    (folder / "Proof.antt").write_text(hole)
 
 
 def leave_out_main(edits: Iterable[WrongBody], room: Path) -> None:

@@ -210,16 +210,44 @@ class Edits(Folder):
             self.assertEqual("fn main" in left, is_left)
             self.assertIn("fn two", left)
 
+    def test_functions_without_a_mistake_lose_their_bodies(self) -> None:
+        others = (
+            "pub const fn one() -> u8 {\n    1\n}\n",
+            "fn ones() -> impl Iterator<Item = u8> {\n    [1].into_iter()\n}\n",
+            "impl Copy for Pair {\n    fn copy(&self) -> Pair {\n        *self\n    }\n}\n",
+            "trait Sum {\n    fn sum(&self) -> u8 {\n        2\n    }\n}\n",
+        )
+        three = "/// Three.\nfn three() -> u8\n    ensures is { result ≡ 3 }\n{ loop {} }\n"
+        source = f"{SOURCE}{three.replace('loop {}', 'two() + 1')}{''.join(others)}"
+        self.write("src/lib.rt", source)
+        self.write("src/macros.rt", "macro_rules! none { () => {} }\nfn four() {\n    three()\n}\n")
+        self.write("proofs/three/Answers.antt", "returns = refl\n")
+        [body], _ = edits.parse(self.path, BODY)
+        edits.plant([edits.read_edit(body)], self.crate)
+        edits.leave_out_bodies([body], "pair", self.crate)
+        left = (self.crate / "src/lib.rt").read_text()
+        self.assertIn(three, left)
+        self.assertIn("three()", (self.crate / "src/macros.rt").read_text())
+        self.assertTrue(all(other in left for other in others))
+        self.assertIn("fn two() -> u8 {\n    let one = 1;\n    one\n}\n", left)
+        self.assertIn("three_spec = ?", (self.crate / "proofs/three/Proof.antt").read_text())
+        self.assertFalse((self.crate / "proofs/three/Answers.antt").exists())
+
     def test_the_folders_of_proofs(self) -> None:
-        """A method of a type stands with the type, and one of a trait with its implementation."""
+        """A method that other modules see stands with its type, and one of a trait with its
+        implementation."""
         self.write("src/types.rt", "pub(crate) struct A {}\npub struct Ab {}\n")
-        for owner, trait, folder in (
-            (None, None, "proofs/more/f"),
-            ("A", None, "proofs/types/A/f"),
-            ("A", "fmt::Display", "proofs/more/ADisplay/f"),
-            ("B", None, "proofs/more/B/f"),
+        method = "impl A {{\n    /// One.\n    {}fn {}() {{\n        1\n    }}\n}}\n"
+        seen, hidden = method.format("pub(crate) ", "f"), method.format("", "g")
+        self.write("src/more.rt", seen + hidden)
+        for owner, trait, name, folder in (
+            (None, None, "f", "proofs/more/f"),
+            ("A", None, "f", "proofs/types/A/f"),
+            ("A", None, "g", "proofs/more/A/g"),
+            ("A", "fmt::Display", "f", "proofs/more/ADisplay/f"),
+            ("B", None, "f", "proofs/more/B/f"),
         ):
-            key = edits.Key("src/more.rt", owner, trait, "f")
+            key = edits.Key("src/more.rt", owner, trait, name)
             self.assertEqual(edits.folder_of_proofs(key, self.crate), self.crate / folder)
 
     def test_an_answer_is_added_to_those_that_are_there(self) -> None:
