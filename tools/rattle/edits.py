@@ -338,22 +338,16 @@ def head_of(it: Function, text: str) -> str:
     return text[it.start : it.end - 1 - len(it.raw_body)]
 
 
-def is_seen_outside(key: Key, room: Path) -> bool:
-    """Whether other modules see a function."""
-    text = (room / key.file).read_text()
-    found = (it for it in functions_in(room / key.file, text) if key_of(key.file, it) == key)
-    return any(re.search(r"^ *pub\b", head_of(it, text), re.M) for it in found)
-
-
 def folder_of_proofs(key: Key, room: Path) -> Path:
-    """The folder of a function's proofs. A method that other modules see stands with its type."""
-    path = path_of(key)
-    if key.owner and not key.trait:
-        module = module_of(key.file)
-        if is_seen_outside(key, room):
-            module = module_of_type(key.owner, room) or module
-        path = f"{module}::{path}".removeprefix("::")
-    return room.joinpath("proofs", *path.split("::"))
+    """The folder of a function's proofs. A method of a type stands with the type, unless there is a
+    folder for it in its own module."""
+    path, proofs = path_of(key), room / "proofs"
+    if not key.owner or key.trait:
+        return proofs.joinpath(*path.split("::"))
+    own, of_type = module_of(key.file), module_of_type(key.owner, room)
+    modules = own, own if of_type is None else of_type
+    folders = [proofs.joinpath(*module.split("::"), *path.split("::")) for module in modules]
+    return next((folder for folder in folders if folder.is_dir()), folders[1])
 
 
 def answer_what_is_not_asked(key: Key, crate: str, room: Path) -> None:
@@ -421,9 +415,11 @@ def leave_out_bodies(edits: Iterable[WrongBody], crate: str, room: Path) -> None
 
 
 def leave_out_proof(key: Key, crate: str, room: Path) -> None:
+    """Has a hole in place of what proves a function."""
     folder = folder_of_proofs(key, room)
-    shutil.rmtree(folder, ignore_errors=True)
-    folder.mkdir(parents=True)
+    folder.mkdir(parents=True, exist_ok=True)
+    for file in folder.glob("*.antt"):
+        file.unlink()
     place = ".".join(folder.relative_to(room / "proofs").parts)
     hole = HOLE.format(crate=crate, place=place, name=key.name)
     (folder / "Proof.antt").write_text(hole)

@@ -234,18 +234,18 @@ class Edits(Folder):
         self.assertFalse((self.crate / "proofs/three/Answers.antt").exists())
 
     def test_the_folders_of_proofs(self) -> None:
-        """A method that other modules see stands with its type, and one of a trait with its
-        implementation."""
+        """A method of a type stands with the type, or in its own module, and one of a trait with
+        its implementation."""
         self.write("src/types.rt", "pub(crate) struct A {}\npub struct Ab {}\n")
-        method = "impl A {{\n    /// One.\n    {}fn {}() {{\n        1\n    }}\n}}\n"
-        seen, hidden = method.format("pub(crate) ", "f"), method.format("", "g")
-        self.write("src/more.rt", seen + hidden)
+        self.write("src/lib.rt", "pub enum C {}\n")
+        self.write("proofs/more/A/g/Answers.antt", "")
         for owner, trait, name, folder in (
             (None, None, "f", "proofs/more/f"),
             ("A", None, "f", "proofs/types/A/f"),
             ("A", None, "g", "proofs/more/A/g"),
             ("A", "fmt::Display", "f", "proofs/more/ADisplay/f"),
             ("B", None, "f", "proofs/more/B/f"),
+            ("C", None, "f", "proofs/C/f"),
         ):
             key = edits.Key("src/more.rt", owner, trait, name)
             self.assertEqual(edits.folder_of_proofs(key, self.crate), self.crate / folder)
