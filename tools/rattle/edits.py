@@ -334,7 +334,7 @@ def module_of_type(owner: str, room: Path) -> str | None:
 
 
 def head_of(it: Function, text: str) -> str:
-    """A function before its body."""
+    """A function as far as its body begins."""
     return text[it.start : it.end - 1 - len(it.raw_body)]
 
 
@@ -390,9 +390,11 @@ def plant(edits: Iterable[WrongBody], room: Path) -> None:
 def is_known_by_its_body(it: Function, head: str, room: Path) -> bool:
     """Whether more of a function than its contract may be used, or its proof may stand elsewhere: a
     constant is computed, an `impl` that it returns is a type of its body, a cycle has one proof,
-    and a trait is of all its implementations."""
+    and a trait is of all its implementations. What `functions` takes for a body behind `ghost` is a
+    clause."""
     is_of_trait = it.trait or it.lent or it.owner and module_of_type(it.owner, room) is None
-    return bool(is_of_trait or re.search(r"\bconst fn\b|-> impl\b|#\[cycle\b", head))
+    words = r"\bconst fn\b|-> impl\b|#\[cycle\b|\bghost \w+:\s*\{$"
+    return bool(is_of_trait or re.search(words, head))
 
 
 def leave_out_bodies(edits: Iterable[WrongBody], crate: str, room: Path) -> None:

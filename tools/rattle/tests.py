@@ -213,6 +213,7 @@ class Edits(Folder):
     def test_functions_without_a_mistake_lose_their_bodies(self) -> None:
         others = (
             "pub const fn one() -> u8 {\n    1\n}\n",
+            "fn any()\n    ghost n: { ℕ }\n{\n    two();\n}\n",
             "fn ones() -> impl Iterator<Item = u8> {\n    [1].into_iter()\n}\n",
             "impl Copy for Pair {\n    fn copy(&self) -> Pair {\n        *self\n    }\n}\n",
             "trait Sum {\n    fn sum(&self) -> u8 {\n        2\n    }\n}\n",
