@@ -122,9 +122,10 @@ class Progress:
             self.running.add(ran)
             if self.ended.is_set():
                 self.stop()
-            yield ran
-        # After an interrupt it is still among those that `stop` ends.
-        self.running.remove(ran)
+            try:
+                yield ran
+            finally:
+                self.running.remove(ran)
 
     def so_far(self):
         spent = int(time.monotonic() - self.begun)
