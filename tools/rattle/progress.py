@@ -9,9 +9,7 @@ import subprocess
 import sys
 import threading
 import time
-from collections.abc import Iterator
 from concurrent.futures import ThreadPoolExecutor
-from contextlib import contextmanager, suppress
 from typing import Any
 
 import kit
@@ -29,10 +27,6 @@ STREAMS: dict[str, Any] = {
     "text": True,
     "errors": "replace",
 }
-# What starts a process group. Python 3.10 can only start a session, which Ctrl-Z does not reach.
-GROUP: dict[str, Any] = (
-    {"process_group": 0} if sys.version_info >= (3, 11) else {"start_new_session": True}
-)
 
 
 def span(seconds):
@@ -83,8 +77,6 @@ class Progress:
 
     def __enter__(self):
         take_interrupts()
-        if signal.getsignal(signal.SIGTSTP) != signal.SIG_IGN:
-            signal.signal(signal.SIGTSTP, self.pause)
         processors = f"{PROCESSORS} processor{'s' * (PROCESSORS > 1)}"
         self.say(f"{self.total} {self.parts}, about {self.expected} on {processors}")
         self.thread.start()
@@ -98,34 +90,10 @@ class Progress:
             sys.exit(130)
 
     def stop(self):
-        """Ends what runs. What was started to ignore SIGINT is ended by SIGTERM."""
+        """Ends what runs."""
         self.ended.set()
-        is_ignored = signal.getsignal(signal.SIGINT) == signal.SIG_IGN
-        self.tell(signal.SIGTERM if is_ignored else signal.SIGINT)
-
-    def pause(self, *_):
-        """Stops at Ctrl-Z, with all that runs, until both go on."""
-        self.tell(signal.SIGTSTP)
-        os.kill(os.getpid(), signal.SIGSTOP)
-        self.tell(signal.SIGCONT)
-
-    def tell(self, number):
-        """Sends a signal to all that runs, and to what that started."""
         for ran in [*self.running]:
-            with suppress(ProcessLookupError):
-                os.killpg(ran.pid, number)
-
-    @contextmanager
-    def started(self, words, **how) -> Iterator[subprocess.Popen]:
-        """Starts a command that an interrupt ends, together with all that it starts."""
-        with subprocess.Popen(words, **GROUP, **how) as ran:
-            self.running.add(ran)
-            if self.ended.is_set():
-                self.stop()
-            try:
-                yield ran
-            finally:
-                self.running.remove(ran)
+            ran.terminate()
 
     def so_far(self):
         spent = int(time.monotonic() - self.begun)
@@ -164,7 +132,8 @@ class Progress:
         and all that it says."""
         said, most = [], 0
         self.note(part)
-        with self.started(words, cwd=folder, **STREAMS) as ran:
+        with subprocess.Popen(words, cwd=folder, **STREAMS) as ran:
+            self.running.add(ran)
             for line in ran.stdout or ():
                 said.append(line)
                 if found := kit.SO_FAR.match(line):
@@ -172,6 +141,7 @@ class Progress:
                     self.note(part, f"{most} of {found[2]} functions")
                 elif found := NEWS.match(line):
                     self.note(part, found[1] or found[2])
+        self.running.remove(ran)
         return ran.returncode, "".join(said)
 
 
