@@ -9,7 +9,9 @@ import subprocess
 import sys
 import threading
 import time
+from collections.abc import Iterator
 from concurrent.futures import ThreadPoolExecutor
+from contextlib import contextmanager, suppress
 from typing import Any
 
 import kit
@@ -27,6 +29,10 @@ STREAMS: dict[str, Any] = {
     "text": True,
     "errors": "replace",
 }
+# What starts a process group. Python 3.10 can only start a session, which Ctrl-Z does not reach.
+GROUP: dict[str, Any] = (
+    {"process_group": 0} if sys.version_info >= (3, 11) else {"start_new_session": True}
+)
 
 
 def span(seconds):
@@ -77,6 +83,12 @@ class Progress:
 
     def __enter__(self):
         take_interrupts()
+        if signal.getsignal(signal.SIGTSTP) != signal.SIG_IGN:
+            signal.signal(signal.SIGTSTP, self.pause)
+        # A signal that comes just before the main thread waits is only seen after the wait, unless
+        # another ends it.
+        signal.signal(signal.SIGALRM, lambda *_: None)
+        signal.setitimer(signal.ITIMER_REAL, 1, 1)
         processors = f"{PROCESSORS} processor{'s' * (PROCESSORS > 1)}"
         self.say(f"{self.total} {self.parts}, about {self.expected} on {processors}")
         self.thread.start()
@@ -84,16 +96,49 @@ class Progress:
 
     def __exit__(self, kind, *_):
         self.stop()
+        signal.setitimer(signal.ITIMER_REAL, 0)
         self.thread.join()
         self.say(*[f"interrupted after {self.so_far()}: {self.kept}"] * (kind is KeyboardInterrupt))
         if kind is KeyboardInterrupt:
             sys.exit(130)
 
     def stop(self):
-        """Ends what runs."""
+        """Ends what runs. What was started to ignore SIGINT is ended by SIGTERM."""
         self.ended.set()
+        is_ignored = signal.getsignal(signal.SIGINT) == signal.SIG_IGN
+        self.tell(signal.SIGTERM if is_ignored else signal.SIGINT)
+
+    def pause(self, *_):
+        """Stops at Ctrl-Z, with all that runs, until both go on."""
+        with self.lock:
+            self.tell(signal.SIGTSTP)
+            os.kill(os.getpid(), signal.SIGSTOP)
+            self.tell(signal.SIGCONT)
+
+    def tell(self, number):
+        """Sends a signal to all that runs, and to what that started."""
         for ran in [*self.running]:
-            ran.terminate()
+            with suppress(ProcessLookupError):
+                os.killpg(ran.pid, number)
+
+    @contextmanager
+    def started(self, words, **how) -> Iterator[subprocess.Popen]:
+        """Starts a command that an interrupt ends, together with all that it starts. To be called in
+        a lane: in the main thread an interrupt may come before the command stands in `running`."""
+        with self.lock:
+            ran = subprocess.Popen(words, **GROUP, **how)
+            self.running.add(ran)
+        with ran:
+            if self.ended.is_set():
+                self.stop()
+            yield ran
+        self.running.remove(ran)
+
+    def run(self, words, given=None, **how) -> subprocess.CompletedProcess:
+        """Runs a command as `started` does, with this input, to its end."""
+        with self.started(words, **how) as ran:
+            said = ran.communicate(given)
+        return subprocess.CompletedProcess(words, ran.returncode, *said)
 
     def so_far(self):
         spent = int(time.monotonic() - self.begun)
@@ -130,10 +175,13 @@ class Progress:
     def follow(self, part, words, folder):
         """Runs a command in a folder, which is a part, and tells what it tells. Returns its status
         and all that it says."""
+        with Lanes(1, self) as lane:
+            return lane.submit(self.follow_in_lane, part, words, folder).result()
+
+    def follow_in_lane(self, part, words, folder):
         said, most = [], 0
         self.note(part)
-        with subprocess.Popen(words, cwd=folder, **STREAMS) as ran:
-            self.running.add(ran)
+        with self.started(words, cwd=folder, **STREAMS) as ran:
             for line in ran.stdout or ():
                 said.append(line)
                 if found := kit.SO_FAR.match(line):
@@ -141,7 +189,6 @@ class Progress:
                     self.note(part, f"{most} of {found[2]} functions")
                 elif found := NEWS.match(line):
                     self.note(part, found[1] or found[2])
-        self.running.remove(ran)
         return ran.returncode, "".join(said)
 
 
