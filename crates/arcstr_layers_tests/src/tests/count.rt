@@ -4,7 +4,7 @@ use arcstr_count::{BlockSummary, HandleState, HandleSummary, Reply, Step, StepFa
 use std::mem::size_of;
 
 #[test]
-fn clones_up_to_the_limit(rt: HostRuntime) {
+fn clones_up_to_the_limit(ref rt: HostRuntime) {
     check_eq!(rt; Word::from_bits(2).cloned(1).bits(), 4);
     check_eq!(rt; Word::from_bits(4).cloned(1).bits(), 5);
     check_eq!(rt; Word::from_bits(5).cloned(1).bits(), 5);
@@ -12,7 +12,7 @@ fn clones_up_to_the_limit(rt: HostRuntime) {
 }
 
 #[test]
-fn subtracts(rt: HostRuntime) {
+fn subtracts(ref rt: HostRuntime) {
     let (none, last) = Word::from_bits(2).dropped();
     check_eq!(rt; (none.bits(), last), (0, true));
     let (marked, last) = Word::from_bits(3).dropped();
@@ -22,13 +22,13 @@ fn subtracts(rt: HostRuntime) {
 }
 
 #[test]
-fn marks_once(rt: HostRuntime) {
+fn marks_once(ref rt: HostRuntime) {
     check_eq!(rt; Word::from_bits(2).with_mark().bits(), 3);
     check_eq!(rt; Word::from_bits(3).with_mark().bits(), 3);
 }
 
 #[test]
-fn step_faults_have_numbers_and_names(rt: HostRuntime) {
+fn step_faults_have_numbers_and_names(ref rt: HostRuntime) {
     let faults = [
         (StepFault::NoHandle, "1 NoHandle"),
         (StepFault::InDrop, "2 InDrop"),
@@ -39,13 +39,13 @@ fn step_faults_have_numbers_and_names(rt: HostRuntime) {
     ];
     for (fault, wanted) in faults {
         let number = fault.number();
-        let printed = format!(in rt.alloc(); "{number} {fault}").expect(&rt, "refused");
+        let printed = format!(in rt.alloc(); "{number} {fault}").expect(rt, "refused");
         check_eq!(rt; printed.as_str(), wanted);
     }
 }
 
 #[test]
-fn types_have_their_sizes(rt: HostRuntime) {
+fn types_have_their_sizes(ref rt: HostRuntime) {
     check_eq!(rt; (size_of::<Step>(), size_of::<Reply>()), (16, 16));
     check_eq!(rt; (size_of::<HandleSummary>(), size_of::<BlockSummary>()), (16, 16));
     check_eq!(rt; (size_of::<HandleState>(), size_of::<Word>()), (1, 8));

@@ -191,17 +191,17 @@ const HISTORIES: [History; 11] = [
 ];
 
 #[test]
-fn histories_have_their_replies_and_free_each_block_at_most_once(rt: HostRuntime) {
+fn histories_have_their_replies_and_free_each_block_at_most_once(ref rt: HostRuntime) {
     for (limit, history, given) in HISTORIES {
-        let world = &check_replies(&rt, limit, history);
+        let world = &check_replies(rt, limit, history);
         check_eq!(rt; (world.given(0), world.given(1)), given);
         check_eq!(rt; world.given(7), 0);
     }
 }
 
 #[test]
-fn the_limit_is_at_most_the_greatest(rt: HostRuntime) {
-    check!(rt; run(rt.alloc(), RC_MAX, &[]).expect(&rt, "refused").is_empty());
+fn the_limit_is_at_most_the_greatest(ref rt: HostRuntime) {
+    check!(rt; run(rt.alloc(), RC_MAX, &[]).expect(rt, "refused").is_empty());
     let refused = run(rt.alloc(), RC_MAX + 1, &[]).err();
     check_eq!(rt; refused, Some(RunFault::LimitTooLarge));
     let refused = World::new(rt.alloc(), RC_MAX + 1).err();
@@ -209,20 +209,20 @@ fn the_limit_is_at_most_the_greatest(rt: HostRuntime) {
 }
 
 #[test]
-fn run_faults_have_numbers_and_texts(rt: HostRuntime) {
+fn run_faults_have_numbers_and_texts(ref rt: HostRuntime) {
     let faults = [
         (RunFault::LimitTooLarge, "1 limit too large"),
         (RunFault::Memory, "2 out of memory"),
     ];
     for (fault, wanted) in faults {
         let number = fault.number();
-        let printed = format!(in rt.alloc(); "{number} {fault}").expect(&rt, "refused");
+        let printed = format!(in rt.alloc(); "{number} {fault}").expect(rt, "refused");
         check_eq!(rt; printed.as_str(), wanted);
     }
 }
 
 #[test]
-fn run_faults_have_kinds(rt: HostRuntime) {
+fn run_faults_have_kinds(ref rt: HostRuntime) {
     let kind = io::Error::from(RunFault::LimitTooLarge).kind();
     check_eq!(rt; kind, io::ErrorKind::InvalidInput);
     let kind = io::Error::from(RunFault::Memory).kind();
@@ -230,6 +230,6 @@ fn run_faults_have_kinds(rt: HostRuntime) {
 }
 
 #[test]
-fn types_have_their_sizes(rt: HostRuntime) {
+fn types_have_their_sizes(ref rt: HostRuntime) {
     check_eq!(rt; (size_of::<World<Global>>(), size_of::<RunFault>()), (56, 1));
 }

@@ -44,89 +44,87 @@ fn check_builder(rt: &impl Abort, builder: &ArcStrBuilder, text: &str, capacity:
 }
 
 #[test]
-fn pieces_are_appended(rt: HostRuntime) {
-    let mut builder = builder_of(&rt, "foo");
-    builder.push('é').expect(&rt, "no memory");
-    write!(builder, "{:>3}{}", 7, "bar").expect(&rt, "no memory");
-    writeln!(builder, "!").expect(&rt, "no memory");
-    builder.write_fmt(8).expect(&rt, "no memory");
-    builder.writeln('x').expect(&rt, "no memory");
-    check_text(&rt, builder.as_str(), "fooé  7bar!\n8x\n");
-    let text = builder.finish().expect(&rt, "no memory");
-    check_text(&rt, text.as_str(), "fooé  7bar!\n8x\n");
-    check_count(&rt, &text, Some(1));
+fn pieces_are_appended(ref rt: HostRuntime) {
+    let mut builder = builder_of(rt, "foo");
+    builder.push('é').expect(rt, "no memory");
+    write!(builder, "{:>3}{}", 7, "bar").expect(rt, "no memory");
+    writeln!(builder, "!").expect(rt, "no memory");
+    builder.write_fmt(8).expect(rt, "no memory");
+    builder.writeln('x').expect(rt, "no memory");
+    check_text(rt, builder.as_str(), "fooé  7bar!\n8x\n");
+    let text = builder.finish().expect(rt, "no memory");
+    check_text(rt, text.as_str(), "fooé  7bar!\n8x\n");
+    check_count(rt, &text, Some(1));
 }
 
 #[test]
-fn what_is_rendered_is_the_text(rt: HostRuntime) {
-    check_made(&rt, rendered(rt.alloc(), "foo", 12), "foo: 12");
-    check_made(&rt, joined(rt.alloc(), "foo", "bar"), "foobar");
-    check_made(&rt, joined(rt.alloc(), "", ""), "");
+fn what_is_rendered_is_the_text(ref rt: HostRuntime) {
+    check_made(rt, rendered(rt.alloc(), "foo", 12), "foo: 12");
+    check_made(rt, joined(rt.alloc(), "foo", "bar"), "foobar");
+    check_made(rt, joined(rt.alloc(), "", ""), "");
 }
 
 #[test]
-fn the_capacity_doubles(rt: HostRuntime) {
-    let mut builder = builder_of(&rt, "");
-    check_builder(&rt, &builder, "", 0);
-    builder.push('a').expect(&rt, "no memory");
-    check_builder(&rt, &builder, "a", 8);
-    builder.push_str("bcdefgh").expect(&rt, "no memory");
-    check_builder(&rt, &builder, "abcdefgh", 8);
-    builder.push('i').expect(&rt, "no memory");
-    check_builder(&rt, &builder, "abcdefghi", 16);
-    builder
-        .push_str(&"0123456789"[..8])
-        .expect(&rt, "no memory");
-    check_builder(&rt, &builder, "abcdefghi01234567", 32);
-    builder.reserve(1000).expect(&rt, "no memory");
-    check_builder(&rt, &builder, "abcdefghi01234567", 1017);
+fn the_capacity_doubles(ref rt: HostRuntime) {
+    let mut builder = builder_of(rt, "");
+    check_builder(rt, &builder, "", 0);
+    builder.push('a').expect(rt, "no memory");
+    check_builder(rt, &builder, "a", 8);
+    builder.push_str("bcdefgh").expect(rt, "no memory");
+    check_builder(rt, &builder, "abcdefgh", 8);
+    builder.push('i').expect(rt, "no memory");
+    check_builder(rt, &builder, "abcdefghi", 16);
+    builder.push_str(&"0123456789"[..8]).expect(rt, "no memory");
+    check_builder(rt, &builder, "abcdefghi01234567", 32);
+    builder.reserve(1000).expect(rt, "no memory");
+    check_builder(rt, &builder, "abcdefghi01234567", 1017);
 }
 
 #[test]
-fn a_million_bytes_are_appended(rt: HostRuntime) {
-    let digits = many_digits(&rt);
+fn a_million_bytes_are_appended(ref rt: HostRuntime) {
+    let digits = many_digits(rt);
     let mut builder = ArcStrBuilder::new(rt.alloc());
     for _ in 0..100_000 {
-        builder.push_str("0123456789").expect(&rt, "no memory");
+        builder.push_str("0123456789").expect(rt, "no memory");
     }
-    check_made(&rt, builder.finish(), digits.as_str());
+    check_made(rt, builder.finish(), digits.as_str());
 }
 
 #[test]
-fn an_empty_text_is_the_empty_literal(rt: HostRuntime) {
+fn an_empty_text_is_the_empty_literal(ref rt: HostRuntime) {
     let builder = ArcStrBuilder::new(rt.alloc());
-    check_empty(&rt, &builder.finish().expect(&rt, "refused"));
-    let builder = ArcStrBuilder::with_capacity(rt.alloc(), 5).expect(&rt, "no memory");
-    check_empty(&rt, &builder.finish().expect(&rt, "refused"));
-    check_empty(&rt, &ArcStrBuilder::new(rt.alloc()).fill(""));
+    check_empty(rt, &builder.finish().expect(rt, "refused"));
+    let builder = ArcStrBuilder::with_capacity(rt.alloc(), 5).expect(rt, "no memory");
+    check_empty(rt, &builder.finish().expect(rt, "refused"));
+    check_empty(rt, &ArcStrBuilder::new(rt.alloc()).fill(""));
 }
 
 #[test]
-fn a_reserved_text_is_filled(rt: HostRuntime) {
-    let mut builder = ArcStrBuilder::with_capacity(rt.alloc(), 6).expect(&rt, "no memory");
-    check_builder(&rt, &builder, "", 6);
-    builder.push_str("foo").expect(&rt, "refused");
-    check_builder(&rt, &builder, "foo", 6);
+fn a_reserved_text_is_filled(ref rt: HostRuntime) {
+    let mut builder = ArcStrBuilder::with_capacity(rt.alloc(), 6).expect(rt, "no memory");
+    check_builder(rt, &builder, "", 6);
+    builder.push_str("foo").expect(rt, "refused");
+    check_builder(rt, &builder, "foo", 6);
     if builder.capacity() == 6 && builder.len() == 3 {
         let text = builder.fill("bar");
-        check_text(&rt, text.as_str(), "foobar");
-        check_count(&rt, &text, Some(1));
+        check_text(rt, text.as_str(), "foobar");
+        check_count(rt, &text, Some(1));
     }
 }
 
 #[test]
-fn a_refused_growth_leaves_the_text(rt: HostRuntime) {
-    let mut builder = builder_of(&rt, "foo");
+fn a_refused_growth_leaves_the_text(ref rt: HostRuntime) {
+    let mut builder = builder_of(rt, "foo");
     check!(rt; builder.reserve(TOO_LONG - 3) == Err(TextFault::Length));
     check!(rt; builder.reserve(usize::MAX) == Err(TextFault::Length));
     check!(rt; builder.reserve(TOO_LONG - 4) == Err(TextFault::Memory));
-    check_builder(&rt, &builder, "foo", 8);
-    builder.push_str("bar").expect(&rt, "no memory");
-    check_made(&rt, builder.finish(), "foobar");
+    check_builder(rt, &builder, "foo", 8);
+    builder.push_str("bar").expect(rt, "no memory");
+    check_made(rt, builder.finish(), "foobar");
 }
 
 #[test]
-fn a_capacity_that_is_too_long_is_refused(rt: HostRuntime) {
+fn a_capacity_that_is_too_long_is_refused(ref rt: HostRuntime) {
     let made = ArcStrBuilder::with_capacity(rt.alloc(), TOO_LONG);
     check!(rt; made.err() == Some(TextFault::Length));
     let made = ArcStrBuilder::with_capacity(rt.alloc(), TOO_LONG - 1);

@@ -14,16 +14,16 @@ fn check_collected(rt: &impl Abort, made: Result<ArcStr, AllocError>, wanted: &s
 }
 
 #[test]
-fn characters_are_collected(rt: HostRuntime) {
-    check_collected(&rt, "aé".chars().rev().collect(rt.alloc()), "éa");
+fn characters_are_collected(ref rt: HostRuntime) {
+    check_collected(rt, "aé".chars().rev().collect(rt.alloc()), "éa");
     let empty: Result<ArcStr, _> = "".chars().collect(rt.alloc());
-    check_empty(&rt, &empty.expect(&rt, "no memory"));
+    check_empty(rt, &empty.expect(rt, "no memory"));
 }
 
 #[test]
-fn strings_are_collected(rt: HostRuntime) {
-    let strings = [owned(&rt, "fo"), owned(&rt, ""), owned(&rt, "é")];
-    check_collected(&rt, strings.into_iter().collect(rt.alloc()), "foé");
+fn strings_are_collected(ref rt: HostRuntime) {
+    let strings = [owned(rt, "fo"), owned(rt, ""), owned(rt, "é")];
+    check_collected(rt, strings.into_iter().collect(rt.alloc()), "foé");
 }
 
 /// Returns two handles to the text, with a literal between them.
@@ -32,35 +32,31 @@ fn thrice(rt: &impl Wait, text: &ArcStr) -> [ArcStr; 3] {
 }
 
 #[test]
-fn texts_are_collected_and_dropped(rt: HostRuntime) {
-    let text = &made(&rt, "é");
-    let texts = thrice(&rt, text).into_iter();
-    check_collected(&rt, texts.collect(rt.alloc()), "é, é");
-    check_copied(
-        &rt,
-        thrice(&rt, text).into_iter().collect(rt.alloc()),
-        "é, é",
-    );
-    check_count(&rt, text, Some(1));
+fn texts_are_collected_and_dropped(ref rt: HostRuntime) {
+    let text = &made(rt, "é");
+    let texts = thrice(rt, text).into_iter();
+    check_collected(rt, texts.collect(rt.alloc()), "é, é");
+    check_copied(rt, thrice(rt, text).into_iter().collect(rt.alloc()), "é, é");
+    check_count(rt, text, Some(1));
 }
 
 #[test]
-fn slices_are_collected_and_dropped(rt: HostRuntime) {
-    let text = &made(&rt, "foobar");
-    let slices = [part(&rt, text, 4..), part(&rt, text, ..2)];
-    check_collected(&rt, slices.into_iter().collect(rt.alloc()), "arfo");
-    let slices = [part(&rt, text, 4..), part(&rt, text, ..2)];
-    check_copied(&rt, slices.into_iter().collect(rt.alloc()), "arfo");
-    check_count(&rt, text, Some(1));
+fn slices_are_collected_and_dropped(ref rt: HostRuntime) {
+    let text = &made(rt, "foobar");
+    let slices = [part(rt, text, 4..), part(rt, text, ..2)];
+    check_collected(rt, slices.into_iter().collect(rt.alloc()), "arfo");
+    let slices = [part(rt, text, 4..), part(rt, text, ..2)];
+    check_copied(rt, slices.into_iter().collect(rt.alloc()), "arfo");
+    check_count(rt, text, Some(1));
 }
 
 #[test]
-fn a_string_is_extended_by_texts(rt: HostRuntime) {
-    let text = &made(&rt, "foobar");
-    let mut all = owned(&rt, "é");
-    all.extend(thrice(&rt, text)).expect(&rt, "no memory");
-    all.extend([part(&rt, text, 3..), Substr::new()])
-        .expect(&rt, "no memory");
-    check_text(&rt, all.as_str(), "éfoobar, foobarbar");
-    check_count(&rt, text, Some(1));
+fn a_string_is_extended_by_texts(ref rt: HostRuntime) {
+    let text = &made(rt, "foobar");
+    let mut all = owned(rt, "é");
+    all.extend(thrice(rt, text)).expect(rt, "no memory");
+    all.extend([part(rt, text, 3..), Substr::new()])
+        .expect(rt, "no memory");
+    check_text(rt, all.as_str(), "éfoobar, foobarbar");
+    check_count(rt, text, Some(1));
 }

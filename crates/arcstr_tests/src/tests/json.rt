@@ -28,82 +28,82 @@ fn check_read(rt: &(impl Abort + AllocGlobal), value: &Value, wanted: &str) {
 }
 
 #[test]
-fn a_slice_is_written_and_read_back(rt: HostRuntime) {
-    let slice = part(&rt, &literal!("aé"), 1..);
-    let value = &slice.to_json(rt.alloc()).expect(&rt, "no memory");
-    check_read(&rt, value, "é");
-    let read = Substr::from_json(rt.alloc(), value).expect(&rt, "no slice");
+fn a_slice_is_written_and_read_back(ref rt: HostRuntime) {
+    let slice = part(rt, &literal!("aé"), 1..);
+    let value = &slice.to_json(rt.alloc()).expect(rt, "no memory");
+    check_read(rt, value, "é");
+    let read = Substr::from_json(rt.alloc(), value).expect(rt, "no slice");
     check!(rt; read == slice);
 }
 
 #[test]
-fn a_million_bytes_are_read(rt: HostRuntime) {
-    let digits = &many_digits(&rt);
-    let text = &made(&rt, digits.as_str());
-    let value = text.to_json(rt.alloc()).expect(&rt, "no memory");
-    check_read(&rt, &value, digits.as_str());
-    let json = serde_json::to_string(rt.alloc(), text).expect(&rt, "not written");
-    let read: Substr = serde_json::from_str(rt.alloc(), json.as_str()).expect(&rt, "not read");
-    check_text(&rt, read.as_str(), digits.as_str());
-    let slice = &part(&rt, text, 1..);
-    let value = slice.to_json(rt.alloc()).expect(&rt, "no memory");
-    check_text(&rt, value.as_str().expect(&rt, "no string"), slice.as_str());
+fn a_million_bytes_are_read(ref rt: HostRuntime) {
+    let digits = &many_digits(rt);
+    let text = &made(rt, digits.as_str());
+    let value = text.to_json(rt.alloc()).expect(rt, "no memory");
+    check_read(rt, &value, digits.as_str());
+    let json = serde_json::to_string(rt.alloc(), text).expect(rt, "not written");
+    let read: Substr = serde_json::from_str(rt.alloc(), json.as_str()).expect(rt, "not read");
+    check_text(rt, read.as_str(), digits.as_str());
+    let slice = &part(rt, text, 1..);
+    let value = slice.to_json(rt.alloc()).expect(rt, "no memory");
+    check_text(rt, value.as_str().expect(rt, "no string"), slice.as_str());
 }
 
 #[test]
-fn a_written_text_is_parsed_back(rt: HostRuntime) {
+fn a_written_text_is_parsed_back(ref rt: HostRuntime) {
     let text = "\"\\/ \0\u{1f}\n\u{7f}é\u{10ffff}";
-    let value = made(&rt, text).to_json(rt.alloc()).expect(&rt, "no memory");
-    let written = value.to_string(rt.alloc()).expect(&rt, "no memory");
+    let value = made(rt, text).to_json(rt.alloc()).expect(rt, "no memory");
+    let written = value.to_string(rt.alloc()).expect(rt, "no memory");
     check_text(
-        &rt,
+        rt,
         written.as_str(),
         "\"\\\"\\\\/ \\u0000\\u001f\\n\u{7f}é\u{10ffff}\"",
     );
     let parsed = Value::from_str(rt.alloc(), written.as_str());
-    check_read(&rt, &parsed.expect(&rt, "not parsed"), text);
+    check_read(rt, &parsed.expect(rt, "not parsed"), text);
 }
 
 #[test]
-fn other_values_are_no_texts(rt: HostRuntime) {
+fn other_values_are_no_texts(ref rt: HostRuntime) {
     for json in ["null", "true", "[]", "12"] {
-        let value = &Value::from_str(rt.alloc(), json).expect(&rt, "not parsed");
+        let value = &Value::from_str(rt.alloc(), json).expect(rt, "not parsed");
         check_eq!(rt; ArcStr::from_json(rt.alloc(), value).err(), Some(JsonFault::NotText));
         check_eq!(rt; Substr::from_json(rt.alloc(), value).err(), Some(JsonFault::NotText));
     }
 }
 
 #[test]
-fn an_empty_string_is_the_empty_text(rt: HostRuntime) {
-    let value = &string(&rt, "");
+fn an_empty_string_is_the_empty_text(ref rt: HostRuntime) {
+    let value = &string(rt, "");
     check_empty(
-        &rt,
-        &ArcStr::from_json(rt.alloc(), value).expect(&rt, "refused"),
+        rt,
+        &ArcStr::from_json(rt.alloc(), value).expect(rt, "refused"),
     );
     check_nothing(
-        &rt,
-        &Substr::from_json(rt.alloc(), value).expect(&rt, "refused"),
+        rt,
+        &Substr::from_json(rt.alloc(), value).expect(rt, "refused"),
     );
 }
 
 #[test]
-fn a_text_is_written_and_read_back(rt: HostRuntime) {
-    let text = made(&rt, "hi");
-    let value = &text.to_json(rt.alloc()).expect(&rt, "no memory");
-    check_read(&rt, value, "hi");
-    let read = ArcStr::from_json(rt.alloc(), value).expect(&rt, "refused");
+fn a_text_is_written_and_read_back(ref rt: HostRuntime) {
+    let text = made(rt, "hi");
+    let value = &text.to_json(rt.alloc()).expect(rt, "no memory");
+    check_read(rt, value, "hi");
+    let read = ArcStr::from_json(rt.alloc(), value).expect(rt, "refused");
     check!(rt; read == text);
 }
 
 #[test]
-fn faults_have_numbers_and_texts(rt: HostRuntime) {
+fn faults_have_numbers_and_texts(ref rt: HostRuntime) {
     for (fault, wanted) in [
         (JsonFault::NotText, "1 value is not a text"),
         (JsonFault::Length, "2 text is too long"),
         (JsonFault::Memory, "3 out of memory"),
     ] {
         let number = fault.number();
-        check_copied(&rt, format!(in rt.alloc(); "{number} {fault}"), wanted);
+        check_copied(rt, format!(in rt.alloc(); "{number} {fault}"), wanted);
     }
     check_eq!(rt; size_of::<JsonFault>(), 1);
 }
@@ -154,7 +154,7 @@ fn an_empty_string_is_read_as_the_empty_text(ref rt: HostRuntime) {
 }
 
 #[test]
-fn a_number_is_not_read_as_a_text(rt: HostRuntime) {
+fn a_number_is_not_read_as_a_text(ref rt: HostRuntime) {
     let read: Result<ArcStr, _> = serde_json::from_str(rt.alloc(), "12");
     check!(rt; read.is_err());
     let read: Result<Substr, _> = serde_json::from_str(rt.alloc(), "null");
@@ -162,21 +162,21 @@ fn a_number_is_not_read_as_a_text(rt: HostRuntime) {
 }
 
 #[test]
-fn texts_are_values_and_names_of_members(rt: HostRuntime) {
-    let text = &made(&rt, "a\"b");
-    let slice = &part(&rt, text, 2..);
-    let value = json!(in rt.alloc(); {"a": text, "b": [slice, 1]}).expect(&rt, "no memory");
-    let written = value.to_string(rt.alloc()).expect(&rt, "no memory");
-    check_text(&rt, written.as_str(), "{\"a\":\"a\\\"b\",\"b\":[\"b\",1]}");
+fn texts_are_values_and_names_of_members(ref rt: HostRuntime) {
+    let text = &made(rt, "a\"b");
+    let slice = &part(rt, text, 2..);
+    let value = json!(in rt.alloc(); {"a": text, "b": [slice, 1]}).expect(rt, "no memory");
+    let written = value.to_string(rt.alloc()).expect(rt, "no memory");
+    check_text(rt, written.as_str(), "{\"a\":\"a\\\"b\",\"b\":[\"b\",1]}");
     check!(rt; value.get(slice).is_some_and(|list| list.is_array()));
     check!(rt; value.get(&literal!("a")).is_some_and(|member| member.is_string()));
     check!(rt; value.get(text).is_none());
-    check_count(&rt, text, Some(2));
+    check_count(rt, text, Some(2));
 }
 
 #[test]
-fn a_member_that_a_text_names_is_changed(rt: HostRuntime) {
-    let mut value = json!(in rt.alloc(); {"a": 1, "b": 2}).expect(&rt, "no memory");
+fn a_member_that_a_text_names_is_changed(ref rt: HostRuntime) {
+    let mut value = json!(in rt.alloc(); {"a": 1, "b": 2}).expect(rt, "no memory");
     for name in [literal!("a"), literal!("c")] {
         if let Some(member) = value.get_mut(&name) {
             *member = Value::Null;
@@ -185,12 +185,12 @@ fn a_member_that_a_text_names_is_changed(rt: HostRuntime) {
     if let Some(member) = value.get_mut(&Substr::from_static("b")) {
         *member = Value::from(3u8);
     }
-    let written = value.to_string(rt.alloc()).expect(&rt, "no memory");
-    check_text(&rt, written.as_str(), "{\"a\":null,\"b\":3}");
+    let written = value.to_string(rt.alloc()).expect(rt, "no memory");
+    check_text(rt, written.as_str(), "{\"a\":null,\"b\":3}");
 }
 
 #[test]
-fn faults_have_kinds(rt: HostRuntime) {
+fn faults_have_kinds(ref rt: HostRuntime) {
     for (fault, wanted) in [
         (JsonFault::NotText, io::ErrorKind::InvalidData),
         (JsonFault::Length, io::ErrorKind::InvalidInput),

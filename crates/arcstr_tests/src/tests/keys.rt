@@ -25,8 +25,8 @@ fn map_of(rt: &(impl Abort + AllocGlobal), text: ArcStr) -> HashMap<ArcStr, u8> 
 }
 
 #[test]
-fn a_hash_map_of_texts_is_read_by_a_str(rt: HostRuntime) {
-    let map = map_of(&rt, made(&rt, "k"));
+fn a_hash_map_of_texts_is_read_by_a_str(ref rt: HostRuntime) {
+    let map = map_of(rt, made(rt, "k"));
     check_eq!(rt; map.get("k"), Some(&1));
     check_eq!(rt; map.get(&literal!("k")), Some(&1));
     check_eq!(rt; map.get(""), Some(&3));
@@ -37,24 +37,24 @@ fn a_hash_map_of_texts_is_read_by_a_str(rt: HostRuntime) {
 }
 
 #[test]
-fn a_key_that_a_str_removes_is_dropped(rt: HostRuntime) {
-    let text = &made(&rt, "é");
-    let mut map = map_of(&rt, text.clone(&rt));
-    check_count(&rt, text, Some(2));
+fn a_key_that_a_str_removes_is_dropped(ref rt: HostRuntime) {
+    let text = &made(rt, "é");
+    let mut map = map_of(rt, text.clone(rt));
+    check_count(rt, text, Some(2));
     check_eq!(rt; map.remove("é"), Some(1));
-    check_count(&rt, text, Some(1));
+    check_count(rt, text, Some(1));
     check!(rt; !map.contains_key("é"));
 }
 
 #[test]
-fn a_hash_set_of_slices_is_read_by_a_str(rt: HostRuntime) {
-    let text = &made(&rt, "é foo");
+fn a_hash_set_of_slices_is_read_by_a_str(ref rt: HostRuntime) {
+    let text = &made(rt, "é foo");
     let mut set = HashSet::new(rt.alloc());
-    set.insert(part(&rt, text, 3..)).expect(&rt, "no memory");
+    set.insert(part(rt, text, 3..)).expect(rt, "no memory");
     check!(rt; set.contains("foo"));
     check!(rt; !set.contains("é foo"));
     check!(rt; set.remove("foo"));
-    check_count(&rt, text, Some(1));
+    check_count(rt, text, Some(1));
 }
 
 /// Inserts the key. Aborts if out of memory.
@@ -64,39 +64,39 @@ fn insert_sorted(rt: &impl Abort, map: &mut BTreeMap<Substr, u8>, key: Substr, v
 }
 
 #[test]
-fn a_sorted_map_of_slices_is_read_by_a_str(rt: HostRuntime) {
-    let text = &made(&rt, "é foo");
+fn a_sorted_map_of_slices_is_read_by_a_str(ref rt: HostRuntime) {
+    let text = &made(rt, "é foo");
     let mut map = BTreeMap::new(rt.alloc());
-    insert_sorted(&rt, &mut map, part(&rt, text, 3..), 1);
-    insert_sorted(&rt, &mut map, Substr::new(), 2);
+    insert_sorted(rt, &mut map, part(rt, text, 3..), 1);
+    insert_sorted(rt, &mut map, Substr::new(), 2);
     check_eq!(rt; map.get("é foo"), None);
     assert!(rt; map.contains_key(""));
     check_eq!(rt; map[""], 2);
     check_eq!(rt; map.remove("foo"), Some(1));
-    check_count(&rt, text, Some(1));
+    check_count(rt, text, Some(1));
 }
 
 #[test]
-fn a_sorted_set_of_texts_is_read_by_a_str(rt: HostRuntime) {
-    let text = &made(&rt, "é");
+fn a_sorted_set_of_texts_is_read_by_a_str(ref rt: HostRuntime) {
+    let text = &made(rt, "é");
     let mut set = BTreeSet::new(rt.alloc());
-    set.insert(text.clone(&rt)).expect(&rt, "no memory");
+    set.insert(text.clone(rt)).expect(rt, "no memory");
     check!(rt; set.contains("é"));
     check!(rt; !set.contains("e"));
     check!(rt; set.remove("é"));
-    check_count(&rt, text, Some(1));
+    check_count(rt, text, Some(1));
 }
 
 #[test]
-fn a_sorted_set_is_walked_in_the_order_of_bytes(rt: HostRuntime) {
+fn a_sorted_set_is_walked_in_the_order_of_bytes(ref rt: HostRuntime) {
     let mut set = BTreeSet::new(rt.alloc());
     for text in ["é", "b", "ab", "Z", "a"] {
-        set.insert(made(&rt, text)).expect(&rt, "no memory");
+        set.insert(made(rt, text)).expect(rt, "no memory");
     }
     let mut walked = String::new(rt.alloc());
     for text in set.iter() {
-        walked.push_str(text.as_str()).expect(&rt, "no memory");
-        walked.push(' ').expect(&rt, "no memory");
+        walked.push_str(text.as_str()).expect(rt, "no memory");
+        walked.push(' ').expect(rt, "no memory");
     }
     check_eq!(rt; walked.as_str(), "Z a ab b é ");
 }
@@ -111,48 +111,48 @@ fn index_map_of(rt: &(impl Abort + AllocGlobal), text: ArcStr) -> IndexMap<ArcSt
 }
 
 #[test]
-fn an_index_map_of_texts_is_read_by_a_str(rt: HostRuntime) {
-    let text = &made(&rt, "é");
-    let mut map = index_map_of(&rt, text.clone(&rt));
+fn an_index_map_of_texts_is_read_by_a_str(ref rt: HostRuntime) {
+    let text = &made(rt, "é");
+    let mut map = index_map_of(rt, text.clone(rt));
     check_eq!(rt; map.get("é"), Some(&1));
     check_eq!(rt; map.get("bar"), None);
     check_eq!(rt; map.get_index_of(""), Some(2));
     check!(rt; map.contains_key("foo"));
     check_eq!(rt; map.swap_remove("é"), Some(1));
-    check_count(&rt, text, Some(1));
+    check_count(rt, text, Some(1));
     check_eq!(rt; map.get_index_of(""), Some(0));
 }
 
 #[test]
-fn an_index_set_of_slices_is_read_by_a_str(rt: HostRuntime) {
-    let text = &made(&rt, "é foo");
+fn an_index_set_of_slices_is_read_by_a_str(ref rt: HostRuntime) {
+    let text = &made(rt, "é foo");
     let mut set: IndexSet<Substr> = IndexSet::new(rt.alloc());
-    set.insert(part(&rt, text, 3..)).expect(&rt, "no memory");
+    set.insert(part(rt, text, 3..)).expect(rt, "no memory");
     check!(rt; set.contains("foo"));
     check!(rt; !set.contains("é foo"));
     check_eq!(rt; set.get_index_of("foo"), Some(0));
     check!(rt; set.swap_remove("foo"));
-    check_count(&rt, text, Some(1));
+    check_count(rt, text, Some(1));
 }
 
 #[test]
-fn a_hash_map_of_texts_is_read_by_a_slice(rt: HostRuntime) {
-    let (slice, foo) = (&part(&rt, &made(&rt, "é foo"), 3..), &made(&rt, "foo"));
-    let map = map_of(&rt, foo.clone(&rt));
+fn a_hash_map_of_texts_is_read_by_a_slice(ref rt: HostRuntime) {
+    let (slice, foo) = (&part(rt, &made(rt, "é foo"), 3..), &made(rt, "foo"));
+    let map = map_of(rt, foo.clone(rt));
     check_eq!(rt; map.get(slice), Some(&2));
-    check_eq!(rt; map.get(&part(&rt, slice.parent(), ..)), None);
-    check_count(&rt, slice.parent(), Some(1));
-    check_count(&rt, foo, Some(2));
+    check_eq!(rt; map.get(&part(rt, slice.parent(), ..)), None);
+    check_count(rt, slice.parent(), Some(1));
+    check_count(rt, foo, Some(2));
 }
 
 #[test]
-fn an_index_map_of_texts_is_read_by_a_slice(rt: HostRuntime) {
-    let (slice, foo) = (&part(&rt, &made(&rt, "é foo"), 3..), &made(&rt, "foo"));
-    let map = index_map_of(&rt, foo.clone(&rt));
+fn an_index_map_of_texts_is_read_by_a_slice(ref rt: HostRuntime) {
+    let (slice, foo) = (&part(rt, &made(rt, "é foo"), 3..), &made(rt, "foo"));
+    let map = index_map_of(rt, foo.clone(rt));
     check_eq!(rt; map.get_index_of(slice), Some(0));
-    check_eq!(rt; map.get(&part(&rt, slice.parent(), ..)), None);
-    check_count(&rt, slice.parent(), Some(1));
-    check_count(&rt, foo, Some(2));
+    check_eq!(rt; map.get(&part(rt, slice.parent(), ..)), None);
+    check_count(rt, slice.parent(), Some(1));
+    check_count(rt, foo, Some(2));
 }
 
 /// Returns a set of these texts.
@@ -180,13 +180,13 @@ fn check_counts(rt: &impl Abort, texts: [&ArcStr; 3], wanted: [usize; 3]) {
 }
 
 #[test]
-fn a_sorted_set_of_texts_is_read_by_a_slice(rt: HostRuntime) {
-    let keys = [&made(&rt, "a"), &made(&rt, "b"), &made(&rt, "é")];
-    let mut set = sorted_set_of(&rt, keys);
-    let text = &made(&rt, "abéc");
-    check_sorted_set(&rt, &mut set, text);
-    check_counts(&rt, keys, [2, 2, 1]);
-    check_count(&rt, text, Some(1));
+fn a_sorted_set_of_texts_is_read_by_a_slice(ref rt: HostRuntime) {
+    let keys = [&made(rt, "a"), &made(rt, "b"), &made(rt, "é")];
+    let mut set = sorted_set_of(rt, keys);
+    let text = &made(rt, "abéc");
+    check_sorted_set(rt, &mut set, text);
+    check_counts(rt, keys, [2, 2, 1]);
+    check_count(rt, text, Some(1));
 }
 
 /// Returns a map whose keys are slices of these whole texts.
@@ -209,33 +209,33 @@ fn check_sorted_map(rt: &impl Abort, map: &mut BTreeMap<Substr, u8>, name: &ArcS
 }
 
 #[test]
-fn a_sorted_map_of_slices_is_read_by_a_text(rt: HostRuntime) {
-    let keys = [&made(&rt, "b"), &made(&rt, "é"), &made(&rt, "a")];
-    let mut map = sorted_map_of(&rt, keys);
-    let name = &made(&rt, "a");
-    check_sorted_map(&rt, &mut map, name);
-    check_counts(&rt, keys, [2, 1, 2]);
-    check_count(&rt, name, Some(1));
+fn a_sorted_map_of_slices_is_read_by_a_text(ref rt: HostRuntime) {
+    let keys = [&made(rt, "b"), &made(rt, "é"), &made(rt, "a")];
+    let mut map = sorted_map_of(rt, keys);
+    let name = &made(rt, "a");
+    check_sorted_map(rt, &mut map, name);
+    check_counts(rt, keys, [2, 1, 2]);
+    check_count(rt, name, Some(1));
 }
 
 #[test]
-fn a_hash_set_of_slices_is_read_by_a_text(rt: HostRuntime) {
-    let (text, foo) = (&made(&rt, "é foo"), &made(&rt, "foo"));
+fn a_hash_set_of_slices_is_read_by_a_text(ref rt: HostRuntime) {
+    let (text, foo) = (&made(rt, "é foo"), &made(rt, "foo"));
     let mut set = HashSet::new(rt.alloc());
-    set.insert(part(&rt, text, 3..)).expect(&rt, "no memory");
+    set.insert(part(rt, text, 3..)).expect(rt, "no memory");
     check!(rt; set.contains(foo));
     check!(rt; !set.contains(text));
-    check_count(&rt, foo, Some(1));
-    check_count(&rt, text, Some(2));
+    check_count(rt, foo, Some(1));
+    check_count(rt, text, Some(2));
 }
 
 #[test]
-fn an_index_set_of_slices_is_read_by_a_text(rt: HostRuntime) {
-    let (text, foo) = (&made(&rt, "é foo"), &made(&rt, "foo"));
+fn an_index_set_of_slices_is_read_by_a_text(ref rt: HostRuntime) {
+    let (text, foo) = (&made(rt, "é foo"), &made(rt, "foo"));
     let mut set: IndexSet<Substr> = IndexSet::new(rt.alloc());
-    set.insert(part(&rt, text, 3..)).expect(&rt, "no memory");
+    set.insert(part(rt, text, 3..)).expect(rt, "no memory");
     check_eq!(rt; set.get_index_of(foo), Some(0));
     check!(rt; !set.contains(text));
-    check_count(&rt, foo, Some(1));
-    check_count(&rt, text, Some(2));
+    check_count(rt, foo, Some(1));
+    check_count(rt, text, Some(2));
 }

@@ -61,22 +61,22 @@ fn printed_text(alloc: Global, text: &str) -> Result<ArcStr, TextFault>
 }
 
 #[test]
-fn literals_are_made(rt: HostRuntime) {
-    check_text(&rt, literal_text("Wow!").as_str(), "Wow!");
-    check_slice(&rt, &literal_slice("Wow!"), "Wow!", 0..4);
-    check_slice(&rt, &literal_substr!("Wow!",), "Wow!", 0..4);
-    check_made(&rt, printed_value(rt.alloc(), &literal!("foo",)), "foo");
+fn literals_are_made(ref rt: HostRuntime) {
+    check_text(rt, literal_text("Wow!").as_str(), "Wow!");
+    check_slice(rt, &literal_slice("Wow!"), "Wow!", 0..4);
+    check_slice(rt, &literal_substr!("Wow!",), "Wow!", 0..4);
+    check_made(rt, printed_value(rt.alloc(), &literal!("foo",)), "foo");
 }
 
 #[test]
-fn values_are_printed(rt: HostRuntime) {
-    check_made(&rt, printed_number(rt.alloc(), 123), "cool 123");
-    check_made(&rt, printed_truth(rt.alloc(), true), "true");
-    check_made(&rt, printed_character(rt.alloc(), 'é'), "é");
-    check_made(&rt, printed_text(rt.alloc(), "foo"), "foo!");
-    check_empty(&rt, &format_arcstr!(rt.alloc(); "").expect(&rt, "refused"));
+fn values_are_printed(ref rt: HostRuntime) {
+    check_made(rt, printed_number(rt.alloc(), 123), "cool 123");
+    check_made(rt, printed_truth(rt.alloc(), true), "true");
+    check_made(rt, printed_character(rt.alloc(), 'é'), "é");
+    check_made(rt, printed_text(rt.alloc(), "foo"), "foo!");
+    check_empty(rt, &format_arcstr!(rt.alloc(); "").expect(rt, "refused"));
     let padded = format_arcstr!(rt.alloc(); "{:>5}", literal!("foo"));
-    check_made(&rt, padded, "  foo");
-    let counted = printed_number(rt.alloc(), 123).expect(&rt, "refused");
+    check_made(rt, padded, "  foo");
+    let counted = printed_number(rt.alloc(), 123).expect(rt, "refused");
     check!(rt; ArcStr::as_static(&counted).is_none());
 }

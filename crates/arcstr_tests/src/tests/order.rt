@@ -21,15 +21,15 @@ fn are_one_key<T: Eq + Hash>(one: &T, other: &T, text: &str) -> bool {
 }
 
 #[test]
-fn a_literal_and_a_block_of_one_text_are_one_key(rt: HostRuntime) {
-    let text = &made(&rt, "bar");
+fn a_literal_and_a_block_of_one_text_are_one_key(ref rt: HostRuntime) {
+    let text = &made(rt, "bar");
     check!(rt; are_one_key(text, &literal!("bar"), "bar"));
     check!(rt; text.eq_str("bar") && !text.eq_str("ba"));
 }
 
 #[test]
-fn slices_of_one_text_are_equal_whatever_their_parents(rt: HostRuntime) {
-    let slice = &part(&rt, &made(&rt, "foobar"), 3..6);
+fn slices_of_one_text_are_equal_whatever_their_parents(ref rt: HostRuntime) {
+    let slice = &part(rt, &made(rt, "foobar"), 3..6);
     check!(rt; are_one_key(slice, &Substr::from_static("bar"), "bar"));
     check!(rt; slice.eq_str("bar") && !slice.eq_str("ba") && !slice.eq_str("foobar"));
 }
@@ -73,10 +73,10 @@ fn differ_at(rt: &(impl Abort + AllocGlobal), length: usize, place: usize) {
 
 /// Depending on their length, texts are compared by bytes, by machine words or by vectors.
 #[test]
-fn texts_of_any_length_differ_at_any_place(rt: HostRuntime) {
+fn texts_of_any_length_differ_at_any_place(ref rt: HostRuntime) {
     for length in [1, 7, 8, 15, 16, 17, 24, 63, 64, 65, 80, 127, 128, 129, 200] {
         for place in 0..length {
-            differ_at(&rt, length, place);
+            differ_at(rt, length, place);
         }
     }
 }
@@ -93,19 +93,19 @@ fn slices_differ_at<R: Abort + AllocGlobal + Wait>(rt: &R, length: usize, place:
 
 /// The bytes of a slice can start at any address.
 #[test]
-fn slices_of_any_length_differ_at_any_place(rt: HostRuntime) {
+fn slices_of_any_length_differ_at_any_place(ref rt: HostRuntime) {
     for length in [9, 17, 18, 64, 65, 66, 131] {
         for place in 1..length {
-            slices_differ_at(&rt, length, place);
+            slices_differ_at(rt, length, place);
         }
     }
 }
 
 #[test]
-fn a_static_literal_and_a_static_block_are_one_key(rt: HostRuntime) {
-    let kept = &made(&rt, "bar").leak();
+fn a_static_literal_and_a_static_block_are_one_key(ref rt: HostRuntime) {
+    let kept = &made(rt, "bar").leak();
     check!(rt; are_one_key(kept, &literal!("bar").leak(), "bar"));
-    check_order(&rt, kept, &literal!("bar").leak(), Ordering::Equal);
-    check_order(&rt, kept, &literal!("bar ").leak(), Ordering::Less);
-    check_order(&rt, kept, &made(&rt, "baq").leak(), Ordering::Greater);
+    check_order(rt, kept, &literal!("bar").leak(), Ordering::Equal);
+    check_order(rt, kept, &literal!("bar ").leak(), Ordering::Less);
+    check_order(rt, kept, &made(rt, "baq").leak(), Ordering::Greater);
 }

@@ -76,10 +76,10 @@ fn check_lists_of_slice(rt: &(impl Abort + AllocGlobal + Wait), slice: &Substr, 
 }
 
 #[test]
-fn texts_are_listed_as_str_lists_them(rt: HostRuntime) {
+fn texts_are_listed_as_str_lists_them(ref rt: HostRuntime) {
     for row in LISTS {
-        check_lists_of_text(&rt, &made(&rt, row.0), row);
-        check_lists_of_slice(&rt, &middle(&rt, row.0), row);
+        check_lists_of_text(rt, &made(rt, row.0), row);
+        check_lists_of_slice(rt, &middle(rt, row.0), row);
     }
 }
 
@@ -124,30 +124,30 @@ fn check_split_of_slice(rt: &(impl Abort + AllocGlobal + Wait), row: &Split) {
 }
 
 #[test]
-fn texts_are_split_at_a_text_as_str_splits_them(rt: HostRuntime) {
+fn texts_are_split_at_a_text_as_str_splits_them(ref rt: HostRuntime) {
     for row in SPLITS {
-        check_split_of_str(&rt, row.0, row.1, row.2);
-        check_split_of_text(&rt, row);
-        check_split_of_slice(&rt, row);
+        check_split_of_str(rt, row.0, row.1, row.2);
+        check_split_of_text(rt, row);
+        check_split_of_slice(rt, row);
     }
 }
 
 #[test]
-fn a_text_is_split_at_a_set_of_characters(rt: HostRuntime) {
+fn a_text_is_split_at_a_set_of_characters(ref rt: HostRuntime) {
     let alloc = rt.alloc();
-    let text = made(&rt, "a,b;é");
+    let text = made(rt, "a,b;é");
     let parts: Wanted = &[("a", 0), ("b", 2), ("é", 4)];
     check_list(
-        &rt,
+        rt,
         &text,
         0,
-        text.substr_split(&rt, alloc, [',', ';']),
+        text.substr_split(rt, alloc, [',', ';']),
         parts,
     );
-    let list = text.substr_split(&rt, alloc, |c: char| c == ',' || c == ';');
-    check_list(&rt, &text, 0, list, parts);
-    let list = text.substr_split(&rt, alloc, char::is_alphabetic);
-    check_list(&rt, &text, 0, list, &[("", 0), (",", 1), (";", 3), ("", 6)]);
+    let list = text.substr_split(rt, alloc, |c: char| c == ',' || c == ';');
+    check_list(rt, &text, 0, list, parts);
+    let list = text.substr_split(rt, alloc, char::is_alphabetic);
+    check_list(rt, &text, 0, list, &[("", 0), (",", 1), (";", 3), ("", 6)]);
 }
 
 /// How often the text of a long list has a comma and a line.
@@ -169,33 +169,33 @@ fn check_long_list(
 }
 
 #[test]
-fn a_text_of_200_000_lines_is_listed(rt: HostRuntime) {
+fn a_text_of_200_000_lines_is_listed(ref rt: HostRuntime) {
     let alloc = rt.alloc();
-    let text = &ArcStr::repeat(alloc, "a,\n", LINES).expect(&rt, "no memory");
-    check_long_list(&rt, text, text.substr_split(&rt, alloc, ','), LINES + 1);
-    check_long_list(&rt, text, text.substr_lines(&rt, alloc), LINES);
-    check_long_list(&rt, text, text.substr_split_whitespace(&rt, alloc), LINES);
+    let text = &ArcStr::repeat(alloc, "a,\n", LINES).expect(rt, "no memory");
+    check_long_list(rt, text, text.substr_split(rt, alloc, ','), LINES + 1);
+    check_long_list(rt, text, text.substr_lines(rt, alloc), LINES);
+    check_long_list(rt, text, text.substr_split_whitespace(rt, alloc), LINES);
     let slice = &part(
-        &rt,
-        &ArcStr::repeat(alloc, "a,\n", LINES).expect(&rt, "no memory"),
+        rt,
+        &ArcStr::repeat(alloc, "a,\n", LINES).expect(rt, "no memory"),
         3..,
     );
     let parent = slice.parent();
-    check_long_list(&rt, parent, slice.substr_split(&rt, alloc, ','), LINES);
-    check_long_list(&rt, parent, slice.substr_lines(&rt, alloc), LINES - 1);
+    check_long_list(rt, parent, slice.substr_split(rt, alloc, ','), LINES);
+    check_long_list(rt, parent, slice.substr_lines(rt, alloc), LINES - 1);
     check_long_list(
-        &rt,
+        rt,
         parent,
-        slice.substr_split_whitespace(&rt, alloc),
+        slice.substr_split_whitespace(rt, alloc),
         LINES - 1,
     );
 }
 
 #[test]
-fn an_empty_text_has_one_part(rt: HostRuntime) {
+fn an_empty_text_has_one_part(ref rt: HostRuntime) {
     let (text, alloc) = (ArcStr::new(), rt.alloc());
-    let parts = text.substr_split(&rt, alloc, ',').expect(&rt, "no memory");
+    let parts = text.substr_split(rt, alloc, ',').expect(rt, "no memory");
     check_eq!(rt; parts.len(), 1);
-    let lines = text.substr_lines(&rt, alloc).expect(&rt, "no memory");
+    let lines = text.substr_lines(rt, alloc).expect(rt, "no memory");
     check_eq!(rt; lines.len(), 0);
 }

@@ -77,66 +77,66 @@ fn check_reads(rt: &(impl Abort + AllocGlobal), bytes: &[u8]) {
 }
 
 #[test]
-fn texts_are_read_whatever_a_read_gives(rt: HostRuntime) {
-    check_reads(&rt, b"");
-    check_reads(&rt, b"foobar");
-    check_reads(&rt, "aé€😀é€😀z".as_bytes());
+fn texts_are_read_whatever_a_read_gives(ref rt: HostRuntime) {
+    check_reads(rt, b"");
+    check_reads(rt, b"foobar");
+    check_reads(rt, "aé€😀é€😀z".as_bytes());
 }
 
 #[test]
-fn bytes_that_are_no_text_are_refused_at_their_place(rt: HostRuntime) {
-    check_reads(&rt, b"a\xff");
-    check_reads(&rt, b"\xffa");
-    check_reads(&rt, b"a\xc3");
-    check_reads(&rt, b"\xe2\x82");
-    check_reads(&rt, b"ab\xf0\x9f\x98");
-    check_reads(&rt, b"ab\xf0\x9f\x98c");
-    check_reads(&rt, b"\xc3\xa9\xed\xa0\x80");
-    check_reads(&rt, b"\xc3\xa9\x80\x80\x80\x80");
-    check_reads(&rt, b"ab\xf4\x90\x80\x80");
+fn bytes_that_are_no_text_are_refused_at_their_place(ref rt: HostRuntime) {
+    check_reads(rt, b"a\xff");
+    check_reads(rt, b"\xffa");
+    check_reads(rt, b"a\xc3");
+    check_reads(rt, b"\xe2\x82");
+    check_reads(rt, b"ab\xf0\x9f\x98");
+    check_reads(rt, b"ab\xf0\x9f\x98c");
+    check_reads(rt, b"\xc3\xa9\xed\xa0\x80");
+    check_reads(rt, b"\xc3\xa9\x80\x80\x80\x80");
+    check_reads(rt, b"ab\xf4\x90\x80\x80");
 }
 
 #[test]
-fn characters_across_two_chunks_are_read(rt: HostRuntime) {
-    let digits = many_digits(&rt);
+fn characters_across_two_chunks_are_read(ref rt: HostRuntime) {
+    let digits = many_digits(rt);
     for cut in 16_380..16_386 {
-        let part = digits.get(..cut).expect(&rt, "too few digits");
+        let part = digits.get(..cut).expect(rt, "too few digits");
         let mut text = String::new(rt.alloc());
-        text.push_str(part).expect(&rt, "no memory");
-        text.push_str("é€😀").expect(&rt, "no memory");
-        text.push_str(part).expect(&rt, "no memory");
-        let read = ArcStr::read_from(rt.alloc(), text.as_bytes()).expect(&rt, "refused");
-        check_text(&rt, read.as_str(), text.as_str());
+        text.push_str(part).expect(rt, "no memory");
+        text.push_str("é€😀").expect(rt, "no memory");
+        text.push_str(part).expect(rt, "no memory");
+        let read = ArcStr::read_from(rt.alloc(), text.as_bytes()).expect(rt, "refused");
+        check_text(rt, read.as_str(), text.as_str());
     }
 }
 
 #[test]
-fn a_million_bytes_are_read(rt: HostRuntime) {
-    let digits = many_digits(&rt);
-    let read = ArcStr::read_from(rt.alloc(), digits.as_bytes()).expect(&rt, "refused");
-    check_text(&rt, read.as_str(), digits.as_str());
-    check_count(&rt, &read, Some(1));
+fn a_million_bytes_are_read(ref rt: HostRuntime) {
+    let digits = many_digits(rt);
+    let read = ArcStr::read_from(rt.alloc(), digits.as_bytes()).expect(rt, "refused");
+    check_text(rt, read.as_str(), digits.as_str());
+    check_count(rt, &read, Some(1));
 }
 
 #[test]
-fn nothing_is_read_as_the_empty_literal(rt: HostRuntime) {
-    let read = ArcStr::read_from(rt.alloc(), io::empty()).expect(&rt, "refused");
-    check_empty(&rt, &read);
+fn nothing_is_read_as_the_empty_literal(ref rt: HostRuntime) {
+    let read = ArcStr::read_from(rt.alloc(), io::empty()).expect(rt, "refused");
+    check_empty(rt, &read);
 }
 
 #[test]
-fn an_interrupted_read_is_tried_again(rt: HostRuntime) {
+fn an_interrupted_read_is_tried_again(ref rt: HostRuntime) {
     for number in 0..5 {
         let mut reader = in_pieces("foobaré".as_bytes(), 2);
         reader.fails_at = number;
         reader.kind = ErrorKind::Interrupted;
-        let read = ArcStr::read_from(rt.alloc(), reader).expect(&rt, "refused");
-        check_text(&rt, read.as_str(), "foobaré");
+        let read = ArcStr::read_from(rt.alloc(), reader).expect(rt, "refused");
+        check_text(rt, read.as_str(), "foobaré");
     }
 }
 
 #[test]
-fn a_read_that_fails_is_the_fault(rt: HostRuntime) {
+fn a_read_that_fails_is_the_fault(ref rt: HostRuntime) {
     for number in 0..5 {
         let mut reader = in_pieces("foobaré".as_bytes(), 2);
         reader.fails_at = number;
@@ -147,45 +147,45 @@ fn a_read_that_fails_is_the_fault(rt: HostRuntime) {
 }
 
 #[test]
-fn a_builder_keeps_what_came_before_a_fault(rt: HostRuntime) {
+fn a_builder_keeps_what_came_before_a_fault(ref rt: HostRuntime) {
     let mut builder = ArcStrBuilder::new(rt.alloc());
-    builder.push_str("foo").expect(&rt, "no memory");
+    builder.push_str("foo").expect(rt, "no memory");
     let read = builder.read_from(&mut in_pieces(b"ba\xffr", 3));
     check!(rt; matches!(read, Err(ReadFault::Text(TextFault::Utf8(5)))));
-    check_text(&rt, builder.as_str(), "fooba");
+    check_text(rt, builder.as_str(), "fooba");
     builder
         .read_from(&mut in_pieces(b"r", 1))
-        .expect(&rt, "refused");
-    check_text(&rt, builder.as_str(), "foobar");
+        .expect(rt, "refused");
+    check_text(rt, builder.as_str(), "foobar");
 }
 
 #[test]
-fn a_builder_with_room_keeps_its_block(rt: HostRuntime) {
-    let mut builder = ArcStrBuilder::with_capacity(rt.alloc(), 6).expect(&rt, "no memory");
+fn a_builder_with_room_keeps_its_block(ref rt: HostRuntime) {
+    let mut builder = ArcStrBuilder::with_capacity(rt.alloc(), 6).expect(rt, "no memory");
     builder
         .read_from(&mut in_pieces(b"foobar", 4))
-        .expect(&rt, "refused");
+        .expect(rt, "refused");
     check_eq!(rt; builder.capacity(), 6);
     check_text(
-        &rt,
-        builder.finish().expect(&rt, "refused").as_str(),
+        rt,
+        builder.finish().expect(rt, "refused").as_str(),
         "foobar",
     );
 }
 
 #[test]
-fn files_are_read(rt: HostRuntime) {
+fn files_are_read(ref rt: HostRuntime) {
     let name = "arcstr_tests_files_are_read";
-    fs::write(&rt, name, "foobaré").expect(&rt, "not written");
-    let read = ArcStr::read_file(&rt, name).expect(&rt, "refused");
-    check_text(&rt, read.as_str(), "foobaré");
-    check_count(&rt, &read, Some(1));
-    fs::write(&rt, name, b"foobar\xc3").expect(&rt, "not written");
-    check_eq!(rt; fault_of(ArcStr::read_file(&rt, name)), Some(TextFault::Utf8(6)));
-    fs::write(&rt, name, "").expect(&rt, "not written");
-    check_empty(&rt, &ArcStr::read_file(&rt, name).expect(&rt, "refused"));
-    fs::remove_file(&rt, name).expect(&rt, "not removed");
-    check_eq!(rt; kind_of(ArcStr::read_file(&rt, name)), Some(ErrorKind::NotFound));
+    fs::write(rt, name, "foobaré").expect(rt, "not written");
+    let read = ArcStr::read_file(rt, name).expect(rt, "refused");
+    check_text(rt, read.as_str(), "foobaré");
+    check_count(rt, &read, Some(1));
+    fs::write(rt, name, b"foobar\xc3").expect(rt, "not written");
+    check_eq!(rt; fault_of(ArcStr::read_file(rt, name)), Some(TextFault::Utf8(6)));
+    fs::write(rt, name, "").expect(rt, "not written");
+    check_empty(rt, &ArcStr::read_file(rt, name).expect(rt, "refused"));
+    fs::remove_file(rt, name).expect(rt, "not removed");
+    check_eq!(rt; kind_of(ArcStr::read_file(rt, name)), Some(ErrorKind::NotFound));
 }
 
 fn printed(alloc: Global, fault: ReadFault) -> Option<String> {
@@ -193,7 +193,7 @@ fn printed(alloc: Global, fault: ReadFault) -> Option<String> {
 }
 
 #[test]
-fn faults_of_reading_print_and_convert(rt: HostRuntime) {
+fn faults_of_reading_print_and_convert(ref rt: HostRuntime) {
     let fault = ReadFault::from(TextFault::Utf8(5));
     let wanted = format!(in rt.alloc(); "{}", TextFault::Utf8(5)).ok();
     check_eq!(rt; printed(rt.alloc(), fault), wanted);

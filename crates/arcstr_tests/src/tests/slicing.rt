@@ -11,17 +11,17 @@ use std::sync::Wait;
 const MAX: usize = usize::MAX;
 
 #[test]
-fn slices_keep_their_parent(rt: HostRuntime) {
-    let text = &made(&rt, "abcde");
-    let tail = &part(&rt, text, 2..);
-    check_slice(&rt, tail, "cde", 2..5);
-    check_text(&rt, tail.parent().as_str(), "abcde");
-    check_count(&rt, text, Some(2));
-    let end = &part(&rt, text, 5..);
-    check_slice(&rt, end, "", 5..5);
-    check_text(&rt, end.parent().as_str(), "abcde");
-    check_no_slice(&rt, text.substr(&rt, 6..), RangeFault::OutOfOrder);
-    check_sliced(&rt, literal!("12345").substr(&rt, 1..4), "234", 1..4);
+fn slices_keep_their_parent(ref rt: HostRuntime) {
+    let text = &made(rt, "abcde");
+    let tail = &part(rt, text, 2..);
+    check_slice(rt, tail, "cde", 2..5);
+    check_text(rt, tail.parent().as_str(), "abcde");
+    check_count(rt, text, Some(2));
+    let end = &part(rt, text, 5..);
+    check_slice(rt, end, "", 5..5);
+    check_text(rt, end.parent().as_str(), "abcde");
+    check_no_slice(rt, text.substr(rt, 6..), RangeFault::OutOfOrder);
+    check_sliced(rt, literal!("12345").substr(rt, 1..4), "234", 1..4);
 }
 
 /// Asserts the text and the byte range of the slice of `aé`.
@@ -30,20 +30,20 @@ fn gives<R: Into<StrRange>>(rt: &(impl Abort + Wait), range: R, text: &str, plac
 }
 
 #[test]
-fn a_range_of_each_form_gives_its_slice(rt: HostRuntime) {
-    gives(&rt, 3.., "", 3..3);
-    gives(&rt, ..0, "", 0..0);
-    gives(&rt, ..1, "a", 0..1);
-    gives(&rt, 1..3, "é", 1..3);
-    gives(&rt, .., "aé", 0..3);
-    gives(&rt, 0..=0, "a", 0..1);
-    gives(&rt, 3..=2, "", 3..3);
-    gives(&rt, ..=0, "a", 0..1);
-    gives(&rt, ..=2, "aé", 0..3);
+fn a_range_of_each_form_gives_its_slice(ref rt: HostRuntime) {
+    gives(rt, 3.., "", 3..3);
+    gives(rt, ..0, "", 0..0);
+    gives(rt, ..1, "a", 0..1);
+    gives(rt, 1..3, "é", 1..3);
+    gives(rt, .., "aé", 0..3);
+    gives(rt, 0..=0, "a", 0..1);
+    gives(rt, 3..=2, "", 3..3);
+    gives(rt, ..=0, "a", 0..1);
+    gives(rt, ..=2, "aé", 0..3);
 }
 
 #[test]
-fn a_range_of_each_form_is_refused(rt: HostRuntime) {
+fn a_range_of_each_form_is_refused(ref rt: HostRuntime) {
     let refused = [
         (StrRange::From(2), RangeFault::OffBoundary),
         (StrRange::From(4), RangeFault::OutOfOrder),
@@ -64,19 +64,19 @@ fn a_range_of_each_form_is_refused(rt: HostRuntime) {
         (StrRange::ToInclusive(3), RangeFault::PastEnd),
     ];
     for (range, fault) in refused {
-        check_no_slice(&rt, literal!("aé").substr(&rt, range), fault);
+        check_no_slice(rt, literal!("aé").substr(rt, range), fault);
     }
 }
 
 #[test]
-fn a_part_is_read_without_a_handle(rt: HostRuntime) {
+fn a_part_is_read_without_a_handle(ref rt: HostRuntime) {
     let text = literal!("foobarbaz");
     let bar = text.get(StrRange::Between(3, 6));
-    check_part(&rt, bar, Some("bar"));
-    let text = made(&rt, "aé");
-    check_part(&rt, text.get(1..3), Some("é"));
-    check_part(&rt, text.get(0..2), None);
-    check_part(&rt, text.get(2..2), None);
+    check_part(rt, bar, Some("bar"));
+    let text = made(rt, "aé");
+    check_part(rt, text.get(1..3), Some("é"));
+    check_part(rt, text.get(0..2), None);
+    check_part(rt, text.get(2..2), None);
 }
 
 /// Returns the slice `bar` of `foobarbaz`.
@@ -115,17 +115,17 @@ fn found(rt: &(impl Abort + Wait), text: &ArcStr, shown: &str, place: usize) -> 
 }
 
 #[test]
-fn an_empty_view_is_found_everywhere(rt: HostRuntime) {
-    let text = made(&rt, "   abc");
+fn an_empty_view_is_found_everywhere(ref rt: HostRuntime) {
+    let text = made(rt, "   abc");
     for place in [99, MAX] {
-        let slice = found(&rt, &text, "", place);
-        check_nothing(&rt, &slice.expect(&rt, "not found"));
+        let slice = found(rt, &text, "", place);
+        check_nothing(rt, &slice.expect(rt, "not found"));
     }
-    check_nothing(&rt, &text.substr_from(&rt, StrView::whole("")));
+    check_nothing(rt, &text.substr_from(rt, StrView::whole("")));
 }
 
 #[test]
-fn a_view_is_found_where_its_text_stands(rt: HostRuntime) {
+fn a_view_is_found_where_its_text_stands(ref rt: HostRuntime) {
     let rows = [
         ("abab", "b", 3, Some(3..4)),
         ("abab", "ab", 2, Some(2..4)),
@@ -137,30 +137,30 @@ fn a_view_is_found_where_its_text_stands(rt: HostRuntime) {
         ("   abc", "abc", 0, None),
     ];
     for (text, shown, place, range) in rows {
-        let slice = found(&rt, &made(&rt, text), shown, place);
+        let slice = found(rt, &made(rt, text), shown, place);
         check_eq!(rt; slice.map(|slice| slice.range()), range);
     }
     check!(rt; StrView::at("abc", MAX).is_none());
 }
 
 #[test]
-fn a_trimmed_view_gives_its_slice(rt: HostRuntime) {
-    let text = &made(&rt, "   abc");
+fn a_trimmed_view_gives_its_slice(ref rt: HostRuntime) {
+    let text = &made(rt, "   abc");
     let view = StrView::whole(text.as_str()).trim();
-    let slice = text.try_substr_from(&rt, view).expect(&rt, "not found");
-    check_slice(&rt, &slice, "abc", 3..6);
+    let slice = text.try_substr_from(rt, view).expect(rt, "not found");
+    check_slice(rt, &slice, "abc", 3..6);
 }
 
 #[test]
-fn a_trimmed_view_of_a_slice_gives_its_slice(rt: HostRuntime) {
-    let slice = &part(&rt, &made(&rt, "foo   bar"), StrRange::From(3));
-    check_text(&rt, slice.as_str(), "   bar");
-    let trimmed = slice.substr_from(&rt, slice.view().trim());
-    check_slice(&rt, &trimmed, "bar", 6..9);
+fn a_trimmed_view_of_a_slice_gives_its_slice(ref rt: HostRuntime) {
+    let slice = &part(rt, &made(rt, "foo   bar"), StrRange::From(3));
+    check_text(rt, slice.as_str(), "   bar");
+    let trimmed = slice.substr_from(rt, slice.view().trim());
+    check_slice(rt, &trimmed, "bar", 6..9);
     let found = slice
-        .try_substr_from(&rt, slice.view().trim())
-        .expect(&rt, "not found");
-    check_slice(&rt, &found, "bar", 6..9);
+        .try_substr_from(rt, slice.view().trim())
+        .expect(rt, "not found");
+    check_slice(rt, &found, "bar", 6..9);
 }
 
 /// Returns the slice of `bar` that a view of `shown` at `place` shows, if there is one.
@@ -178,14 +178,10 @@ fn a_view_is_not_found_past_the_own_text(ref rt: HostRuntime) {
 }
 
 #[test]
-fn places_of_the_own_text_give_all_of_it(rt: HostRuntime) {
-    check_sliced(&rt, bar(&rt).substr_using(&rt, |_| 0..3), "bar", 3..6);
-    check_sliced(&rt, bar(&rt).try_substr_using(&rt, |_| 0..3), "bar", 3..6);
-    check_no_slice(
-        &rt,
-        bar(&rt).substr_using(&rt, |_| 0..9),
-        RangeFault::PastEnd,
-    );
+fn places_of_the_own_text_give_all_of_it(ref rt: HostRuntime) {
+    check_sliced(rt, bar(rt).substr_using(rt, |_| 0..3), "bar", 3..6);
+    check_sliced(rt, bar(rt).try_substr_using(rt, |_| 0..3), "bar", 3..6);
+    check_no_slice(rt, bar(rt).substr_using(rt, |_| 0..9), RangeFault::PastEnd);
 }
 
 #[test]
@@ -210,52 +206,52 @@ fn check_found_nothing(rt: &impl Abort, answer: Result<Substr, RangeFault>) {
 }
 
 #[test]
-fn equal_places_of_a_closure_give_the_slice_of_nothing(rt: HostRuntime) {
-    let text = &made(&rt, "aé");
-    check_found_nothing(&rt, text.substr_using(&rt, |_| 2..2));
-    check_found_nothing(&rt, text.substr_using(&rt, |_| MAX..MAX));
-    check_found_nothing(&rt, made(&rt, "abc").try_substr_using(&rt, |_| 7..7));
-    check_found_nothing(&rt, bar(&rt).substr_using(&rt, |_| 9..9));
+fn equal_places_of_a_closure_give_the_slice_of_nothing(ref rt: HostRuntime) {
+    let text = &made(rt, "aé");
+    check_found_nothing(rt, text.substr_using(rt, |_| 2..2));
+    check_found_nothing(rt, text.substr_using(rt, |_| MAX..MAX));
+    check_found_nothing(rt, made(rt, "abc").try_substr_using(rt, |_| 7..7));
+    check_found_nothing(rt, bar(rt).substr_using(rt, |_| 9..9));
 }
 
 #[test]
-fn a_closure_is_called_once_before_any_test(rt: HostRuntime) {
+fn a_closure_is_called_once_before_any_test(ref rt: HostRuntime) {
     let mut calls = 0u32;
-    let answer = literal!("abc").substr_using(&rt, |_| {
+    let answer = literal!("abc").substr_using(rt, |_| {
         calls += 1;
         9..8
     });
-    check_no_slice(&rt, answer, RangeFault::OutOfOrder);
+    check_no_slice(rt, answer, RangeFault::OutOfOrder);
     check!(rt; calls == 1);
 }
 
 // Views that are made from a text are found in it: `substr_from` accepts them without a test.
 
 #[test]
-fn trimmed_views_of_a_text_are_found(rt: HostRuntime) {
-    let text = &made(&rt, "  abc ");
+fn trimmed_views_of_a_text_are_found(ref rt: HostRuntime) {
+    let text = &made(rt, "  abc ");
     let whole = &text.view();
-    check_slice(&rt, &text.substr_from(&rt, whole.trim()), "abc", 2..5);
-    let tail = text.substr_from(&rt, whole.trim_start());
-    check_slice(&rt, &tail, "abc ", 2..6);
-    check_slice(&rt, &text.substr_from(&rt, whole.trim_end()), "  abc", 0..5);
+    check_slice(rt, &text.substr_from(rt, whole.trim()), "abc", 2..5);
+    let tail = text.substr_from(rt, whole.trim_start());
+    check_slice(rt, &tail, "abc ", 2..6);
+    check_slice(rt, &text.substr_from(rt, whole.trim_end()), "  abc", 0..5);
 }
 
 #[test]
-fn a_cut_of_a_view_of_a_text_is_found(rt: HostRuntime) {
-    let text = &made(&rt, "  abc ");
+fn a_cut_of_a_view_of_a_text_is_found(ref rt: HostRuntime) {
+    let text = &made(rt, "  abc ");
     let view = StrView::whole(text.as_str()).trim();
-    let cut = view.cut(1..3).expect(&rt, "no part");
-    check_slice(&rt, &text.substr_from(&rt, cut), "bc", 3..5);
+    let cut = view.cut(1..3).expect(rt, "no part");
+    check_slice(rt, &text.substr_from(rt, cut), "bc", 3..5);
 }
 
 #[test]
-fn views_of_the_own_text_of_a_slice_are_found(rt: HostRuntime) {
-    let slice = &part(&rt, &made(&rt, "key: value"), 4..);
+fn views_of_the_own_text_of_a_slice_are_found(ref rt: HostRuntime) {
+    let slice = &part(rt, &made(rt, "key: value"), 4..);
     let view = slice.view().trim();
-    let cut = view.cut(0..3).expect(&rt, "no part");
-    check_slice(&rt, &slice.substr_from(&rt, cut), "val", 5..8);
-    check_slice(&rt, &slice.substr_from(&rt, view), "value", 5..10);
+    let cut = view.cut(0..3).expect(rt, "no part");
+    check_slice(rt, &slice.substr_from(rt, cut), "val", 5..8);
+    check_slice(rt, &slice.substr_from(rt, view), "value", 5..10);
 }
 
 #[test]
@@ -292,11 +288,11 @@ fn last_slices(rt: &impl Wait, text: &ArcStr) -> [Option<Substr>; 2] {
 }
 
 #[test]
-fn views_in_a_loop_become_slices(rt: HostRuntime) {
-    let text = made(&rt, "é 1\r\n a, b \n");
+fn views_in_a_loop_become_slices(ref rt: HostRuntime) {
+    let text = made(rt, "é 1\r\n a, b \n");
     let wanted = [(" a, b ", 6..12), ("b", 10..11)];
-    for (slice, (text, range)) in last_slices(&rt, &text).into_iter().zip(wanted) {
-        check_slice(&rt, &slice.expect(&rt, "no slice"), text, range);
+    for (slice, (text, range)) in last_slices(rt, &text).into_iter().zip(wanted) {
+        check_slice(rt, &slice.expect(rt, "no slice"), text, range);
     }
 }
 
@@ -311,24 +307,24 @@ fn reaches(rt: &impl Wait, first: &Substr, last: &Substr) -> bool {
 }
 
 #[test]
-fn a_slice_reaches_to_the_end_of_another(rt: HostRuntime) {
-    let text = made(&rt, "f(a, é);");
-    let (name, last) = (part(&rt, &text, ..1), part(&rt, &text, 5..8));
-    let call = reach(&rt, &name, &last);
-    check_slice(&rt, &call, "f(a, é)", 0..8);
-    let own = reach(&rt, &last, &last);
-    check_slice(&rt, &own, "é)", 5..8);
-    check_count(&rt, &text, Some(5));
-    check!(rt; !reaches(&rt, &last, &name));
-    let nothing = reach(&rt, &last, &part(&rt, &text, 5..5));
-    check_slice(&rt, &nothing, "", 5..5);
+fn a_slice_reaches_to_the_end_of_another(ref rt: HostRuntime) {
+    let text = made(rt, "f(a, é);");
+    let (name, last) = (part(rt, &text, ..1), part(rt, &text, 5..8));
+    let call = reach(rt, &name, &last);
+    check_slice(rt, &call, "f(a, é)", 0..8);
+    let own = reach(rt, &last, &last);
+    check_slice(rt, &own, "é)", 5..8);
+    check_count(rt, &text, Some(5));
+    check!(rt; !reaches(rt, &last, &name));
+    let nothing = reach(rt, &last, &part(rt, &text, 5..5));
+    check_slice(rt, &nothing, "", 5..5);
 }
 
 #[test]
-fn the_end_of_a_slice_of_another_text_is_tested(rt: HostRuntime) {
-    let (text, other) = (made(&rt, "é"), made(&rt, "abc"));
-    let own = part(&rt, &text, ..0);
-    check!(rt; !reaches(&rt, &own, &part(&rt, &other, ..1)));
-    check!(rt; !reaches(&rt, &own, &part(&rt, &other, 1..3)));
-    check_count(&rt, &text, Some(2));
+fn the_end_of_a_slice_of_another_text_is_tested(ref rt: HostRuntime) {
+    let (text, other) = (made(rt, "é"), made(rt, "abc"));
+    let own = part(rt, &text, ..0);
+    check!(rt; !reaches(rt, &own, &part(rt, &other, ..1)));
+    check!(rt; !reaches(rt, &own, &part(rt, &other, 1..3)));
+    check_count(rt, &text, Some(2));
 }

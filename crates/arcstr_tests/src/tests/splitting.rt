@@ -100,24 +100,24 @@ fn check_split(rt: &(impl Abort + AllocGlobal + Wait), row: &SplitOnce) {
 }
 
 #[test]
-fn texts_are_split_as_str_is(rt: HostRuntime) {
+fn texts_are_split_as_str_is(ref rt: HostRuntime) {
     for row in SPLIT_ONCE {
-        check_split(&rt, row);
+        check_split(rt, row);
     }
 }
 
 #[test]
-fn texts_are_split_at_a_character(rt: HostRuntime) {
+fn texts_are_split_at_a_character(ref rt: HostRuntime) {
     let wanted = Some(("a", "b", 5));
-    let text = &made(&rt, "a😀b");
-    check_pair(&rt, text, 0, text.substr_split_once(&rt, '😀'), wanted);
-    check_pair(&rt, text, 0, text.substr_rsplit_once(&rt, '😀'), wanted);
-    check_pair(&rt, text, 0, text.substr_split_once(&rt, '='), None);
-    let slice = &middle(&rt, "a😀b");
+    let text = &made(rt, "a😀b");
+    check_pair(rt, text, 0, text.substr_split_once(rt, '😀'), wanted);
+    check_pair(rt, text, 0, text.substr_rsplit_once(rt, '😀'), wanted);
+    check_pair(rt, text, 0, text.substr_split_once(rt, '='), None);
+    let slice = &middle(rt, "a😀b");
     let parent = slice.parent();
-    check_pair(&rt, parent, 6, slice.substr_split_once(&rt, '😀'), wanted);
-    check_pair(&rt, parent, 6, slice.substr_rsplit_once(&rt, '😀'), wanted);
-    check_pair(&rt, parent, 6, slice.substr_split_once(&rt, '='), None);
+    check_pair(rt, parent, 6, slice.substr_split_once(rt, '😀'), wanted);
+    check_pair(rt, parent, 6, slice.substr_rsplit_once(rt, '😀'), wanted);
+    check_pair(rt, parent, 6, slice.substr_split_once(rt, '='), None);
 }
 
 /// A byte offset in `Löf`, and the result of `split_at`.
@@ -145,16 +145,16 @@ fn check_split_at(
 }
 
 #[test]
-fn texts_are_split_at_a_place_as_str_is(rt: HostRuntime) {
-    let text = made(&rt, "Löf");
-    let slice = middle(&rt, "Löf");
+fn texts_are_split_at_a_place_as_str_is(ref rt: HostRuntime) {
+    let text = made(rt, "Löf");
+    let slice = middle(rt, "Löf");
     for row in SPLIT_AT {
-        check_split_at(&rt, &text, 0, text.substr_split_at(&rt, row.0), *row);
+        check_split_at(rt, &text, 0, text.substr_split_at(rt, row.0), *row);
         check_split_at(
-            &rt,
+            rt,
             slice.parent(),
             4,
-            slice.substr_split_at(&rt, row.0),
+            slice.substr_split_at(rt, row.0),
             *row,
         );
     }
@@ -232,37 +232,37 @@ fn check_stripped_slice(rt: &(impl Abort + AllocGlobal + Wait), row: &Strip) {
 }
 
 #[test]
-fn texts_are_stripped_as_str_is(rt: HostRuntime) {
+fn texts_are_stripped_as_str_is(ref rt: HostRuntime) {
     for row in STRIP {
-        check_stripped_text(&rt, row);
+        check_stripped_text(rt, row);
     }
 }
 
 #[test]
-fn slices_are_stripped_as_str_is(rt: HostRuntime) {
+fn slices_are_stripped_as_str_is(ref rt: HostRuntime) {
     for row in STRIP {
-        check_stripped_slice(&rt, row);
+        check_stripped_slice(rt, row);
     }
 }
 
 #[test]
-fn a_character_is_taken_off(rt: HostRuntime) {
-    let text = &made(&rt, "éaé");
-    check_rest(&rt, text, 2, text.substr_strip_prefix(&rt, 'é'), Some("aé"));
-    check_rest(&rt, text, 0, text.substr_strip_suffix(&rt, 'é'), Some("éa"));
-    check_rest(&rt, text, 0, text.substr_strip_suffix(&rt, 'a'), None);
+fn a_character_is_taken_off(ref rt: HostRuntime) {
+    let text = &made(rt, "éaé");
+    check_rest(rt, text, 2, text.substr_strip_prefix(rt, 'é'), Some("aé"));
+    check_rest(rt, text, 0, text.substr_strip_suffix(rt, 'é'), Some("éa"));
+    check_rest(rt, text, 0, text.substr_strip_suffix(rt, 'a'), None);
 }
 
 #[test]
-fn parts_at_either_end_become_slices(rt: HostRuntime) {
-    let text = &made(&rt, "--é--");
-    let rest = text.substr_of_suffix(&rt, text.trim_start_matches('-'));
-    check_rest(&rt, text, 2, Some(rest), Some("é--"));
-    let rest = text.substr_of_prefix(&rt, text.trim_end_matches('-'));
-    check_rest(&rt, text, 0, Some(rest), Some("--é"));
-    let slice = &middle(&rt, "--é--");
-    let rest = slice.substr_of_suffix(&rt, slice.trim_start_matches('-'));
-    check_rest(&rt, slice.parent(), 8, Some(rest), Some("é--"));
-    let rest = slice.substr_of_prefix(&rt, slice.trim_end_matches('-'));
-    check_rest(&rt, slice.parent(), 6, Some(rest), Some("--é"));
+fn parts_at_either_end_become_slices(ref rt: HostRuntime) {
+    let text = &made(rt, "--é--");
+    let rest = text.substr_of_suffix(rt, text.trim_start_matches('-'));
+    check_rest(rt, text, 2, Some(rest), Some("é--"));
+    let rest = text.substr_of_prefix(rt, text.trim_end_matches('-'));
+    check_rest(rt, text, 0, Some(rest), Some("--é"));
+    let slice = &middle(rt, "--é--");
+    let rest = slice.substr_of_suffix(rt, slice.trim_start_matches('-'));
+    check_rest(rt, slice.parent(), 8, Some(rest), Some("é--"));
+    let rest = slice.substr_of_prefix(rt, slice.trim_end_matches('-'));
+    check_rest(rt, slice.parent(), 6, Some(rest), Some("--é"));
 }

@@ -21,37 +21,37 @@ fn cloned_often(rt: &impl Wait, text: &ArcStr) -> usize {
 }
 
 #[test]
-fn a_text_and_a_static_text_move_to_a_thread(rt: HostRuntime) {
-    let text = made(&rt, "foobar");
+fn a_text_and_a_static_text_move_to_a_thread(ref rt: HostRuntime) {
+    let text = made(rt, "foobar");
     let kept = text.leak();
-    let reader = thread::spawn(&rt, move || (text.len(), kept.len())).expect(&rt, "no thread");
-    check!(rt; reader.join(&rt) == (6, 6));
+    let reader = thread::spawn(rt, move || (text.len(), kept.len())).expect(rt, "no thread");
+    check!(rt; reader.join(rt) == (6, 6));
 }
 
 #[test]
-fn two_threads_clone_and_drop_one_text(rt: HostRuntime) {
-    let text = &made(&rt, "foobar");
-    let lengths = thread::join(&rt, || cloned_often(&rt, text), || cloned_often(&rt, text));
+fn two_threads_clone_and_drop_one_text(ref rt: HostRuntime) {
+    let text = &made(rt, "foobar");
+    let lengths = thread::join(rt, || cloned_often(rt, text), || cloned_often(rt, text));
     check!(rt; lengths == (6, 6));
-    check_text(&rt, text.as_str(), "foobar");
-    check_count(&rt, text, Some(1));
+    check_text(rt, text.as_str(), "foobar");
+    check_count(rt, text, Some(1));
 }
 
 #[test]
-fn a_builder_moves_from_thread_to_thread(rt: HostRuntime) {
-    let mut builder = ArcStrBuilder::with_capacity(rt.alloc(), 6).expect(&rt, "no memory");
-    builder.push('f').expect(&rt, "no memory");
-    let writer = thread::spawn(&rt, move || {
+fn a_builder_moves_from_thread_to_thread(ref rt: HostRuntime) {
+    let mut builder = ArcStrBuilder::with_capacity(rt.alloc(), 6).expect(rt, "no memory");
+    builder.push('f').expect(rt, "no memory");
+    let writer = thread::spawn(rt, move || {
         let is_pushed = builder.push_str("ooba").is_ok();
         (builder, is_pushed)
     });
-    let (mut builder, is_pushed) = writer.expect(&rt, "no thread").join(&rt);
+    let (mut builder, is_pushed) = writer.expect(rt, "no thread").join(rt);
     check!(rt; is_pushed);
-    builder.push('r').expect(&rt, "no memory");
-    let finisher = thread::spawn(&rt, move || builder.finish()).expect(&rt, "no thread");
-    let text = finisher.join(&rt).expect(&rt, "no memory");
-    check_text(&rt, text.as_str(), "foobar");
-    check_count(&rt, &text, Some(1));
+    builder.push('r').expect(rt, "no memory");
+    let finisher = thread::spawn(rt, move || builder.finish()).expect(rt, "no thread");
+    let text = finisher.join(rt).expect(rt, "no memory");
+    check_text(rt, text.as_str(), "foobar");
+    check_count(rt, &text, Some(1));
 }
 
 /// Returns the value, whose type must be `Send` and `Sync`.
@@ -60,32 +60,32 @@ fn crossing<T: Send + Sync>(value: T) -> T {
 }
 
 #[test]
-fn raw_handles_static_texts_and_faults_may_cross_threads(rt: HostRuntime) {
-    check_text(&rt, crossing(made(&rt, "foobar").leak()).as_str(), "foobar");
-    let raw = crossing(ArcStr::into_raw(made(&rt, "foobar")));
-    check_text(&rt, ArcStr::from_raw(raw).as_str(), "foobar");
+fn raw_handles_static_texts_and_faults_may_cross_threads(ref rt: HostRuntime) {
+    check_text(rt, crossing(made(rt, "foobar").leak()).as_str(), "foobar");
+    let raw = crossing(ArcStr::into_raw(made(rt, "foobar")));
+    check_text(rt, ArcStr::from_raw(raw).as_str(), "foobar");
     check_eq!(rt; crossing(JsonFault::Memory), JsonFault::Memory);
 }
 
 #[test]
-fn a_slice_is_read_where_its_parents_handle_is_not(rt: HostRuntime) {
-    let text = made(&rt, "foobarbaz");
-    let slice = part(&rt, &text, 3..6);
-    let owner = thread::spawn(&rt, move || drop(text)).expect(&rt, "no thread");
-    let reader = thread::spawn(&rt, move || (slice.len(), slice.as_str() == "bar"));
-    let reader = reader.expect(&rt, "no thread");
-    owner.join(&rt);
-    check!(rt; reader.join(&rt) == (3, true));
+fn a_slice_is_read_where_its_parents_handle_is_not(ref rt: HostRuntime) {
+    let text = made(rt, "foobarbaz");
+    let slice = part(rt, &text, 3..6);
+    let owner = thread::spawn(rt, move || drop(text)).expect(rt, "no thread");
+    let reader = thread::spawn(rt, move || (slice.len(), slice.as_str() == "bar"));
+    let reader = reader.expect(rt, "no thread");
+    owner.join(rt);
+    check!(rt; reader.join(rt) == (3, true));
 }
 
 #[test]
-fn two_threads_read_one_slice(rt: HostRuntime) {
-    let slice = &Substr::from_str(rt.alloc(), "foobar").expect(&rt, "no memory");
+fn two_threads_read_one_slice(ref rt: HostRuntime) {
+    let slice = &Substr::from_str(rt.alloc(), "foobar").expect(rt, "no memory");
     let read = thread::join(
-        &rt,
+        rt,
         || slice.as_str() == "foobar",
-        || slice.clone(&rt).as_str() == "foobar",
+        || slice.clone(rt).as_str() == "foobar",
     );
     check!(rt; read == (true, true));
-    check_count(&rt, slice.parent(), Some(1));
+    check_count(rt, slice.parent(), Some(1));
 }

@@ -53,9 +53,9 @@ fn check_slice_of(rt: &(impl Abort + Wait), slice: &Substr, row: &Trim) {
 }
 
 #[test]
-fn texts_are_trimmed_as_str_is(rt: HostRuntime) {
+fn texts_are_trimmed_as_str_is(ref rt: HostRuntime) {
     for row in TRIM {
-        check_text(&rt, &made(&rt, row.0), row);
-        check_slice_of(&rt, &middle(&rt, row.0), row);
+        check_text(rt, &made(rt, row.0), row);
+        check_slice_of(rt, &middle(rt, row.0), row);
     }
 }

@@ -1,5 +1,6 @@
 //! `assert!` and `assert_eq!` as calls of functions: a test without branches of its own is proved
-//! in a fraction of the time.
+//! in a fraction of the time. One that takes its runtime as `ref rt` is proved faster than one that
+//! borrows it in each call.
 use std::alloc::Global;
 use std::fmt::{Debug, Display};
 use std::process::Abort;
@@ -10,7 +11,7 @@ use std::thread;
 /// Asserts a condition.
 macro_rules! check {
     ($rt:expr; $condition:expr $(,)?) => {
-        $crate::tests::checks::holds(&$rt, $condition, stringify!($condition))
+        $crate::tests::checks::holds($rt, $condition, stringify!($condition))
     };
 }
 
@@ -19,7 +20,7 @@ pub(crate) use check;
 /// Asserts that two values are equal.
 macro_rules! check_eq {
     ($rt:expr; $left:expr, $right:expr $(,)?) => {
-        $crate::tests::checks::are_equal(&$rt, &$left, &$right)
+        $crate::tests::checks::are_equal($rt, &$left, &$right)
     };
 }
 
@@ -79,8 +80,8 @@ fn a_check_that_does_not_hold_fails(rt: HostRuntime) {
         };
         let checks = move || {
             match number {
-                0 => check!(sleeper; 1 == 2),
-                _ => check_eq!(sleeper; 1, 2),
+                0 => check!(&sleeper; 1 == 2),
+                _ => check_eq!(&sleeper; 1, 2),
             }
             sleeper.outcome.meeting.wait(&sleeper.rt);
         };

@@ -55,20 +55,20 @@ fn check_absent<F: Fn(&str) -> bool>(rt: &impl Abort, letters: &str, has: F)
 
 /// A word of 17,000,000 bytes.
 #[test]
-fn a_long_word_is_found_by_each_interner(rt: HostRuntime) {
+fn a_long_word_is_found_by_each_interner(ref rt: HostRuntime) {
     let alloc = rt.alloc();
-    let line = "foobar, ".repeat(alloc, 125).expect(&rt, "no memory");
-    let long = &ArcStr::repeat(alloc, &line, 17_000).expect(&rt, "no memory");
+    let line = "foobar, ".repeat(alloc, 125).expect(rt, "no memory");
+    let long = &ArcStr::repeat(alloc, &line, 17_000).expect(rt, "no memory");
     check_eq!(rt; long.len(), 17_000_000);
     let mut words = WordList::new(alloc);
-    words.intern("foo").expect(&rt, "refused");
-    words.intern(long.as_str()).expect(&rt, "refused");
+    words.intern("foo").expect(rt, "refused");
+    words.intern(long.as_str()).expect(rt, "refused");
     check!(rt; words.get(long.as_str()).is_some_and(|symbol| symbol.index() == 1));
     let mut interner = Interner::new(alloc);
-    interner.intern(long.as_str()).expect(&rt, "refused");
+    interner.intern(long.as_str()).expect(rt, "refused");
     check!(rt; interner.get(long.as_str()).is_some());
-    let shared = SharedInterner::new(alloc, 2).expect(&rt, "refused");
-    shared.intern(&rt, long.as_str()).expect(&rt, "refused");
+    let shared = SharedInterner::new(alloc, 2).expect(rt, "refused");
+    shared.intern(rt, long.as_str()).expect(rt, "refused");
     check!(rt; shared.get(long.as_str()).is_some());
     check_eq!(rt; ArcStr::strong_count(long), Some(1));
 }

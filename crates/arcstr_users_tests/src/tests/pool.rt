@@ -42,9 +42,9 @@ impl Gate for Meeting {
 }
 
 #[test]
-fn each_worker_hands_its_clone_back(rt: HostRuntime) {
-    let text = &ArcStr::from_str(rt.alloc(), "foobar").expect(&rt, "refused");
-    let handles = callers(&rt, rt.alloc(), text, 3, &OpenGate).expect(&rt, "refused");
+fn each_worker_hands_its_clone_back(ref rt: HostRuntime) {
+    let text = &ArcStr::from_str(rt.alloc(), "foobar").expect(rt, "refused");
+    let handles = callers(rt, rt.alloc(), text, 3, &OpenGate).expect(rt, "refused");
     check_eq!(rt; handles.len(), 3);
     check_eq!(rt; handles[2].as_str(), "foobar");
     check_eq!(rt; ArcStr::strong_count(text), Some(4));
@@ -55,17 +55,17 @@ fn each_worker_hands_its_clone_back(rt: HostRuntime) {
 /// If a body starts fewer threads than there are workers, the first worker waits in vain. A worker
 /// that passes before it clones misses its own clone.
 #[test]
-fn all_workers_meet_with_their_clones(rt: HostRuntime) {
-    let text = &ArcStr::from_str(rt.alloc(), "foobar").expect(&rt, "refused");
+fn all_workers_meet_with_their_clones(ref rt: HostRuntime) {
+    let text = &ArcStr::from_str(rt.alloc(), "foobar").expect(rt, "refused");
     for (count, handles, workers) in [(1, 3, 1), (2, 4, 2), (3, 5, 3), (16, 18, 16)] {
         let gate = Meeting {
-            text: text.clone(&rt),
+            text: text.clone(rt),
             handles,
             workers,
             arrived: AtomicU64::new(0),
             met: AtomicU64::new(0),
         };
-        check_eq!(rt; callers(&rt, rt.alloc(), text, count, &gate).expect(&rt, "refused").len(), count);
+        check_eq!(rt; callers(rt, rt.alloc(), text, count, &gate).expect(rt, "refused").len(), count);
         check_eq!(rt; gate.met.load(Ordering::SeqCst), workers);
     }
 }
@@ -85,15 +85,15 @@ impl Gate for Counted {
 }
 
 #[test]
-fn each_worker_passes_once_with_its_number(rt: HostRuntime) {
-    let text = ArcStr::from_str(rt.alloc(), "foobar").expect(&rt, "refused");
+fn each_worker_passes_once_with_its_number(ref rt: HostRuntime) {
+    let text = ArcStr::from_str(rt.alloc(), "foobar").expect(rt, "refused");
     for workers in [1, 2, 64] {
         let mut passes = Vec::new(rt.alloc());
         for _ in 0..workers {
-            passes.push(AtomicU64::new(0)).expect(&rt, "refused");
+            passes.push(AtomicU64::new(0)).expect(rt, "refused");
         }
         let gate = Counted { passes };
-        let handles = &callers(&rt, rt.alloc(), &text, workers, &gate).expect(&rt, "refused");
+        let handles = &callers(rt, rt.alloc(), &text, workers, &gate).expect(rt, "refused");
         check_eq!(rt; handles.len(), workers);
         for (passes, handle) in gate.passes.iter().zip(handles) {
             check_eq!(rt; passes.load(Ordering::SeqCst), 1);
@@ -103,12 +103,12 @@ fn each_worker_passes_once_with_its_number(rt: HostRuntime) {
 }
 
 #[test]
-fn prints_each_fault(rt: HostRuntime) {
+fn prints_each_fault(ref rt: HostRuntime) {
     for (fault, wanted) in [
         (PoolFault::Memory, "out of memory"),
         (PoolFault::NoThread, "no thread"),
     ] {
-        let printed = format!(in rt.alloc(); "{fault}").expect(&rt, "refused");
+        let printed = format!(in rt.alloc(); "{fault}").expect(rt, "refused");
         check_eq!(rt; printed.as_str(), wanted);
     }
 }

@@ -78,13 +78,13 @@ fn expect<R: Abort>(rt: &R, found: &Outcome, status: u8, output: &str, errors: &
 }
 
 #[test]
-fn answers_a_script(rt: HostRuntime) {
-    let found = run_program(&rt, &["script"], FIRST_SCRIPT, NO_FAULT).expect(&rt, "refused");
-    expect(&rt, &found, 0, FIRST_ANSWER, "");
+fn answers_a_script(ref rt: HostRuntime) {
+    let found = run_program(rt, &["script"], FIRST_SCRIPT, NO_FAULT).expect(rt, "refused");
+    expect(rt, &found, 0, FIRST_ANSWER, "");
 }
 
 #[test]
-fn prints_its_usage(rt: HostRuntime) {
+fn prints_its_usage(ref rt: HostRuntime) {
     let lists: [&[&str]; 8] = [
         &[],
         &["scripts"],
@@ -96,22 +96,22 @@ fn prints_its_usage(rt: HostRuntime) {
         &["threads", "2", "2"],
     ];
     for arguments in lists {
-        let found = run_program(&rt, arguments, FIRST_SCRIPT, NO_FAULT).expect(&rt, "refused");
-        expect(&rt, &found, 1, "", USAGE);
+        let found = run_program(rt, arguments, FIRST_SCRIPT, NO_FAULT).expect(rt, "refused");
+        expect(rt, &found, 1, "", USAGE);
     }
 }
 
 #[test]
-fn refuses_a_limit(rt: HostRuntime) {
+fn refuses_a_limit(ref rt: HostRuntime) {
     let script = "limit 4611686018427387904\nmake\n";
-    let found = run_program(&rt, &["script"], script, NO_FAULT).expect(&rt, "refused");
-    expect(&rt, &found, 2, "", TOO_LARGE);
+    let found = run_program(rt, &["script"], script, NO_FAULT).expect(rt, "refused");
+    expect(rt, &found, 2, "", TOO_LARGE);
 }
 
 /// The 49 bytes of the script take 17 reads of three bytes, and one read that finds the end. The 44
 /// bytes of the answer take 22 writes of two bytes. Each write before the fault writes two of them.
 #[test]
-fn fails_at_each_read_and_write(rt: HostRuntime) {
+fn fails_at_each_read_and_write(ref rt: HostRuntime) {
     for read in 0..20 {
         for write in 0..24 {
             let at = FailsAt {
@@ -119,32 +119,32 @@ fn fails_at_each_read_and_write(rt: HostRuntime) {
                 write,
                 error: NEVER,
             };
-            let found = &run_program(&rt, &["script"], FIRST_SCRIPT, at).expect(&rt, "refused");
+            let found = &run_program(rt, &["script"], FIRST_SCRIPT, at).expect(rt, "refused");
             let taken = if read < 18 { 0 } else { write.min(22) as usize };
-            let prefix = FIRST_ANSWER.get(..2 * taken).expect(&rt, "short");
+            let prefix = FIRST_ANSWER.get(..2 * taken).expect(rt, "short");
             let (status, line) = if read < 18 || write < 22 {
                 (4, IO)
             } else {
                 (0, "")
             };
             assert_eq!(rt; found.status, status, "{read} {write}");
-            expect(&rt, found, status, prefix, line);
+            expect(rt, found, status, prefix, line);
         }
     }
 }
 
 #[test]
-fn keeps_its_status_where_no_error_can_be_printed(rt: HostRuntime) {
+fn keeps_its_status_where_no_error_can_be_printed(ref rt: HostRuntime) {
     for error in 0..4 {
         let at = FailsAt { error, ..NO_FAULT };
-        let found = &run_program(&rt, &[], FIRST_SCRIPT, at).expect(&rt, "refused");
+        let found = &run_program(rt, &[], FIRST_SCRIPT, at).expect(rt, "refused");
         check_eq!(rt; found.status, 1);
         check_eq!(rt; found.output.len(), 0);
     }
 }
 
 #[test]
-fn ends_if_its_arguments_cannot_be_read(rt: HostRuntime) {
+fn ends_if_its_arguments_cannot_be_read(ref rt: HostRuntime) {
     for (kind, status, line) in [
         (ErrorKind::InvalidData, 1, USAGE),
         (ErrorKind::OutOfMemory, 3, NO_MEMORY),
@@ -159,114 +159,114 @@ fn ends_if_its_arguments_cannot_be_read(rt: HostRuntime) {
 }
 
 #[test]
-fn faults_have_one_byte(rt: HostRuntime) {
+fn faults_have_one_byte(ref rt: HostRuntime) {
     check_eq!(rt; (size_of::<PoolFault>(), size_of::<CopyFault>()), (1, 1));
     check_eq!(rt; size_of::<TokensFault>(), 1);
 }
 
 #[test]
-fn other_counts_are_no_command(rt: HostRuntime) {
+fn other_counts_are_no_command(ref rt: HostRuntime) {
     for count in ["0", "65", "02", "+2", "2 ", "", "two"] {
         for command in ["threads", "tokens"] {
-            let found = run_program(&rt, &[command, count], LINES, NO_FAULT).expect(&rt, "refused");
-            expect(&rt, &found, 1, "", USAGE);
+            let found = run_program(rt, &[command, count], LINES, NO_FAULT).expect(rt, "refused");
+            expect(rt, &found, 1, "", USAGE);
         }
     }
 }
 
 #[test]
-fn two_workers_print_their_texts(rt: HostRuntime) {
+fn two_workers_print_their_texts(ref rt: HostRuntime) {
     let lines = "worker 0 foobar\nworker 1 foobar\ndone 2\n";
-    let found = run_program(&rt, &["threads", "2"], "", NO_FAULT).expect(&rt, "refused");
-    expect(&rt, &found, 0, lines, "");
+    let found = run_program(rt, &["threads", "2"], "", NO_FAULT).expect(rt, "refused");
+    expect(rt, &found, 0, lines, "");
 }
 
 #[test]
-fn sixty_four_workers_are_the_most(rt: HostRuntime) {
+fn sixty_four_workers_are_the_most(ref rt: HostRuntime) {
     let mut lines = String::new(rt.alloc());
     for worker in 0..64 {
-        write!(lines, "worker {worker} foobar\n").expect(&rt, "refused");
+        write!(lines, "worker {worker} foobar\n").expect(rt, "refused");
     }
-    lines.push_str("done 64\n").expect(&rt, "refused");
-    let found = run_program(&rt, &["threads", "64"], "", NO_FAULT).expect(&rt, "refused");
-    expect(&rt, &found, 0, lines.as_str(), "");
+    lines.push_str("done 64\n").expect(rt, "refused");
+    let found = run_program(rt, &["threads", "64"], "", NO_FAULT).expect(rt, "refused");
+    expect(rt, &found, 0, lines.as_str(), "");
 }
 
 #[test]
-fn a_fault_of_writing_ends_the_callers_too(rt: HostRuntime) {
+fn a_fault_of_writing_ends_the_callers_too(ref rt: HostRuntime) {
     let at = FailsAt {
         write: 3,
         ..NO_FAULT
     };
-    let found = &run_program(&rt, &["threads", "1"], "", at).expect(&rt, "refused");
+    let found = &run_program(rt, &["threads", "1"], "", at).expect(rt, "refused");
     check_eq!(rt; found.status, 4);
     check_eq!(rt; found.output.as_slice(), b"worker".as_slice());
 }
 
 #[test]
-fn prints_the_words_of_each_line(rt: HostRuntime) {
+fn prints_the_words_of_each_line(ref rt: HostRuntime) {
     for workers in ["1", "2", "3", "64"] {
-        let found = run_program(&rt, &["tokens", workers], LINES, NO_FAULT).expect(&rt, "refused");
-        expect(&rt, &found, 0, WORDS_OF_LINES, "");
+        let found = run_program(rt, &["tokens", workers], LINES, NO_FAULT).expect(rt, "refused");
+        expect(rt, &found, 0, WORDS_OF_LINES, "");
     }
 }
 
 /// Each line has 404 bytes.
 #[test]
-fn prints_the_words_of_3_000_lines(rt: HostRuntime) {
+fn prints_the_words_of_3_000_lines(ref rt: HostRuntime) {
     let mut lines = String::new(rt.alloc());
     let mut wanted = String::new(rt.alloc());
     for number in 0..3_000 {
-        write!(lines, "{:>403}\n", "ab").expect(&rt, "refused");
-        write!(wanted, "{number} 401..403 ab\n").expect(&rt, "refused");
+        write!(lines, "{:>403}\n", "ab").expect(rt, "refused");
+        write!(wanted, "{number} 401..403 ab\n").expect(rt, "refused");
     }
-    let found = run_program(&rt, &["tokens", "3"], lines.as_str(), NO_FAULT).expect(&rt, "refused");
-    expect(&rt, &found, 0, wanted.as_str(), "");
+    let found = run_program(rt, &["tokens", "3"], lines.as_str(), NO_FAULT).expect(rt, "refused");
+    expect(rt, &found, 0, wanted.as_str(), "");
 }
 
 #[test]
-fn a_last_line_needs_no_end(rt: HostRuntime) {
-    let found = run_program(&rt, &["tokens", "2"], " a\r\nb", NO_FAULT).expect(&rt, "refused");
-    expect(&rt, &found, 0, "0 1..2 a\n1 0..1 b\n", "");
+fn a_last_line_needs_no_end(ref rt: HostRuntime) {
+    let found = run_program(rt, &["tokens", "2"], " a\r\nb", NO_FAULT).expect(rt, "refused");
+    expect(rt, &found, 0, "0 1..2 a\n1 0..1 b\n", "");
 }
 
 #[test]
-fn inputs_without_words_print_nothing(rt: HostRuntime) {
+fn inputs_without_words_print_nothing(ref rt: HostRuntime) {
     for input in ["", "\n", " \n\t\n"] {
-        let found = run_program(&rt, &["tokens", "2"], input, NO_FAULT).expect(&rt, "refused");
-        expect(&rt, &found, 0, "", "");
+        let found = run_program(rt, &["tokens", "2"], input, NO_FAULT).expect(rt, "refused");
+        expect(rt, &found, 0, "", "");
     }
 }
 
 #[test]
-fn refuses_bytes_that_are_not_utf8(rt: HostRuntime) {
+fn refuses_bytes_that_are_not_utf8(ref rt: HostRuntime) {
     let inputs: [&[u8]; 3] = [b"\xff", b"a b\n\xc3", b"\xc3\n\xa9"];
     for input in inputs {
-        let found = run_on_bytes(&rt, &["tokens", "2"], input, NO_FAULT).expect(&rt, "refused");
-        expect(&rt, &found, 6, "", NOT_UTF8);
+        let found = run_on_bytes(rt, &["tokens", "2"], input, NO_FAULT).expect(rt, "refused");
+        expect(rt, &found, 6, "", NOT_UTF8);
     }
 }
 
 /// The 17 bytes of the lines take six reads of three bytes, and one read that finds the end.
 #[test]
-fn tokens_fail_at_each_read(rt: HostRuntime) {
+fn tokens_fail_at_each_read(ref rt: HostRuntime) {
     for read in 0..7 {
         let at = FailsAt { read, ..NO_FAULT };
-        let found = run_program(&rt, &["tokens", "2"], LINES, at).expect(&rt, "refused");
-        expect(&rt, &found, 4, "", IO);
+        let found = run_program(rt, &["tokens", "2"], LINES, at).expect(rt, "refused");
+        expect(rt, &found, 4, "", IO);
     }
 }
 
 /// The 42 bytes of the words take 21 writes of two bytes. Each write before the fault writes two of
 /// them.
 #[test]
-fn tokens_fail_at_each_write(rt: HostRuntime) {
+fn tokens_fail_at_each_write(ref rt: HostRuntime) {
     for write in 0..21 {
         let at = FailsAt { write, ..NO_FAULT };
-        let found = &run_program(&rt, &["tokens", "2"], LINES, at).expect(&rt, "refused");
+        let found = &run_program(rt, &["tokens", "2"], LINES, at).expect(rt, "refused");
         let prefix = WORDS_OF_LINES.as_bytes().get(..2 * write as usize);
         check_eq!(rt; found.status, 4);
-        check_eq!(rt; found.output.as_slice(), prefix.expect(&rt, "short"));
+        check_eq!(rt; found.output.as_slice(), prefix.expect(rt, "short"));
         check_eq!(rt; found.errors.as_slice(), IO.as_bytes());
     }
 }
@@ -277,7 +277,7 @@ const TOO_LARGE_A_LIMIT: &str = "limit 4611686018427387904\nmake\n";
 /// Arguments are tested first. Then a fault of reading comes before a limit that is too large and
 /// before an input that is not UTF-8, and these come before a fault of writing.
 #[test]
-fn tells_the_first_of_two_faults(rt: HostRuntime) {
+fn tells_the_first_of_two_faults(ref rt: HostRuntime) {
     let none: &[&str] = &[];
     let script: &[&str] = &["script"];
     let tokens: &[&str] = &["tokens", "2"];
@@ -307,7 +307,7 @@ fn tells_the_first_of_two_faults(rt: HostRuntime) {
         (tokens, b"\xff", NO_FAULT, 6, NOT_UTF8),
     ];
     for (arguments, input, at, status, line) in rows {
-        let found = run_on_bytes(&rt, arguments, input, at).expect(&rt, "no memory");
-        expect(&rt, &found, status, "", line);
+        let found = run_on_bytes(rt, arguments, input, at).expect(rt, "no memory");
+        expect(rt, &found, status, "", line);
     }
 }

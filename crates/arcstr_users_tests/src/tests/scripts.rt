@@ -61,17 +61,17 @@ fn check_lines<R: Abort + AllocGlobal>(rt: &R, first_line: &str, lines: &[(&str,
 }
 
 #[test]
-fn answers_each_command_with_each_reply(rt: HostRuntime) {
-    check_lines(&rt, "limit 5\n", &LINES);
+fn answers_each_command_with_each_reply(ref rt: HostRuntime) {
+    check_lines(rt, "limit 5\n", &LINES);
 }
 
 #[test]
-fn a_clone_past_the_limit_marks_the_block(rt: HostRuntime) {
-    check_lines(&rt, "limit 1\n", &LINES_PAST_THE_LIMIT);
+fn a_clone_past_the_limit_marks_the_block(ref rt: HostRuntime) {
+    check_lines(rt, "limit 1\n", &LINES_PAST_THE_LIMIT);
 }
 
 #[test]
-fn takes_no_other_byte(rt: HostRuntime) {
+fn takes_no_other_byte(ref rt: HostRuntime) {
     let lines: [&[u8]; 12] = [
         b"make\r",
         b"make ",
@@ -87,14 +87,14 @@ fn takes_no_other_byte(rt: HostRuntime) {
         b"\xe9",
     ];
     for line in lines {
-        let mut script = b"limit 5\nmake\n".to_vec(rt.alloc()).expect(&rt, "refused");
-        script.extend_from_slice(line).expect(&rt, "refused");
-        check_answer(&rt, &script, "made 0\nbad\n");
+        let mut script = b"limit 5\nmake\n".to_vec(rt.alloc()).expect(rt, "refused");
+        script.extend_from_slice(line).expect(rt, "refused");
+        check_answer(rt, &script, "made 0\nbad\n");
     }
 }
 
 #[test]
-fn wants_a_lawful_first_line(rt: HostRuntime) {
+fn wants_a_lawful_first_line(ref rt: HostRuntime) {
     let scripts: [&[u8]; 10] = [
         b"",
         b"\n",
@@ -108,7 +108,7 @@ fn wants_a_lawful_first_line(rt: HostRuntime) {
         b"make\nlimit 5\n",
     ];
     for script in scripts {
-        check_answer(&rt, script, "bad limit\n");
+        check_answer(rt, script, "bad limit\n");
     }
 }
 
@@ -137,7 +137,7 @@ fn run_first_script<A: Allocator + Copy>(
 }
 
 #[test]
-fn writes_the_answer_to_a_script(rt: HostRuntime) {
+fn writes_the_answer_to_a_script(ref rt: HostRuntime) {
     let found = &run_first_script(rt.alloc(), rt.alloc(), NEVER, NEVER);
     check_eq!(rt; found.result, Ok(()));
     check_eq!(rt; found.written.as_slice(), FIRST_ANSWER.as_bytes());
@@ -145,7 +145,7 @@ fn writes_the_answer_to_a_script(rt: HostRuntime) {
 
 /// The 49 bytes of the script take 17 reads of three bytes, and one read that finds the end.
 #[test]
-fn writes_nothing_after_a_fault_of_reading(rt: HostRuntime) {
+fn writes_nothing_after_a_fault_of_reading(ref rt: HostRuntime) {
     for read in 0..18 {
         let found = &run_first_script(rt.alloc(), rt.alloc(), read, NEVER);
         assert_eq!(rt; found.result, Err(CopyFault::Io), "{read}");
@@ -156,10 +156,10 @@ fn writes_nothing_after_a_fault_of_reading(rt: HostRuntime) {
 /// The 44 bytes of the answer take 22 writes of two bytes. Each write before the fault writes two
 /// of them.
 #[test]
-fn writes_a_prefix_before_a_fault_of_writing(rt: HostRuntime) {
+fn writes_a_prefix_before_a_fault_of_writing(ref rt: HostRuntime) {
     for write in 0..22 {
         let found = &run_first_script(rt.alloc(), rt.alloc(), NEVER, write);
-        let prefix = FIRST_ANSWER.get(..2 * write as usize).expect(&rt, "short");
+        let prefix = FIRST_ANSWER.get(..2 * write as usize).expect(rt, "short");
         assert_eq!(rt; found.result, Err(CopyFault::Io), "{write}");
         assert_eq!(rt; found.written.as_slice(), prefix.as_bytes(), "{write}");
     }
@@ -171,10 +171,10 @@ const GRAIN: usize = 16;
 /// With room for one grain, an allocation fails while the script is read. A fault of a read before
 /// that is `Io`; a fault of a read after it is not reached.
 #[test]
-fn the_first_of_reading_and_memory_is_answered(rt: HostRuntime) {
+fn the_first_of_reading_and_memory_is_answered(ref rt: HostRuntime) {
     let mut refused = false;
     for read in 0..18 {
-        let heap = LocalHeap::new(rt.alloc(), GRAIN).expect(&rt, "refused");
+        let heap = LocalHeap::new(rt.alloc(), GRAIN).expect(rt, "refused");
         let found = &run_first_script(&heap, rt.alloc(), read, NEVER);
         refused = refused || found.result == Err(CopyFault::Memory);
         let fault = if refused {
@@ -213,39 +213,39 @@ fn long_answer(alloc: Global) -> Result<String, AllocError> {
 }
 
 #[test]
-fn answers_and_runs_a_long_script(rt: HostRuntime) {
-    let script = &long_script(rt.alloc()).expect(&rt, "refused");
-    let wanted = &long_answer(rt.alloc()).expect(&rt, "refused");
+fn answers_and_runs_a_long_script(ref rt: HostRuntime) {
+    let script = &long_script(rt.alloc()).expect(rt, "refused");
+    let wanted = &long_answer(rt.alloc()).expect(rt, "refused");
     check_eq!(rt; script.len(), 130_025);
-    let out = answer(rt.alloc(), script.as_bytes()).expect(&rt, "refused");
+    let out = answer(rt.alloc(), script.as_bytes()).expect(rt, "refused");
     check_eq!(rt; out.as_slice(), wanted.as_bytes());
     let mut written = Vec::new(rt.alloc());
     let mut input = Port::new(script.as_bytes());
     let mut output = Port::new(&mut written);
-    copy(rt.alloc(), &mut input, &mut output).expect(&rt, "refused");
+    copy(rt.alloc(), &mut input, &mut output).expect(rt, "refused");
     check_eq!(rt; written.as_slice(), wanted.as_bytes());
 }
 
 /// A script whose last line is long, which the reader gives three bytes at a time.
 #[test]
-fn a_script_of_a_million_reads_is_answered(rt: HostRuntime) {
-    let mut script = String::from_str(rt.alloc(), FIRST_SCRIPT).expect(&rt, "no memory");
-    let line = "x".repeat(rt.alloc(), 3_000_000).expect(&rt, "no memory");
-    script.push_str(&line).expect(&rt, "no memory");
+fn a_script_of_a_million_reads_is_answered(ref rt: HostRuntime) {
+    let mut script = String::from_str(rt.alloc(), FIRST_SCRIPT).expect(rt, "no memory");
+    let line = "x".repeat(rt.alloc(), 3_000_000).expect(rt, "no memory");
+    script.push_str(&line).expect(rt, "no memory");
     let mut written = Vec::new(rt.alloc());
     let mut input = Port::new(FakeReader::new(script.as_bytes(), NEVER));
     let mut output = Port::new(&mut written);
-    copy(rt.alloc(), &mut input, &mut output).expect(&rt, "refused");
+    copy(rt.alloc(), &mut input, &mut output).expect(rt, "refused");
     check!(rt; written.starts_with(FIRST_ANSWER.as_bytes()) && written.ends_with(b"bad\n"));
 }
 
 #[test]
-fn prints_each_fault(rt: HostRuntime) {
+fn prints_each_fault(ref rt: HostRuntime) {
     let faults = [CopyFault::LimitTooLarge, CopyFault::Memory, CopyFault::Io];
     let texts = ["1 limit too large", "2 out of memory", "3 io"];
     for (fault, text) in faults.into_iter().zip(texts) {
         let number = fault.number();
-        let printed = format!(in rt.alloc(); "{number} {fault}").expect(&rt, "refused");
+        let printed = format!(in rt.alloc(); "{number} {fault}").expect(rt, "refused");
         check_eq!(rt; printed.as_str(), text);
     }
 }

@@ -21,10 +21,10 @@ fn cloned<R: Wait>(rt: &R, first: Shared<5, Global>) -> (Shared<5, Global>, Shar
 }
 
 #[test]
-fn apart_hands_both_back_in_order(rt: HostRuntime) {
-    let first = made(&rt, "foobar");
-    let other = made(&rt, "foo");
-    let (first, second) = cloned(&rt, first);
+fn apart_hands_both_back_in_order(ref rt: HostRuntime) {
+    let first = made(rt, "foobar");
+    let other = made(rt, "foo");
+    let (first, second) = cloned(rt, first);
     let (second, other) = second.two_handles_have_two_seats(other);
     check_eq!(rt; (second.as_str(), other.as_str()), ("foobar", "foo"));
     check_eq!(rt; (count_of(&first), count_of(&other)), (Some(2), Some(1)));
@@ -45,9 +45,9 @@ fn looked_twice(handle: &Shared<5, Global>) -> (Seen, Seen)
 }
 
 #[test]
-fn two_looks_agree(rt: HostRuntime) {
-    let first = &made(&rt, "foobar");
-    let second = first.up(&rt);
+fn two_looks_agree(ref rt: HostRuntime) {
+    let first = &made(rt, "foobar");
+    let second = first.up(rt);
     let (seen, again) = looked_twice(first);
     let (_, other) = second.look();
     again.a_block_has_one_history(&seen);
@@ -72,10 +72,10 @@ fn owes_beside(handle: Shared<5, Global>, other: Shared<5, Global>) -> (bool, Sh
 }
 
 #[test]
-fn no_handle_is_left_on_what_is_owed(rt: HostRuntime) {
-    let first = made(&rt, "foobar");
-    let second = first.up(&rt);
-    let other = made(&rt, "foo");
+fn no_handle_is_left_on_what_is_owed(ref rt: HostRuntime) {
+    let first = made(rt, "foobar");
+    let second = first.up(rt);
+    let other = made(rt, "foo");
     let (left, other) = owes_beside(first, other);
     let (owes, other) = owes_beside(second, other);
     check_eq!(rt; (left, owes), (false, true));
@@ -97,10 +97,10 @@ fn owes_beside_lent(handle: Shared<5, Global>, lent: &Shared<5, Global>) -> bool
 }
 
 #[test]
-fn no_lent_handle_is_on_what_is_owed(rt: HostRuntime) {
-    let first = made(&rt, "foobar");
-    let second = first.up(&rt);
-    let other = &made(&rt, "foo");
+fn no_lent_handle_is_on_what_is_owed(ref rt: HostRuntime) {
+    let first = made(rt, "foobar");
+    let second = first.up(rt);
+    let other = &made(rt, "foo");
     check_eq!(rt; owes_beside_lent(first, &second), false);
     check_eq!(rt; owes_beside_lent(second, other), true);
     check_eq!(rt; count_of(&other), Some(1));
@@ -120,9 +120,9 @@ fn owes_beside_fixed(handle: Shared<5, Global>, fixed: &Fixed<Global>) -> bool
 }
 
 #[test]
-fn what_is_owed_is_not_marked(rt: HostRuntime) {
-    let first = made(&rt, "foobar");
-    let other = made(&rt, "foo");
+fn what_is_owed_is_not_marked(ref rt: HostRuntime) {
+    let first = made(rt, "foobar");
+    let other = made(rt, "foo");
     let fixed = first.mark();
     check_eq!(rt; owes_beside_fixed(first, &fixed), false);
     check_eq!(rt; owes_beside_fixed(other, &fixed), true);
@@ -158,11 +158,11 @@ fn both_owe(first: Shared<5, Global>, second: Shared<5, Global>) -> bool
 }
 
 #[test]
-fn a_block_is_owed_once(rt: HostRuntime) {
-    let first = made(&rt, "foobar");
-    let other = made(&rt, "foo");
-    let second = first.up(&rt);
-    let third = first.up(&rt);
+fn a_block_is_owed_once(ref rt: HostRuntime) {
+    let first = made(rt, "foobar");
+    let other = made(rt, "foo");
+    let second = first.up(rt);
+    let third = first.up(rt);
     check_eq!(rt; both_owe(first, second), false);
     check_eq!(rt; both_owe(third, other), true);
 }
@@ -183,9 +183,9 @@ fn marks_and_finds(first: &Shared<5, Global>, second: &Shared<5, Global>) -> (Se
 }
 
 #[test]
-fn what_marked_a_block_has_the_mark(rt: HostRuntime) {
-    let first = made(&rt, "foobar");
-    let (first, second) = cloned(&rt, first);
+fn what_marked_a_block_has_the_mark(ref rt: HostRuntime) {
+    let first = made(rt, "foobar");
+    let (first, second) = cloned(rt, first);
     let (made, found) = marks_and_finds(&first, &second);
     let Some(found) = found else {
         panic!(rt; "the mark was not found");
@@ -238,15 +238,15 @@ fn ended(handle: Shared<5, Global>, before: &Seen) -> Option<Seen>
 }
 
 #[test]
-fn what_follows_extends_what_was_seen(rt: HostRuntime) {
-    let first = made(&rt, "foobar");
+fn what_follows_extends_what_was_seen(ref rt: HostRuntime) {
+    let first = made(rt, "foobar");
     let (_, before) = looked_in_order(&first);
     check_eq!(rt; ended(first, &before).is_some(), true);
-    let third = made(&rt, "bar");
-    let (clone, _, before) = cloned_in_order(&rt, &third);
+    let third = made(rt, "bar");
+    let (clone, _, before) = cloned_in_order(rt, &third);
     check_eq!(rt; ended(third, &before).is_some(), false);
     check_eq!(rt; count_of(&clone), Some(1));
-    let second = made(&rt, "foo");
+    let second = made(rt, "foo");
     check_eq!(rt; mark_and_look(&second), None);
     let (_, before) = second.look();
     check_eq!(rt; ended(second, &before).is_some(), false);

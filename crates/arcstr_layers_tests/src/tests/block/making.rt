@@ -5,15 +5,15 @@ use linked_list_allocator::LocalHeap;
 use std::alloc::Global;
 
 #[test]
-fn a_closure_fills_no_bytes(rt: HostRuntime) {
-    let empty = Shared::<5, _>::init(rt.alloc(), 0, |_| {}).expect(&rt, "refused");
+fn a_closure_fills_no_bytes(ref rt: HostRuntime) {
+    let empty = Shared::<5, _>::init(rt.alloc(), 0, |_| {}).expect(rt, "refused");
     check_eq!(rt; count_of(&empty), Some(1));
 }
 
 /// There may be `usize::MAX` copies of an empty text. They are not made one by one.
 #[test]
-fn copies_of_nothing_are_made_at_once(rt: HostRuntime) {
-    let made = &Shared::<5, _>::repeat(rt.alloc(), "", usize::MAX).expect(&rt, "refused");
+fn copies_of_nothing_are_made_at_once(ref rt: HostRuntime) {
+    let made = &Shared::<5, _>::repeat(rt.alloc(), "", usize::MAX).expect(rt, "refused");
     check_eq!(rt; (made.len(), count_of(&made)), (0, Some(1)));
 }
 
@@ -27,19 +27,17 @@ fn is_refused(heap: &LocalHeap) -> bool {
 }
 
 #[test]
-fn a_refused_fill_gives_its_memory_back(rt: HostRuntime) {
-    let heap = &LocalHeap::new(rt.alloc(), 4096).expect(&rt, "refused");
+fn a_refused_fill_gives_its_memory_back(ref rt: HostRuntime) {
+    let heap = &LocalHeap::new(rt.alloc(), 4096).expect(rt, "refused");
     check!(rt; is_refused(heap));
     check_eq!(rt; heap.used(), 0);
 }
 
 #[test]
-fn one_byte_is_filled_and_a_text_is_copied_twice(rt: HostRuntime) {
-    let filled = Shared::<5, _>::init(rt.alloc(), 1, |bytes| bytes[0] = b'a').expect(
-        &rt, "refused",
-    );
+fn one_byte_is_filled_and_a_text_is_copied_twice(ref rt: HostRuntime) {
+    let filled = Shared::<5, _>::init(rt.alloc(), 1, |bytes| bytes[0] = b'a').expect(rt, "refused");
     check_eq!(rt; filled.as_str(), "a");
-    let copies = Shared::<5, _>::repeat(rt.alloc(), "ab", 2).expect(&rt, "refused");
+    let copies = Shared::<5, _>::repeat(rt.alloc(), "ab", 2).expect(rt, "refused");
     check_eq!(rt; copies.as_str(), "abab");
 }
 
@@ -53,29 +51,29 @@ const BLOCK: usize = 80;
 const TOO_SMALL: usize = 64;
 
 #[test]
-fn a_text_takes_exactly_its_block(rt: HostRuntime) {
-    let heap = &LocalHeap::new(rt.alloc(), BLOCK).expect(&rt, "refused");
-    let made = Shared::<5, _>::from_text(heap, TEXT).expect(&rt, "refused");
+fn a_text_takes_exactly_its_block(ref rt: HostRuntime) {
+    let heap = &LocalHeap::new(rt.alloc(), BLOCK).expect(rt, "refused");
+    let made = Shared::<5, _>::from_text(heap, TEXT).expect(rt, "refused");
     check_eq!(rt; (made.as_str(), heap.used(), heap.free()), (TEXT, BLOCK, 0));
     drop(made);
     check_eq!(rt; heap.used(), 0);
 }
 
 #[test]
-fn copies_take_exactly_one_block(rt: HostRuntime) {
-    let heap = &LocalHeap::new(rt.alloc(), BLOCK).expect(&rt, "refused");
-    let made = Shared::<5, _>::repeat(heap, "0123456789abcdef", 4).expect(&rt, "refused");
+fn copies_take_exactly_one_block(ref rt: HostRuntime) {
+    let heap = &LocalHeap::new(rt.alloc(), BLOCK).expect(rt, "refused");
+    let made = Shared::<5, _>::repeat(heap, "0123456789abcdef", 4).expect(rt, "refused");
     check_eq!(rt; (made.as_str(), heap.used(), heap.free()), (TEXT, BLOCK, 0));
     drop(made);
     check_eq!(rt; heap.used(), 0);
 }
 
 #[test]
-fn joined_texts_take_exactly_one_block(rt: HostRuntime) {
-    let heap = &LocalHeap::new(rt.alloc(), BLOCK).expect(&rt, "refused");
+fn joined_texts_take_exactly_one_block(ref rt: HostRuntime) {
+    let heap = &LocalHeap::new(rt.alloc(), BLOCK).expect(rt, "refused");
     let parts = ["0123456789abcde", "0123456789abcde", "", "23456789abcdef"];
     check_eq!(rt; joined_len(&parts, "f01"), Some(53));
-    let made = Shared::<5, _>::join(heap, &parts, "f01", 53).expect(&rt, "refused");
+    let made = Shared::<5, _>::join(heap, &parts, "f01", 53).expect(rt, "refused");
     let joined = "0123456789abcdef010123456789abcdef01f0123456789abcdef";
     check_eq!(rt; (made.as_str(), heap.used()), (joined, BLOCK));
     drop(made);
@@ -83,14 +81,14 @@ fn joined_texts_take_exactly_one_block(rt: HostRuntime) {
 }
 
 #[test]
-fn a_fill_has_exactly_its_block_before_its_closure(rt: HostRuntime) {
-    let heap = &LocalHeap::new(rt.alloc(), BLOCK).expect(&rt, "refused");
+fn a_fill_has_exactly_its_block_before_its_closure(ref rt: HostRuntime) {
+    let heap = &LocalHeap::new(rt.alloc(), BLOCK).expect(rt, "refused");
     let mut used = 0;
     let made = Shared::<5, _>::init(heap, 64, |bytes| {
         used = heap.used();
         bytes.copy_from_slice(TEXT.as_bytes());
     })
-    .expect(&rt, "refused");
+    .expect(rt, "refused");
     check_eq!(rt; (made.as_str(), used, heap.used()), (TEXT, BLOCK, BLOCK));
     drop(made);
     check_eq!(rt; heap.used(), 0);
@@ -102,8 +100,8 @@ fn lacks_memory<T: Drop>(made: Result<T, TextFault>) -> bool {
 }
 
 #[test]
-fn a_heap_that_is_too_small_refuses_each_making(rt: HostRuntime) {
-    let heap = &LocalHeap::new(rt.alloc(), TOO_SMALL).expect(&rt, "refused");
+fn a_heap_that_is_too_small_refuses_each_making(ref rt: HostRuntime) {
+    let heap = &LocalHeap::new(rt.alloc(), TOO_SMALL).expect(rt, "refused");
     check!(rt; lacks_memory(Shared::<5, _>::from_text(heap, TEXT)));
     check!(rt; lacks_memory(Shared::<5, _>::repeat(heap, TEXT, 1)));
     check!(rt; lacks_memory(Shared::<5, _>::join(heap, &[TEXT], "", 64)));
@@ -113,8 +111,8 @@ fn a_heap_that_is_too_small_refuses_each_making(rt: HostRuntime) {
 /// An allocation failure is reported before bytes that are not UTF-8: the closure that leaves such
 /// bytes does not run.
 #[test]
-fn a_fill_without_memory_does_not_run_its_closure(rt: HostRuntime) {
-    let heap = &LocalHeap::new(rt.alloc(), TOO_SMALL).expect(&rt, "refused");
+fn a_fill_without_memory_does_not_run_its_closure(ref rt: HostRuntime) {
+    let heap = &LocalHeap::new(rt.alloc(), TOO_SMALL).expect(rt, "refused");
     let mut ran = false;
     let made = Shared::<5, _>::init(heap, 64, |bytes| {
         ran = true;
@@ -134,11 +132,11 @@ fn is_read_back(alloc: Global, long: &str, len: usize) -> Result<bool, TextFault
 }
 
 #[test]
-fn texts_of_all_sizes_are_read_back(rt: HostRuntime) {
-    let long = Shared::<5, _>::repeat(rt.alloc(), "abcdefghijk", 100_000).expect(&rt, "refused");
+fn texts_of_all_sizes_are_read_back(ref rt: HostRuntime) {
+    let long = Shared::<5, _>::repeat(rt.alloc(), "abcdefghijk", 100_000).expect(rt, "refused");
     for len in [0, 1, 7, 8, 9, 64, 4096, 1_000_000] {
         check_eq!(rt;
-            (len, is_read_back(rt.alloc(), long.as_str(), len).expect(&rt, "refused")),
+            (len, is_read_back(rt.alloc(), long.as_str(), len).expect(rt, "refused")),
             (len, true)
         );
     }

@@ -15,7 +15,7 @@ use std::thread::{Threads, yield_now};
 use std::{io, thread};
 
 #[test]
-fn the_types_have_their_sizes(rt: HostRuntime) {
+fn the_types_have_their_sizes(ref rt: HostRuntime) {
     check_eq!(rt; size_of::<Shared<5, Global>>(), 16);
     check_eq!(rt; size_of::<Fixed<Global>>(), 16);
     check_eq!(rt;
@@ -39,9 +39,9 @@ fn ended(down: Down<Global>) -> u8 {
 }
 
 #[test]
-fn the_last_handle_owes(rt: HostRuntime) {
-    let first = made(&rt, "foobar");
-    let second = first.up(&rt);
+fn the_last_handle_owes(ref rt: HostRuntime) {
+    let first = made(rt, "foobar");
+    let second = first.up(rt);
     check_eq!(rt; ended(first.down().0), 2);
     check_eq!(rt; ended(second.down().0), 3);
 }
@@ -57,12 +57,12 @@ fn clone_and_look<const LIMIT: u64>(
 }
 
 #[test]
-fn a_clone_after_what_was_seen_steps_once(rt: HostRuntime) {
-    let text = made(&rt, "foobar");
-    let (clone, count) = clone_and_look(&rt, &text);
+fn a_clone_after_what_was_seen_steps_once(ref rt: HostRuntime) {
+    let text = made(rt, "foobar");
+    let (clone, count) = clone_and_look(rt, &text);
     check_eq!(rt; (clone.as_str(), count), ("foobar", Some(2)));
     text.mark();
-    check_eq!(rt; clone_and_look(&rt, &clone).1, None);
+    check_eq!(rt; clone_and_look(rt, &clone).1, None);
 }
 
 /// A value that threads may hand to one another, and share.
@@ -71,22 +71,22 @@ fn crossing<T: Send + Sync>(value: T) -> T {
 }
 
 #[test]
-fn handles_may_cross_threads(rt: HostRuntime) {
-    let text = &crossing(made(&rt, "foobar"));
+fn handles_may_cross_threads(ref rt: HostRuntime) {
+    let text = &crossing(made(rt, "foobar"));
     let (fixed, _) = crossing((text.mark(), text.look().1));
     check_eq!(rt; fixed.as_str(), text.as_str());
 }
 
 #[test]
-fn what_is_owed_may_cross_threads(rt: HostRuntime) {
-    let first = made(&rt, "foobar");
+fn what_is_owed_may_cross_threads(ref rt: HostRuntime) {
+    let first = made(rt, "foobar");
     check_eq!(rt; ended(crossing(first.down().0)), 3);
 }
 
 #[test]
-fn a_marked_block_ends_no_handle(rt: HostRuntime) {
-    let first = made(&rt, "foobar");
-    let second = first.up(&rt);
+fn a_marked_block_ends_no_handle(ref rt: HostRuntime) {
+    let first = made(rt, "foobar");
+    let second = first.up(rt);
     check_eq!(rt; first.fixed().0.is_none(), true);
     let fixed = first.mark();
     check_eq!(rt; (count_of(&first), second.fixed().0.is_some()), (None, true));
@@ -115,15 +115,15 @@ fn used_after<const LIMIT: u64, R: Wait>(
 }
 
 #[test]
-fn all_memory_is_given_back(rt: HostRuntime) {
-    let heap = LocalHeap::new(rt.alloc(), 4096).expect(&rt, "refused");
-    check_eq!(rt; used_after::<5, _>(&rt, &heap, false).expect(&rt, "refused"), 0);
+fn all_memory_is_given_back(ref rt: HostRuntime) {
+    let heap = LocalHeap::new(rt.alloc(), 4096).expect(rt, "refused");
+    check_eq!(rt; used_after::<5, _>(rt, &heap, false).expect(rt, "refused"), 0);
 }
 
 #[test]
-fn what_is_owed_is_freed_with_its_history(rt: HostRuntime) {
-    let heap = LocalHeap::new(rt.alloc(), 4096).expect(&rt, "refused");
-    let text = Shared::<5, _>::from_text(&heap, "aé").expect(&rt, "refused");
+fn what_is_owed_is_freed_with_its_history(ref rt: HostRuntime) {
+    let heap = LocalHeap::new(rt.alloc(), 4096).expect(rt, "refused");
+    let text = Shared::<5, _>::from_text(&heap, "aé").expect(rt, "refused");
     match text.down().0 {
         Down::Owes(owed) => drop(owed.free()),
         Down::Left | Down::Ended => {}
@@ -132,14 +132,14 @@ fn what_is_owed_is_freed_with_its_history(rt: HostRuntime) {
 }
 
 #[test]
-fn a_limit_marks_the_block(rt: HostRuntime) {
-    let heap = LocalHeap::new(rt.alloc(), 4096).expect(&rt, "refused");
-    check_eq!(rt; used_after::<1, _>(&rt, &heap, false).expect(&rt, "refused") > 0, true);
+fn a_limit_marks_the_block(ref rt: HostRuntime) {
+    let heap = LocalHeap::new(rt.alloc(), 4096).expect(rt, "refused");
+    check_eq!(rt; used_after::<1, _>(rt, &heap, false).expect(rt, "refused") > 0, true);
 }
 
 #[test]
-fn a_clone_of_few_tries_counts_marks_and_gives_up(rt: HostRuntime) {
-    let text = &Shared::<1, _>::from_text(rt.alloc(), "aé").expect(&rt, "refused");
+fn a_clone_of_few_tries_counts_marks_and_gives_up(ref rt: HostRuntime) {
+    let text = &Shared::<1, _>::from_text(rt.alloc(), "aé").expect(rt, "refused");
     check!(rt; text.try_up(0).is_none());
     check_eq!(rt; count_of(&text), Some(1));
     let second = text.try_up(1);
@@ -150,9 +150,9 @@ fn a_clone_of_few_tries_counts_marks_and_gives_up(rt: HostRuntime) {
 }
 
 #[test]
-fn a_mark_keeps_the_block(rt: HostRuntime) {
-    let heap = LocalHeap::new(rt.alloc(), 4096).expect(&rt, "refused");
-    check_eq!(rt; used_after::<5, _>(&rt, &heap, true).expect(&rt, "refused") > 0, true);
+fn a_mark_keeps_the_block(ref rt: HostRuntime) {
+    let heap = LocalHeap::new(rt.alloc(), 4096).expect(rt, "refused");
+    check_eq!(rt; used_after::<5, _>(rt, &heap, true).expect(rt, "refused") > 0, true);
 }
 
 /// How often a thread looks for the others at most. After each look it lets another thread run,
@@ -201,44 +201,44 @@ fn look_after_two<const LIMIT: u64, R: Threads + Wait + Sync>(
 }
 
 #[test]
-fn limits_are_crossed_by_threads(rt: HostRuntime) {
-    let looked = look_after_two::<0, _>(&rt, rt.alloc());
+fn limits_are_crossed_by_threads(ref rt: HostRuntime) {
+    let looked = look_after_two::<0, _>(rt, rt.alloc());
     check_eq!(rt; looked.ok(), Some((None, true, true)));
-    let looked = look_after_two::<1, _>(&rt, rt.alloc());
+    let looked = look_after_two::<1, _>(rt, rt.alloc());
     check_eq!(rt; looked.ok(), Some((None, true, true)));
-    let looked = look_after_two::<2, _>(&rt, rt.alloc());
+    let looked = look_after_two::<2, _>(rt, rt.alloc());
     check_eq!(rt; looked.ok(), Some((Some(3), true, true)));
 }
 
 #[test]
-fn faults_print_their_texts(rt: HostRuntime) {
+fn faults_print_their_texts(ref rt: HostRuntime) {
     for (fault, wanted) in [
         (TextFault::Length, "text is too long"),
         (TextFault::Memory, "out of memory"),
         (TextFault::Utf8(3), "bytes are not UTF-8 from place 3"),
     ] {
-        let printed = format!(in rt.alloc(); "{fault}").expect(&rt, "refused");
+        let printed = format!(in rt.alloc(); "{fault}").expect(rt, "refused");
         check_eq!(rt; printed.as_str(), wanted);
     }
 }
 
 #[test]
-fn faults_of_reading_print_their_texts(rt: HostRuntime) {
+fn faults_of_reading_print_their_texts(ref rt: HostRuntime) {
     let (length, bytes) = (
         io::Error::from(TextFault::Length),
         io::Error::from(TextFault::Utf8(2)),
     );
-    let printed = format!(in rt.alloc(); "{length}, {bytes}").expect(&rt, "refused");
+    let printed = format!(in rt.alloc(); "{length}, {bytes}").expect(rt, "refused");
     check_eq!(rt; printed.as_str(), "text is too long, bytes are not UTF-8");
 }
 
 /// Two handles that a heap of 16 bytes has no room for are dropped when the error is converted to a
 /// fault.
 #[test]
-fn what_could_not_be_stored_is_dropped(rt: HostRuntime) {
-    let heap = LocalHeap::new(rt.alloc(), 16).expect(&rt, "refused");
-    let text = &made(&rt, "foobar");
-    let Err(refused) = Box::new(&heap, (text.up(&rt), text.up(&rt))) else {
+fn what_could_not_be_stored_is_dropped(ref rt: HostRuntime) {
+    let heap = LocalHeap::new(rt.alloc(), 16).expect(rt, "refused");
+    let text = &made(rt, "foobar");
+    let Err(refused) = Box::new(&heap, (text.up(rt), text.up(rt))) else {
         panic!(rt; "the heap has room for two handles");
     };
     check_eq!(rt; count_of(&text), Some(3));
@@ -261,9 +261,9 @@ fn reads_after_threads<R: Threads + Wait + Sync>(rt: &R, alloc: Global) -> Resul
 }
 
 #[test]
-fn a_fixed_block_outlives_two_threads(rt: HostRuntime) {
+fn a_fixed_block_outlives_two_threads(ref rt: HostRuntime) {
     for _ in 0..1000 {
-        check_eq!(rt; reads_after_threads(&rt, rt.alloc()).expect(&rt, "refused"), true);
+        check_eq!(rt; reads_after_threads(rt, rt.alloc()).expect(rt, "refused"), true);
     }
 }
 
@@ -289,11 +289,11 @@ fn clones<R: Abort + Wait>(
 /// A compare-exchange that fails because of another thread's step is repeated with the count that
 /// it found, and does not mark the block.
 #[test]
-fn four_threads_leave_one(rt: HostRuntime) {
-    let text = &Shared::from_text(rt.alloc(), "foobar").expect(&rt, "refused");
+fn four_threads_leave_one(ref rt: HostRuntime) {
+    let text = &Shared::from_text(rt.alloc(), "foobar").expect(rt, "refused");
     let (gate, alloc) = (&AtomicU64::new(0), rt.alloc());
-    let kept = thread::map_indices(&rt, alloc, 4, &|_| clones(&rt, alloc, text, gate));
-    let kept = kept.expect(&rt, "no thread");
+    let kept = thread::map_indices(rt, alloc, 4, &|_| clones(rt, alloc, text, gate));
+    let kept = kept.expect(rt, "no thread");
     check_eq!(rt; count_of(&text), Some(400_001));
     drop(kept);
     check_eq!(rt; count_of(&text), Some(1));

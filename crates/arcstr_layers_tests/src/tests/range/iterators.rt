@@ -46,12 +46,12 @@ fn check_lines(rt: &impl Abort, text: &str, offsets: &[usize], start: usize) {
 }
 
 #[test]
-fn has_the_lines_of_a_str(rt: HostRuntime) {
+fn has_the_lines_of_a_str(ref rt: HostRuntime) {
     for (text, offsets) in LINES {
         check_eq!(rt; text.lines().count(), offsets.len());
-        check_lines(&rt, text, offsets, 0);
-        check_lines(&rt, text, offsets, 7);
-        check_lines(&rt, text, offsets, NEAR_MAX);
+        check_lines(rt, text, offsets, 0);
+        check_lines(rt, text, offsets, 7);
+        check_lines(rt, text, offsets, NEAR_MAX);
     }
 }
 
@@ -84,12 +84,12 @@ fn check_words(rt: &impl Abort, text: &str, offsets: &[usize], start: usize) {
 }
 
 #[test]
-fn has_the_words_of_a_str(rt: HostRuntime) {
+fn has_the_words_of_a_str(ref rt: HostRuntime) {
     for (text, offsets) in WORDS {
         check_eq!(rt; text.split_whitespace().count(), offsets.len());
-        check_words(&rt, text, offsets, 0);
-        check_words(&rt, text, offsets, 7);
-        check_words(&rt, text, offsets, NEAR_MAX);
+        check_words(rt, text, offsets, 0);
+        check_words(rt, text, offsets, 7);
+        check_words(rt, text, offsets, NEAR_MAX);
     }
 }
 
@@ -121,12 +121,12 @@ fn check_split(rt: &impl Abort, text: &str, separator: char, offsets: &[usize], 
 }
 
 #[test]
-fn splits_as_a_str(rt: HostRuntime) {
+fn splits_as_a_str(ref rt: HostRuntime) {
     for (text, separator, offsets) in PARTS {
         check_eq!(rt; text.split(separator).count(), offsets.len());
-        check_split(&rt, text, separator, offsets, 0);
-        check_split(&rt, text, separator, offsets, 7);
-        check_split(&rt, text, separator, offsets, NEAR_MAX);
+        check_split(rt, text, separator, offsets, 0);
+        check_split(rt, text, separator, offsets, 7);
+        check_split(rt, text, separator, offsets, NEAR_MAX);
     }
 }
 
@@ -153,21 +153,21 @@ fn check_split_by(rt: &impl Abort, text: &str, separator: &str, offsets: &[usize
 }
 
 #[test]
-fn splits_at_texts_as_a_str(rt: HostRuntime) {
+fn splits_at_texts_as_a_str(ref rt: HostRuntime) {
     for (text, separator, offsets) in PARTS_AT_TEXTS {
         check_eq!(rt; text.split(separator).count(), offsets.len());
-        check_split_by(&rt, text, separator, offsets, 0);
-        check_split_by(&rt, text, separator, offsets, 7);
-        check_split_by(&rt, text, separator, offsets, NEAR_MAX);
+        check_split_by(rt, text, separator, offsets, 0);
+        check_split_by(rt, text, separator, offsets, 7);
+        check_split_by(rt, text, separator, offsets, NEAR_MAX);
     }
 }
 
 #[test]
-fn splits_at_sets_of_characters_as_a_str(rt: HostRuntime) {
+fn splits_at_sets_of_characters_as_a_str(ref rt: HostRuntime) {
     let text = "a,b;é";
-    let mut parts = view_at(&rt, text, 7).split_by(|c: char| c == ',' || c == ';');
+    let mut parts = view_at(rt, text, 7).split_by(|c: char| c == ',' || c == ';');
     for (offset, wanted) in [0, 2, 4].iter().zip(text.split([',', ';'])) {
-        check_part(&rt, parts.next(), wanted, *offset, 7);
+        check_part(rt, parts.next(), wanted, *offset, 7);
     }
     check!(rt; parts.next().is_none());
 }
@@ -185,9 +185,9 @@ fn check_matches(rt: &impl Abort, text: &str, separator: &str) {
 }
 
 #[test]
-fn matches_of_a_str_lie_between_parts(rt: HostRuntime) {
+fn matches_of_a_str_lie_between_parts(ref rt: HostRuntime) {
     for (text, separator, _) in PARTS_AT_TEXTS {
-        check_matches(&rt, text, separator);
+        check_matches(rt, text, separator);
     }
 }
 
@@ -204,9 +204,9 @@ fn check_pieces(rt: &impl Abort, text: &str, separator: &str) {
 }
 
 #[test]
-fn pieces_of_a_str_go_from_part_to_part(rt: HostRuntime) {
+fn pieces_of_a_str_go_from_part_to_part(ref rt: HostRuntime) {
     for (text, separator, _) in PARTS_AT_TEXTS {
-        check_pieces(&rt, text, separator);
+        check_pieces(rt, text, separator);
     }
 }
 
@@ -227,9 +227,9 @@ const PATTERNS: [(&str, &str, Option<usize>, Option<usize>); 12] = [
 ];
 
 #[test]
-fn finds_as_a_str(rt: HostRuntime) {
+fn finds_as_a_str(ref rt: HostRuntime) {
     for (text, pattern, first, last) in PATTERNS {
-        let view = &view_at(&rt, text, 7);
+        let view = &view_at(rt, text, 7);
         check_eq!(rt; (view.find(pattern), view.rfind(pattern)), (first, last));
         if let Some(character) = pattern.chars().next() {
             check_eq!(rt; view.find(character), text.find(character));

@@ -14,7 +14,7 @@ fn found<R: Into<StrRange> + Drop>(text: &str, range: R) -> Result<(usize, usize
 }
 
 #[test]
-fn ends_have_the_width_of_usize_and_do_not_wrap(rt: HostRuntime) {
+fn ends_have_the_width_of_usize_and_do_not_wrap(ref rt: HostRuntime) {
     let rows = [
         (StrRange::Full, WIDE - 1, Ok((0, WIDE - 1))),
         (StrRange::Full, WIDE, Ok((0, WIDE))),
@@ -35,7 +35,7 @@ fn ends_have_the_width_of_usize_and_do_not_wrap(rt: HostRuntime) {
 }
 
 #[test]
-fn from_a_place(rt: HostRuntime) {
+fn from_a_place(ref rt: HostRuntime) {
     check_eq!(rt; found("aé", 3..), Ok((3, 3)));
     check_eq!(rt; found("aé", 2..), Err(RangeFault::OffBoundary));
     check_eq!(rt; found("aé", 4..), Err(RangeFault::OutOfOrder));
@@ -43,7 +43,7 @@ fn from_a_place(rt: HostRuntime) {
 }
 
 #[test]
-fn up_to_a_place(rt: HostRuntime) {
+fn up_to_a_place(ref rt: HostRuntime) {
     check_eq!(rt; found("aé", ..0), Ok((0, 0)));
     check_eq!(rt; found("aé", ..2), Err(RangeFault::OffBoundary));
     check_eq!(rt; found("aé", ..4), Err(RangeFault::PastEnd));
@@ -51,7 +51,7 @@ fn up_to_a_place(rt: HostRuntime) {
 }
 
 #[test]
-fn between_places(rt: HostRuntime) {
+fn between_places(ref rt: HostRuntime) {
     check_eq!(rt; found("aé", 1..3), Ok((1, 3)));
     check_eq!(rt; found("aé", 2..1), Err(RangeFault::OutOfOrder));
     check_eq!(rt; found("aé", 9..8), Err(RangeFault::OutOfOrder));
@@ -60,14 +60,14 @@ fn between_places(rt: HostRuntime) {
 }
 
 #[test]
-fn between_equal_and_greatest_places(rt: HostRuntime) {
+fn between_equal_and_greatest_places(ref rt: HostRuntime) {
     check_eq!(rt; found("aé", 2..2), Err(RangeFault::OffBoundary));
     check_eq!(rt; found("aé", MAX..0), Err(RangeFault::OutOfOrder));
     check_eq!(rt; found("aé", MAX..MAX), Err(RangeFault::PastEnd));
 }
 
 #[test]
-fn between_a_place_and_a_last_one(rt: HostRuntime) {
+fn between_a_place_and_a_last_one(ref rt: HostRuntime) {
     check_eq!(rt; found("aé", 0..=0), Ok((0, 1)));
     check_eq!(rt; found("aé", 1..=1), Err(RangeFault::OffBoundary));
     check_eq!(rt; found("aé", 3..=2), Ok((3, 3)));
@@ -75,14 +75,14 @@ fn between_a_place_and_a_last_one(rt: HostRuntime) {
 }
 
 #[test]
-fn between_greatest_places_inclusive_and_by_the_form_itself(rt: HostRuntime) {
+fn between_greatest_places_inclusive_and_by_the_form_itself(ref rt: HostRuntime) {
     check_eq!(rt; found("aé", MAX..=0), Err(RangeFault::OutOfOrder));
     check_eq!(rt; found("aé", MAX..=MAX), Err(RangeFault::PastEnd));
     check_eq!(rt; found("aé", StrRange::From(1)), Ok((1, 3)));
 }
 
 #[test]
-fn up_to_a_last_place(rt: HostRuntime) {
+fn up_to_a_last_place(ref rt: HostRuntime) {
     check_eq!(rt; found("aé", ..=0), Ok((0, 1)));
     check_eq!(rt; found("aé", ..=2), Ok((0, 3)));
     check_eq!(rt; found("aé", ..=3), Err(RangeFault::PastEnd));
@@ -90,7 +90,7 @@ fn up_to_a_last_place(rt: HostRuntime) {
 }
 
 #[test]
-fn a_spent_inclusive_range_is_empty(rt: HostRuntime) {
+fn a_spent_inclusive_range_is_empty(ref rt: HostRuntime) {
     let mut range = 1..=1;
     check_eq!(rt; range.next(), Some(1));
     check_eq!(rt; StrRange::from(range), Between(1, 1));
@@ -98,7 +98,7 @@ fn a_spent_inclusive_range_is_empty(rt: HostRuntime) {
 }
 
 #[test]
-fn slices_are_those_of_str(rt: HostRuntime) {
+fn slices_are_those_of_str(ref rt: HostRuntime) {
     check_eq!(rt; slice("aé", Between(1, 3)), Some("é"));
     check_eq!(rt; slice("aé", Between(0, 2)), None);
     check_eq!(rt; slice("aé", Between(2, 2)), None);
@@ -106,7 +106,7 @@ fn slices_are_those_of_str(rt: HostRuntime) {
 }
 
 #[test]
-fn boundaries_are_between_characters(rt: HostRuntime) {
+fn boundaries_are_between_characters(ref rt: HostRuntime) {
     check!(rt; is_boundary("aé", 0));
     check!(rt; is_boundary("aé", 1));
     check!(rt; !is_boundary("aé", 2));
@@ -115,18 +115,18 @@ fn boundaries_are_between_characters(rt: HostRuntime) {
 }
 
 #[test]
-fn faults_have_numbers_and_texts(rt: HostRuntime) {
+fn faults_have_numbers_and_texts(ref rt: HostRuntime) {
     for (fault, wanted) in [
         (RangeFault::OutOfOrder, "1 range start is after its end"),
         (RangeFault::PastEnd, "2 range ends past the text"),
         (RangeFault::OffBoundary, "4 range cuts a character"),
     ] {
         let number = fault.number();
-        let printed = format!(in rt.alloc(); "{number} {fault}").expect(&rt, "refused");
+        let printed = format!(in rt.alloc(); "{number} {fault}").expect(rt, "refused");
         check_eq!(rt; printed.as_str(), wanted);
         let fault = io::Error::from(fault);
         check_eq!(rt; fault.kind(), io::ErrorKind::InvalidInput);
-        let printed = format!(in rt.alloc(); "{number} {fault}").expect(&rt, "refused");
+        let printed = format!(in rt.alloc(); "{number} {fault}").expect(rt, "refused");
         check_eq!(rt; printed.as_str(), wanted);
     }
 }

@@ -39,15 +39,15 @@ impl BuildHasher for OneHash {
 const WORDS: [&str; 5] = ["foo", "bar", "", "bar ", "é"];
 
 #[test]
-fn an_interner_tells_words_of_one_hash_apart(rt: HostRuntime) {
+fn an_interner_tells_words_of_one_hash_apart(ref rt: HostRuntime) {
     let mut interner = Interner::with_hasher(rt.alloc(), OneHash { hash: 7 });
     for _ in 0..2 {
         for (index, word) in WORDS.iter().enumerate() {
-            check_eq!(rt; interner.intern(*word).expect(&rt, "refused").index(), index);
+            check_eq!(rt; interner.intern(*word).expect(rt, "refused").index(), index);
         }
     }
     for (index, word) in WORDS.iter().enumerate() {
-        check_eq!(rt; interner.get(*word).expect(&rt, "not found").index(), index);
+        check_eq!(rt; interner.get(*word).expect(rt, "not found").index(), index);
     }
     check!(rt; interner.get("fo").is_none());
 }
@@ -91,17 +91,17 @@ fn check_growth(rt: &(impl Abort + AllocGlobal)) {
     let mut interner = Interner::with_hasher(rt.alloc(), OneHash { hash: 7 });
     for number in 0..100 {
         let word = format!(in rt.alloc(); "{number}").expect(rt, "no memory");
-        check_eq!(*rt; interner.intern(&word).expect(rt, "refused").index(), number);
+        check_eq!(rt; interner.intern(&word).expect(rt, "refused").index(), number);
     }
     for number in 0..100 {
         let word = format!(in rt.alloc(); "{number}").expect(rt, "no memory");
-        check_eq!(*rt; interner.get(&word).expect(rt, "not found").index(), number);
+        check_eq!(rt; interner.get(&word).expect(rt, "not found").index(), number);
     }
 }
 
 #[test]
-fn a_hundred_words_have_one_hash(rt: HostRuntime) {
-    check_growth(&rt);
+fn a_hundred_words_have_one_hash(ref rt: HostRuntime) {
+    check_growth(rt);
 }
 
 /// A search for each word begins at the last slot, in a table of any length, and passes its end.
@@ -177,17 +177,17 @@ fn add_or_find(
 fn check_moves<R: Abort + AllocGlobal + Threads + Wait + Sync>(rt: &R) {
     let alloc = rt.alloc();
     let interner = &SharedInterner::with_hasher(alloc, 1, MOVES_AT_ONCE).expect(rt, "refused");
-    check!(*rt; intern_words(rt, alloc, interner, 0, KNOWN).is_ok());
+    check!(rt; intern_words(rt, alloc, interner, 0, KNOWN).is_ok());
     let work = |worker: usize| add_or_find(rt, alloc, interner, worker);
     for found in thread::map_indices(rt, alloc, THREADS, &work).expect(rt, "refused") {
-        check!(*rt; found.expect(rt, "refused"));
+        check!(rt; found.expect(rt, "refused"));
     }
-    check_eq!(*rt; interner.len(), ALL);
+    check_eq!(rt; interner.len(), ALL);
 }
 
 #[test]
-fn known_words_of_one_hash_are_found_while_they_move(rt: HostRuntime) {
+fn known_words_of_one_hash_are_found_while_they_move(ref rt: HostRuntime) {
     for _ in 0..10 {
-        check_moves(&rt);
+        check_moves(rt);
     }
 }

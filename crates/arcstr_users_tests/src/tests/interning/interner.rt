@@ -22,88 +22,88 @@ fn check_alone(rt: &impl Abort, interner: &Interner, symbol: Symbol, wanted: &st
 }
 
 #[test]
-fn an_empty_word_is_a_text_too(rt: HostRuntime) {
+fn an_empty_word_is_a_text_too(ref rt: HostRuntime) {
     let mut interner = Interner::new(rt.alloc());
     check!(rt; interner.get("").is_none());
-    let symbol = interner.intern("").expect(&rt, "refused");
-    check!(rt; interner.intern("").expect(&rt, "refused") == symbol);
+    let symbol = interner.intern("").expect(rt, "refused");
+    check!(rt; interner.intern("").expect(rt, "refused") == symbol);
     check_eq!(rt; interner.len(), 1);
     check!(rt; ArcStr::is_static(&interner[symbol]));
 }
 
 #[test]
-fn many_words_are_numbered_as_they_come(rt: HostRuntime) {
-    let letters = &letters(&rt);
+fn many_words_are_numbered_as_they_come(ref rt: HostRuntime) {
+    let letters = &letters(rt);
     let mut interner = Interner::new(rt.alloc());
     for number in 0..WORDS {
-        let symbol = interned(&rt, &mut interner, word_at(&rt, letters, number));
+        let symbol = interned(rt, &mut interner, word_at(rt, letters, number));
         check_eq!(rt; symbol.index(), number);
     }
     for number in 0..WORDS / 2 {
-        let symbol = interned(&rt, &mut interner, word_at(&rt, letters, number * 2));
+        let symbol = interned(rt, &mut interner, word_at(rt, letters, number * 2));
         check_eq!(rt; symbol.index(), number * 2);
     }
-    check_absent(&rt, letters, |word: &str| interner.get(word).is_some());
+    check_absent(rt, letters, |word: &str| interner.get(word).is_some());
     check_eq!(rt; interner.len(), 262_143);
     for (number, text) in interner.iter().enumerate() {
-        check!(rt; text.eq_str(word_at(&rt, letters, number)));
+        check!(rt; text.eq_str(word_at(rt, letters, number)));
         check_eq!(rt; ArcStr::strong_count(text), Some(1));
     }
 }
 
 #[test]
-fn a_text_is_kept_as_a_clone(rt: HostRuntime) {
-    let text = &made(&rt, "foobar");
+fn a_text_is_kept_as_a_clone(ref rt: HostRuntime) {
+    let text = &made(rt, "foobar");
     let mut interner = Interner::new(rt.alloc());
-    let symbol = interner.intern_arc(&rt, text).expect(&rt, "refused");
-    check!(rt; interner.intern_arc(&rt, text).expect(&rt, "refused") == symbol);
+    let symbol = interner.intern_arc(rt, text).expect(rt, "refused");
+    check!(rt; interner.intern_arc(rt, text).expect(rt, "refused") == symbol);
     check_eq!(rt; ArcStr::strong_count(text), Some(2));
     drop(interner);
     check_eq!(rt; ArcStr::strong_count(text), Some(1));
 }
 
 #[test]
-fn a_text_is_not_kept_twice(rt: HostRuntime) {
-    let text = &made(&rt, "foobar");
+fn a_text_is_not_kept_twice(ref rt: HostRuntime) {
+    let text = &made(rt, "foobar");
     let mut interner = Interner::new(rt.alloc());
-    let symbol = interner.intern("foobar").expect(&rt, "refused");
-    check!(rt; interner.intern_arc(&rt, text).expect(&rt, "refused") == symbol);
+    let symbol = interner.intern("foobar").expect(rt, "refused");
+    check!(rt; interner.intern_arc(rt, text).expect(rt, "refused") == symbol);
     check_eq!(rt; ArcStr::strong_count(text), Some(1));
 }
 
 #[test]
-fn a_slice_of_all_of_a_text_is_kept_as_a_clone(rt: HostRuntime) {
-    let text = &made(&rt, "foobar");
-    let slice = text.substr(&rt, ..).expect(&rt, "refused");
+fn a_slice_of_all_of_a_text_is_kept_as_a_clone(ref rt: HostRuntime) {
+    let text = &made(rt, "foobar");
+    let slice = text.substr(rt, ..).expect(rt, "refused");
     let mut interner = Interner::new(rt.alloc());
-    interner.intern_substr(&rt, &slice).expect(&rt, "refused");
+    interner.intern_substr(rt, &slice).expect(rt, "refused");
     check_eq!(rt; ArcStr::strong_count(text), Some(3));
 }
 
 #[test]
-fn another_slice_is_copied(rt: HostRuntime) {
-    let text = &made(&rt, "foobar");
+fn another_slice_is_copied(ref rt: HostRuntime) {
+    let text = &made(rt, "foobar");
     let mut interner = Interner::new(rt.alloc());
     let symbol = interner
-        .intern_substr(&rt, &text.substr(&rt, ..3).expect(&rt, "refused"))
-        .expect(&rt, "refused");
+        .intern_substr(rt, &text.substr(rt, ..3).expect(rt, "refused"))
+        .expect(rt, "refused");
     interner
-        .intern_substr(&rt, &text.substr(&rt, 1..).expect(&rt, "refused"))
-        .expect(&rt, "refused");
+        .intern_substr(rt, &text.substr(rt, 1..).expect(rt, "refused"))
+        .expect(rt, "refused");
     check_eq!(rt; ArcStr::strong_count(text), Some(1));
     check_eq!(rt; interner.len(), 2);
-    check_alone(&rt, &interner, symbol, "foo");
+    check_alone(rt, &interner, symbol, "foo");
 }
 
 #[test]
-fn symbols_and_faults_are_printed(rt: HostRuntime) {
-    let symbol = interned(&rt, &mut Interner::new(rt.alloc()), "foo");
+fn symbols_and_faults_are_printed(ref rt: HostRuntime) {
+    let symbol = interned(rt, &mut Interner::new(rt.alloc()), "foo");
     let printed = format!(in rt.alloc();
         "{symbol:?} {}, {}",
         InternFault::Length,
         InternFault::Memory
     )
-    .expect(&rt, "refused");
+    .expect(rt, "refused");
     check_eq!(rt;
         printed.as_str(),
         "Symbol(0) text is too long, out of memory"
@@ -118,20 +118,20 @@ fn not_stored(rt: &impl Wait, text: &ArcStr) -> AllocFailed<ArcStr> {
 }
 
 #[test]
-fn what_was_not_stored_is_dropped(rt: HostRuntime) {
-    let text = &made(&rt, "foo");
-    check_eq!(rt; InternFault::from(not_stored(&rt, text)), InternFault::Memory);
+fn what_was_not_stored_is_dropped(ref rt: HostRuntime) {
+    let text = &made(rt, "foo");
+    check_eq!(rt; InternFault::from(not_stored(rt, text)), InternFault::Memory);
     check_eq!(rt; ArcStr::strong_count(text), Some(1));
 }
 
 #[test]
-fn faults_are_errors_of_reading_and_writing(rt: HostRuntime) {
+fn faults_are_errors_of_reading_and_writing(ref rt: HostRuntime) {
     let printed = format!(in rt.alloc();
         "{}, {}, {}",
         io::Error::from(InternFault::Full),
         io::Error::from(InternFault::Length),
         io::Error::from(InternFault::Memory)
     )
-    .expect(&rt, "refused");
+    .expect(rt, "refused");
     check_eq!(rt; printed.as_str(), "interner is full, text is too long, out of memory");
 }

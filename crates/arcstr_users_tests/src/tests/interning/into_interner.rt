@@ -58,10 +58,10 @@ fn check_numbers<R: Abort + AllocGlobal + Wait>(rt: &R, shards: usize)
 }
 
 #[test]
-fn words_keep_their_numbers(rt: HostRuntime) {
-    check_numbers(&rt, 1);
-    check_numbers(&rt, 37);
-    check_numbers(&rt, 64);
+fn words_keep_their_numbers(ref rt: HostRuntime) {
+    check_numbers(rt, 1);
+    check_numbers(rt, 37);
+    check_numbers(rt, 64);
 }
 
 /// Interns the words from the number `first` on and then those before it.
@@ -102,8 +102,8 @@ fn check_threads<R: Abort + AllocGlobal + Threads + Wait + Sync>(rt: &R) {
 }
 
 #[test]
-fn words_of_threads_keep_their_numbers(rt: HostRuntime) {
-    check_threads(&rt);
+fn words_of_threads_keep_their_numbers(ref rt: HostRuntime) {
+    check_threads(rt);
 }
 
 #[test]

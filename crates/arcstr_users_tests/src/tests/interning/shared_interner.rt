@@ -89,10 +89,10 @@ fn check_symbols<R: Abort + AllocGlobal + Wait>(
 fn check_dense(rt: &impl Abort, interner: &SharedInterner) {
     let mut count = 0_usize;
     for (symbol, _) in interner.iter() {
-        check_eq!(*rt; symbol.number().index(), count);
+        check_eq!(rt; symbol.number().index(), count);
         count = count.wrapping_add(1);
     }
-    check_eq!(*rt; interner.len(), count);
+    check_eq!(rt; interner.len(), count);
 }
 
 /// Interns the same words by all threads at once, each from another word on.
@@ -109,18 +109,18 @@ fn check_threads<R: Abort + AllocGlobal + Threads + Wait + Sync>(rt: &R, shards:
 }
 
 #[test]
-fn threads_agree_on_eight_shards(rt: HostRuntime) {
-    check_threads(&rt, 8);
+fn threads_agree_on_eight_shards(ref rt: HostRuntime) {
+    check_threads(rt, 8);
 }
 
 #[test]
-fn threads_agree_on_one_shard(rt: HostRuntime) {
-    check_threads(&rt, 1);
+fn threads_agree_on_one_shard(ref rt: HostRuntime) {
+    check_threads(rt, 1);
 }
 
 #[test]
-fn threads_agree_on_sixty_four_shards(rt: HostRuntime) {
-    check_threads(&rt, 64);
+fn threads_agree_on_sixty_four_shards(ref rt: HostRuntime) {
+    check_threads(rt, 64);
 }
 
 /// As the last worker, interns more words. As another, looks for known words until they are all
@@ -221,18 +221,18 @@ fn check_one_number<R: Abort + AllocGlobal + Threads + Wait + Sync>(rt: &R) {
     let mut wanted = Vec::new(alloc);
     for list in lists {
         let symbols = list.expect(rt, "refused");
-        check!(*rt; wanted.is_empty() || symbols == wanted);
+        check!(rt; wanted.is_empty() || symbols == wanted);
         wanted = symbols;
     }
-    check_eq!(*rt; wanted.len(), TOGETHER);
-    check_eq!(*rt; interner.len(), TOGETHER);
+    check_eq!(rt; wanted.len(), TOGETHER);
+    check_eq!(rt; interner.len(), TOGETHER);
     check_dense(rt, interner);
 }
 
 #[test]
-fn threads_at_one_word_agree(rt: HostRuntime) {
+fn threads_at_one_word_agree(ref rt: HostRuntime) {
     for _ in 0..200 {
-        check_one_number(&rt);
+        check_one_number(rt);
     }
 }
 
@@ -266,19 +266,19 @@ fn check_handles_end<R: Abort + AllocGlobal + Threads + Wait + Sync>(rt: &R) {
     let gate = &AtomicU64::new(0);
     let work = |_: usize| intern_own_texts(rt, alloc, &interner, gate);
     let lists = thread::map_indices(rt, alloc, THREADS, &work).expect(rt, "refused");
-    check_eq!(*rt; interner.len(), TOGETHER);
+    check_eq!(rt; interner.len(), TOGETHER);
     drop(interner);
     for list in lists {
         for text in &list.expect(rt, "refused") {
-            check_eq!(*rt; ArcStr::strong_count(text), Some(1));
+            check_eq!(rt; ArcStr::strong_count(text), Some(1));
         }
     }
 }
 
 #[test]
-fn texts_of_threads_end_with_their_interner(rt: HostRuntime) {
+fn texts_of_threads_end_with_their_interner(ref rt: HostRuntime) {
     for _ in 0..200 {
-        check_handles_end(&rt);
+        check_handles_end(rt);
     }
 }
 
@@ -290,78 +290,78 @@ fn check_order<R: Abort + AllocGlobal + Wait>(rt: &R, shards: usize)
     let interner = &SharedInterner::new(rt.alloc(), shards).expect(rt, "refused");
     for number in 0..5 * WORDS {
         let word = word_of(rt.alloc(), number).expect(rt, "refused");
-        check_eq!(*rt; interned(rt, interner, &word).index(), number);
+        check_eq!(rt; interned(rt, interner, &word).index(), number);
     }
-    check_eq!(*rt; interner.len(), 5 * WORDS);
+    check_eq!(rt; interner.len(), 5 * WORDS);
     check_dense(rt, interner);
 }
 
 #[test]
-fn words_are_numbered_as_they_come(rt: HostRuntime) {
-    check_order(&rt, 1);
-    check_order(&rt, 8);
-    check_order(&rt, 37);
-    check_order(&rt, 64);
+fn words_are_numbered_as_they_come(ref rt: HostRuntime) {
+    check_order(rt, 1);
+    check_order(rt, 8);
+    check_order(rt, 37);
+    check_order(rt, 64);
 }
 
 /// How many words one shard gets: one less than a power of two.
 const MANY: usize = (1 << 13) - 1;
 
 #[test]
-fn many_words_of_one_shard_are_numbered_as_they_come(rt: HostRuntime) {
-    let letters = &letters(&rt);
-    let interner = SharedInterner::new(rt.alloc(), 1).expect(&rt, "refused");
+fn many_words_of_one_shard_are_numbered_as_they_come(ref rt: HostRuntime) {
+    let letters = &letters(rt);
+    let interner = SharedInterner::new(rt.alloc(), 1).expect(rt, "refused");
     for number in 0..MANY {
-        let word = word_at(&rt, letters, number);
-        check_eq!(rt; interned(&rt, &interner, word).index(), number);
+        let word = word_at(rt, letters, number);
+        check_eq!(rt; interned(rt, &interner, word).index(), number);
     }
     let last = interner
-        .get(word_at(&rt, letters, MANY - 1))
-        .expect(&rt, "not found");
+        .get(word_at(rt, letters, MANY - 1))
+        .expect(rt, "not found");
     check!(rt; interner.symbol_at(last.number()).is_some());
-    check_absent(&rt, letters, |word: &str| interner.get(word).is_some());
+    check_absent(rt, letters, |word: &str| interner.get(word).is_some());
     check_eq!(rt; (interner.len(), interner.iter().count()), (8_191, 8_191));
 }
 
 #[test]
-fn a_text_is_kept_as_a_clone(rt: HostRuntime) {
-    let text = &made(&rt, "foobar");
-    let interner = SharedInterner::new(rt.alloc(), 2).expect(&rt, "refused");
-    let symbol = interner.intern_arc(&rt, text).expect(&rt, "refused");
-    check!(rt; interner.intern_arc(&rt, text).expect(&rt, "refused").number() == symbol.number());
+fn a_text_is_kept_as_a_clone(ref rt: HostRuntime) {
+    let text = &made(rt, "foobar");
+    let interner = SharedInterner::new(rt.alloc(), 2).expect(rt, "refused");
+    let symbol = interner.intern_arc(rt, text).expect(rt, "refused");
+    check!(rt; interner.intern_arc(rt, text).expect(rt, "refused").number() == symbol.number());
     check_eq!(rt; ArcStr::strong_count(text), Some(2));
     drop(interner);
     check_eq!(rt; ArcStr::strong_count(text), Some(1));
 }
 
 #[test]
-fn a_slice_of_all_of_a_text_is_kept_as_a_clone(rt: HostRuntime) {
-    let text = &made(&rt, "foobar");
-    let slice = text.substr(&rt, ..).expect(&rt, "refused");
-    let interner = SharedInterner::new(rt.alloc(), 2).expect(&rt, "refused");
-    interner.intern_substr(&rt, &slice).expect(&rt, "refused");
+fn a_slice_of_all_of_a_text_is_kept_as_a_clone(ref rt: HostRuntime) {
+    let text = &made(rt, "foobar");
+    let slice = text.substr(rt, ..).expect(rt, "refused");
+    let interner = SharedInterner::new(rt.alloc(), 2).expect(rt, "refused");
+    interner.intern_substr(rt, &slice).expect(rt, "refused");
     check_eq!(rt; ArcStr::strong_count(text), Some(3));
 }
 
 #[test]
-fn another_slice_is_copied(rt: HostRuntime) {
-    let text = &made(&rt, "foobar");
-    let interner = &SharedInterner::new(rt.alloc(), 2).expect(&rt, "refused");
+fn another_slice_is_copied(ref rt: HostRuntime) {
+    let text = &made(rt, "foobar");
+    let interner = &SharedInterner::new(rt.alloc(), 2).expect(rt, "refused");
     let symbol = interner
-        .intern_substr(&rt, &text.substr(&rt, ..3).expect(&rt, "refused"))
-        .expect(&rt, "refused");
+        .intern_substr(rt, &text.substr(rt, ..3).expect(rt, "refused"))
+        .expect(rt, "refused");
     check_eq!(rt; ArcStr::strong_count(text), Some(1));
-    check_alone(&rt, interner, symbol.number(), "foo");
+    check_alone(rt, interner, symbol.number(), "foo");
 }
 
 #[test]
-fn a_literal_stays_a_literal(rt: HostRuntime) {
-    let interner = &SharedInterner::new(rt.alloc(), 2).expect(&rt, "refused");
+fn a_literal_stays_a_literal(ref rt: HostRuntime) {
+    let interner = &SharedInterner::new(rt.alloc(), 2).expect(rt, "refused");
     let symbol = interner
-        .intern_arc(&rt, &literal!("foo"))
-        .expect(&rt, "refused");
+        .intern_arc(rt, &literal!("foo"))
+        .expect(rt, "refused");
     check!(rt; ArcStr::is_static(interner.text(&symbol)));
-    let symbol = interner.intern_static(&rt, "bar").expect(&rt, "refused");
+    let symbol = interner.intern_static(rt, "bar").expect(rt, "refused");
     check!(rt; ArcStr::is_static(interner.text(&symbol)));
     check_eq!(rt; interner.len(), 2);
 }
@@ -378,6 +378,6 @@ fn an_interner_with_room_numbers_words_as_another(ref rt: HostRuntime) {
 }
 
 #[test]
-fn symbols_are_small(rt: HostRuntime) {
+fn symbols_are_small(ref rt: HostRuntime) {
     check_eq!(rt; (size_of::<Symbol>(), size_of::<SharedSymbol>()), (4, 8));
 }

@@ -36,23 +36,23 @@ fn check_two_texts(rt: &impl Abort, lists: &[Vec<Substr>]) {
 }
 
 #[test]
-fn no_texts_have_no_lists(rt: HostRuntime) {
+fn no_texts_have_no_lists(ref rt: HostRuntime) {
     let texts: [ArcStr; 0] = [];
-    check_eq!(rt; tokens_all(&rt, rt.alloc(), &texts, 3).expect(&rt, "refused").len(), 0);
+    check_eq!(rt; tokens_all(rt, rt.alloc(), &texts, 3).expect(rt, "refused").len(), 0);
 }
 
 #[test]
-fn more_workers_than_texts(rt: HostRuntime) {
-    let texts = two_texts(&rt);
+fn more_workers_than_texts(ref rt: HostRuntime) {
+    let texts = two_texts(rt);
     check_two_texts(
-        &rt,
-        &tokens_all(&rt, rt.alloc(), &texts, 64).expect(&rt, "refused"),
+        rt,
+        &tokens_all(rt, rt.alloc(), &texts, 64).expect(rt, "refused"),
     );
     check_two_texts(
-        &rt,
-        &tokens_all_with(&rt, rt.alloc(), &texts, 64, &OpenGate).expect(&rt, "refused"),
+        rt,
+        &tokens_all_with(rt, rt.alloc(), &texts, 64, &OpenGate).expect(rt, "refused"),
     );
-    check_count(&rt, &texts[0], Some(1));
+    check_count(rt, &texts[0], Some(1));
 }
 
 /// Texts with different words, so that a test detects a list in another's position.
@@ -98,25 +98,25 @@ fn check_workers<R: Abort + AllocGlobal + Threads + Wait + Sync>(
 }
 
 #[test]
-fn each_number_of_workers_finds_the_tokens_of_one_thread(rt: HostRuntime) {
-    let texts = &seven_texts(&rt).expect(&rt, "refused");
-    check_workers(&rt, texts, 1).expect(&rt, "refused");
-    check_workers(&rt, texts, 2).expect(&rt, "refused");
-    check_workers(&rt, texts, 3).expect(&rt, "refused");
-    check_workers(&rt, texts, 7).expect(&rt, "refused");
-    check_workers(&rt, texts, 64).expect(&rt, "refused");
+fn each_number_of_workers_finds_the_tokens_of_one_thread(ref rt: HostRuntime) {
+    let texts = &seven_texts(rt).expect(rt, "refused");
+    check_workers(rt, texts, 1).expect(rt, "refused");
+    check_workers(rt, texts, 2).expect(rt, "refused");
+    check_workers(rt, texts, 3).expect(rt, "refused");
+    check_workers(rt, texts, 7).expect(rt, "refused");
+    check_workers(rt, texts, 64).expect(rt, "refused");
 }
 
 #[test]
-fn counts_of_texts_while_their_tokens_live(rt: HostRuntime) {
-    let texts = [made(&rt, "a b"), made(&rt, "c d e"), made(&rt, " ")];
-    let lists = tokens_all(&rt, rt.alloc(), &texts, 2).expect(&rt, "refused");
-    check_count(&rt, &texts[0], Some(3));
-    check_count(&rt, &texts[1], Some(4));
-    check_count(&rt, &texts[2], Some(1));
+fn counts_of_texts_while_their_tokens_live(ref rt: HostRuntime) {
+    let texts = [made(rt, "a b"), made(rt, "c d e"), made(rt, " ")];
+    let lists = tokens_all(rt, rt.alloc(), &texts, 2).expect(rt, "refused");
+    check_count(rt, &texts[0], Some(3));
+    check_count(rt, &texts[1], Some(4));
+    check_count(rt, &texts[2], Some(1));
     drop(lists);
-    check_count(&rt, &texts[0], Some(1));
-    check_count(&rt, &texts[1], Some(1));
+    check_count(rt, &texts[0], Some(1));
+    check_count(rt, &texts[1], Some(1));
 }
 
 /// A gate at which each worker waits until all of them have arrived. It counts the workers that saw
@@ -143,8 +143,8 @@ impl Gate for Meeting {
 
 /// If the body starts fewer threads than there are workers, the first worker waits in vain.
 #[test]
-fn all_workers_run_at_once(rt: HostRuntime) {
-    let texts = two_texts(&rt);
+fn all_workers_run_at_once(ref rt: HostRuntime) {
+    let texts = two_texts(rt);
     for (count, workers) in [(2, 2), (3, 3), (16, 16)] {
         let gate = Meeting {
             workers,
@@ -152,8 +152,8 @@ fn all_workers_run_at_once(rt: HostRuntime) {
             met: AtomicU64::new(0),
         };
         check_two_texts(
-            &rt,
-            &tokens_all_with(&rt, rt.alloc(), &texts, count, &gate).expect(&rt, "refused"),
+            rt,
+            &tokens_all_with(rt, rt.alloc(), &texts, count, &gate).expect(rt, "refused"),
         );
         check_eq!(rt; gate.met.load(Ordering::SeqCst), workers);
     }
@@ -180,16 +180,16 @@ impl Gate for Noted {
 
 /// The contract says that each of the 64 workers passes, so after 64 passes none has passed twice.
 #[test]
-fn each_worker_passes_once_before_its_first_text(rt: HostRuntime) {
-    let texts = two_texts(&rt);
+fn each_worker_passes_once_before_its_first_text(ref rt: HostRuntime) {
+    let texts = two_texts(rt);
     let gate = Noted {
-        text: texts[0].clone(&rt),
+        text: texts[0].clone(rt),
         passes: AtomicU64::new(0),
         handles: AtomicU64::new(0),
     };
     check_two_texts(
-        &rt,
-        &tokens_all_with(&rt, rt.alloc(), &texts, 64, &gate).expect(&rt, "refused"),
+        rt,
+        &tokens_all_with(rt, rt.alloc(), &texts, 64, &gate).expect(rt, "refused"),
     );
     check_eq!(rt; gate.passes.load(Ordering::SeqCst), 64);
     check_eq!(rt; gate.handles.load(Ordering::SeqCst), 2);

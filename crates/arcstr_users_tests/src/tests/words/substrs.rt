@@ -41,34 +41,34 @@ fn check_word(rt: &(impl Abort + Wait), list: &Substrs, index: usize, wanted: Wa
 }
 
 #[test]
-fn lists_of_texts_without_words(rt: HostRuntime) {
-    check_list(&rt, "", &[]);
-    check_list(&rt, " \n", &[]);
+fn lists_of_texts_without_words(ref rt: HostRuntime) {
+    check_list(rt, "", &[]);
+    check_list(rt, " \n", &[]);
 }
 
 #[test]
-fn lists_of_words(rt: HostRuntime) {
-    check_list(&rt, "foo   bar", &[(0, 3, "foo"), (6, 9, "bar")]);
-    check_list(&rt, "€ 😀é", &[(0, 3, "€"), (4, 10, "😀é")]);
+fn lists_of_words(ref rt: HostRuntime) {
+    check_list(rt, "foo   bar", &[(0, 3, "foo"), (6, 9, "bar")]);
+    check_list(rt, "€ 😀é", &[(0, 3, "€"), (4, 10, "😀é")]);
 }
 
 #[test]
-fn a_list_keeps_its_text(rt: HostRuntime) {
-    let text = made(&rt, "foo   bar");
-    let list = token_list(&rt, rt.alloc(), &text).expect(&rt, "refused");
+fn a_list_keeps_its_text(ref rt: HostRuntime) {
+    let text = made(rt, "foo   bar");
+    let list = token_list(rt, rt.alloc(), &text).expect(rt, "refused");
     drop(text);
-    check_count(&rt, list.text(), Some(1));
-    let slice = list.get(&rt, 1).expect(&rt, "no slice");
+    check_count(rt, list.text(), Some(1));
+    let slice = list.get(rt, 1).expect(rt, "no slice");
     drop(list);
-    check_token(&rt, &slice, (6, 9, "bar"));
-    check_count(&rt, slice.parent(), Some(1));
+    check_token(rt, &slice, (6, 9, "bar"));
+    check_count(rt, slice.parent(), Some(1));
 }
 
 #[test]
-fn a_list_of_10_000_words_has_the_slices_of_tokens(rt: HostRuntime) {
-    let text = &ArcStr::repeat(rt.alloc(), "ab  é ", 5_000).expect(&rt, "no memory");
-    let list = &token_list(&rt, rt.alloc(), text).expect(&rt, "refused");
-    let words = &tokens(&rt, rt.alloc(), text).expect(&rt, "refused");
+fn a_list_of_10_000_words_has_the_slices_of_tokens(ref rt: HostRuntime) {
+    let text = &ArcStr::repeat(rt.alloc(), "ab  é ", 5_000).expect(rt, "no memory");
+    let list = &token_list(rt, rt.alloc(), text).expect(rt, "refused");
+    let words = &tokens(rt, rt.alloc(), text).expect(rt, "refused");
     check_eq!(rt; list.len(), 10_000);
     check_eq!(rt; words.len(), 10_000);
     for (index, word) in words.iter().enumerate() {
