@@ -53,6 +53,18 @@ def take_interrupts() -> None:
             signal.signal(number, signal.default_int_handler)
 
 
+def run_command(words, **how) -> subprocess.CompletedProcess:
+    """Runs a command as `subprocess.run` does. After Ctrl-C, which the command gets too, waits until
+    it has removed what it made, and does not kill it."""
+    with subprocess.Popen(words, **how) as ran:
+        try:
+            said = ran.communicate()
+        except KeyboardInterrupt:
+            ran.wait()
+            raise
+    return subprocess.CompletedProcess(words, ran.returncode, *said)
+
+
 class Progress:
     """What `with Progress(..)` tells of its block. The work has `total` parts, such as crates, and
     takes `seconds` of processor time, as PROOFS proofs at a time take it. After an interrupt it
