@@ -7,11 +7,14 @@ import shutil
 import signal
 import subprocess
 import sys
+import tempfile
 import threading
 import time
 from collections.abc import Iterator
-from concurrent.futures import ThreadPoolExecutor
+from concurrent.futures import ThreadPoolExecutor, wait
 from contextlib import contextmanager, suppress
+from itertools import product
+from pathlib import Path
 from typing import Any
 
 import kit
@@ -29,6 +32,8 @@ STREAMS: dict[str, Any] = {
     "text": True,
     "errors": "replace",
 }
+# After an interrupt, what runs has so many seconds to remove what it made.
+PATIENCE = 5
 # What starts a process group. Python 3.10 can only start a session, which Ctrl-Z does not reach.
 GROUP: dict[str, Any] = (
     {"process_group": 0} if sys.version_info >= (3, 11) else {"start_new_session": True}
@@ -46,23 +51,49 @@ def processor_time() -> float:
     return sum(it.ru_utime + it.ru_stime for it in spent)
 
 
-def take_interrupts() -> None:
-    """Has SIGTERM and SIGHUP end this run as SIGINT does, but for what it was started to ignore."""
-    for number in (signal.SIGTERM, signal.SIGHUP):
-        if signal.getsignal(number) != signal.SIG_IGN:
-            signal.signal(number, signal.default_int_handler)
+def take_interrupts(handler: Any = signal.default_int_handler) -> dict[int, Any]:
+    """Has SIGTERM and SIGHUP end this run as SIGINT does, or the three call another handler, but for
+    what it was started to ignore. Returns the handlers of before."""
+    numbers = (signal.SIGINT, signal.SIGTERM, signal.SIGHUP)
+    taken = [number for number in numbers if signal.getsignal(number) != signal.SIG_IGN]
+    return {number: signal.signal(number, handler) for number in taken}
+
+
+@contextmanager
+def temporary_folder(prefix="") -> Iterator[Path]:
+    """A folder that is removed at the end, and before an interrupt ends this run."""
+    take_interrupts(lambda *_: sys.exit(130))
+    with tempfile.TemporaryDirectory(prefix=prefix) as folder:
+        yield Path(folder)
 
 
 def run_command(words, **how) -> subprocess.CompletedProcess:
-    """Runs a command as `subprocess.run` does. After Ctrl-C, which the command gets too, waits until
-    it has removed what it made, and does not kill it."""
-    with subprocess.Popen(words, **how) as ran:
-        try:
+    """Runs a command as `subprocess.run` does. An interrupt ends this run once the command has
+    removed what it made. Ctrl-C reaches the command too. SIGTERM and SIGHUP may reach this run
+    alone, so the command gets them from here if it goes on for a second."""
+    numbers: list[int] = []
+    started: list[subprocess.Popen] = []
+
+    def run() -> subprocess.CompletedProcess:
+        with subprocess.Popen(words, **how) as ran:
+            started.append(ran)
             said = ran.communicate()
-        except KeyboardInterrupt:
-            ran.wait()
-            raise
-    return subprocess.CompletedProcess(words, ran.returncode, *said)
+        return subprocess.CompletedProcess(words, ran.returncode, *said)
+
+    # No interrupt raises anything, so none comes between the start of a command and its entry.
+    before = take_interrupts(lambda number, _: numbers.append(number))
+    with ThreadPoolExecutor(1) as lane:
+        ended = lane.submit(run)
+        while not numbers and not wait([ended], 0.2).done:
+            pass
+        if numbers and not wait([ended], 1).done:
+            for ran, number in product(started, {*numbers} - {signal.SIGINT}):
+                ran.send_signal(number)
+    for number, handler in before.items():
+        signal.signal(number, handler)
+    if numbers:
+        sys.exit(130)
+    return ended.result()
 
 
 class Progress:
@@ -115,7 +146,12 @@ class Progress:
             sys.exit(130)
 
     def stop(self):
-        """Ends what runs. What was started to ignore SIGINT is ended by SIGTERM."""
+        """Ends what runs. What was started to ignore SIGINT, or still runs after a while, as `rt ci`
+        does until its proofs end, is ended by SIGTERM."""
+        if self.running and not self.ended.is_set():
+            later = threading.Timer(PATIENCE, self.tell, [signal.SIGTERM])
+            later.daemon = True
+            later.start()
         self.ended.set()
         is_ignored = signal.getsignal(signal.SIGINT) == signal.SIG_IGN
         self.tell(signal.SIGTERM if is_ignored else signal.SIGINT)
