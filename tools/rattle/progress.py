@@ -32,7 +32,7 @@ STREAMS: dict[str, Any] = {
     "text": True,
     "errors": "replace",
 }
-# After an interrupt, what runs has so many seconds to remove what it made.
+# How many seconds what runs has after an interrupt, to remove what it made.
 PATIENCE = 5
 # What starts a process group. Python 3.10 can only start a session, which Ctrl-Z does not reach.
 GROUP: dict[str, Any] = (
