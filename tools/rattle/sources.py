@@ -28,7 +28,9 @@ OWNER = re.compile(
     r"|(?P<open>pub )?trait (?P<new>\w+))[^;{]*\{",
     re.M,
 )
-CLAUSE = re.compile(r"\b(?P<kind>ensures|requires|invariant|decreases)\*?(?: (?P<name>\w+))?\s*$")
+CLAUSE = re.compile(
+    r"\b(?:ghost \w+:|(?P<kind>ensures|requires|invariant|decreases)\*?(?: (?P<name>\w+))?)\s*$"
+)
 HIDING = re.compile(r"#!?\[(?:cfg|path|ignore).*?\]$", re.M)
 CLOSING = {"(": ")", "{": "}"}
 TESTS = "_tests"

@@ -73,6 +73,11 @@ class Sources(Folder):
         self.assertEqual((two.is_public, two.ensures), (False, {}))
         self.assertEqual(two.body.split(), "let one = 1; one + one".split())
 
+    def test_a_contract_goes_on_behind_a_ghost_value(self) -> None:
+        contract = "ghost most: { ℕ }\n    ensures value { result ≤ most }"
+        [it] = sources.functions(self.path, f"fn f() -> u8\n    {contract}\n{{\n    two()\n}}\n")
+        self.assertEqual((it.ensures, it.body.strip()), ({"value": "result ≤ most"}, "two()"))
+
     def test_a_function_of_a_trait_is_as_public_as_the_trait(self) -> None:
         for word, is_public in ("pub ", True), ("", False):
             [it] = sources.functions(self.path, f"{word}trait Shape {{\n    fn area();\n}}\n")
@@ -213,7 +218,6 @@ class Edits(Folder):
     def test_functions_without_a_mistake_lose_their_bodies(self) -> None:
         others = (
             "pub const fn one() -> u8 {\n    1\n}\n",
-            "fn any()\n    ghost n: { ℕ }\n{\n    two();\n}\n",
             "fn ones() -> impl Iterator<Item = u8> {\n    [1].into_iter()\n}\n",
             "impl Copy for Pair {\n    fn copy(&self) -> Pair {\n        *self\n    }\n}\n",
             "trait Sum {\n    fn sum(&self) -> u8 {\n        2\n    }\n}\n",
