@@ -222,7 +222,8 @@ class Edits(Folder):
             "impl Copy for Pair {\n    fn copy(&self) -> Pair {\n        *self\n    }\n}\n",
             "trait Sum {\n    fn sum(&self) -> u8 {\n        2\n    }\n}\n",
         )
-        three = "/// Three.\nfn three() -> u8\n    ensures is { result ≡ 3 }\n{ loop {} }\n"
+        contract = "    ghost n: { ℕ }\n    ensures is { result ≡ 3 }\n"
+        three = f"/// Three.\nfn three() -> u8\n{contract}{{ loop {{}} }}\n"
         source = f"{SOURCE}{three.replace('loop {}', 'two() + 1')}{''.join(others)}"
         self.write("src/lib.rt", source)
         self.write("src/macros.rt", "macro_rules! none { () => {} }\nfn four() {\n    three()\n}\n")
