@@ -1,8 +1,12 @@
-//! Clone and drop, of each kind of text, and values that are kept at once, so that their bytes and allocations can be counted from outside.
+//! Clone and drop of a text.
+//!
+//! `clone_drop` reads the length of each clone, and a figure with `bare` does not. `slice` clones a
+//! slice of a whole text. `contended` clones one text in THREADS threads. The others clone eight
+//! handles in turn: on a literal, on the empty literal, made from a `StaticStr`, or counted before
+//! their block was marked static (`marked`).
 
-use crate::figures::no_figure;
-use crate::requests::{Machine, Request};
-use crate::texts::{add_each, add_times, handles, letters, text};
+use crate::no_figure;
+use crate::requests::{Machine, Request, add_each, add_times};
 use anyhow::Result;
 use arcstr::{ArcStr, Substr, literal};
 use std::sync::Wait;
@@ -10,58 +14,34 @@ use std::thread;
 use std::time::Instant;
 
 pub(crate) fn run<M: Machine>(rt: &M, request: &Request) -> Result<()> {
-    let text = text(rt.alloc(), request)?;
+    let text = request.text(rt.alloc())?;
+    let operations = request.operations;
     match request.figure {
-        "clone_drop" => request.time(rt, || Ok(clone_and_read(rt, &text, request.operations))),
-        "clone_drop_bare" => request.time(rt, || Ok(clone_unread(rt, &text, request.operations))),
+        "clone_drop" => request.time(rt, || Ok(clone_and_read(rt, &text, operations))),
+        "clone_drop_bare" => request.time(rt, || Ok(clone_unread(rt, &text, operations))),
         "clone_drop_slice" => {
             let slice = Substr::full(text);
             request.time_operations(rt, || slice.clone(rt).len())
         }
-        _ => no_figure(),
-    }
-}
-
-/// Clones eight handles in turn.
-pub(crate) fn run_on_handles<M: Machine>(rt: &M, request: &Request) -> Result<()> {
-    let all = handles_of(rt, request)?;
-    request.time_each(rt, &all, 8, |text| text.clone(rt).len())
-}
-
-/// Returns eight handles of the kind that the figure names.
-fn handles_of<M: Machine>(rt: &M, request: &Request) -> Result<Vec<ArcStr>> {
-    let text = text(rt.alloc(), request)?;
-    let one = match request.figure {
-        "clone_drop_literal" => literal!("a literal text, in read-only memory"),
-        "clone_drop_empty" => ArcStr::new(),
-        "clone_drop_fixed" => text.leak().to_arc_str(),
-        "clone_drop_marked" => {
-            // Handles that were counted before their block was marked static.
-            let all = handles(rt, rt.alloc(), &text)?;
-            let _ = text.leak();
-            return Ok(all);
-        }
-        _ => return no_figure(),
-    };
-    handles(rt, rt.alloc(), &one)
-}
-
-/// Clones a text in each thread of the request.
-pub(crate) fn run_in_threads<M: Machine>(rt: &M, request: &Request) -> Result<()> {
-    let text = text(rt.alloc(), request)?;
-    match request.figure {
         "clone_drop_contended" => {
-            time_threads(rt, request, |_| {
-                clone_and_read(rt, &text, request.operations)
-            })
+            time_threads(rt, request, |_| clone_and_read(rt, &text, operations))
         }
         "clone_drop_contended_bare" => {
-            time_threads(rt, request, |_| clone_unread(rt, &text, request.operations))
+            time_threads(rt, request, |_| clone_unread(rt, &text, operations))
         }
+        "clone_drop_literal" => time_handles(
+            rt,
+            request,
+            literal!("a literal text, in read-only memory"),
+        ),
+        "clone_drop_empty" => time_handles(rt, request, ArcStr::new()),
+        "clone_drop_fixed" => time_handles(rt, request, text.leak().to_arc_str()),
+        "clone_drop_marked" => time_handles(rt, request, text),
         _ => no_figure(),
     }
 }
 
+/// Does the work in each thread of the request.
 fn time_threads<M: Machine, F: Fn(usize) -> usize + Sync>(
     rt: &M,
     request: &Request,
@@ -90,38 +70,15 @@ fn clone_unread<R: Wait>(rt: &R, text: &ArcStr, operations: usize) -> usize {
     operations
 }
 
-/// Keeps texts, clones of one text, or clones of one slice.
-pub(crate) fn run_kept<M: Machine>(rt: &M, request: &Request) -> Result<()> {
-    let letters = letters(rt.alloc(), request.size, request.size)?;
-    let text = text(rt.alloc(), request)?;
-    match request.figure {
-        "keep" => request.time(rt, || {
-            keep(
-                rt,
-                request,
-                || Ok(ArcStr::from_str(rt.alloc(), letters.as_str())?),
-            )
-        }),
-        "keep_clones" => request.time(rt, || keep(rt, request, || Ok(text.clone(rt)))),
-        "keep_slices" => {
-            let slice = Substr::full(text);
-            request.time(rt, || keep(rt, request, || Ok(slice.clone(rt))))
-        }
-        _ => no_figure(),
+/// Clones eight handles in turn.
+fn time_handles<M: Machine>(rt: &M, request: &Request, one: ArcStr) -> Result<()> {
+    let mut all = Vec::new(rt.alloc());
+    for _ in 0..8 {
+        all.push(one.clone(rt))?;
     }
-}
-
-/// Makes and keeps as many values as the request has operations, and returns their number.
-fn keep<M: Machine, T: Drop, F: Fn() -> Result<T>>(
-    rt: &M,
-    request: &Request,
-    make: F,
-) -> Result<usize>
-    requires { F.IsAlwaysCallable make }
-{
-    let mut kept = Vec::with_capacity(rt.alloc(), request.operations)?;
-    for _ in 0..request.operations {
-        kept.push(make()?)?;
+    if request.figure == "clone_drop_marked" {
+        // The handles were counted before their block is marked static.
+        let _ = one.leak();
     }
-    Ok(kept.len())
+    request.time_each(rt, &all, 8, |text| text.clone(rt).len())
 }

@@ -1,12 +1,15 @@
-//! An interner of the words on standard input: the symbol of each word in their order; and one that threads share.
+//! The symbol of each word on standard input, whose number is taken as N.
+//!
+//! `intern` makes them in a fresh interner, whose drop is not timed, and `intern_get` finds them in
+//! one that has all words. `intern_list` and `list_get` do so by a `WordList`. `intern_shared`
+//! reads the length of each word's text, in a `SharedInterner` that has the words, and each of
+//! THREADS threads takes a share of them. `intern_shared_new` does so in a fresh one.
 
-use crate::figures::no_figure;
-use crate::requests::{Machine, Request};
-use crate::words;
+use crate::requests::{Machine, Request, sum_of};
+use crate::{no_figure, words};
 use anyhow::Result;
-use arcintern::{InternFault, Interner, SharedInterner, WordList};
+use arcintern::{InternFault, Interner, SharedInterner, Symbol, WordList};
 use std::alloc::{AllocError, Global};
-use std::hash::{BuildHasher, RandomState};
 use std::ops::Range;
 use std::sync::Wait;
 use std::thread;
@@ -17,89 +20,88 @@ const SHARDS: usize = 64;
 
 /// N is the number of words.
 pub(crate) fn run<M: Machine>(rt: &M, request: &Request) -> Result<()> {
+    let alloc = rt.alloc();
     let input = words::input(rt, request)?;
-    let words = split(rt.alloc(), &input)?;
+    let words = split(alloc, &input)?;
+    let operations = words.len();
     let request = Request {
-        operations: words.len(),
+        operations,
         ..*request
     };
     match request.figure {
-        "intern" => time_interning(rt, &request, &words),
-        "intern_get" => time_looking_up(rt, &request, &words),
-        "intern_random" => time_random_hashes(rt, &request, &words),
-        "intern_list" => time_listing(rt, &request, &words),
-        "list_get" => time_finding(rt, &request, &words),
-        "intern_shared" => time_sharing(rt, &request, &words),
-        "intern_shared_new" => time_sharing_new_words(rt, &request, &words),
+        "intern" => {
+            let fill = |interner: &mut Interner| intern_all(interner, &words);
+            time_new(rt, &request, || Ok(Interner::new(alloc)), fill)
+        }
+        "intern_list" => {
+            let fill = |list: &mut WordList| list_all(list, &words);
+            time_new(rt, &request, || Ok(WordList::new(alloc)), fill)
+        }
+        "intern_get" => {
+            let mut interner = Interner::new(alloc);
+            intern_all(&mut interner, &words)?;
+            request.time_each(rt, &words, words.len(), |word| index(interner.get(word)))
+        }
+        "list_get" => {
+            let mut list = WordList::new(alloc);
+            list_all(&mut list, &words)?;
+            request.time_each(rt, &words, words.len(), |word| index(list.get(word)))
+        }
+        "intern_shared" => {
+            let interner = SharedInterner::new(alloc, SHARDS)?;
+            intern_share(rt, &interner, &words, 0, 1)?;
+            request.time(rt, || intern_in_threads(rt, &request, &interner, &words))
+        }
+        "intern_shared_new" => {
+            let fill = |interner: &mut SharedInterner| {
+                intern_in_threads(rt, &request, interner, &words)
+            };
+            time_new(
+                rt,
+                &request,
+                || Ok(SharedInterner::new(alloc, SHARDS)?),
+                fill,
+            )
+        }
         _ => no_figure(),
     }
 }
 
-/// Times look-ups in an interner that has all the words.
-fn time_looking_up<M: Machine>(rt: &M, request: &Request, words: &[&str]) -> Result<()> {
-    let mut interner = Interner::new(rt.alloc());
-    intern_all(&mut interner, words)?;
-    request.time_each(rt, words, words.len(), |word| index_of(&interner, word))
+/// Returns the index of a word's symbol, or 0 if there is none.
+fn index(found: Option<Symbol>) -> usize {
+    found.map_or(0, |symbol| symbol.index())
 }
 
-/// Returns the index of a word, or 0 if the interner does not have it.
-fn index_of(interner: &Interner, word: &str) -> usize {
-    match interner.get(word) {
-        Some(symbol) => symbol.index(),
-        None => 0,
-    }
-}
-
-/// Times how long a fresh interner takes for the words. A round does not include the interner's drop.
-fn time_interning<M: Machine>(rt: &M, request: &Request, words: &[&str]) -> Result<()> {
+/// Times rounds that each fill a new interner or list, whose drop is not timed.
+fn time_new<M: Machine, T: Drop, F: Fn() -> Result<T>, G: Fn(&mut T) -> Result<usize>>(
+    rt: &M,
+    request: &Request,
+    make: F,
+    fill: G,
+) -> Result<()>
+    requires makes { F.IsAlwaysCallable make }
+    requires fills { G.IsAlwaysCallable fill }
+{
     for _ in 0..request.rounds {
-        let mut interner = Interner::new(rt.alloc());
+        let mut new = make()?;
         let start = Instant::now(rt)?;
-        let sum = intern_all(&mut interner, words)?;
+        let sum = fill(&mut new)?;
         request.finish(rt, start, sum)?;
     }
     Ok(())
-}
-
-/// As `time_interning`, by an interner whose hasher has a random seed.
-fn time_random_hashes<M: Machine>(rt: &M, request: &Request, words: &[&str]) -> Result<()> {
-    for _ in 0..request.rounds {
-        let mut interner = Interner::with_hasher(rt.alloc(), RandomState::new(rt)?);
-        let start = Instant::now(rt)?;
-        let sum = intern_all(&mut interner, words)?;
-        request.finish(rt, start, sum)?;
-    }
-    Ok(())
-}
-
-/// As `time_interning`, by a `WordList`.
-fn time_listing<M: Machine>(rt: &M, request: &Request, words: &[&str]) -> Result<()> {
-    for _ in 0..request.rounds {
-        let mut list = WordList::new(rt.alloc());
-        let start = Instant::now(rt)?;
-        let sum = list_all(&mut list, words)?;
-        request.finish(rt, start, sum)?;
-    }
-    Ok(())
-}
-
-/// As `time_looking_up`, by a `WordList`.
-fn time_finding<M: Machine>(rt: &M, request: &Request, words: &[&str]) -> Result<()> {
-    let mut list = WordList::new(rt.alloc());
-    list_all(&mut list, words)?;
-    request.time_each(rt, words, words.len(), |word| place_of(&list, word))
-}
-
-/// Returns the index of a word, or 0 if the list does not have it.
-fn place_of(list: &WordList, word: &str) -> usize {
-    match list.get(word) {
-        Some(symbol) => symbol.index(),
-        None => 0,
-    }
 }
 
 /// Returns the sum of the words' symbols.
-fn list_all(list: &mut WordList, words: &[&str]) -> Result<usize, InternFault> {
+fn intern_all(interner: &mut Interner, words: &[&str]) -> Result<usize> {
+    let mut sum = 0usize;
+    for word in words {
+        sum = sum.wrapping_add(interner.intern(word)?.index());
+    }
+    Ok(sum)
+}
+
+/// As `intern_all`, by a `WordList`.
+fn list_all(list: &mut WordList, words: &[&str]) -> Result<usize> {
     let mut sum = 0usize;
     for word in words {
         sum = sum.wrapping_add(list.intern(word)?.index());
@@ -107,36 +109,15 @@ fn list_all(list: &mut WordList, words: &[&str]) -> Result<usize, InternFault> {
     Ok(sum)
 }
 
-/// Times how long the threads of the request take for the words, in an interner that has them all.
-fn time_sharing<M: Machine>(rt: &M, request: &Request, words: &[&str]) -> Result<()> {
-    let interner = SharedInterner::new(rt.alloc(), SHARDS)?;
-    intern_share(rt, &interner, words, 0, 1)?;
-    let work = |worker: usize| intern_share(rt, &interner, words, worker, request.threads);
-    request.time(
-        rt,
-        || sum_of(thread::map_indices(rt, rt.alloc(), request.threads, &work)?),
-    )
-}
-
-/// As `time_sharing`, in a fresh interner, whose drop is not timed.
-fn time_sharing_new_words<M: Machine>(rt: &M, request: &Request, words: &[&str]) -> Result<()> {
-    for _ in 0..request.rounds {
-        let interner = SharedInterner::new(rt.alloc(), SHARDS)?;
-        let work = |worker: usize| intern_share(rt, &interner, words, worker, request.threads);
-        let start = Instant::now(rt)?;
-        let sum = sum_of(thread::map_indices(rt, rt.alloc(), request.threads, &work)?)?;
-        request.finish(rt, start, sum)?;
-    }
-    Ok(())
-}
-
-/// Returns the sum of what the workers return.
-fn sum_of(shares: Vec<Result<usize, InternFault>>) -> Result<usize> {
-    let mut sum = 0usize;
-    for of_share in shares {
-        sum = sum.wrapping_add(of_share?);
-    }
-    Ok(sum)
+/// Interns the words, a share in each thread of the request.
+fn intern_in_threads<M: Machine>(
+    rt: &M,
+    request: &Request,
+    interner: &SharedInterner,
+    words: &[&str],
+) -> Result<usize> {
+    let work = |worker: usize| intern_share(rt, interner, words, worker, request.threads);
+    Ok(sum_of(thread::map_indices(rt, rt.alloc(), request.threads, &work)?)?)
 }
 
 /// Interns one worker's share of the words, and returns the sum of the lengths of their texts.
@@ -174,16 +155,4 @@ fn split<'a>(alloc: Global, input: &'a str) -> Result<Vec<&'a str>, AllocError> 
         }
     }
     Ok(words)
-}
-
-/// Returns the sum of the words' symbols.
-fn intern_all<S: BuildHasher>(
-    interner: &mut Interner<S>,
-    words: &[&str],
-) -> Result<usize, InternFault> {
-    let mut sum = 0usize;
-    for word in words {
-        sum = sum.wrapping_add(interner.intern(word)?.index());
-    }
-    Ok(sum)
 }

@@ -1,8 +1,12 @@
-//! Equality, order and hash, and reads of many short texts.
+//! Comparisons of texts, and reads of many short ones.
+//!
+//! `eq` and `cmp` compare eight texts in turn, each in its own block, with one more. `hash` hashes
+//! them, and `get` takes all but their first byte. `eq_slice` and `get_slice` do so with slices of
+//! whole texts. A figure with `read` reads COUNT texts of 16 bytes in mixed order N / 1000 times:
+//! the length, the last byte, or the last byte of the slice 1..15.
 
-use crate::figures::no_figure;
-use crate::requests::{Machine, Request};
-use crate::texts::{eight, many, text};
+use crate::no_figure;
+use crate::requests::{Machine, Request, many};
 use anyhow::Result;
 use arcstr::{ArcStr, StrRange, Substr};
 use std::cmp::Ordering;
@@ -11,31 +15,22 @@ use std::hash::{DefaultHasher, Hash, Hasher};
 /// The text of each of many: 16 bytes.
 const TEXT: &str = "0123456789abcdef";
 
-/// Compares eight texts, each in its own block, with one more.
-pub(crate) fn run_comparisons<M: Machine>(rt: &M, request: &Request) -> Result<()> {
-    let one = text(rt.alloc(), request)?;
-    let all = eight(rt.alloc(), request, request.place)?;
+/// Compares eight texts, each in its own block, with one more; or reads many texts.
+pub(crate) fn run<M: Machine>(rt: &M, request: &Request) -> Result<()> {
+    if request.figure.starts_with("read") {
+        return run_reads(rt, request);
+    }
+    let one = request.text(rt.alloc())?;
+    let all = request.eight(rt.alloc())?;
+    let slice = one.substr(rt, ..)?;
+    let slices = slices_of(rt, &all, (..).into())?;
     match request.figure {
         "eq" => request.time_each(rt, &all, 8, |text| (*text == one) as usize),
         "cmp" => request.time_each(rt, &all, 8, |text| rank(text.cmp(&one))),
         "hash" => request.time_each(rt, &all, 8, hash_of),
         "get" => request.time_each(rt, &all, 8, |text| length(text.get(1..))),
-        _ => run_comparisons_of_slices(rt, request, &one, &all),
-    }
-}
-
-/// Does to slices of the whole texts what their figures do to the texts.
-fn run_comparisons_of_slices<M: Machine>(
-    rt: &M,
-    request: &Request,
-    one: &ArcStr,
-    all: &[ArcStr],
-) -> Result<()> {
-    let one = one.substr(rt, ..)?;
-    let all = slices_of(rt, all, (..).into())?;
-    match request.figure {
-        "eq_slice" => request.time_each(rt, &all, 8, |slice| (*slice == one) as usize),
-        "get_slice" => request.time_each(rt, &all, 8, |slice| length(slice.get(1..))),
+        "eq_slice" => request.time_each(rt, &slices, 8, |other| (*other == slice) as usize),
+        "get_slice" => request.time_each(rt, &slices, 8, |slice| length(slice.get(1..))),
         _ => no_figure(),
     }
 }
@@ -58,10 +53,10 @@ fn hash_of(text: &ArcStr) -> usize {
     hasher.finish() as usize
 }
 
-pub(crate) fn run<M: Machine>(rt: &M, request: &Request) -> Result<()> {
+fn run_reads<M: Machine>(rt: &M, request: &Request) -> Result<()> {
     let all = mixed(rt, request)?;
     match request.figure {
-        "read" => request.time_each(rt, &all, 1000, |text| text.len()),
+        "read_len" => request.time_each(rt, &all, 1000, |text| text.len()),
         "read_byte" => request.time_each(rt, &all, 1000, |text| last_byte(text.as_bytes())),
         "read_slice" => {
             let slices = slices_of(rt, &all, (1..15).into())?;
@@ -72,13 +67,11 @@ pub(crate) fn run<M: Machine>(rt: &M, request: &Request) -> Result<()> {
 }
 
 fn last_byte(bytes: &[u8]) -> usize {
-    match bytes.last() {
-        Some(byte) => *byte as usize,
-        None => 0,
-    }
+    bytes.last().map_or(0, |byte| *byte as usize)
 }
 
-/// Returns as many texts as the request asks for, in steps of 7919, so that neighbours in the list are not neighbours in memory.
+/// Returns as many texts as the request asks for, in steps of 7919, so that neighbours in the list
+/// are not neighbours in memory.
 fn mixed<M: Machine>(rt: &M, request: &Request) -> Result<Vec<ArcStr>> {
     let texts = many(rt.alloc(), TEXT, request.count)?;
     let mut handles = Vec::new(rt.alloc());

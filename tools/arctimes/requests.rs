@@ -1,9 +1,9 @@
-//! A request to the program: a figure, and how much of it. Its rounds read the clock and print the results.
+//! A request to the program: a figure, and how much of it. Its rounds read the clock and print the
+//! results. The texts that figures use.
 
-use crate::figures::Family;
-use crate::texts::{add_each, add_times};
 use anyhow::Result;
-use std::random::RandomSource;
+use arcstr::ArcStr;
+use std::alloc::{AllocError, Global};
 use std::rt::{Clock, Env};
 use std::sync::Wait;
 use std::thread::Threads;
@@ -16,29 +16,16 @@ pub(crate) trait Machine: Clock
     + Input
     + Print
     + Eprint
-    + RandomSource
     + Threads
     + Wait
     + Sync {}
 
-impl<
-    R: Clock + Env + AllocGlobal + Input + Print + Eprint + RandomSource + Threads + Wait + Sync,
-> Machine for R {}
-
-/// The form in which the rounds of a figure are printed.
-#[derive(Clone, Copy, PartialEq, Eq)]
-pub(crate) enum Form {
-    /// A line on standard output for each round, with all numbers.
-    Lines,
-    /// The name and the sum on standard output, and the time on standard error.
-    Table,
-}
+impl<R: Clock + Env + AllocGlobal + Input + Print + Eprint + Threads + Wait + Sync> Machine for R {}
 
 /// A figure by its name, and how much of it to do.
 #[derive(Clone, Copy)]
 pub(crate) struct Request<'a> {
     pub(crate) figure: &'a str,
-    pub(crate) family: Family,
     /// The number of operations in a round (N).
     pub(crate) operations: usize,
     pub(crate) rounds: usize,
@@ -49,66 +36,30 @@ pub(crate) struct Request<'a> {
     pub(crate) place: usize,
     /// The number of texts, for figures of reads.
     pub(crate) count: usize,
-    pub(crate) form: Form,
+    /// Whether a round prints its sum, and its time on standard error, in place of all numbers.
+    pub(crate) is_short: bool,
 }
 
 impl<'a> Request<'a> {
-    /// Returns a request for a thousand operations in three rounds, of one thread on a text of 64 bytes.
-    fn of(figure: &'a str, family: Family) -> Request<'a> {
-        Request {
-            figure,
-            family,
-            operations: 1000,
-            rounds: 3,
-            threads: 1,
-            size: 64,
-            place: 64,
-            count: 1,
-            form: Form::Lines,
-        }
-    }
-
-    /// Returns a request for a short round of a figure, printed as a line of the table.
-    pub(crate) fn short(figure: &'a str, family: Family) -> Request<'a> {
-        let usual = Request {
-            operations: 8000,
-            rounds: 1,
-            form: Form::Table,
-            ..Request::of(figure, family)
+    /// Parses a request from the arguments, in the order FIGURE N ROUNDS THREADS SIZE AT COUNT. If
+    /// there are none, it is for a short round.
+    pub(crate) fn new(figure: &'a str, arguments: &[String]) -> Result<Request<'a>> {
+        let (threads, size, count) = match figure {
+            "clone_drop_contended" | "clone_drop_contended_bare" => (2, 64, 1),
+            "substr" | "substr_of_substr" => (1, 4096, 1),
+            "read_len" | "read_byte" | "read_slice" | "look_up" => (1, 64, 1000),
+            _ => (1, 64, 1),
         };
-        match family {
-            Family::Slices => Request {
-                size: 4096,
-                ..usual
-            },
-            Family::Contended => Request {
-                threads: 2,
-                ..usual
-            },
-            Family::Reads | Family::LookUps => Request {
-                count: 1000,
-                ..usual
-            },
-            _ => usual,
-        }
-    }
-
-    /// Parses a request from the arguments, in the order FIGURE N ROUNDS THREADS SIZE AT COUNT.
-    pub(crate) fn from_arguments(
-        figure: &'a str,
-        family: Family,
-        arguments: &[String],
-    ) -> Result<Request<'a>> {
-        let usual = Request::of(figure, family);
-        let size = number(arguments, 4, usual.size)?;
+        let size = number(arguments, 4, size)?;
         Ok(Request {
-            operations: number(arguments, 1, usual.operations)?,
-            rounds: number(arguments, 2, usual.rounds)?,
-            threads: number(arguments, 3, usual.threads)?.max(1),
+            figure,
+            operations: number(arguments, 1, 8000)?,
+            rounds: number(arguments, 2, 1)?,
+            threads: number(arguments, 3, threads)?.max(1),
             size,
             place: number(arguments, 5, size)?,
-            count: number(arguments, 6, usual.count)?.max(1),
-            ..usual
+            count: number(arguments, 6, count)?.max(1),
+            is_short: arguments.is_empty(),
         })
     }
 
@@ -124,7 +75,8 @@ impl<'a> Request<'a> {
         Ok(())
     }
 
-    /// Times rounds in each of which `of` returns a number for each of these items, once for each `part` operations.
+    /// Times rounds in each of which `of` returns a number for each of these items, once for each
+    /// `part` operations.
     pub(crate) fn time_each<M: Machine, T, F: Fn(&T) -> usize>(
         &self,
         rt: &M,
@@ -160,34 +112,95 @@ impl<'a> Request<'a> {
         let nanoseconds = start.elapsed(rt)?.as_nanos();
         let (figure, threads, size) = (self.figure, self.threads, self.size);
         let operations = self.operations;
-        match self.form {
-            Form::Lines => {
-                println!(rt; "{figure} {threads} {size} {nanoseconds} {operations} {sum}")?;
-            }
-            Form::Table => {
-                println!(rt; "{figure} {sum}")?;
-                let tenths = nanoseconds.saturating_mul(10) / self.units(sum).max(1) as u128;
-                let (whole, tenth) = (tenths / 10, tenths % 10);
-                eprintln!(rt; "{figure:<28} {whole:>8}.{tenth} ns")?;
-            }
+        if self.is_short {
+            println!(rt; "{figure} {sum}")?;
+            let tenths = nanoseconds.saturating_mul(10) / self.units(sum).max(1) as u128;
+            let (whole, tenth) = (tenths / 10, tenths % 10);
+            eprintln!(rt; "{figure:<28} {whole:>8}.{tenth} ns")?;
+        } else {
+            println!(rt; "{figure} {threads} {size} {nanoseconds} {operations} {sum}")?;
         }
         Ok(())
     }
 
-    /// How many units a round's time is divided by in the table: texts that were read (N / 1000 rounds over COUNT texts), words or operations.
+    /// How many units a round's time is divided by in the table: texts that were read (N / 1000
+    /// rounds over COUNT texts), words or operations.
     fn units(&self, sum: usize) -> usize {
-        match self.family {
-            Family::Reads => (self.operations / 1000).saturating_mul(self.count),
-            Family::Words => sum,
+        match self.figure {
+            "read_len" | "read_byte" | "read_slice" => {
+                (self.operations / 1000).saturating_mul(self.count)
+            }
+            "count_words_only" | "word_ranges_only" | "words" | "token_list" => sum,
             _ => self.operations,
         }
     }
+
+    /// Returns a text of the request's size, all letters `x`.
+    pub(crate) fn text(&self, alloc: Global) -> Result<ArcStr> {
+        Ok(ArcStr::from_str(alloc, letters(alloc, self.size, self.size)?.as_str())?)
+    }
+
+    /// Returns eight texts of the request's size, each in its own block, with a `y` at AT.
+    pub(crate) fn eight(&self, alloc: Global) -> Result<Vec<ArcStr>> {
+        many(alloc, letters(alloc, self.size, self.place)?.as_str(), 8)
+    }
 }
 
-/// Returns the number at this position of the arguments, or the default if there is no such argument.
+/// Returns the number at this position of the arguments, or the default if none stands there.
 fn number(arguments: &[String], index: usize, usual: usize) -> Result<usize> {
     match arguments.get(index) {
         None => Ok(usual),
         Some(argument) => Ok(argument.parse()?),
     }
+}
+
+/// Returns the sum of what `of` returns, this many times.
+pub(crate) fn add_times<F: Fn() -> usize>(times: usize, of: F) -> usize
+    requires { F.IsAlwaysCallable of }
+{
+    let mut sum = 0usize;
+    for _ in 0..times {
+        sum = sum.wrapping_add(of());
+    }
+    sum
+}
+
+/// Returns the sum of what `of` returns for each item, this many times.
+pub(crate) fn add_each<T, F: Fn(&T) -> usize>(all: &[T], times: usize, of: F) -> usize
+    requires { F.IsAlwaysCallable of }
+{
+    let mut sum = 0usize;
+    for _ in 0..times {
+        for item in all {
+            sum = sum.wrapping_add(of(item));
+        }
+    }
+    sum
+}
+
+/// Returns the sum of what threads returned.
+pub(crate) fn sum_of<E: Drop>(shares: Vec<Result<usize, E>>) -> Result<usize, E> {
+    let mut sum = 0usize;
+    for share in shares {
+        sum = sum.wrapping_add(share?);
+    }
+    Ok(sum)
+}
+
+/// Returns this many letters `x`, with a `y` at `place` if that is in the text.
+pub(crate) fn letters(alloc: Global, size: usize, place: usize) -> Result<String, AllocError> {
+    let mut text = String::with_capacity(alloc, size)?;
+    for at in 0..size {
+        text.push(if at == place { 'y' } else { 'x' })?;
+    }
+    Ok(text)
+}
+
+/// Returns this many equal texts, each in its own block.
+pub(crate) fn many(alloc: Global, text: &str, count: usize) -> Result<Vec<ArcStr>> {
+    let mut texts = Vec::new(alloc);
+    for _ in 0..count {
+        texts.push(ArcStr::from_str(alloc, text)?)?;
+    }
+    Ok(texts)
 }

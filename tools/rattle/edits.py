@@ -4,25 +4,22 @@ the crate's sources.
 A file `wrong-bodies/SUBJECT.edits` has a block for each wrong body, from a line `## NAME` to a line
 `refused: CLAUSE, ..`. Between them stand pairs of lines `old: TEXT` and `new: TEXT`. They edit
 `src/SUBJECT.rt`, or the file that a line `file: FILE` names, and there the part that a line `in:
-PART` names. These two lines hold for one body where they stand in it, else for all below. A file
-`must-fail/NAME.edit` has one edit without a heading and without a line `refused:`.
+PART` names. These two lines hold for one body where they stand in it, else for all below.
 """
 import re
-import shutil
 from collections.abc import Iterable
 from dataclasses import dataclass, field
-from difflib import SequenceMatcher
 from functools import cache
 from pathlib import Path
 from typing import NamedTuple
 
-from sources import Function, functions, place_of
+from sources import Function, functions, place_of, without_comments
 
-KEYS = ("file:", "in:", "old:", "new:", "refused:")
-# The goal of `answer_what_is_not_asked`, which no function has.
-NOT_ASKED = "no_such_goal"
+# What may begin the next line, outside of a wrong body and in one.
+OUTSIDE = ("##", "file:", "in:")
+INSIDE = ("file:", "in:", "old:")
 # The body that `leave_out_bodies` leaves, and its proof.
-NO_BODY = " loop {} "
+NO_BODY = " loop {} }"
 HOLE = """use Rattle.{crate}.proofs.{place}.Statement.{{statement}}
 
 pub {name}_spec : {{M : Type 1}} → statement M
@@ -40,16 +37,8 @@ class Key(NamedTuple):
     arguments: tuple[str, ...] = ()
 
 
-class Hunk(NamedTuple):
-    """A replacement: a file, the text that stands once in it, and what to put there."""
-
-    file: str
-    old: str
-    new: str
-
-
 class Change(NamedTuple):
-    """A replacement by places."""
+    """A replacement of what stands between two places of a file."""
 
     file: str
     start: int
@@ -59,18 +48,16 @@ class Change(NamedTuple):
 
 @dataclass
 class WrongBody:
-    """A wrong body. `wrong` says why it cannot be planted, or is not rejected."""
+    """A wrong body: what it changes, the functions around that, their texts before and after, and
+    the clauses that it breaks. `wrong` says why it is not rejected at these."""
 
     path: Path
     name: str
-    line: int
-    hunks: list[Hunk] = field(default_factory=list)
-    lines: list[int] = field(default_factory=list)
-    refused: list[str] = field(default_factory=list)
     changes: list[Change] = field(default_factory=list)
     functions: set[Key] = field(default_factory=set)
-    planted: set[Key] = field(default_factory=set)
-    opened: list[str] = field(default_factory=list)
+    texts: list[str] = field(default_factory=list)
+    refused: list[str] = field(default_factory=list)
+    opened: set[str] = field(default_factory=set)
     wrong: str = ""
 
     @property
@@ -80,15 +67,6 @@ class WrongBody:
     @property
     def place(self) -> str:
         return f"{self.crate}/{self.path.stem}/{self.name}"
-
-    def content(self) -> tuple:
-        """All of it but where it stands."""
-        return self.name, self.hunks, self.refused
-
-
-def shown(path: Path, line: int) -> str:
-    """A place in a file, as errors name it."""
-    return f"{place_of(path)}:{line}"
 
 
 def key_of(file: str, it: Function) -> Key:
@@ -100,175 +78,123 @@ def functions_in(file: Path, text: str) -> list[Function]:
     return list(functions(file, text))
 
 
-def lines_before(text: str, part: str, old: str) -> str | None:
-    """So many lines before an old text that it stands once in a file. None if it does not stand
-    once in the part of the file that begins with the line `part {`."""
-    start = text.find(f"\n{part} {{\n")
-    end = text.find("\n}\n", start)
-    if start < 0 or text.count(old, start, end) != 1:
-        return None
-    first = place = text.index(old, start)
-    while text.count(text[first : place + len(old)]) > 1:
-        first = text.rindex("\n", 0, first - 1) + 1
-    return text[first:place]
+def functions_at(room: Path, file: str, line: int) -> set[Key]:
+    """The functions around the end of a line."""
+    text = (room / file).read_text()
+    at = len("".join(text.splitlines(True)[:line])) - 1
+    found = functions_in(room / file, text)
+    return {key_of(file, it) for it in found if it.start <= at <= it.end}
+
+
+def plain(code: str) -> str:
+    """Code without comments and layout."""
+    return " ".join(without_comments(code).split())
 
 
 class Reader:
     """Reads a file of wrong bodies, line by line."""
 
     def __init__(self, path: Path):
-        self.path, self.is_edit = path, path.suffix == ".edit"
+        self.path, self.crate = path, path.parents[1]
         self.bodies: list[WrongBody] = []
-        self.errors: list[str] = []
-        self.body: WrongBody | None = None
         self.whole = {"file:": f"src/{path.stem}.rt", "in:": ""}
-        self.own = dict(self.whole)
-        self.old: tuple[int, str, str] | None = None
+        self.own, self.next = self.whole, OUTSIDE
+        self.found: tuple[Function, str, int, int] | None = None
 
-    def error(self, line: int, what: str) -> None:
-        self.errors.append(f"{shown(self.path, line)}: {what}")
-
-    def begin(self, number: int, name: str) -> None:
-        self.end(number)
-        if not re.fullmatch(r"\w+", name):
-            self.error(number, f"`{name}` is no name of a wrong body")
-        if name in (body.name for body in self.bodies):
-            self.error(number, f"the name `{name}` stands twice")
-        self.body, self.own = WrongBody(self.path, name, number), dict(self.whole)
-        self.bodies.append(self.body)
-
-    def end(self, number: int, is_refused: bool = False) -> None:
-        """Ends a body, at its line `refused:` or before the next."""
-        if self.old:
-            self.error(self.old[0], "`old:` has no `new:` below it")
-        if self.body and not self.body.hunks and not self.old:
-            self.error(self.body.line, f"`{self.body.name}` has no lines `old:` and `new:`")
-        if self.body and not is_refused and not self.is_edit:
-            self.error(self.body.line, f"`{self.body.name}` has no line `refused:`")
-        self.body, self.old = None, None
-
-    def read_old(self, number: int, rest: str) -> None:
-        if self.old:
-            self.error(self.old[0], "`old:` has no `new:` below it")
-        path, before = self.path.parents[1] / self.own["file:"], ""
-        if not rest.strip():
-            self.error(number, "`old:` has no text")
-        elif not path.is_file():
-            self.error(number, f"there is no {self.own['file:']} in {path.parents[1].name}")
-        elif self.own["in:"]:
-            found = lines_before(path.read_text(), self.own["in:"], rest)
-            if found is None:
-                part = f"`{self.own['in:']}` of {self.own['file:']}"
-                self.error(number, f"`{rest}` does not stand once in {part}")
-            before = found or ""
-        self.old = number, before, rest
-
-    def read_new(self, number: int, rest: str) -> None:
-        if not self.old or not self.body:
-            self.error(number, "`new:` has no `old:` above it")
-            return
-        line, before, old = self.old
-        self.body.hunks.append(Hunk(self.own["file:"], before + old, before + rest))
-        self.body.lines.append(line)
-        self.old = None
-
-    def read_refused(self, number: int, rest: str) -> None:
-        if not rest.strip():
-            self.error(number, "`refused:` names no clause")
-        if self.body:
-            self.body.refused = rest.split(", ")
-        self.end(number, is_refused=True)
-
-    def read(self, number: int, line: str) -> None:
+    def read(self, line: str) -> str:
+        """Reads a line. Returns what is wrong with it."""
         word, _, rest = line.partition(" ")
-        if word == "##" and not self.is_edit:
-            self.begin(number, rest)
-        elif word in self.whole:
-            (self.own if self.body else self.whole)[word] = rest
-            file = self.path.parents[1] / rest
-            if word == "file:" and not file.is_file():
-                self.error(number, f"there is no {rest} in {self.path.parents[1].name}")
-        elif word in KEYS and not self.body:
-            self.error(number, f"`{word}` stands in no wrong body: a line `## NAME` begins one")
-        elif word == "old:":
-            self.read_old(number, rest)
-        elif word == "new:":
-            self.read_new(number, rest)
-        elif word == "refused:":
-            self.read_refused(number, rest)
-        elif line.strip():
-            keys = ", ".join(f"`{key}`" for key in KEYS)
-            self.error(number, f"`{line}` begins neither with `## NAME` nor with one of {keys}")
+        if word not in self.next:
+            wanted = ", ".join(f"`{it}`" for it in self.next)
+            return f"`{line}` begins with none of {wanted}"
+        if not rest.strip() and word not in ("in:", "new:"):
+            return f"`{word}` has no text"
+        if word in self.whole:
+            return self.read_place(word, rest)
+        if word == "##":
+            return self.begin(rest)
+        if word == "old:":
+            return self.find(rest)
+        if word == "new:":
+            return self.change(rest)
+        self.bodies[-1].refused = rest.split(", ")
+        self.own, self.next = self.whole, OUTSIDE
+        return ""
+
+    def read_place(self, word: str, rest: str) -> str:
+        self.own[word] = rest
+        self.next = OUTSIDE if self.own is self.whole else INSIDE
+        is_there = word == "in:" or (self.crate / rest).is_file()
+        return "" if is_there else f"there is no {rest} in {self.crate.name}"
+
+    def begin(self, name: str) -> str:
+        if name in (body.name for body in self.bodies):
+            return f"the name `{name}` stands twice"
+        self.bodies.append(WrongBody(self.path, name))
+        self.own, self.next = dict(self.whole), INSIDE
+        return ""
+
+    def find(self, old: str) -> str:
+        """Finds an old text, which stands once in its file or in a part of it, or once as a whole
+        line, and in a function."""
+        path, part = self.crate / self.own["file:"], self.own["in:"]
+        text = path.read_text() if path.is_file() else ""
+        first = text.find(f"\n{part} {{\n") if part else 0
+        last = text.find("\n}\n", first) if part else len(text)
+        wanted = old if text.count(old, first, last) == 1 else f"\n{old}\n"
+        if first < 0 or text.count(wanted, first, last) != 1:
+            where = f"`{part}` of {self.own['file:']}" if part else self.own["file:"]
+            return f"`{old}` does not stand once in {where}"
+        start = text.index(wanted, first) + wanted.index(old)
+        end = start + len(old)
+        around = [it for it in functions_in(path, text) if it.start <= start and end <= it.end]
+        if not around:
+            return f"`{old}` is in no function"
+        self.found = max(around, key=lambda it: it.start), text, start, end
+        self.next = ("new:",)
+        return ""
+
+    def change(self, new: str) -> str:
+        assert self.found
+        (it, text, start, end), body = self.found, self.bodies[-1]
+        if new == text[start:end]:
+            return f"`{body.name}` changes nothing"
+        body.changes.append(Change(self.own["file:"], start, end, new))
+        body.functions.add(key_of(self.own["file:"], it))
+        after = text[it.start : start] + new + text[end : it.end]
+        body.texts += [self.own["file:"], plain(text[it.start : it.end]), plain(after)]
+        self.next = (*INSIDE, "refused:")
+        return ""
 
 
 def parse(path: Path, text: str) -> tuple[list[WrongBody], list[str]]:
-    """The wrong bodies of a text of a file, and what is wrong there, each with its line."""
+    """The wrong bodies of a text of a file as far as it is right, and what is wrong, with its
+    line."""
     reader, lines = Reader(path), text.splitlines()
-    if reader.is_edit:
-        reader.begin(1, path.stem)
     for number, line in enumerate(lines, 1):
-        reader.read(number, line)
-    reader.end(len(lines))
-    return reader.bodies, reader.errors
+        if error := reader.read(line) if line.strip() else "":
+            return reader.bodies, [f"{place_of(path)}:{number}: {error}"]
+    if reader.next == OUTSIDE:
+        return reader.bodies, []
+    return reader.bodies, [f"{place_of(path)}:{len(lines)}: the last has no line `refused:`"]
 
 
 def wrong_bodies_in(path: Path) -> tuple[list[WrongBody], list[str]]:
     return parse(path, path.read_text())
 
 
-def read_edit(edit: WrongBody) -> WrongBody:
-    """Adds to an edit what it changes of each file, the functions around that, and why it cannot be
-    planted."""
-    edit.changes, edit.functions, edit.wrong = [], set(), ""
-    texts: dict[Path, tuple[str, str]] = {}
-    for (file, old, new), line in zip(edit.hunks, edit.lines):
-        path = edit.path.parents[1] / file
-        text = path.read_text() if path.is_file() else ""
-        before, after = texts.get(path, (text, text))
-        if not old or after.count(old) != 1:
-            edit.wrong = f"{shown(edit.path, line)}: `{old}` does not stand once in {file}"
-            return edit
-        texts[path] = before, after.replace(old, new)
-    for path, (before, after) in texts.items():
-        read_changes(edit, path, before, after)
-    if not edit.changes and not edit.wrong:
-        edit.wrong = f"{shown(edit.path, edit.line)}: the wrong body `{edit.name}` changes nothing"
-    return edit
-
-
-def read_changes(edit: WrongBody, path: Path, before: str, after: str) -> None:
-    """Adds to an edit what it changes of a file."""
-    lines, changed = before.splitlines(True), after.splitlines(True)
-    file = str(path.relative_to(edit.path.parents[1]))
-    matcher = SequenceMatcher(None, lines, changed, autojunk=False)
-    for kind, first, last, new_first, new_last in matcher.get_opcodes():
-        if kind == "equal":
-            continue
-        start, end = (len("".join(lines[:line])) for line in (first, last))
-        around = [
-            it for it in functions_in(path, before) if it.start <= start and end <= it.end + 1
-        ]
-        if not around:
-            place = shown(edit.path, edit.lines[0])
-            edit.wrong = f"{place}: line {first + 1} of {file} is in no function"
-            continue
-        edit.changes.append(Change(file, start, end, "".join(changed[new_first:new_last])))
-        edit.functions.add(key_of(file, max(around, key=lambda it: it.start)))
-
-
-def may_copy(edit: WrongBody) -> bool:
-    """Whether the function that an edit changes may stand twice. A method of a trait may not."""
-    of_types = all(not key.trait and "<" not in (key.owner or "") for key in edit.functions)
-    return len(edit.functions) == 1 and of_types
+def wrong_bodies_of(crate: Path) -> tuple[list[WrongBody], list[str]]:
+    """The wrong bodies of a crate's folder, and what is wrong in their files."""
+    read = [wrong_bodies_in(path) for path in sorted((crate / "wrong-bodies").glob("*.edits"))]
+    return sum((bodies for bodies, _ in read), []), sum((errors for _, errors in read), [])
 
 
 def batches_of(edits: Iterable[WrongBody]) -> list[list[WrongBody]]:
-    """The edits in as few lists as serve. Where several change a function that may not be copied,
-    each stands in a list of its own."""
+    """The edits in as few lists as serve, in each of which no two change one function."""
     batches: list[list[WrongBody]] = []
     for edit in edits:
         for batch in batches:
-            if may_copy(edit) or all(not edit.functions & other.functions for other in batch):
+            if all(not edit.functions & other.functions for other in batch):
                 batch.append(edit)
                 break
         else:
@@ -299,43 +225,12 @@ def path_of(key: Key) -> str:
     return f"{module}::{named}::{key.name}".removeprefix("::")
 
 
-def copy_function(key: Key, edit: WrongBody, room: Path) -> tuple[Key, Change]:
-    """Copies the proofs of a function for a copy of it. Returns the copy's key, and the change that
-    puts it behind the function."""
-    copied, text = f"{key.name}_{edit.name}", (room / key.file).read_text()
-    it = next(it for it in functions_in(room / key.file, text) if key_of(key.file, it) == key)
-    body = text[it.start : it.end + 1]
-    for change in sorted(edit.changes, reverse=True):
-        body = body[: change.start - it.start] + change.new + body[change.end - it.start :]
-    copy_proofs(key, copied, room)
-    body = re.sub(rf"\bfn {key.name}\b", f"fn {copied}", body, count=1)
-    return key._replace(name=copied), Change(key.file, it.end + 1, it.end + 1, "\n" + body)
-
-
-def copy_proofs(key: Key, copied: str, room: Path) -> None:
-    """Copies the folder of a function's proofs under another name."""
-    place = [part for part in (*module_of(key.file).split("::"), key.owner, key.name) if part]
-    for folder in [*(room / "proofs").rglob(key.name)]:
-        parts = folder.relative_to(room / "proofs").parts
-        if [part for part in parts if part != "fn"] != place:
-            continue
-        there = shutil.copytree(folder, folder.with_name(copied))
-        old, new = (".".join(["", *it.relative_to(room).parts, ""]) for it in (folder, there))
-        for proof in there.rglob("*.antt"):
-            proof.write_text(proof.read_text().replace(old, new))
-
-
 @cache
 def module_of_type(owner: str, room: Path) -> str | None:
     """The module in which a type is declared. None if it is not declared in the folder."""
     type_of = re.compile(rf"^(?:pub(?:\(\w+\))? )?(?:struct|enum) {owner}\b", re.M)
     files = (file for file in (room / "src").rglob("*.rt") if type_of.search(file.read_text()))
     return next((module_of(str(file.relative_to(room))) for file in files), None)
-
-
-def head_of(it: Function, text: str) -> str:
-    """A function as far as its body begins."""
-    return text[it.start : it.end - 1 - len(it.raw_body)]
 
 
 def folder_of_proofs(key: Key, room: Path) -> Path:
@@ -350,67 +245,60 @@ def folder_of_proofs(key: Key, room: Path) -> Path:
     return next((folder for folder in folders if folder.is_dir()), folders[1])
 
 
-def answer_what_is_not_asked(key: Key, crate: str, room: Path) -> None:
-    """Adds an answer to a goal that a function does not have, if its proof is not all by hand. A
-    check refuses the answer, and then does not look at the open goals of the function once more, to
-    offer answers for them. That takes a fifth of its time."""
-    folder = folder_of_proofs(key, room)
-    if (folder / "Proof.antt").exists():
-        return
-    folder.mkdir(parents=True, exist_ok=True)
-    place = ".".join(folder.relative_to(room / "proofs").parts)
-    answers = folder / "Answers.antt"
-    known = answers.read_text() if answers.exists() else ""
-    if " as goal\n" not in known:
-        known = f"use Rattle.{crate}.proofs.{place}.Goals as goal\n{known}"
-    answers.write_text(f"{known}\npub {NOT_ASKED} : goal.{NOT_ASKED}\n{NOT_ASKED} c = ?\n")
+def head_of(it: Function, text: str) -> str:
+    """A function as far as its body begins."""
+    return text[it.start : it.end - 1 - len(it.raw_body)]
 
 
-def plant(edits: Iterable[WrongBody], room: Path) -> None:
-    """Plants the edits in the sources of a folder, and tells each the functions that it changed
-    there. Where several change one function, all but the first change copies of it."""
-    changes: list[Change] = []
-    changed: set[Key] = set()
-    for edit in edits:
-        if changed & edit.functions:
-            [key] = edit.functions
-            copied, change = copy_function(key, edit, room)
-            edit.planted = {copied}
-            changes.append(change)
-        else:
-            edit.planted = edit.functions
-            changes += edit.changes
-        changed |= edit.functions
+def known_by_contract(file: Path, text: str) -> list[Function]:
+    """The functions of a source of whose bodies nothing else knows, last first. What a macro writes
+    may stand in any function, a constant is computed, and an `impl` that a function returns is a
+    type of its body."""
+    found = [] if "macro_rules!" in text else functions_in(file, text)[::-1]
+    inner = {it for it in found for other in found if other.start < it.start < other.end}
+    is_known = re.compile(r"\bconst fn\b|-> impl\b").search
+    outer = [it for it in found if it.raw_body and it not in inner]
+    return [it for it in outer if not is_known(head_of(it, text))]
+
+
+@cache
+def read_from(file: Path) -> str:
+    """What checks read of a file of a crate: no comments, and no bodies that nothing else knows."""
+    text = file.read_text()
+    if file.suffix == ".rt":
+        for it in known_by_contract(file, text):
+            text = text[: it.start] + head_of(it, text) + text[it.end :]
+        return plain(text)
+    lines = re.sub(r"(?:^|(?<=\s))--.*", "", text, flags=re.M).splitlines()
+    return "\n".join(line.rstrip() for line in lines if line.strip())
+
+
+def plant(edits: list[WrongBody], room: Path) -> None:
+    """Plants the edits in a copy of their crate, and leaves out what no check of them needs."""
+    changes = [change for edit in edits for change in edit.changes]
     for file, start, end, new in sorted(changes, reverse=True):
         text = (room / file).read_text()
         # A function that an edit adds gets a line of its own, and so does the one behind it.
         (room / file).write_text(text[:start] + new.replace("} pub fn ", "}\npub fn ") + text[end:])
+    leave_out_bodies({key for edit in edits for key in edit.functions}, edits[0].crate, room)
 
 
-def is_known_by_its_body(it: Function, head: str, room: Path) -> bool:
-    """Whether more of a function than its contract may be used: a constant is computed, and an
-    `impl` that it returns is a type of its body. The folder of proofs of a trait's method cannot be
-    told from its name."""
-    is_of_trait = it.trait or it.lent or it.owner and module_of_type(it.owner, room) is None
-    return bool(is_of_trait or re.search(r"\bconst fn\b|-> impl\b", head))
-
-
-def leave_out_bodies(edits: Iterable[WrongBody], crate: str, room: Path) -> None:
-    """Leaves the functions that no edit changes their contracts alone. Their proof is a hole, so
-    nothing of what they call is read, and what calls them waits for no proof."""
-    planted = {key for edit in edits for key in edit.planted}
+def leave_out_bodies(planted: set[Key], crate: str, room: Path) -> None:
+    """Leaves the functions in which no edit is planted their contracts alone. Their proof is a
+    hole, so nothing of what they call is read, and what calls them waits for no proof. The `main`
+    of a program goes: of a program the prover reads the code of all libraries below it first, which
+    takes it a minute. The folder of proofs of a trait's method cannot be told from its name."""
     for path in sorted((room / "src").rglob("*.rt")):
         file, text = str(path.relative_to(room)), path.read_text()
-        # What a macro writes may stand in any function.
-        found = [] if "macro_rules!" in text else functions_in(path, text)
-        for it in sorted(found, key=lambda it: -it.end):
-            head, key = head_of(it, text), key_of(file, it)
-            is_inner = any(other.start < it.start < other.end for other in found)
-            if key in planted or is_inner or not it.raw_body or it.name == "main":
+        for it in known_by_contract(path, text):
+            key, left = key_of(file, it), ""
+            is_of_trait = key.trait or it.owner and module_of_type(it.owner, room) is None
+            if key in planted or is_of_trait:
                 continue
-            if not is_known_by_its_body(it, head, room):
+            if it.name != "main":
+                left = head_of(it, text) + NO_BODY
                 leave_out_proof(key, crate, room)
-                text = text[: it.start] + head + NO_BODY + text[it.end - 1 :]
+            text = text[: it.start] + left + text[it.end :]
         path.write_text(text)
 
 
@@ -421,33 +309,4 @@ def leave_out_proof(key: Key, crate: str, room: Path) -> None:
     for file in folder.glob("*.antt"):
         file.unlink()
     place = ".".join(folder.relative_to(room / "proofs").parts)
-    hole = HOLE.format(crate=crate, place=place, name=key.name)
-    (folder / "Proof.antt").write_text(hole)
-
-
-def leave_out_main(edits: Iterable[WrongBody], room: Path) -> None:
-    """Makes a library of a program in a folder, if none of these edits changes its `main`. Of a
-    program the prover reads the code of all libraries below it first, which takes it a minute."""
-    root = room / "src/main.rt"
-    if not root.is_file() or any(key.name == "main" for edit in edits for key in edit.planted):
-        return
-    text = root.read_text()
-    [main] = [it for it in functions_in(root, text) if it.owner is None and it.name == "main"]
-    root.write_text(text[: main.start] + text[main.end + 1 :])
-
-
-def wrong_bodies_of(crate: Path) -> tuple[list[WrongBody], list[str]]:
-    """The wrong bodies of a crate's folder, with what each changes, and what is wrong in their
-    files."""
-    found: dict[str, WrongBody] = {}
-    errors: list[str] = []
-    for path in sorted((crate / "wrong-bodies").glob("*.edits")):
-        bodies, wrong = wrong_bodies_in(path)
-        errors += wrong
-        for body in bodies:
-            other = found.setdefault(body.name, body)
-            if other.path != path:
-                place = shown(path, body.line)
-                errors.append(f"{place}: the name `{body.name}` stands in {other.path.name} too")
-            read_edit(body)
-    return list(found.values()), errors
+    (folder / "Proof.antt").write_text(HOLE.format(crate=crate, place=place, name=key.name))

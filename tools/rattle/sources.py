@@ -95,11 +95,8 @@ def uses_of(crate: str) -> list[str]:
 @cache
 def libraries() -> dict[str, list[str]]:
     """The libraries of crates.txt, lowest first, with what each uses. A crate of tests is none."""
-    return {
-        crate: uses_of(crate)
-        for crate in listed_crates()
-        if is_library(crate) and not crate.endswith(TESTS)
-    }
+    own = [crate for crate in listed_crates() if is_library(crate) and not crate.endswith(TESTS)]
+    return {crate: uses_of(crate) for crate in own}
 
 
 @cache
@@ -121,20 +118,11 @@ def write_repository(folder: Path, crate: str, uses: Iterable[str], files: dict[
             if (CRATES / name / part).is_dir():
                 shutil.copytree(CRATES / name / part, folder / "crates" / name / part)
     (folder / "crates" / crate / "src").mkdir(parents=True)
-    (folder / "crates.txt").write_text(
-        "".join([*lines, f"{crate} tests_may=Threads+Wait: {' '.join({*uses, *own})}\n"])
-    )
+    lines.append(f"{crate} tests_may=Threads+Wait: {' '.join({*uses, *own})}\n")
+    (folder / "crates.txt").write_text("".join(lines))
     shutil.copy(ROOT / "HANDLES", folder)
     for name, text in files.items():
         (folder / "crates" / crate / "src" / name).write_text(text)
-
-
-def with_test_crates(crate: str) -> list[str]:
-    """The crate, and the crates of tests that use it."""
-    return [
-        crate,
-        *(other for other in listed_crates() if other.endswith(TESTS) and crate in uses_of(other)),
-    ]
 
 
 def is_library(crate: str) -> bool:
@@ -153,8 +141,7 @@ DECLARES_FUNCTION = re.compile(r"^(pub )?fn ", re.M)
 def files_of(crate: str) -> tuple[dict[Path, bool], list[str]]:
     """The files that the `mod` lines of a crate reach, each with whether it is for tests alone; and
     what is wrong: a file that they do not reach, a file that is missing, a test that is not run,
-    and code under a condition other than `test`.
-    """
+    and code under a condition other than `test`."""
     source = CRATES / crate / "src"
     root = source / ("lib.rt" if is_library(crate) else "main.rt")
     files: dict[Path, bool] = {}
@@ -171,13 +158,11 @@ def files_of(crate: str) -> tuple[dict[Path, bool], list[str]]:
         wrong.extend(f"{crate}: {file.relative_to(source)} has `{line}`" for line in hidden)
         for found in MODULE.finditer(text):
             folder = file.parent if file == root else file.with_suffix("")
-            to_read.append(
-                (folder / f"{found['name']}.rt", tests or "#[cfg(test)]" in found["attributes"])
-            )
-    unread = sorted(set(source.rglob("*.rt")) - set(files))
-    return dict(sorted(files.items())), wrong + [
-        f"{crate}: no `mod` line reads {file.relative_to(source)}" for file in unread
-    ]
+            is_tests = tests or "#[cfg(test)]" in found["attributes"]
+            to_read.append((folder / f"{found['name']}.rt", is_tests))
+    for file in sorted({*source.rglob("*.rt")} - {*files}):
+        wrong.append(f"{crate}: no `mod` line reads {file.relative_to(source)}")
+    return dict(sorted(files.items())), wrong
 
 
 @dataclass(eq=False)
@@ -218,9 +203,8 @@ def arguments_of(part: dict[str, str | None]) -> tuple[str, ...]:
 def end_of_group(text: str, start: int) -> int:
     """The place after the bracket that closes the one at `start`."""
     depth = 0
-    for found in re.compile(
-        re.escape(text[start]) + "|" + re.escape(CLOSING[text[start]])
-    ).finditer(text, start):
+    brackets = re.compile(re.escape(text[start]) + "|" + re.escape(CLOSING[text[start]]))
+    for found in brackets.finditer(text, start):
         depth += 1 if found[0] == text[start] else -1
         if depth == 0:
             return found.end()
@@ -235,10 +219,8 @@ def read_contract(function: Function, text: str, shown: str, source: str, start:
         function.end = end = end_of_group(text, found.start())
         clause = CLAUSE.search(text, start, found.start())
         if not clause:
-            function.body, function.raw_body = (
-                shown[found.end() : end - 1],
-                source[found.end() : end - 1],
-            )
+            body = slice(found.end(), end - 1)
+            function.body, function.raw_body = shown[body], source[body]
             return
         function.requires |= clause["kind"] == "requires"
         if clause["kind"] == "ensures":
@@ -273,20 +255,9 @@ def functions(file: Path, source: str | None = None) -> Iterator[Function]:
         yield function
 
 
-def git(*words: str) -> str:
-    """What git says of the repository. Fails where it has no upstream branch, or no git."""
-    ran = subprocess.run(["git", *words], cwd=ROOT, stdout=subprocess.PIPE, check=True)
-    return ran.stdout.decode()
-
-
 def changed_files() -> list[str]:
-    """The files that differ from the upstream branch."""
-    said = git("diff", "--merge-base", "--name-only", "@{upstream}")
-    return sorted({*(said + git("ls-files", "--others", "--exclude-standard")).splitlines()})
-
-
-def text_upstream(file: str) -> str:
-    """The text that a file had where this branch left the upstream branch. Empty if it had none."""
-    base = git("merge-base", "HEAD", "@{upstream}").strip()
-    is_there = git("ls-tree", "--name-only", base, "--", file)
-    return git("show", f"{base}:{file}") if is_there else ""
+    """The files that differ from the upstream branch. Fails where there is none."""
+    differ = ["git", "diff", "--merge-base", "--name-only", "@{upstream}"]
+    new = ["git", "ls-files", "--others", "--exclude-standard"]
+    said = [subprocess.check_output(words, cwd=ROOT, text=True) for words in (differ, new)]
+    return sorted({*"".join(said).splitlines()})

@@ -1,5 +1,5 @@
-//! Scripts of steps on counted blocks, callers of one text in threads of their own, and the program
-//! over its arguments, a reader and two writers.
+//! Scripts of steps on counted blocks, callers of one text in threads of their own, the words of an
+//! input's lines, and the program over its arguments, a reader and two writers.
 #![tactic(auto)]
 
 mod input;

@@ -1,5 +1,6 @@
-//! An interner: it keeps each distinct text once, as an `ArcStr`, and numbers the texts in the
-//! order in which they came.
+//! Interners, which keep each distinct text once and number the texts in the order in which they
+//! came. `Interner` and `SharedInterner` keep each text as an `ArcStr`, and `WordList` keeps all in
+//! one allocation. `SymbolMap` keeps values by these numbers.
 #![tactic(auto)]
 
 pub use fault::InternFault;

@@ -24,7 +24,7 @@ pub(crate) fn hash_of_word<S: BuildHasher>(hash_builder: &S, word: &str) -> u64
     hasher.finish()
 }
 
-/// Returns half as many bits as the hash of the word has.
+/// Returns the 32 bits by which a table finds the word: both halves of its hash, joined.
 #[tactic(auto, unfolding(crate::specs::Slots::half_of_word))]
 pub(crate) fn half_of_word<S: BuildHasher>(hash_builder: &S, word: &str) -> u32
     ensures { result ≡ half_of_word S.BuildHasher S.Hasher.Hasher hash_builder.now word.now }

@@ -195,7 +195,7 @@ impl<S: BuildHasher> WordList<S> {
         self.table.text(symbol.index())
     }
 
-    /// Returns the text of the symbol, which is one of this list. The caller must ensure that.
+    /// Returns the text of the symbol. The caller must ensure that the symbol is one of this list.
     ///
     /// ```
     /// let mut words = WordList::new(rt.alloc());

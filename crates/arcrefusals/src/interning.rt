@@ -2,7 +2,7 @@
 //! same call then succeeds.
 use crate::calls::{Given, Machine, Made, Stop, check, count, is_text, rows};
 use arcintern::{Interner, SharedInterner, SharedSymbol, Symbol, SymbolMap, WordList};
-use arcstr::{ArcStr, Substr};
+use arcstr::ArcStr;
 use std::alloc::{AllocError, Global};
 use std::sync::Wait;
 use std::{io, mem};
@@ -31,9 +31,7 @@ fn fill_interners<R: Machine>(rt: &R) -> io::Result<()> {
         " -24 -24 -24 -24 -360 -640]":
             |words: &mut Words<FULL>| intern(words) => "foobar", 1;
         "Interner::intern_arc: [+96 +160] [-96 -160]":
-            |given: &mut Handles| intern_text(rt, given) => "foobar", 3;
-        "Interner::intern_substr: [+24 +96 +160] [-24 -96 -160]":
-            |given: &mut Handles| intern_slice(rt, given) => "foo", 1;
+            |given: &mut Handles| intern_text(rt, given) => "foobar", 2;
         "Interner::deserialize: [+6 +10 +24 +96 +128 +160 -6 -10 -128] [-24 -96 -160]":
             |_: &mut ()| serde_json::from_str::<Interner>(alloc, "[\"foobar\"]") => "foobar", 1;
     }
@@ -174,40 +172,28 @@ fn intern<const TEXTS: usize>(words: &mut Words<TEXTS>) -> Result<Interner, Stop
     words.0.take().ok_or(Stop::Differs)
 }
 
-/// A text `foobar`, its slice `foo`, and an interner.
+/// A text `foobar`, and an interner.
 #[derive(Drop)]
 struct Handles {
     text: ArcStr,
-    slice: Substr,
     interner: Interner,
 }
 
 impl Given for Handles {
     fn prepare<R: Machine>(rt: &R) -> Result<Handles, Stop> {
         let text = ArcStr::from_str(rt.alloc(), "foobar")?;
-        let slice = Substr::from_parts_unchecked(text.clone(rt), 0..3);
         let interner = Interner::new(rt.alloc());
-        Ok(Handles {
-            text,
-            slice,
-            interner,
-        })
+        Ok(Handles { text, interner })
     }
 
     fn is_unchanged(&self) -> bool {
-        count(&self.text) == 2 && self.interner.is_empty()
+        count(&self.text) == 1 && self.interner.is_empty()
     }
 }
 
 fn intern_text<R: Machine>(rt: &R, given: &mut Handles) -> Result<Interner, Stop> {
     let symbol = given.interner.intern_arc(rt, &given.text)?;
     check(given.interner.get("foobar") == Some(symbol))?;
-    Ok(mem::replace(&mut given.interner, Interner::new(rt.alloc())))
-}
-
-fn intern_slice<R: Machine>(rt: &R, given: &mut Handles) -> Result<Interner, Stop> {
-    let symbol = given.interner.intern_substr(rt, &given.slice)?;
-    check(given.interner.get("foo") == Some(symbol))?;
     Ok(mem::replace(&mut given.interner, Interner::new(rt.alloc())))
 }
 

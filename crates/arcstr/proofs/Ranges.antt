@@ -83,12 +83,3 @@ module _ (text read : List ℕ) (between : ℕ → ℕ → SubstrView) where
         text_before = tt;
         text_after = tt;
       }
-
--- ---- the slice from the start of one slice to the end of another of the same text
-
-pub lawful_span : (text : List ℕ) (start end other last : ℕ) → IsLawful text start end → IsLawful text other last → start ≤ last → IsLawful text start last
-lawful_span text start end other last own others in_order =
-    record { in_order = in_order; within = others.within; at_boundaries = (own.at_boundaries.0, others.at_boundaries.1) }
-
--- the functions whose proofs use this ruleset name it
-pub ruleset spans_of_slices = (lawful_span)

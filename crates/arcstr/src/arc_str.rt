@@ -57,7 +57,7 @@ impl Model for ArcStr {
     ghost view = { λ shared. text_view shared.form };
 }
 
-/// An owned handle without a drop, from `ArcStr::into_raw`. The checker refuses a function that
+/// An owned handle without a drop, from `ArcStr::into_raw`. The checker rejects a function that
 /// loses it: only `ArcStr::from_raw` consumes it. In a contract it has the text and the kind of the
 /// `ArcStr`. It is `Send` and `Sync`, and its size is 24 bytes.
 ///

@@ -3,11 +3,8 @@
 //!
 //! A `Seen` has no bytes. `None` stands for nothing seen, as of a literal or a permanent block, on
 //! which no call here takes an atomic step. No call allocates, and only `clone_after` waits.
-ghost use Rattle.std.specs.Prelude.{◌≡◌, ◌↔◌, ◌+◌, ◌≤◌, IfSome, IsNone, IsTrue, None, length};
+ghost use Rattle.std.specs.Prelude.{◌≡◌, ◌↔◌, IfSome, IsNone, IsTrue, None, length};
 ghost use Rattle.arcstr_count.specs.Model.{living_after};
-ghost use Rattle.arcstr_block.specs.Book.{IsLater};
-ghost use Rattle.arcstr_block.specs.Handle.{IsMarkedIn, SawClone, kept_of};
-ghost use Rattle.arcstr_block.specs.Ending.{EndedAs};
 ghost use Rattle.arcstr_block.specs.declared.ending.End.TheVariants.{Ended};
 ghost use Rattle.arcstr.specs.TextView.{IsStatic, leaked};
 ghost use Rattle.arcstr.specs.History.{IsSeenBirth, IsSeenEnd, IsSeenOf, IsSeenStatic, SeesAfter};
@@ -15,9 +12,8 @@ ghost use Rattle.arcstr.specs.History.{IsSeenBirth, IsSeenEnd, IsSeenOf, IsSeenS
 use crate::arc_str::ArcStr;
 use crate::static_str::StaticStr;
 use crate::substr::Substr;
-use arcstr_block::{End, Fixed, Seen, Shared};
+use arcstr_block::{End, Seen};
 use arcstr_count::RC_MAX;
-use std::alloc::Global;
 use std::sync::Wait;
 
 impl ArcStr {
@@ -51,6 +47,7 @@ impl ArcStr {
     /// assert_eq!(rt; (count, seen.is_some()), (Some(1), true));
     /// assert_eq!(rt; ArcStr::strong_count_after(&text, &seen).0, Some(1));
     /// ```
+    #[tactic(auto, using(arcstr_block::proofs::Histories::what_looks_say))]
     pub fn strong_count_after(this: &ArcStr, before: &Option<Seen>) -> (Option<usize>, Option<Seen>)
         requires before { IsSeenOf this.now.kind before.now }
         ensures seen { SeesAfter this.now.kind before.now result.1 }
@@ -66,7 +63,8 @@ impl ArcStr {
         let Some(shared) = this.counted() else {
             return (None, None);
         };
-        let (count, seen) = look(shared, before);
+        let own = shared.seen();
+        let (count, seen) = shared.look_after(seen_or(before, &own));
         (count.map(|count| count as usize), Some(seen))
     }
 
@@ -89,7 +87,8 @@ impl ArcStr {
         let Some(shared) = self.counted() else {
             return (self.leak(), None);
         };
-        let fixed = mark(shared, before);
+        let own = shared.seen();
+        let fixed = shared.mark_after(seen_or(before, &own));
         let seen = fixed.seen();
         (StaticStr::new(ArcStr::from_fixed(fixed)), Some(seen))
     }
@@ -113,7 +112,8 @@ impl ArcStr {
         let Some(shared) = self.counted() else {
             return (self.clone(rt), None);
         };
-        let (clone, seen) = up(rt, shared, before);
+        let own = shared.seen();
+        let (clone, seen) = shared.up_after(rt, seen_or(before, &own));
         (ArcStr::from_shared(clone), Some(seen))
     }
 
@@ -157,7 +157,8 @@ impl ArcStr {
         let Some(shared) = self.into_counted() else {
             return (End::Ended, None);
         };
-        let (end, seen) = end(shared, before);
+        let own = shared.seen();
+        let (end, seen) = shared.end_after(seen_or(before, &own));
         (end, Some(seen))
     }
 }
@@ -183,65 +184,14 @@ impl Substr {
     }
 }
 
-/// A look through a handle on a block, after what the caller has seen of it.
-#[tactic(auto, using(arcstr_block::proofs::Histories::what_looks_say))]
-fn look(shared: &Shared<RC_MAX, Global>, before: &Option<Seen>) -> (Option<u64>, Seen)
-    requires before { IfSome before.now (λ old. old.block ≡ shared.now.block) }
-    ensures block { result.1.block ≡ shared.now.block }
-    ensures later { IfSome before.now (λ old. IsLater old.history result.1.history) }
-    ensures none { IsNone result.0 ↔ IsMarkedIn RC_MAX result.1.history }
-    ensures stays { IfSome before.now (λ old. IsMarkedIn RC_MAX old.history → IsNone result.0) }
-    ensures living { IfSome result.0
-        (λ count. count ≡ length (living_after RC_MAX result.1.history 0)) }
-    ensures count { IfSome result.0 (λ count. count ≤ RC_MAX + 1) }
+/// What a call on a block has to have seen: what its caller has, or what the handle has.
+fn seen_or<'a>(before: &'a Option<Seen>, own: &'a Seen) -> &'a Seen
+    requires before { IfSome before.now (λ old. old.block ≡ own.now.block) }
+    ensures block { result.now.block ≡ own.now.block }
+    ensures same { IfSome before.now (λ old. result.now ≡ old) }
 {
     match before {
-        Some(before) => shared.look_after(before),
-        None => shared.look(),
-    }
-}
-
-/// A clone of a handle on a block, after what the caller has seen of it.
-fn up(
-    rt: &impl Wait,
-    shared: &Shared<RC_MAX, Global>,
-    before: &Option<Seen>,
-) -> (Shared<RC_MAX, Global>, Seen)
-    requires before { IfSome before.now (λ old. old.block ≡ shared.now.block) }
-    ensures text { result.0.text ≡ shared.now.text }
-    ensures block { result.0.block ≡ shared.now.block }
-    ensures limit { result.0.limit ≡ RC_MAX }
-    ensures seen { result.1.block ≡ shared.now.block }
-    ensures later { IfSome before.now (λ old. IsLater old.history result.1.history) }
-    ensures born { SawClone RC_MAX result.1.history shared.now.seat result.0.seat }
-{
-    match before {
-        Some(before) => shared.up_after(rt, before),
-        None => shared.up_after(rt, &shared.seen()),
-    }
-}
-
-/// A mark through a handle on a block, after what the caller has seen of it.
-fn mark(shared: &Shared<RC_MAX, Global>, before: &Option<Seen>) -> Fixed<Global>
-    requires before { IfSome before.now (λ old. old.block ≡ shared.now.block) }
-    ensures kept { result ≡ kept_of RC_MAX shared.now result.history }
-    ensures later { IfSome before.now (λ old. IsLater old.history result.history) }
-{
-    match before {
-        Some(before) => shared.mark_after(before),
-        None => shared.mark(),
-    }
-}
-
-/// The drop of a handle on a block, after what the caller has seen of it.
-fn end(shared: Shared<RC_MAX, Global>, before: &Option<Seen>) -> (End, Seen)
-    requires before { IfSome before.now (λ old. old.block ≡ shared.block) }
-    ensures block { result.1.block ≡ shared.block }
-    ensures later { IfSome before.now (λ old. IsLater old.history result.1.history) }
-    ensures ends { EndedAs RC_MAX result.1.history shared.seat result.0 }
-{
-    match before {
-        Some(before) => shared.end_after(before),
-        None => shared.end(),
+        Some(before) => before,
+        None => own,
     }
 }

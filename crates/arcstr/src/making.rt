@@ -169,7 +169,7 @@ impl ArcStr {
     }
 
     /// Joins the texts in order, with the separator between them, as std's `[S]::join` does. `S` is
-    /// `&str`, `String`, `ArcStr`, `Substr` or another type with `AsStr`. The toolchain's borrow
+    /// `&str`, `String`, `ArcStr`, `Substr` or another type with `AsStr`. The kit's borrow
     /// checker does not cover a list of `&ArcStr`: collect the `as_str` of each instead.
     ///
     /// Errors, in this order: `Length` if the joined text has `2^63 - 25` bytes or more; `Memory`

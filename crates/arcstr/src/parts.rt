@@ -201,8 +201,8 @@ impl Substr {
 }
 
 /// A text that has a slice for each view that stands in it: an `ArcStr`, or a `Substr` with its own
-/// text. `V` is `StrView<'_>` and `S` is `Substr`, which a signature with bounds may not name: the
-/// checker proves no call by a bound that names a lifetime, where `'static` stands beside it.
+/// text. `V` is `StrView<'_>` and `S` is `Substr`. They are parameters because the checker proves
+/// no call by a bound that names a lifetime, where `'static` stands beside it.
 trait SlicedAt<V, S> {
     ghost stands: { Self → V → Type 0 };
 

@@ -3,7 +3,7 @@
 //! A call that returns a slice clones the handle once, and so can wait. It takes no atomic step if
 //! it fails or returns `Substr::new()`. The calls of `Substr` take byte offsets of the slice's own
 //! text, and their slices have its parent.
-ghost use Rattle.std.specs.Prelude.{◌≡◌, ◌≢◌, ◌↔◌, ◌+◌, ◌≤◌, ℕ, [], length, IsSome, IfOk, IfSome};
+ghost use Rattle.std.specs.Prelude.{◌≡◌, ◌≢◌, ◌↔◌, ◌+◌, ℕ, [], length, IsSome, IfOk, IfSome};
 ghost use Rattle.std.specs.Fn.{FnOnceReturnsAt, FnOnceTakesAt};
 ghost use Rattle.std.specs.Option.{option_copied};
 ghost use Rattle.std.specs.declared.ops.Range.{Range};
@@ -226,34 +226,6 @@ impl Substr {
             Ok((start, end)) => Ok(self.clone_between(rt, start..end)),
             Err(fault) => Err(fault),
         }
-    }
-
-    /// Returns the slice of the parent from the start of this slice to the end of another of the
-    /// same parent, so that it has both and what lies between. Returns `None` if the other one ends
-    /// before this one starts. Of a slice of another parent, only its end counts: there is no slice
-    /// either if that lies past the text, or inside a character.
-    ///
-    /// ```
-    /// let text = ArcStr::from_static("f(a, b);");
-    /// let (name, end) = (text.substr(&rt, ..1)?, text.substr(&rt, 6..7)?);
-    /// let call = name.substr_to(&rt, &end).ok_or("no slice")?;
-    /// assert_eq!(rt; (call.as_str(), call.range()), ("f(a, b)", 0..7));
-    /// assert!(rt; end.substr_to(&rt, &text.substr(&rt, 3..4)?).is_none());
-    /// ```
-    #[tactic(auto, using(crate::proofs::Ranges::spans_of_slices))]
-    pub fn substr_to(&self, rt: &impl Wait, end: &Substr) -> Option<Substr>
-        ensures value { IfSome result (λ slice.
-            slice ≡ slice_of self.now.parent self.now.start end.now.end) }
-        // Promise: Slices of one text have such a slice exactly if they are in order.
-        ensures in_order { end.now.parent.text ≡ self.now.parent.text
-            → (IsSome result ↔ (self.now.start ≤ end.now.end)) }
-        // Promise: In general, there is one exactly if its range is lawful.
-        ensures lawful { IsSome result ↔ IsLawful self.now.parent.text self.now.start end.now.end }
-    {
-        let (own, other) = (self.range(), end.range());
-        let range = StrRange::Between(own.start, other.end);
-        let (start, end) = checked_ends(self.parent().as_str(), range).ok()?;
-        Some(self.parent().clone_between(rt, start..end))
     }
 
     /// As `ArcStr::try_substr_from`, for the slice's own text: the view's place is a byte offset of

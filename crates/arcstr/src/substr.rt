@@ -147,8 +147,8 @@ impl Substr {
     ///
     /// ```
     /// let slice = Substr::from_str(rt.alloc(), "foobar")?;
-    /// let again = slice.clone(&rt);
-    /// assert!(rt; again == slice);
+    /// let other = slice.clone(&rt);
+    /// assert!(rt; other == slice);
     /// assert_eq!(rt; ArcStr::strong_count(slice.parent()), Some(2));
     /// ```
     pub fn clone(&self, rt: &impl Wait) -> Substr

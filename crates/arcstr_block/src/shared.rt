@@ -1,4 +1,4 @@
-//! One handle on a block. No call here allocates, and only `up` may wait.
+//! One handle on a block. No call here allocates, and only `up`, `up_after` and `up_from` can wait.
 ghost use Rattle.std.specs.Prelude.{◌≡◌, ℕ, length, IsUtf8, ◌<◌, ◌≤◌, ◌+◌, MatchOption, IfOk, IfErr, IfSome, IsNone, IsSome};
 ghost use Rattle.arcstr_count.specs.Word.{bits_of, fresh_word};
 ghost use Rattle.arcstr_block.specs.Book.{IsLater};

@@ -42,15 +42,12 @@ sound_after limit history = record {
         ap (λ (e : BlockSummary). e.given) (get_or_past (after limit history).blocks b no_block (ltb-false b (length (after limit history).blocks) test)) in
         omega arith
 
-pub sound_world : (limit : ℕ) (handles : List HandleSummary) (blocks : List BlockSummary) → IsWorld limit handles blocks
-    → IsSound (state_of_tables handles blocks)
-sound_world limit handles blocks world = ∥∥₁_elim world.has_history (hlevel props) (λ known. subst IsSound (sym known.1) (sound_after limit known.0))
+pub sound_world : (limit : ℕ) (state : State) → IsWorld limit state → IsSound state
+sound_world limit state world = ∥∥₁_elim world.has_history (hlevel props) (λ known. subst IsSound (sym known.1) (sound_after limit known.0))
 
 -- a world that takes a step is a world
-pub world_stepped : (limit : ℕ) (handles new_handles : List HandleSummary) (blocks new_blocks : List BlockSummary) (s : Step) (reply : Reply)
-    → IsWorld limit handles blocks → step limit (state_of_tables handles blocks) s ≡ (state_of_tables new_handles new_blocks, reply)
-    → IsWorld limit new_handles new_blocks
-world_stepped limit handles new_handles blocks new_blocks s reply world stepped = record {
+pub world_stepped : (limit : ℕ) (old new : State) (s : Step) (reply : Reply) → IsWorld limit old → step limit old s ≡ (new, reply) → IsWorld limit new
+world_stepped limit old new s reply world stepped = record {
   limited = world.limited;
   has_history = ∥∥₁_map world.has_history (λ known. (
     known.0 ++ s ∷ [],
@@ -59,15 +56,10 @@ world_stepped limit handles new_handles blocks new_blocks s reply world stepped 
 }
 
 -- a world that answers a step, or runs out of memory, is a world
-pub world_taken : (limit : ℕ) (handles new_handles : List HandleSummary) (blocks new_blocks : List BlockSummary) (s : Step) (result : Result Reply RunFault)
-    → IsWorld limit handles blocks
-    → IfOk result (λ reply. step limit (state_of_tables handles blocks) s ≡ (state_of_tables new_handles new_blocks, reply))
-    → IfErr result (λ fault. (fault ≡ Memory) × (new_handles ≡ handles) × (new_blocks ≡ blocks))
-    → IsWorld limit new_handles new_blocks
-world_taken limit handles new_handles blocks new_blocks s (Ok reply) world stepped same =
-    world_stepped limit handles new_handles blocks new_blocks s reply world stepped
-world_taken limit handles new_handles blocks new_blocks s (Err fault) world stepped same =
-    subst₂ (λ hs bs. IsWorld limit hs bs) (sym same.1) (sym same.2) world
+pub world_taken : (limit : ℕ) (old new : State) (s : Step) (result : Result Reply RunFault) → IsWorld limit old
+    → IfOk result (λ reply. step limit old s ≡ (new, reply)) → IfErr result (λ fault. (fault ≡ Memory) × (new ≡ old)) → IsWorld limit new
+world_taken limit old new s (Ok reply) world stepped same = world_stepped limit old new s reply world stepped
+world_taken limit old new s (Err fault) world stepped same = subst (IsWorld limit) (sym same.1) world
 
 -- a world in the course of a list of steps: it has taken these steps, with these replies
 pub record HasTaken (first : WorldView) (done : List Step) (world : WorldView) (replies : List Reply) : Type 0 where

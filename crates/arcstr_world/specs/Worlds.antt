@@ -4,9 +4,8 @@ use Rattle.arcstr_count.specs.declared.steps.Step.{Step}
 use Rattle.arcstr_count.specs.declared.steps.Step.TheVariants.{Make, Clone}
 use Rattle.arcstr_count.specs.declared.steps.HandleState.TheVariants.{Dropping, Owing}
 use Rattle.arcstr_count.specs.declared.steps.HandleSummary.{HandleSummary}
-use Rattle.arcstr_count.specs.declared.steps.BlockSummary.{BlockSummary}
 use Rattle.arcstr_count.specs.declared.words.TheConstants.{RC_MAX}
-use Rattle.arcstr_count.specs.Model.{State, state_of_tables, after, word_in, given_in}
+use Rattle.arcstr_count.specs.Model.{State, after, word_in, given_in}
 
 -- `Make` and `Clone` give birth to a handle
 abbrev pub is_birth : Step → Bool
@@ -23,13 +22,10 @@ pub record WorldView : Type 0 where
 abbrev pub HasHistory : WorldView → Type 0
 HasHistory world = ∥ ((history : List Step) × (world.state ≡ after world.limit history)) ∥₁
 
-abbrev pub view_of : ℕ → List HandleSummary → List BlockSummary → WorldView
-view_of limit handles blocks = record { limit = limit; state = state_of_tables handles blocks }
-
 -- what every world keeps: its limit is at most `RC_MAX`, and its state is that after a history
-pub record IsWorld (limit : ℕ) (handles : List HandleSummary) (blocks : List BlockSummary) : Type 0 where
+pub record IsWorld (limit : ℕ) (state : State) : Type 0 where
   pub limited : limit ≤ RC_MAX
-  pub has_history : HasHistory (view_of limit handles blocks)
+  pub has_history : HasHistory (record { limit = limit; state = state })
 
 -- what the laws give of each state after a history: a handle stands on a block that was made; the count word of a dropping
 -- handle's block counts it; the block of an owing handle was not freed; no block was freed twice

@@ -3,11 +3,10 @@
 ghost use Rattle.std.specs.Prelude.{◌≡◌, ◌<◌, ◌≤◌, ◌↔◌, ◌+◌, ◌++◌, if◌then◌else◌, [], ◌∷◌, List, length};
 ghost use Rattle.std.specs.Prelude.{IsTrue, IfOk, IfErr, OnErr, IsOk, IsNone, IsSome, None, slice_get, slice_index_or, vec_len, vec_capacity};
 ghost use Rattle.arcstr_count.specs.declared.steps.Step.{Step};
-ghost use Rattle.arcstr_count.specs.Model.{State, step, after, start, state_of_tables, refusal_in, state_in, no_block, no_handle};
-ghost use Rattle.arcstr_count.specs.Model.{handles_with_state, blocks_with_word, blocks_with_given, given_in};
+ghost use Rattle.arcstr_count.specs.Model.{State, step, after, start, refusal_in, state_in};
+ghost use Rattle.arcstr_count.specs.Model.{blocks_with_word, given_in, no_block, state_of_tables, word_in};
 ghost use Rattle.arcstr_world.specs.Worlds.{WorldView, is_birth, HasHistory, IsSound};
 ghost use Rattle.arcstr_count.specs.Answer.{refusal_unless};
-ghost use Rattle.arcstr_count.specs.Word.{marked_of};
 ghost use Rattle.arcstr_count.specs.declared.words.TheConstants.{RC_MAX};
 ghost use Rattle.arcstr_count.specs.Laws.{HoldsInEveryInterleaving};
 
@@ -36,18 +35,33 @@ use std::marker::Model;
 #[derive(Drop)]
 pub struct World<A: Allocator> {
     limit: u64,
+    tables: Tables<A>,
+}
+
+impl<A: Allocator> Model for World<A> {
+    ghost use Rattle.arcstr_world.specs.Worlds.{WorldView, IsWorld};
+
+    ghost Value = { WorldView };
+
+    ghost view = { λ w. record { limit = w.limit; state = w.tables } };
+
+    ghost invariant = { λ w. IsWorld w.limit w.tables };
+}
+
+/// The states of the handles and the count words of the blocks, by their numbers. A contract sees
+/// the model's state.
+#[derive(Drop)]
+struct Tables<A: Allocator> {
     handles: Vec<HandleSummary, A>,
     blocks: Vec<BlockSummary, A>,
 }
 
-impl<A: Allocator> Model for World<A> {
-    ghost use Rattle.arcstr_world.specs.Worlds.{WorldView, view_of, IsWorld};
+impl<A: Allocator> Model for Tables<A> {
+    ghost use Rattle.arcstr_count.specs.Model.{State, state_of_tables};
 
-    ghost Value = { WorldView };
+    ghost Value = { State };
 
-    ghost view = { λ w. view_of w.limit w.handles.items w.blocks.items };
-
-    ghost invariant = { λ w. IsWorld w.limit w.handles.items w.blocks.items };
+    ghost view = { λ t. state_of_tables t.handles.items t.blocks.items };
 }
 
 impl<A: Allocator + Copy> World<A> {
@@ -72,8 +86,10 @@ impl<A: Allocator + Copy> World<A> {
         }
         Ok(World {
             limit,
-            handles: Vec::new(alloc),
-            blocks: Vec::new(alloc),
+            tables: Tables {
+                handles: Vec::new(alloc),
+                blocks: Vec::new(alloc),
+            },
         })
     }
 
@@ -104,7 +120,7 @@ impl<A: Allocator + Copy> World<A> {
         // Promise: The limit stays the same.
         ensures limit { self.new.limit ≡ self.old.limit }
     {
-        take(self.limit, &mut self.handles, &mut self.blocks, act)
+        self.tables.take(self.limit, act)
     }
 
     /// Returns how often the block with this number was freed: 0 or 1 times, and 0 for a block that
@@ -123,7 +139,7 @@ impl<A: Allocator + Copy> World<A> {
         ensures value { result ≡ given_in self.now.state block }
         ensures at_most_once { result ≤ 1 }
     {
-        given_at(&self.blocks, block)
+        given_at(&self.tables.blocks, block)
     }
 
     /// Proves that the state of each world is that after at least one history, and the laws of
@@ -147,244 +163,201 @@ impl<A: Allocator + Copy> World<A> {
     }
 }
 
-/// Answers a step from the two tables of a world, and takes it if it is accepted.
-fn take<A: Allocator>(
-    limit: u64,
-    handles: &mut Vec<HandleSummary, A>,
-    blocks: &mut Vec<BlockSummary, A>,
-    act: Step,
-) -> Result<Reply, RunFault>
-    requires sound { IsSound (state_of_tables handles.old.items blocks.old.items) }
-    requires limited { limit ≤ RC_MAX }
-    ensures stepped { IfOk result (λ reply. step limit
-        (state_of_tables handles.old.items blocks.old.items) act
-        ≡ (state_of_tables handles.new.items blocks.new.items, reply)) }
-    ensures memory { IfErr result (λ fault. (fault ≡ RunFault.Memory)
-        × (handles.new.items ≡ handles.old.items) × (blocks.new.items ≡ blocks.old.items)) }
-    ensures memory_only_to_births { OnErr result (IsTrue (is_birth act)
-        × (refusal_in (state_of_tables handles.old.items blocks.old.items) act ≡ None)) }
-{
-    match act {
-        Step::Make => make(handles, blocks),
-        Step::Look(handle) => Ok(look(handles, blocks, handle)),
-        Step::Clone(handle) => clone(limit, handles, blocks, handle),
-        Step::Begin(handle) => Ok(begin(handles, blocks, handle)),
-        Step::Sub(handle) => Ok(sub(handles, blocks, handle)),
-        Step::Back(handle) => Ok(back(handles, blocks, handle)),
-        Step::Leak(handle) => Ok(leak(handles, blocks, handle)),
-        Step::IntoRaw(handle) => Ok(into_raw(handles, blocks, handle)),
-        Step::FromRaw(handle) => Ok(from_raw(handles, blocks, handle)),
+impl<A: Allocator> Tables<A> {
+    /// Answers a step, and takes it if it is accepted.
+    fn take(&mut self, limit: u64, act: Step) -> Result<Reply, RunFault>
+        requires sound { IsSound self.old }
+        requires limited { limit ≤ RC_MAX }
+        ensures stepped { IfOk result (λ reply. step limit self.old act ≡ (self.new, reply)) }
+        ensures memory { IfErr result (λ fault. (fault ≡ RunFault.Memory) × (self.new ≡ self.old)) }
+        ensures memory_only_to_births { OnErr result
+            (IsTrue (is_birth act) × (refusal_in self.old act ≡ None)) }
+    {
+        match act {
+            Step::Make => self.make(),
+            Step::Look(handle) => Ok(self.look(handle)),
+            Step::Clone(handle) => self.clone(limit, handle),
+            Step::Begin(handle) => Ok(self.begin(handle)),
+            Step::Sub(handle) => Ok(self.sub(handle)),
+            Step::Back(handle) => Ok(self.back(handle)),
+            Step::Leak(handle) => Ok(self.leak(handle)),
+            Step::IntoRaw(handle) => Ok(self.into_raw(handle)),
+            Step::FromRaw(handle) => Ok(self.from_raw(handle)),
+        }
     }
-}
 
-/// Returns the block of a handle in the needed state, or why a step that needs this state is
-/// refused.
-fn handle_in<A: Allocator>(
-    handles: &Vec<HandleSummary, A>,
-    needed: HandleState,
-    handle: u64,
-) -> Result<u64, StepFault>
-    ensures refused { IfErr result
-        (λ fault. refusal_unless needed (state_in (state_of_tables handles.now.items []) handle)
-        ≡ Some fault) }
-    ensures found { IfOk result (λ block. slice_get handles.now.items handle
-        ≡ Some (record { block = block; state = needed })) }
-{
-    match entry_at(handles, handle) {
-        None => Err(StepFault::NoHandle),
-        Some(found) => match refusal(needed, found.state) {
-            None => Ok(found.block),
-            Some(fault) => Err(fault),
-        },
+    /// Returns the block of a handle in the needed state, or why a step that needs this state is
+    /// refused.
+    fn block_of(&self, needed: HandleState, handle: u64) -> Result<u64, StepFault>
+        ensures refused { IfErr result
+            (λ fault. refusal_unless needed (state_in self.now handle) ≡ Some fault) }
+        ensures found { IfOk result (λ block. slice_get self.now.handles handle
+            ≡ Some (record { block = block; state = needed })) }
+    {
+        match entry_at(&self.handles, handle) {
+            None => Err(StepFault::NoHandle),
+            Some(found) => match refusal(needed, found.state) {
+                None => Ok(found.block),
+                Some(fault) => Err(fault),
+            },
+        }
     }
-}
 
-/// Answers `Make`. Of the nine steps only a clone asks for the limit: the clauses of the others
-/// give the step function 0.
-fn make<A: Allocator>(
-    handles: &mut Vec<HandleSummary, A>,
-    blocks: &mut Vec<BlockSummary, A>,
-) -> Result<Reply, RunFault>
-    ensures stepped { IfOk result (λ reply. step 0
-        (state_of_tables handles.old.items blocks.old.items) Step.Make
-        ≡ (state_of_tables handles.new.items blocks.new.items, reply)) }
-    ensures memory { IfErr result (λ fault. (fault ≡ RunFault.Memory)
-        × (handles.new.items ≡ handles.old.items) × (blocks.new.items ≡ blocks.old.items)) }
-{
-    make_room(handles, blocks)?;
-    let block = blocks.len() as u64;
-    let handle = push_handle(handles, block);
-    push_entry(
-        blocks,
-        BlockSummary {
-            word: Word::one(),
-            given: 0,
-        },
-    );
-    Ok(Reply::Made(handle))
-}
-
-#[tactic(auto, using(std::proofs::lemmas::Option::slice_get_within, std::proofs::lemmas::Option::get_or_from_slice_get))]
-fn look<A: Allocator>(
-    handles: &Vec<HandleSummary, A>,
-    blocks: &Vec<BlockSummary, A>,
-    handle: u64,
-) -> Reply
-    requires { IsSound (state_of_tables handles.now.items blocks.now.items) }
-    ensures { step 0 (state_of_tables handles.now.items blocks.now.items) (Step.Look handle)
-        ≡ (state_of_tables handles.now.items blocks.now.items, result) }
-{
-    let block = match handle_in(handles, HandleState::Free, handle) {
-        Ok(block) => block,
-        Err(fault) => return Reply::Refused(fault),
-    };
-    match blocks[block as usize].word.looked() {
-        None => Reply::Static,
-        Some(count) => Reply::Count(count),
+    /// Returns the count word of a block.
+    fn word(&self, block: u64) -> Word
+        requires { block < length self.now.blocks }
+        ensures { result ≡ word_in self.now block }
+    {
+        self.blocks[block as usize].word
     }
-}
 
-#[tactic(auto, using(std::proofs::lemmas::Option::slice_get_within, std::proofs::lemmas::Option::get_or_from_slice_get))]
-fn clone<A: Allocator>(
-    limit: u64,
-    handles: &mut Vec<HandleSummary, A>,
-    blocks: &mut Vec<BlockSummary, A>,
-    handle: u64,
-) -> Result<Reply, RunFault>
-    requires sound { IsSound (state_of_tables handles.old.items blocks.old.items) }
-    requires limited { limit ≤ RC_MAX }
-    ensures stepped { IfOk result (λ reply. step limit
-        (state_of_tables handles.old.items blocks.old.items) (Step.Clone handle)
-        ≡ (state_of_tables handles.new.items blocks.new.items, reply)) }
-    ensures memory { IfErr result (λ fault. (fault ≡ RunFault.Memory)
-        × (handles.new.items ≡ handles.old.items) × (blocks.new.items ≡ blocks.old.items)) }
-    ensures accepted { OnErr result
-        (refusal_in (state_of_tables handles.old.items blocks.old.items) (Step.Clone handle)
-        ≡ None) }
-{
-    let block = match handle_in(handles, HandleState::Free, handle) {
-        Ok(block) => block,
-        Err(fault) => return Ok(Reply::Refused(fault)),
-    };
-    if handles.reserve(1).is_err() {
-        return Err(RunFault::Memory);
+    /// Sets the count word of a block.
+    fn set_word(&mut self, block: u64, word: Word)
+        requires { block < length self.old.blocks }
+        ensures { self.new
+            ≡ state_of_tables self.old.handles (blocks_with_word self.old.blocks block word) }
+    {
+        self.blocks[block as usize].word = word;
     }
-    let word = blocks[block as usize].word;
-    set_word(blocks, block, word.cloned(limit));
-    Ok(Reply::Handle(push_handle(handles, block)))
-}
 
-#[tactic(auto, using(std::proofs::lemmas::Option::slice_get_within, std::proofs::lemmas::Option::get_or_from_slice_get))]
-fn begin<A: Allocator>(
-    handles: &mut Vec<HandleSummary, A>,
-    blocks: &Vec<BlockSummary, A>,
-    handle: u64,
-) -> Reply
-    requires { IsSound (state_of_tables handles.old.items blocks.now.items) }
-    ensures { step 0 (state_of_tables handles.old.items blocks.now.items) (Step.Begin handle)
-        ≡ (state_of_tables handles.new.items blocks.now.items, result) }
-{
-    let block = match handle_in(handles, HandleState::Free, handle) {
-        Ok(block) => block,
-        Err(fault) => return Reply::Refused(fault),
-    };
-    let (state, reply) = after_begin(blocks[block as usize].word);
-    set_state(handles, handle, state);
-    reply
-}
+    /// Answers `Make`. Of the nine steps only a clone asks for the limit: the clauses of the others
+    /// give the step function 0.
+    fn make(&mut self) -> Result<Reply, RunFault>
+        ensures stepped { IfOk result (λ reply. step 0 self.old Step.Make ≡ (self.new, reply)) }
+        ensures memory { IfErr result (λ fault. (fault ≡ RunFault.Memory) × (self.new ≡ self.old)) }
+    {
+        if self.handles.reserve(1).is_err() || self.blocks.reserve(1).is_err() {
+            return Err(RunFault::Memory);
+        }
+        let block = self.blocks.len() as u64;
+        let handle = push_handle(&mut self.handles, block);
+        push_entry(
+            &mut self.blocks,
+            BlockSummary {
+                word: Word::one(),
+                given: 0,
+            },
+        );
+        Ok(Reply::Made(handle))
+    }
 
-#[tactic(auto, using(std::proofs::lemmas::Option::slice_get_within, std::proofs::lemmas::Option::get_or_from_slice_get))]
-fn sub<A: Allocator>(
-    handles: &mut Vec<HandleSummary, A>,
-    blocks: &mut Vec<BlockSummary, A>,
-    handle: u64,
-) -> Reply
-    requires { IsSound (state_of_tables handles.old.items blocks.old.items) }
-    ensures { step 0 (state_of_tables handles.old.items blocks.old.items) (Step.Sub handle)
-        ≡ (state_of_tables handles.new.items blocks.new.items, result) }
-{
-    let block = match handle_in(handles, HandleState::Dropping, handle) {
-        Ok(block) => block,
-        Err(fault) => return Reply::Refused(fault),
-    };
-    let (word, last) = blocks[block as usize].word.dropped();
-    let (state, reply) = after_sub(last);
-    set_word(blocks, block, word);
-    set_state(handles, handle, state);
-    reply
-}
+    #[tactic(auto, using(std::proofs::lemmas::Option::slice_get_within, std::proofs::lemmas::Option::get_or_from_slice_get))]
+    fn clone(&mut self, limit: u64, handle: u64) -> Result<Reply, RunFault>
+        requires sound { IsSound self.old }
+        requires limited { limit ≤ RC_MAX }
+        ensures stepped { IfOk result
+            (λ reply. step limit self.old (Step.Clone handle) ≡ (self.new, reply)) }
+        ensures memory { IfErr result (λ fault. (fault ≡ RunFault.Memory) × (self.new ≡ self.old)) }
+        ensures accepted { OnErr result (refusal_in self.old (Step.Clone handle) ≡ None) }
+    {
+        let block = match self.block_of(HandleState::Free, handle) {
+            Ok(block) => block,
+            Err(fault) => return Ok(Reply::Refused(fault)),
+        };
+        if self.handles.reserve(1).is_err() {
+            return Err(RunFault::Memory);
+        }
+        self.blocks[block as usize].word = self.word(block).cloned(limit);
+        Ok(Reply::Handle(push_handle(&mut self.handles, block)))
+    }
 
-#[tactic(auto, using(std::proofs::lemmas::Option::slice_get_within, std::proofs::lemmas::Option::get_or_from_slice_get))]
-fn back<A: Allocator>(
-    handles: &mut Vec<HandleSummary, A>,
-    blocks: &mut Vec<BlockSummary, A>,
-    handle: u64,
-) -> Reply
-    requires { IsSound (state_of_tables handles.old.items blocks.old.items) }
-    ensures { step 0 (state_of_tables handles.old.items blocks.old.items) (Step.Back handle)
-        ≡ (state_of_tables handles.new.items blocks.new.items, result) }
-{
-    let block = match handle_in(handles, HandleState::Owing, handle) {
-        Ok(block) => block,
-        Err(fault) => return Reply::Refused(fault),
-    };
-    set_given(blocks, block);
-    set_state(handles, handle, HandleState::Gone);
-    Reply::Given
-}
+    #[tactic(auto, using(std::proofs::lemmas::Option::slice_get_within, std::proofs::lemmas::Option::get_or_from_slice_get))]
+    fn look(&self, handle: u64) -> Reply
+        requires { IsSound self.now }
+        ensures { step 0 self.now (Step.Look handle) ≡ (self.now, result) }
+    {
+        let block = match self.block_of(HandleState::Free, handle) {
+            Ok(block) => block,
+            Err(fault) => return Reply::Refused(fault),
+        };
+        match self.word(block).looked() {
+            None => Reply::Static,
+            Some(count) => Reply::Count(count),
+        }
+    }
 
-#[tactic(auto, using(std::proofs::lemmas::Option::slice_get_within, std::proofs::lemmas::Option::get_or_from_slice_get))]
-fn leak<A: Allocator>(
-    handles: &Vec<HandleSummary, A>,
-    blocks: &mut Vec<BlockSummary, A>,
-    handle: u64,
-) -> Reply
-    requires { IsSound (state_of_tables handles.now.items blocks.old.items) }
-    ensures { step 0 (state_of_tables handles.now.items blocks.old.items) (Step.Leak handle)
-        ≡ (state_of_tables handles.now.items blocks.new.items, result) }
-{
-    let block = match handle_in(handles, HandleState::Free, handle) {
-        Ok(block) => block,
-        Err(fault) => return Reply::Refused(fault),
-    };
-    set_mark(blocks, block);
-    Reply::Marked
-}
+    #[tactic(auto, using(std::proofs::lemmas::Option::slice_get_within, std::proofs::lemmas::Option::get_or_from_slice_get))]
+    fn begin(&mut self, handle: u64) -> Reply
+        requires { IsSound self.old }
+        ensures { step 0 self.old (Step.Begin handle) ≡ (self.new, result) }
+    {
+        let block = match self.block_of(HandleState::Free, handle) {
+            Ok(block) => block,
+            Err(fault) => return Reply::Refused(fault),
+        };
+        let (state, reply) = after_begin(self.word(block));
+        self.handles[handle as usize].state = state;
+        reply
+    }
 
-#[tactic(auto, using(std::proofs::lemmas::Option::slice_get_within, std::proofs::lemmas::Option::get_or_from_slice_get))]
-fn into_raw<A: Allocator>(
-    handles: &mut Vec<HandleSummary, A>,
-    blocks: &Vec<BlockSummary, A>,
-    handle: u64,
-) -> Reply
-    requires { IsSound (state_of_tables handles.old.items blocks.now.items) }
-    ensures { step 0 (state_of_tables handles.old.items blocks.now.items) (Step.IntoRaw handle)
-        ≡ (state_of_tables handles.new.items blocks.now.items, result) }
-{
-    let _block = match handle_in(handles, HandleState::Free, handle) {
-        Ok(block) => block,
-        Err(fault) => return Reply::Refused(fault),
-    };
-    set_state(handles, handle, HandleState::Raw);
-    Reply::Raw
-}
+    #[tactic(auto, using(std::proofs::lemmas::Option::slice_get_within, std::proofs::lemmas::Option::get_or_from_slice_get))]
+    fn sub(&mut self, handle: u64) -> Reply
+        requires { IsSound self.old }
+        ensures { step 0 self.old (Step.Sub handle) ≡ (self.new, result) }
+    {
+        let block = match self.block_of(HandleState::Dropping, handle) {
+            Ok(block) => block,
+            Err(fault) => return Reply::Refused(fault),
+        };
+        let (word, last) = self.word(block).dropped();
+        let (state, reply) = after_sub(last);
+        self.set_word(block, word);
+        self.handles[handle as usize].state = state;
+        reply
+    }
 
-#[tactic(auto, using(std::proofs::lemmas::Option::slice_get_within, std::proofs::lemmas::Option::get_or_from_slice_get))]
-fn from_raw<A: Allocator>(
-    handles: &mut Vec<HandleSummary, A>,
-    blocks: &Vec<BlockSummary, A>,
-    handle: u64,
-) -> Reply
-    requires { IsSound (state_of_tables handles.old.items blocks.now.items) }
-    ensures { step 0 (state_of_tables handles.old.items blocks.now.items) (Step.FromRaw handle)
-        ≡ (state_of_tables handles.new.items blocks.now.items, result) }
-{
-    let _block = match handle_in(handles, HandleState::Raw, handle) {
-        Ok(block) => block,
-        Err(fault) => return Reply::Refused(fault),
-    };
-    set_state(handles, handle, HandleState::Free);
-    Reply::Unraw
+    #[tactic(auto, using(std::proofs::lemmas::Option::slice_get_within, std::proofs::lemmas::Option::get_or_from_slice_get))]
+    fn back(&mut self, handle: u64) -> Reply
+        requires { IsSound self.old }
+        ensures { step 0 self.old (Step.Back handle) ≡ (self.new, result) }
+    {
+        let block = match self.block_of(HandleState::Owing, handle) {
+            Ok(block) => block,
+            Err(fault) => return Reply::Refused(fault),
+        };
+        self.blocks[block as usize].given += 1;
+        self.handles[handle as usize].state = HandleState::Gone;
+        Reply::Given
+    }
+
+    #[tactic(auto, using(std::proofs::lemmas::Option::slice_get_within, std::proofs::lemmas::Option::get_or_from_slice_get))]
+    fn leak(&mut self, handle: u64) -> Reply
+        requires { IsSound self.old }
+        ensures { step 0 self.old (Step.Leak handle) ≡ (self.new, result) }
+    {
+        let block = match self.block_of(HandleState::Free, handle) {
+            Ok(block) => block,
+            Err(fault) => return Reply::Refused(fault),
+        };
+        self.blocks[block as usize].word = self.word(block).with_mark();
+        Reply::Marked
+    }
+
+    #[tactic(auto, using(std::proofs::lemmas::Option::slice_get_within, std::proofs::lemmas::Option::get_or_from_slice_get))]
+    fn into_raw(&mut self, handle: u64) -> Reply
+        requires { IsSound self.old }
+        ensures { step 0 self.old (Step.IntoRaw handle) ≡ (self.new, result) }
+    {
+        let _block = match self.block_of(HandleState::Free, handle) {
+            Ok(block) => block,
+            Err(fault) => return Reply::Refused(fault),
+        };
+        self.handles[handle as usize].state = HandleState::Raw;
+        Reply::Raw
+    }
+
+    #[tactic(auto, using(std::proofs::lemmas::Option::slice_get_within, std::proofs::lemmas::Option::get_or_from_slice_get))]
+    fn from_raw(&mut self, handle: u64) -> Reply
+        requires { IsSound self.old }
+        ensures { step 0 self.old (Step.FromRaw handle) ≡ (self.new, result) }
+    {
+        let _block = match self.block_of(HandleState::Raw, handle) {
+            Ok(block) => block,
+            Err(fault) => return Reply::Refused(fault),
+        };
+        self.handles[handle as usize].state = HandleState::Free;
+        Reply::Unraw
+    }
 }
 
 /// Returns why a step that needs a handle in one state is refused for a handle in another: the
@@ -433,24 +406,6 @@ fn after_sub(last: bool) -> (HandleState, Reply)
     }
 }
 
-/// Makes room for one more entry in each of the two tables. A failure leaves the entries of both
-/// unchanged.
-fn make_room<A: Allocator>(
-    handles: &mut Vec<HandleSummary, A>,
-    blocks: &mut Vec<BlockSummary, A>,
-) -> Result<(), RunFault>
-    ensures handles { handles.new.items ≡ handles.old.items }
-    ensures blocks { blocks.new.items ≡ blocks.old.items }
-    ensures room_for_handle { IsOk result → vec_len handles.new < vec_capacity handles.new }
-    ensures room_for_block { IsOk result → vec_len blocks.new < vec_capacity blocks.new }
-    ensures memory { IfErr result (λ fault. fault ≡ RunFault.Memory) }
-{
-    if handles.reserve(1).is_err() || blocks.reserve(1).is_err() {
-        return Err(RunFault::Memory);
-    }
-    Ok(())
-}
-
 /// Appends a free handle on this block to the table, and returns its number.
 fn push_handle<A: Allocator>(handles: &mut Vec<HandleSummary, A>, block: u64) -> u64
     requires { vec_len handles.old < vec_capacity handles.old }
@@ -469,8 +424,7 @@ fn push_handle<A: Allocator>(handles: &mut Vec<HandleSummary, A>, block: u64) ->
     number
 }
 
-/// Returns the entry of a table at a number; `None` past the end of the table. The proofs of
-/// `handle_in` and `given_at` cite it.
+/// Returns the entry of a table at a number; `None` past the end of the table.
 fn entry_at<T: Copy>(table: &[T], number: u64) -> Option<T>
     ensures { result ≡ slice_get table.now number }
 {
@@ -494,39 +448,4 @@ fn push_entry<T: Drop, A: Allocator>(table: &mut Vec<T, A>, entry: T)
     ensures { table.new.items ≡ table.old.items ++ entry ∷ [] }
 {
     let _ = table.push(entry);
-}
-
-/// Sets the state of a handle.
-fn set_state<A: Allocator>(handles: &mut Vec<HandleSummary, A>, handle: u64, state: HandleState)
-    requires { handle < vec_len handles.old }
-    ensures { handles.new.items ≡ handles_with_state handles.old.items handle state }
-{
-    handles[handle as usize].state = state;
-}
-
-/// Sets the count word of a block.
-fn set_word<A: Allocator>(blocks: &mut Vec<BlockSummary, A>, block: u64, word: Word)
-    requires { block < vec_len blocks.old }
-    ensures { blocks.new.items ≡ blocks_with_word blocks.old.items block word }
-{
-    blocks[block as usize].word = word;
-}
-
-/// Marks a block. Its count stays.
-fn set_mark<A: Allocator>(blocks: &mut Vec<BlockSummary, A>, block: u64)
-    requires { block < vec_len blocks.old }
-    ensures { blocks.new.items ≡ blocks_with_word blocks.old.items block
-        (marked_of (slice_index_or blocks.old.items block no_block).word) }
-{
-    let word = blocks[block as usize].word;
-    set_word(blocks, block, word.with_mark());
-}
-
-/// Records that a block was freed once more.
-fn set_given<A: Allocator>(blocks: &mut Vec<BlockSummary, A>, block: u64)
-    requires made { block < vec_len blocks.old }
-    requires unfreed { (slice_index_or blocks.old.items block no_block).given ≡ 0 }
-    ensures { blocks.new.items ≡ blocks_with_given blocks.old.items block }
-{
-    blocks[block as usize].given += 1;
 }

@@ -1,4 +1,5 @@
-//! The functions of docs/PROVING.md and of the lesson on threads of docs/GUIDE.md.
+//! What others write with `arcstr`: the functions of docs/PROVING.md, the answers to its exercises,
+//! that of the lesson on threads of docs/GUIDE.md, and more uses, each with a contract of its own.
 #![tactic(auto)]
 
 ghost use Rattle.std.specs.Prelude.{◌≡◌};
@@ -122,3 +123,6 @@ pub fn lines_in_a_thread<R: Threads + Wait>(rt: &R, text: &ArcStr) -> io::Result
 }
 
 pub mod answers;
+pub mod history;
+pub mod parsing;
+pub mod uses;

@@ -46,15 +46,11 @@ fn say_symbol(answer: &mut Answer, symbol: Option<Symbol>) -> Result<()> {
     answer.maybe(symbol.map(|symbol| symbol.index()))
 }
 
-/// Interns a word as a `&str`, as a text, or as a slice of a longer text.
+/// Interns a word as a `&str` or as a text.
 fn intern<R: Machine>(rt: &R, interner: &mut Interner, at: usize, word: &str) -> Result<Symbol> {
-    Ok(match at % 3 {
+    Ok(match at % 2 {
         0 => interner.intern(word)?,
-        1 => interner.intern_arc(rt, &ArcStr::from_str(rt.alloc(), word)?)?,
-        _ => {
-            let longer = ArcStr::join(rt.alloc(), &["-", word], "")?;
-            interner.intern_substr(rt, &longer.substr(rt, 1..)?)?
-        }
+        _ => interner.intern_arc(rt, &ArcStr::from_str(rt.alloc(), word)?)?,
     })
 }
 

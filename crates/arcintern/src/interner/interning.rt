@@ -2,7 +2,7 @@
 ghost use Rattle.std.specs.Prelude.{◌≡◌, ◌<◌, ◌↔◌, length, IfErr, IfOk, IsErrOf, IsTrue};
 ghost use Rattle.arcstr.specs.Making.{IsTooLong};
 ghost use Rattle.arcstr.specs.Substr.{text_of};
-ghost use Rattle.arcstr.specs.TextView.{IsMadeOf, literal_of};
+ghost use Rattle.arcstr.specs.TextView.{IsMadeOf};
 ghost use Rattle.arcintern.specs.Texts.{AddsCopy, AddsText, HasWord, Interns, IsWhole};
 
 use crate::fault::InternFault;
@@ -77,67 +77,6 @@ impl<S: BuildHasher> Interner<S> {
             return Err(InternFault::Full);
         }
         self.table.push(half, empty, text.clone(rt))
-    }
-
-    /// Returns the symbol of the text that spells this word. If there is none, the last text
-    /// becomes a literal of the word, whose bytes lie in the program: nothing is copied, and the
-    /// text takes no allocation of its own. Refused as `intern_arc` is.
-    ///
-    /// ```
-    /// let mut interner = Interner::new(rt.alloc());
-    /// let symbol = interner.intern_static("foo")?;
-    /// assert!(rt; interner.get("foo") == Some(symbol));
-    /// assert!(rt; ArcStr::is_static(&interner[symbol]));
-    /// ```
-    pub fn intern_static(&mut self, word: &'static str) -> Result<Symbol, InternFault>
-        // Promise: A known word is found, and nothing changes. A new one is added at the end.
-        // A refused call changes nothing.
-        ensures interns { Interns self.old self.new word.now
-            (AddsText (literal_of word.now)) result }
-        // Promise: `Length` never comes.
-        ensures never_too_long { ¬ (IsErrOf result InternFault.Length) }
-    {
-        let half = half_of_word(&self.hash_builder, word);
-        let empty = match self.table.find(half, word) {
-            Ok(symbol) => return Ok(symbol),
-            Err(empty) => empty,
-        };
-        if self.table.is_full() {
-            return Err(InternFault::Full);
-        }
-        self.table.push(half, empty, ArcStr::from_static(word))
-    }
-
-    /// Returns the symbol of the text that spells the same as this slice. If there is none, the
-    /// last text becomes a clone of the slice's parent where the slice is all of it, as by
-    /// `intern_arc`, and else a copy of the slice, as by `intern`. So a slice keeps no longer text
-    /// alive. Refused as these two are.
-    ///
-    /// ```
-    /// let mut interner = Interner::new(rt.alloc());
-    /// let text = ArcStr::from_str(rt.alloc(), "foobar")?;
-    /// let symbol = interner.intern_substr(&rt, &text.substr(&rt, 3..)?)?;
-    /// assert!(rt; interner[symbol].eq_str("bar"));
-    /// assert_eq!(rt; ArcStr::strong_count(&text), Some(1));
-    /// ```
-    pub fn intern_substr(&mut self, rt: &impl Wait, slice: &Substr) -> Result<Symbol, InternFault>
-        // Promise: As `intern_arc` for a whole text, and as `intern` for a part.
-        ensures whole { IsWhole slice.now
-            → Interns self.old self.new (text_of slice.now) (AddsText slice.now.parent) result }
-        ensures part { (¬ IsWhole slice.now)
-            → Interns self.old self.new (text_of slice.now) (AddsCopy (text_of slice.now)) result }
-        // Promise: `Length` comes exactly for the copy of a new part that is too long, in an
-        // interner that is not full.
-        ensures too_long_part { (¬ IsWhole slice.now) → (IsErrOf result InternFault.Length
-            ↔ ((¬ HasWord self.old (text_of slice.now)) × (length self.old < MOST_TEXTS)
-            × IsTooLong (length (text_of slice.now)))) }
-        ensures never_too_long_whole { IsWhole slice.now → ¬ (IsErrOf result InternFault.Length) }
-    {
-        if is_whole(slice) {
-            self.intern_arc(rt, slice.parent())
-        } else {
-            self.intern(slice.as_str())
-        }
     }
 }
 

@@ -295,36 +295,3 @@ fn views_in_a_loop_become_slices(ref rt: HostRuntime) {
         check_slice(rt, &slice.expect(rt, "no slice"), text, range);
     }
 }
-
-/// Returns the slice from the start of one to the end of another. Without a contract, a test that
-/// calls it some times is proved faster.
-fn reach(rt: &(impl Abort + Wait), first: &Substr, last: &Substr) -> Substr {
-    first.substr_to(rt, last).expect(rt, "no slice")
-}
-
-fn reaches(rt: &impl Wait, first: &Substr, last: &Substr) -> bool {
-    first.substr_to(rt, last).is_some()
-}
-
-#[test]
-fn a_slice_reaches_to_the_end_of_another(ref rt: HostRuntime) {
-    let text = made(rt, "f(a, é);");
-    let (name, last) = (part(rt, &text, ..1), part(rt, &text, 5..8));
-    let call = reach(rt, &name, &last);
-    check_slice(rt, &call, "f(a, é)", 0..8);
-    let own = reach(rt, &last, &last);
-    check_slice(rt, &own, "é)", 5..8);
-    check_count(rt, &text, Some(5));
-    check!(rt; !reaches(rt, &last, &name));
-    let nothing = reach(rt, &last, &part(rt, &text, 5..5));
-    check_slice(rt, &nothing, "", 5..5);
-}
-
-#[test]
-fn the_end_of_a_slice_of_another_text_is_tested(ref rt: HostRuntime) {
-    let (text, other) = (made(rt, "é"), made(rt, "abc"));
-    let own = part(rt, &text, ..0);
-    check!(rt; !reaches(rt, &own, &part(rt, &other, ..1)));
-    check!(rt; !reaches(rt, &own, &part(rt, &other, 1..3)));
-    check_count(rt, &text, Some(2));
-}

@@ -72,30 +72,6 @@ fn a_text_is_not_kept_twice(ref rt: HostRuntime) {
 }
 
 #[test]
-fn a_slice_of_all_of_a_text_is_kept_as_a_clone(ref rt: HostRuntime) {
-    let text = &made(rt, "foobar");
-    let slice = text.substr(rt, ..).expect(rt, "refused");
-    let mut interner = Interner::new(rt.alloc());
-    interner.intern_substr(rt, &slice).expect(rt, "refused");
-    check_eq!(rt; ArcStr::strong_count(text), Some(3));
-}
-
-#[test]
-fn another_slice_is_copied(ref rt: HostRuntime) {
-    let text = &made(rt, "foobar");
-    let mut interner = Interner::new(rt.alloc());
-    let symbol = interner
-        .intern_substr(rt, &text.substr(rt, ..3).expect(rt, "refused"))
-        .expect(rt, "refused");
-    interner
-        .intern_substr(rt, &text.substr(rt, 1..).expect(rt, "refused"))
-        .expect(rt, "refused");
-    check_eq!(rt; ArcStr::strong_count(text), Some(1));
-    check_eq!(rt; interner.len(), 2);
-    check_alone(rt, &interner, symbol, "foo");
-}
-
-#[test]
 fn symbols_and_faults_are_printed(ref rt: HostRuntime) {
     let symbol = interned(rt, &mut Interner::new(rt.alloc()), "foo");
     let printed = format!(in rt.alloc();

@@ -1,1 +1,0 @@
-"""The parts of `apidoc`: it reads items, definitions and pages, links names, and checks pages."""
