@@ -1,5 +1,5 @@
 -- Where a table finds the number of a text by half of the hash of its word.
-use Rattle.std.specs.Prelude.{◌≡◌, ◌≢◌, ℕ, ◌+◌, ◌*◌, ◌/◌, ◌%◌, ◌<◌, ◌≤◌, List, [], length, slice_index, slice_index_or, bit_and, bit_xor}
+use Rattle.std.specs.Prelude.{◌≡◌, ◌≢◌, ℕ, ◌+◌, ◌-◌, ◌*◌, ◌/◌, ◌%◌, ◌<◌, ◌≤◌, List, [], length, slice_index, slice_index_or, bit_and, bit_xor}
 use Rattle.std.specs.declared.hash.BuildHasher as builder
 use Rattle.std.specs.declared.hash.Hasher as hasher
 use Rattle.arcstr.specs.TextView.{TextView, literal_of}
@@ -48,3 +48,7 @@ ArePlaced slots mask half empty texts = (number : ℕ) → number < length texts
 -- the number of each text is placed under the half of its word
 unfoldable pub AreTextsPlaced : List ℕ → ℕ → (List ℕ → ℕ) → List TextView → Type 0
 AreTextsPlaced slots mask half texts = ArePlaced slots mask (λ text. half text.text) (literal_of []) texts
+
+-- how many numbers a table of this length takes, so that a quarter of its slots stays empty
+abbrev pub room_of : ℕ → ℕ
+room_of len = len - len / 4

@@ -1,6 +1,5 @@
 -- How the texts of a shared interner lie in its list: in rows of places. The first eight rows have four places each, the next eight rows eight, and so on.
-use Rattle.std.specs.Prelude.{◌≡◌, ℕ, zero, suc, ◌+◌, ◌-◌, ◌*◌, ◌/◌, ◌%◌, ◌^◌, ◌<◌, nat_lt, if◌then◌else◌, List, slice_index_or}
-use Rattle.write_once.specs.WriteOnce.{Place}
+use Rattle.std.specs.Prelude.{◌≡◌, ℕ, zero, suc, ◌+◌, ◌-◌, ◌*◌, ◌/◌, ◌%◌, ◌^◌, ◌<◌, nat_lt, if◌then◌else◌}
 
 -- how many places a row has
 abbrev pub span : ℕ → ℕ
@@ -22,7 +21,3 @@ row_of number = (top_of 32 (number + 32) - 5) * 8 + ((number + 32) * 8 / 2 ^ top
 -- the place of that text in its row
 unfoldable pub place_of : ℕ → ℕ
 place_of number = (number + 32) * 8 % 2 ^ top_of 32 (number + 32) / 8
-
--- the name of one of these places, by its index
-abbrev pub id_at : List Place → ℕ → ℕ
-id_at places index = (slice_index_or places index record { id = 0 }).id

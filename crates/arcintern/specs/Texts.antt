@@ -5,11 +5,11 @@ use Rattle.std.specs.declared.io.ErrorKind.{ErrorKind}
 use Rattle.std.specs.declared.io.ErrorKind.TheVariants.{InvalidInput, OutOfMemory}
 use Rattle.arcstr.specs.Substr.{SubstrView}
 use Rattle.arcstr.specs.TextView.{TextView, IsMadeOf}
-use Rattle.write_once.specs.WriteOnce.{Place}
+use Rattle.boxcar.specs.Slot.{Named}
+use Rattle.boxcar.specs.Table.{id_at}
 use Rattle.arcintern.specs.declared.fault.InternFault.{InternFault}
 use Rattle.arcintern.specs.declared.fault.InternFault.TheVariants.{Full, Length, Memory}
 use Rattle.arcintern.specs.declared.interner.TheConstants.{MOST_TEXTS}
-use Rattle.arcintern.specs.TextList.{id_at}
 
 -- one of the texts spells this word
 abbrev pub HasWord : List TextView → List ℕ → Type 0
@@ -74,11 +74,11 @@ pub record SymbolView : Type 0 where
   pub name : ℕ
 
 -- the symbol is of the interner with these rows
-abbrev pub IsSymbolOf : List Place → SymbolView → Type 0
+abbrev pub IsSymbolOf : List Named → SymbolView → Type 0
 IsSymbolOf rows symbol = symbol.name ≡ id_at rows symbol.row
 
 -- the symbol is of the interner with these rows, and its text spells this word
-abbrev pub IsSymbolOfWord : List Place → SymbolView → List ℕ → Type 0
+abbrev pub IsSymbolOfWord : List Named → SymbolView → List ℕ → Type 0
 IsSymbolOfWord rows symbol word = IsSymbolOf rows symbol × (symbol.text.text ≡ word)
 
 -- ---- the faults of an interner: their texts, and their kinds as faults of reading and writing

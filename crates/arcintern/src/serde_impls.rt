@@ -176,7 +176,8 @@ impl WordList {
     }
 }
 
-/// Returns the error of the format for a text that is not interned.
+/// Returns the error of the format for a text that is not interned. A clause cannot tell the errors
+/// of a format apart.
 fn error_of<F: Format>(from: &Deserializer<'_, '_, F>, fault: InternFault) -> F::Error {
     match fault {
         InternFault::Full => from.custom("interner is full"),

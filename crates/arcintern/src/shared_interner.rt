@@ -10,6 +10,7 @@ use crate::fault::InternFault;
 use crate::interner::{Interner, MOST_TEXTS};
 use crate::symbol::Symbol;
 use arcstr::ArcStr;
+use boxcar::slot::Written;
 use shard::Shard;
 use std::alloc::{AllocFailed, Global};
 use std::fmt;
@@ -17,7 +18,6 @@ use std::hash::{BuildHasher, BuildHasherDefault, FoldHasher};
 use std::marker::Model;
 use std::sync::Wait;
 use text_list::{Row, TextList};
-use write_once::Written;
 
 mod interning;
 mod shard;
@@ -31,9 +31,9 @@ mod text_list;
 /// lives, whatever other threads do. The numbers are 0, 1, 2 and so on, in the order in which the
 /// texts were added, and none is left out.
 ///
-/// A table grows in place, since a thread may be reading it: it gets one more piece, as long as all
-/// before it. After `with_capacity`, a table grows only if its shard gets more than its part of the
-/// texts.
+/// A table that is too short is kept beside a longer one until the interner is dropped, since a
+/// thread may be reading it. After `with_capacity`, a shard makes a longer table only if it gets
+/// more than its part of the texts.
 ///
 /// The contracts do not say that a call succeeds, that `get` finds a word, that a word has one
 /// number, which number is next, or what `len` answers. The tests `words_are_told_apart`,
@@ -59,9 +59,9 @@ pub struct SharedInterner<S: BuildHasher = BuildHasherDefault<FoldHasher>> {
 
 impl<S: BuildHasher> Model for SharedInterner<S> {
     ghost use Rattle.std.specs.Prelude.{◌≤◌, List, length};
-    ghost use Rattle.write_once.specs.WriteOnce.{Place};
+    ghost use Rattle.boxcar.specs.Slot.{Named};
 
-    ghost Value = { List Place };
+    ghost Value = { List Named };
 
     ghost view = { λ interner. interner.texts };
 
@@ -71,8 +71,8 @@ impl<S: BuildHasher> Model for SharedInterner<S> {
 
 impl SharedInterner<BuildHasherDefault<FoldHasher>> {
     /// Makes an interner without texts. The caller must ensure that there are 1 to 64 shards. A
-    /// power of two is best, as many as threads or more. The list of the texts takes 7 KB, and a
-    /// shard 1 KB. `Memory` is the only fault.
+    /// power of two is best, as many as threads or more. The list of the texts takes 9 KB, and a
+    /// shard 1.2 KB. `Memory` is the only fault.
     ///
     /// ```
     /// let interner = SharedInterner::new(rt.alloc(), 1)?;
@@ -339,7 +339,8 @@ pub struct SharedSymbol {
 
 impl Model for SharedSymbol {
     ghost use Rattle.std.specs.Prelude.{◌≡◌, ◌+◌, ◌/◌, ◌%◌, ◌^◌, ◌<◌, length};
-    ghost use Rattle.arcintern.specs.TextList.{id_at, place_of, row_of};
+    ghost use Rattle.boxcar.specs.Table.{id_at};
+    ghost use Rattle.arcintern.specs.TextList.{place_of, row_of};
     ghost use Rattle.arcintern.specs.Texts.{SymbolView};
 
     ghost Value = { SymbolView };

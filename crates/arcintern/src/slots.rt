@@ -89,6 +89,7 @@ impl Slots {
     /// Makes a table of empty slots, with some room behind the last.
     fn with_len(alloc: Global, len: usize) -> Result<Slots, AllocError>
         requires { 0 < len }
+        ensures { IfOk result (λ slots. vec_len slots.slots ≡ len) }
     {
         let mut slots = Vec::with_capacity(alloc, len.saturating_add((len / 4).min(32)))?;
         slots.resize(len, 0)?;

@@ -65,33 +65,32 @@ fn fill_maps<R: Machine>(rt: &R) -> io::Result<()> {
 fn make_shared<R: Machine>(rt: &R) -> io::Result<()> {
     let alloc = rt.alloc();
     rows! { rt;
-        "SharedInterner::new: [+7168 +62976] [-7168 -62976]":
+        "SharedInterner::new: [+8960 +78336] [-8960 -78336]":
             |_: &mut ()| SharedInterner::new(alloc, 64) => "", 0;
-        "SharedInterner::with_capacity: [+128 +128 +128 +128 +128 +128 +128 +128 +128 +128 +128"
-        " +128 +256 +256 +256 +256 +256 +256 +256 +256 +256 +256 +512 +512 +512 +1968 +7168] [-128"
-        " -128 -128 -128 -128 -128 -128 -128 -128 -128 -128 -128 -256 -256 -256 -256 -256 -256"
-        " -256 -256 -256 -256 -512 -512 -512 -1968 -7168]":
+        "SharedInterner::with_capacity: [+160 +160 +160 +160 +160 +160 +160 +160 +320 +320 +320"
+        " +320 +320 +320 +320 +320 +640 +1024 +1024 +2448 +8960] [-160 -160 -160 -160 -160 -160"
+        " -160 -160 -320 -320 -320 -320 -320 -320 -320 -320 -640 -1024 -1024 -2448 -8960]":
             |_: &mut ()| SharedInterner::with_capacity(alloc, 2, 100) => "", 0;
     }
 }
 
 fn fill_shared<R: Machine>(rt: &R) -> io::Result<()> {
     rows! { rt;
-        "SharedInterner::intern_arc where there is room: [] [-128 -128 -128 -128 -128 -128 -128"
-        " -128 -128 -128 -256 -256 -256 -256 -256 -256 -256 -256 -256 -512 -512 -984 -1024 -7168]":
+        "SharedInterner::intern_arc where there is room: [] [-160 -160 -160 -160 -160 -160 -160"
+        " -160 -320 -320 -320 -320 -320 -320 -320 -320 -640 -1224 -2048 -8960]":
             |room: &mut SharedRoom| share_all(rt, room) => "", 100;
-        "SharedInterner::intern: [+24 +128 +128] [-24 -128 -128 -984 -7168]":
+        "SharedInterner::intern: [+24 +128 +160] [-24 -128 -160 -1224 -8960]":
             |words: &mut SharedWords<0>| share(rt, words) => "", 1;
-        "SharedInterner::intern with a full table: [+24 +128 +128] [-24 -24 -24 -24 -24 -24 -24"
-        " -24 -24 -24 -24 -24 -24 -128 -128 -128 -128 -128 -128 -984 -7168]":
+        "SharedInterner::intern with a full table: [+24 +160 +256] [-24 -24 -24 -24 -24 -24 -24 -24"
+        " -24 -24 -24 -24 -24 -128 -160 -160 -160 -160 -256 -1224 -8960]":
             |words: &mut SharedWords<FULL>| share(rt, words) => "", 13;
-        "SharedInterner::intern_static: [+128 +128] [-24 -24 -24 -24 -24 -24 -24 -24 -24 -24 -24"
-        " -24 -128 -128 -128 -128 -128 -128 -984 -7168]":
+        "SharedInterner::intern_static: [+160 +256] [-24 -24 -24 -24 -24 -24 -24 -24 -24 -24 -24"
+        " -24 -128 -160 -160 -160 -160 -256 -1224 -8960]":
             |words: &mut SharedWords<FULL>| share_literal(rt, words) => "", 13;
         "SharedInterner::intern of a known word: [] [-24 -24 -24 -24 -24 -24 -24 -24 -24 -24 -24"
-        " -24 -128 -128 -128 -128 -984 -7168]":
+        " -24 -128 -160 -160 -160 -1224 -8960]":
             |words: &mut SharedWords<FULL>| share_known(rt, words) => "", 12;
-        "SharedInterner::into_interner: [+160 +288 -128 -128 -128 -128 -984 -7168] [-24 -24 -24"
+        "SharedInterner::into_interner: [+160 +288 -128 -160 -160 -160 -1224 -8960] [-24 -24 -24"
         " -24 -24 -24 -24 -24 -24 -24 -24 -24 -160 -288]":
             |words: &mut SharedWords<FULL>| take_all(rt, words) => "11", 1;
     }

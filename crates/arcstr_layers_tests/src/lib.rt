@@ -1,5 +1,5 @@
-//! The tests of `arcstr_count`, `arcstr_world`, `arcstr_range`, `arcstr_block` and `write_once`, in
-//! a crate of their own: the libraries are not proved again with them.
+//! The tests of `arcstr_count`, `arcstr_world`, `arcstr_range` and `arcstr_block`, in a crate of
+//! their own: the libraries are not proved again with them.
 #![tactic(auto)]
 
 #[cfg(test)]

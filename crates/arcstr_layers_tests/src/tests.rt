@@ -1,6 +1,5 @@
 mod block;
 mod checks;
 mod count;
-mod places;
 mod range;
 mod world;

@@ -80,7 +80,7 @@ impl TextTable {
         self.texts.len() >= MOST_TEXTS
     }
 
-    /// Returns the allocator of the texts.
+    /// Returns the allocator of the texts. A `Global` has no view, so a clause could not say more.
     pub(crate) fn alloc(&self) -> Global {
         *self.texts.allocator()
     }

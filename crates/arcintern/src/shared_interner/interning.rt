@@ -34,7 +34,7 @@ impl<S: BuildHasher> SharedInterner<S> {
         // Promise: `Length` comes only for a copy that is too long.
         ensures too_long { IsErrOf result InternFault.Length → IsTooLong (length word.now) }
     {
-        self.find_or_add(rt, self.hash_of(word), word, None)
+        self.find_or_add(rt, word, None)
     }
 
     /// Returns the symbol of the text that spells the same as this one. If there is none, a clone
@@ -53,7 +53,7 @@ impl<S: BuildHasher> SharedInterner<S> {
         // Promise: `Length` never comes.
         ensures never_too_long { ¬ (IsErrOf result InternFault.Length) }
     {
-        self.find_or_add(rt, self.hash_of(text.as_str()), text.as_str(), Some(text))
+        self.find_or_add(rt, text.as_str(), Some(text))
     }
 
     /// As `intern`, for a text that the program holds: it is not copied, and never too long.
@@ -115,33 +115,17 @@ impl<S: BuildHasher> SharedInterner<S> {
     pub fn get(&self, word: &str) -> Option<SharedSymbol>
         ensures { IfSome result (λ symbol. IsSymbolOfWord self.now symbol word.now) }
     {
-        self.find(self.hash_of(word), word)
-    }
-
-    /// Returns the hash of the word.
-    pub(crate) fn hash_of(&self, word: &str) -> u64 {
-        hash_of_word(&self.hash_builder, word)
-    }
-
-    /// Returns the symbol of the word with this hash.
-    pub(crate) fn find(&self, hash: u64, word: &str) -> Option<SharedSymbol>
-        ensures { IfSome result (λ symbol. IsSymbolOfWord self.now symbol word.now) }
-    {
+        let hash = hash_of_word(&self.hash_builder, word);
         let shard = &self.shards[shard_of(hash, self.shards.len())];
         shard.find(half_of(hash), &self.texts, word)
     }
 
-    /// Returns the symbol of the word with this hash. If there is none, adds `whole` or, without
+    /// Returns the symbol of this word. If there is none, adds `whole` or, without
     /// one, a copy of the word. That text is made before the lock is taken, and dropped if another
     /// thread has added the word meanwhile.
-    ///
-    /// Whoever adds a word puts it where a search first comes to no number. So if the table has not
-    /// grown since the search, a word that was added after it is met on the way to the place for
-    /// this one, and `place_for` tells.
     pub(crate) fn find_or_add(
         &self,
         rt: &impl Wait,
-        hash: u64,
         word: &str,
         whole: Option<&ArcStr>,
     ) -> Result<SharedSymbol, InternFault>
@@ -150,9 +134,9 @@ impl<S: BuildHasher> SharedInterner<S> {
         ensures too_long { IsErrOf result InternFault.Length
             → IsNone whole.entry × IsTooLong (length word.now) }
     {
+        let hash = hash_of_word(&self.hash_builder, word);
         let shard = &self.shards[shard_of(hash, self.shards.len())];
         let half = half_of(hash);
-        let mask = shard.mask();
         if let Some(symbol) = shard.find(half, &self.texts, word) {
             return Ok(symbol);
         }
@@ -161,15 +145,19 @@ impl<S: BuildHasher> SharedInterner<S> {
         }
         let text = text_to_keep(rt, self.alloc, word, whole)?;
         let mut used = shard.used.lock(rt);
-        shard.make_room(self.alloc, &mut used)?;
-        let place = shard.place_for(half, mask);
-        if place.is_none() {
-            if let Some(symbol) = shard.find(half, &self.texts, word) {
+        let table = shard.table_with_room(self.alloc, *used)?;
+        let Some((place, is_passed)) = table.place_for(half) else {
+            return Err(InternFault::Memory);
+        };
+        if is_passed {
+            if let Some(symbol) = table.find(half, &self.texts, word) {
                 return Ok(symbol);
             }
         }
         let symbol = self.texts.push(rt, text)?;
-        shard.put(&mut used, half, (symbol.bits / 256) as u32, place);
+        if table.put(place, half, (symbol.bits / 256) as u32).is_ok() {
+            *used = used.saturating_add(1);
+        }
         Ok(symbol)
     }
 }

@@ -1,29 +1,43 @@
 //! The texts of a shared interner: a list that threads read without a lock while others add to it.
 ghost use Rattle.std.specs.Prelude.{◌≡◌, ◌+◌, ◌*◌, ◌/◌, ◌%◌, ◌^◌, ◌<◌, ◌≤◌, IfOk, IfSome, IsErrOf, length};
-ghost use Rattle.arcintern.specs.TextList.{IsAt, id_at, place_of, row_of};
+ghost use Rattle.boxcar.specs.Table.{id_at};
+ghost use Rattle.arcintern.specs.TextList.{IsAt, place_of, row_of};
 ghost use Rattle.arcintern.specs.Texts.{IsSymbolOf, IsSymbolOfWord};
 
 use crate::fault::InternFault;
 use crate::interner::MOST_TEXTS;
 use crate::shared_interner::SharedSymbol;
 use arcstr::ArcStr;
+use boxcar::slot::{OnceSlot, SlotRule, Written};
+use boxcar::tag::Tag;
 use std::alloc::{AllocError, Global};
 use std::marker::Model;
 use std::sync::atomic::{AtomicUsize, Ordering};
 use std::sync::{Mutex, Wait};
-use write_once::{WriteOnce, Written};
 
 /// How many rows hold all numbers below `MOST_TEXTS`.
 const ROWS: usize = 224;
 
-/// The places of some texts. A place without a text has the empty literal.
-pub(crate) type Row = Vec<WriteOnce<ArcStr>>;
+/// The rule of a place in which any value may stand.
+pub(crate) struct AnyValue;
+
+impl<T> SlotRule<T> for AnyValue {
+    ghost use Rattle.std.specs.Prelude.{⊤};
+
+    ghost holds = { λ _ _. ⊤ };
+}
+
+/// A place for one value, which one thread writes once, and which any thread can then read.
+pub(crate) type Place<T> = OnceSlot<T, AnyValue>;
+
+/// The places of some texts.
+pub(crate) type Row = Vec<Place<ArcStr>>;
 
 /// A list that only grows, and in which a text stays where it is. It has eight rows of each length,
 /// made as they are needed. So in a long list at most about a ninth of the places has no text.
 #[derive(Drop)]
 pub(crate) struct TextList {
-    rows: Vec<WriteOnce<Row>>,
+    rows: Vec<Place<Row>>,
     /// Whoever makes a row holds it.
     making: Mutex<()>,
     /// Keeps what a search reads out of the line of memory that each new text changes.
@@ -34,9 +48,9 @@ pub(crate) struct TextList {
 
 impl Model for TextList {
     ghost use Rattle.std.specs.Prelude.{◌≡◌, List, length};
-    ghost use Rattle.write_once.specs.WriteOnce.{Place};
+    ghost use Rattle.boxcar.specs.Slot.{Named};
 
-    ghost Value = { List Place };
+    ghost Value = { List Named };
 
     ghost view = { λ list. list.rows.items };
 
@@ -44,17 +58,12 @@ impl Model for TextList {
 }
 
 /// Makes places that are not written.
-fn empty_places<T: Drop, F: Fn() -> T>(
-    alloc: Global,
-    len: usize,
-    blank: F,
-) -> Result<Vec<WriteOnce<T>>, AllocError>
-    requires { F.IsAlwaysCallable blank }
+fn empty_places<T: Drop>(alloc: Global, len: usize) -> Result<Vec<Place<T>>, AllocError>
     ensures { IfOk result (λ places. length places.items ≡ len) }
 {
     let mut places = Vec::with_capacity(alloc, len)?;
     while places.len() < len {
-        places.push_reserved(WriteOnce::new(blank()));
+        places.push_reserved(OnceSlot::new(&Tag::empty()));
     }
     Ok(places)
 }
@@ -101,10 +110,10 @@ fn bits_of(number: usize, row: usize) -> u64
 }
 
 impl TextList {
-    /// Makes a list without texts, with room for this many.
+    /// Makes a list without texts, with room for this many. No clause sees which rows are made.
     pub(crate) fn with_capacity(alloc: Global, texts: usize) -> Result<TextList, AllocError> {
         let list = TextList {
-            rows: empty_places(alloc, ROWS, || Vec::new(alloc))?,
+            rows: empty_places(alloc, ROWS)?,
             making: Mutex::new(()),
             apart: [0; 8],
             next: AtomicUsize::new(0),
@@ -122,8 +131,8 @@ impl TextList {
         requires { row < 224 }
         ensures { IfOk result (λ made. made.of ≡ id_at self.now row) }
     {
-        let places = empty_places(*self.rows.allocator(), 4 << (row / 8), || ArcStr::new())?;
-        let Ok(made) = self.rows[row].write(places) else {
+        let places = empty_places(*self.rows.allocator(), 4 << (row / 8))?;
+        let Ok(made) = self.rows[row].set_written(places) else {
             return Err(AllocError);
         };
         Ok(made)
@@ -173,7 +182,7 @@ impl TextList {
                 number = next.max(number + 1);
                 continue;
             }
-            match empty.write(text) {
+            match empty.set_written(text) {
                 Ok(text) => {
                     return Ok(SharedSymbol {
                         bits: bits_of(number, row),
@@ -191,12 +200,14 @@ impl TextList {
     /// Takes this number if it is the next one, and else returns that.
     fn take(&self, number: usize) -> Result<usize, usize>
         requires { number < MOST_TEXTS }
+        ensures { IfOk result (λ taken. taken ≡ number) }
     {
         let (taken, next) = (Ordering::AcqRel, Ordering::Acquire);
         self.next.compare_exchange(number, number + 1, taken, next)
     }
 
-    /// Returns how many numbers are taken.
+    /// Returns how many numbers are taken. The contract does not say how many, since other threads
+    /// take some meanwhile.
     pub(crate) fn len(&self) -> usize {
         self.next.load(Ordering::Acquire)
     }

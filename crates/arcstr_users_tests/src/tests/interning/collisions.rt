@@ -1,12 +1,10 @@
 //! Words of one hash.
 use crate::tests::checks::{check, check_eq};
-use arcintern::{InternFault, Interner, SharedInterner};
-use std::alloc::{AllocGlobal, Global};
+use arcintern::{Interner, SharedInterner};
+use std::alloc::AllocGlobal;
 use std::hash::{BuildHasher, Hasher};
 use std::process::Abort;
 use std::sync::Wait;
-use std::thread;
-use std::thread::Threads;
 
 /// Gives each word the hash `hash`.
 #[derive(Clone, Copy)]
@@ -118,76 +116,5 @@ fn a_hundred_words_pass_the_end_of_a_table(ref rt: HostRuntime) {
     for number in 0..100 {
         let word = format!(in rt.alloc(); "{number}").expect(rt, "no memory");
         check_shared(rt, &interner, &word, number);
-    }
-}
-
-/// A hash of ones that ends in nine zeros. All its words are in the first slots of a table until it
-/// has 1,024 slots, and then move at once.
-const MOVES_AT_ONCE: OneHash = OneHash {
-    hash: 4_294_966_784,
-};
-
-/// How many words are there before other threads look for them.
-const KNOWN: usize = 360;
-
-/// How many words are there after their table has grown.
-const ALL: usize = 400;
-
-/// How many threads there are: one adds words.
-const THREADS: usize = 4;
-
-/// Interns the words from the number `first` on, before `end`.
-fn intern_words(
-    rt: &impl Wait,
-    alloc: Global,
-    interner: &SharedInterner<OneHash>,
-    first: usize,
-    end: usize,
-) -> Result<(), InternFault> {
-    for number in first..end {
-        interner.intern(rt, &format!(in alloc; "{number}")?)?;
-    }
-    Ok(())
-}
-
-/// As the last worker, adds words until their table has grown. As another, looks for the last known
-/// words until all are there, and answers whether each was found.
-fn add_or_find(
-    rt: &impl Wait,
-    alloc: Global,
-    interner: &SharedInterner<OneHash>,
-    worker: usize,
-) -> Result<bool, InternFault> {
-    if worker == THREADS - 1 {
-        intern_words(rt, alloc, interner, KNOWN, ALL)?;
-    }
-    for turn in 0..100_000_usize {
-        if interner.len() == ALL {
-            break;
-        }
-        let word = format!(in alloc; "{}", KNOWN - 1 - turn % 100)?;
-        if interner.get(&word).is_none() {
-            return Ok(false);
-        }
-    }
-    Ok(true)
-}
-
-/// Asserts that each known word is found while all words move.
-fn check_moves<R: Abort + AllocGlobal + Threads + Wait + Sync>(rt: &R) {
-    let alloc = rt.alloc();
-    let interner = &SharedInterner::with_hasher(alloc, 1, MOVES_AT_ONCE).expect(rt, "refused");
-    check!(rt; intern_words(rt, alloc, interner, 0, KNOWN).is_ok());
-    let work = |worker: usize| add_or_find(rt, alloc, interner, worker);
-    for found in thread::map_indices(rt, alloc, THREADS, &work).expect(rt, "refused") {
-        check!(rt; found.expect(rt, "refused"));
-    }
-    check_eq!(rt; interner.len(), ALL);
-}
-
-#[test]
-fn known_words_of_one_hash_are_found_while_they_move(ref rt: HostRuntime) {
-    for _ in 0..10 {
-        check_moves(rt);
     }
 }
