@@ -1,9 +1,9 @@
 -- What every world keeps: its state is that after a history, and so is sound; and each step and each list of steps keeps this.
 use Rattle.arcstr_world.proofs.Names.{◌≡◌, ℕ, ◌<◌, ◌≤◌, Bool, true, false, Some, List, [], ◌∷◌, ◌++◌, length, refl, sym, ◌∙◌, ap, subst}
-use Rattle.arcstr_world.proofs.Names.{subst₂, arith, get_or, get_or_past, nat_lt, ltb-true, ltb-false, slice_get, slice_get_within, get_or_from_slice_get}
+use Rattle.arcstr_world.proofs.Names.{arith, get_or, get_or_past, nat_lt, ltb-true, ltb-false, slice_get, slice_get_within, get_or_from_slice_get}
 use Rattle.arcstr_world.proofs.Names.{∥∥₁_elim, ∥∥₁_map, props, ap₂, Reply, Step, Owing, HandleSummary, BlockSummary, is_owing, State, WorldView, start}
 use Rattle.arcstr_world.proofs.Names.{Dropping}
-use Rattle.arcstr_world.proofs.Names.{no_block, no_handle, block_on, state_on, word_in, given_in, state_of_tables, step, after_from, after, replies_from}
+use Rattle.arcstr_world.proofs.Names.{no_block, no_handle, block_on, state_on, word_in, given_in, step, after_from, after, replies_from}
 use Rattle.arcstr_world.proofs.Names.{IsWorld, IsSound}
 use Rattle.arcstr_count.proofs.LawsOfBlocks.{IsLawful, some_on, lawful_after}
 use Rattle.std.specs.Prelude.{Result, Ok, Err, IfOk, IfErr}

@@ -1,7 +1,7 @@
 -- The names that the proofs share, in one place.
 pub use Rattle.std.proofs.Common.{Bool, Contains, IfSome, IsFalse, IsTrue, List, None, Option, Some, [], ap, append_assoc, ap₂, arith, eq-eqb, eqb-true, false}
 pub use Rattle.std.proofs.Common.{filter, get_or, if◌then◌else◌, inl, inr, is_none, length, lt-ltb, ltb-false, ltb-true, nat_lt, ne_eqb, not, option_map, refl}
-pub use Rattle.std.proofs.Common.{set, slice_get, slice_index, subst, subst₂, suc, sym, take, true, true≢false, zero, ℕ, ◌&&◌, ◌++◌, ◌+◌, ◌<◌, ◌==◌, ◌||◌, ◌↔◌}
+pub use Rattle.std.proofs.Common.{set, slice_get, slice_index, subst, suc, sym, take, true, true≢false, zero, ℕ, ◌&&◌, ◌++◌, ◌+◌, ◌<◌, ◌==◌, ◌||◌, ◌↔◌}
 pub use Rattle.std.proofs.Common.{◌∙◌, ◌∷◌, ◌≡◌, ◌≢◌, ◌≤◌, ◌⊎◌}
 pub use Rattle.std.proofs.Math.Logic.{∥∥₁_elim, ∥∥₁_map}
 pub use Rattle.std.proofs.Math.Seq.{take-append_seam}
@@ -15,7 +15,7 @@ pub use Rattle.std.specs.List.Sorted.{IsStrictlyIncreasing}
 pub use Rattle.arcstr_count.specs.Answer.{Need, needs, refusal_by, refusal_unless}
 pub use Rattle.arcstr_count.specs.Model.{State, accepted, after, after_from, answer_after, block_on, dropping_after, given_after, given_in, handles_on}
 pub use Rattle.arcstr_count.specs.Model.{handles_with_state, is_dropping, is_owing, lives, living_after, look_reply, makes_after, marked_after, no_block}
-pub use Rattle.arcstr_count.specs.Model.{no_handle, numbers_below, owing_after, refusal_in, replies_from, start, state_in, state_of_tables, state_on, step}
+pub use Rattle.arcstr_count.specs.Model.{no_handle, numbers_below, owing_after, refusal_in, replies_from, start, state_in, state_on, step}
 pub use Rattle.arcstr_count.specs.Model.{unless_refused, word_in, word_on}
 pub use Rattle.arcstr_count.specs.Word.{cloned_of, is_last, looked_of}
 pub use Rattle.arcstr_count.specs.declared.faults.StepFault.{StepFault}

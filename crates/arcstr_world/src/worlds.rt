@@ -4,7 +4,7 @@ ghost use Rattle.std.specs.Prelude.{◌≡◌, ◌<◌, ◌≤◌, ◌↔◌, �
 ghost use Rattle.std.specs.Prelude.{IsTrue, IfOk, IfErr, OnErr, IsOk, IsNone, IsSome, None, slice_get, slice_index_or, vec_len, vec_capacity};
 ghost use Rattle.arcstr_count.specs.declared.steps.Step.{Step};
 ghost use Rattle.arcstr_count.specs.Model.{State, step, after, start, refusal_in, state_in};
-ghost use Rattle.arcstr_count.specs.Model.{blocks_with_word, given_in, no_block, state_of_tables, word_in};
+ghost use Rattle.arcstr_count.specs.Model.{block_on, blocks_with_word, given_in, no_block, state_of_tables, word_in};
 ghost use Rattle.arcstr_world.specs.Worlds.{WorldView, is_birth, HasHistory, IsSound};
 ghost use Rattle.arcstr_count.specs.Answer.{refusal_unless};
 ghost use Rattle.arcstr_count.specs.declared.words.TheConstants.{RC_MAX};
@@ -188,11 +188,16 @@ impl<A: Allocator> Tables<A> {
 
     /// Returns the block of a handle in the needed state, or why a step that needs this state is
     /// refused.
+    #[tactic(auto, using(std::proofs::lemmas::Option::slice_get_within, std::proofs::lemmas::Option::get_or_from_slice_get))]
     fn block_of(&self, needed: HandleState, handle: u64) -> Result<u64, StepFault>
+        requires { IsSound self.now }
         ensures refused { IfErr result
             (λ fault. refusal_unless needed (state_in self.now handle) ≡ Some fault) }
         ensures found { IfOk result (λ block. slice_get self.now.handles handle
             ≡ Some (record { block = block; state = needed })) }
+        ensures block { IfOk result (λ block. block_on self.now handle ≡ block) }
+        ensures born { IfOk result (λ _. handle < length self.now.handles) }
+        ensures made { IfOk result (λ block. block < length self.now.blocks) }
     {
         match entry_at(&self.handles, handle) {
             None => Err(StepFault::NoHandle),
@@ -241,7 +246,6 @@ impl<A: Allocator> Tables<A> {
         Ok(Reply::Made(handle))
     }
 
-    #[tactic(auto, using(std::proofs::lemmas::Option::slice_get_within, std::proofs::lemmas::Option::get_or_from_slice_get))]
     fn clone(&mut self, limit: u64, handle: u64) -> Result<Reply, RunFault>
         requires sound { IsSound self.old }
         requires limited { limit ≤ RC_MAX }
@@ -261,7 +265,6 @@ impl<A: Allocator> Tables<A> {
         Ok(Reply::Handle(push_handle(&mut self.handles, block)))
     }
 
-    #[tactic(auto, using(std::proofs::lemmas::Option::slice_get_within, std::proofs::lemmas::Option::get_or_from_slice_get))]
     fn look(&self, handle: u64) -> Reply
         requires { IsSound self.now }
         ensures { step 0 self.now (Step.Look handle) ≡ (self.now, result) }
@@ -276,7 +279,6 @@ impl<A: Allocator> Tables<A> {
         }
     }
 
-    #[tactic(auto, using(std::proofs::lemmas::Option::slice_get_within, std::proofs::lemmas::Option::get_or_from_slice_get))]
     fn begin(&mut self, handle: u64) -> Reply
         requires { IsSound self.old }
         ensures { step 0 self.old (Step.Begin handle) ≡ (self.new, result) }
@@ -290,7 +292,6 @@ impl<A: Allocator> Tables<A> {
         reply
     }
 
-    #[tactic(auto, using(std::proofs::lemmas::Option::slice_get_within, std::proofs::lemmas::Option::get_or_from_slice_get))]
     fn sub(&mut self, handle: u64) -> Reply
         requires { IsSound self.old }
         ensures { step 0 self.old (Step.Sub handle) ≡ (self.new, result) }
@@ -306,7 +307,6 @@ impl<A: Allocator> Tables<A> {
         reply
     }
 
-    #[tactic(auto, using(std::proofs::lemmas::Option::slice_get_within, std::proofs::lemmas::Option::get_or_from_slice_get))]
     fn back(&mut self, handle: u64) -> Reply
         requires { IsSound self.old }
         ensures { step 0 self.old (Step.Back handle) ≡ (self.new, result) }
@@ -320,7 +320,6 @@ impl<A: Allocator> Tables<A> {
         Reply::Given
     }
 
-    #[tactic(auto, using(std::proofs::lemmas::Option::slice_get_within, std::proofs::lemmas::Option::get_or_from_slice_get))]
     fn leak(&mut self, handle: u64) -> Reply
         requires { IsSound self.old }
         ensures { step 0 self.old (Step.Leak handle) ≡ (self.new, result) }
@@ -333,7 +332,6 @@ impl<A: Allocator> Tables<A> {
         Reply::Marked
     }
 
-    #[tactic(auto, using(std::proofs::lemmas::Option::slice_get_within, std::proofs::lemmas::Option::get_or_from_slice_get))]
     fn into_raw(&mut self, handle: u64) -> Reply
         requires { IsSound self.old }
         ensures { step 0 self.old (Step.IntoRaw handle) ≡ (self.new, result) }
@@ -346,7 +344,6 @@ impl<A: Allocator> Tables<A> {
         Reply::Raw
     }
 
-    #[tactic(auto, using(std::proofs::lemmas::Option::slice_get_within, std::proofs::lemmas::Option::get_or_from_slice_get))]
     fn from_raw(&mut self, handle: u64) -> Reply
         requires { IsSound self.old }
         ensures { step 0 self.old (Step.FromRaw handle) ≡ (self.new, result) }
