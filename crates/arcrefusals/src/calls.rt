@@ -22,16 +22,16 @@ pub(crate) trait Machine: AllocGlobal + Files + Print + Eprint + Threads + Wait 
 impl<R: AllocGlobal + Files + Print + Eprint + Threads + Wait + Sync> Machine for R {}
 
 /// What calls work on.
-pub(crate) trait Given: Drop {
-    fn prepare<R: Machine>(rt: &R) -> Result<Self, Stop>;
+pub(crate) trait Input: Drop {
+    fn prepare<R: Machine>(rt: &R) -> Result<Self, Failure>;
 
     /// Whether it is as it was prepared, after a refusal and once what was made is dropped.
     fn is_unchanged(&self) -> bool;
 }
 
 /// For calls that need nothing.
-impl Given for () {
-    fn prepare<R: Machine>(_rt: &R) -> Result<(), Stop> {
+impl Input for () {
+    fn prepare<R: Machine>(_rt: &R) -> Result<(), Failure> {
         Ok(())
     }
 
@@ -41,7 +41,7 @@ impl Given for () {
 }
 
 /// What a call makes.
-pub(crate) trait Made: Drop {
+pub(crate) trait Output: Drop {
     /// Whether it is this text, and its block has this many handles.
     fn is(&self, wanted: &str, handles: usize) -> bool;
 }
@@ -57,7 +57,7 @@ macro_rules! rows {
         $crate::calls::retry($rt, $printed, $line, $wanted, $handles, $call)
     };
     (@row $rt:expr, $printed:expr, $line:expr, $call:expr) => {
-        $crate::calls::retry_whole($rt, $printed, $line, $call)
+        $crate::calls::retry_self_checking($rt, $printed, $line, $call)
     };
     ($rt:expr; $($($line:literal)+: $call:expr $(=> $wanted:expr, $handles:expr)?;)+) => {{
         let mut printed: std::io::Result<()> = Ok(());
@@ -70,9 +70,9 @@ pub(crate) use rows;
 
 /// Makes a call until it is not refused, compares and drops what it made, and prints its line.
 pub(crate) fn retry<
-    G: Given,
-    T: Made,
-    E: Into<Stop>,
+    G: Input,
+    T: Output,
+    E: Into<Failure>,
     R: Machine,
     F: Copy + FnOnce(&mut G) -> Result<T, E>,
 >(rt: &R, printed: &mut io::Result<()>, line: &str, wanted: &str, handles: usize, call: F)
@@ -80,15 +80,15 @@ pub(crate) fn retry<
 {
     for _ in 0..TRIES {
         match prepare_and_call(rt, wanted, handles, call) {
-            Err(Stop::Refused) => {}
+            Err(Failure::Refused) => {}
             ended => return print(rt, printed, line, ended),
         }
     }
-    print(rt, printed, line, Err(Stop::Refused));
+    print(rt, printed, line, Err(Failure::Refused));
 }
 
 /// As `retry`, for a call that prepares, marks and compares itself.
-pub(crate) fn retry_whole<R: Machine, F: Copy + FnOnce() -> Result<(), Stop>>(
+pub(crate) fn retry_self_checking<R: Machine, F: Copy + FnOnce() -> Result<(), Failure>>(
     rt: &R,
     printed: &mut io::Result<()>,
     line: &str,
@@ -98,38 +98,38 @@ pub(crate) fn retry_whole<R: Machine, F: Copy + FnOnce() -> Result<(), Stop>>(
 {
     for _ in 0..TRIES {
         match call() {
-            Err(Stop::Refused) => {}
+            Err(Failure::Refused) => {}
             ended => return print(rt, printed, line, ended),
         }
     }
-    print(rt, printed, line, Err(Stop::Refused));
+    print(rt, printed, line, Err(Failure::Refused));
 }
 
 /// Prints the line of a call, and keeps the first failure to print.
-fn print<R: Machine>(rt: &R, printed: &mut io::Result<()>, line: &str, ended: Result<(), Stop>) {
+fn print<R: Machine>(rt: &R, printed: &mut io::Result<()>, line: &str, ended: Result<(), Failure>) {
     let now = print_line(rt, line, ended);
     if printed.is_ok() {
         *printed = now;
     }
 }
 
-fn print_line<R: Machine>(rt: &R, line: &str, ended: Result<(), Stop>) -> io::Result<()> {
-    let stop = match ended {
+fn print_line<R: Machine>(rt: &R, line: &str, ended: Result<(), Failure>) -> io::Result<()> {
+    let failure = match ended {
         Ok(()) => return eprintln!(rt; "{line}"),
-        Err(Stop::Refused) => "refused each time",
-        Err(Stop::Fault) => "a fault",
-        Err(Stop::Differs) => "what it made, or what it was given",
+        Err(Failure::Refused) => "refused each time",
+        Err(Failure::Fault) => "a fault",
+        Err(Failure::Differs) => "what it made, or what it was given",
     };
-    println!(rt; "{line}: not so: {stop}")
+    println!(rt; "{line}: not so: {failure}")
 }
 
 fn prepare_and_call<
-    G: Given,
-    T: Made,
-    E: Into<Stop>,
+    G: Input,
+    T: Output,
+    E: Into<Failure>,
     R: Machine,
     F: Copy + FnOnce(&mut G) -> Result<T, E>,
->(rt: &R, wanted: &str, handles: usize, call: F) -> Result<(), Stop>
+>(rt: &R, wanted: &str, handles: usize, call: F) -> Result<(), Failure>
     requires { F.IsAlwaysCallable call }
 {
     let mut given = G::prepare(rt)?;
@@ -143,20 +143,20 @@ fn prepare_and_call<
         };
         check(given.is_unchanged())?;
         match ended {
-            Err(Stop::Refused) => {}
+            Err(Failure::Refused) => {}
             ended => return ended,
         }
     }
-    Err(Stop::Refused)
+    Err(Failure::Refused)
 }
 
 /// Compares what a call made, and drops it as a counted part of its own.
-fn compare_and_drop<T: Made, R: Print>(
+fn compare_and_drop<T: Output, R: Print>(
     rt: &R,
     made: T,
     wanted: &str,
     handles: usize,
-) -> Result<(), Stop> {
+) -> Result<(), Failure> {
     let is_right = made.is(wanted, handles);
     mark(rt);
     drop(made);
@@ -173,7 +173,7 @@ pub(crate) fn mark<R: Print>(rt: &R) {
 
 /// Why a call was not completed and compared.
 #[derive(Clone, Copy)]
-pub(crate) enum Stop {
+pub(crate) enum Failure {
     /// It ran out of memory and reported that.
     Refused,
     /// It reported another fault.
@@ -182,14 +182,18 @@ pub(crate) enum Stop {
     Differs,
 }
 
-/// Stops if something is not as it should be.
-pub(crate) fn check(is_so: bool) -> Result<(), Stop> {
-    if is_so { Ok(()) } else { Err(Stop::Differs) }
+/// Fails with `Differs` if something is not as it should be.
+pub(crate) fn check(is_so: bool) -> Result<(), Failure> {
+    if is_so { Ok(()) } else { Err(Failure::Differs) }
 }
 
-/// Why a call stopped that reported a fault.
-fn of_fault(memory: bool) -> Stop {
-    if memory { Stop::Refused } else { Stop::Fault }
+/// Why a call that reported a fault was not completed.
+fn of_fault(memory: bool) -> Failure {
+    if memory {
+        Failure::Refused
+    } else {
+        Failure::Fault
+    }
 }
 
 /// Whether a text is this one, and its block has this many handles.
@@ -202,63 +206,63 @@ pub(crate) fn count(text: &ArcStr) -> usize {
     ArcStr::strong_count(text).unwrap_or(0)
 }
 
-impl From<AllocError> for Stop {
-    fn from(_: AllocError) -> Stop {
-        Stop::Refused
+impl From<AllocError> for Failure {
+    fn from(_: AllocError) -> Failure {
+        Failure::Refused
     }
 }
 
-impl From<TextFault> for Stop {
-    fn from(fault: TextFault) -> Stop {
+impl From<TextFault> for Failure {
+    fn from(fault: TextFault) -> Failure {
         of_fault(fault == TextFault::Memory)
     }
 }
 
-impl From<RangeFault> for Stop {
-    fn from(_: RangeFault) -> Stop {
-        Stop::Fault
+impl From<RangeFault> for Failure {
+    fn from(_: RangeFault) -> Failure {
+        Failure::Fault
     }
 }
 
-impl From<ReadFault> for Stop {
-    fn from(fault: ReadFault) -> Stop {
+impl From<ReadFault> for Failure {
+    fn from(fault: ReadFault) -> Failure {
         of_fault(matches!(fault, ReadFault::Text(TextFault::Memory)))
     }
 }
 
-impl From<JsonFault> for Stop {
-    fn from(fault: JsonFault) -> Stop {
+impl From<JsonFault> for Failure {
+    fn from(fault: JsonFault) -> Failure {
         of_fault(fault == JsonFault::Memory)
     }
 }
 
-impl From<serde_json::Error> for Stop {
-    fn from(fault: serde_json::Error) -> Stop {
+impl From<serde_json::Error> for Failure {
+    fn from(fault: serde_json::Error) -> Failure {
         of_fault(fault.is_memory())
     }
 }
 
-impl From<InternFault> for Stop {
-    fn from(fault: InternFault) -> Stop {
+impl From<InternFault> for Failure {
+    fn from(fault: InternFault) -> Failure {
         of_fault(fault == InternFault::Memory)
     }
 }
 
-impl From<RunFault> for Stop {
-    fn from(fault: RunFault) -> Stop {
+impl From<RunFault> for Failure {
+    fn from(fault: RunFault) -> Failure {
         of_fault(fault == RunFault::Memory)
     }
 }
 
-impl From<CopyFault> for Stop {
-    fn from(fault: CopyFault) -> Stop {
+impl From<CopyFault> for Failure {
+    fn from(fault: CopyFault) -> Failure {
         of_fault(fault == CopyFault::Memory)
     }
 }
 
-impl From<PoolFault> for Stop {
+impl From<PoolFault> for Failure {
     /// A thread that could not be started is a refusal too: its start takes memory.
-    fn from(_: PoolFault) -> Stop {
-        Stop::Refused
+    fn from(_: PoolFault) -> Failure {
+        Failure::Refused
     }
 }

@@ -1,6 +1,6 @@
 //! Calls that copy a shared text or a JSON value. A refusal leaves what they copy unchanged, and
 //! they then copy it again.
-use crate::calls::{Given, Machine, Made, Stop, check, is_text, rows};
+use crate::calls::{Failure, Input, Machine, Output, check, is_text, rows};
 use arcstr::{ArcStr, Substr};
 use serde_json::{ToValue, Value};
 use std::borrow::CowStr;
@@ -67,8 +67,8 @@ fn copy_values<R: Machine>(rt: &R) -> io::Result<()> {
     }
 }
 
-impl Given for ArcStr {
-    fn prepare<R: Machine>(rt: &R) -> Result<ArcStr, Stop> {
+impl Input for ArcStr {
+    fn prepare<R: Machine>(rt: &R) -> Result<ArcStr, Failure> {
         Ok(ArcStr::from_str(rt.alloc(), "foobar")?)
     }
 
@@ -78,8 +78,8 @@ impl Given for ArcStr {
 }
 
 /// The slice `bar` of a text `foobar`.
-impl Given for Substr {
-    fn prepare<R: Machine>(rt: &R) -> Result<Substr, Stop> {
+impl Input for Substr {
+    fn prepare<R: Machine>(rt: &R) -> Result<Substr, Failure> {
         let parent = ArcStr::from_str(rt.alloc(), "foobar")?;
         Ok(Substr::from_parts_unchecked(parent, 3..6))
     }
@@ -89,8 +89,8 @@ impl Given for Substr {
     }
 }
 
-impl Given for Value {
-    fn prepare<R: Machine>(rt: &R) -> Result<Value, Stop> {
+impl Input for Value {
+    fn prepare<R: Machine>(rt: &R) -> Result<Value, Failure> {
         Ok(Value::try_from_str(rt.alloc(), "foobar")?)
     }
 
@@ -99,19 +99,19 @@ impl Given for Value {
     }
 }
 
-impl Made for String {
+impl Output for String {
     fn is(&self, wanted: &str, _handles: usize) -> bool {
         self.as_str() == wanted
     }
 }
 
-impl Made for Value {
+impl Output for Value {
     fn is(&self, wanted: &str, _handles: usize) -> bool {
         self.as_str() == Some(wanted)
     }
 }
 
-impl Made for toml::Value {
+impl Output for toml::Value {
     fn is(&self, wanted: &str, _handles: usize) -> bool {
         self.as_str() == Some(wanted)
     }
@@ -121,33 +121,33 @@ fn two_texts<R: Machine>(rt: &R, text: &ArcStr) -> [ArcStr; 2] {
     [text.clone(rt), text.clone(rt)]
 }
 
-fn string_of_text<R: Machine>(rt: &R, text: &ArcStr) -> Result<String, Stop> {
+fn string_of_text<R: Machine>(rt: &R, text: &ArcStr) -> Result<String, Failure> {
     match text.clone(rt).into_cow(rt.alloc()) {
         Ok(CowStr::Owned(copy)) => Ok(copy),
-        Ok(CowStr::Borrowed(_)) => Err(Stop::Differs),
+        Ok(CowStr::Borrowed(_)) => Err(Failure::Differs),
         Err(back) => refused_if(is_text(&back, "foobar", 2)),
     }
 }
 
-fn string_of_slice<R: Machine>(rt: &R, slice: &Substr) -> Result<String, Stop> {
+fn string_of_slice<R: Machine>(rt: &R, slice: &Substr) -> Result<String, Failure> {
     match slice.clone(rt).into_cow(rt.alloc()) {
         Ok(CowStr::Owned(copy)) => Ok(copy),
-        Ok(CowStr::Borrowed(_)) => Err(Stop::Differs),
+        Ok(CowStr::Borrowed(_)) => Err(Failure::Differs),
         Err(back) => refused_if(back.is("bar", 2)),
     }
 }
 
 /// A copy was refused, and the handle that was returned is as it was.
-fn refused_if(is_unchanged: bool) -> Result<String, Stop> {
+fn refused_if(is_unchanged: bool) -> Result<String, Failure> {
     check(is_unchanged)?;
-    Err(Stop::Refused)
+    Err(Failure::Refused)
 }
 
 fn two_slices<R: Machine>(rt: &R, slice: &Substr) -> [Substr; 2] {
     [slice.clone(rt), slice.clone(rt)]
 }
 
-fn extended_string<R: Machine>(rt: &R, slice: &Substr) -> Result<String, Stop> {
+fn extended_string<R: Machine>(rt: &R, slice: &Substr) -> Result<String, Failure> {
     let mut all = String::new(rt.alloc());
     all.extend(two_slices(rt, slice))?;
     Ok(all)

@@ -1,5 +1,5 @@
 //! Calls on histories of steps, and on scripts of them.
-use crate::calls::{Machine, Made, Stop, TRIES, check, mark, rows};
+use crate::calls::{Failure, Machine, Output, TRIES, check, mark, rows};
 use arcbench_core::port::Port;
 use arcbench_core::script::{answer, copy};
 use arcstr::count::{Reply, Step};
@@ -63,20 +63,20 @@ pub(crate) fn run<R: Machine>(rt: &R) -> io::Result<()> {
     }
 }
 
-impl Made for Vec<Reply> {
+impl Output for Vec<Reply> {
     fn is(&self, _wanted: &str, _handles: usize) -> bool {
         self.as_slice() == REPLIES.as_slice()
     }
 }
 
-impl Made for Vec<u8> {
+impl Output for Vec<u8> {
     fn is(&self, wanted: &str, _handles: usize) -> bool {
         self.as_slice() == wanted.as_bytes()
     }
 }
 
 /// Takes each step, and repeats it while it is refused.
-fn steps_of_a_world<R: AllocGlobal + Print>(rt: &R) -> Result<(), Stop> {
+fn steps_of_a_world<R: AllocGlobal + Print>(rt: &R) -> Result<(), Failure> {
     let mut world = World::new(rt.alloc(), LIMIT)?;
     let ended = take_steps(rt, &mut world);
     mark(rt);
@@ -85,7 +85,7 @@ fn steps_of_a_world<R: AllocGlobal + Print>(rt: &R) -> Result<(), Stop> {
     ended
 }
 
-fn take_steps<R: Print>(rt: &R, world: &mut World<Global>) -> Result<(), Stop> {
+fn take_steps<R: Print>(rt: &R, world: &mut World<Global>) -> Result<(), Failure> {
     for (step, wanted) in STEPS.iter().zip(REPLIES) {
         check(reply_to(rt, world, *step)? == wanted)?;
     }
@@ -93,7 +93,7 @@ fn take_steps<R: Print>(rt: &R, world: &mut World<Global>) -> Result<(), Stop> {
 }
 
 /// The reply to a step. After each refusal the world shows the same as before.
-fn reply_to<R: Print>(rt: &R, world: &mut World<Global>, step: Step) -> Result<Reply, Stop> {
+fn reply_to<R: Print>(rt: &R, world: &mut World<Global>, step: Step) -> Result<Reply, Failure> {
     let before = shown(world)?;
     for _ in 0..TRIES {
         mark(rt);
@@ -104,12 +104,12 @@ fn reply_to<R: Print>(rt: &R, world: &mut World<Global>, step: Step) -> Result<R
         }
         check(shown(world)? == before)?;
     }
-    Err(Stop::Refused)
+    Err(Failure::Refused)
 }
 
 /// The replies to a look through each handle that is made, which change nothing, and how often each
 /// block that is made was freed.
-fn shown(world: &mut World<Global>) -> Result<([Reply; 9], [u64; 6]), Stop> {
+fn shown(world: &mut World<Global>) -> Result<([Reply; 9], [u64; 6]), Failure> {
     let (mut counts, mut given) = ([Reply::Left; 9], [0; 6]);
     for (handle, count) in (0..9).zip(counts.iter_mut()) {
         *count = world.step(Step::Look(handle))?;
@@ -122,7 +122,7 @@ fn shown(world: &mut World<Global>) -> Result<([Reply; 9], [u64; 6]), Stop> {
 
 /// Calls `copy` with a buffer of the answer's length as output. Nothing is written there if the
 /// call is refused.
-fn copy_of_a_script<R: AllocGlobal + Print>(rt: &R) -> Result<(), Stop> {
+fn copy_of_a_script<R: AllocGlobal + Print>(rt: &R) -> Result<(), Failure> {
     let mut room = [0; 28];
     let mut input = Port::new(SCRIPT);
     let mut output = Port::new(room.as_mut_slice());

@@ -1,6 +1,6 @@
 //! Calls of an interner, with and without texts. A refusal leaves its texts as they were, and the
 //! same call then succeeds.
-use crate::calls::{Given, Machine, Made, Stop, check, count, is_text, rows};
+use crate::calls::{Failure, Input, Machine, Output, check, count, is_text, rows};
 use arcintern::{Interner, SharedInterner, SharedSymbol, Symbol, SymbolMap, WordList};
 use arcstr::ArcStr;
 use std::alloc::{AllocError, Global};
@@ -97,7 +97,7 @@ fn fill_shared<R: Machine>(rt: &R) -> io::Result<()> {
 }
 
 /// An interner whose last text is this one, or which has none if the text is empty.
-impl Made for Interner {
+impl Output for Interner {
     fn is(&self, wanted: &str, handles: usize) -> bool {
         match self.iter().last() {
             None => wanted.is_empty(),
@@ -114,7 +114,7 @@ struct Room {
 }
 
 /// The texts `0` to `99`.
-fn hundred_texts(alloc: Global) -> Result<Vec<ArcStr>, Stop> {
+fn hundred_texts(alloc: Global) -> Result<Vec<ArcStr>, Failure> {
     let mut texts = Vec::with_capacity(alloc, 100)?;
     for number in 0..100 {
         let text = ArcStr::from_str(alloc, &format!(in alloc; "{number}")?)?;
@@ -123,8 +123,8 @@ fn hundred_texts(alloc: Global) -> Result<Vec<ArcStr>, Stop> {
     Ok(texts)
 }
 
-impl Given for Room {
-    fn prepare<R: Machine>(rt: &R) -> Result<Room, Stop> {
+impl Input for Room {
+    fn prepare<R: Machine>(rt: &R) -> Result<Room, Failure> {
         let texts = hundred_texts(rt.alloc())?;
         let interner = Interner::with_capacity(rt.alloc(), 100)?;
         Ok(Room { texts, interner })
@@ -135,7 +135,7 @@ impl Given for Room {
     }
 }
 
-fn intern_all<R: Machine>(rt: &R, room: &mut Room) -> Result<Interner, Stop> {
+fn intern_all<R: Machine>(rt: &R, room: &mut Room) -> Result<Interner, Failure> {
     for text in &room.texts {
         room.interner.intern_arc(rt, text)?;
     }
@@ -146,8 +146,8 @@ fn intern_all<R: Machine>(rt: &R, room: &mut Room) -> Result<Interner, Stop> {
 #[derive(Drop)]
 struct Words<const TEXTS: usize>(Option<Interner>);
 
-impl<const TEXTS: usize> Given for Words<TEXTS> {
-    fn prepare<R: Machine>(rt: &R) -> Result<Words<TEXTS>, Stop> {
+impl<const TEXTS: usize> Input for Words<TEXTS> {
+    fn prepare<R: Machine>(rt: &R) -> Result<Words<TEXTS>, Failure> {
         let mut interner = Interner::new(rt.alloc());
         for number in 0..TEXTS {
             interner.intern(&format!(in rt.alloc(); "{number}")?)?;
@@ -163,12 +163,12 @@ impl<const TEXTS: usize> Given for Words<TEXTS> {
     }
 }
 
-fn intern<const TEXTS: usize>(words: &mut Words<TEXTS>) -> Result<Interner, Stop> {
+fn intern<const TEXTS: usize>(words: &mut Words<TEXTS>) -> Result<Interner, Failure> {
     if let Some(interner) = words.0.as_mut() {
         let symbol = interner.intern("foobar")?;
         check(symbol.index() == TEXTS && interner.get("foobar") == Some(symbol))?;
     }
-    words.0.take().ok_or(Stop::Differs)
+    words.0.take().ok_or(Failure::Differs)
 }
 
 /// A text `foobar`, and an interner.
@@ -178,8 +178,8 @@ struct Handles {
     interner: Interner,
 }
 
-impl Given for Handles {
-    fn prepare<R: Machine>(rt: &R) -> Result<Handles, Stop> {
+impl Input for Handles {
+    fn prepare<R: Machine>(rt: &R) -> Result<Handles, Failure> {
         let text = ArcStr::from_str(rt.alloc(), "foobar")?;
         let interner = Interner::new(rt.alloc());
         Ok(Handles { text, interner })
@@ -190,14 +190,14 @@ impl Given for Handles {
     }
 }
 
-fn intern_text<R: Machine>(rt: &R, given: &mut Handles) -> Result<Interner, Stop> {
+fn intern_text<R: Machine>(rt: &R, given: &mut Handles) -> Result<Interner, Failure> {
     let symbol = given.interner.intern_arc(rt, &given.text)?;
     check(given.interner.get("foobar") == Some(symbol))?;
     Ok(mem::replace(&mut given.interner, Interner::new(rt.alloc())))
 }
 
 /// A list whose last text is this one.
-impl Made for WordList {
+impl Output for WordList {
     fn is(&self, wanted: &str, _handles: usize) -> bool {
         match self.symbol_at(self.len().saturating_sub(1)) {
             None => wanted.is_empty(),
@@ -213,8 +213,8 @@ const DIGITS: &str = "01234567890123456789012345678901234567890123456789";
 #[derive(Drop)]
 struct ListRoom(WordList);
 
-impl Given for ListRoom {
-    fn prepare<R: Machine>(rt: &R) -> Result<ListRoom, Stop> {
+impl Input for ListRoom {
+    fn prepare<R: Machine>(rt: &R) -> Result<ListRoom, Failure> {
         Ok(ListRoom(WordList::with_capacity(rt.alloc(), 50, 1275)?))
     }
 
@@ -223,9 +223,9 @@ impl Given for ListRoom {
     }
 }
 
-fn list_all<R: Machine>(rt: &R, room: &mut ListRoom) -> Result<WordList, Stop> {
+fn list_all<R: Machine>(rt: &R, room: &mut ListRoom) -> Result<WordList, Failure> {
     for end in 1..51 {
-        room.0.intern(DIGITS.get(..end).ok_or(Stop::Differs)?)?;
+        room.0.intern(DIGITS.get(..end).ok_or(Failure::Differs)?)?;
     }
     Ok(mem::replace(&mut room.0, WordList::new(rt.alloc())))
 }
@@ -234,8 +234,8 @@ fn list_all<R: Machine>(rt: &R, room: &mut ListRoom) -> Result<WordList, Stop> {
 #[derive(Drop)]
 struct Listed<const TEXTS: usize>(Option<WordList>);
 
-impl<const TEXTS: usize> Given for Listed<TEXTS> {
-    fn prepare<R: Machine>(rt: &R) -> Result<Listed<TEXTS>, Stop> {
+impl<const TEXTS: usize> Input for Listed<TEXTS> {
+    fn prepare<R: Machine>(rt: &R) -> Result<Listed<TEXTS>, Failure> {
         let mut words = WordList::new(rt.alloc());
         for number in 0..TEXTS {
             words.intern(&format!(in rt.alloc(); "{number}")?)?;
@@ -251,12 +251,12 @@ impl<const TEXTS: usize> Given for Listed<TEXTS> {
     }
 }
 
-fn list<const TEXTS: usize>(words: &mut Listed<TEXTS>) -> Result<WordList, Stop> {
+fn list<const TEXTS: usize>(words: &mut Listed<TEXTS>) -> Result<WordList, Failure> {
     if let Some(words) = words.0.as_mut() {
         let symbol = words.intern("foobar")?;
         check(symbol.index() == TEXTS && words.get("foobar") == Some(symbol))?;
     }
-    words.0.take().ok_or(Stop::Differs)
+    words.0.take().ok_or(Failure::Differs)
 }
 
 /// Two symbols, and a map with a value for the first.
@@ -267,8 +267,8 @@ struct Mapped {
     map: SymbolMap<u64>,
 }
 
-impl Given for Mapped {
-    fn prepare<R: Machine>(rt: &R) -> Result<Mapped, Stop> {
+impl Input for Mapped {
+    fn prepare<R: Machine>(rt: &R) -> Result<Mapped, Failure> {
         let mut words = WordList::new(rt.alloc());
         let first = words.intern("foo")?;
         let mut last = first;
@@ -286,7 +286,7 @@ impl Given for Mapped {
     }
 }
 
-impl Made for SymbolMap<u64> {
+impl Output for SymbolMap<u64> {
     fn is(&self, _wanted: &str, _handles: usize) -> bool {
         let mut wanted: u64 = 1;
         for (_, value) in self.iter() {
@@ -299,13 +299,13 @@ impl Made for SymbolMap<u64> {
     }
 }
 
-fn insert<R: Machine>(rt: &R, given: &mut Mapped) -> Result<SymbolMap<u64>, Stop> {
+fn insert<R: Machine>(rt: &R, given: &mut Mapped) -> Result<SymbolMap<u64>, Failure> {
     let before = given.map.insert(given.last, 2).map_err(AllocError::from)?;
     check(before.is_none())?;
     Ok(mem::replace(&mut given.map, SymbolMap::new(rt.alloc())))
 }
 
-fn or_insert<R: Machine>(rt: &R, given: &mut Mapped) -> Result<SymbolMap<u64>, Stop> {
+fn or_insert<R: Machine>(rt: &R, given: &mut Mapped) -> Result<SymbolMap<u64>, Failure> {
     let value = given
         .map
         .or_insert(given.last, 2)
@@ -315,7 +315,7 @@ fn or_insert<R: Machine>(rt: &R, given: &mut Mapped) -> Result<SymbolMap<u64>, S
 }
 
 /// An interner of this many texts, which the calls compare.
-impl Made for SharedInterner {
+impl Output for SharedInterner {
     fn is(&self, _wanted: &str, texts: usize) -> bool {
         self.len() == texts
     }
@@ -328,8 +328,8 @@ struct SharedRoom {
     interner: Option<SharedInterner>,
 }
 
-impl Given for SharedRoom {
-    fn prepare<R: Machine>(rt: &R) -> Result<SharedRoom, Stop> {
+impl Input for SharedRoom {
+    fn prepare<R: Machine>(rt: &R) -> Result<SharedRoom, Failure> {
         let texts = hundred_texts(rt.alloc())?;
         let interner = Some(SharedInterner::with_capacity(rt.alloc(), 1, 100)?);
         Ok(SharedRoom { texts, interner })
@@ -340,8 +340,8 @@ impl Given for SharedRoom {
     }
 }
 
-fn share_all<R: Machine>(rt: &R, room: &mut SharedRoom) -> Result<SharedInterner, Stop> {
-    let interner = room.interner.take().ok_or(Stop::Differs)?;
+fn share_all<R: Machine>(rt: &R, room: &mut SharedRoom) -> Result<SharedInterner, Failure> {
+    let interner = room.interner.take().ok_or(Failure::Differs)?;
     for text in &room.texts {
         interner.intern_arc(rt, text)?;
     }
@@ -352,8 +352,8 @@ fn share_all<R: Machine>(rt: &R, room: &mut SharedRoom) -> Result<SharedInterner
 #[derive(Drop)]
 struct SharedWords<const TEXTS: usize>(Option<SharedInterner>);
 
-impl<const TEXTS: usize> Given for SharedWords<TEXTS> {
-    fn prepare<R: Machine>(rt: &R) -> Result<SharedWords<TEXTS>, Stop> {
+impl<const TEXTS: usize> Input for SharedWords<TEXTS> {
+    fn prepare<R: Machine>(rt: &R) -> Result<SharedWords<TEXTS>, Failure> {
         let interner = SharedInterner::new(rt.alloc(), 1)?;
         for number in 0..TEXTS {
             interner.intern(rt, &format!(in rt.alloc(); "{number}")?)?;
@@ -372,31 +372,34 @@ impl<const TEXTS: usize> Given for SharedWords<TEXTS> {
 fn share<const TEXTS: usize, R: Machine>(
     rt: &R,
     words: &mut SharedWords<TEXTS>,
-) -> Result<SharedInterner, Stop> {
+) -> Result<SharedInterner, Failure> {
     if let Some(interner) = words.0.as_ref() {
         let symbol = interner.intern(rt, "foobar")?;
         check(symbol.number().index() == TEXTS && is_found(rt, interner, &symbol, 1))?;
     }
-    words.0.take().ok_or(Stop::Differs)
+    words.0.take().ok_or(Failure::Differs)
 }
 
 fn share_literal<R: Machine>(
     rt: &R,
     words: &mut SharedWords<FULL>,
-) -> Result<SharedInterner, Stop> {
+) -> Result<SharedInterner, Failure> {
     if let Some(interner) = words.0.as_ref() {
         let symbol = interner.intern_static(rt, "foobar")?;
         check(symbol.number().index() == FULL && is_found(rt, interner, &symbol, 0))?;
     }
-    words.0.take().ok_or(Stop::Differs)
+    words.0.take().ok_or(Failure::Differs)
 }
 
 /// Interns a word that is there.
-fn share_known<R: Machine>(rt: &R, words: &mut SharedWords<FULL>) -> Result<SharedInterner, Stop> {
+fn share_known<R: Machine>(
+    rt: &R,
+    words: &mut SharedWords<FULL>,
+) -> Result<SharedInterner, Failure> {
     if let Some(interner) = words.0.as_ref() {
         check(interner.intern(rt, "0")?.number().index() == 0)?;
     }
-    words.0.take().ok_or(Stop::Differs)
+    words.0.take().ok_or(Failure::Differs)
 }
 
 /// Whether the symbol is that of the text `foobar`, whose block has this many handles.
@@ -415,13 +418,13 @@ fn is_found(
 }
 
 /// A refused call returns the shared interner, which is then given again.
-fn take_all<R: Machine>(rt: &R, words: &mut SharedWords<FULL>) -> Result<Interner, Stop> {
-    let shared = words.0.take().ok_or(Stop::Differs)?;
+fn take_all<R: Machine>(rt: &R, words: &mut SharedWords<FULL>) -> Result<Interner, Failure> {
+    let shared = words.0.take().ok_or(Failure::Differs)?;
     match shared.into_interner(rt) {
         Ok(interner) => Ok(interner),
         Err(refused) => {
             words.0 = Some(refused.value);
-            Err(Stop::Refused)
+            Err(Failure::Refused)
         }
     }
 }

@@ -1,5 +1,5 @@
 //! Calls that make a text in a block of its own.
-use crate::calls::{Machine, Made, Stop, check, is_text, rows};
+use crate::calls::{Failure, Machine, Output, check, is_text, rows};
 use arcstr::block::Shared;
 use arcstr::{ArcStr, ArcStrBuilder, Substr, format_arcstr};
 use std::alloc::Global;
@@ -103,21 +103,21 @@ fn make_blocks<R: Machine>(rt: &R) -> io::Result<()> {
     }
 }
 
-impl Made for ArcStr {
+impl Output for ArcStr {
     fn is(&self, wanted: &str, handles: usize) -> bool {
         is_text(self, wanted, handles)
     }
 }
 
-fn text_from_string(alloc: Global) -> Result<ArcStr, Stop> {
+fn text_from_string(alloc: Global) -> Result<ArcStr, Failure> {
     Ok(ArcStr::try_from(String::from_str(alloc, "foobar")?)?)
 }
 
-fn text_from_bytes(alloc: Global) -> Result<ArcStr, Stop> {
+fn text_from_bytes(alloc: Global) -> Result<ArcStr, Failure> {
     Ok(ArcStr::try_from(String::from_str(alloc, "foobar")?.into_bytes())?)
 }
 
-fn joined_strings(alloc: Global) -> Result<ArcStr, Stop> {
+fn joined_strings(alloc: Global) -> Result<ArcStr, Failure> {
     let strings = [
         String::from_str(alloc, "foo")?,
         String::from_str(alloc, "bar")?,
@@ -125,11 +125,11 @@ fn joined_strings(alloc: Global) -> Result<ArcStr, Stop> {
     Ok(strings.into_iter().collect::<ArcStr>(alloc)?)
 }
 
-fn full_text(alloc: Global) -> Result<ArcStr, Stop> {
+fn full_text(alloc: Global) -> Result<ArcStr, Failure> {
     built_text(ArcStrBuilder::with_capacity(alloc, 6)?)
 }
 
-fn built_text(mut builder: ArcStrBuilder) -> Result<ArcStr, Stop> {
+fn built_text(mut builder: ArcStrBuilder) -> Result<ArcStr, Failure> {
     builder.push_str("foo")?;
     builder.push('b')?;
     write!(builder, "{}", "ar")?;
@@ -137,13 +137,13 @@ fn built_text(mut builder: ArcStrBuilder) -> Result<ArcStr, Stop> {
 }
 
 /// Fills memory that is taken first. Nothing after that allocates.
-fn reserved_text(alloc: Global) -> Result<ArcStr, Stop> {
+fn reserved_text(alloc: Global) -> Result<ArcStr, Failure> {
     let builder = ArcStrBuilder::with_capacity(alloc, 6)?;
     Ok(builder.fill("foobar"))
 }
 
 /// Appends until the block grows. If the growth is refused, the text so far stays.
-fn grown_text(alloc: Global) -> Result<ArcStr, Stop> {
+fn grown_text(alloc: Global) -> Result<ArcStr, Failure> {
     let mut builder = ArcStrBuilder::new(alloc);
     builder.push_str("01234567")?;
     let pushed = builder.push_str("89abcdef");
@@ -153,14 +153,14 @@ fn grown_text(alloc: Global) -> Result<ArcStr, Stop> {
 }
 
 /// Reads a text into memory that is taken first. Nothing after that allocates.
-fn read_text(alloc: Global) -> Result<ArcStr, Stop> {
+fn read_text(alloc: Global) -> Result<ArcStr, Failure> {
     let mut builder = ArcStrBuilder::with_capacity(alloc, 6)?;
     builder.read_from(&mut "foobar".as_bytes())?;
     Ok(builder.finish()?)
 }
 
 /// Fills a text with a closure, which runs exactly if the call is not refused.
-fn filled_text(alloc: Global) -> Result<ArcStr, Stop> {
+fn filled_text(alloc: Global) -> Result<ArcStr, Failure> {
     let mut ran = false;
     let made = ArcStr::init_with(alloc, 6, |bytes| {
         ran = true;
@@ -171,7 +171,7 @@ fn filled_text(alloc: Global) -> Result<ArcStr, Stop> {
 }
 
 /// A slice of a text `foobar`.
-impl Made for Substr {
+impl Output for Substr {
     fn is(&self, wanted: &str, handles: usize) -> bool {
         self.as_str() == wanted
             && "foobar".get(self.range()) == Some(wanted)
@@ -179,21 +179,21 @@ impl Made for Substr {
     }
 }
 
-fn slice_from_string(alloc: Global) -> Result<Substr, Stop> {
+fn slice_from_string(alloc: Global) -> Result<Substr, Failure> {
     Ok(Substr::try_from(String::from_str(alloc, "foobar")?)?)
 }
 
-fn slice_from_bytes(alloc: Global) -> Result<Substr, Stop> {
+fn slice_from_bytes(alloc: Global) -> Result<Substr, Failure> {
     Ok(Substr::try_from(String::from_str(alloc, "foobar")?.into_bytes())?)
 }
 
-impl Made for Block {
+impl Output for Block {
     fn is(&self, wanted: &str, handles: usize) -> bool {
         self.as_str() == wanted && self.look().0 == Some(handles as u64)
     }
 }
 
-fn filled_block(alloc: Global) -> Result<Block, Stop> {
+fn filled_block(alloc: Global) -> Result<Block, Failure> {
     let mut ran = false;
     let made = Block::init(alloc, 9, |bytes| {
         ran = true;

@@ -1,6 +1,6 @@
 //! Calls that list the slices of a text. A refusal drops the slices that were made, and leaves the
 //! text with its own handle.
-use crate::calls::{Given, Machine, Made, Stop, count, is_text, rows};
+use crate::calls::{Failure, Input, Machine, Output, count, is_text, rows};
 use arcstr::{ArcStr, Substr};
 use std::io;
 
@@ -32,8 +32,8 @@ pub(crate) fn run<R: Machine>(rt: &R) -> io::Result<()> {
 #[derive(Drop)]
 struct Fields(ArcStr);
 
-impl Given for Fields {
-    fn prepare<R: Machine>(rt: &R) -> Result<Fields, Stop> {
+impl Input for Fields {
+    fn prepare<R: Machine>(rt: &R) -> Result<Fields, Failure> {
         Ok(Fields(ArcStr::from_str(rt.alloc(), "1,2,3,4,5")?))
     }
 
@@ -47,7 +47,7 @@ impl Given for Fields {
 struct List(Vec<Substr>);
 
 /// The last slice has the text, and the parent has the handles.
-impl Made for List {
+impl Output for List {
     fn is(&self, wanted: &str, handles: usize) -> bool {
         match self.0.last() {
             Some(last) => last.as_str() == wanted && count(last.parent()) == handles,

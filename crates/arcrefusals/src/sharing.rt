@@ -1,7 +1,7 @@
 //! Calls that return handles on texts: callers in threads, and the words of texts. After each
 //! refusal, and once everything that was returned is dropped, each text has only the handle of its
 //! owner.
-use crate::calls::{Given, Machine, Made, Stop, check, count, is_text, rows};
+use crate::calls::{Failure, Input, Machine, Output, check, count, is_text, rows};
 use arcbench_core::pool::{Gate, callers};
 use arcstr::{ArcStr, Substr};
 use arctokens::{Substrs, token_list, tokens, tokens_all, tokens_all_with};
@@ -64,8 +64,8 @@ impl Passes {
 #[derive(Drop)]
 struct Letters(ArcStr);
 
-impl Given for Letters {
-    fn prepare<R: Machine>(rt: &R) -> Result<Letters, Stop> {
+impl Input for Letters {
+    fn prepare<R: Machine>(rt: &R) -> Result<Letters, Failure> {
         Ok(Letters(ArcStr::from_str(rt.alloc(), "a b c d e")?))
     }
 
@@ -74,8 +74,8 @@ impl Given for Letters {
     }
 }
 
-impl Given for [ArcStr; 2] {
-    fn prepare<R: Machine>(rt: &R) -> Result<[ArcStr; 2], Stop> {
+impl Input for [ArcStr; 2] {
+    fn prepare<R: Machine>(rt: &R) -> Result<[ArcStr; 2], Failure> {
         let one = ArcStr::from_str(rt.alloc(), "a b")?;
         Ok([one, ArcStr::from_str(rt.alloc(), "a b c d e")?])
     }
@@ -87,7 +87,10 @@ impl Given for [ArcStr; 2] {
 
 /// Finds the words of two texts with three workers. If memory is refused, either all workers have
 /// passed the gate or none has.
-fn words_behind_a_gate<R: Machine>(rt: &R, texts: &[ArcStr; 2]) -> Result<Vec<Vec<Substr>>, Stop> {
+fn words_behind_a_gate<R: Machine>(
+    rt: &R,
+    texts: &[ArcStr; 2],
+) -> Result<Vec<Vec<Substr>>, Failure> {
     let gate = Passes::none();
     let lists = tokens_all_with(rt, rt.alloc(), texts.as_slice(), 3, &gate);
     check(gate.are(1) || lists.is_err() && gate.are(0))?;
@@ -95,14 +98,14 @@ fn words_behind_a_gate<R: Machine>(rt: &R, texts: &[ArcStr; 2]) -> Result<Vec<Ve
 }
 
 /// Two handles on a text.
-impl Made for Vec<ArcStr> {
+impl Output for Vec<ArcStr> {
     fn is(&self, wanted: &str, handles: usize) -> bool {
         self.len() == 2 && self.iter().all(|handle| is_text(handle, wanted, handles))
     }
 }
 
 /// The words of a text: these letters, each at an even byte offset.
-impl Made for Vec<Substr> {
+impl Output for Vec<Substr> {
     fn is(&self, wanted: &str, handles: usize) -> bool {
         for (at, (word, letter)) in self.iter().zip(wanted.bytes()).enumerate() {
             if word.as_bytes() != [letter].as_slice()
@@ -117,7 +120,7 @@ impl Made for Vec<Substr> {
 }
 
 /// The words of a text as one list, with one handle: these letters, each at an even byte offset.
-impl Made for Substrs {
+impl Output for Substrs {
     fn is(&self, wanted: &str, handles: usize) -> bool {
         for (at, letter) in wanted.bytes().enumerate() {
             let (Some(word), Some(range)) = (self.as_str(at), self.range(at)) else {
@@ -135,7 +138,7 @@ impl Made for Substrs {
 }
 
 /// The words of a text with the first two letters, and of one with all.
-impl Made for Vec<Vec<Substr>> {
+impl Output for Vec<Vec<Substr>> {
     fn is(&self, wanted: &str, handles: usize) -> bool {
         self.len() == 2 && self[0].is("ab", 3) && self[1].is(wanted, handles)
     }

@@ -1,5 +1,5 @@
 //! Calls that do not allocate, and so succeed whatever is refused.
-use crate::calls::{Machine, Made, Stop, check, count, mark, rows};
+use crate::calls::{Failure, Machine, Output, check, count, mark, rows};
 use arcstr::{ArcStr, RangeFault, StrRange, StrView, Substr, literal};
 use arcstr_world::World;
 use std::alloc::Global;
@@ -19,7 +19,7 @@ fn call_nothing<R: Machine>(rt: &R) -> io::Result<()> {
         "ArcStr::from_str of an empty text: [] []":
             |_: &mut ()| ArcStr::from_str(alloc, "") => "", 0;
         "literal!: [] []":
-            |_: &mut ()| Ok::<ArcStr, Stop>(literal!("foobar")) => "foobar", 0;
+            |_: &mut ()| Ok::<ArcStr, Failure>(literal!("foobar")) => "foobar", 0;
         "ArcStr::leak: [] []": || leak(rt);
         "==, cmp: []": || compare_texts(rt);
         "hash: []": || hash(rt);
@@ -32,13 +32,13 @@ fn call_nothing<R: Machine>(rt: &R) -> io::Result<()> {
 fn call_texts<R: Machine>(rt: &R) -> io::Result<()> {
     rows! { rt;
         "ArcStr::clone: [] []":
-            |text: &mut ArcStr| Ok::<ArcStr, Stop>(text.clone(rt)) => "foobar", 2;
+            |text: &mut ArcStr| Ok::<ArcStr, Failure>(text.clone(rt)) => "foobar", 2;
         "ArcStr::try_clone: [] []":
-            |text: &mut ArcStr| text.try_clone(1).ok_or(Stop::Fault) => "foobar", 2;
+            |text: &mut ArcStr| text.try_clone(1).ok_or(Failure::Fault) => "foobar", 2;
         "ArcStr::substr: [] []":
             |text: &mut ArcStr| text.substr(rt, 3..6) => "bar", 2;
         "ArcStr::substr_trim: [] []":
-            |text: &mut ArcStr| Ok::<Substr, Stop>(text.substr_trim(rt)) => "foobar", 2;
+            |text: &mut ArcStr| Ok::<Substr, Failure>(text.substr_trim(rt)) => "foobar", 2;
         "ArcStr::try_substr_from: [] []":
             |text: &mut ArcStr| slice_from_text(rt, text) => "bar", 2;
         "ArcStr::substr_using: [] []":
@@ -54,7 +54,7 @@ fn call_slices<R: Machine>(rt: &R) -> io::Result<()> {
         "Substr::substr: [] []":
             |slice: &mut Substr| slice.substr(rt, 1..) => "ar", 2;
         "Substr::substr_trim: [] []":
-            |slice: &mut Substr| Ok::<Substr, Stop>(slice.substr_trim(rt)) => "bar", 2;
+            |slice: &mut Substr| Ok::<Substr, Failure>(slice.substr_trim(rt)) => "bar", 2;
         "Substr::try_substr_from: [] []":
             |slice: &mut Substr| slice_from_slice(rt, slice) => "ar", 2;
         "Substr::substr_using: [] []":
@@ -65,14 +65,14 @@ fn call_slices<R: Machine>(rt: &R) -> io::Result<()> {
     }
 }
 
-fn slice_from_text<R: Machine>(rt: &R, text: &ArcStr) -> Result<Substr, Stop> {
-    let view = text.view().cut(3..6).ok_or(Stop::Fault)?;
-    text.try_substr_from(rt, view).ok_or(Stop::Fault)
+fn slice_from_text<R: Machine>(rt: &R, text: &ArcStr) -> Result<Substr, Failure> {
+    let view = text.view().cut(3..6).ok_or(Failure::Fault)?;
+    text.try_substr_from(rt, view).ok_or(Failure::Fault)
 }
 
-fn slice_from_slice<R: Machine>(rt: &R, slice: &Substr) -> Result<Substr, Stop> {
-    let view = slice.view().cut(1..3).ok_or(Stop::Fault)?;
-    slice.try_substr_from(rt, view).ok_or(Stop::Fault)
+fn slice_from_slice<R: Machine>(rt: &R, slice: &Substr) -> Result<Substr, Failure> {
+    let view = slice.view().cut(1..3).ok_or(Failure::Fault)?;
+    slice.try_substr_from(rt, view).ok_or(Failure::Fault)
 }
 
 /// The slices that the calls of the line return.
@@ -84,7 +84,7 @@ type Parts = (
     Option<Substr>,
 );
 
-impl Made for Parts {
+impl Output for Parts {
     fn is(&self, wanted: &str, handles: usize) -> bool {
         match &self.3 {
             Some(rest) => rest.as_str() == wanted && count(rest.parent()) == handles,
@@ -93,7 +93,7 @@ impl Made for Parts {
     }
 }
 
-fn parts_of_text<R: Machine>(rt: &R, text: &ArcStr) -> Result<Parts, Stop> {
+fn parts_of_text<R: Machine>(rt: &R, text: &ArcStr) -> Result<Parts, Failure> {
     Ok((
         text.substr_split_at(rt, 3),
         text.substr_split_once(rt, 'o'),
@@ -103,7 +103,7 @@ fn parts_of_text<R: Machine>(rt: &R, text: &ArcStr) -> Result<Parts, Stop> {
     ))
 }
 
-fn parts_of_slice<R: Machine>(rt: &R, slice: &Substr) -> Result<Parts, Stop> {
+fn parts_of_slice<R: Machine>(rt: &R, slice: &Substr) -> Result<Parts, Failure> {
     Ok((
         slice.substr_split_at(rt, 2),
         slice.substr_split_once(rt, 'a'),
@@ -113,14 +113,14 @@ fn parts_of_slice<R: Machine>(rt: &R, slice: &Substr) -> Result<Parts, Stop> {
     ))
 }
 
-impl Made for World<Global> {
+impl Output for World<Global> {
     fn is(&self, _wanted: &str, _handles: usize) -> bool {
         self.given(0) == 0
     }
 }
 
 /// Marks a text static, permanently.
-fn leak<R: AllocGlobal + Print>(rt: &R) -> Result<(), Stop> {
+fn leak<R: AllocGlobal + Print>(rt: &R) -> Result<(), Failure> {
     let text = ArcStr::from_str(rt.alloc(), "foobar")?;
     mark(rt);
     let kept = text.leak();
@@ -132,7 +132,7 @@ fn leak<R: AllocGlobal + Print>(rt: &R) -> Result<(), Stop> {
     check(is_marked && kept.as_str() == "foobar")
 }
 
-fn compare_texts<R: AllocGlobal + Print>(rt: &R) -> Result<(), Stop> {
+fn compare_texts<R: AllocGlobal + Print>(rt: &R) -> Result<(), Failure> {
     let one = ArcStr::from_str(rt.alloc(), "foobar")?;
     let other = ArcStr::from_str(rt.alloc(), "foobaz")?;
     mark(rt);
@@ -141,7 +141,7 @@ fn compare_texts<R: AllocGlobal + Print>(rt: &R) -> Result<(), Stop> {
     check(!same && order == Ordering::Less)
 }
 
-fn hash<R: AllocGlobal + Print>(rt: &R) -> Result<(), Stop> {
+fn hash<R: AllocGlobal + Print>(rt: &R) -> Result<(), Failure> {
     let text = ArcStr::from_str(rt.alloc(), "foobar")?;
     let (mut one, mut other) = (DefaultHasher::new(), DefaultHasher::new());
     mark(rt);
@@ -151,7 +151,7 @@ fn hash<R: AllocGlobal + Print>(rt: &R) -> Result<(), Stop> {
     check(one.finish() == other.finish())
 }
 
-fn ends<R: Print>(rt: &R) -> Result<(), Stop> {
+fn ends<R: Print>(rt: &R) -> Result<(), Failure> {
     let view = StrView::whole(" foo ");
     mark(rt);
     let (ends, part) = (StrRange::from(1..).ends(6), view.trim());
