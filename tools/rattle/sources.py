@@ -134,6 +134,8 @@ def is_library(crate: str) -> bool:
 EXAMPLE_PAGES = {ROOT / "docs" / "GUIDE.md": "arcstr"} | {
     page: crate for crate in libraries() for page in (CRATES / crate).glob("*.md")
 }
+# The page of a library with this section has its calls.
+REQUIRES = "\n## What a call requires\n"
 DECLARES_FUNCTION = re.compile(r"^(pub )?fn ", re.M)
 
 
