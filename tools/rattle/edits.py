@@ -105,12 +105,10 @@ def functions_of(crate: Path) -> list[tuple[str, str, Function]]:
     return [(file, text, it) for path, file, text in texts for it in functions_in(path, text)]
 
 
-def is_called(file: str, it: Function, call: str) -> bool:
-    """Whether a call means a function: `f`, `Type::f`, both also after modules, or that of a trait
-    as `<Type as Trait>::f`."""
+def calls_of(it: Function) -> tuple[str, str]:
+    """What rows call a function: `f` or `Type::f`, and one of a trait `<Type as Trait>::f` too."""
     of, trait = (it.lent, it.owner) if it.lent else (it.owner, it.trait)
-    path = f"::{module_of(file)}::{it.call()}"
-    return path.endswith(f"::{call}") or call == f"<{of} as {trait}>::{it.name}"
+    return it.call(), f"<{of} as {trait}>::{it.name}"
 
 
 def read_row(path: Path, number: int, lines: list[str]) -> WrongBody:
@@ -125,7 +123,7 @@ def read_row(path: Path, number: int, lines: list[str]) -> WrongBody:
         there = [
             (file, text, it, at)
             for file, text, it in functions_of(crate)
-            if is_called(file, it, call)
+            if call in calls_of(it)
             for at in pattern.finditer(text, it.start, it.end)
         ]
         if len(there) != 1:
@@ -197,20 +195,22 @@ def path_of(key: Key) -> str:
 
 
 @cache
-def module_of_type(owner: str, room: Path) -> str | None:
-    """The module in which a type is declared. None if it is not declared in the folder."""
-    type_of = re.compile(rf"^(?:pub(?:\(\w+\))? )?(?:struct|enum) {owner}\b", re.M)
+def module_of_type(owner: str, room: Path, behind: str = "") -> str | None:
+    """The module in which a type is declared, where its name stands before a pattern. None if it is
+    not declared in the folder."""
+    type_of = re.compile(rf"^(?:pub(?:\(\w+\))? )?(?:struct|enum) {owner}\b{behind}", re.M)
     files = (file for file in (room / "src").rglob("*.rt") if type_of.search(file.read_text()))
     return next((module_of(str(file.relative_to(room))) for file in files), None)
 
 
 def folder_of_proofs(key: Key, room: Path) -> Path:
     """The folder of a function's proofs. A method of a type stands with the type, unless there is a
-    folder for it in its own module."""
+    folder for it in its own module, or `impl Type` leaves out the parameters of the type."""
     path, proofs = path_of(key), room / "proofs"
     if not key.owner or key.trait:
         return proofs.joinpath(*path.split("::"))
-    own, of_type = module_of(key.file), module_of_type(key.owner, room)
+    is_bare = f"\nimpl {key.owner} {{" in (room / key.file).read_text()
+    own, of_type = module_of(key.file), module_of_type(key.owner, room, "(?!<)" * is_bare)
     modules = own, own if of_type is None else of_type
     folders = [proofs.joinpath(*module.split("::"), *path.split("::")) for module in modules]
     return next((folder for folder in folders if folder.is_dir()), folders[1])
