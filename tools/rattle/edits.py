@@ -1,10 +1,10 @@
 """Reads the wrong bodies of a crate, each of which edits a function, and plants them in a copy of
 the crate's sources.
 
-A file `wrong-bodies/SUBJECT.edits` has a block for each wrong body, from a line `## NAME` to a line
-`refused: CLAUSE, ..`. Between them stand pairs of lines `old: TEXT` and `new: TEXT`. They edit
-`src/SUBJECT.rt`, or the file that a line `file: FILE` names, and there the part that a line `in:
-PART` names. These two lines hold for one body where they stand in it, else for all below.
+A file of the folder `wrong-bodies` has a row for each, `CALL: OLD ==> NEW ~ CLAUSES`. OLD stands
+once in the functions of the crate that are called CALL, and NEW in its place breaks these clauses.
+Before the clauses may stand further edits of these functions, each after ` ~ `. A row may begin
+with `NAME | `, and goes on in lines that begin with white space.
 """
 import re
 from collections.abc import Iterable
@@ -15,9 +15,12 @@ from typing import NamedTuple
 
 from sources import Function, functions, place_of, without_comments
 
-# What may begin the next line, outside of a wrong body and in one.
-OUTSIDE = ("##", "file:", "in:")
-INSIDE = ("file:", "in:", "old:")
+ROWS = re.compile(r"^.+(?:\n[ \t].*)*", re.M)
+EDIT = r"([^~]+) ==>([^~]*) ~ "
+ROW = re.compile(
+    r"(?:(?P<name>\w+) \| )?(?P<call>\S+|<[^~]+>::\w+): "
+    rf"(?P<edits>(?:{EDIT})+)(?P<refused>[\w-]+(?:, [\w-]+)*)"
+)
 # The body that `leave_out_bodies` leaves, and its proof.
 NO_BODY = " loop {} }"
 HOLE = """use Rattle.{crate}.proofs.{place}.Statement.{{statement}}
@@ -48,15 +51,18 @@ class Change(NamedTuple):
 
 @dataclass
 class WrongBody:
-    """A wrong body: what it changes, the functions around that, their texts before and after, and
-    the clauses that it breaks. `wrong` says why it is not rejected at these."""
+    """A wrong body: its row, the clauses that it breaks, what it changes, the functions around it,
+    and their texts before and after. `wrong` says why it is not rejected at these clauses."""
 
     path: Path
     name: str
+    call: str
+    number: int
+    lines: list[str]
+    refused: list[str]
     changes: list[Change] = field(default_factory=list)
     functions: set[Key] = field(default_factory=set)
     texts: list[str] = field(default_factory=list)
-    refused: list[str] = field(default_factory=list)
     opened: set[str] = field(default_factory=set)
     wrong: str = ""
 
@@ -66,7 +72,7 @@ class WrongBody:
 
     @property
     def place(self) -> str:
-        return f"{self.crate}/{self.path.stem}/{self.name}"
+        return f"{place_of(self.path)}:{self.number}: {self.name}"
 
 
 def key_of(file: str, it: Function) -> Key:
@@ -91,110 +97,73 @@ def plain(code: str) -> str:
     return " ".join(without_comments(code).split())
 
 
-class Reader:
-    """Reads a file of wrong bodies, line by line."""
+@cache
+def functions_of(crate: Path) -> list[tuple[str, str, Function]]:
+    """The functions of a crate, each after its file and the text of that."""
+    paths = sorted((crate / "src").rglob("*.rt"))
+    texts = [(path, str(path.relative_to(crate)), path.read_text()) for path in paths]
+    return [(file, text, it) for path, file, text in texts for it in functions_in(path, text)]
 
-    def __init__(self, path: Path):
-        self.path, self.crate = path, path.parents[1]
-        self.bodies: list[WrongBody] = []
-        self.whole = {"file:": f"src/{path.stem}.rt", "in:": ""}
-        self.own, self.next = self.whole, OUTSIDE
-        self.found: tuple[Function, str, int, int] | None = None
 
-    def read(self, line: str) -> str:
-        """Reads a line. Returns what is wrong with it."""
-        word, _, rest = line.partition(" ")
-        if word not in self.next:
-            wanted = ", ".join(f"`{it}`" for it in self.next)
-            return f"`{line}` begins with none of {wanted}"
-        if not rest.strip() and word not in ("in:", "new:"):
-            return f"`{word}` has no text"
-        if word in self.whole:
-            return self.read_place(word, rest)
-        if word == "##":
-            return self.begin(rest)
-        if word == "old:":
-            return self.find(rest)
-        if word == "new:":
-            return self.change(rest)
-        self.bodies[-1].refused = rest.split(", ")
-        self.own, self.next = self.whole, OUTSIDE
-        return ""
+def calls_of(it: Function) -> tuple[str, str]:
+    """What rows call a function: `f` or `Type::f`, and one of a trait `<Type as Trait>::f` too."""
+    of, trait = (it.lent, it.owner) if it.lent else (it.owner, it.trait)
+    return it.call(), f"<{of} as {trait}>::{it.name}"
 
-    def read_place(self, word: str, rest: str) -> str:
-        self.own[word] = rest
-        self.next = OUTSIDE if self.own is self.whole else INSIDE
-        is_there = word == "in:" or (self.crate / rest).is_file()
-        return "" if is_there else f"there is no {rest} in {self.crate.name}"
 
-    def begin(self, name: str) -> str:
-        if name in (body.name for body in self.bodies):
-            return f"the name `{name}` stands twice"
-        self.bodies.append(WrongBody(self.path, name))
-        self.own, self.next = dict(self.whole), INSIDE
-        return ""
-
-    def find(self, old: str) -> str:
-        """Finds an old text, which stands once in its file or in a part of it, or once as a whole
-        line, and in a function."""
-        path, part = self.crate / self.own["file:"], self.own["in:"]
-        text = path.read_text() if path.is_file() else ""
-        first = text.find(f"\n{part} {{\n") if part else 0
-        last = text.find("\n}\n", first) if part else len(text)
-        wanted = old if text.count(old, first, last) == 1 else f"\n{old}\n"
-        if first < 0 or text.count(wanted, first, last) != 1:
-            where = f"`{part}` of {self.own['file:']}" if part else self.own["file:"]
-            return f"`{old}` does not stand once in {where}"
-        start = text.index(wanted, first) + wanted.index(old)
-        end = start + len(old)
-        around = [it for it in functions_in(path, text) if it.start <= start and end <= it.end]
-        if not around:
-            return f"`{old}` is in no function"
-        self.found = max(around, key=lambda it: it.start), text, start, end
-        self.next = ("new:",)
-        return ""
-
-    def change(self, new: str) -> str:
-        assert self.found
-        (it, text, start, end), body = self.found, self.bodies[-1]
-        if new == text[start:end]:
-            return f"`{body.name}` changes nothing"
-        body.changes.append(Change(self.own["file:"], start, end, new))
-        body.functions.add(key_of(self.own["file:"], it))
-        after = text[it.start : start] + new + text[end : it.end]
-        body.texts += [self.own["file:"], plain(text[it.start : it.end]), plain(after)]
-        self.next = (*INSIDE, "refused:")
-        return ""
+def read_row(path: Path, number: int, lines: list[str]) -> WrongBody:
+    """The wrong body of a row. Raises `ValueError`, with what is wrong."""
+    row = ROW.fullmatch(" ".join(map(str.strip, lines)))
+    if not row:
+        raise ValueError("a row is `CALL: OLD ==> NEW ~ CLAUSES`")
+    call, crate = row["call"], path.parents[1]
+    body = WrongBody(path, row["name"] or call, call, number, lines, row["refused"].split(", "))
+    for old, new in re.findall(EDIT, row["edits"]):
+        pattern = re.compile(r"\s+".join(map(re.escape, old.split())))
+        there = [
+            (file, text, it, at)
+            for file, text, it in functions_of(crate)
+            if call in calls_of(it)
+            for at in pattern.finditer(text, it.start, it.end)
+        ]
+        if len(there) != 1:
+            raise ValueError(f"`{old}` stands {len(there)} times in `{call}`")
+        file, text, it, at = there[0]
+        if new.strip() == at[0]:
+            raise ValueError(f"`{old}` is not changed")
+        body.changes.append(Change(file, at.start(), at.end(), new.strip()))
+        body.functions.add(key_of(file, it))
+        after = text[it.start : at.start()] + new.strip() + text[at.end() : it.end]
+        body.texts += [file, plain(text[it.start : it.end]), plain(after)]
+    return body
 
 
 def parse(path: Path, text: str) -> tuple[list[WrongBody], list[str]]:
-    """The wrong bodies of a text of a file as far as it is right, and what is wrong, with its
-    line."""
-    reader, lines = Reader(path), text.splitlines()
-    for number, line in enumerate(lines, 1):
-        if error := reader.read(line) if line.strip() else "":
-            return reader.bodies, [f"{place_of(path)}:{number}: {error}"]
-    if reader.next == OUTSIDE:
-        return reader.bodies, []
-    return reader.bodies, [f"{place_of(path)}:{len(lines)}: the last has no line `refused:`"]
-
-
-def wrong_bodies_in(path: Path) -> tuple[list[WrongBody], list[str]]:
-    return parse(path, path.read_text())
+    """The wrong bodies of a text of a file, and what is wrong, with its line."""
+    bodies, errors = [], []
+    for row in ROWS.finditer(text):
+        number = text.count("\n", 0, row.start()) + 1
+        try:
+            bodies.append(read_row(path, number, row[0].splitlines()))
+        except ValueError as error:
+            errors.append(f"{place_of(path)}:{number}: {error}")
+    return bodies, errors
 
 
 def wrong_bodies_of(crate: Path) -> tuple[list[WrongBody], list[str]]:
     """The wrong bodies of a crate's folder, and what is wrong in their files."""
-    read = [wrong_bodies_in(path) for path in sorted((crate / "wrong-bodies").glob("*.edits"))]
+    paths = sorted((crate / "wrong-bodies").glob("*.edits"))
+    read = [parse(path, path.read_text()) for path in paths]
     return sum((bodies for bodies, _ in read), []), sum((errors for _, errors in read), [])
 
 
-def batches_of(edits: Iterable[WrongBody]) -> list[list[WrongBody]]:
-    """The edits in as few lists as serve, in each of which no two change one function."""
+def batches_of(edits: Iterable[WrongBody], most: int) -> list[list[WrongBody]]:
+    """The edits in as few lists as serve, of at most so many, in each of which no two change one
+    function."""
     batches: list[list[WrongBody]] = []
     for edit in edits:
         for batch in batches:
-            if all(not edit.functions & other.functions for other in batch):
+            if len(batch) < most and all(not edit.functions & it.functions for it in batch):
                 batch.append(edit)
                 break
         else:
@@ -226,20 +195,22 @@ def path_of(key: Key) -> str:
 
 
 @cache
-def module_of_type(owner: str, room: Path) -> str | None:
-    """The module in which a type is declared. None if it is not declared in the folder."""
-    type_of = re.compile(rf"^(?:pub(?:\(\w+\))? )?(?:struct|enum) {owner}\b", re.M)
+def module_of_type(owner: str, room: Path, behind: str = "") -> str | None:
+    """The module in which a type is declared, where its name stands before a pattern. None if it is
+    not declared in the folder."""
+    type_of = re.compile(rf"^(?:pub(?:\(\w+\))? )?(?:struct|enum) {owner}\b{behind}", re.M)
     files = (file for file in (room / "src").rglob("*.rt") if type_of.search(file.read_text()))
     return next((module_of(str(file.relative_to(room))) for file in files), None)
 
 
 def folder_of_proofs(key: Key, room: Path) -> Path:
     """The folder of a function's proofs. A method of a type stands with the type, unless there is a
-    folder for it in its own module."""
+    folder for it in its own module, or `impl Type` leaves out the parameters of the type."""
     path, proofs = path_of(key), room / "proofs"
     if not key.owner or key.trait:
         return proofs.joinpath(*path.split("::"))
-    own, of_type = module_of(key.file), module_of_type(key.owner, room)
+    is_bare = f"\nimpl {key.owner} {{" in (room / key.file).read_text()
+    own, of_type = module_of(key.file), module_of_type(key.owner, room, "(?!<)" * is_bare)
     modules = own, own if of_type is None else of_type
     folders = [proofs.joinpath(*module.split("::"), *path.split("::")) for module in modules]
     return next((folder for folder in folders if folder.is_dir()), folders[1])

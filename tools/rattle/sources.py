@@ -134,6 +134,8 @@ def is_library(crate: str) -> bool:
 EXAMPLE_PAGES = {ROOT / "docs" / "GUIDE.md": "arcstr"} | {
     page: crate for crate in libraries() for page in (CRATES / crate).glob("*.md")
 }
+# The page of a library with this section has its calls.
+REQUIRES = "\n## What a call requires\n"
 DECLARES_FUNCTION = re.compile(r"^(pub )?fn ", re.M)
 
 
@@ -255,9 +257,11 @@ def functions(file: Path, source: str | None = None) -> Iterator[Function]:
         yield function
 
 
-def changed_files() -> list[str]:
-    """The files that differ from the upstream branch. Fails where there is none."""
-    differ = ["git", "diff", "--merge-base", "--name-only", "@{upstream}"]
-    new = ["git", "ls-files", "--others", "--exclude-standard"]
-    said = [subprocess.check_output(words, cwd=ROOT, text=True) for words in (differ, new)]
-    return sorted({*"".join(said).splitlines()})
+def changed() -> set[str]:
+    """The files that differ from the upstream branch, and for one of wrong bodies in its place the
+    lines that the branch lacks. Fails where there is no such branch."""
+    git = lambda words: subprocess.check_output(["git", *words.split()], cwd=ROOT, text=True)
+    rows = git("diff --merge-base @{upstream} -U0 -- *.edits").splitlines()
+    names = git("diff --merge-base @{upstream} --name-only -- :!*.edits")
+    names += git("ls-files --others --exclude-standard")
+    return {*names.splitlines(), *(row[1:] for row in rows if row.startswith("+"))}

@@ -197,8 +197,8 @@ impl<S: BuildHasher> SharedInterner<S> {
         }
     }
 
-    /// Returns the number of texts. It may count or miss a text that another thread is adding.
-    /// Takes no lock.
+    /// Returns the number of texts. It may count or miss a text that another thread is adding, so
+    /// the contract does not say how many there are. Takes no lock.
     ///
     /// ```
     /// let interner = SharedInterner::new(rt.alloc(), 8)?;
@@ -210,7 +210,7 @@ impl<S: BuildHasher> SharedInterner<S> {
         self.texts.len()
     }
 
-    /// Returns whether there are no texts.
+    /// Returns whether `len` returns 0. As there, the contract does not say what it returns.
     ///
     /// ```
     /// let interner = SharedInterner::new(rt.alloc(), 8)?;

@@ -252,7 +252,7 @@ fn push_text(builder: &mut ArcStrBuilder, bytes: &[u8]) -> Result<usize, TextFau
     }
 }
 
-/// The length of a file in bytes, or 0 if it is not known.
+/// Returns the length of a file in bytes, or 0 if it is not known. A clause sees no file.
 fn size_of_file(file: &impl OpenFile) -> usize {
     file.metadata()
         .map_or(0, |metadata| metadata.len() as usize)

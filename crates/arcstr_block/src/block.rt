@@ -128,7 +128,7 @@ impl<A: Allocator> Sole<A> {
         unsafe { slice::from_raw_parts_mut(self.at, len) }
     }
 
-    /// Frees the memory.
+    /// Frees the memory, of which nothing is left that a clause could name.
     pub(crate) fn give_back(self, alloc: &A, size: usize)
         requires home { self.home ≡ alloc.now }
         requires size { size ≡ block_size (length self.text) }

@@ -63,7 +63,8 @@ impl<A: Allocator> Model for Owed<A> {
 
 impl<A: Allocator> Owed<A> {
     /// Frees the memory of the block and of its text, in one call of the allocator. It takes no
-    /// atomic step. The test `all_memory_is_given_back` checks that a heap has the memory again.
+    /// atomic step. A clause could name only a result: `free` has one. The test
+    /// `all_memory_is_given_back` checks that a heap has the memory again.
     ///
     /// ```
     /// use linked_list_allocator::LocalHeap;

@@ -250,7 +250,8 @@ impl<A: Allocator> Pointer<A> {
         }
     }
 
-    /// Drops a pointer without a seat. The block's history stays as it is.
+    /// Drops a pointer without a seat. The block's history stays as it is, and no clause can name
+    /// the pointer any more.
     pub(crate) fn forget(self)
         requires { IsIdle self.right }
     {

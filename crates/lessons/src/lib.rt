@@ -110,7 +110,8 @@ pub fn rows_unless_empty(text: &ArcStr, width: usize) -> Option<usize>
 use std::thread::Threads;
 use std::{io, thread};
 
-/// Returns how many lines the text has, which another thread counts.
+/// Returns how many lines the text has, which another thread counts. The contract does not say how
+/// many, since a proof knows only the type of what a thread returns.
 ///
 /// ```
 /// let text = ArcStr::from_static("a\nb");

@@ -39,7 +39,7 @@ pub(crate) struct Shard {
 
 impl Shard {
     /// Makes a shard without words, whose table does not grow for this many. No clause sees which
-    /// tables are made, here and in `table`.
+    /// tables are made.
     pub(crate) fn with_capacity(alloc: Global, words: usize) -> Result<Shard, AllocError> {
         let shard = Shard {
             tables: array::from_fn(|_| OnceSlot::new(&Tag::empty())),
@@ -52,7 +52,7 @@ impl Shard {
         Ok(shard)
     }
 
-    /// Returns the longest table, if there is one.
+    /// Returns the longest table, if there is one. No clause sees which that is.
     #[inline(always)]
     fn table(&self) -> Option<&Table> {
         let made = self.made.load(Ordering::Acquire);
