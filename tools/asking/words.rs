@@ -2,7 +2,7 @@
 
 use crate::asked::{Asked, Machine, one, pieces, same};
 use crate::parts::words;
-use anyhow::{Context, Result};
+use anyhow::Result;
 use arcintern::{Interner, MOST_BYTES, MOST_TEXTS, SharedInterner, Symbol, SymbolMap, WordList};
 use arcstr::{ArcStr, Substr};
 use arctokens::{Gate, token_list, tokens, tokens_all, tokens_all_with};
@@ -197,19 +197,14 @@ impl Interners {
         Ok(())
     }
 
-    /// Makes an interner of the shared one: each text keeps its number and its count.
+    /// Adds a literal to the shared interner, and all of its texts to another interner, which
+    /// gives them the same numbers.
     fn freeze<R: Machine>(self, asked: &mut Asked<'_, R>) -> Result<()> {
-        let (rt, mut counts) = (asked.rt, Vec::new(asked.alloc));
-        let Interners { shared, order, .. } = self;
-        let last = shared.intern_static(rt, "kept")?.number();
-        same!(asked; last.index(), order.len());
-        for (_, text) in shared.iter() {
-            counts.push(ArcStr::strong_count(text))?;
-        }
-        let frozen = shared.into_interner(rt).ok().context("no memory")?;
-        same!(asked; (frozen.len(), frozen.get("kept") == Some(last)), (order.len() + 1, true));
-        for ((word, text), count) in order.iter().zip(frozen.iter()).zip(counts.iter()) {
-            same!(asked; (text.as_str(), ArcStr::strong_count(text)), (word.as_str(), *count));
+        let (rt, mut frozen) = (asked.rt, Interner::new(asked.alloc));
+        let last = self.shared.intern_static(rt, "kept")?;
+        same!(asked; last.number().index(), self.order.len());
+        for (symbol, text) in self.shared.iter() {
+            same!(asked; frozen.intern_arc(rt, text)? == symbol.number(), true);
         }
         Ok(())
     }

@@ -90,9 +90,6 @@ fn fill_shared<R: Machine>(rt: &R) -> io::Result<()> {
         "SharedInterner::intern of a known word: [] [-24 -24 -24 -24 -24 -24 -24 -24 -24 -24 -24"
         " -24 -128 -160 -160 -160 -1224 -8960]":
             |words: &mut SharedWords<FULL>| share_known(rt, words) => "", 12;
-        "SharedInterner::into_interner: [+160 +288 -128 -160 -160 -160 -1224 -8960] [-24 -24 -24"
-        " -24 -24 -24 -24 -24 -24 -24 -24 -24 -160 -288]":
-            |words: &mut SharedWords<FULL>| take_all(rt, words) => "11", 1;
     }
 }
 
@@ -414,17 +411,5 @@ fn is_found(
             found.number() == symbol.number() && is_text(interner.text(&there), "foobar", handles)
         }
         _ => false,
-    }
-}
-
-/// A refused call returns the shared interner, which is then given again.
-fn take_all<R: Machine>(rt: &R, words: &mut SharedWords<FULL>) -> Result<Interner, Failure> {
-    let shared = words.0.take().ok_or(Failure::Differs)?;
-    match shared.into_interner(rt) {
-        Ok(interner) => Ok(interner),
-        Err(refused) => {
-            words.0 = Some(refused.value);
-            Err(Failure::Refused)
-        }
     }
 }
