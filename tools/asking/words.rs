@@ -4,9 +4,7 @@ use crate::asked::{Asked, Machine, one, pieces, same};
 use crate::memory::{again, takes};
 use crate::parts::words;
 use anyhow::{Context, Result};
-use arcintern::{
-    InternFault, Interner, MOST_BYTES, MOST_TEXTS, SharedInterner, Symbol, SymbolMap, WordList,
-};
+use arcintern::{Interner, MOST_BYTES, MOST_TEXTS, SharedInterner, Symbol, SymbolMap, WordList};
 use arcstr::{ArcStr, Substr};
 use arctokens::{Gate, token_list, tokens, tokens_all, tokens_all_with};
 use std::collections::HashMap;
@@ -201,27 +199,17 @@ impl Interners {
         Ok(())
     }
 
-    /// Makes an interner of the shared one: each text keeps its number and its count.
+    /// Adds a literal to the shared interner, and all of its texts to another interner, which
+    /// gives them the same numbers.
     fn freeze<R: Machine>(self, asked: &mut Asked<'_, R>) -> Result<()> {
-        let (rt, mut counts) = (asked.rt, Vec::new(asked.alloc));
-        let Interners { shared, order, .. } = self;
-        let last = again!(asked; shared.len(), shared.intern_static(rt, "kept")).number();
+        let (rt, Interners { shared, order, .. }) = (asked.rt, self);
+        let kept = ArcStr::from_static("kept");
+        let last = again!(asked; shared.len(), shared.intern_arc(rt, &kept)).number();
         same!(asked; last.index(), order.len());
-        for (_, text) in shared.iter() {
-            counts.push(ArcStr::strong_count(text))?;
-        }
-        let frozen = match shared.into_interner(rt) {
-            Ok(frozen) => frozen,
-            Err(failed) => {
-                let back = failed.value;
-                same!(asked; (back.len(), back.get("kept").is_some()), (order.len() + 1, true));
-                asked.retried(InternFault::Memory.into())?;
-                back.into_interner(rt)?
-            }
-        };
-        same!(asked; (frozen.len(), frozen.get("kept") == Some(last)), (order.len() + 1, true));
-        for ((word, text), count) in order.iter().zip(frozen.iter()).zip(counts.iter()) {
-            same!(asked; (text.as_str(), ArcStr::strong_count(text)), (word.as_str(), *count));
+        let mut frozen = Interner::new(asked.alloc);
+        for (symbol, text) in shared.iter() {
+            let again = again!(asked; frozen.len(), frozen.intern_arc(rt, text));
+            same!(asked; again == symbol.number(), true);
         }
         Ok(())
     }

@@ -2,7 +2,7 @@
 //!
 //! No call here allocates, clones a handle or takes an atomic step unless it says so.
 ghost use Rattle.std.specs.Prelude.{◌≡◌, ◌^◌, ◌<◌, ◌≤◌, ◌↔◌, [], length, option_copied, slice_get};
-ghost use Rattle.std.specs.Prelude.{IfErr, IfOk, IfSome, IsOk, IsSome, IsTrue, OnOk, Some};
+ghost use Rattle.std.specs.Prelude.{IfErr, IfOk, IfSome, IsOk, IsSome, IsTrue, Some};
 ghost use Rattle.std.specs.Iterator.Adapters.{IterYieldsInOrder, IterYieldsInReverse};
 ghost use Rattle.std.specs.List.{enumerate_from};
 ghost use Rattle.std.specs.Slice.Iter.{iter_rest};
@@ -11,7 +11,6 @@ ghost use Rattle.arcintern.specs.Texts.{HasEachOnce, HasWord, IsWordAt};
 ghost use Rattle.std.specs.Iterator.{YieldsFirstBy, item_count};
 
 use crate::fault::InternFault;
-use crate::shared_interner::SharedTexts;
 use crate::slots::half_of_word;
 use crate::symbol::Symbol;
 use arcstr::ArcStr;
@@ -21,7 +20,6 @@ use std::hash::{BuildHasher, BuildHasherDefault, FoldHasher};
 use std::marker::Model;
 use std::ops::Index;
 use std::slice::Iter;
-use std::sync::Wait;
 use table::TextTable;
 
 mod interning;
@@ -119,47 +117,6 @@ impl<S: BuildHasher> Interner<S> {
         Interner {
             table: TextTable::new(alloc),
             hash_builder,
-        }
-    }
-
-    /// Makes an interner of the texts of a shared interner, each under the number that it has
-    /// there. Returns the hasher out of memory.
-    pub(crate) fn of_texts(
-        rt: &impl Wait,
-        alloc: Global,
-        hash_builder: S,
-        texts: SharedTexts<'_>,
-    ) -> Result<Interner<S>, S>
-        ensures once { IfOk result (λ interner. HasEachOnce interner) }
-    {
-        let Ok(table) = TextTable::with_capacity(alloc, texts.end) else {
-            return Err(hash_builder);
-        };
-        let mut interner = Interner {
-            table,
-            hash_builder,
-        };
-        match interner.add_all(rt, texts) {
-            Ok(()) => Ok(interner),
-            Err(InternFault::Full | InternFault::Length | InternFault::Memory) => {
-                Err(interner.hash_builder)
-            }
-        }
-    }
-
-    /// Adds a clone of each text. Refuses if a number has no text, as the texts after it would get
-    /// other numbers. `TextList` has no such number, but no contract says that.
-    fn add_all(&mut self, rt: &impl Wait, texts: SharedTexts<'_>) -> Result<(), InternFault>
-        ensures once { OnOk result (HasEachOnce self.new) }
-    {
-        let numbers = texts.end;
-        for (_, text) in texts {
-            self.intern_arc(rt, text)?;
-        }
-        if self.len() == numbers {
-            Ok(())
-        } else {
-            Err(InternFault::Memory)
         }
     }
 

@@ -3,16 +3,16 @@
 //! Each call with a handle `rt` can wait for a thread that adds a text to the same shard or to the
 //! list, or that changes the count of a text that the call clones. No call waits for a known word.
 ghost use Rattle.std.specs.Prelude.{◌≡◌, ◌^◌, ◌<◌, ◌≤◌, ◌-◌, IfErr, IfOk, IfSome, length};
-ghost use Rattle.arcintern.specs.Texts.{HasEachOnce, IsSymbolOf};
+ghost use Rattle.arcintern.specs.Texts.{IsSymbolOf};
 ghost use Rattle.std.specs.Iterator.{at_most};
 
 use crate::fault::InternFault;
-use crate::interner::{Interner, MOST_TEXTS};
+use crate::interner::MOST_TEXTS;
 use crate::symbol::Symbol;
 use arcstr::ArcStr;
 use boxcar::slot::Written;
 use shard::Shard;
-use std::alloc::{AllocFailed, Global};
+use std::alloc::Global;
 use std::fmt;
 use std::hash::{BuildHasher, BuildHasherDefault, FoldHasher};
 use std::marker::Model;
@@ -238,52 +238,6 @@ impl<S: BuildHasher> SharedInterner<S> {
     {
         SharedTexts::of(&self.texts)
     }
-
-    /// Makes an `Interner` of the texts, each under the number that it has here. The `Interner`
-    /// has all contracts of its type, and is faster on one thread.
-    ///
-    /// It gets a clone of each text, and this interner is dropped. So no text is copied, and each
-    /// count is as it was. The list of the texts and the table are allocated.
-    ///
-    /// A call is refused out of memory, and returns this interner as it was, in the fault.
-    ///
-    /// The contract does not say which texts the `Interner` has. The test
-    /// `words_of_threads_keep_their_numbers` checks that.
-    ///
-    /// ```
-    /// let shared = SharedInterner::new(rt.alloc(), 8)?;
-    /// let symbol = shared.intern(&rt, "foo")?.number();
-    /// let interner = shared.into_interner(&rt)?;
-    /// assert!(rt; interner.get("foo") == Some(symbol));
-    /// assert_eq!(rt; interner.len(), 1);
-    /// ```
-    pub fn into_interner(
-        self,
-        rt: &impl Wait,
-    ) -> Result<Interner<S>, AllocFailed<SharedInterner<S>>>
-        // Promise: No two texts spell the same word.
-        ensures once { IfOk result (λ interner. HasEachOnce interner) }
-        // Promise: A refused call returns this interner.
-        ensures refused { IfErr result (λ refused. refused.value ≡ self) }
-    {
-        let SharedInterner {
-            shards,
-            texts,
-            alloc,
-            hash_builder,
-        } = self;
-        match Interner::of_texts(rt, alloc, hash_builder, SharedTexts::of(&texts)) {
-            Ok(interner) => Ok(interner),
-            Err(hash_builder) => Err(AllocFailed {
-                value: SharedInterner {
-                    shards,
-                    texts,
-                    alloc,
-                    hash_builder,
-                },
-            }),
-        }
-    }
 }
 
 /// Prints the texts as a list, in the order of their numbers. It may miss texts that other threads
@@ -416,13 +370,13 @@ pub struct SharedTexts<'a> {
     texts: &'a TextList,
     index: usize,
     /// All numbers are below it.
-    pub(crate) end: usize,
+    end: usize,
     ghost small: { end < 2 ^ 32 },
 }
 
 impl<'a> SharedTexts<'a> {
     /// Makes an iterator over the texts whose numbers are below the count of them now.
-    pub(crate) fn of(texts: &'a TextList) -> SharedTexts<'a>
+    fn of(texts: &'a TextList) -> SharedTexts<'a>
         ensures texts { result.texts.now ≡ texts.now }
         ensures first { result.index ≡ 0 }
     {

@@ -1,7 +1,6 @@
 //! Tests of `arcintern`.
 mod collisions;
 mod interner;
-mod into_interner;
 mod serde_impls;
 mod shared_interner;
 mod word_list;

@@ -77,11 +77,6 @@ fn a_shared_interner_tells_words_of_one_hash_apart(ref rt: HostRuntime) {
     }
     check!(rt; interner.get("fo").is_none());
     check_eq!(rt; interner.len(), WORDS.len());
-    let interner = interner.into_interner(rt).expect(rt, "refused");
-    for (index, word) in WORDS.iter().enumerate() {
-        check_eq!(rt; interner.get(*word).expect(rt, "not found").index(), index);
-    }
-    check!(rt; interner.get("fo").is_none());
 }
 
 /// Asserts that the table grows for words of one hash.

@@ -54,7 +54,7 @@ fn many_words_are_numbered_as_they_come(ref rt: HostRuntime) {
 #[test]
 fn a_text_is_kept_as_a_clone(ref rt: HostRuntime) {
     let text = &made(rt, "foobar");
-    let mut interner = Interner::new(rt.alloc());
+    let mut interner = Interner::with_capacity(rt.alloc(), 1).expect(rt, "refused");
     let symbol = interner.intern_arc(rt, text).expect(rt, "refused");
     check!(rt; interner.intern_arc(rt, text).expect(rt, "refused") == symbol);
     check_eq!(rt; ArcStr::strong_count(text), Some(2));
