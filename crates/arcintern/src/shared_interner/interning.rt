@@ -146,7 +146,7 @@ impl<S: BuildHasher> SharedInterner<S> {
         let text = text_to_keep(rt, self.alloc, word, whole)?;
         let mut used = shard.used.lock(rt);
         let table = shard.table_with_room(self.alloc, *used)?;
-        let Some((place, is_passed)) = table.place_for(half) else {
+        let Some((slot, is_passed)) = table.empty_slot(half) else {
             return Err(InternFault::Memory);
         };
         if is_passed {
@@ -155,7 +155,7 @@ impl<S: BuildHasher> SharedInterner<S> {
             }
         }
         let symbol = self.texts.push(rt, text)?;
-        if table.put(place, half, (symbol.bits / 256) as u32).is_ok() {
+        if table.put(slot, half, symbol.index() as u32).is_ok() {
             *used = used.saturating_add(1);
         }
         Ok(symbol)
