@@ -98,7 +98,7 @@ impl Interners {
 
     /// Interns a word in each, and returns its number, which has to be that of the map.
     fn intern<R: Machine>(&mut self, asked: &mut Asked<'_, R>, word: &str) -> Result<Symbol> {
-        let (rt, alloc, way, next) = (asked.rt, asked.alloc, asked.below(3), self.order.len());
+        let (rt, alloc, way, next) = (asked.rt, asked.alloc, asked.below(2), self.order.len());
         let number = match self.numbers.get(word) {
             Some(number) => *number,
             None => {
@@ -114,12 +114,7 @@ impl Interners {
         };
         let shared = match way {
             0 => self.shared.intern(rt, word)?,
-            1 => self.shared.intern_arc(rt, &text)?,
-            _ if number % 2 == 0 => self.shared.intern_substr(rt, &text.substr(rt, ..)?)?,
-            _ => {
-                let longer = ArcStr::join(alloc, &["é", word], "")?;
-                self.shared.intern_substr(rt, &longer.substr(rt, 2..)?)?
-            }
+            _ => self.shared.intern_arc(rt, &text)?,
         };
         let listed = self.list.intern(word)?;
         same!(asked; (symbol.index(), listed.index()), (number, number));
@@ -201,7 +196,7 @@ impl Interners {
     fn freeze<R: Machine>(self, asked: &mut Asked<'_, R>) -> Result<()> {
         let (rt, mut counts) = (asked.rt, Vec::new(asked.alloc));
         let Interners { shared, order, .. } = self;
-        let last = shared.intern_static(rt, "kept")?.number();
+        let last = shared.intern(rt, "kept")?.number();
         same!(asked; last.index(), order.len());
         for (_, text) in shared.iter() {
             counts.push(ArcStr::strong_count(text))?;

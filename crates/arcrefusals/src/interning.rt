@@ -84,9 +84,6 @@ fn fill_shared<R: Machine>(rt: &R) -> io::Result<()> {
         "SharedInterner::intern with a full table: [+24 +160 +256] [-24 -24 -24 -24 -24 -24 -24 -24"
         " -24 -24 -24 -24 -24 -128 -160 -160 -160 -160 -256 -1224 -8960]":
             |words: &mut SharedWords<FULL>| share(rt, words) => "", 13;
-        "SharedInterner::intern_static: [+160 +256] [-24 -24 -24 -24 -24 -24 -24 -24 -24 -24 -24"
-        " -24 -128 -160 -160 -160 -160 -256 -1224 -8960]":
-            |words: &mut SharedWords<FULL>| share_literal(rt, words) => "", 13;
         "SharedInterner::intern of a known word: [] [-24 -24 -24 -24 -24 -24 -24 -24 -24 -24 -24"
         " -24 -128 -160 -160 -160 -1224 -8960]":
             |words: &mut SharedWords<FULL>| share_known(rt, words) => "", 12;
@@ -376,17 +373,6 @@ fn share<const TEXTS: usize, R: Machine>(
     if let Some(interner) = words.0.as_ref() {
         let symbol = interner.intern(rt, "foobar")?;
         check(symbol.number().index() == TEXTS && is_found(rt, interner, &symbol, 1))?;
-    }
-    words.0.take().ok_or(Failure::Differs)
-}
-
-fn share_literal<R: Machine>(
-    rt: &R,
-    words: &mut SharedWords<FULL>,
-) -> Result<SharedInterner, Failure> {
-    if let Some(interner) = words.0.as_ref() {
-        let symbol = interner.intern_static(rt, "foobar")?;
-        check(symbol.number().index() == FULL && is_found(rt, interner, &symbol, 0))?;
     }
     words.0.take().ok_or(Failure::Differs)
 }
