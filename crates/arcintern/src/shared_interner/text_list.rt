@@ -1,5 +1,5 @@
 //! The texts of a shared interner: a list that threads read without a lock while others add to it.
-ghost use Rattle.std.specs.Prelude.{◌≡◌, ◌+◌, ◌*◌, ◌/◌, ◌%◌, ◌^◌, ◌<◌, ◌≤◌, IfOk, IfSome, IsErrOf, length};
+ghost use Rattle.std.specs.Prelude.{◌≡◌, ◌^◌, ◌<◌, IfOk, IfSome, IsErrOf, length};
 ghost use Rattle.boxcar.specs.Table.{id_at};
 ghost use Rattle.arcintern.specs.TextList.{IsAt, column_of, number_in, row_in, row_of};
 ghost use Rattle.arcintern.specs.Texts.{IsSymbolOf, IsSymbolOfWord};
