@@ -93,7 +93,7 @@ impl Interners {
 
     /// Interns a word in each, and returns its number, which has to be that of the map.
     fn intern<R: Machine>(&mut self, asked: &mut Asked<'_, R>, word: &str) -> Result<Symbol> {
-        let (rt, alloc, way, next) = (asked.rt, asked.alloc, asked.below(3), self.order.len());
+        let (rt, alloc, way, next) = (asked.rt, asked.alloc, asked.below(2), self.order.len());
         let number = match self.numbers.get(word) {
             Some(number) => *number,
             None => {
@@ -107,13 +107,9 @@ impl Interners {
             0 => self.texts.intern(text.as_str()),
             _ => self.texts.intern_arc(rt, &text),
         });
-        let longer = ArcStr::join(alloc, &["é", word], "")?;
-        let parts = (text.substr(rt, ..)?, longer.substr(rt, 2..)?);
         let shared = again!(asked; (self.shared.len(), self.number_of(word)), match way {
             0 => self.shared.intern(rt, word),
-            1 => self.shared.intern_arc(rt, &text),
-            _ if number % 2 == 0 => self.shared.intern_substr(rt, &parts.0),
-            _ => self.shared.intern_substr(rt, &parts.1),
+            _ => self.shared.intern_arc(rt, &text),
         });
         let listed = again!(asked; self.list.len(), self.list.intern(word));
         same!(asked; (symbol.index(), listed.index()), (number, number));

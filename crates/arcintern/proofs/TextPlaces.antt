@@ -48,7 +48,7 @@ module _ (number top : ℕ) (is : IsTopOf (number + 32) top) where
   eight : 2 ^ top ≡ 8 * 2 ^ (top - 3)
   eight = let a = top_above in let e : 3 + (top - 3) ≡ top = omega arith in sym (ap (λ (k : ℕ). 2 ^ k) e) ∙ pow-add 2 3 (top - 3)
 
-  -- the row and the place by this exponent are where the number lies
+  -- the row and the column by this exponent are where the number lies
   pub lies : IsAt number ((top - 5) * 8 + ((number + 32) * 8 / 2 ^ top - 8)) ((number + 32) * 8 % 2 ^ top / 8)
   lies = let q = (number + 32) * 8 / 2 ^ top in let r = (number + 32) * 8 % 2 ^ top in let m = 2 ^ (top - 3) in let row = (top - 5) * 8 + (q - 8) in
       let a = top_above in let b = eighth_above in let c = eighth_below in let less : r < 2 ^ top = mod-lt ((number + 32) * 8) (pow_pos top) in
@@ -65,9 +65,9 @@ unfolding row_of
 top_of_row number few = let top = top_of 32 (number + 32) in let is : IsTopOf (number + 32) top = is_top 32 (number + 32) (omega arith) (omega arith) in
     let a = top_above number top is in let b = eighth_above number top is in let c = eighth_below number top is in omega arith
 
--- a row is one of 224
-pub below_224 : (number : ℕ) → number < 4294967295 → row_of number < 224
+-- a row is one of the rows
+pub below_rows : (number : ℕ) → number < 4294967295 → row_of number < 224
 unfolding row_of
-below_224 number few = let top = top_of 32 (number + 32) in let is : IsTopOf (number + 32) top = is_top 32 (number + 32) (omega arith) (omega arith) in
+below_rows number few = let top = top_of 32 (number + 32) in let is : IsTopOf (number + 32) top = is_top 32 (number + 32) (omega arith) (omega arith) in
     let a = top_above number top is in let b = eighth_above number top is in let c = eighth_below number top is in
     let d = top_below number top is few in omega arith

@@ -3,7 +3,6 @@ use Rattle.std.specs.Prelude.{◌≡◌, ◌≢◌, ℕ, ◌<◌, ◌≤◌, ◌
 use Rattle.std.specs.Prelude.{Result, IfOk, IsErrOf, IsOk, OnErr, OnOk}
 use Rattle.std.specs.declared.io.ErrorKind.{ErrorKind}
 use Rattle.std.specs.declared.io.ErrorKind.TheVariants.{InvalidInput, OutOfMemory}
-use Rattle.arcstr.specs.Substr.{SubstrView}
 use Rattle.arcstr.specs.TextView.{TextView, IsMadeOf}
 use Rattle.boxcar.specs.Slot.{Named}
 use Rattle.boxcar.specs.Table.{id_at}
@@ -26,10 +25,6 @@ HasEachOnce texts = AllPairs (λ one other. one.text ≢ other.text) texts
 -- each of the old texts is still at its index
 abbrev pub KeepsTexts : {X : Type 0} → List X → List X → Type 0
 KeepsTexts old new = (index : ℕ) → index < length old → slice_get new index ≡ slice_get old index
-
--- the slice is all of its parent
-abbrev pub IsWhole : SubstrView → Type 0
-IsWhole slice = (slice.start ≡ 0) × (slice.end ≡ length slice.parent.text)
 
 -- this text is added at the end
 abbrev pub AddsText : TextView → List TextView → List TextView → Type 0

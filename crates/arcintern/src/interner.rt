@@ -25,7 +25,7 @@ use table::TextTable;
 mod interning;
 mod table;
 
-pub(crate) use interning::{copy_of, is_whole};
+pub(crate) use interning::copy_of;
 
 /// The number of texts that an interner can hold.
 ///

@@ -26,10 +26,10 @@ mod text_list;
 /// Keeps each distinct text once, as an `ArcStr`, for any number of threads.
 ///
 /// The hash of a word picks one of 1 to 64 shards. A shard has a table of the numbers of its texts,
-/// and a lock for whoever adds one. The texts themselves lie in one list that only grows. A known
-/// word and a text are read without a lock. So a symbol stands for one text as long as the interner
-/// lives, whatever other threads do. The numbers are 0, 1, 2 and so on, in the order in which the
-/// texts were added, and none is left out.
+/// and a lock for a call that adds one. The texts themselves lie in one list that only grows. A
+/// known word and a text are read without a lock. So a symbol stands for one text as long as the
+/// interner lives, whatever other threads do. The numbers are 0, 1, 2 and so on, in the order in
+/// which the texts were added, and none is left out.
 ///
 /// A table that is too short is kept beside a longer one until the interner is dropped, since a
 /// thread may be reading it. After `with_capacity`, a shard makes a longer table only if it gets
@@ -273,6 +273,9 @@ fn empty_shards(alloc: Global, shards: usize, room: usize) -> Result<Vec<Shard>,
     Ok(tables)
 }
 
+/// How many values the index of a row can have in the bits of a symbol.
+pub(crate) const ROW_VALUES: u64 = 1 << 8;
+
 /// Stands for one text of one shared interner. It takes 8 bytes. A contract sees its number and its
 /// text, which other threads cannot change. The number alone is a `Symbol` of 4 bytes, which can be
 /// copied, compared, ordered and hashed.
@@ -285,31 +288,33 @@ fn empty_shards(alloc: Global, shards: usize, room: usize) -> Result<Vec<Shard>,
 /// ```
 #[derive(Drop)]
 pub struct SharedSymbol {
-    /// 256 times the number, and the row.
+    /// `ROW_VALUES` times the number, and the index of the row.
     pub(crate) bits: u64,
-    pub(crate) made: Written<Row>,
+    pub(crate) row: Written<Row>,
     pub(crate) text: Written<ArcStr>,
 }
 
 impl Model for SharedSymbol {
-    ghost use Rattle.std.specs.Prelude.{◌≡◌, ◌+◌, ◌/◌, ◌%◌, ◌^◌, ◌<◌, length};
+    ghost use Rattle.std.specs.Prelude.{◌≡◌, ◌<◌, length};
     ghost use Rattle.boxcar.specs.Table.{id_at};
-    ghost use Rattle.arcintern.specs.TextList.{place_of, row_of};
+    ghost use Rattle.arcintern.specs.declared.interner.TheConstants.{MOST_TEXTS};
+    ghost use Rattle.arcintern.specs.declared.shared_interner.text_list.TheConstants.{ROWS};
+    ghost use Rattle.arcintern.specs.TextList.{column_of, number_in, row_in, row_of};
     ghost use Rattle.arcintern.specs.Texts.{SymbolView};
 
     ghost Value = { SymbolView };
 
     ghost view = { λ symbol. record {
-      number = symbol.bits / 256;
+      number = number_in symbol.bits;
       text = symbol.text.value;
-      row = symbol.bits % 256;
-      name = symbol.made.of;
+      row = row_in symbol.bits;
+      name = symbol.row.of;
     } };
 
-    ghost invariant = { λ symbol. (symbol.bits / 256 + 1 < 2 ^ 32) × (symbol.bits % 256 < 224)
-        × (symbol.bits % 256 ≡ row_of (symbol.bits / 256))
-        × (place_of (symbol.bits / 256) < length symbol.made.value.items)
-        × (symbol.text.of ≡ id_at symbol.made.value.items (place_of (symbol.bits / 256))) };
+    ghost invariant = { λ symbol. (number_in symbol.bits < MOST_TEXTS)
+        × (row_in symbol.bits < ROWS) × (row_in symbol.bits ≡ row_of (number_in symbol.bits))
+        × (column_of (number_in symbol.bits) < length symbol.row.value.items)
+        × (symbol.text.of ≡ id_at symbol.row.value.items (column_of (number_in symbol.bits))) };
 }
 
 impl SharedSymbol {
@@ -323,7 +328,16 @@ impl SharedSymbol {
     pub fn number(&self) -> Symbol
         ensures { result ≡ self.now.number }
     {
-        Symbol::at((self.bits / 256) as usize)
+        Symbol::at(self.index())
+    }
+
+    /// Returns the number as an index.
+    #[inline(always)]
+    pub(crate) fn index(&self) -> usize
+        ensures number { result ≡ self.now.number }
+        ensures below { result < MOST_TEXTS }
+    {
+        (self.bits / ROW_VALUES) as usize
     }
 
     /// Returns the same symbol once more.
@@ -338,7 +352,7 @@ impl SharedSymbol {
     {
         SharedSymbol {
             bits: self.bits,
-            made: self.made.again(),
+            row: self.row.again(),
             text: self.text.again(),
         }
     }
@@ -349,7 +363,7 @@ impl SharedSymbol {
         requires same { self.now.number ≡ other.now.number }
         ensures { self.now.text ≡ other.now.text }
     {
-        self.made.agrees(&other.made);
+        self.row.agrees(&other.row);
         self.text.agrees(&other.text);
     }
 }

@@ -164,7 +164,7 @@ impl Slots {
         Ok(())
     }
 
-    /// Puts in what a slot of another table holds, unless it is empty.
+    /// Copies a slot of another table, unless it is empty.
     fn take_over(&mut self, slot: u64) -> Result<(), AllocError>
         ensures placed { OnOk result (0 < slot → IsPlaced self.new.slots.items self.new.mask slot) }
         ensures kept { KeepsSlots self.old.slots.items self.old.mask

@@ -1,5 +1,5 @@
 -- The results of the calls that slice a text at a range, from the tests of the range's ends.
-use Rattle.std.proofs.Common.{◌≡◌, ◌≤◌, ℕ, List, length, refl, sym, ap, subst, ◌∙◌}
+use Rattle.std.proofs.Common.{◌≡◌, ℕ, List, length, refl, sym, ap, subst, ◌∙◌}
 use Rattle.std.specs.Prelude.{Result, Ok, Err}
 use Rattle.arcstr_range.proofs.Affixes.{cut_is_drop, cut_is_take, lawful_rest}
 use Rattle.arcstr_range.specs.declared.range.StrRange.{StrRange}

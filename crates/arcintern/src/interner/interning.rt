@@ -1,15 +1,14 @@
 //! The calls that intern a text.
-ghost use Rattle.std.specs.Prelude.{◌≡◌, ◌<◌, ◌↔◌, length, IfErr, IfOk, IsErrOf, IsTrue};
+ghost use Rattle.std.specs.Prelude.{◌≡◌, ◌<◌, ◌↔◌, length, IfErr, IfOk, IsErrOf};
 ghost use Rattle.arcstr.specs.Making.{IsTooLong};
-ghost use Rattle.arcstr.specs.Substr.{text_of};
 ghost use Rattle.arcstr.specs.TextView.{IsMadeOf};
-ghost use Rattle.arcintern.specs.Texts.{AddsCopy, AddsText, HasWord, Interns, IsWhole};
+ghost use Rattle.arcintern.specs.Texts.{AddsCopy, AddsText, HasWord, Interns};
 
 use crate::fault::InternFault;
 use crate::interner::{Interner, MOST_TEXTS};
 use crate::slots::half_of_word;
 use crate::symbol::Symbol;
-use arcstr::{ArcStr, Substr, TextFault};
+use arcstr::{ArcStr, TextFault};
 use std::alloc::Global;
 use std::hash::BuildHasher;
 use std::sync::Wait;
@@ -91,13 +90,4 @@ pub(crate) fn copy_of(alloc: Global, word: &str) -> Result<ArcStr, InternFault>
         Err(TextFault::Length) => Err(InternFault::Length),
         Err(TextFault::Memory | TextFault::Utf8(_)) => Err(InternFault::Memory),
     }
-}
-
-/// Returns whether the slice is all of its parent.
-pub(crate) fn is_whole(slice: &Substr) -> bool
-    ensures whole { IsTrue result ↔ IsWhole slice.now }
-    ensures text { IsWhole slice.now → text_of slice.now ≡ slice.now.parent.text }
-{
-    let range = slice.range();
-    range.start == 0 && range.end == slice.parent().len()
 }

@@ -1,14 +1,13 @@
 //! The calls that intern a text, and that find one by its word.
 ghost use Rattle.std.specs.Prelude.{◌≡◌, ◌<◌, ◌≤◌, IfOk, IfSome, IsErrOf, IsNone, length};
 ghost use Rattle.arcstr.specs.Making.{IsTooLong};
-ghost use Rattle.arcstr.specs.Substr.{text_of};
-ghost use Rattle.arcintern.specs.Texts.{IsSymbolOfWord, IsWhole};
+ghost use Rattle.arcintern.specs.Texts.{IsSymbolOfWord};
 
 use crate::fault::InternFault;
-use crate::interner::{MOST_TEXTS, copy_of, is_whole};
+use crate::interner::{MOST_TEXTS, copy_of};
 use crate::shared_interner::{SharedInterner, SharedSymbol};
 use crate::slots::{half_of, hash_of_word};
-use arcstr::{ArcStr, Substr};
+use arcstr::ArcStr;
 use std::alloc::Global;
 use std::hash::BuildHasher;
 use std::sync::Wait;
@@ -56,52 +55,6 @@ impl<S: BuildHasher> SharedInterner<S> {
         self.find_or_add(rt, text.as_str(), Some(text))
     }
 
-    /// As `intern`, for a text that the program holds: it is not copied, and never too long.
-    ///
-    /// ```
-    /// let interner = SharedInterner::new(rt.alloc(), 8)?;
-    /// let symbol = interner.intern_static(&rt, "foo")?;
-    /// assert!(rt; interner.text(&symbol).eq_str("foo"));
-    /// assert!(rt; ArcStr::is_static(interner.text(&symbol)));
-    /// ```
-    pub fn intern_static(
-        &self,
-        rt: &impl Wait,
-        word: &'static str,
-    ) -> Result<SharedSymbol, InternFault>
-        ensures word { IfOk result (λ symbol. IsSymbolOfWord self.now symbol word.now) }
-        // Promise: `Length` never comes.
-        ensures never_too_long { ¬ (IsErrOf result InternFault.Length) }
-    {
-        self.intern_arc(rt, &ArcStr::from_static(word))
-    }
-
-    /// Returns the symbol of the text that spells the same as this slice. If there is none, a clone
-    /// of the slice's parent becomes a text where the slice is all of it, as by `intern_arc`, and
-    /// else a copy of the slice, as by `intern`. So a slice keeps no longer text alive. Refused as
-    /// these two are.
-    ///
-    /// ```
-    /// let interner = SharedInterner::new(rt.alloc(), 8)?;
-    /// let text = ArcStr::from_str(rt.alloc(), "foobar")?;
-    /// let symbol = interner.intern_substr(&rt, &text.substr(&rt, 3..)?)?;
-    /// assert!(rt; interner.text(&symbol).eq_str("bar"));
-    /// assert_eq!(rt; ArcStr::strong_count(&text), Some(1));
-    /// ```
-    pub fn intern_substr(&self, rt: &impl Wait, slice: &Substr) -> Result<SharedSymbol, InternFault>
-        ensures word { IfOk result (λ symbol. IsSymbolOfWord self.now symbol (text_of slice.now)) }
-        // Promise: `Length` comes only for a copy that is too long.
-        ensures too_long { IsErrOf result InternFault.Length
-            → IsTooLong (length (text_of slice.now)) }
-        ensures never_too_long_whole { IsWhole slice.now → ¬ (IsErrOf result InternFault.Length) }
-    {
-        if is_whole(slice) {
-            self.intern_arc(rt, slice.parent())
-        } else {
-            self.intern(rt, slice.as_str())
-        }
-    }
-
     /// Returns the symbol of the text that spells this word, or `None` if there was none when the
     /// call began. Takes no lock, never waits, and does not allocate.
     ///
@@ -146,7 +99,7 @@ impl<S: BuildHasher> SharedInterner<S> {
         let text = text_to_keep(rt, self.alloc, word, whole)?;
         let mut used = shard.used.lock(rt);
         let table = shard.table_with_room(self.alloc, *used)?;
-        let Some((place, is_passed)) = table.place_for(half) else {
+        let Some((slot, is_passed)) = table.empty_slot(half) else {
             return Err(InternFault::Memory);
         };
         if is_passed {
@@ -155,7 +108,7 @@ impl<S: BuildHasher> SharedInterner<S> {
             }
         }
         let symbol = self.texts.push(rt, text)?;
-        if table.put(place, half, (symbol.bits / 256) as u32).is_ok() {
+        if table.put(slot, half, symbol.index() as u32).is_ok() {
             *used = used.saturating_add(1);
         }
         Ok(symbol)

@@ -33,7 +33,7 @@ pub(crate) struct Shard {
     tables: [Place<Table>; TABLES],
     /// How many tables there are. The last is the longest, and has all numbers.
     made: AtomicUsize,
-    /// How many slots of the longest table are taken. Whoever adds a word holds it.
+    /// How many slots of the longest table are taken. A call that adds a word holds the lock.
     pub(crate) used: Mutex<usize>,
 }
 
@@ -99,8 +99,8 @@ impl Shard {
     }
 }
 
-/// A table of slots, which hold the same as those of `Slots`. A search that passes the last slot
-/// goes on at the first.
+/// A table of slots of the form that `Slots` describes. A search that passes the last slot goes on
+/// at the first.
 #[derive(Drop)]
 pub(crate) struct Table {
     slots: Vec<AtomicU64>,
@@ -166,10 +166,10 @@ impl Table {
         }
     }
 
-    /// Returns the index of the first empty slot in the order of a search under this half of a
-    /// hash, and whether the way there passes a number under the half.
-    pub(crate) fn place_for(&self, half: u32) -> Option<(usize, bool)>
-        ensures { IfSome result (λ place. place.0 < length self.now.slots.items) }
+    /// Returns the index of the first empty slot that a search under this half of a hash reaches,
+    /// and whether the search passes a number under the half.
+    pub(crate) fn empty_slot(&self, half: u32) -> Option<(usize, bool)>
+        ensures { IfSome result (λ found. found.0 < length self.now.slots.items) }
     {
         let mut index = self.home(half);
         let mut is_passed = false;
@@ -184,8 +184,8 @@ impl Table {
         None
     }
 
-    /// Puts a number into the slot with this index, under half of a hash. Returns what the slot
-    /// held: a slot that is not empty stays as it is, and is returned as `Err`.
+    /// Writes a number, under half of a hash, to the slot with this index, and returns 0. A slot
+    /// that is not empty stays as it is, and its value is returned as `Err`.
     pub(crate) fn put(&self, index: usize, half: u32, number: u32) -> Result<u64, u64>
         requires index { index < length self.now.slots.items }
         requires number { number + 1 < NUMBERS }
@@ -208,12 +208,12 @@ impl Table {
         Ok(longer)
     }
 
-    /// Puts in what a slot of another table holds, unless it is empty.
+    /// Copies a slot of another table, unless it is empty.
     fn take_over(&mut self, slot: u64)
         ensures { length self.new.slots.items ≡ length self.old.slots.items }
     {
         if slot != 0 {
-            if let Some((index, _)) = self.place_for((slot >> 32) as u32) {
+            if let Some((index, _)) = self.empty_slot((slot >> 32) as u32) {
                 self.slots[index] = AtomicU64::new(slot);
             }
         }

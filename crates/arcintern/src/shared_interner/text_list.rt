@@ -1,12 +1,12 @@
 //! The texts of a shared interner: a list that threads read without a lock while others add to it.
-ghost use Rattle.std.specs.Prelude.{◌≡◌, ◌+◌, ◌*◌, ◌/◌, ◌%◌, ◌^◌, ◌<◌, ◌≤◌, IfOk, IfSome, IsErrOf, length};
+ghost use Rattle.std.specs.Prelude.{◌≡◌, ◌^◌, ◌<◌, IfOk, IfSome, IsErrOf, length};
 ghost use Rattle.boxcar.specs.Table.{id_at};
-ghost use Rattle.arcintern.specs.TextList.{IsAt, place_of, row_of};
+ghost use Rattle.arcintern.specs.TextList.{IsAt, column_of, number_in, row_in, row_of};
 ghost use Rattle.arcintern.specs.Texts.{IsSymbolOf, IsSymbolOfWord};
 
 use crate::fault::InternFault;
 use crate::interner::MOST_TEXTS;
-use crate::shared_interner::SharedSymbol;
+use crate::shared_interner::{ROW_VALUES, SharedSymbol};
 use arcstr::ArcStr;
 use boxcar::slot::{OnceSlot, SlotRule, Written};
 use boxcar::tag::Tag;
@@ -38,7 +38,7 @@ pub(crate) type Row = Vec<Place<ArcStr>>;
 #[derive(Drop)]
 pub(crate) struct TextList {
     rows: Vec<Place<Row>>,
-    /// Whoever makes a row holds it.
+    /// A call that makes a row holds the lock.
     making: Mutex<()>,
     /// Keeps what a search reads out of the line of memory that each new text changes.
     apart: [u64; 8],
@@ -49,12 +49,13 @@ pub(crate) struct TextList {
 impl Model for TextList {
     ghost use Rattle.std.specs.Prelude.{◌≡◌, List, length};
     ghost use Rattle.boxcar.specs.Slot.{Named};
+    ghost use Rattle.arcintern.specs.declared.shared_interner.text_list.TheConstants.{ROWS};
 
     ghost Value = { List Named };
 
     ghost view = { λ list. list.rows.items };
 
-    ghost invariant = { λ list. length list.rows.items ≡ 224 };
+    ghost invariant = { λ list. length list.rows.items ≡ ROWS };
 }
 
 /// Makes places that are not written.
@@ -76,13 +77,13 @@ fn power_of_two(exponent: usize) -> usize
     1 << exponent
 }
 
-/// Returns the row that has the text with this number, and its place there.
-fn locate(number: usize) -> (usize, usize)
+/// Returns the index of the row that has the text with this number, and that of its place there.
+fn row_and_column(number: usize) -> (usize, usize)
     requires { number < MOST_TEXTS }
     ensures at { IsAt number result.0 result.1 }
     ensures row { result.0 ≡ row_of number }
-    ensures place { result.1 ≡ place_of number }
-    ensures small { result.0 < 224 }
+    ensures column { result.1 ≡ column_of number }
+    ensures small { result.0 < ROWS }
 {
     let top = (number + 32).ilog2() as usize;
     let (eighths, span) = ((number + 32) * 8, power_of_two(top));
@@ -90,23 +91,23 @@ fn locate(number: usize) -> (usize, usize)
     (row, eighths % span / 8)
 }
 
-/// Returns the place in this row of the text with this number.
-fn place_in(row: usize, number: usize) -> usize
+/// Returns the index of the place in this row that has the text with this number.
+fn column_in(row: usize, number: usize) -> usize
     requires number { number < MOST_TEXTS }
     requires row { row ≡ row_of number }
-    ensures { result ≡ place_of number }
+    ensures { result ≡ column_of number }
 {
     (number + 32) * 8 % power_of_two(row / 8 + 5) / 8
 }
 
-/// Returns the number and the row of a symbol in one.
+/// Returns the bits of a symbol.
 fn bits_of(number: usize, row: usize) -> u64
     requires number { number < MOST_TEXTS }
-    requires row { row < 256 }
-    ensures number { result / 256 ≡ number }
-    ensures row { result % 256 ≡ row }
+    requires row { row < ROW_VALUES }
+    ensures number { number_in result ≡ number }
+    ensures row { row_in result ≡ row }
 {
-    number as u64 * 256 + row as u64
+    number as u64 * ROW_VALUES + row as u64
 }
 
 impl TextList {
@@ -119,7 +120,7 @@ impl TextList {
             next: AtomicUsize::new(0),
         };
         if let Some(last) = texts.min(MOST_TEXTS).checked_sub(1) {
-            for row in 0..=locate(last).0 {
+            for row in 0..=row_and_column(last).0 {
                 list.make_row(row)?;
             }
         }
@@ -128,7 +129,7 @@ impl TextList {
 
     /// Makes the row, which no other thread makes.
     fn make_row(&self, row: usize) -> Result<Written<Row>, AllocError>
-        requires { row < 224 }
+        requires { row < ROWS }
         ensures { IfOk result (λ made. made.of ≡ id_at self.now row) }
     {
         let places = empty_places(*self.rows.allocator(), 4 << (row / 8))?;
@@ -141,7 +142,7 @@ impl TextList {
     /// Returns the row, which is made if it is not there.
     #[inline(always)]
     fn row(&self, rt: &impl Wait, row: usize) -> Result<Written<Row>, AllocError>
-        requires { row < 224 }
+        requires { row < ROWS }
         ensures { IfOk result (λ made. made.of ≡ id_at self.now row) }
     {
         match self.rows[row].witness() {
@@ -153,7 +154,7 @@ impl TextList {
     /// As `row`, once no other thread makes a row.
     #[cold]
     fn made_row(&self, rt: &impl Wait, row: usize) -> Result<Written<Row>, AllocError>
-        requires { row < 224 }
+        requires { row < ROWS }
         ensures { IfOk result (λ made. made.of ≡ id_at self.now row) }
     {
         let _making = self.making.lock(rt);
@@ -173,9 +174,9 @@ impl TextList {
         let mut text = text;
         let mut number = self.len();
         while number < MOST_TEXTS {
-            let (row, place) = locate(number);
-            let made = self.row(rt, row)?;
-            let Some(empty) = self.rows[row].value(&made).get(place) else {
+            let (row, column) = row_and_column(number);
+            let written = self.row(rt, row)?;
+            let Some(empty) = self.rows[row].value(&written).get(column) else {
                 return Err(InternFault::Memory);
             };
             if let Err(next) = self.take(number) {
@@ -186,7 +187,7 @@ impl TextList {
                 Ok(text) => {
                     return Ok(SharedSymbol {
                         bits: bits_of(number, row),
-                        made,
+                        row: written,
                         text,
                     });
                 }
@@ -222,14 +223,14 @@ impl TextList {
         if number >= MOST_TEXTS {
             return None;
         }
-        let (row, place) = locate(number);
-        let made = self.rows[row].witness()?;
-        let there = self.rows[row].value(&made).get(place)?;
+        let (row, column) = row_and_column(number);
+        let written = self.rows[row].witness()?;
+        let there = self.rows[row].value(&written).get(column)?;
         let text = there.witness()?;
         let found = there.value(&text);
         let symbol = SharedSymbol {
             bits: bits_of(number, row),
-            made,
+            row: written,
             text,
         };
         Some((symbol, found))
@@ -254,8 +255,8 @@ impl TextList {
         requires { IsSymbolOf self.now symbol.now }
         ensures { result.now ≡ symbol.now.text }
     {
-        let row = (symbol.bits % 256) as usize;
-        let place = place_in(row, (symbol.bits / 256) as usize);
-        self.rows[row].value(&symbol.made)[place].value(&symbol.text)
+        let row = (symbol.bits % ROW_VALUES) as usize;
+        let column = column_in(row, (symbol.bits / ROW_VALUES) as usize);
+        self.rows[row].value(&symbol.row)[column].value(&symbol.text)
     }
 }

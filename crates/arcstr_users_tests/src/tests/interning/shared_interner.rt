@@ -335,35 +335,12 @@ fn a_text_is_kept_as_a_clone(ref rt: HostRuntime) {
 }
 
 #[test]
-fn a_slice_of_all_of_a_text_is_kept_as_a_clone(ref rt: HostRuntime) {
-    let text = &made(rt, "foobar");
-    let slice = text.substr(rt, ..).expect(rt, "refused");
-    let interner = SharedInterner::new(rt.alloc(), 2).expect(rt, "refused");
-    interner.intern_substr(rt, &slice).expect(rt, "refused");
-    check_eq!(rt; ArcStr::strong_count(text), Some(3));
-}
-
-#[test]
-fn another_slice_is_copied(ref rt: HostRuntime) {
-    let text = &made(rt, "foobar");
-    let interner = &SharedInterner::new(rt.alloc(), 2).expect(rt, "refused");
-    let symbol = interner
-        .intern_substr(rt, &text.substr(rt, ..3).expect(rt, "refused"))
-        .expect(rt, "refused");
-    check_eq!(rt; ArcStr::strong_count(text), Some(1));
-    check_alone(rt, interner, symbol.number(), "foo");
-}
-
-#[test]
 fn a_literal_stays_a_literal(ref rt: HostRuntime) {
     let interner = &SharedInterner::new(rt.alloc(), 2).expect(rt, "refused");
     let symbol = interner
         .intern_arc(rt, &literal!("foo"))
         .expect(rt, "refused");
     check!(rt; ArcStr::is_static(interner.text(&symbol)));
-    let symbol = interner.intern_static(rt, "bar").expect(rt, "refused");
-    check!(rt; ArcStr::is_static(interner.text(&symbol)));
-    check_eq!(rt; interner.len(), 2);
 }
 
 #[test]

@@ -5,7 +5,7 @@ use Rattle.arcstr_block.proofs.Names.{shr_Tells, types_at, heard, alloc_all, pas
 use Rattle.arcstr_block.proofs.Names.{move, split, join, fsplit, fjoin, raw, by, keep, fsplit3, rewrite, use3, sub, whole, agg, look_in, stop, fld, of_opd}
 use Rattle.arcstr_block.proofs.Names.{no_more, and_then, returns, enter, load, proved, shown, block_owns, block_shares, word_at, Right, fixed}
 use Rattle.arcstr_block.proofs.Memory.{shares_laws}
-use Rattle.arcstr_block.proofs.Pointers.{pointer_val, typed, Words, told, opened}
+use Rattle.arcstr_block.proofs.Pointers.{pointer_val, typed, Words}
 use Rattle.arcstr_block.specs.contracts.pointer.Pointer.again.{ended, clauses}
 use Rattle.arcstr_block.specs.contracts.pointer.Pointer.again.Key.{name as #self}
 use Rattle.arcstr_block.proofs.pointer.Pointer.again.Statement.{statement}

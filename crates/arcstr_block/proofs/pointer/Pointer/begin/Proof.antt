@@ -10,7 +10,7 @@ use Rattle.arcstr_block.proofs.Names.{and_then, first, blocks, exec, returns, en
 use Rattle.arcstr_block.proofs.Names.{proved, Token, EndsIn, FlagAndCount, Free, Ended, Looked, Step, Begin, BlockName, reached, seat, Ends, Inv, free}
 use Rattle.arcstr_block.proofs.Names.{right_to, block_owns, block_shares, word_at, word_offset, Right, IsFree}
 use Rattle.arcstr_block.proofs.Memory.{shares_laws}
-use Rattle.arcstr_block.proofs.Pointers.{pointer_val, typed, found_val, found_typed, Words, told}
+use Rattle.arcstr_block.proofs.Pointers.{pointer_val, typed, found_val, found_typed, told}
 use Rattle.arcstr_block.proofs.Book.{book_begin, begun, begin_reply}
 use Rattle.arcstr_block.proofs.Words.{marked_word, unmarked_word}
 use Rattle.arcstr_block.specs.contracts.pointer.Pointer.begin.{ended, clauses}

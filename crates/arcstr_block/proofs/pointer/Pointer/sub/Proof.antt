@@ -9,7 +9,7 @@ use Rattle.arcstr_block.proofs.Names.{whole, agg, stop, fld, lit, of_opd, no_mor
 use Rattle.arcstr_block.proofs.Names.{found, fm, seq_cst, finds, subs, proved, EndsIn, Dropping, Owes, Left, Sub, reached, seat, Ends, Inv, held_with, right_to}
 use Rattle.arcstr_block.proofs.Names.{block_owns, block_shares, word_at, word_offset, Right, dropping}
 use Rattle.arcstr_block.proofs.Memory.{shares_laws}
-use Rattle.arcstr_block.proofs.Pointers.{pointer_val, typed, found_val, found_typed, Words, told}
+use Rattle.arcstr_block.proofs.Pointers.{pointer_val, typed, found_val, found_typed, told}
 use Rattle.arcstr_block.proofs.Book.{book_sub, left_in, sub_reply}
 use Rattle.arcstr_block.proofs.Words.{one_less, last_two, not_last}
 use Rattle.arcstr_block.specs.contracts.pointer.Pointer.sub.{ended, clauses}
