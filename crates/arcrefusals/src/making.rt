@@ -52,9 +52,9 @@ fn convert_texts<R: Machine>(rt: &R) -> io::Result<()> {
             |_: &mut ()| "foobar".chars().collect::<ArcStr>(alloc) => "foobar", 1;
         "ArcStr::from_iter of strings: [+3 +3 +8 +24 -3 -3 -8] [-24]":
             |_: &mut ()| joined_strings(alloc) => "foobar", 1;
-        "ArcStr::read_from: [+24 +24 -24] [-24]":
+        "ArcStr::read_from: [+1040 +24 -1040] [-24]":
             |_: &mut ()| ArcStr::read_from(alloc, "foobar".as_bytes()) => "foobar", 1;
-        "ArcStr::read_file of an unknown length: [+24 +24 -24] [-24]":
+        "ArcStr::read_file of an unknown length: [+1040 +24 -1040] [-24]":
             |_: &mut ()| ArcStr::read_file(rt, "/proc/sys/kernel/ostype") => "Linux\n", 1;
         "ArcStr::deserialize: [+6 +8 +24 -6 -8] [-24]":
             |_: &mut ()| serde_json::from_str::<ArcStr>(alloc, "\"foobar\"") => "foobar", 1;
