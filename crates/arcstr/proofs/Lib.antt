@@ -5,5 +5,6 @@ pub mod JoinedSlices
 pub mod Orders
 pub mod PartLists
 pub mod Ranges
+pub mod Readings
 pub mod SliceLists
 pub mod Texts

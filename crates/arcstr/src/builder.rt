@@ -7,6 +7,7 @@ ghost use Rattle.arcstr.specs.Building.{HasRoom, IsDoubled};
 ghost use Rattle.arcstr.specs.Making.{IsTooLong, IsFaultOfMaking};
 
 use crate::arc_str::ArcStr;
+use crate::reading::Held;
 use arcstr_block::{Draft, TextFault};
 use std::alloc::Global;
 use std::fmt;
@@ -16,9 +17,9 @@ use std::marker::Model;
 /// The capacity in bytes of the first block that a push makes.
 const FIRST: usize = 8;
 
-/// An `ArcStr` that is being built. In a contract it has the text so far, and a capacity: the
-/// number of bytes that its block has room for. It appends as a `String` does, and `write!` and
-/// `writeln!` write to it. Its size is 32 bytes.
+/// An `ArcStr` that is being built. In a contract it has the text so far, a capacity, which is the
+/// number of bytes that its block has room for, and the bytes that `read_from` holds back. It
+/// appends as a `String` does, and `write!` and `writeln!` write to it. Its size is 40 bytes.
 ///
 /// The bytes are written to the block that the finished text keeps. So a text that fills its
 /// capacity is finished without a copy and without an allocation. A shorter one is copied once, to
@@ -37,14 +38,15 @@ const FIRST: usize = 8;
 pub struct ArcStrBuilder {
     draft: Option<Draft<Global>>,
     alloc: Global,
+    pub(crate) held: Held,
 }
 
 impl Model for ArcStrBuilder {
-    ghost use Rattle.arcstr.specs.Building.{Unfinished, unfinished_of};
+    ghost use Rattle.arcstr.specs.Building.{Building, building_of, unfinished_of};
 
-    ghost Value = { Unfinished };
+    ghost Value = { Building };
 
-    ghost view = { λ builder. unfinished_of builder.draft };
+    ghost view = { λ builder. building_of (unfinished_of builder.draft) builder.held };
 }
 
 impl ArcStrBuilder {
@@ -57,8 +59,13 @@ impl ArcStrBuilder {
     pub fn new(alloc: Global) -> ArcStrBuilder
         ensures empty { result.text ≡ [] }
         ensures capacity { result.capacity ≡ 0 }
+        ensures held { result.held ≡ [] }
     {
-        ArcStrBuilder { draft: None, alloc }
+        ArcStrBuilder {
+            draft: None,
+            alloc,
+            held: Held::none(),
+        }
     }
 
     /// Creates a builder of an empty text with room for exactly `capacity` bytes. Makes one
@@ -76,15 +83,16 @@ impl ArcStrBuilder {
     pub fn with_capacity(alloc: Global, capacity: usize) -> Result<ArcStrBuilder, TextFault>
         ensures empty { IfOk result (λ made. made.text ≡ []) }
         ensures capacity { IfOk result (λ made. made.capacity ≡ capacity) }
+        ensures held { IfOk result (λ made. made.held ≡ []) }
         // Promise: The call fails with `Length` exactly if the capacity is too long.
         ensures too_long { IsErrOf result TextFault.Length ↔ IsTooLong capacity }
         ensures refused { IfErr result (IsFaultOfMaking capacity) }
     {
-        if capacity == 0 {
-            return Ok(ArcStrBuilder::new(alloc));
+        let mut builder = ArcStrBuilder::new(alloc);
+        if capacity > 0 {
+            builder.draft = Some(Draft::new(alloc, capacity)?);
         }
-        let draft = Some(Draft::new(alloc, capacity)?);
-        Ok(ArcStrBuilder { draft, alloc })
+        Ok(builder)
     }
 
     /// Returns the text so far.
@@ -157,6 +165,7 @@ impl ArcStrBuilder {
     /// ```
     pub fn reserve(&mut self, additional: usize) -> Result<(), TextFault>
         ensures text { self.new.text ≡ self.old.text }
+        ensures held { self.new.held ≡ self.old.held }
         ensures room { IfOk result (λ _. length self.old.text + additional ≤ self.new.capacity) }
         // Promise: If there is room already, the call does nothing and cannot fail.
         ensures within { HasRoom self.old additional → IsOk result }
@@ -195,6 +204,7 @@ impl ArcStrBuilder {
     pub fn push_str(&mut self, text: &str) -> Result<(), TextFault>
         ensures pushed { IfOk result (λ _. self.new.text ≡ self.old.text ++ text.now) }
         ensures kept { IfErr result (λ _. self.new.text ≡ self.old.text) }
+        ensures held { self.new.held ≡ self.old.held }
         // Promise: If there is room, the call cannot fail, and the block stays.
         ensures within { HasRoom self.old (length text.now) → IsOk result }
         ensures stays { HasRoom self.old (length text.now) → self.new.capacity ≡ self.old.capacity }
@@ -224,6 +234,7 @@ impl ArcStrBuilder {
     pub fn push(&mut self, character: char) -> Result<(), TextFault>
         ensures pushed { IfOk result (λ _. self.new.text ≡ self.old.text ++ encode_utf8 character) }
         ensures kept { IfErr result (λ _. self.new.text ≡ self.old.text) }
+        ensures held { self.new.held ≡ self.old.held }
         ensures within { HasRoom self.old (length (encode_utf8 character)) → IsOk result }
         ensures stays { HasRoom self.old (length (encode_utf8 character))
             → self.new.capacity ≡ self.old.capacity }
@@ -297,7 +308,11 @@ impl ArcStrBuilder {
         if self.is_empty() {
             return Ok(ArcStr::new());
         }
-        let ArcStrBuilder { draft, alloc: _ } = self;
+        let ArcStrBuilder {
+            draft,
+            alloc: _,
+            held: _,
+        } = self;
         match draft {
             Some(draft) => Ok(ArcStr::from_shared(draft.finish()?)),
             None => Ok(ArcStr::new()),
@@ -322,7 +337,11 @@ impl ArcStrBuilder {
         if self.capacity() == 0 {
             return ArcStr::new();
         }
-        let ArcStrBuilder { draft, alloc: _ } = self;
+        let ArcStrBuilder {
+            draft,
+            alloc: _,
+            held: _,
+        } = self;
         match draft {
             Some(draft) => ArcStr::from_shared(draft.fill(rest)),
             None => unreachable!(),

@@ -159,6 +159,45 @@ fn a_builder_keeps_what_came_before_a_fault(ref rt: HostRuntime) {
     check_text(rt, builder.as_str(), "foobar");
 }
 
+/// A reader of two bytes at a time, whose second read would block.
+fn blocking(bytes: &[u8]) -> Pieces<'_> {
+    let mut reader = in_pieces(bytes, 2);
+    reader.fails_at = 1;
+    reader.kind = ErrorKind::WouldBlock;
+    reader
+}
+
+#[test]
+fn an_unfinished_character_waits_for_the_next_call(ref rt: HostRuntime) {
+    let mut builder = ArcStrBuilder::new(rt.alloc());
+    let mut reader = blocking(b"a\xc3\xa9");
+    let read = builder.read_from(&mut reader);
+    check!(rt; matches!(read, Err(ReadFault::Io(_))));
+    check_eq!(rt; reader.reads, 2);
+    check_text(rt, builder.as_str(), "a");
+    builder.read_from(&mut reader).expect(rt, "refused");
+    check_text(rt, builder.as_str(), "aé");
+}
+
+#[test]
+fn an_unfinished_character_that_does_not_go_on_is_refused(ref rt: HostRuntime) {
+    let mut builder = ArcStrBuilder::new(rt.alloc());
+    let mut reader = blocking(b"a\xc3bc");
+    check!(rt; builder.read_from(&mut reader).is_err());
+    let read = builder.read_from(&mut reader);
+    check!(rt; matches!(read, Err(ReadFault::Text(TextFault::Utf8(1)))));
+    check_text(rt, builder.as_str(), "a");
+}
+
+#[test]
+fn a_byte_that_begins_no_character_is_refused_at_once(ref rt: HostRuntime) {
+    let mut builder = ArcStrBuilder::new(rt.alloc());
+    let mut reader = blocking(b"a\xffb");
+    let read = builder.read_from(&mut reader);
+    check!(rt; matches!(read, Err(ReadFault::Text(TextFault::Utf8(1)))));
+    check_eq!(rt; reader.reads, 1);
+}
+
 #[test]
 fn a_builder_with_room_keeps_its_block(ref rt: HostRuntime) {
     let mut builder = ArcStrBuilder::with_capacity(rt.alloc(), 6).expect(rt, "no memory");
