@@ -1,8 +1,9 @@
 //! What the rounds share: random numbers and texts, the count of the answers, and of those that
 //! differ.
 
-use anyhow::{Context, Result};
-use arcstr::{ArcStr, Substr};
+use crate::memory::is_of_memory;
+use anyhow::{Context, Error, Result};
+use arcstr::{ArcStr, StaticStr, Substr};
 use std::alloc::Global;
 use std::fmt::Debug;
 use std::ops::Range;
@@ -16,8 +17,8 @@ pub(crate) trait Machine: AllocGlobal + Threads + Wait + Sync + Print + Files {}
 
 impl<R: AllocGlobal + Threads + Wait + Sync + Print + Files> Machine for R {}
 
-/// How many differences of one kind are shown.
-const SHOWN: usize = 2;
+/// How many differences are shown.
+const SHOWN: usize = 20;
 
 /// Characters of one to four bytes: many that are split at, white space and what looks like it,
 /// quotes, controls, a mark that combines, and the ends of the ranges of UTF-8.
@@ -38,10 +39,14 @@ pub(crate) type Piece<'a> = (usize, &'a str);
 pub(crate) struct Asked<'r, R> {
     pub(crate) rt: &'r R,
     pub(crate) alloc: Global,
-    state: u64,
+    /// What the next random number comes from.
+    pub(crate) state: u64,
+    /// Whether a call that is out of memory is made again.
+    pub(crate) is_retrying: bool,
+    /// How many blocks a round marked static, which stay.
+    pub(crate) kept: u64,
     answers: usize,
     differ: usize,
-    shown: Vec<(&'static str, usize)>,
 }
 
 /// Compares what a library answers with what std answers. The kind of the answer is the call.
@@ -61,13 +66,29 @@ impl<'r, R: Machine> Asked<'r, R> {
             rt,
             alloc: rt.alloc(),
             state: seed.wrapping_mul(0x9e37_79b9_7f4a_7c15) | 1,
+            is_retrying: false,
+            kept: 0,
             answers: 0,
             differ: 0,
-            shown: Vec::new(rt.alloc()),
         }
     }
 
-    /// Counts an answer, and shows the first differences of a kind.
+    /// Marks a text static, and remembers that its block stays.
+    pub(crate) fn leak(&mut self, text: &ArcStr) -> StaticStr {
+        self.kept += u64::from(ArcStr::strong_count(text).is_some());
+        text.leak()
+    }
+
+    /// Whether a call with this fault, which is that memory is out, is made again.
+    pub(crate) fn retried(&mut self, fault: Error) -> Result<()> {
+        if self.is_retrying && is_of_memory(self.alloc, &fault)? {
+            self.is_retrying = false;
+            return Ok(());
+        }
+        Err(fault)
+    }
+
+    /// Counts an answer, and shows it if it is one of the first that differ.
     pub(crate) fn compare<T: PartialEq + Debug>(
         &mut self,
         kind: &'static str,
@@ -75,25 +96,10 @@ impl<'r, R: Machine> Asked<'r, R> {
         wanted: &T,
     ) -> Result<()> {
         self.answers += 1;
-        if here == wanted {
-            return Ok(());
-        }
-        let here = format!(in self.alloc; "{here:?}")?;
-        let wanted = format!(in self.alloc; "{wanted:?}")?;
-        self.differs(kind, here.as_str(), wanted.as_str())
-    }
-
-    fn differs(&mut self, kind: &'static str, here: &str, wanted: &str) -> Result<()> {
-        self.differ += 1;
-        let place = match self.shown.iter().position(|(shown, _)| *shown == kind) {
-            Some(place) => place,
-            None => {
-                self.shown.push((kind, 0))?;
-                self.shown.len() - 1
-            }
-        };
-        self.shown[place].1 += 1;
-        if self.shown[place].1 <= SHOWN {
+        self.differ += usize::from(here != wanted);
+        if here != wanted && self.differ <= SHOWN {
+            let here = format!(in self.alloc; "{here:?}")?;
+            let wanted = format!(in self.alloc; "{wanted:?}")?;
             println!(self.rt; "{kind}: {here:.300} and not {wanted:.300}")?;
         }
         Ok(())
@@ -101,14 +107,9 @@ impl<'r, R: Machine> Asked<'r, R> {
 
     /// Counts a round that an error ended as an answer that differs.
     pub(crate) fn ended(&mut self, kind: &'static str, round: Result<()>) -> Result<()> {
-        match round {
-            Ok(()) => Ok(()),
-            Err(error) => {
-                self.answers += 1;
-                let error = format!(in self.alloc; "{error}")?;
-                self.differs(kind, error.as_str(), "an answer")
-            }
-        }
+        let Err(error) = round else { return Ok(()) };
+        let error = format!(in self.alloc; "{error}")?;
+        self.compare(kind, &error.as_str(), &"an answer")
     }
 
     /// Prints the counts. Returns whether no answer differs.

@@ -1,6 +1,7 @@
 //! Handles: clones, slices, raw handles and drops, with the count and the mark after each.
 
 use crate::asked::{Asked, Machine, same};
+use crate::memory::takes;
 use anyhow::{Context, Result};
 use arcstr::block::Shared;
 use arcstr::{ArcStr, End, Seen, Substr};
@@ -32,7 +33,10 @@ impl Life {
 fn text_of_kind<R: Machine>(asked: &mut Asked<'_, R>, kind: usize) -> Result<ArcStr> {
     Ok(match kind {
         0 => ArcStr::from_static("aé"),
-        1 => ArcStr::from_str(asked.alloc, "foobar")?.leak().to_arc_str(),
+        1 => {
+            let text = ArcStr::from_str(asked.alloc, "foobar")?;
+            asked.leak(&text).to_arc_str()
+        }
         2 => ArcStr::from_shared(Shared::from_text(asked.alloc, "foo")?),
         _ => ArcStr::from_str(asked.alloc, "foo bar")?,
     })
@@ -86,7 +90,7 @@ pub(crate) fn lives<R: Machine>(asked: &mut Asked<'_, R>) -> Result<()> {
     for _ in 0..asked.below(steps) {
         let (step, at) = (asked.below(20), asked.below(handles.len()));
         if step == 0 && asked.one_in(3) {
-            let kept = first.leak();
+            let kept = takes!(asked; (0, 0), asked.leak(&first));
             same!(asked; (kept.as_str(), kept.len()), (first.as_str(), first.len()));
             same!(asked; kept.literal(), if kind == 0 { Some("aé") } else { None });
             let (kept, now) = first.leak_after(&seen);
@@ -97,7 +101,8 @@ pub(crate) fn lives<R: Machine>(asked: &mut Asked<'_, R>) -> Result<()> {
             let ended = if step < 3 { handle.end().0 } else { handle.end_after(&seen).0 };
             same!(asked; ended, life.end());
         } else {
-            handles.push(again(asked, &first, &seen)?)?;
+            let handle = takes!(asked; (0, 0), again(asked, &first, &seen)?);
+            handles.push(handle)?;
             life.handles += 1;
         }
         seen = look(asked, &first, life, &seen)?;

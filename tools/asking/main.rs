@@ -1,9 +1,10 @@
 //! Asks the libraries random questions, and compares what they answer with what std answers to the
 //! same question, and the counts and marks of texts with what the life of their handles says.
 //!
-//! Standard input has a seed, the number of rounds, and perhaps a word, which is planted in a text
-//! and has to be seen. Prints the first differences of each kind, and then `N answers, M differ`.
-//! The status is 0 only if none differs.
+//! Standard input has a seed, the number of rounds, and perhaps a word. After `refused`, each request
+//! for memory of these rounds is refused in turn. After `sizes`, large texts and lists are asked in
+//! place of rounds. Another word is planted in a text, and has to be seen. Prints the first
+//! differences, and then `N answers, M differ`. The status is 0 only if none differs.
 
 #![tactic(auto)]
 
@@ -11,7 +12,9 @@ mod asked;
 mod golden;
 mod handles;
 mod making;
+mod memory;
 mod parts;
+mod sizes;
 mod slicing;
 mod values;
 mod words;
@@ -21,8 +24,8 @@ use anyhow::{Context, Result};
 use std::process::ExitCode;
 
 /// Asks the questions of a round, of which there are kinds.
-fn round<R: Machine>(asked: &mut Asked<'_, R>, number: u64) -> Result<()> {
-    let (kind, asks) = match number % 16 {
+fn round<R: Machine>(asked: &mut Asked<'_, R>, number: u64) -> (&'static str, Result<()>) {
+    match number % 16 {
         0 | 1 => ("patterns", parts::around(asked)),
         2 => ("parts", parts::parts(asked)),
         3 => ("ranges", slicing::ranges(asked)),
@@ -38,9 +41,9 @@ fn round<R: Machine>(asked: &mut Asked<'_, R>, number: u64) -> Result<()> {
         13 => ("handles", handles::lives(asked)),
         14 => ("tokens", words::tokens_of_one(asked)),
         _ if number % 64 == 15 => ("tokens of many", words::tokens_of_all(asked)),
+        _ if number % 64 == 31 => ("room", words::in_room(asked)),
         _ => ("interning", words::interned(asked)),
-    };
-    asked.ended(kind, asks)
+    }
 }
 
 fn main(rt: HostRuntime) -> Result<ExitCode> {
@@ -49,12 +52,20 @@ fn main(rt: HostRuntime) -> Result<ExitCode> {
     let seed = words.next().context("no seed")?.parse::<u64>()?;
     let rounds = words.next().context("no rounds")?.parse::<u64>()?;
     let mut asked = Asked::new(&rt, seed);
-    if let Some(planted) = words.next() {
-        values::orders(&mut asked, planted)?;
-    }
-    golden::texts(&mut asked)?;
-    for number in 0..rounds {
-        round(&mut asked, number)?;
+    match words.next() {
+        Some("sizes") => sizes::ask(&mut asked)?,
+        Some("refused") => {
+            for number in 0..rounds {
+                memory::refuse_each(&mut asked, number)?;
+            }
+        }
+        planted => {
+            values::orders(&mut asked, planted.unwrap_or(""))?;
+            golden::texts(&mut asked)?;
+            for number in 0..rounds {
+                memory::ask(&mut asked, number, (0, 0, 0))?;
+            }
+        }
     }
     Ok(if asked.finish()? { ExitCode::SUCCESS } else { ExitCode::FAILURE })
 }

@@ -1,6 +1,7 @@
 //! Ranges of all forms, slices and views.
 
 use crate::asked::{Asked, Machine, Pair, Piece, one, piece, same};
+use crate::memory::takes;
 use anyhow::Result;
 use arcstr::range::{checked_ends, is_boundary, slice};
 use arcstr::{ArcStr, RangeFault, StrRange, StrView, Substr, literal_substr};
@@ -70,8 +71,10 @@ macro_rules! ask_range {
 
 pub(crate) fn ranges<R: Machine>(asked: &mut Asked<'_, R>) -> Result<()> {
     let pair = Pair::random(asked)?;
-    ask_range!(&mut *asked, &pair.whole, pair.text.as_str(), 0);
-    ask_range!(&mut *asked, &pair.slice, pair.own(), pair.start);
+    takes!(asked; (0, 0), {
+        ask_range!(&mut *asked, &pair.whole, pair.text.as_str(), 0);
+        ask_range!(&mut *asked, &pair.slice, pair.own(), pair.start);
+    });
     Ok(())
 }
 

@@ -1,6 +1,7 @@
 //! Texts as values: order, hashes, keys, output, `Cow` and JSON.
 
 use crate::asked::{Asked, Machine, Pair, piece, same};
+use crate::memory::takes;
 use anyhow::{Context, Result};
 use arcstr::{ArcStr, JsonFault, StrView, Substr, format_arcstr, literal};
 use serde_json::Value;
@@ -38,7 +39,7 @@ pub(crate) fn orders<R: Machine>(asked: &mut Asked<'_, R>, planted: &str) -> Res
     same!(asked; (hash_of(&a), hash_of(&c)), (hash_of(&one), hash_of(&one)));
     same!(asked; (hash_of(&d), hash_of(&(d, 7u8))), (hash_of(&other), hash_of(&(other, 7u8))));
     if one.len().max(other.len()) <= LEAKED {
-        let (a, b) = (a.leak(), b.leak());
+        let (a, b) = (asked.leak(&a), asked.leak(&b));
         same!(asked; (a.cmp(&b), a == b, a.is_static()), (order, is_equal, true));
     }
     Ok(())
@@ -93,7 +94,8 @@ pub(crate) fn output<R: Machine>(asked: &mut Asked<'_, R>) -> Result<()> {
     same!(asked; shown(alloc, &pair.whole, width, most)?, wanted);
     same!(asked; shown(alloc, &pair.slice, width, most)?, shown(alloc, &own, width, most)?);
     if text.len() <= LEAKED {
-        same!(asked; shown(alloc, &pair.whole.leak(), width, most)?, wanted);
+        let kept = asked.leak(&pair.whole);
+        same!(asked; shown(alloc, &kept, width, most)?, wanted);
     }
     let (view, wanted) = (StrView::whole(own), format!(in alloc; "{own:>width$.most$}")?);
     same!(asked; format!(in alloc; "{view:>width$.most$}")?, wanted);
@@ -111,17 +113,21 @@ pub(crate) fn copies<R: Machine>(asked: &mut Asked<'_, R>) -> Result<()> {
     let (rt, alloc, text, own) = (asked.rt, asked.alloc, pair.text.as_str(), pair.own());
     let (whole, slice) = (&pair.whole, &pair.slice);
     same!(asked; (cow(&whole.to_cow()), cow(&slice.to_cow())), ((true, text), (true, own)));
-    let copied = whole.clone(rt).into_cow(alloc).ok().context("no memory")?;
-    same!(asked; cow(&copied), (text.is_empty(), text));
-    let copied = slice.clone(rt).into_cow(alloc).ok().context("no memory")?;
-    same!(asked; cow(&copied), (text.is_empty(), own));
-    let copied = literal!("aé").into_cow(alloc).ok().context("no memory")?;
+    // A call that is out of memory gives back its handle.
+    match whole.clone(rt).into_cow(alloc) {
+        Ok(copied) => same!(asked; cow(&copied), (text.is_empty(), text)),
+        Err(back) => same!(asked; back.as_str(), text),
+    }
+    match slice.clone(rt).into_cow(alloc) {
+        Ok(copied) => same!(asked; cow(&copied), (text.is_empty(), own)),
+        Err(back) => same!(asked; piece(&back), piece(slice)),
+    }
+    let copied = takes!(asked; (0, 0), literal!("aé").into_cow(alloc)).ok().context("no literal")?;
     same!(asked; cow(&copied), (true, "aé"));
     let (value, part) = (whole.to_json(alloc)?, slice.to_json(alloc)?);
     same!(asked; (value.as_str(), part.as_str()), (Some(text), Some(own)));
-    same!(asked; ArcStr::from_json(alloc, &value).ok().as_deref(), Some(text));
-    let read = Substr::from_json(alloc, &part);
-    same!(asked; read.ok().as_ref().map(piece), Some((0, own)));
+    same!(asked; ArcStr::from_json(alloc, &value)?.as_str(), text);
+    same!(asked; piece(&Substr::from_json(alloc, &part)?), (0, own));
     let fault = ArcStr::from_json(alloc, &Value::Null).err();
     same!(asked; (fault, fault.map(|it| it.number())), (Some(JsonFault::NotText), Some(1)));
     let (line, part) = (serde_json::to_string(alloc, &text)?, serde_json::to_string(alloc, &own)?);

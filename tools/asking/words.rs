@@ -1,9 +1,12 @@
 //! The words of texts, interners, and values by symbols.
 
 use crate::asked::{Asked, Machine, one, pieces, same};
+use crate::memory::{again, takes};
 use crate::parts::words;
 use anyhow::{Context, Result};
-use arcintern::{Interner, MOST_BYTES, MOST_TEXTS, SharedInterner, Symbol, SymbolMap, WordList};
+use arcintern::{
+    InternFault, Interner, MOST_BYTES, MOST_TEXTS, SharedInterner, Symbol, SymbolMap, WordList,
+};
 use arcstr::{ArcStr, Substr};
 use arctokens::{Gate, token_list, tokens, tokens_all, tokens_all_with};
 use std::collections::HashMap;
@@ -52,14 +55,18 @@ pub(crate) fn tokens_of_all<R: Machine>(asked: &mut Asked<'_, R>) -> Result<()> 
         texts.push(ArcStr::from_str(alloc, text.as_str())?)?;
     }
     let lists = tokens_all(rt, alloc, texts.as_slice(), workers)?;
-    let others = tokens_all_with(rt, alloc, texts.as_slice(), workers, &gate)?;
+    let others = tokens_all_with(rt, alloc, texts.as_slice(), workers, &gate);
+    // Either all workers have passed, or memory is out and none has.
+    let passed = if others.is_err() { 0 } else { workers * (workers + 1) / 2 };
+    let sum = gate.sum.load(Ordering::SeqCst);
+    same!(asked; sum == passed || others.is_err() && sum == workers * (workers + 1) / 2, true);
+    let others = others?;
     same!(asked; (lists.len(), others.len()), (texts.len(), texts.len()));
     for at in 0..texts.len() {
         let wanted = words(alloc, texts[at].as_str(), 0)?;
         same!(asked; pieces(alloc, lists[at].as_slice())?, wanted);
         same!(asked; pieces(alloc, others[at].as_slice())?, wanted);
     }
-    same!(asked; gate.sum.load(Ordering::SeqCst), workers * (workers + 1) / 2);
     Ok(())
 }
 
@@ -76,21 +83,11 @@ struct Interners {
 
 impl Interners {
     fn new<R: Machine>(asked: &mut Asked<'_, R>) -> Result<Interners> {
-        let (alloc, room, shards) = (asked.alloc, asked.below(99), 1 + asked.below(4));
-        let has_room = asked.one_in(2);
+        let (alloc, room) = (asked.alloc, asked.below(2) * asked.below(99));
         Ok(Interners {
-            texts: match has_room {
-                true => Interner::with_capacity(alloc, room)?,
-                false => Interner::new(alloc),
-            },
-            list: match has_room {
-                true => WordList::with_capacity(alloc, room, 5 * room)?,
-                false => WordList::new(alloc),
-            },
-            shared: match has_room {
-                true => SharedInterner::with_capacity(alloc, shards, room)?,
-                false => SharedInterner::new(alloc, shards)?,
-            },
+            texts: Interner::with_capacity(alloc, room)?,
+            list: WordList::with_capacity(alloc, room, 5 * room)?,
+            shared: SharedInterner::with_capacity(alloc, 1 + asked.below(4), room)?,
             order: Vec::new(alloc),
             numbers: HashMap::new(alloc),
         })
@@ -108,32 +105,39 @@ impl Interners {
             }
         };
         let text = ArcStr::from_str(alloc, word)?;
-        let symbol = match way {
-            0 => self.texts.intern(text.as_str())?,
-            _ => self.texts.intern_arc(rt, &text)?,
-        };
-        let shared = match way {
-            0 => self.shared.intern(rt, word)?,
-            1 => self.shared.intern_arc(rt, &text)?,
-            _ if number % 2 == 0 => self.shared.intern_substr(rt, &text.substr(rt, ..)?)?,
-            _ => {
-                let longer = ArcStr::join(alloc, &["é", word], "")?;
-                self.shared.intern_substr(rt, &longer.substr(rt, 2..)?)?
-            }
-        };
-        let listed = self.list.intern(word)?;
+        let symbol = again!(asked; self.texts.len(), match way {
+            0 => self.texts.intern(text.as_str()),
+            _ => self.texts.intern_arc(rt, &text),
+        });
+        let longer = ArcStr::join(alloc, &["é", word], "")?;
+        let parts = (text.substr(rt, ..)?, longer.substr(rt, 2..)?);
+        let shared = again!(asked; (self.shared.len(), self.number_of(word)), match way {
+            0 => self.shared.intern(rt, word),
+            1 => self.shared.intern_arc(rt, &text),
+            _ if number % 2 == 0 => self.shared.intern_substr(rt, &parts.0),
+            _ => self.shared.intern_substr(rt, &parts.1),
+        });
+        let listed = again!(asked; self.list.len(), self.list.intern(word));
         same!(asked; (symbol.index(), listed.index()), (number, number));
         same!(asked; shared.again().number().index(), number);
         same!(asked; (self.list.text(listed), self.shared.text(&shared).as_str()), (word, word));
         Ok(symbol)
     }
 
-    /// Looks a word up in each.
+    fn number_of(&self, word: &str) -> Option<usize> {
+        self.shared.get(word).map(|it| it.number().index())
+    }
+
+    /// Looks a word up in each. A known word is interned without memory.
     fn find<R: Machine>(&self, asked: &mut Asked<'_, R>, word: &str) -> Result<()> {
         let number = self.numbers.get(word).copied();
         let (text, listed) = (self.texts.get(word), self.list.get(word));
         same!(asked; (text.map(|it| it.index()), listed.map(|it| it.index())), (number, number));
-        same!(asked; self.shared.get(word).map(|it| it.number().index()), number);
+        same!(asked; self.number_of(word), number);
+        if number.is_some() {
+            let again = takes!(asked; (0, 0), self.shared.intern(asked.rt, word))?;
+            same!(asked; Some(again.number().index()), number);
+        }
         Ok(())
     }
 
@@ -201,12 +205,20 @@ impl Interners {
     fn freeze<R: Machine>(self, asked: &mut Asked<'_, R>) -> Result<()> {
         let (rt, mut counts) = (asked.rt, Vec::new(asked.alloc));
         let Interners { shared, order, .. } = self;
-        let last = shared.intern_static(rt, "kept")?.number();
+        let last = again!(asked; shared.len(), shared.intern_static(rt, "kept")).number();
         same!(asked; last.index(), order.len());
         for (_, text) in shared.iter() {
             counts.push(ArcStr::strong_count(text))?;
         }
-        let frozen = shared.into_interner(rt).ok().context("no memory")?;
+        let frozen = match shared.into_interner(rt) {
+            Ok(frozen) => frozen,
+            Err(failed) => {
+                let back = failed.value;
+                same!(asked; (back.len(), back.get("kept").is_some()), (order.len() + 1, true));
+                asked.retried(InternFault::Memory.into())?;
+                back.into_interner(rt)?
+            }
+        };
         same!(asked; (frozen.len(), frozen.get("kept") == Some(last)), (order.len() + 1, true));
         for ((word, text), count) in order.iter().zip(frozen.iter()).zip(counts.iter()) {
             same!(asked; (text.as_str(), ArcStr::strong_count(text)), (word.as_str(), *count));
@@ -229,7 +241,8 @@ fn map<R: Machine>(
         }
         same!(asked; counts.get(symbol).copied(), Some(index));
         if index % 2 == 1 {
-            same!(asked; (odd.insert(symbol, 0)?, odd.insert(symbol, index)?), (None, Some(0)));
+            let before = again!(asked; odd.iter().count(), odd.insert(symbol, 0));
+            same!(asked; (before, odd.insert(symbol, index)?), (None, Some(0)));
         }
         same!(asked; odd.get(symbol).copied(), if index % 2 == 1 { Some(index) } else { None });
     }
@@ -239,6 +252,25 @@ fn map<R: Machine>(
         next += 2;
     }
     same!(asked; next / 2, texts.len() / 2);
+    Ok(())
+}
+
+/// Interns words where there is room for them: nothing is requested.
+pub(crate) fn in_room<R: Machine>(asked: &mut Asked<'_, R>) -> Result<()> {
+    let (rt, alloc, room) = (asked.rt, asked.alloc, asked.below(99));
+    let mut texts = Vec::new(alloc);
+    for number in 0..room {
+        texts.push(ArcStr::try_from(format!(in alloc; "é{number}")?)?)?;
+    }
+    let mut interner = Interner::with_capacity(alloc, room)?;
+    let mut list = WordList::with_capacity(alloc, room, 4 * room)?;
+    let shared = SharedInterner::with_capacity(alloc, 1, room)?;
+    for text in texts.iter() {
+        takes!(asked; (0, 0), interner.intern_arc(rt, text))?;
+        takes!(asked; (0, 0), list.intern(text.as_str()))?;
+        takes!(asked; (0, 0), shared.intern_arc(rt, text))?;
+    }
+    same!(asked; (interner.len(), list.len(), shared.len()), (room, room, room));
     Ok(())
 }
 
@@ -256,7 +288,8 @@ pub(crate) fn interned<R: Machine>(asked: &mut Asked<'_, R>) -> Result<()> {
         let word = format!(in alloc; "{}é{number}", if number % 3 == 0 { "" } else { "word" })?;
         let word = if number == 5 { "" } else { word.as_str() };
         let symbol = all.intern(asked, word)?;
-        *counts.or_insert(symbol, 0usize)? += 1;
+        again!(asked; counts.iter().count(), counts.or_insert(symbol, 0usize).map(|_| ()));
+        *counts.or_insert(symbol, 0)? += 1;
         let wanted = symbol.index();
         same!(asked; (texts.intern(word)?.index(), list.intern(word)?.index()), (wanted, wanted));
         same!(asked; shared.intern(asked.rt, word)?.number().index(), wanted);

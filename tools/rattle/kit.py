@@ -65,11 +65,22 @@ def words_of_check(crate: str, kept: Path) -> list[str | Path]:
     return words
 
 
-def shared_library_words(source: Path, library: Path | str) -> list[str | Path]:
-    """Compiles a C file to a library that may be loaded before the C library."""
+def c_words(source: Path, made: Path) -> list[str | Path]:
+    """Compiles a C file to an object file, or to a library that may be loaded before the C library."""
     tools = folder() / "toolchain/bin"
-    words: list[str | Path] = [tools / "clang", "-O1", "-fPIC", "-shared", "-nostdlib"]
-    return [*words, f"-fuse-ld={tools}/ld.lld", "-o", library, source]
+    words: list[str | Path] = [tools / "clang", "-O1", "-fPIC", "-o", made, source]
+    shared = ["-shared", "-nostdlib", f"-fuse-ld={tools}/ld.lld"]
+    return [*words, *(["-c"] if made.suffix == ".o" else shared)]
+
+
+# `rt`, of which `rt try` links a file before the kit's own C code, and has no check run beside it.
+RT = """import runpy, sys; rt = runpy.run_path(sys.argv[1]); rt["rtlib"].RATTLE = "true"
+rt["rtlib"].TRY_FLAGS.append("--link"); sys.exit(rt["main"](sys.argv[2:]))"""
+
+
+def try_words(linked: Path, *words: str | Path) -> list[str | Path]:
+    """`rt try` of a program with an object file, which may stand for the kit's own C code."""
+    return [sys.executable, "-c", RT, folder() / "bin/rt", "try", "--link", linked, *words]
 
 
 def take_interrupts() -> None:

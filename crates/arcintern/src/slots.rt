@@ -76,7 +76,7 @@ impl Slots {
         }
     }
 
-    /// Makes a table that does not grow for this many numbers, which `tools/refusals` checks.
+    /// Makes a table that does not grow for this many numbers, which `tools/ask` checks.
     pub(crate) fn with_capacity(alloc: Global, numbers: usize) -> Result<Slots, AllocError>
         ensures none { numbers ≡ 0 → IsOk result }
     {

@@ -24,7 +24,7 @@ impl Equivalent<ArcStr> for &str {
 
     ghost respects_eq = { λ text one other. nat_list_eq_equiv.congr text.now one.text other.text };
 
-    /// Tests whether the key's text equals this `str`, byte by byte.
+    /// Returns whether the key's text equals this `str`, byte by byte.
     fn equivalent(&self, key: &ArcStr) -> bool
         ensures value { result ≡ bytes_eq self.now.now key.now.text }
         ensures same { IsTrue result ↔ (self.now.now ≡ key.now.text) }
@@ -40,7 +40,7 @@ impl Equivalent<Substr> for &str {
 
     ghost respects_eq = { λ text one other. nat_list_eq_equiv.congr text.now (text_of one) (text_of other) };
 
-    /// Tests whether the key's own text equals this `str`, byte by byte.
+    /// Returns whether the key's own text equals this `str`, byte by byte.
     fn equivalent(&self, key: &Substr) -> bool
         ensures value { result ≡ bytes_eq self.now.now (text_of key.now) }
         ensures same { IsTrue result ↔ (self.now.now ≡ text_of key.now) }
@@ -86,7 +86,7 @@ impl indexmap::Equivalent<ArcStr> for &str {
 
     ghost respects_eq = { λ text one other. nat_list_eq_equiv.congr text.now one.text other.text };
 
-    /// Tests whether the key's text equals this `str`, byte by byte.
+    /// Returns whether the key's text equals this `str`, byte by byte.
     fn equivalent(&self, key: &ArcStr) -> bool
         ensures value { result ≡ bytes_eq self.now.now key.now.text }
         ensures same { IsTrue result ↔ (self.now.now ≡ key.now.text) }
@@ -102,7 +102,7 @@ impl indexmap::Equivalent<Substr> for &str {
 
     ghost respects_eq = { λ text one other. nat_list_eq_equiv.congr text.now (text_of one) (text_of other) };
 
-    /// Tests whether the key's own text equals this `str`, byte by byte.
+    /// Returns whether the key's own text equals this `str`, byte by byte.
     fn equivalent(&self, key: &Substr) -> bool
         ensures value { result ≡ bytes_eq self.now.now (text_of key.now) }
         ensures same { IsTrue result ↔ (self.now.now ≡ text_of key.now) }
@@ -118,7 +118,7 @@ impl Equivalent<ArcStr> for &Substr {
 
     ghost respects_eq = { λ slice one more. nat_list_eq_equiv.congr (text_of slice.now) one.text more.text };
 
-    /// Tests whether the key's text equals the slice's own text, byte by byte.
+    /// Returns whether the key's text equals the slice's own text, byte by byte.
     ///
     /// ```
     /// let mut map = std::collections::HashMap::new(rt.alloc());
@@ -141,7 +141,7 @@ impl Equivalent<Substr> for &ArcStr {
 
     ghost respects_eq = { λ shared one more. nat_list_eq_equiv.congr shared.now.text (text_of one) (text_of more) };
 
-    /// Tests whether the slice's own text equals this text, byte by byte.
+    /// Returns whether the slice's own text equals this text, byte by byte.
     fn equivalent(&self, key: &Substr) -> bool
         ensures value { result ≡ bytes_eq self.now.now.text (text_of key.now) }
         ensures same { IsTrue result ↔ (self.now.now.text ≡ text_of key.now) }
@@ -187,7 +187,7 @@ impl indexmap::Equivalent<ArcStr> for &Substr {
 
     ghost respects_eq = { λ slice one more. nat_list_eq_equiv.congr (text_of slice.now) one.text more.text };
 
-    /// Tests whether the key's text equals the slice's own text, byte by byte.
+    /// Returns whether the key's text equals the slice's own text, byte by byte.
     fn equivalent(&self, key: &ArcStr) -> bool
         ensures value { result ≡ bytes_eq (text_of self.now.now) key.now.text }
         ensures same { IsTrue result ↔ (text_of self.now.now ≡ key.now.text) }
@@ -203,7 +203,7 @@ impl indexmap::Equivalent<Substr> for &ArcStr {
 
     ghost respects_eq = { λ shared one more. nat_list_eq_equiv.congr shared.now.text (text_of one) (text_of more) };
 
-    /// Tests whether the slice's own text equals this text, byte by byte.
+    /// Returns whether the slice's own text equals this text, byte by byte.
     fn equivalent(&self, key: &Substr) -> bool
         ensures value { result ≡ bytes_eq self.now.now.text (text_of key.now) }
         ensures same { IsTrue result ↔ (self.now.now.text ≡ text_of key.now) }

@@ -19,7 +19,7 @@ use std::cmp::Ordering;
 use std::hash::{Hash, Hasher};
 
 impl ArcStr {
-    /// Tests whether the text equals a `&str`, byte by byte.
+    /// Returns whether the text equals a `&str`, byte by byte.
     ///
     /// ```
     /// let text = ArcStr::from_str(rt.alloc(), "foo")?;
@@ -38,7 +38,7 @@ impl PartialEq for ArcStr {
 
     ghost laws = { on_per (λ shared. shared.text) (partial_equiv_from_equiv nat_list_eq_equiv) };
 
-    /// Tests whether the two texts are equal, byte by byte, whatever their kinds.
+    /// Returns whether the two texts are equal, byte by byte, whatever their kinds.
     fn eq(&self, other: &ArcStr) -> bool
         ensures value { result ≡ bytes_eq self.now.text other.now.text }
         ensures same { IsTrue result ↔ (self.now.text ≡ other.now.text) }
@@ -107,7 +107,7 @@ impl PartialEq for Substr {
 
     ghost laws = { on_per text_of (partial_equiv_from_equiv nat_list_eq_equiv) };
 
-    /// Tests whether the own texts of the two slices are equal, byte by byte, whatever their
+    /// Returns whether the own texts of the two slices are equal, byte by byte, whatever their
     /// parents and ranges.
     fn eq(&self, other: &Substr) -> bool
         ensures value { result ≡ bytes_eq (text_of self.now) (text_of other.now) }

@@ -8,7 +8,7 @@ ghost use Rattle.std.specs.Simd.Lanes.{mask_l, zip2};
 use std::cmp::Ordering;
 use std::simd::prelude::*;
 
-/// Tests whether two texts are equal, byte by byte. Most unequal texts differ in their first 16
+/// Returns whether two texts are equal, byte by byte. Most unequal texts differ in their first 16
 /// bytes, so those are tested first.
 pub(crate) fn is_equal(one: &str, other: &str) -> bool
     ensures { IsTrue result ↔ (one.now ≡ other.now) }
@@ -31,7 +31,7 @@ pub(crate) fn is_equal(one: &str, other: &str) -> bool
     }
 }
 
-/// Tests whether `one` and `other` are equal, given that both have the same length of at least N
+/// Returns whether `one` and `other` are equal, given that both have the same length of at least N
 /// bytes and that their first `start` bytes agree.
 fn is_equal_from<const N: usize>(one: &[u8], other: &[u8], start: usize) -> bool
     requires lanes { 0 < N }
@@ -184,7 +184,7 @@ fn order_of_lanes<const N: usize>(one: &[u8], other: &[u8], from: usize) -> Orde
     }
 }
 
-/// Tests whether the N bytes at `from` are equal.
+/// Returns whether the N bytes at `from` are equal.
 fn is_equal_at<const N: usize>(one: &[u8], other: &[u8], from: usize) -> bool
     requires within { (from + N ≤ length one.now) × (from + N ≤ length other.now) }
     ensures { IsTrue result ↔ (take N (drop from one.now) ≡ take N (drop from other.now)) }
@@ -192,8 +192,8 @@ fn is_equal_at<const N: usize>(one: &[u8], other: &[u8], from: usize) -> bool
     differences::<N>(one, other, from).reduce_or() == 0
 }
 
-/// Tests whether the 128 bytes at `from` are equal. The differences of two vectors of 64 bytes are
-/// combined before one test.
+/// Returns whether the 128 bytes at `from` are equal. The differences of two vectors of 64 bytes
+/// are combined before one test.
 fn is_equal_128(one: &[u8], other: &[u8], from: usize) -> bool
     requires within { (from + 128 ≤ length one.now) × (from + 128 ≤ length other.now) }
     ensures { IsTrue result ↔ (take 128 (drop from one.now) ≡ take 128 (drop from other.now)) }

@@ -99,7 +99,7 @@ impl Substrs {
         self.near.len() + self.far.len()
     }
 
-    /// Tests whether the list has no slices.
+    /// Returns whether the list has no slices.
     ///
     /// ```
     /// assert!(rt; token_list(&rt, rt.alloc(), &literal!(" "))?.is_empty());

@@ -128,7 +128,7 @@ fn character_at(text: &str, place: usize) -> Character
     }
 }
 
-/// Tests whether an ASCII character is white space.
+/// Returns whether an ASCII character is white space.
 fn is_white_byte(byte: u8) -> bool
     requires { byte < 128 }
     ensures { result ≡ is_whitespace byte }

@@ -34,9 +34,9 @@ impl Mailbox {
 
 impl fmt::Display for Mailbox {
     fn fmt<W: fmt::Write>(&self, f: &mut fmt::Formatter<W>) -> fmt::Result {
-        write!(f, "{}:", self.reader)?;
+        write!(f, "{:?}:", self.reader)?;
         for text in &self.texts {
-            write!(f, "\n    {text}")?;
+            write!(f, "\n    {text:?}")?;
         }
         Ok(())
     }

@@ -58,7 +58,7 @@ fn print_config(rt: &impl Print, config: &Config) -> io::Result<()> {
     }
     for (section, entries) in &config.sections {
         for (key, value) in entries {
-            println!(rt; "[{section}] {key} = \"{value}\"")?;
+            println!(rt; "[{section:?}] {key:?} = {value:?}")?;
         }
     }
     Ok(())

@@ -42,8 +42,8 @@ fn print_change<R: AllocGlobal + Print + Threads + Wait + Sync>(
     let all = live.change(rt, rt.alloc(), settings)?;
     for (number, greetings) in all.into_iter().enumerate() {
         let Greetings { before, after } = greetings?;
-        print!(rt; "worker {number}: {} {}, ", before.greeting, before.name)?;
-        println!(rt; "then {} {}", after.greeting, after.name)?;
+        print!(rt; "worker {number}: {:?} {:?}, ", before.greeting, before.name)?;
+        println!(rt; "then {:?} {:?}", after.greeting, after.name)?;
     }
     Ok(())
 }
@@ -51,7 +51,7 @@ fn print_change<R: AllocGlobal + Print + Threads + Wait + Sync>(
 /// Prints how often each name was greeted, in the order of the names.
 fn print_greeted(rt: &(impl AllocGlobal + Print + Wait), live: &Live) -> Result<()> {
     for (name, count) in &live.greeted.all(rt, rt.alloc())? {
-        println!(rt; "{name} was greeted {count} times")?;
+        println!(rt; "{name:?} was greeted {count} times")?;
     }
     Ok(())
 }

@@ -20,7 +20,7 @@ impl<S: BuildHasher> SharedInterner<S> {
     /// where `MOST_TEXTS` numbers are taken (`Full`), if it has `2^63 - 25` bytes or more
     /// (`Length`), and out of memory (`Memory`).
     ///
-    /// `tools/refusals` tests that a known word is never refused where memory is out, and that no
+    /// `tools/ask` tests that a known word is never refused where memory is out, and that no
     /// call finds a refused word.
     ///
     /// ```

@@ -6,7 +6,7 @@ ghost use Rattle.arcstr_range.specs.Ends.{AnswersEnds, ends_in, cut_by, IsLawful
 
 use crate::range::{RangeFault, StrRange};
 
-/// Tests whether the text can be cut at this byte offset: exactly if the offset is the length in
+/// Returns whether the text can be cut at this byte offset: exactly if the offset is the length in
 /// bytes of a prefix of the text's characters.
 ///
 /// ```

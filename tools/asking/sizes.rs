@@ -1,0 +1,169 @@
+//! Texts and lists that are larger than those of the rounds, so that no call gives up in secret.
+
+use crate::asked::{Asked, Machine, piece, same};
+use crate::making::Pieces;
+use crate::memory::takes;
+use anyhow::{Context, Result};
+use arcintern::{Interner, SharedInterner, SymbolMap, WordList};
+use arcstr::{ArcStr, ArcStrBuilder};
+use arctokens::{token_list, tokens};
+use std::collections::BTreeMap;
+use std::io::ErrorKind;
+use std::{fs, str};
+
+/// The bytes of a long text, the parts of another, which are also words of interners and bytes that
+/// are read one by one, the words of one shard and of JSON, and how often a file is read.
+const BYTES: usize = 17 << 20;
+const PARTS: usize = 1_100_000;
+const SOME: usize = 70_000;
+const FILES: usize = 2_000;
+
+pub(crate) fn ask<R: Machine>(asked: &mut Asked<'_, R>) -> Result<()> {
+    let mut words = String::new(asked.alloc);
+    for number in 0..PARTS {
+        writeln!(words, "{number}")?;
+    }
+    let words = words.as_str();
+    let (some, _) = words.split_once("70000\n").context("no part")?;
+    for number in 0..7 {
+        let (kind, ended) = match number {
+            0 => ("a long text", long(asked)),
+            1 => ("many reads", reads(asked)),
+            2 => ("many files", files(asked)),
+            3 => ("many parts", parts(asked, words, some)),
+            4 => ("many words", interners(asked, words, some)),
+            5 => ("many shared words", shared(asked, words, some)),
+            _ => ("words of shards", shards(asked)),
+        };
+        asked.ended(kind, ended)?;
+    }
+    Ok(())
+}
+
+/// A text that is read, built, copied and written.
+fn long<R: Machine>(asked: &mut Asked<'_, R>) -> Result<()> {
+    let (rt, alloc) = (asked.rt, asked.alloc);
+    let bytes = vec![in alloc; b'x'; BYTES]?;
+    let text = str::from_utf8(bytes.as_slice())?;
+    let (part, rest) = text.split_at_checked(BYTES / 17).context("no part")?;
+    let read = ArcStr::read_from(alloc, bytes.as_slice())?;
+    same!(asked; read.eq_str(text), true);
+    fs::write(rt, "long", bytes.as_slice())?;
+    same!(asked; ArcStr::read_file(rt, "long")? == read, true);
+    same!(asked; ArcStr::from_utf8(alloc, bytes.as_slice())? == read, true);
+    same!(asked; ArcStr::join(alloc, &[part, rest], "")? == read, true);
+    same!(asked; ArcStr::repeat(alloc, part, 17)? == read, true);
+    same!(asked; read.substr(rt, BYTES - 1..)?.as_str(), "x");
+    let mut builder = ArcStrBuilder::new(alloc);
+    for _ in 0..17 {
+        builder.push_str(part)?;
+    }
+    same!(asked; builder.finish()? == read, true);
+    let json = serde_json::to_string(alloc, &part)?;
+    let written: ArcStr = serde_json::from_str(alloc, json.as_str())?;
+    same!(asked; written.eq_str(part), true);
+    let settings = format!(in alloc; "text = \"{part}\"")?;
+    let settings: BTreeMap<String, ArcStr> = toml::from_str(alloc, settings.as_str())?;
+    same!(asked; settings.get("text").is_some_and(|it| it.eq_str(part)), true);
+    Ok(())
+}
+
+fn reads<R: Machine>(asked: &mut Asked<'_, R>) -> Result<()> {
+    let bytes = vec![in asked.alloc; b'x'; PARTS]?;
+    let (rest, kind) = (bytes.as_slice(), ErrorKind::Other);
+    let (often, fails_at) = (usize::MAX, usize::MAX);
+    let reader = Pieces { rest, most: 1, reads: 0, often, fails_at, kind };
+    same!(asked; ArcStr::read_from(asked.alloc, reader)?.as_bytes() == rest, true);
+    Ok(())
+}
+
+/// `tools/ask` lets the program have fewer files open.
+fn files<R: Machine>(asked: &mut Asked<'_, R>) -> Result<()> {
+    fs::write(asked.rt, "few", "foo bar")?;
+    for _ in 0..FILES {
+        same!(asked; ArcStr::read_file(asked.rt, "few")?.as_str(), "foo bar");
+    }
+    Ok(())
+}
+
+fn parts<R: Machine>(asked: &mut Asked<'_, R>, words: &str, some: &str) -> Result<()> {
+    let (rt, alloc, text) = (asked.rt, asked.alloc, ArcStr::from_str(asked.alloc, words)?);
+    let list = token_list(rt, alloc, &text)?;
+    same!(asked; (list.len(), list.as_str(PARTS - 1)), (PARTS, Some("1099999")));
+    let text = ArcStr::from_str(alloc, some)?;
+    for slices in [
+        tokens(rt, alloc, &text)?,
+        text.substr_lines(rt, alloc)?,
+        text.substr_split_whitespace(rt, alloc)?,
+        text.substr_trim_end(rt).substr_split(rt, alloc, '\n')?,
+    ] {
+        same!(asked; (slices.len(), slices.last().map(piece)), (SOME, Some((408_884, "69999"))));
+    }
+    Ok(())
+}
+
+/// How many words a call gives another number than the one that each has.
+fn wrong<F: FnMut(&str) -> Result<Option<usize>>>(words: &str, mut number_of: F) -> Result<usize> {
+    let mut wrong = 0;
+    for (number, word) in words.lines().enumerate() {
+        wrong += usize::from(number_of(word)? != Some(number));
+    }
+    Ok(wrong)
+}
+
+/// Numbers the words, finds each, and writes and reads some.
+macro_rules! numbered {
+    ($asked:expr, $words:expr, $some:expr, $type:ty) => {{
+        let mut here = <$type>::new($asked.alloc);
+        let added = wrong($words, |word| Ok(Some(here.intern(word)?.index())))?;
+        let found = wrong($words, |word| Ok(here.get(word).map(|it| it.index())))?;
+        let some: Vec<&str> = $some.lines().collect($asked.alloc)?;
+        let json = serde_json::to_string($asked.alloc, &some)?;
+        let read: $type = serde_json::from_str($asked.alloc, json.as_str())?;
+        let json = json == serde_json::to_string($asked.alloc, &read)?;
+        same!($asked; (added, found, read.len(), json), (0, 0, SOME, true));
+        here
+    }};
+}
+
+fn interners<R: Machine>(asked: &mut Asked<'_, R>, words: &str, some: &str) -> Result<()> {
+    let list = numbered!(asked, words, some, WordList);
+    let texts = numbered!(asked, words, some, Interner);
+    let mut values: SymbolMap<usize> = SymbolMap::new(asked.alloc);
+    for (number, (symbol, _)) in texts.pairs().enumerate() {
+        values.insert(symbol, number)?;
+    }
+    let sum: usize = values.iter().map(|it| *it.1).sum();
+    same!(asked; (list.len(), texts.len(), sum), (PARTS, PARTS, PARTS * (PARTS - 1) / 2));
+    Ok(())
+}
+
+/// Words of 64 shards, and of one. The symbol of each is known once it is there.
+fn shared<R: Machine>(asked: &mut Asked<'_, R>, words: &str, some: &str) -> Result<()> {
+    let rt = asked.rt;
+    for (shards, words) in [(64, words), (1, some)] {
+        let shared = SharedInterner::new(asked.alloc, shards)?;
+        let added = wrong(words, |word| {
+            let number = shared.intern(rt, word)?.number();
+            Ok(shared.symbol_at(number).map(|it| it.number().index()))
+        })?;
+        let found = wrong(words, |word| Ok(shared.get(word).map(|it| it.number().index())))?;
+        let texts = shared.into_interner(rt)?;
+        let kept = wrong(words, |word| Ok(texts.get(word).map(|it| it.index())))?;
+        same!(asked; (added, found, kept, texts.len()), (0, 0, 0, words.lines().count()));
+    }
+    Ok(())
+}
+
+/// Shards have room for twice their part of the words, and so for the words if these are spread.
+fn shards<R: Machine>(asked: &mut Asked<'_, R>) -> Result<()> {
+    let (rt, alloc, mut texts) = (asked.rt, asked.alloc, Vec::new(asked.alloc));
+    for number in 0..4_000 {
+        texts.push(ArcStr::try_from(format!(in alloc; "{number}")?)?)?;
+    }
+    let shared = SharedInterner::with_capacity(alloc, 8, 8_000)?;
+    takes!(asked; (0, 0), for text in texts.iter() {
+        shared.intern_arc(rt, text)?;
+    });
+    Ok(())
+}
