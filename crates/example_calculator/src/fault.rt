@@ -71,10 +71,14 @@ pub struct Refusal {
 }
 
 impl Refusal {
-    /// The number of the line's characters before the fault.
+    /// The number of characters before the fault, as the line is printed.
     fn column(&self) -> usize {
         let before = self.line.range().start..self.fault.place;
-        self.line.parent().get(before).unwrap_or("").chars().count()
+        let mut column: usize = 0;
+        for _ in self.line.parent().get(before).unwrap_or("").escape_debug() {
+            column = column.saturating_add(1);
+        }
+        column
     }
 }
 
@@ -83,7 +87,7 @@ impl fmt::Display for Refusal {
         let (number, reason, line) = (self.number, self.fault.reason, &self.line);
         let column = self.column();
         writeln!(f, "line {number}: {reason}")?;
-        writeln!(f, "    {line}")?;
+        writeln!(f, "    {}", line.escape_debug())?;
         write!(f, "    {:column$}^", "")
     }
 }

@@ -1,6 +1,7 @@
 //! Reads lines with a small language of sums. `price = 250` gives a name a value, and `-price * 3`
-//! prints one. A value is from `-2^63` to `2^63 - 1`. Then it prints the names with their values,
-//! and each line that it refuses, with a caret under the place of the fault.
+//! prints one. A value is from `-2^63` to `2^63 - 1`, and a quotient is rounded toward zero. Then it
+//! prints the names with their values, and each line that it refuses, with a caret under the place
+//! of the fault.
 #![tactic(auto)]
 
 mod calculator;

@@ -13,7 +13,7 @@ pub enum Reason {
     Fields { found: u64, wanted: u64 },
     #[error("field {0} is not UTF-8")]
     Encoding(u64),
-    #[error("`{0}` is no number of cents")]
+    #[error("{0:?} is no number of cents")]
     Cents(ArcStr),
 }
 

@@ -45,7 +45,7 @@ fn print_sums(rt: &impl Print, alloc: Global, column: &Column, cents: &[u64]) ->
     let mut sums = column.sums(alloc, cents)?;
     sums.sort()?;
     for (text, sum) in &sums {
-        print_line(rt, text, *sum)?;
+        print_line(rt, &format!(in alloc; "{text:?}")?, *sum)?;
     }
     Ok(())
 }
@@ -54,7 +54,7 @@ fn print_sums(rt: &impl Print, alloc: Global, column: &Column, cents: &[u64]) ->
 fn print_line(rt: &impl Print, text: &str, cents: u64) -> io::Result<()> {
     let whole = cents / 100;
     let rest = cents % 100;
-    println!(rt; "{text:<16} {whole:>8}.{rest:02}")
+    println!(rt; "{text:<18} {whole:>8}.{rest:02}")
 }
 
 /// Returns the sum of the numbers, or `u64::MAX` if it is above. Many numbers are added in as many
