@@ -104,6 +104,7 @@ module _ (between : ℕ → ℕ → SubstrView) (Encloses : SubstrView → Type 
 
 -- a whole text stands in itself
 stands_in_itself : (text : List ℕ) → IsFoundAt text text 0 → StandsAt text text 0
+unfolding IsFoundAt
 stands_in_itself [] (inl empty) =
     let start : IsCharBoundary [] 0 = (omega arith, λ below lead. absurd (omega arith)) in
     record { lawful = record { in_order = omega arith; within = omega arith; at_boundaries = (start, start) }; same = refl }

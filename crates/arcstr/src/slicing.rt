@@ -114,6 +114,7 @@ impl ArcStr {
     /// let slice = text.substr_from(&rt, view);
     /// assert_eq!(rt; slice.range(), 2..5);
     /// ```
+    #[tactic(auto, unfolding(arcstr_range::specs::View::IsFoundAt))]
     pub fn substr_from(&self, rt: &impl Wait, view: StrView<'_>) -> Substr
         requires { IsFoundAt self.now.text view.text view.place }
         ensures slice { IsSliceOfView (slice_of self.now) view.entry result }
@@ -245,6 +246,7 @@ impl Substr {
 
     /// As `ArcStr::substr_from`, for the slice's own text: the view's place is a byte offset of
     /// that text.
+    #[tactic(auto, unfolding(arcstr_range::specs::View::IsFoundAt))]
     pub fn substr_from(&self, rt: &impl Wait, view: StrView<'_>) -> Substr
         requires { IsFoundAt (text_of self.now) view.text view.place }
         ensures slice { IsSliceOfView (slice_within self.now) view.entry result }

@@ -61,6 +61,7 @@ stands_part parent text place start end sliced at =
 -- a part of a view is found wherever the view is found
 pub found_part : (parent text : List ℕ) (place start end : ℕ) → IsLawful text start end → IsFoundAt parent text place
     → IsFoundAt parent (cut text start end) (place + start)
+unfolding IsFoundAt
 found_part parent text place start end sliced (inl empty) = inl (ap (λ bytes. cut bytes start end) empty ∙ cut-nil start end)
 found_part parent text place start end sliced (inr at) = inr (stands_part parent text place start end sliced at)
 
@@ -88,6 +89,7 @@ pub stands_passes : (parent : List ℕ) → PassesToParts (StandsAt parent)
 stands_passes parent = record { part = stands_part parent; start = starts_at_boundary parent }
 
 start_of_found : (parent text : List ℕ) (place : ℕ) → IsFoundAt parent text place → IsCharBoundary text 0
+unfolding IsFoundAt
 start_of_found parent text place (inl empty) = (omega arith, λ below lead. absurd (omega (arith, ap length empty)))
 start_of_found parent text place (inr at) = starts_at_boundary parent text place at
 
@@ -166,6 +168,7 @@ stands_whole text utf8 =
 
 -- a whole text is found in itself
 pub found_whole : (text : List ℕ) → IsUtf8 text → IsFoundAt text text 0
+unfolding IsFoundAt
 found_whole text utf8 = inr (stands_whole text utf8)
 
 -- the same for the trims of std

@@ -99,13 +99,16 @@ part : part_of (view_at a_acute 5) 1 3 ≡ view_at (195 ∷ 169 ∷ []) 6
 part = refl
 
 found : IsFoundAt (codes "abab") (codes "ab") 2
+unfolding IsFoundAt
 found = inr (search rules)
 
 found_elsewhere : IsFoundAt (codes "abab") (codes "ab") 1 → ⊥
+unfolding IsFoundAt
 found_elsewhere (inl empty) = cc
 found_elsewhere (inr stands) = omega (arith, ap (λ (l : List ℕ). get_or l 0 0) stands.same)
 
 empty_anywhere : IsFoundAt (codes "abab") [] greatest
+unfolding IsFoundAt
 empty_anywhere = inl refl
 
 -- white space, including some of two bytes

@@ -24,8 +24,9 @@ pub record StandsAt (parent text : List ℕ) (place : ℕ) : Type 0 where
   pub lawful : IsLawful parent place (place + length text)
   pub same : cut parent place (place + length text) ≡ text
 
--- a text is found at a place of the parent if it is empty or stands there
-abbrev pub IsFoundAt : List ℕ → List ℕ → ℕ → Type 0
+-- a text is found at a place of the parent if it is empty or stands there. It is no `abbrev`, so that a search joins any number of `IsFoundWith` without a look
+-- at what is found
+unfoldable pub IsFoundAt : List ℕ → List ℕ → ℕ → Type 0
 IsFoundAt parent text place = (text ≡ []) ⊎ StandsAt parent text place
 
 -- the part is found wherever the whole view is found

@@ -237,6 +237,7 @@ impl<'a> StrView<'a> {
     /// assert!(rt; word.is_found_in("  abc"));
     /// assert!(rt; !word.is_found_in("abc"));
     /// ```
+    #[tactic(auto, unfolding(crate::specs::View::IsFoundAt))]
     pub fn is_found_in(&self, parent: &str) -> bool
         ensures { IsTrue result ↔ IsFoundAt parent.now self.now.text self.now.place }
     {
