@@ -39,7 +39,10 @@ macro_rules! check_holds {
 /// Asserts that each condition holds, and that no handle and no mark stays of it.
 macro_rules! check_leaves {
     ($rt:expr, $parent:expr; $($condition:expr),+ $(,)?) => {
-        $(check_left($rt, $parent, $condition, stringify!($condition));)+
+        $(
+            let is_right = $condition;
+            check_left($rt, $parent, is_right, stringify!($condition));
+        )+
     };
 }
 
