@@ -33,7 +33,6 @@ CLAUSE = re.compile(
 )
 HIDING = re.compile(r"#!?\[(?:cfg|path|ignore).*?\]$", re.M)
 CLOSING = {"(": ")", "{": "}"}
-TESTS = "_tests"
 
 
 def place_of(file: Path) -> str:
@@ -94,9 +93,8 @@ def uses_of(crate: str) -> list[str]:
 
 @cache
 def libraries() -> dict[str, list[str]]:
-    """The libraries of crates.txt, lowest first, with what each uses. A crate of tests is none."""
-    own = [crate for crate in listed_crates() if is_library(crate) and not crate.endswith(TESTS)]
-    return {crate: uses_of(crate) for crate in own}
+    """The libraries of crates.txt, lowest first, with what each uses."""
+    return {crate: uses_of(crate) for crate in listed_crates() if is_library(crate)}
 
 
 @cache

@@ -114,7 +114,7 @@ type Worker<'a, G> = PromisedHandle<ArcStr, HandleOf<'a, G>>;
 /// its clone dropped.
 ///
 /// The contract does not say that memory and threads are available: the test
-/// `each_worker_hands_its_clone_back` catches a body that always refuses.
+/// `all_callers_run_at_once` catches a body that always refuses.
 ///
 /// ```
 /// struct Open;

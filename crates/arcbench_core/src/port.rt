@@ -65,7 +65,7 @@ impl<T> Port<T> {
 
 impl<R: Read> Port<R> {
     /// Reads once from the reader. The contract does not say which error it returns: the test
-    /// `remembers_a_fault_after_calls_that_work` catches a body that returns another one.
+    /// `a_port_remembers_a_fault` catches a body that returns another one.
     ///
     /// ```
     /// let mut port = Port::new(b"abc".as_slice());

@@ -84,9 +84,8 @@ impl From<InputFault> for Fault {
 /// status. `rt` permits it to start threads and to wait, and provides the machine's allocator for
 /// the texts of threads.
 ///
-/// The contract does not say that memory is available: the tests `answers_a_script`,
-/// `two_workers_print_their_texts` and `prints_the_words_of_each_line` catch a body that always
-/// answers 3 to a command.
+/// The contract does not say that memory is available: the test `each_command_has_its_answer`
+/// catches a body that always answers 3 to a command.
 ///
 /// ```
 /// let args = [String::from_str(rt.alloc(), "script")?];

@@ -106,7 +106,7 @@ impl From<InputFault> for CopyFault {
 /// of `answer`; while writing, `Io`. All allocations come before the first write, so only a fault
 /// of writing can leave a part of the answer written.
 ///
-/// The test `writes_the_answer_to_a_script` catches a body that always answers `Memory`.
+/// The test `each_command_has_its_answer` catches a body that always answers `Memory`.
 ///
 /// ```
 /// let mut written = Vec::new(rt.alloc());

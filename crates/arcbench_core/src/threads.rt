@@ -17,7 +17,7 @@ impl Gate for OpenGate {
     fn pass(&self, _worker: usize) {}
 }
 
-/// Starts callers of one text, and returns their handles. The test `two_workers_print_their_texts`
+/// Starts callers of one text, and returns their handles. The test `each_command_has_its_answer`
 /// catches a body that always refuses.
 ///
 /// ```

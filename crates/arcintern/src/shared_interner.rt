@@ -36,8 +36,8 @@ mod text_list;
 /// more than its part of the texts.
 ///
 /// The contracts do not say that a call succeeds, that `get` finds a word, that a word has one
-/// number, which number is next, or what `len` answers. The tests `words_are_told_apart`,
-/// `known_words_are_found_while_tables_grow`, `threads_agree_on_eight_shards` and
+/// number, which number is next, or what `len` answers. The tests
+/// `known_words_are_found_while_tables_grow`, `threads_at_one_word_agree` and
 /// `words_are_numbered_as_they_come` check that.
 ///
 /// The default hasher has a fixed seed. Where an attacker picks the texts, make the interner by

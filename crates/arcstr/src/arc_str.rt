@@ -141,7 +141,7 @@ impl ArcStr {
 
     /// Makes another handle as `clone` does, with at most this many compare-exchanges, so the call
     /// never waits. `None` means that other threads changed the count word each time. Nothing has
-    /// changed then. The test `a_clone_that_gives_up_leaves_the_count` detects a body that always
+    /// changed then. The test `the_calls_of_a_text_leave_its_count` detects a body that always
     /// gives up.
     ///
     /// ```

@@ -90,7 +90,7 @@ impl ArcStr {
     ///
     /// The `requires` clause allows a call of the closure only if the length is not too long. The
     /// contract does not say that the closure is not called if the allocation fails: the test
-    /// `a_closure_is_not_run_without_memory` checks that.
+    /// `a_closure_runs_once_there_is_memory` checks that.
     ///
     /// ```
     /// let text = ArcStr::init_with(rt.alloc(), 3, |bytes| bytes.copy_from_slice(b"foo"))?;

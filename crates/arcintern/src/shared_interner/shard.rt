@@ -2,7 +2,7 @@
 //!
 //! A clause cannot see what an atomic holds. So the contracts say of a table that a search answers
 //! only a text that spells the word, and that a number is put only where no other is. The tests
-//! `known_words_are_found_while_tables_grow` and `a_hundred_words_pass_the_end_of_a_table` check
+//! `known_words_are_found_while_tables_grow` and `a_hundred_words_of_one_hash_are_told_apart` check
 //! that a search finds each word.
 ghost use Rattle.std.specs.Prelude.{◌≡◌, ◌+◌, ◌*◌, ◌/◌, ◌%◌, ◌<◌, ◌↔◌, ◌⊎◌, IfOk, IfSome, IsTrue, length};
 ghost use Rattle.arcintern.specs.Slots.{room_of};

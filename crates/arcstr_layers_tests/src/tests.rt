@@ -1,5 +1,0 @@
-mod block;
-mod checks;
-mod count;
-mod range;
-mod world;
