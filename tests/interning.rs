@@ -1,6 +1,6 @@
 //! Interners, word lists and symbol maps: many words, words of one hash, long words, JSON, and the
 //! counts of the texts that they keep.
-use crate::steps::{count, made, part};
+use crate::steps::{count, made};
 use arcintern::{Interner, SharedInterner, Symbol, SymbolMap, WordList};
 use arcstr::{ArcStr, literal};
 use serde_json::Error;
@@ -118,14 +118,14 @@ fn a_hundred_words_of_one_hash_are_told_apart(ref rt: HostRuntime) -> Result<(),
                 (number % 100, word.as_str())
             );
         }
-        let frozen = shared.into_interner(rt)?;
         for (number, word) in words.iter().enumerate() {
-            for symbol in [interner.get(word), list.get(word), frozen.get(word)] {
+            let found = shared.get(word).map(|symbol| symbol.number());
+            for symbol in [interner.get(word), list.get(word), found] {
                 assert_eq!(rt; symbol.map(|symbol| symbol.index()), Some(number));
             }
         }
         assert!(rt; interner.get("").is_none() && list.get("1 ").is_none());
-        assert!(rt; frozen.get("").is_none() && frozen.len() == 100);
+        assert!(rt; shared.get("").is_none() && shared.len() == 100);
     }
     Ok(())
 }
@@ -154,15 +154,10 @@ fn a_long_word_is_found_by_each_interner(ref rt: HostRuntime) -> Result<(), Fail
     Ok(())
 }
 
-/// A known text is not kept twice, a slice of all of a text is kept as a clone, another is copied,
-/// and a literal stays a literal.
+/// A known text is not kept twice, a new one is kept as a clone, and a literal stays a literal.
 #[test]
 fn an_interner_keeps_one_handle_of_a_text(ref rt: HostRuntime) -> Result<(), Fail> {
     let (alloc, text, other) = (rt.alloc(), &made(rt, "foobar"), &made(rt, "foobar"));
-    let (whole, slice) = (
-        &part(rt, &made(rt, "bar"), ..),
-        &part(rt, &made(rt, "barbaz"), 3..),
-    );
     let mut interner = Interner::new(alloc);
     let shared = SharedInterner::new(alloc, 2)?;
     let first = interner.intern_arc(rt, text)?;
@@ -172,22 +167,12 @@ fn an_interner_keeps_one_handle_of_a_text(ref rt: HostRuntime) -> Result<(), Fai
     }
     assert!(rt; interner.intern("foobar")? == first && shared.get("foobar").is_some());
     assert_eq!(rt; (count(text), count(other)), (Some(3), Some(1)));
-    assert_eq!(rt; shared.intern_substr(rt, whole)?.number().index(), 1);
-    let copied = shared.intern_substr(rt, slice)?;
-    assert_eq!(rt;
-        (count(whole.parent()), count(slice.parent())),
-        (Some(2), Some(1))
-    );
-    assert_eq!(rt; count(shared.text(&copied)), Some(1));
     assert!(rt; ArcStr::is_static(shared.text(&shared.intern_arc(rt, &literal!("foo"))?)));
-    assert!(rt; ArcStr::is_static(shared.text(&shared.intern_static(rt, "kept")?)));
     assert!(rt; ArcStr::is_static(shared.text(&shared.intern(rt, "")?)));
     let symbol = interner.intern("")?;
     assert!(rt; ArcStr::is_static(&interner[symbol]));
-    let frozen = shared.into_interner(rt)?;
-    assert_eq!(rt; (count(text), count(whole.parent())), (Some(3), Some(2)));
-    drop(frozen);
-    assert_eq!(rt; (count(text), count(whole.parent())), (Some(2), Some(1)));
+    drop(shared);
+    assert_eq!(rt; count(text), Some(2));
     drop(interner);
     assert_eq!(rt; count(text), Some(1));
     Ok(())
