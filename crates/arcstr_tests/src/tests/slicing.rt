@@ -68,6 +68,27 @@ fn a_range_of_each_form_is_refused(ref rt: HostRuntime) {
     }
 }
 
+/// Asserts the line and the column of a byte offset of `aé\r\n\nb`.
+fn stands(rt: &impl Abort, place: usize, wanted: Option<(usize, usize)>) {
+    let at = literal!("aé\r\n\nb").line_and_column(place);
+    check_eq!(rt; at.map(|at| (at.line, at.column)), wanted);
+}
+
+#[test]
+fn lines_and_columns_are_counted_from_one(ref rt: HostRuntime) {
+    stands(rt, 0, Some((1, 1)));
+    stands(rt, 1, Some((1, 2)));
+    stands(rt, 2, None);
+    stands(rt, 3, Some((1, 3)));
+    stands(rt, 4, Some((1, 4)));
+    stands(rt, 5, Some((2, 1)));
+    stands(rt, 6, Some((3, 1)));
+    stands(rt, 7, Some((3, 2)));
+    stands(rt, 8, None);
+    let at = part(rt, &made(rt, "a\nbé\n"), 5..).line_and_column();
+    check_eq!(rt; (at.line, at.column), (2, 3));
+}
+
 #[test]
 fn a_part_is_read_without_a_handle(ref rt: HostRuntime) {
     let text = literal!("foobarbaz");
