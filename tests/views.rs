@@ -1,4 +1,6 @@
 //! Views and ranges that no question of `tools/ask` has: near `usize::MAX`, spent, and printed.
+use crate::steps::{made, part};
+use arcstr::literal;
 use arcstr_range::range::StrRange;
 use arcstr_range::view::StrView;
 use std::test::Fail;
@@ -52,4 +54,26 @@ fn views_of_one_text_are_equal_wherever_they_stand(ref rt: HostRuntime) -> Resul
     assert_eq!(rt; spent.next(), Some(1));
     assert_eq!(rt; StrRange::from(spent), StrRange::Between(1, 1));
     Ok(())
+}
+
+/// Lines and columns count from 1, and columns count characters.
+#[test]
+fn lines_and_columns_are_counted_from_one(ref rt: HostRuntime) {
+    let text = literal!("aé\r\n\nb");
+    for (place, wanted) in [
+        (0, Some((1, 1))),
+        (1, Some((1, 2))),
+        (2, None),
+        (3, Some((1, 3))),
+        (4, Some((1, 4))),
+        (5, Some((2, 1))),
+        (6, Some((3, 1))),
+        (7, Some((3, 2))),
+        (8, None),
+    ] {
+        let at = text.line_and_column(place).map(|at| (at.line, at.column));
+        assert_eq!(rt; at, wanted);
+    }
+    let at = part(rt, &made(rt, "a\nbé\n"), 5..).line_and_column();
+    assert_eq!(rt; (at.line, at.column), (2, 3));
 }

@@ -118,6 +118,14 @@ pub(crate) fn views<R: Machine>(asked: &mut Asked<'_, R>) -> Result<()> {
     same!(asked; (piece(&again), piece(&slice.clone(rt))), (wanted, wanted));
     same!(asked; piece(&Substr::full(whole.clone(rt))), (0, text));
     same!(asked; piece(&Substr::from(whole.clone(rt))), (0, text));
+    let before = text.get(..pair.start).unwrap_or("");
+    let line = before.chars().filter(|it| *it == '\n').count() + 1;
+    let column = before.chars().rev().take_while(|it| *it != '\n').count() + 1;
+    let at = slice.line_and_column();
+    same!(asked; (at.line, at.column), (line, column));
+    same!(asked; whole.line_and_column(pair.start), Some(at));
+    let place = asked.place(text);
+    same!(asked; whole.line_and_column(place).is_some(), text.is_char_boundary(place));
     let copy = slice.to_arc_str(alloc)?;
     let count = if own.is_empty() { None } else { Some(1) };
     same!(asked; (copy.as_str(), ArcStr::strong_count(&copy)), (own, count));

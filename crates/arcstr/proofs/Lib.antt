@@ -2,6 +2,7 @@ pub mod Builders
 pub mod Differences
 pub mod FirstMatches
 pub mod JoinedSlices
+pub mod LinesBefore
 pub mod Orders
 pub mod PartLists
 pub mod Ranges

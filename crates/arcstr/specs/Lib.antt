@@ -4,6 +4,7 @@ pub mod Reading
 pub mod Building
 pub mod Substr
 pub mod Slicing
+pub mod LineAndColumn
 pub mod Splitting
 pub mod TextOrder
 pub mod Json

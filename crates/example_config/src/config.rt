@@ -27,15 +27,12 @@ impl Config {
             faults: Vec::new(alloc),
         };
         let mut section = Substr::new();
-        for (number, line) in text.view().lines().enumerate() {
-            let start = line.place();
+        for line in text.view().lines() {
             match Line::read(rt, &text.substr_from(rt, line.trim())) {
                 Ok(Line::Blank) => {}
                 Ok(Line::Section(name)) => section = name,
                 Ok(Line::Pair(entry)) => config.insert(alloc, section.clone(rt), entry)?,
-                Err(refusal) => config
-                    .faults
-                    .push(refusal.in_line(text, number + 1, start))?,
+                Err(fault) => config.faults.push(fault)?,
             }
         }
         Ok(config)

@@ -1,7 +1,8 @@
 //! Why a line of a configuration cannot be read, and where.
 ghost use Rattle.std.specs.Prelude.{◌≡◌};
+ghost use Rattle.arcstr.specs.LineAndColumn.{StandsInLine};
 
-use arcstr::{ArcStr, Substr};
+use arcstr::{LineAndColumn, Substr};
 use thiserror::Error;
 
 /// Why a line cannot be read.
@@ -17,40 +18,21 @@ pub enum Reason {
     OpenQuote,
 }
 
-/// A line that cannot be read. Lines and columns are counted from 1, and columns in characters.
+/// A line that cannot be read, and where the part of it stands that causes this.
 #[derive(Debug, Drop, Error)]
-#[error("line {line}, column {column}: {reason}")]
+#[error("{place}: {reason}")]
 pub struct Fault {
-    pub line: usize,
-    pub column: usize,
+    pub place: LineAndColumn,
     pub reason: Reason,
 }
 
-/// A reason, and the byte offset of the part of the text that causes it.
-#[derive(Drop)]
-pub struct Refusal {
-    pub reason: Reason,
-    pub place: usize,
-}
-
-impl Refusal {
-    /// Makes the refusal of a part of a line, at the part's byte offset.
-    pub fn at(part: &Substr, reason: Reason) -> Refusal
+impl Fault {
+    /// Makes the fault of a part of a line.
+    pub fn at(part: &Substr, reason: Reason) -> Fault
         ensures reason { result.reason ≡ reason }
-        ensures place { result.place ≡ part.now.start }
+        ensures place { StandsInLine part.now.parent.text part.now.start result.place }
     {
-        let place = part.range().start;
-        Refusal { reason, place }
-    }
-
-    /// The refusal as the fault of the line with this number, which starts at this byte of the
-    /// text.
-    pub fn in_line(&self, text: &ArcStr, line: usize, start: usize) -> Fault {
-        let before = text.get(start..self.place).unwrap_or("");
-        Fault {
-            line,
-            column: before.chars().count() + 1,
-            reason: self.reason,
-        }
+        let place = part.line_and_column();
+        Fault { place, reason }
     }
 }

@@ -4,7 +4,7 @@ ghost use Rattle.std.specs.Str.{chars};
 ghost use Rattle.arcstr.specs.Substr.{text_of};
 ghost use Rattle.example_config.specs.Entries.{IsEnclosed, IsEntry, equals_sign};
 
-use crate::fault::{Reason, Refusal};
+use crate::fault::{Fault, Reason};
 use arcstr::Substr;
 use std::sync::Wait;
 
@@ -52,21 +52,21 @@ pub enum Line {
 impl Line {
     /// Reads a trimmed line: nothing if it is empty or begins with `#`, a section if it begins with
     /// `[`, and otherwise an entry, whose value loses the quotes around it. Allocates nothing.
-    pub fn read(rt: &impl Wait, line: &Substr) -> Result<Line, Refusal> {
+    pub fn read(rt: &impl Wait, line: &Substr) -> Result<Line, Fault> {
         if line.is_empty() || line.starts_with('#') {
             return Ok(Line::Blank);
         }
         if line.starts_with('[') {
-            let name = between(rt, line, '[', ']').ok_or(Refusal::at(line, Reason::OpenSection))?;
+            let name = between(rt, line, '[', ']').ok_or(Fault::at(line, Reason::OpenSection))?;
             return Ok(Line::Section(name.substr_trim(rt)));
         }
-        let mut entry = Entry::read(rt, line).ok_or(Refusal::at(line, Reason::NoEqualsSign))?;
+        let mut entry = Entry::read(rt, line).ok_or(Fault::at(line, Reason::NoEqualsSign))?;
         if entry.key.is_empty() {
-            return Err(Refusal::at(line, Reason::NoKey));
+            return Err(Fault::at(line, Reason::NoKey));
         }
         if entry.value.starts_with('"') {
             let inner = between(rt, &entry.value, '"', '"');
-            entry.value = inner.ok_or(Refusal::at(&entry.value, Reason::OpenQuote))?;
+            entry.value = inner.ok_or(Fault::at(&entry.value, Reason::OpenQuote))?;
         }
         Ok(Line::Pair(entry))
     }
