@@ -5,8 +5,10 @@ ghost use Rattle.arcstr_block.specs.Ending.{IsFreedExactly};
 ghost use Rattle.arcstr_block.specs.declared.ending.End.TheVariants.{Ended, Freed};
 
 use arcintern::{InternFault, Interner};
-use arcstr::block::{End, Seen};
+use arcstr::block::{End, Seen, Shared};
+use arcstr::count::RC_MAX;
 use arcstr::{ArcStr, Substr};
+use std::alloc::Global;
 use std::sync::Wait;
 
 /// Leaks a text, and drops the handle. The drop finds the text static.
@@ -22,6 +24,19 @@ pub fn leak_and_end(text: ArcStr) -> End
     text.end_after(&seen).0
 }
 
+/// Drops two handles on one block.
+fn end_handles(one: Shared<RC_MAX, Global>, other: Shared<RC_MAX, Global>) -> (End, End)
+    requires same { one.block ≡ other.block }
+    // Promise: They have two seats in the block's history, and one handle frees it.
+    ensures once { result.0 ≡ Freed → result.1 ≢ Freed }
+{
+    let (one, other) = one.two_handles_have_two_seats(other);
+    let (first, seen) = one.end();
+    let (second, last) = other.end();
+    seen.one_handle_frees(&last);
+    (first, second)
+}
+
 /// Drops two handles on one text. Neither drop knows what the other has seen, so they may be those
 /// of two threads.
 ///
@@ -35,17 +50,10 @@ pub fn end_apart(one: ArcStr, other: ArcStr) -> (End, End)
     // Promise: At most one of them frees the block.
     ensures once { result.0 ≡ Freed → result.1 ≢ Freed }
 {
-    let Some(one) = one.into_shared() else {
-        return (End::Ended, End::Ended);
-    };
-    let Some(other) = other.into_shared() else {
-        return (End::Ended, End::Ended);
-    };
-    let (one, other) = one.two_handles_have_two_seats(other);
-    let (first, seen) = one.end();
-    let (second, last) = other.end();
-    seen.one_handle_frees(&last);
-    (first, second)
+    match (one.into_shared(), other.into_shared()) {
+        (Some(one), Some(other)) => end_handles(one, other),
+        _ => (End::Ended, End::Ended),
+    }
 }
 
 /// Drops two slices of one text, as `end_apart` drops two texts.
@@ -61,17 +69,10 @@ pub fn end_slices(one: Substr, other: Substr) -> (End, End)
     // Promise: At most one of them frees the block.
     ensures once { result.0 ≡ Freed → result.1 ≢ Freed }
 {
-    let Some(one) = one.into_shared() else {
-        return (End::Ended, End::Ended);
-    };
-    let Some(other) = other.into_shared() else {
-        return (End::Ended, End::Ended);
-    };
-    let (one, other) = one.two_handles_have_two_seats(other);
-    let (first, seen) = one.end();
-    let (second, last) = other.end();
-    seen.one_handle_frees(&last);
-    (first, second)
+    match (one.into_shared(), other.into_shared()) {
+        (Some(one), Some(other)) => end_handles(one, other),
+        _ => (End::Ended, End::Ended),
+    }
 }
 
 /// Drops a handle while another one on the same text is kept.
