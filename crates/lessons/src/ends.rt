@@ -69,10 +69,10 @@ pub fn end_slices(one: Substr, other: Substr) -> (End, End)
     // Promise: At most one of them frees the block.
     ensures once { result.0 ≡ Freed → result.1 ≢ Freed }
 {
-    match (one.into_shared(), other.into_shared()) {
-        (Some(one), Some(other)) => end_handles(one, other),
-        _ => (End::Ended, End::Ended),
-    }
+    let (Some(one), Some(other)) = (one.into_shared(), other.into_shared()) else {
+        return (End::Ended, End::Ended);
+    };
+    end_handles(one, other)
 }
 
 /// Drops a handle while another one on the same text is kept.
@@ -128,8 +128,8 @@ pub fn intern_and_end(
 {
     let symbol = interner.intern_arc(rt, &text)?;
     let (end, seen) = text.end();
-    if let Some(kept) = interner.resolve(symbol) {
-        kept.lives(&seen);
+    if let Some(held) = interner.resolve(symbol) {
+        held.lives(&seen);
     }
     Ok(end)
 }

@@ -63,6 +63,20 @@ fn the_last_handle_says_that_it_freed_the_block(ref rt: HostRuntime) {
 }
 
 #[test]
+fn a_text_has_one_handle_on_its_block(ref rt: HostRuntime) {
+    let text = made(rt, "foobar");
+    let slice = part(rt, &text, 1..3);
+    let (count, seen) = ArcStr::strong_count_after(&text, &None);
+    text.lives(&seen);
+    let handle = text.into_shared().map(|handle| handle.end().0);
+    check_eq!(rt; (count, handle), (Some(2), Some(End::Left)));
+    check_count(rt, slice.parent(), Some(1));
+    let handle = Substr::into_shared(slice).map(|handle| handle.end().0);
+    check_eq!(rt; handle, Some(End::Freed));
+    check!(rt; ArcStr::from_static("foo").into_shared().is_none());
+}
+
+#[test]
 fn a_static_text_is_never_freed(ref rt: HostRuntime) {
     check_eq!(rt; ArcStr::new().end().0, End::Ended);
     check_eq!(rt; Substr::from_static("foo").end().0, End::Ended);

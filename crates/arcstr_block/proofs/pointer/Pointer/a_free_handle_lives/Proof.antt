@@ -1,5 +1,5 @@
 -- `a_free_handle_lives` does nothing: the book of the block, which lies in the invariant, says that the handle lives.
--- The share of the token and the seat are borrowed, the invariant is opened once, and both are given back.
+-- The share of the token and the seat are borrowed, the invariant is opened once, and both borrows are closed.
 use Rattle.arcstr_block.proofs.Names.{◌≡◌, ℕ, [], ◌∷◌, refl, List, sym, length, inst_fn, dcons, dnil, a_type, named, Val, vptr, vunit, Lft, Share, Fml, fsep}
 use Rattle.arcstr_block.proofs.Names.{fex, flft, finv, fshr_bor, fhide, ftrue, emp, SProp, fact, fact_i, tables, unit, hidden_shr, unhide, param, bounded}
 use Rattle.arcstr_block.proofs.Names.{RattleType, owns, block_of, Ptr, shr_vals, shr_Tells, types_at, heard, lent_out, alloc_all, pass_all, free_all, look_at}
