@@ -123,7 +123,6 @@ pub fn lines_in_a_thread<R: Threads + Wait>(rt: &R, text: &ArcStr) -> io::Result
 }
 
 pub mod answers;
-pub mod ends;
 pub mod history;
 pub mod parsing;
 pub mod uses;
