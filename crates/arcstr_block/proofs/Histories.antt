@@ -128,10 +128,10 @@ one_frees limit first second h k freed again line =
       | inr most ↦ elim (cases_lt (length second) (length first)) [
         | inl less ↦ absurd (nothing_follows_the_free limit second first k again freed.one_block (line.1 most, less))
         | inr least ↦ (
-          let both = sym freed.ends ∙ as_long first second (line.0 least) most ∙ again.ends in
-          let acts : Back h ≡ Back k = (same_from_push freed.prefix again.prefix (Back h) (Back k) both).1 in
-          cc
-        )
+            let both = sym freed.ends ∙ as_long first second (line.0 least) most ∙ again.ends in
+            let acts : Back h ≡ Back k = (same_from_push freed.prefix again.prefix (Back h) (Back k) both).1 in
+            cc
+            )
       ]
     ]
 

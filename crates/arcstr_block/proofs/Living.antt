@@ -113,13 +113,13 @@ module _ (limit : ℕ) (now : List Step) (word : FlagAndCount) (seats : List Han
     unfreed k freed = elim (cases_lt (length before) (length now)) [
       | inl less ↦ nothing_follows_the_free limit before now k freed keeps.one_block (starts, less)
       | inr most ↦ (
-        let whole : before ≡ now = as_long before now starts most in
-        let born : IsBornIn limit before h = subst (λ r. IsBornIn limit r h) (sym whole)
-        (let early = free_now.born in omega (arith, early, length-map (after limit now).handles (λ (it : HandleSummary). it.state))) in
-        let found = subst (λ hs. Contains hs h) (alone_by_free limit before k freed) (lives_in born) in
-        let past = found.1 in
-        absurd (omega (arith, past))
-      )
+          let whole : before ≡ now = as_long before now starts most in
+          let born : IsBornIn limit before h = subst (λ r. IsBornIn limit r h) (sym whole)
+          (let early = free_now.born in omega (arith, early, length-map (after limit now).handles (λ (it : HandleSummary). it.state))) in
+          let found = subst (λ hs. Contains hs h) (alone_by_free limit before k freed) (lives_in born) in
+          let past = found.1 in
+          absurd (omega (arith, past))
+          )
     ]
 
     pub free_lives : Lives limit before h
