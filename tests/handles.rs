@@ -6,7 +6,7 @@ use arcbench_core::tokens::TokensFault;
 use arcintern::{SharedSymbol, Symbol};
 use arcstr::block::{Down, Fixed, Owed, Shared};
 use arcstr::{
-    ArcStr, ArcStrBuilder, JsonFault, RangeFault, RawArcStr, Seen, StaticStr, StrRange, StrView,
+    ArcStr, ArcStrBuilder, End, JsonFault, RangeFault, RawArcStr, Seen, StaticStr, StrRange, StrView,
     Substr, TextFault, literal,
 };
 use arcstr_count::{BlockSummary, HandleState, HandleSummary, Reply, Step, StepFault, Word};
@@ -95,6 +95,20 @@ fn a_slice_outlives_the_handle_that_it_was_made_from(ref rt: HostRuntime) {
 }
 
 /// Nothing is seen of a text that has no count.
+#[test]
+fn a_text_has_one_handle_on_its_block(ref rt: HostRuntime) {
+    let text = made(rt, "foobar");
+    let slice = part(rt, &text, 1..3);
+    let (counted, seen) = ArcStr::strong_count_after(&text, &None);
+    text.lives(&seen);
+    let end = text.into_shared().map(|handle| handle.end().0);
+    assert!(rt; (counted, end) == (Some(2), Some(End::Left)));
+    assert_eq!(rt; count(slice.parent()), Some(1));
+    let end = slice.into_shared().map(|handle| handle.end().0);
+    assert!(rt; end == Some(End::Freed));
+    assert!(rt; ArcStr::from_static("foo").into_shared().is_none());
+}
+
 #[test]
 fn nothing_is_seen_of_a_literal(ref rt: HostRuntime) {
     let text = literal!("foo");

@@ -2,7 +2,7 @@
 use Rattle.std.specs.Prelude.{◌≡◌, ◌↔◌, ◌⊎◌, ℕ, Option, Some, IfSome, IsNone, IsSomeAnd}
 use Rattle.arcstr_count.specs.declared.words.TheConstants.{RC_MAX}
 use Rattle.arcstr_block.specs.Book.{IsLater}
-use Rattle.arcstr_block.specs.Handle.{IsMarkedIn, SawClone}
+use Rattle.arcstr_block.specs.Handle.{IsMarkedIn, SawBack, SawClone}
 use Rattle.arcstr_block.specs.Ending.{EndedAs}
 use Rattle.arcstr_block.specs.declared.ending.End.{End}
 use Rattle.arcstr_block.specs.declared.seen.Seen.{Seen}
@@ -30,3 +30,7 @@ IsSeenEnd answer seen = IfSome seen (λ seen. (h : ℕ) × EndedAs RC_MAX seen.h
 -- what was seen of a block, if anything was, ends in a clone by some handle, by which another one was born
 abbrev pub IsSeenBirth : Option Seen → Type 0
 IsSeenBirth seen = IfSome seen (λ seen. (h j : ℕ) × SawClone RC_MAX seen.history h j)
+
+-- what was seen of a block ends in its free, by some handle
+abbrev pub IsSeenFree : Option Seen → Type 0
+IsSeenFree seen = IsSomeAnd seen (λ seen. (h : ℕ) × SawBack RC_MAX seen.history h)

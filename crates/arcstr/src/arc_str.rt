@@ -383,9 +383,22 @@ impl ArcStr {
     }
 
     /// Consumes the handle. Returns the one on the text's counted block, or `None` for a literal or
-    /// a permanent block.
-    pub(crate) fn into_counted(self) -> Option<Shared<RC_MAX, Global>>
+    /// a permanent block. It takes no atomic step, and does not allocate. It serves proofs: the
+    /// handle has a seat of its own, so its `end` says which handle ended, and the laws of `Shared`
+    /// and `Seen` prove of two handles that at most one frees the block.
+    ///
+    /// ```
+    /// let text = ArcStr::from_str(rt.alloc(), "foo")?;
+    /// let other = text.clone(&rt);
+    /// assert!(rt; text.into_shared().is_some_and(|handle| handle.end().0 == End::Left));
+    /// assert!(rt; other.into_shared().is_some_and(|handle| handle.end().0 == End::Freed));
+    /// ```
+    pub fn into_shared(self) -> Option<Shared<RC_MAX, Global>>
+        ensures text { IfSome result (λ handle. handle.text ≡ self.text) }
+        // Promise: It is a handle on the text's own block, as `from_shared` takes it.
         ensures block { IfSome result (λ handle. self.kind ≡ block handle.block) }
+        ensures limit { IfSome result (λ handle. handle.limit ≡ RC_MAX) }
+        // Promise: Exactly a literal or a permanent block has none.
         ensures none { IsNone result ↔ IsStatic self.kind }
     {
         let ArcStr { form } = self;

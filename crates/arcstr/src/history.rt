@@ -5,9 +5,9 @@
 //! which no call here takes an atomic step. No call allocates, and only `clone_after` waits.
 ghost use Rattle.std.specs.Prelude.{◌≡◌, ◌↔◌, IfSome, IsNone, IsTrue, None, length};
 ghost use Rattle.arcstr_count.specs.Model.{living_after};
-ghost use Rattle.arcstr_block.specs.declared.ending.End.TheVariants.{Ended};
+ghost use Rattle.arcstr_block.specs.declared.ending.End.TheVariants.{Ended, Freed};
 ghost use Rattle.arcstr.specs.TextView.{IsStatic, leaked};
-ghost use Rattle.arcstr.specs.History.{IsSeenBirth, IsSeenEnd, IsSeenOf, IsSeenStatic, SeesAfter};
+ghost use Rattle.arcstr.specs.History.{IsSeenBirth, IsSeenEnd, IsSeenFree, IsSeenOf, IsSeenStatic, SeesAfter};
 
 use crate::arc_str::ArcStr;
 use crate::static_str::StaticStr;
@@ -117,6 +117,25 @@ impl ArcStr {
         (ArcStr::from_shared(clone), Some(seen))
     }
 
+    /// Proves that nobody has freed the block of a handle that is not dropped: what was seen of the
+    /// block, by this handle or another one, does not end in the free. It does nothing when it
+    /// runs.
+    ///
+    /// ```
+    /// let text = ArcStr::from_str(rt.alloc(), "foo")?;
+    /// let (end, seen) = text.clone(&rt).end();
+    /// text.lives(&seen);
+    /// assert_eq!(rt; end, End::Left);
+    /// ```
+    pub fn lives(&self, seen: &Option<Seen>)
+        requires block { IsSeenOf self.now.kind seen.now }
+        ensures unfreed { IsSeenFree seen.now → IsStatic self.now.kind }
+    {
+        if let (Some(shared), Some(seen)) = (self.counted(), seen) {
+            shared.lives(seen);
+        }
+    }
+
     /// Drops the handle. Returns how it ended, and what the drop has seen: `End::Freed` means that
     /// it was the last handle and the memory of the block is freed, `End::Left` that the count was
     /// decremented and the block stays, and `End::Ended` that the block is marked static, or that
@@ -134,6 +153,8 @@ impl ArcStr {
         ensures ends { IsSeenEnd result.0 result.1 }
         // Promise: A literal or a permanent block is never freed.
         ensures never_freed { IsStatic self.kind → result.0 ≡ Ended }
+        // Promise: Where it freed the block, what it has seen ends in the free.
+        ensures freed { result.0 ≡ Freed → IsSeenFree result.1 }
     {
         self.end_after(&None)
     }
@@ -153,8 +174,12 @@ impl ArcStr {
         ensures ends { IsSeenEnd result.0 result.1 }
         // Promise: A literal or a permanent block is never freed.
         ensures never_freed { IsStatic self.kind → result.0 ≡ Ended }
+        // Promise: Where it freed the block, what it has seen ends in the free.
+        ensures freed { result.0 ≡ Freed → IsSeenFree result.1 }
+        // Promise: A text that was seen static is found static.
+        ensures marked { IsSeenStatic self.kind before.now → result.0 ≡ Ended }
     {
-        let Some(shared) = self.into_counted() else {
+        let Some(shared) = self.into_shared() else {
             return (End::Ended, None);
         };
         let own = shared.seen();
@@ -169,6 +194,7 @@ impl Substr {
         ensures seen { SeesAfter self.parent.kind None result.1 }
         ensures ends { IsSeenEnd result.0 result.1 }
         ensures never_freed { IsStatic self.parent.kind → result.0 ≡ Ended }
+        ensures freed { result.0 ≡ Freed → IsSeenFree result.1 }
     {
         self.into_parent().end()
     }
@@ -179,6 +205,8 @@ impl Substr {
         ensures seen { SeesAfter self.parent.kind before.now result.1 }
         ensures ends { IsSeenEnd result.0 result.1 }
         ensures never_freed { IsStatic self.parent.kind → result.0 ≡ Ended }
+        ensures freed { result.0 ≡ Freed → IsSeenFree result.1 }
+        ensures marked { IsSeenStatic self.parent.kind before.now → result.0 ≡ Ended }
     {
         self.into_parent().end_after(before)
     }

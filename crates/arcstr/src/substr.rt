@@ -1,11 +1,13 @@
 //! `Substr`: a slice of a shared text, which keeps its parent alive.
-ghost use Rattle.std.specs.Prelude.{◌≡◌, ◌↔◌, ◌+◌, ◌^◌, ◌<◌, [], length, IsTrue, IsSome, IfSome, MatchResult};
+ghost use Rattle.std.specs.Prelude.{◌≡◌, ◌↔◌, ◌+◌, ◌^◌, ◌<◌, [], length, IsTrue, IsNone, IsSome, IfSome, MatchResult};
 ghost use Rattle.arcstr_range.specs.Ends.{IsLawful};
 ghost use Rattle.arcstr_range.specs.Text.{SpellsBetween};
-ghost use Rattle.arcstr.specs.TextView.{IsStatic, literal_of};
+ghost use Rattle.arcstr.specs.TextView.{IsStatic, block, literal_of};
 ghost use Rattle.arcstr.specs.Substr.{IsSoundSlice, empty_slice, slice_of, text_of, whole_of};
 
 use crate::arc_str::{ArcStr, TRIES};
+use arcstr_block::Shared;
+use arcstr_count::RC_MAX;
 use std::alloc::{AllocError, Global};
 use std::marker::Model;
 use std::ops::Range;
@@ -124,6 +126,16 @@ impl Substr {
     {
         let Substr { parent, .. } = self;
         parent
+    }
+
+    /// As `ArcStr::into_shared`, for the parent.
+    pub fn into_shared(self) -> Option<Shared<RC_MAX, Global>>
+        ensures text { IfSome result (λ handle. handle.text ≡ self.parent.text) }
+        ensures block { IfSome result (λ handle. self.parent.kind ≡ block handle.block) }
+        ensures limit { IfSome result (λ handle. handle.limit ≡ RC_MAX) }
+        ensures none { IsNone result ↔ IsStatic self.parent.kind }
+    {
+        self.into_parent().into_shared()
     }
 
     /// Returns the byte range of the slice in its parent's text.

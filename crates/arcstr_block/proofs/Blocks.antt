@@ -5,12 +5,14 @@ use Rattle.arcstr_block.proofs.Names.{Ura, Val, Lft, Share, Incl, Incl-trans, Fm
 use Rattle.arcstr_block.proofs.Names.{not-OpDef-full_share, growing, latest, emp, via, all_i, upd, never, never_e, guard, guard_i, meet_⊑_left, meet_⊑_right}
 use Rattle.arcstr_block.proofs.Names.{RattleType, block_of, ShrLaws, nothing, Lends, ‵, ◌⊛◌, some, later, ◌$◌, ◌∵◌, !, qed, move, group, pick, use0, use1, use2}
 use Rattle.arcstr_block.proofs.Names.{split, split3, join, fsplit, fjoin, fjoin3, fpick, fpack, await, updating, now, done, raw, by, keep, fsplit3, assume}
-use Rattle.arcstr_block.proofs.Names.{given, drop, learn, check, rewrite, Logic, basic, own_sum, lft_new, bor_new, shr_bor-open, tokens_halve, word, Ghosts}
+use Rattle.arcstr_block.proofs.Names.{given, drop, learn, check, rewrite, suffices, frame, use3, Logic, basic, own_sum, lft_new, bor_new, shr_bor-open, tokens_halve, word, Ghosts}
 use Rattle.arcstr_block.proofs.Names.{Free, Step, Make, BlockName, Book, reached, seat, steps, Id, parts, unmarked, Ledger, counting, if_alive, Inv, knows}
 use Rattle.arcstr_block.proofs.Names.{free, held_with, block_owns, block_shares, word_at, uncounted, counted, HasSeat, Right, dropping, owed, IsLimit}
 use Rattle.arcstr_block.proofs.Names.{operators}
 use Rattle.arcstr_block.specs.Ledger.{fact}
-use Rattle.arcstr_block.proofs.Book.{book_new, one_owner}
+use Rattle.arcstr_block.proofs.Book.{book_lives, book_new, one_owner}
+use Rattle.arcstr_block.proofs.Living.{Lives}
+use Rattle.arcstr_block.proofs.Names.{seat_share, upd_i}
 use Rattle.arcstr_block.proofs.Sharing.{free_in}
 use Rattle.arcstr_block.proofs.Ledger.{parts_in, parts_cut, phase_in}
 use Rattle.arcstr_block.proofs.Rights.{by_free, has_seat, seat_state}
@@ -135,6 +137,37 @@ module _ {M : Type 1} {𝓤 : Ura M} (𝓛 : Logic 𝓤) where
           | inl free ↦ by_free X (not_free counted) (not_free uncounted) right free
           | inr other ↦ elim other [ inl e ↦ subst X (sym e) not_dropping | inr e ↦ subst X (sym e) not_owed ]
         ]
+
+    -- ---- the book of a block that is shared says that a free handle lives, in each history that was reached
+    module _ (h : ℕ) (before : List Step) (u v : Share) where
+      abbrev Mine : Fml
+      Mine = seat_share t.name.seats h v Free
+
+      abbrev Before : Fml
+      Before = reached t.name.history before
+
+      abbrev Told : Pr
+      Told = guard 𝓤 (Lives L before h) (A.lft a u ∗ ⟦ Mine ⟧)
+
+      read : (alive : Bool) → ⟦ if_alive P L b o t alive ⟧ ∗ A.lft a u ∗ ⟦ Mine ⟧ ∗ ⟦ Before ⟧ ⊢ upd 𝓤 (⟦ I ⟧ ∗ Told)
+      read false = qed 𝓛 (‵ (fdead a) ∷ ‵ (flft a u) ∷ ‵ Mine ∷ ‵ Before ∷ []) ∵ keep ! (1 ∷ 0 ∷ []) $
+          by ! (via 𝓤 (never 𝓤) (𝓛.lfts.lft-dead a u) (never_e 𝓤 (upd 𝓤 (⟦ I ⟧ ∗ Told))))
+      read true = qed 𝓛 (‵ (if_alive P L b o t true) ∷ ‵ (flft a u) ∷ ‵ Mine ∷ ‵ Before ∷ []) ∵ fpick ! (λ n. fsplit ! $ fsplit ! $
+          -- [the word; the book; the ledger; the token; the seat; the history]
+          move ! (1 ∷ 4 ∷ 5 ∷ []) $
+          use3 𝓛 (given (Lives L before h) (‵ (Book L t.name.history t.name.seats n) ⊛ ‵ Mine)) (book_lives 𝓛 L t.name.history t.name.seats n h v before) $
+          learn ! (λ lives. split ! $
+          -- [the book; the seat; the word; the ledger; the token]
+          move ! (2 ∷ 0 ∷ []) $ fjoin ! $ move ! (0 ∷ 2 ∷ []) $ fjoin ! $ fpack ! ℕ (counting P L b o t) n $ fpack ! Bool (if_alive P L b o t) true $
+          suffices ! _ (upd_i 𝓤 (⟦ I ⟧ ∗ Told)) $ frame ! $ check ! lives $ move ! (1 ∷ 0 ∷ []) $ done !))
+
+      opens_to : A.lft a u ∗ ⟦ Mine ⟧ ∗ ⟦ Before ⟧ ⊢ ⟦ I ⟧ -∗ upd 𝓤 (⟦ I ⟧ ∗ Told)
+      opens_to = qed 𝓛 (‵ (flft a u) ∷ ‵ Mine ∷ ‵ Before ∷ []) ∵ assume ! (‵ I) $ fpick ! (λ alive. by ! (read alive))
+
+      pub tells_life : ⟦ finv I ⟧ ∗ A.lft a u ∗ ⟦ Mine ⟧ ∗ ⟦ Before ⟧ ⊢ H.⇛ Told
+      tells_life = qed 𝓛 (‵ (finv I) ∷ ‵ (flft a u) ∷ ‵ Mine ∷ ‵ Before ∷ []) ∵ updating ! $ move ! (1 ∷ 2 ∷ 3 ∷ []) $
+          use3 𝓛 (raw (⟦ I ⟧ -∗ upd 𝓤 (⟦ I ⟧ ∗ Told))) opens_to $ move ! (1 ∷ 0 ∷ []) $
+          use2 𝓛 (later (raw Told)) (𝓛.invs.inv_acc I Told) $ await ! tt $ now ! $ done !
 
   -- ---- two pointers
   module _ (B : RattleType) (g : Ghosts B.Denot) where

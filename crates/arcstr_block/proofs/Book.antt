@@ -22,6 +22,7 @@ use ghost.Rules.{Halves}
 use Rattle.arcstr_count.specs.contracts.steps.HandleState.{the_row as state_row}
 use Rattle.arcstr_count.specs.declared.steps.Reply.{Reply}
 use Rattle.arcstr_count.proofs.OneBlock.{Prolongs, keeps-make, keeps-look, keeps-begin, keeps-clone, keeps-leak, keeps-sub, keeps-back}
+use Rattle.arcstr_block.proofs.Living.{Lives, free_lives}
 use Rattle.arcstr_block.proofs.Words.{one_less, word_marked, word_dropped, IsMarkedOr, odd_or_even, word_kept, word_cloned}
 use seplogic.Ra.Constructions.Prod
 use seplogic.Ra.Instances.Ag
@@ -210,6 +211,16 @@ module _ {M : Type 1} {𝓤 : Ura M} (𝓛 : Logic 𝓤) where
         ⊢ upd 𝓤 (⟦ Bk (bit_or n 1) ⟧ ∗ ⟦ seat_share δ h q Free ⟧ ∗ ⟦ Said before (Leak h) Marked ⟧)
     book_mark n h q before = by_share n (bit_or n 1) h q before (Leak h) Marked (λ r vs keeps at.
         subst (λ (w : FlagAndCount). Prolongs L r (Leak h) Marked w vs) (sym (word_marked n)) (keeps-leak L r (word_of n) vs h keeps at))
+
+    -- a free handle lives in each history that was reached, with no step
+    pub book_lives : (n h : ℕ) (q : Share) (before : List Step)
+        → ⟦ Bk n ⟧ ∗ ⟦ seat_share δ h q Free ⟧ ∗ ⟦ reached γ before ⟧ ⊢ guard 𝓤 (Lives L before h) (⟦ Bk n ⟧ ∗ ⟦ seat_share δ h q Free ⟧)
+    book_lives n h q before =
+        qed 𝓛 (‵ (Bk n) ∷ ‵ (seat_share δ h q Free) ∷ ‵ (reached γ before) ∷ []) ∵ fpick ! (λ x. fsplit3 ! $ fpick ! (λ keeps. drop ! $ move ! (1 ∷ 2 ∷ []) $
+        use2 𝓛 (given (slice_get x.1 h ≡ Some Free) (‵ (Seats x.1) ⊛ ‵ (seat_share δ h q Free))) (agrees δ x.1 0 h h q Free (sym
+        (Rattle.std.proofs.Common.zero-add h))) $ learn ! (λ at. split ! $ move ! (2 ∷ 3 ∷ []) $
+        use2 𝓛 (given (IsPrefix before x.0) (‵ (Now x.0) ⊛ ‵ (reached γ before))) (bounds x.0 before) $ learn ! (λ starts. split ! $ move ! (0 ∷ 2 ∷ []) $
+        use2 𝓛 (‵ (Bk n)) (book_in n x.0 x.1 keeps) $ check ! (free_lives L x.0 (word_of n) x.1 h keeps at before starts) $ keep ! (0 ∷ 2 ∷ []) $ done !))))
 
     -- a clone by the handle h is born with a seat of its own, after the history `before`
     abbrev pub born : ℕ → List Step → ℕ → Fml

@@ -9,9 +9,14 @@ use Rattle.std.specs.Prelude.{IsNone}
 use Rattle.arcstr_count.specs.Model.{start, marked_after, living_after, makes_after, word_in, State, after}
 use Rattle.arcstr_count.proofs.LawsOfHistories.{after_from-append, mark_stays}
 use Rattle.arcstr_count.proofs.OneBlock.{counted_is_living, counted_is_unmarked, ended_is_marked, free_is_last, freed_is_alone, leak_marks, left_is_used}
-use Rattle.arcstr_count.proofs.OneBlock.{static_is_marked}
+use Rattle.arcstr_count.proofs.OneBlock.{looked_is_unmarked, static_is_marked}
 use Rattle.arcstr_block.specs.Handle.{SawBack, SawCount, SawMark}
 use Rattle.arcstr_block.proofs.Words.{marked_word}
+use Rattle.std.proofs.lemmas.Bool.{cases_lt}
+use Rattle.std.proofs.lemmas.List.{append-nil, nil_from_length, same_from_push}
+use Rattle.arcstr_block.proofs.Names.{Back, Looked, inl, inr}
+use Rattle.arcstr_count.proofs.LawsOfHistories.{holds_in_every_interleaving}
+use Rattle.arcstr_block.specs.Ending.{IsFreedExactly}
 
 -- ---- the mark
 
@@ -62,6 +67,12 @@ pub ruleset what_looks_say = (marked_by_look, unmarked_by_look, living_by_look)
 pub marked_by_end : (limit : ℕ) (history : List Step) (h : ℕ) → EndsIn limit history (Begin h) Ended → IsMarkedIn limit history
 marked_by_end limit history h ends = record { one_block = ends.one_block; marked = ended_is_marked limit history h ends }
 
+-- a drop whose look came after the mark did not go on
+pub marked_is_not_begun : (limit : ℕ) (before history : List Step) (h : ℕ) → IsMarkedIn limit before → IsLater before history
+    → EndsIn limit history (Begin h) Looked → ⊥
+marked_is_not_begun limit before history h marked later ends =
+    let both : true ≡ false = sym (remains_marked limit before history marked later.0) ∙ looked_is_unmarked limit history h ends in cc
+
 -- a drop that freed the block left no handle on it
 pub alone_by_free : (limit : ℕ) (history : List Step) (h : ℕ) → SawBack limit history h → living_after limit history 0 ≡ []
 alone_by_free limit history h freed = (freed_is_alone limit history h freed).1
@@ -83,6 +94,11 @@ pub a_marked_block_stays : (limit : ℕ) (before history : List Step) (h : ℕ) 
 a_marked_block_stays limit before history h marked freed later =
     let both : true ≡ false = sym (remains_marked limit before history marked later.0) ∙ (freed_is_alone limit history h freed).0 in cc
 
+-- if no handle on the one block lives, none is dropping and none owes it, it was freed once exactly if nothing marked it
+pub freed_exactly : (limit : ℕ) (history : List Step) → IsFreedExactly limit history
+freed_exactly limit history one none quiet settled =
+    (holds_in_every_interleaving limit history).given_exactly history [] 0 (sym (append-nil history)) (omega (arith, one.made)) none quiet settled
+
 -- ---- two prefixes of one history
 
 -- the shorter of two prefixes of one list is a prefix of the other
@@ -97,6 +113,27 @@ shorter (x ∷ prefix) (y ∷ other) (z ∷ whole) h k short =
 -- the shorter of two histories is a prefix of the other
 abbrev pub InLine : List Step → List Step → Type 0
 InLine r s = (length r ≤ length s → IsPrefix r s) × (length s ≤ length r → IsPrefix s r)
+
+-- a history that begins another one, and is as long, is that one
+pub as_long : (first second : List Step) → IsPrefix first second → length second ≤ length first → first ≡ second
+as_long first second starts short =
+    let none : starts.0 ≡ [] = nil_from_length starts.0 (omega (arith, length-append first starts.0, ap length starts.1, short)) in
+    sym (append-nil first) ∙ subst (λ rest. first ++ rest ≡ second) none starts.1
+
+-- two histories of a block that both end in the free end in that of one handle
+pub one_frees : (limit : ℕ) (first second : List Step) (h k : ℕ) → SawBack limit first h → SawBack limit second k → InLine first second → h ≡ k
+one_frees limit first second h k freed again line =
+    elim (cases_lt (length first) (length second)) [
+      | inl less ↦ absurd (nothing_follows_the_free limit first second h freed again.one_block (line.0 (omega (arith, less)), less))
+      | inr most ↦ elim (cases_lt (length second) (length first)) [
+        | inl less ↦ absurd (nothing_follows_the_free limit second first k again freed.one_block (line.1 most, less))
+        | inr least ↦ (
+            let both = sym freed.ends ∙ as_long first second (line.0 least) most ∙ again.ends in
+            let acts : Back h ≡ Back k = (same_from_push freed.prefix again.prefix (Back h) (Back k) both).1 in
+            cc
+            )
+      ]
+    ]
 
 module _ {M : Type 1} {𝓤 : Ura M} (𝓛 : Logic 𝓤) where
   abbrev ⟦◌⟧ : Fml → SProp 𝓤

@@ -2,6 +2,7 @@ pub mod Names
 pub mod Texts
 pub mod Words
 pub mod Histories
+pub mod Living
 pub mod Ledger
 pub mod Book
 pub mod Memory

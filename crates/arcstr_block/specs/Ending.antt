@@ -1,10 +1,10 @@
 -- How a handle ended, as the history of its block says.
-use Rattle.std.specs.Prelude.{◌≡◌, ℕ, List, []}
+use Rattle.std.specs.Prelude.{◌≡◌, ◌↔◌, ◌<◌, ℕ, IsFalse, List, [], length}
 use Rattle.arcstr_count.specs.declared.steps.Step.{Step}
 use Rattle.arcstr_count.specs.declared.steps.Step.TheVariants.{Begin, Sub}
 use Rattle.arcstr_count.specs.declared.steps.Reply.TheVariants.{Ended as EndedReply, Left as LeftReply, Owes as OwesReply}
-use Rattle.arcstr_count.specs.Model.{living_after}
-use Rattle.arcstr_count.specs.OneBlock.{EndsIn, IsInUse, IsOneBlock}
+use Rattle.arcstr_count.specs.Model.{marked_after, living_after, dropping_after, owing_after, given_after}
+use Rattle.arcstr_count.specs.OneBlock.{EndsIn, IsInUse, IsOneBlock, states_after}
 use Rattle.arcstr_block.specs.Book.{IsLater}
 use Rattle.arcstr_block.specs.Handle.{SawBack, IsMarkedIn}
 use Rattle.arcstr_block.specs.declared.ending.End.{End}
@@ -29,3 +29,12 @@ pub record IsFreeLast (first second : List Step) : Type 0 where
   pub alone : (limit h : ℕ) → SawBack limit first h → living_after limit first 0 ≡ []
   pub last : (limit h : ℕ) → SawBack limit first h → IsOneBlock limit second → ¬ (IsLater first second)
   pub unmarked : (limit h : ℕ) → IsMarkedIn limit first → SawBack limit second h → ¬ (IsLater first second)
+
+-- if no handle on the one block of the history lives, none is dropping and none owes it, the block was freed once exactly if nothing marked it
+abbrev pub IsFreedExactly : ℕ → List Step → Type 0
+IsFreedExactly limit history = IsOneBlock limit history → living_after limit history 0 ≡ [] → dropping_after limit history 0 ≡ []
+    → owing_after limit history 0 ≡ [] → ((given_after limit history 0 ≡ 1) ↔ IsFalse (marked_after limit history 0))
+
+-- handle h was born in the history
+abbrev pub IsBornIn : ℕ → List Step → ℕ → Type 0
+IsBornIn limit history h = h < length (states_after limit history)

@@ -2,6 +2,8 @@
 ghost use Rattle.std.specs.Prelude.{◌≡◌};
 ghost use Rattle.arcstr_block.specs.Book.{IsLater};
 ghost use Rattle.arcstr_block.specs.Ending.{EndedAs};
+ghost use Rattle.arcstr_block.specs.Handle.{IsMarkedIn, SawBack};
+ghost use Rattle.arcstr_block.specs.declared.ending.End.TheVariants.{Ended, Freed};
 
 use crate::owed::Down;
 use crate::seen::Seen;
@@ -40,6 +42,7 @@ impl<const LIMIT: u64, A: Allocator + Copy> Shared<LIMIT, A> {
         // Promise: The handle ended as the history seen says. Exactly the last handle frees the
         // block.
         ensures ends { EndedAs LIMIT result.1.history self.seat result.0 }
+        ensures freed { result.0 ≡ Freed → SawBack LIMIT result.1.history self.seat }
         ensures block { result.1.block ≡ self.block }
     {
         let before = self.handle.pointer.seen();
@@ -58,9 +61,12 @@ impl<const LIMIT: u64, A: Allocator + Copy> Shared<LIMIT, A> {
     pub fn end_after(self, before: &Seen) -> (End, Seen)
         requires before { before.now.block ≡ self.block }
         ensures ends { EndedAs LIMIT result.1.history self.seat result.0 }
+        ensures freed { result.0 ≡ Freed → SawBack LIMIT result.1.history self.seat }
         ensures block { result.1.block ≡ self.block }
         // Promise: The history seen begins with what the caller had seen, and is longer.
         ensures after { IsLater before.now.history result.1.history }
+        // Promise: The drop finds a block that was marked before, and stays out of its count.
+        ensures marked { IsMarkedIn LIMIT before.now.history → result.0 ≡ Ended }
     {
         let (down, seen) = self.down_after(before);
         match down {

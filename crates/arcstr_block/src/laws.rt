@@ -1,8 +1,11 @@
 //! The laws of blocks. A law does nothing when it runs: it takes no atomic step, and does not
 //! allocate.
-ghost use Rattle.std.specs.Prelude.{◌≡◌, ◌≢◌};
-ghost use Rattle.arcstr_block.specs.Ending.{IsFreeLast};
-ghost use Rattle.arcstr_block.specs.Rights.{owed, HasSeat, MaySee};
+ghost use Rattle.std.specs.Prelude.{◌≡◌, ◌≢◌, ℕ, Contains};
+ghost use Rattle.arcstr_count.specs.Laws.{HoldsInEveryInterleaving};
+ghost use Rattle.arcstr_count.specs.Model.{living_after};
+ghost use Rattle.arcstr_block.specs.Ending.{IsBornIn, IsFreedExactly, IsFreeLast};
+ghost use Rattle.arcstr_block.specs.Handle.{SawBack};
+ghost use Rattle.arcstr_block.specs.Rights.{owed, HasSeat, IsFree, MaySee};
 
 use crate::fixed::Fixed;
 use crate::owed::Owed;
@@ -34,6 +37,16 @@ impl<A: Allocator> Pointer<A> {
     {
         self
     }
+
+    /// Proves that the block of a free handle is not freed in what was seen of it, and that the
+    /// handle lives in it if it was born in it.
+    pub(crate) fn a_free_handle_lives(&self, seen: &Seen)
+        requires right { IsFree self.now.right }
+        requires block { seen.now.block ≡ self.now.block }
+        ensures unfreed { (h : ℕ) → ¬ (SawBack self.now.limit seen.now.history h) }
+        ensures living { IsBornIn self.now.limit seen.now.history self.now.seat
+            → Contains (living_after self.now.limit seen.now.history 0) self.now.seat }
+    {}
 }
 
 impl<const LIMIT: u64, A: Allocator + Copy> Shared<LIMIT, A> {
@@ -76,6 +89,28 @@ impl<const LIMIT: u64, A: Allocator + Copy> Shared<LIMIT, A> {
             alloc: home,
         };
         (Shared { handle: first }, Shared { handle: second })
+    }
+}
+
+impl<const LIMIT: u64, A: Allocator + Copy> Shared<LIMIT, A> {
+    /// Proves that a handle that is not dropped lives: no history that was seen of its block ends
+    /// in the free, and in each in which the handle was born, its seat is among those that live.
+    ///
+    /// ```
+    /// let text = Shared::<5, _>::from_text(rt.alloc(), "aé")?;
+    /// let (end, seen) = text.up(&rt).end();
+    /// text.lives(&seen);
+    /// assert_eq!(rt; end, End::Left);
+    /// ```
+    pub fn lives(&self, seen: &Seen)
+        requires block { seen.now.block ≡ self.now.block }
+        // Promise: Nobody has freed the block in what was seen of it.
+        ensures unfreed { (h : ℕ) → ¬ (SawBack LIMIT seen.now.history h) }
+        // Promise: The handle is among the living ones of each history in which it was born.
+        ensures living { IsBornIn LIMIT seen.now.history self.now.seat
+            → Contains (living_after LIMIT seen.now.history 0) self.now.seat }
+    {
+        self.handle.pointer.a_free_handle_lives(seen);
     }
 }
 
@@ -139,6 +174,38 @@ impl<A: Allocator + Copy> Owed<A> {
 }
 
 impl Seen {
+    /// Proves the laws of every interleaving of what was seen of a running block: each holds for
+    /// any limit, and any prefix of the history. So if no handle lives, none is dropping and none
+    /// owes the block, it was freed once exactly if nothing marked it static.
+    ///
+    /// ```
+    /// let (_, seen) = Shared::<5, _>::from_text(rt.alloc(), "a")?.end();
+    /// seen.the_six_laws_hold();
+    /// ```
+    pub fn the_six_laws_hold(&self)
+        // Promise: Once its handles have ended, a block was freed exactly if nothing marked it.
+        ensures freed_exactly { (limit : ℕ) → IsFreedExactly limit self.now.history }
+        ensures laws { (limit : ℕ) → HoldsInEveryInterleaving limit self.now.history }
+    {}
+
+    /// Proves that one handle frees a block: if two histories of it end in the free, it is the free
+    /// by one handle. So of two handles on a block, which end in any order and in any threads, at
+    /// most one answers `End::Freed`.
+    ///
+    /// ```
+    /// let text = Shared::<5, _>::from_text(rt.alloc(), "a")?;
+    /// let (one, other) = text.up(&rt).two_handles_have_two_seats(text);
+    /// let ((first, seen), (second, last)) = (one.end(), other.end());
+    /// seen.one_handle_frees(&last);
+    /// assert_eq!(rt; (first, second), (End::Left, End::Freed));
+    /// ```
+    pub fn one_handle_frees(&self, other: &Seen)
+        ensures once { self.now.block ≡ other.now.block → (limit h k : ℕ)
+            → SawBack limit self.now.history h → SawBack limit other.now.history k → h ≡ k }
+    {
+        self.a_block_has_one_history(other);
+    }
+
     /// Proves that nothing follows the free: where a history ends in the free, no handle on the
     /// block lives, and no history of the block is later. So a block is freed at most once, and no
     /// call through a handle on it comes after that. A block that is marked static is never freed.

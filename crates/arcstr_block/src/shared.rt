@@ -60,6 +60,7 @@ impl<const LIMIT: u64, A: Allocator + Copy> Model for Shared<LIMIT, A> {
 
 impl<const LIMIT: u64, A: Allocator + Copy> Shared<LIMIT, A> {
     ghost use Rattle.arcstr_block.specs.Steps.{EndsAs, OwesAs};
+    ghost use Rattle.arcstr_block.specs.declared.owed.Down.TheVariants.{Ended};
 
     /// The first handle on a new block, which only its maker has, with a text of `len` bytes.
     pub(crate) fn first_handle(block: Sole<A>, len: usize, alloc: A) -> Shared<LIMIT, A>
@@ -434,6 +435,7 @@ impl<const LIMIT: u64, A: Allocator + Copy> Shared<LIMIT, A> {
     ///     Down::Left | Down::Ended => return Err(Fail::from("another handle is left")),
     /// }
     /// ```
+    #[tactic(auto, using(crate::proofs::Histories::marked_is_not_begun))]
     pub fn down_after(self, before: &Seen) -> (Down<A>, Seen)
         requires before { before.now.block ≡ self.block }
         ensures seen { EndsAs LIMIT result.1.history self.seat result.0 }
@@ -441,6 +443,8 @@ impl<const LIMIT: u64, A: Allocator + Copy> Shared<LIMIT, A> {
         ensures block { result.1.block ≡ self.block }
         // Promise: The history seen begins with what the caller had seen, and is longer.
         ensures after { IsLater before.now.history result.1.history }
+        // Promise: The drop of a handle on a block that was marked before ends at its look.
+        ensures marked { IsMarkedIn LIMIT before.now.history → result.0 ≡ Ended }
     {
         let Shared { handle } = self;
         let Counted {

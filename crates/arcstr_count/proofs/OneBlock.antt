@@ -351,6 +351,16 @@ ended_is_marked limit history h ends =
     ended_was true e = refl
     ended_was false e = cc
 
+-- and one that goes on found it unmarked
+pub looked_is_unmarked : (limit : ℕ) (history : List Step) (h : ℕ) → EndsIn limit history (Begin h) Looked → marked_after limit history 0 ≡ false
+looked_is_unmarked limit history h ends =
+    ap (λ (e : BlockSummary). e.word.flag) (last_entry limit history (Begin h) Looked ends h refl (last_found limit history (Begin h) Looked ends).born)
+    ∙ looked_was (word_on (after limit ends.prefix) h).flag (last_reply limit history (Begin h) Looked ends)
+  where
+    looked_was : (f : Bool) → (if f then Ended else Looked) ≡ Looked → f ≡ false
+    looked_was true e = cc
+    looked_was false e = refl
+
 -- a subtraction that was not the last one leaves a marked block or a living handle
 pub left_is_used : (limit : ℕ) (history : List Step) (h : ℕ) → EndsIn limit history (Sub h) Left → IsInUse limit history
 left_is_used limit history h ends =
