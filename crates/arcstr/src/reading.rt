@@ -319,12 +319,7 @@ fn read_chunk<R: Read>(
 }
 
 /// Reads once, into the bytes from `start` to `end`.
-fn read_at<R: Read>(
-    reader: &mut R,
-    bytes: &mut [u8],
-    start: usize,
-    end: usize,
-) -> io::Result<usize>
+fn read_at<R: Read>(reader: &mut R, bytes: &mut [u8], start: usize, end: usize) -> io::Result<usize>
     requires { (start < end) × (end ≤ length bytes.old) }
     ensures long { length bytes.new ≡ length bytes.old }
     ensures front { take start bytes.new ≡ take start bytes.old }
