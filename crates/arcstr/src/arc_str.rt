@@ -190,7 +190,7 @@ impl ArcStr {
         self.as_str().len()
     }
 
-    /// Returns `true` if the text has a length of zero bytes.
+    /// Returns whether the text has a length of zero bytes.
     ///
     /// ```
     /// assert!(rt; ArcStr::from_static("").is_empty());
@@ -262,7 +262,7 @@ impl ArcStr {
         }
     }
 
-    /// Returns `true` if the text is never freed. That is always so for a literal or a permanent
+    /// Returns whether the text is never freed. That is always so for a literal or a permanent
     /// block, and takes no atomic step. For another block, one load of the count word tests the
     /// static flag.
     ///

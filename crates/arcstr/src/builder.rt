@@ -124,7 +124,7 @@ impl ArcStrBuilder {
         self.as_str().len()
     }
 
-    /// Returns `true` if nothing was appended yet.
+    /// Returns whether nothing was appended yet.
     ///
     /// ```
     /// let builder = ArcStrBuilder::with_capacity(rt.alloc(), 8)?;

@@ -83,7 +83,7 @@ impl ArcStr {
     }
 
     /// Returns the slice of this text that a view shows, or `None` exactly if the text does not
-    /// have the view's text at the view's place. An empty view is found everywhere, and gives
+    /// have the view's text at the view's byte offset. An empty view is found everywhere, and gives
     /// `Substr::new()`.
     ///
     /// ```
@@ -105,8 +105,8 @@ impl ArcStr {
     }
 
     /// Returns the slice of this text that a view shows, or `Substr::new()` for an empty view. The
-    /// caller must ensure that the text has the view's text at the view's place. The text's own
-    /// `view` and its parts satisfy this, and `StrView::is_found_in` tests it for other views.
+    /// caller must ensure that the text has the view's text at the view's byte offset. The text's
+    /// own `view` and its parts satisfy this, and `StrView::is_found_in` tests it for other views.
     ///
     /// ```
     /// let text = ArcStr::from_str(rt.alloc(), "  foo ")?;
@@ -229,7 +229,7 @@ impl Substr {
         }
     }
 
-    /// As `ArcStr::try_substr_from`, for the slice's own text: the view's place is a byte offset of
+    /// As `ArcStr::try_substr_from`, for the slice's own text: the view's byte offset is one of
     /// that text.
     pub fn try_substr_from(&self, rt: &impl Wait, view: StrView<'_>) -> Option<Substr>
         ensures found { IsSome result
@@ -244,8 +244,8 @@ impl Substr {
         Some(self.substr_from(rt, view))
     }
 
-    /// As `ArcStr::substr_from`, for the slice's own text: the view's place is a byte offset of
-    /// that text.
+    /// As `ArcStr::substr_from`, for the slice's own text: the view's byte offset is one of that
+    /// text.
     #[tactic(auto, unfolding(arcstr_range::specs::View::IsFoundAt))]
     pub fn substr_from(&self, rt: &impl Wait, view: StrView<'_>) -> Substr
         requires { IsFoundAt (text_of self.now) view.text view.place }

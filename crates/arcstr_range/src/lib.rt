@@ -1,5 +1,5 @@
 //! Ranges and views of texts: the ends of a range, which ranges are valid in a text, and views,
-//! which remember their place in a parent.
+//! which remember their byte offset in a parent.
 #![tactic(auto)]
 
 pub mod range;

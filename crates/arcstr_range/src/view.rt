@@ -1,4 +1,4 @@
-//! Views of a text that remember their place in a parent.
+//! Views of a text that remember their byte offset in a parent.
 ghost use Rattle.std.specs.Prelude.{◌≡◌, ◌↔◌, ◌+◌, ◌≤◌, length, IsTrue, IsSome, IfSome, Some, bytes_eq, ⊤};
 ghost use Rattle.std.specs.Cmp.{on_equiv, on_per, partial_equiv_from_equiv};
 ghost use Rattle.std.specs.Cmp.Lexicographic.{nat_list_eq_equiv};
@@ -20,12 +20,11 @@ use std::fmt;
 use std::marker::Model;
 use std::ops::Range;
 
-/// A text and its place: the byte offset at which it claims to stand in a longer text, its parent.
-/// The view does not keep the parent: `is_found_in` tests whether a text has the view at that
-/// place.
+/// A text and its byte offset, at which it claims to stand in a longer text, its parent. The view
+/// does not keep the parent: `is_found_in` tests whether a text has the view at that byte offset.
 ///
-/// The sum of the place and the text's length is at most `usize::MAX`. A view borrows its text, and
-/// no call on it allocates.
+/// The sum of the byte offset and the text's length is at most `usize::MAX`. A view borrows its
+/// text, and no call on it allocates.
 ///
 /// Its size is 24 bytes. It can be sent to a thread and shared between threads, and its drop does
 /// nothing.
@@ -54,7 +53,7 @@ impl<'a> Model for StrView<'a> {
 }
 
 impl<'a> StrView<'a> {
-    /// Returns the view of a whole text, at place 0.
+    /// Returns the view of a whole text, at the byte offset 0.
     ///
     /// ```
     /// let view = StrView::whole("abc");
@@ -70,8 +69,8 @@ impl<'a> StrView<'a> {
         StrView { text, place: 0 }
     }
 
-    /// Returns the view of a text at a place, in bytes. Returns `None` exactly if the sum of the
-    /// place and the text's length is above `usize::MAX`.
+    /// Returns the view of a text at a byte offset. Returns `None` exactly if the sum of the byte
+    /// offset and the text's length is above `usize::MAX`.
     ///
     /// ```
     /// let view = StrView::at("abc", 4).ok_or("no view")?;
@@ -98,7 +97,7 @@ impl<'a> StrView<'a> {
         self.text
     }
 
-    /// Returns the place of the view's text, in bytes.
+    /// Returns the byte offset of the view's text.
     ///
     /// ```
     /// let word = StrView::whole("  abc").trim_start();
@@ -129,7 +128,7 @@ impl<'a> StrView<'a> {
         }
     }
 
-    /// Returns the byte range of the view: from its place on, as long as its text.
+    /// Returns the byte range of the view: from its byte offset on, as long as its text.
     ///
     /// ```
     /// let word = StrView::whole("  abc").trim_start();
@@ -168,8 +167,8 @@ impl<'a> StrView<'a> {
         })
     }
 
-    /// Returns the view with leading white space removed, as `str::trim_start` does. Its place
-    /// moves by the bytes removed.
+    /// Returns the view with leading white space removed, as `str::trim_start` does. Its byte
+    /// offset moves by the bytes removed.
     ///
     /// ```
     /// let word = StrView::whole("  a ").trim_start();
@@ -191,8 +190,8 @@ impl<'a> StrView<'a> {
         }
     }
 
-    /// Returns the view with trailing white space removed, as `str::trim_end` does. Its place stays
-    /// the same.
+    /// Returns the view with trailing white space removed, as `str::trim_end` does. Its byte offset
+    /// stays the same.
     ///
     /// ```
     /// let word = StrView::whole("  a ").trim_end();
@@ -213,7 +212,7 @@ impl<'a> StrView<'a> {
     }
 
     /// Returns the view with leading and trailing white space removed, as `str::trim` does. Its
-    /// place moves by the bytes removed at the start.
+    /// byte offset moves by the bytes removed at the start.
     ///
     /// ```
     /// let word = StrView::whole("  a ").trim();
@@ -229,8 +228,8 @@ impl<'a> StrView<'a> {
         self.trim_start().trim_end()
     }
 
-    /// Tests whether the parent has the view's text at the view's place, in a valid range. An empty
-    /// view is found in every text.
+    /// Returns whether the parent has the view's text at the view's byte offset, in a valid range.
+    /// An empty view is found in every text.
     ///
     /// ```
     /// let word = StrView::whole("  abc").trim_start();
@@ -268,7 +267,8 @@ impl PartialEq for StrView<'_> {
 
     ghost laws = { on_per (λ view. view.text) (partial_equiv_from_equiv nat_list_eq_equiv) };
 
-    /// Tests whether the two texts are equal, as `==` of two `&str` does, whatever their places.
+    /// Returns whether the two texts are equal, as `==` of two `&str` does, whatever their byte
+    /// offsets.
     fn eq(&self, other: &StrView<'_>) -> bool
         ensures value { result ≡ bytes_eq self.now.text other.now.text }
         ensures same { IsTrue result ↔ (self.now.text ≡ other.now.text) }

@@ -39,8 +39,8 @@ impl<'a> StrView<'a> {
     /// Returns an iterator over the lines of the view, in order, as `str::lines` does. A line ends
     /// at `\n` or `\r\n`, which is not part of it, or at the end of the text; a `\r` elsewhere
     /// stays. An empty text has no line, and neither has the end of a text after its last `\n`.
-    /// Each line has its own place, and is found wherever the view is found. A pass over all lines
-    /// takes time in proportion to the text.
+    /// Each line has its own byte offset, and is found wherever the view is found. A pass over all
+    /// lines takes time in proportion to the text.
     ///
     /// ```
     /// let line = StrView::whole("a\n\nb").lines().last();

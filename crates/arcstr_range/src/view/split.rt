@@ -42,7 +42,7 @@ impl<'a> StrView<'a> {
     /// Returns an iterator over the parts of the view between the occurrences of the separator, in
     /// order, as `str::split` does. There is one part more than there are separators. The parts
     /// before a first, after a last and between two adjacent separators are empty, and an empty
-    /// text is one empty part. Each part has its own place, and is found wherever the view is
+    /// text is one empty part. Each part has its own byte offset, and is found wherever the view is
     /// found. A pass over all parts takes time in proportion to the text.
     ///
     /// ```

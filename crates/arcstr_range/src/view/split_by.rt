@@ -32,8 +32,9 @@ impl<'a> StrView<'a> {
     /// another of std's patterns that is `Copy`: each search begins with a copy of it. The caller
     /// must ensure that it can search, as it must ensure that a closure can be called.
     ///
-    /// There is one part more than there are matches, and each has its own place. A pass over all
-    /// parts takes time in proportion to the text. For a `char`, the contract of `split` says more.
+    /// There is one part more than there are matches, and each has its own byte offset. A pass over
+    /// all parts takes time in proportion to the text. For a `char`, the contract of `split` says
+    /// more.
     ///
     /// ```
     /// let paragraph = StrView::whole("a\n\nb").split_by("\n\n").last();

@@ -37,8 +37,8 @@ impl<'a> Model for SplitWhitespace<'a> {
 impl<'a> StrView<'a> {
     /// Returns an iterator over the words of the view, in order, as `str::split_whitespace` does:
     /// its parts between white space that are not empty. White space is that of
-    /// `char::is_whitespace`, not only of ASCII. Each word has its own place, and is found wherever
-    /// the view is found. A pass over all words takes time in proportion to the text.
+    /// `char::is_whitespace`, not only of ASCII. Each word has its own byte offset, and is found
+    /// wherever the view is found. A pass over all words takes time in proportion to the text.
     ///
     /// ```
     /// let word = StrView::whole(" a  b ").split_whitespace().last();
