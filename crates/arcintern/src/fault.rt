@@ -7,8 +7,9 @@ use std::error::Error;
 use std::io::ErrorKind;
 use std::{fmt, io};
 
-/// Why a text is not interned. It takes one byte, and prints what is wrong. By `?` it becomes an
-/// `io::Error` and an `anyhow::Error`.
+/// Why a text is not interned. A call that interns tests for the faults in the order of the
+/// variants. It takes one byte, and prints what is wrong. By `?` it becomes an `io::Error` and an
+/// `anyhow::Error`.
 ///
 /// ```
 /// let printed = format!(in rt.alloc(); "{}", InternFault::Full)?;
@@ -16,7 +17,8 @@ use std::{fmt, io};
 /// ```
 #[derive(Clone, Copy, Debug, PartialEq, Eq)]
 pub enum InternFault {
-    /// The interner has `MOST_TEXTS` texts already.
+    /// The interner has `MOST_TEXTS` texts already, or a `WordList` would have more than
+    /// `MOST_BYTES` bytes.
     Full,
     /// The text is too long: it has `2^63 - 25` bytes or more.
     Length,

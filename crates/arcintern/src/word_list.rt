@@ -112,9 +112,8 @@ impl<S: BuildHasher> WordList<S> {
 
     /// Returns the symbol of the text that spells this word. If there is none, a copy of the word
     /// becomes the last text: that allocates where the bytes, the list of their ends or the table
-    /// is full. A word that is there is never refused. Another one is refused, in this order: by a
-    /// list that has `MOST_TEXTS` texts, or would have more than `MOST_BYTES` bytes (`Full`), and
-    /// out of memory (`Memory`). A refused call leaves the texts as they were.
+    /// is full. A word that is there is never refused, and another one with `Full` or `Memory`. A
+    /// refused call leaves the texts as they were.
     ///
     /// ```
     /// let mut words = WordList::new(rt.alloc());

@@ -189,7 +189,7 @@ impl ArcStr {
 }
 
 impl Substr {
-    /// As `ArcStr::end`, for the parent.
+    /// As `ArcStr::end`: a slice is a handle on the block of its parent.
     pub fn end(self) -> (End, Option<Seen>)
         ensures seen { SeesAfter self.parent.kind None result.1 }
         ensures ends { IsSeenEnd result.0 result.1 }
@@ -199,7 +199,7 @@ impl Substr {
         self.into_parent().end()
     }
 
-    /// As `ArcStr::end_after`, for the parent.
+    /// As `ArcStr::end_after`: a slice is a handle on the block of its parent.
     pub fn end_after(self, before: &Option<Seen>) -> (End, Option<Seen>)
         requires before { IsSeenOf self.parent.kind before.now }
         ensures seen { SeesAfter self.parent.kind before.now result.1 }

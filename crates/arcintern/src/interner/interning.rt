@@ -16,9 +16,8 @@ use std::sync::Wait;
 impl<S: BuildHasher> Interner<S> {
     /// Returns the symbol of the text that spells this word. If there is none, a copy of the word
     /// becomes the last text: that allocates the copy, which an empty word does not need, and more
-    /// room if the table is full. A word that is there is never refused. Another one is refused, in
-    /// this order: by an interner of `MOST_TEXTS` texts (`Full`), if it has `2^63 - 25` bytes or
-    /// more (`Length`), and out of memory (`Memory`). A refused call leaves the texts as they were.
+    /// room if the table is full. A word that is there is never refused, and another one with the
+    /// first `InternFault` that applies. A refused call leaves the texts as they were.
     ///
     /// ```
     /// let mut interner = Interner::new(rt.alloc());
@@ -49,9 +48,8 @@ impl<S: BuildHasher> Interner<S> {
 
     /// Returns the symbol of the text that spells the same as this one. If there is none, a clone
     /// of this text becomes the last: that takes the steps of `ArcStr::clone`, which can wait, and
-    /// it allocates if the table is full. A text that is there is never refused. Another one is
-    /// refused, in this order: by an interner of `MOST_TEXTS` texts (`Full`), and out of memory
-    /// (`Memory`). A refused call leaves the texts as they were.
+    /// it allocates if the table is full. A text that is there is never refused, and another one
+    /// with `Full` or `Memory`. A refused call leaves the texts as they were.
     ///
     /// ```
     /// let mut interner = Interner::new(rt.alloc());

@@ -15,9 +15,8 @@ use std::sync::Wait;
 impl<S: BuildHasher> SharedInterner<S> {
     /// Returns the symbol of the text that spells this word. If there is none, a copy of the word
     /// becomes a text, with the next number: that allocates the copy, which an empty word does not
-    /// need, and room where a table or the list is full. A new word is refused, in this order:
-    /// where `MOST_TEXTS` numbers are taken (`Full`), if it has `2^63 - 25` bytes or more
-    /// (`Length`), and out of memory (`Memory`).
+    /// need, and room where a table or the list is full. A new word is refused with the first
+    /// `InternFault` that applies.
     ///
     /// `tools/ask` tests that a known word is never refused where memory is out, and that no
     /// call finds a refused word.
