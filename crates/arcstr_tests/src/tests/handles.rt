@@ -15,7 +15,7 @@ fn a_text_is_three_words_and_a_slice_five(ref rt: HostRuntime) {
     check_eq!(rt; size_of::<RawArcStr>(), 24);
     check_eq!(rt; size_of::<StaticStr>(), 24);
     check_eq!(rt; size_of::<Substr>(), 40);
-    check_eq!(rt; size_of::<ArcStrBuilder>(), 40);
+    check_eq!(rt; size_of::<ArcStrBuilder>(), 48);
 }
 
 #[test]
