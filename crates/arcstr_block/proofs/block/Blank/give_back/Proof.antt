@@ -1,8 +1,11 @@
 -- `give_back` takes the bytes from their `Slots`, makes the block room again, and returns it to the allocator.
-use Rattle.arcstr_block.proofs.Names.{◌≡◌, ℕ, ◌^◌, Bool, [], ◌∷◌, refl, lit<, List, sym, subst, ap, length, ◌<◌, ◌∙◌, w64, T, inst_fn, bare, Ty, w8, ty_int, ty_array, dcons, dnil, a_type}
-use Rattle.arcstr_block.proofs.Names.{named, ty_unit, ty_struct, tcons, tnil, ty_ptr, Val, vint, vptr, has_ty, WT, vunit, Lft, Share, Incl-trans, Fml, fsep, flft, ftrue, froom, emp, id⊢}
+use Rattle.arcstr_block.proofs.Names.{◌≡◌, ℕ, ◌^◌, Bool, [], ◌∷◌, refl, lit<, List, sym, subst, ap, length, ◌<◌, ◌∙◌, w64, T, inst_fn, bare, Ty, w8, ty_int}
+use Rattle.arcstr_block.proofs.Names.{ty_array, dcons, dnil, a_type}
+use Rattle.arcstr_block.proofs.Names.{named, ty_unit, ty_struct, tcons, tnil, ty_ptr, Val, vint, vptr, has_ty, WT, vunit, Lft, Share, Incl-trans, Fml, fsep}
+use Rattle.arcstr_block.proofs.Names.{flft, ftrue, froom, emp, id⊢}
 use Rattle.arcstr_block.proofs.Names.{SProp, ◌⊑◌, fact, tables, param, bounded, uint_vals, uint_Tells, RattleType, owns, block_of, Ptr, block_ptr, ptr_val}
-use Rattle.arcstr_block.proofs.Names.{count_of, at_block, in_block, shr_vals, shr_Tells, types_at, heard, calls_at_last, alloc_all, pass_all, free_all, look_at, get}
+use Rattle.arcstr_block.proofs.Names.{count_of, at_block, in_block, shr_vals, shr_Tells, types_at, heard, calls_at_last, alloc_all, pass_all, free_all}
+use Rattle.arcstr_block.proofs.Names.{look_at, get}
 use Rattle.arcstr_block.proofs.Names.{get_in, sets, lands_last, env, is, ‵, ◌⊛◌, later, ◌$◌, ◌∵◌, !, qed, move, use1, split, join, fsplit, fpick, await, raw}
 use Rattle.arcstr_block.proofs.Names.{by, keep, fsplit3, given, drop, learn, rewrite, feq_i, use3, at_ret, sub, whole, stop, fld, lit, unit_lit, group}
 use Rattle.arcstr_block.proofs.Names.{of_opd, no_more, and_then, first, blocks, exec, returns, enter, Al, Gives, at_gives, Gives-goes, Gives-Gives, tail, fm}

@@ -1,11 +1,13 @@
 -- `written` shows the first bytes, for as long as the block and the slots are borrowed.
-use Rattle.arcstr_block.proofs.Names.{◌≡◌, ℕ, ◌^◌, Bool, [], ◌∷◌, refl, arith, List, sym, ap, length, take, ◌<◌, ◌≤◌, ◌∙◌, ◌*◌, w64, inst_fn, dcons, dnil, a_type, named, Val}
-use Rattle.arcstr_block.proofs.Names.{vint, vptr, WT, Lft, Share, Fml, fsep, flft, ftrue, fhide, emp, SProp, fact, fact_i, tables, u8, Is, shows, mem, owned}
+use Rattle.arcstr_block.proofs.Names.{◌≡◌, ℕ, ◌^◌, Bool, [], ◌∷◌, refl, arith, List, sym, ap, length, take, ◌<◌, ◌≤◌, ◌∙◌, ◌*◌, w64, inst_fn, dcons, dnil}
+use Rattle.arcstr_block.proofs.Names.{a_type, named, Val}
+use Rattle.arcstr_block.proofs.Names.{vint, vptr, WT, Lft, Share, Fml, fsep, flft, ftrue, fhide, emp, SProp, fact, fact_i, tables, u8, Is, shows}
 use Rattle.arcstr_block.proofs.Names.{cell_at, hidden_shr, unhide, hide, param, bounded, uint_vals, uint_Tells, RattleType, owns, block_of, Ptr, block_ptr}
 use Rattle.arcstr_block.proofs.Names.{count_of, at_block, shr_vals, shr_Tells, types_at, slice_val, heard, peeks, looks, shuts, lent_out, alloc_all}
 use Rattle.arcstr_block.proofs.Names.{pass_all, free_all, look_at, get, sets, env, through, sets_last, ‵, ◌⊛◌, ◌$◌, ◌∵◌, !, qed, move, use1, split, join}
 use Rattle.arcstr_block.proofs.Names.{fsplit, fjoin, fpick, raw, by, keep, drop, rewrite, feq_i, flt_i, flt_l, at_ret, sub, whole, agg, look_in, stop, fld}
-use Rattle.arcstr_block.proofs.Names.{of_opd, no_more, and_then, first, blocks, exec, returns, enter, load, tail, proved, Fits, in_memory, length-take-le, Filled}
+use Rattle.arcstr_block.proofs.Names.{of_opd, no_more, and_then, first, blocks, exec, returns, enter, load, tail, proved, Fits, in_memory, length-take-le}
+use Rattle.arcstr_block.proofs.Names.{Filled}
 use denote.Memory.{each_shared, shared_of}
 use Rattle.core.specs.Mem.Slots.Ownership.{slots_lent, lent}
 use Rattle.arcstr_block.proofs.Pointers.{pointer_val, Words, told, opened}
@@ -30,7 +32,8 @@ written_spec 𝓤 𝓛 𝓜 𝓡 wired Y K g d dd met md =
     (λ κs qs bounds a gh are.
     let b : ℕ = a.0.ref_ptr.0 in let o : ℕ = a.0.ref_ptr.1 in let κ : Lft = κs.0 in let q : Share = qs.0 in
     let others : Fml = fsep (flft κs.1.0 qs.1.0) ftrue in
-    let h : Row.Denot = a.0.now in let p : Ptr = h.at in let row : RW.the_row.Denot = a.1.0.now in let sb : ℕ = a.1.0.ref_ptr.0 in let so : ℕ = a.1.0.ref_ptr.1 in
+    let h : Row.Denot = a.0.now in let p : Ptr = h.at in let row : RW.the_row.Denot = a.1.0.now in let sb : ℕ = a.1.0.ref_ptr.0 in
+    let so : ℕ = a.1.0.ref_ptr.1 in
     let len : ℕ = a.1.1.0 in let all : List ℕ = row.items in let fs : List Bool = row.filled in let xs : List ℕ = take len all in let n : ℕ = length xs in
     let fits : len < 2 ^ 64 = are.1.1.0.1 in let pb : ℕ = block_of p in let there : ℕ = count_of p in
     let y : (Walk 𝓛 En c).Ghost = ((κs, qs, bounds, a, (vptr b o ∷ [], (vptr sb so ∷ [], (vint w64 len ∷ [], tt)))), gh) in
@@ -71,4 +74,5 @@ written_spec 𝓤 𝓛 𝓜 𝓡 wired Y K g d dd met md =
     flt_i ! n (2 ^ 64) (omega (arith, long, fits)) $ fjoin ! $
     feq_i ! (List Val) (slice_val (pb, there) len ∷ []) (slice_val (pb, there) n ∷ []) (ap (λ k. slice_val (pb, there) k ∷ []) (sym long)) $ fjoin ! $ fjoin ! $
     returns ! (look_at ! 0 refl) $ free_all ! refl $ keep ! (0 ∷ 1 ∷ []) $
-    by ! (ends 𝓛 En c y (slice_val (pb, there) len) (record { ref_ptr = (pb, there); now = xs }) (tt, (tt, (tt, tt))) (fact_i 𝓤 (xs ≡ xs) (emp 𝓤) refl)))))))))))
+    by ! (ends 𝓛 En c y (slice_val (pb, there) len) (record { ref_ptr = (pb, there); now = xs }) (tt, (tt, (tt, tt)))
+    (fact_i 𝓤 (xs ≡ xs) (emp 𝓤) refl)))))))))))

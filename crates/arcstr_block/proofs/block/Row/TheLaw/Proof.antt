@@ -1,5 +1,6 @@
 -- A `&` to a row holds the bytes that are written. Assumes `Logic`.
-use Rattle.arcstr_block.proofs.Names.{ℕ, ◌^◌, ◌*◌, Bool, true, false, List, [], ◌∷◌, length, Ura, Lft, Logic, Ptr, block_ptr, null_ptr, in_block, u8, ftrue, said}
+use Rattle.arcstr_block.proofs.Names.{ℕ, ◌^◌, ◌*◌, Bool, true, false, List, [], ◌∷◌, length, Ura, Lft, Logic, Ptr, block_ptr, null_ptr, in_block, u8, ftrue}
+use Rattle.arcstr_block.proofs.Names.{said}
 use Rattle.arcstr_block.proofs.Names.{ShrLaws, nothing_shr_laws, said_shr_laws, beside_shr_laws, lent_at_shr_laws, copy_shared, RawPtr-field, RawPtr-copy}
 use Rattle.arcstr_block.proofs.Names.{Lends, Lends-lies, Lends-said, Lends-nothing, Lends-both, of_Lends, slot, slots, ⊑_static}
 use base.Fml.{flt}
@@ -29,7 +30,8 @@ module _ {M : Type 1} {𝓤 : Ura M} (𝓛 : Logic 𝓤) (l : Lft) where
   Lends-slots p [] fs = Lends-nothing 𝓛 ftrue l
   Lends-slots p (x ∷ xs) [] = Lends-nothing 𝓛 ftrue l
   Lends-slots p (x ∷ xs) (f ∷ fs) =
-      Lends-both 𝓛 (slot u8 f p x) (slots u8 (p +ₚ 1) xs fs) (slot_lent u8 f p x) (slots_lent u8 (p +ₚ 1) xs fs) l (Lends-slot f p x) (Lends-slots (p +ₚ 1) xs fs)
+      Lends-both 𝓛 (slot u8 f p x) (slots u8 (p +ₚ 1) xs fs) (slot_lent u8 f p x) (slots_lent u8 (p +ₚ 1) xs fs) l
+      (Lends-slot f p x) (Lends-slots (p +ₚ 1) xs fs)
 
   Lends-row : (p : Ptr) (xs : List ℕ) (fs : List Bool) → Lends 𝓛 (in_block p (slots u8 p xs fs)) (slots_lent u8 p xs fs) l
   Lends-row (block_ptr b o) xs fs = Lends-slots (block_ptr b o) xs fs

@@ -1,12 +1,16 @@
 -- `into_slots` makes the bytes `Slots` again.
-use Rattle.arcstr_block.proofs.Names.{◌≡◌, ℕ, ◌^◌, Bool, [], ◌∷◌, refl, arith, List, sym, subst, ap, length, ◌<◌, ◌∙◌, ◌*◌, w64, T, has_ty, ty_int, tcons, tnil, ty_ptr, ty_struct, Val, vint, WT, emp, SProp, fact, fact_i, tables, id⊢}
-use Rattle.arcstr_block.proofs.Names.{u8, owns, Ptr, block_ptr, ptr_val, in_block, types_at, calls_at_last, alive, alloc_all, pass_all, free_all, look_at, heard}
-use Rattle.arcstr_block.proofs.Names.{get, get_in, sets, lands_last, env, is, ‵, ◌⊛◌, some, later, ◌$◌, ◌∵◌, !, qed, move, pick, use1, split, fsplit, flt_l, await}
+use Rattle.arcstr_block.proofs.Names.{◌≡◌, ℕ, ◌^◌, Bool, [], ◌∷◌, refl, arith, List, sym, subst, ap, length, ◌<◌, ◌∙◌, w64, T, has_ty, ty_int, tcons, tnil}
+use Rattle.arcstr_block.proofs.Names.{ty_ptr, ty_struct, Val, vint, WT, emp, SProp, fact, fact_i, tables, id⊢}
+use Rattle.arcstr_block.proofs.Names.{u8, owns, Ptr, block_ptr, ptr_val, in_block, types_at, calls_at_last, alive, alloc_all, pass_all, free_all, look_at}
+use Rattle.arcstr_block.proofs.Names.{heard}
+use Rattle.arcstr_block.proofs.Names.{get, get_in, sets, lands_last, env, is, ‵, ◌⊛◌, some, later, ◌$◌, ◌∵◌, !, qed, move, pick, use1, split, fsplit, flt_l}
+use Rattle.arcstr_block.proofs.Names.{await}
 use Rattle.arcstr_block.proofs.Names.{raw, by, keep, drop, given, learn, rewrite, at_ret, sub, whole, stop, fld, of_opd, no_more, and_then, first, blocks, exec}
 use Rattle.arcstr_block.proofs.Names.{returns, enter, tail, words_val, slots, Slots, fm, proved, uint_vals, uint_Tells}
 use base.Logic.{never}
 use denote.RawPtr.{in_a_block}
-use Rattle.arcstr_block.proofs.Memory.{byte_laws, Bytes, R, MakeContract, at_makes, IsSlotsMade, makes_goes, makes_gives, words_typed, row_val, row_typed, row_told}
+use Rattle.arcstr_block.proofs.Memory.{byte_laws, Bytes, MakeContract, at_makes, IsSlotsMade, makes_goes, makes_gives, words_typed, row_val, row_typed}
+use Rattle.arcstr_block.proofs.Memory.{row_told}
 use Rattle.arcstr_block.specs.contracts.block.Row.into_slots.{ended, clauses}
 use Rattle.arcstr_block.specs.contracts.block.Row.into_slots.Key.{name as #self}
 use Rattle.arcstr_block.proofs.block.Row.into_slots.Statement.{statement}
@@ -38,7 +42,8 @@ into_slots_spec 𝓤 𝓛 𝓜 𝓡 wired =
     (makes_gives 𝓛 𝓜.mem 𝓡.returns b o n xs fs v) $ await ! tt $ pick ! (λ r. learn ! (λ made.
     let good = words_typed (block_ptr b o) n fits in
     rewrite ! 0 (λ (t : Val). ‵ (Bytes.own_val r (t ∷ []))) made.1 refl $
-    lands_last ! refl (subst (λ (z : Val). T (has_ty (ty_struct [] (tcons ty_ptr (tcons (ty_int w64) tnil))) z) × WT z) (sym made.1) good) $ exec ! 𝓣.C 𝓣.Λ Ev (tail (tail fn.body)) (at_ret Ev Post) $ sets ! (is ! (of_opd ! (get ! refl)) made.1) refl good $
+    lands_last ! refl (subst (λ (z : Val). T (has_ty (ty_struct [] (tcons ty_ptr (tcons (ty_int w64) tnil))) z) × WT z)
+    (sym made.1) good) $ exec ! 𝓣.C 𝓣.Λ Ev (tail (tail fn.body)) (at_ret Ev Post) $ sets ! (is ! (of_opd ! (get ! refl)) made.1) refl good $
     returns ! (look_at ! 0 refl) $ free_all ! refl $ by ! (ends 𝓛 En c y wv r (tt, (tt, tt))
     (also 𝓛 {X = r.ptr ≡ p} (made.0.0 ∙ sym e) (also 𝓛 {X = r.len ≡ n} made.0.1 (also 𝓛 {X = r.items ≡ xs} made.0.2
     (fact_i 𝓤 (r.filled ≡ fs) (emp 𝓤) made.0.3)))))))))))))

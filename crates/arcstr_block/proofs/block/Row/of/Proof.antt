@@ -1,10 +1,12 @@
 -- `of` takes the bytes from their `Slots`.
-use Rattle.arcstr_block.proofs.Names.{◌≡◌, ℕ, ◌^◌, Bool, [], ◌∷◌, refl, List, sym, subst, length, ◌<◌, ◌∙◌, w64, T, ty_int, tcons, tnil, ty_ptr, ty_struct, Val, has_ty, WT}
-use Rattle.arcstr_block.proofs.Names.{emp, SProp, fact, fact_i, tables, u8, owns, Ptr, types_at, calls_at_last, alive, alloc_all, pass_all, free_all, look_at}
+use Rattle.arcstr_block.proofs.Names.{◌≡◌, ℕ, ◌^◌, Bool, [], ◌∷◌, refl, List, sym, subst, ◌<◌, ◌∙◌, w64, T, ty_int, tcons, tnil, ty_ptr, ty_struct, Val}
+use Rattle.arcstr_block.proofs.Names.{has_ty, WT}
+use Rattle.arcstr_block.proofs.Names.{emp, SProp, fact_i, tables, u8, owns, Ptr, types_at, calls_at_last, alive, alloc_all, pass_all, free_all, look_at}
 use Rattle.arcstr_block.proofs.Names.{get, get_in, sets, lands_last, env, is, ‵, ◌⊛◌, later, ◌$◌, ◌∵◌, !, qed, move, use0, use1, split, fsplit, fjoin, await}
 use Rattle.arcstr_block.proofs.Names.{raw, by, keep, given, learn, rewrite, at_ret, sub, whole, agg, stop, fld, of_opd, no_more, and_then, first, blocks, exec}
-use Rattle.arcstr_block.proofs.Names.{returns, enter, tail, words_val, owned, fm, proved, id⊢}
-use Rattle.arcstr_block.proofs.Memory.{byte_laws, Bytes, R, EndContract, at_ends, ends_goes, ends_gives, words_typed, words_told, row_val, row_typed, RowFields, row_made}
+use Rattle.arcstr_block.proofs.Names.{returns, enter, tail, words_val, owned, fm, proved}
+use Rattle.arcstr_block.proofs.Memory.{byte_laws, Bytes, R, EndContract, at_ends, ends_goes, ends_gives, words_typed, words_told, row_val, row_typed}
+use Rattle.arcstr_block.proofs.Memory.{RowFields, row_made}
 use Rattle.arcstr_block.specs.contracts.block.Row.of.{ended, clauses}
 use Rattle.arcstr_block.specs.contracts.block.Row.of.Key.{name as #self}
 use Rattle.arcstr_block.proofs.block.Row.of.Statement.{statement}
