@@ -22,7 +22,7 @@ fn the_types_have_their_sizes(ref rt: HostRuntime) {
         (size_of::<RawArcStr>(), 24, "RawArcStr"),
         (size_of::<StaticStr>(), 24, "StaticStr"),
         (size_of::<Substr>(), 40, "Substr"),
-        (size_of::<ArcStrBuilder>(), 32, "ArcStrBuilder"),
+        (size_of::<ArcStrBuilder>(), 48, "ArcStrBuilder"),
         (size_of::<StrView<'_>>(), 24, "StrView"),
         (size_of::<StrRange>(), 24, "StrRange"),
         (size_of::<Shared<5, Global>>(), 16, "Shared"),

@@ -19,7 +19,7 @@ const FIRST: usize = 8;
 
 /// An `ArcStr` that is being built. In a contract it has the text so far, a capacity, which is the
 /// number of bytes that its block has room for, and the bytes that `read_from` holds back. It
-/// appends as a `String` does, and `write!` and `writeln!` write to it. Its size is 40 bytes.
+/// appends as a `String` does, and `write!` and `writeln!` write to it. Its size is 48 bytes.
 ///
 /// The bytes are written to the block that the finished text keeps. So a text that fills its
 /// capacity is finished without a copy and without an allocation. A shorter one is copied once, to

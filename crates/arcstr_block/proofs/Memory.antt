@@ -9,7 +9,11 @@ use Rattle.arcstr_block.proofs.Names.{Lends-both, Lends-first, Lends-lies, shape
 use Rattle.arcstr_block.proofs.Names.{use0, use1, use2, split, split3, join, fsplit, fjoin, fpick, await, updating, now, done, raw, by, fsplit3, drop, check}
 use Rattle.arcstr_block.proofs.Names.{rewrite, show, feq_l, feq_i, flt_l, flt_i, frame, Logic, sem, words_val, word_out, slot, slots, owned, word, Slots}
 use Rattle.arcstr_block.proofs.Names.{block_owns, block_shares, Fits, word_offset, block_size, block_type, length_at, rooms, word_lies, length_lies, text_lies}
-use Rattle.arcstr_block.proofs.Names.{rim}
+use Rattle.arcstr_block.proofs.Names.{rim, ◌≤◌, take, zero}
+use denote.Memory.{each_shared, shared_of}
+use Rattle.arcstr_block.proofs.Names.{makes_shadow, vcons, vnil}
+use Rattle.arcstr_block.specs.contracts.block.Row as RW
+use Rattle.core.specs.Mem.Slots.Ownership.{slot_lent, slots_lent}
 use prog.Memory.{size, align, up, capped, Memory}
 use prog.Capped.{capped_is}
 use prog.RawLaws.{size-raw, align-raw}
@@ -60,21 +64,46 @@ module _ {M : Type 1} {𝓤 : Ura M} (𝓛 : Logic 𝓤) where
       subst (λ (at : ℕ × ℕ × ℕ). Spreads n b o at.0 at.1 at.2) (λ i. (ex i, ey i, ez i))
       (𝓛.laws.room_fields [] (tcons (ty_array (ty_int w8) n) (tcons (ty_int w64) (tcons (ty_int w64) tnil))) b o)
 
-  -- a block that has one owner is room again, with the right to free it
+  -- a block whose bytes are room is room again, with the right to free it
+  pub gathers_room : (holds : Ty → Ptr → Fml) (b o w n : ℕ)
+      → ent 𝓤 (sep 𝓤 (sem 𝓛 (word_lies (block_ptr b o) n w)) (sep 𝓤 (sem 𝓛 (length_lies (block_ptr b o) n)) (sep 𝓤 (sem 𝓛 (rim holds n (block_ptr b o)))
+      (H.room (ty_array (ty_int w8) n) b o)))) (sep 𝓤 (H.room (bare (block_type n)) b o) (sem 𝓛 (holds (bare (block_type n)) (block_ptr b o))))
+  gathers_room holds b o w n = let τ : Ty = bare (block_type n) in let u : ℕ = o + word_offset n in
+      qed 𝓛 (‵ (word b (u + 0) w) ∷ ‵ (length_lies (block_ptr b o) n) ∷ ‵ (rim holds n (block_ptr b o)) ∷ ‵ (froom (ty_array (ty_int w8) n) b o) ∷ []) ∵
+      use1 𝓛 (‵ (froom (ty_int w64) b (u + 0))) (𝓛.laws.at_room (ty_int w64) b (u + 0) (vint w64 w)) $ move ! (1 ∷ []) $
+      use1 𝓛 (‵ (word b (u + 8) n)) (word_out 𝓛 b (u + 8) n) $ use1 𝓛 (‵ (froom (ty_int w64) b (u + 8))) (𝓛.laws.at_room (ty_int w64) b (u + 8) (vint w64 n)) $
+      -- [room for the length; for the word; the rim; room for the bytes]
+      nothing ! $ move ! (1 ∷ 0 ∷ []) $ fjoin ! $ move ! (1 ∷ 0 ∷ []) $ fjoin ! $ move ! (2 ∷ 0 ∷ []) $ fjoin ! $
+      move ! (1 ∷ []) $ fsplit ! $ move ! (2 ∷ 0 ∷ []) $
+      use2 𝓛 (‵ (froom τ b o)) (apply∗ 𝓤 (sem 𝓛 (rooms n b o)) (H.room τ b o)) $ done !
+
+  -- so is one that has one owner
   pub gathers : (holds : Ty → Ptr → Fml) (b o w : ℕ) (xs : List ℕ)
       → ent 𝓤 (sep 𝓤 (sem 𝓛 (word_lies (block_ptr b o) (length xs) w)) (sem 𝓛 (block_owns holds (block_ptr b o) xs)))
       (sep 𝓤 (H.room (bare (block_type (length xs))) b o) (sem 𝓛 (holds (bare (block_type (length xs))) (block_ptr b o))))
-  gathers holds b o w xs = let n : ℕ = length xs in let τ : Ty = bare (block_type n) in let u : ℕ = o + word_offset n in
-      qed 𝓛 (‵ (word b (u + 0) w) ∷ ‵ (block_owns holds (block_ptr b o) xs) ∷ []) ∵
-      use1 𝓛 (‵ (froom (ty_int w64) b (u + 0))) (𝓛.laws.at_room (ty_int w64) b (u + 0) (vint w64 w)) $ move ! (1 ∷ []) $ fsplit3 ! $
-      -- [the length; the bytes; the rim; room for the word]
-      use1 𝓛 (‵ (word b (u + 8) n)) (word_out 𝓛 b (u + 8) n) $ use1 𝓛 (‵ (froom (ty_int w64) b (u + 8))) (𝓛.laws.at_room (ty_int w64) b (u + 8) (vint w64 n)) $
+  gathers holds b o w xs = let n : ℕ = length xs in
+      qed 𝓛 (‵ (word_lies (block_ptr b o) n w) ∷ ‵ (block_owns holds (block_ptr b o) xs) ∷ []) ∵ move ! (1 ∷ []) $ fsplit3 ! $
+      -- [the length; the bytes; the rim; the word]
       move ! (1 ∷ []) $ use1 𝓛 (‵ (fsep (feq ℕ n n) (bytes full_share xs b o))) (bytes_apart 𝓛 full_share n xs b o) $ fsplit ! $ drop ! $
-      use1 𝓛 (‵ (froom (ty_array (ty_int w8) n) b o)) (bytes-room 𝓛 xs b o) $
-      -- [room for the bytes; for the length; the rim; room for the word]
-      move ! (1 ∷ []) $ nothing ! $ move ! (1 ∷ 0 ∷ []) $ fjoin ! $ move ! (3 ∷ 0 ∷ []) $ fjoin ! $ move ! (1 ∷ 0 ∷ []) $ fjoin ! $
-      move ! (1 ∷ []) $ fsplit ! $ move ! (2 ∷ 0 ∷ []) $
-      use2 𝓛 (‵ (froom τ b o)) (apply∗ 𝓤 (sem 𝓛 (rooms n b o)) (H.room τ b o)) $ done !
+      use1 𝓛 (‵ (froom (ty_array (ty_int w8) n) b o)) (bytes-room 𝓛 xs b o) $ move ! (3 ∷ 1 ∷ 2 ∷ 0 ∷ []) $ by ! (gathers_room holds b o w n)
+
+-- ---- a `Row` as a value: its one data field
+
+abbrev pub row_val : Ptr → Val
+row_val p = vstruct (vcons (ptr_val p) vnil)
+
+pub row_typed : (p : Ptr) → T (has_ty (ty_struct [] (tcons ty_ptr tnil)) (row_val p)) × WT (row_val p)
+row_typed (block_ptr b o) = (tt, (tt, tt))
+row_typed null_ptr = (tt, (record { fits = lit< tt }, tt))
+
+abbrev pub RowFields : RattleType
+RowFields = Struct (shape RW.the_type)
+
+pub row_told : (p : Ptr) (vs : List Val) → Is RowFields (p, tt) vs → vs ≡ row_val p ∷ []
+row_told p vs is = is.1.0 ∙ ap (λ (ws : List Val). vstruct (of_list (ws ++ [])) ∷ []) is.1.1.0
+
+pub row_made : {M : Type 1} {𝓤 : Ura M} (𝓛 : Logic 𝓤) (p : Ptr) → ent 𝓤 (emp 𝓤) (sem 𝓛 (RowFields.own_val (p, tt) (row_val p ∷ [])))
+row_made 𝓛 p = makes_shadow 𝓛 (RowFields.own_val (p, tt) (row_val p ∷ [])) (λ vss. (tt, (tt, tt))) ((ptr_val p ∷ [], tt), (refl, (refl, tt)))
 
 -- ---- the slots of the bytes, as a `Slots` in a call: made of room, and taken apart once each byte is written
 
@@ -112,6 +141,18 @@ module _ {M : Type 1} {𝓤 : Ura M} (𝓛 : Logic 𝓤) (b : ℕ) where
       qed 𝓛 (‵ (slot R f (block_ptr b o) x) ∷ ‵ (slots R (block_ptr b (o + 1)) xs fs) ∷ []) ∵
       rewrite ! 0 (λ (g : Bool). ‵ (slot R g (block_ptr b o) x)) (full 0 (omega arith)) refl $ frame ! $
       by ! (to_bytes xs fs (o + 1) (omega arith) (λ k lt. full (suc k) (omega arith)))
+
+  -- what a `&` to the slots shows of the first n bytes, where each slot holds its byte
+  pub shown_bytes : (κ : Lft) (xs : List ℕ) (fs : List Bool) (n o : ℕ) → n ≤ length xs → length fs ≡ length xs
+      → ((k : ℕ) → k < n → lib.ListN.get_or fs k false ≡ true)
+      → ent 𝓤 (sem 𝓛 (slots_lent u8 (block_ptr b o) xs fs κ)) (sem 𝓛 (each_shared (take n xs) (shared_of u8) 1 b o κ))
+  shown_bytes κ xs fs zero o within same full = qed 𝓛 (‵ (slots_lent u8 (block_ptr b o) xs fs κ) ∷ []) ∵ drop ! $ nothing ! $ done !
+  shown_bytes κ [] fs (suc n) o within same full = absurd (omega arith)
+  shown_bytes κ (x ∷ xs) [] (suc n) o within same full = absurd (omega arith)
+  shown_bytes κ (x ∷ xs) (f ∷ fs) (suc n) o within same full =
+      qed 𝓛 (‵ (slot_lent u8 f (block_ptr b o) x κ) ∷ ‵ (slots_lent u8 (block_ptr b (o + 1)) xs fs κ) ∷ []) ∵
+      rewrite ! 0 (λ (g : Bool). ‵ (slot_lent u8 g (block_ptr b o) x κ)) (full 0 (omega arith)) refl $ fsplit ! $ drop ! $ frame ! $
+      by ! (shown_bytes κ xs fs n (o + 1) (omega arith) (omega arith) (λ k lt. full (suc k) (omega arith)))
 
 module _ {M : Type 1} {𝓤 : Ura M} (𝓛 : Logic 𝓤) (at_mem : Memory → SProp 𝓤) (run : Routine → Fun 𝓤) where
   open 𝓛 use {H}

@@ -105,7 +105,7 @@ pub use Rattle.arcstr_block.specs.Ledger.{Id, parts, unmarked, Ledger, counting,
 pub use Rattle.arcstr_block.specs.Ledger.{rest, phase, right_to, of_block, shown, free_shown, known, permanent, with_share, seen, stated, of_block_shown}
 pub use Rattle.arcstr_block.specs.Ledger.{pointer_shares}
 pub use Rattle.arcstr_block.specs.Memory.{block_owns, block_shares, word_at, Fits, word_offset, block_size, block_type, length_at, rooms, word_lies}
-pub use Rattle.arcstr_block.specs.Memory.{length_lies, text_lies, rim, IsText, sole_owns, sole_shares, in_memory}
+pub use Rattle.arcstr_block.specs.Memory.{length_lies, text_lies, rim, IsText, sole_owns, in_memory}
 pub use Rattle.arcstr_block.specs.Rights.{uncounted, counted, HasSeat, Right, dropping, owed, MaySee, IsFree, Looks, Finds, Gains, Begins, Leaves, fixed, Loads}
 pub use Rattle.arcstr_block.specs.Rights.{right_index, right_at, right_at_index}
 pub use Rattle.arcstr_block.specs.Steps.{LoadEnds, LoadedAs, BornAs, ClonedAs}

@@ -10,7 +10,8 @@ use Rattle.arcstr_block.proofs.Names.{updating, now, done, keep, fsplit3, assume
 use Rattle.arcstr_block.proofs.Names.{obor_alter, Ghosts, halved, HandleState, Free, Dropping, Owing, Step, BlockName, Book, reached, seat, steps, state_code}
 use Rattle.arcstr_block.proofs.Names.{seat_share, Id, unmarked, if_alive, Inv, knows, free, held_with, Phase, marked, rest, right_to, shown, free_shown, known}
 use Rattle.arcstr_block.proofs.Names.{permanent, with_share, seen, stated, block_owns, block_shares, word_at, block_type, length_at, uncounted, counted, Right}
-use Rattle.arcstr_block.proofs.Names.{dropping, owed, fixed, operators}
+use Rattle.arcstr_block.proofs.Names.{dropping, owed, fixed, operators, rim, block_ptr, null_ptr}
+use denote.RawPtr.{◌+ₚ◌}
 use denote.Sharing.{one}
 use Rattle.core.proofs.cell.Borrows.{by_one}
 use Rattle.arcstr_block.proofs.Words.{is_right}
@@ -20,7 +21,9 @@ use base.Shift.{Keyless}
 use denote.Builtin.{RawPtr}
 use Rattle.std_alloc.proofs.SendSync.{quiet, lies, seen as lent}
 use Rattle.core.specs.contracts.marker.PhantomData as Marker
-use Rattle.arcstr_block.specs.contracts.block.Sole as S
+use Rattle.core.specs.Mem.Slots.Ownership.{slot, slots, owned}
+use Rattle.arcstr_block.specs.contracts.block.Row as Row
+use Rattle.arcstr_block.specs.contracts.block.Blank as S
 use Rattle.arcstr_block.specs.contracts.pointer.Pointer as C
 
 permanent_twice : {M : Type 1} {𝓤 : Ura M} (𝓛 : Logic 𝓤) (P : Fml) (L b o : ℕ) (t : Id)
@@ -230,25 +233,43 @@ ps = search sendable
 py : IsSync RawPtr
 py = search sendable
 
+slot_keyless : (filled : Bool) (p : Ptr) (x : ℕ) → Keyless (slot u8 filled p x)
+slot_keyless true p x = lies u8 byte_send p x
+slot_keyless false (block_ptr b o) x = tt
+slot_keyless false null_ptr x = tt
+
+slots_keyless : (p : Ptr) (xs : List ℕ) (fs : List Bool) → Keyless (slots u8 p xs fs)
+slots_keyless p [] fs = tt
+slots_keyless p (x ∷ xs) [] = tt
+slots_keyless p (x ∷ xs) (f ∷ fs) = (slot_keyless f p x, slots_keyless (p +ₚ 1) xs fs)
+
+owned_keyless : (p : Ptr) (n : ℕ) (xs : List ℕ) (fs : List Bool) → Keyless (owned u8 p n xs fs)
+owned_keyless (block_ptr b o) n xs fs = (tt, slots_keyless (block_ptr b o) xs fs)
+owned_keyless null_ptr n xs fs = (tt, tt)
+
+pub row_send : IsSend Row.the_row
+row_send = let O = Row.the_type in let all : AllSend (fields O) = (ps, tt) in owning_send O all
+    (λ d. owned_keyless d.at (length d.items) d.items d.filled) (λ k. quiet (to O) (exits_of k (fields O)) ((struct_send (shape O) all).leaving k))
+
 module _ (B : RattleType) (g : Ghosts B.Denot) (f : Frees g g.dealloc_token) where
+  rim_keyless : (a : B.Denot) (n : ℕ) (p : Ptr) → Keyless (rim (g.dealloc_token a) n p)
+  rim_keyless a n p = (((tt, (tt, (tt, tt))), tt), f.frees a (bare (block_type n)) p)
+
   owns_keyless : (a : B.Denot) (p : Ptr) (xs : List ℕ) → Keyless (block_owns (g.dealloc_token a) p xs)
   owns_keyless a p xs = let n : ℕ = length xs in (
     lies usize number_send (length_at p n) n,
     (
       lies (Array u8 n) (bytes_send n) p xs,
-      (
-        ((tt, (tt, (tt, tt))), tt),
-        f.frees a (bare (block_type n)) p,
-      ),
+      rim_keyless a n p,
     ),
   )
 
   ms : IsSend B → IsSend (Marker.the_field B).row
   ms sb = search sendable
 
-  pub sole_send : IsSend B → IsSend (S.the_row B g)
-  sole_send sb = let O = S.the_type B g in let all : AllSend (fields O) = (ps, (ms sb, tt)) in owning_send O all
-      (λ d. ((λ _. tt), (tt, owns_keyless d.home d.at d.text)))
+  pub blank_send : IsSend B → IsSend (S.the_row B g)
+  blank_send sb = let O = S.the_type B g in let all : AllSend (fields O) = (ps, (ms sb, tt)) in owning_send O all
+      (λ d. ((λ _. tt), (tt, (lies usize number_send (length_at d.at d.length) d.length, rim_keyless d.home d.length d.at))))
       (λ k. quiet (to O) (exits_of k (fields O)) ((struct_send (shape O) all).leaving k))
 
   module _ (sb : IsSend B) (yb : IsSync B) where

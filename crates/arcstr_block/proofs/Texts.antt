@@ -75,3 +75,11 @@ module _ {X : Type 0} (f : X → List ℕ) (sep : List ℕ) where
 -- a text after a text is a text
 pub two_texts : (xs ys zs : List ℕ) → zs ≡ xs ++ ys → IsUtf8 xs → IsUtf8 ys → IsUtf8 zs
 two_texts xs ys zs e first second = subst IsUtf8 (sym e) (IsUtf8-append xs ys first second)
+
+-- what was written behind the first n bytes comes after them
+pub appended : (n : ℕ) (xs more rest items : List ℕ) → n ≤ length xs → items ≡ take n xs ++ more ++ rest
+    → take (n + length more) items ≡ take n xs ++ more
+appended n xs more rest items within made =
+    let all : List ℕ = take n xs ++ more in
+    let end : n + length more ≡ length all = omega (arith, length-append (take n xs) more, length-take-le n xs within) in
+    ap (take (n + length more)) made ∙ ap (λ k. take k (all ++ rest)) end ∙ take-append_seam all rest

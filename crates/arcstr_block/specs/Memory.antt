@@ -86,7 +86,3 @@ module _ (holds : Ty → Ptr → Fml) where
 -- what is shared of a block: the length and the bytes
 abbrev pub block_shares : Ptr → List ℕ → Lft → Fml
 block_shares p xs = beside (lent_at usize (length_at p (length xs)) (length xs)) (lent_at (Array u8 (length xs)) p xs)
-
--- what is shared of a block that has one owner
-abbrev pub sole_shares : Ptr → List ℕ → Lft → Fml
-sole_shares p xs = beside (said (in_memory p (Fits (length xs)))) (block_shares p xs)

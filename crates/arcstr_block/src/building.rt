@@ -3,16 +3,18 @@
 ghost use Rattle.std.specs.Prelude.{◌≡◌, ◌↔◌, ◌+◌, ◌≤◌, ◌<◌, [], ◌++◌, length, take};
 ghost use Rattle.std.specs.Prelude.{IfOk, IfErr, IsErrOf, IsOk, IsUtf8};
 ghost use Rattle.std.proofs.Props.{props};
+ghost use Rattle.core.specs.Mem.Slots.Ownership.{Filled};
 ghost use Rattle.arcstr_count.specs.Word.{bits_of, fresh_word};
 ghost use Rattle.arcstr_block.specs.Memory.{Fits};
 ghost use Rattle.arcstr_block.specs.Making.{IsTooLong, IsFaultOfMaking};
 ghost use Rattle.arcstr_block.specs.Building.{Unfinished, HasRoom, IsDoubled};
 
-use crate::block::{Sole, size_of_block};
+use crate::block::{Blank, Row, size_of_block};
 use crate::fault::{TOO_LONG, TextFault};
-use crate::making::{blank_block, write_zeros};
+use crate::making::blank_block;
 use crate::shared::Shared;
 use arcstr_count::RC_MAX;
+use core::mem::replace_with;
 use std::alloc::Allocator;
 use std::marker::Model;
 use std::mem;
@@ -28,22 +30,26 @@ use std::mem;
 /// assert_eq!(rt; text.as_str(), "aé");
 /// ```
 pub struct Draft<A: Allocator + Copy> {
-    block: Sole<A>,
+    blank: Blank<A>,
+    bytes: Row,
     len: usize,
     capacity: usize,
     alloc: A,
     ghost inside: { len ≤ capacity },
-    ghost text: { IsUtf8 (take len block.text) } by { Prim.hlevel props },
-    ghost room: { length block.text ≡ capacity },
+    ghost text: { IsUtf8 (take len bytes.items) } by { Prim.hlevel props },
+    ghost written: { Filled bytes.filled 0 len } by { Prim.hlevel props },
+    ghost here: { bytes.at ≡ blank.at },
+    ghost room: { capacity ≡ length bytes.items },
+    ghost long: { capacity ≡ blank.length },
     ghost fits: { Fits capacity },
-    ghost word: { block.word ≡ bits_of fresh_word },
-    ghost home: { block.home ≡ alloc },
+    ghost word: { blank.word ≡ bits_of fresh_word },
+    ghost home: { blank.home ≡ alloc },
 }
 
 impl<A: Allocator + Copy> Model for Draft<A> {
     ghost Value = { Unfinished };
 
-    ghost view = { λ d. record { text = take d.len d.block.text; capacity = d.capacity } };
+    ghost view = { λ d. record { text = take d.len d.bytes.items; capacity = d.capacity } };
 }
 
 impl<A: Allocator + Copy> Draft<A> {
@@ -65,11 +71,10 @@ impl<A: Allocator + Copy> Draft<A> {
         if capacity >= TOO_LONG {
             return Err(TextFault::Length);
         }
-        let (blank, mut bytes) = blank_block(alloc, capacity)?;
-        write_zeros(&mut bytes);
-        let block = blank.close(bytes);
+        let (blank, bytes) = blank_block(alloc, capacity)?;
         Ok(Draft {
-            block,
+            blank,
+            bytes: Row::of(bytes),
             len: 0,
             capacity,
             alloc,
@@ -86,7 +91,7 @@ impl<A: Allocator + Copy> Draft<A> {
     pub fn as_str(&self) -> &str
         ensures { result.now ≡ self.now.text }
     {
-        self.block.text(self.capacity, self.len)
+        self.blank.text(&self.bytes, self.len)
     }
 
     /// Returns the number of bytes of the text so far.
@@ -117,7 +122,8 @@ impl<A: Allocator + Copy> Draft<A> {
         ensures text { self.new.text ≡ self.old.text ++ text.now }
         ensures capacity { self.new.capacity ≡ self.old.capacity }
     {
-        write_at(self.block.lend(self.capacity), self.len, text);
+        let what = (self.capacity, self.len, text);
+        replace_with(&mut self.bytes, what, Row::with_text);
         self.len += text.len();
     }
 
@@ -228,12 +234,13 @@ impl<A: Allocator + Copy> Draft<A> {
         ensures first { result.seat ≡ 0 }
     {
         let Draft {
-            block,
+            blank,
+            bytes,
             len,
-            capacity: _,
+            capacity,
             alloc,
         } = self;
-        Shared::first_handle(block, len, alloc)
+        Shared::first_handle(blank.close(bytes.into_slots(capacity)), len, alloc)
     }
 }
 
@@ -241,12 +248,14 @@ impl<A: Allocator + Copy> Drop for Draft<A> {
     /// Frees the block.
     fn drop(self) {
         let Draft {
-            block,
+            blank,
+            bytes,
             len: _,
             capacity,
             alloc,
         } = self;
-        block.give_back(&alloc, size_of_block(capacity));
+        let bytes = bytes.into_slots(capacity);
+        blank.give_back(bytes, &alloc, size_of_block(capacity));
     }
 }
 
@@ -260,13 +269,4 @@ fn doubled(capacity: usize, needed: usize) -> usize
     ensures doubles { IsDoubled capacity result }
 {
     needed.max((2 * capacity).min(TOO_LONG - 1))
-}
-
-/// Writes a text over the bytes from `at` on, after a text that ends there.
-fn write_at(bytes: &mut [u8], at: usize, text: &str)
-    requires { at + length text.now ≤ length bytes.old }
-    ensures text { take (at + length text.now) bytes.new ≡ take at bytes.old ++ text.now }
-    ensures long { length bytes.new ≡ length bytes.old }
-{
-    bytes[at..at + text.len()].copy_from_slice(text.as_bytes());
 }
