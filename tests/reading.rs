@@ -150,6 +150,24 @@ fn the_first_of_two_faults_is_told(ref rt: HostRuntime) -> Result<(), Fail> {
     Ok(())
 }
 
+/// A character that is not read whole waits in the builder for the next call.
+#[test]
+fn an_unfinished_character_waits_for_the_next_call(ref rt: HostRuntime) -> Result<(), Fail> {
+    for (bytes, text, fault) in [
+        (b"a\xc3\xa9b", "aéb", None),
+        (b"a\xc3bc", "a", Some(TextFault::Utf8(1))),
+    ] {
+        let mut builder = ArcStrBuilder::new(rt.alloc());
+        let mut reader = failing(bytes, 1, ErrorKind::WouldBlock);
+        let read = builder.read_from(&mut reader).map(|()| ArcStr::new());
+        assert_eq!(rt; told(&read).2, Some(ErrorKind::WouldBlock));
+        assert_eq!(rt; builder.as_str(), "a");
+        let read = builder.read_from(&mut reader).map(|()| ArcStr::new());
+        assert_eq!(rt; (told(&read).1, builder.as_str()), (fault, text));
+    }
+    Ok(())
+}
+
 #[test]
 fn a_builder_with_room_keeps_its_block(ref rt: HostRuntime) -> Result<(), Fail> {
     let mut builder = ArcStrBuilder::with_capacity(rt.alloc(), 6)?;
