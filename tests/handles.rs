@@ -6,8 +6,8 @@ use arcbench_core::tokens::TokensFault;
 use arcintern::{SharedSymbol, Symbol};
 use arcstr::block::{Down, Fixed, Owed, Shared};
 use arcstr::{
-    ArcStr, ArcStrBuilder, End, JsonFault, RangeFault, RawArcStr, Seen, StaticStr, StrRange, StrView,
-    Substr, TextFault, literal,
+    ArcStr, ArcStrBuilder, End, JsonFault, RangeFault, RawArcStr, Seen, StaticStr, StrRange,
+    StrView, Substr, TextFault, literal,
 };
 use arcstr_count::{BlockSummary, HandleState, HandleSummary, Reply, Step, StepFault, Word};
 use arcstr_world::{RunFault, World};

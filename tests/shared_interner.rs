@@ -64,7 +64,10 @@ fn check_found(
         let found = interner.get(&word_of(rt.alloc(), number)?);
         assert!(rt; found.map(|symbol| symbol.number()) == Some(*symbol));
     }
-    assert_eq!(rt; interner.intern(rt, "a new word")?.number().index(), symbols.len());
+    assert_eq!(rt;
+        interner.intern(rt, "a new word")?.number().index(),
+        symbols.len()
+    );
     Ok(())
 }
 

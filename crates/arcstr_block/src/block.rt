@@ -121,7 +121,8 @@ impl<A: Allocator> Blank<A> {
         unsafe { str::from_utf8_unchecked(written) }
     }
 
-    /// Frees the memory, whichever bytes are written. Nothing of it is left that a clause could name.
+    /// Frees the memory, whichever bytes are written. Nothing of it is left that a clause could
+    /// name.
     pub(crate) fn give_back(self, bytes: Slots<u8>, alloc: &A, size: usize)
         requires here { slots_ptr bytes ≡ self.at }
         requires long { slots_len bytes ≡ self.length }
