@@ -203,7 +203,7 @@ impl Seen {
         ensures once { self.now.block ≡ other.now.block → (limit h k : ℕ)
             → SawBack limit self.now.history h → SawBack limit other.now.history k → h ≡ k }
     {
-        self.a_block_has_one_history(other);
+        self.a_block_has_one_history(other)
     }
 
     /// Proves that nothing follows the free: where a history ends in the free, no handle on the

@@ -125,6 +125,7 @@ pub fn lines_in_a_thread<R: Threads + Wait>(rt: &R, text: &ArcStr) -> io::Result
 
 pub mod answers;
 pub mod chains;
+pub mod drops;
 pub mod history;
 pub mod laws;
 pub mod making;
