@@ -113,7 +113,7 @@ pub fn end_in_order(one: ArcStr, other: ArcStr) -> (End, End)
 /// of it.
 ///
 /// ```
-/// let mut interner = Interner::new(rt.alloc());
+/// let mut interner = arcintern::Interner::new(rt.alloc());
 /// let text = ArcStr::from_str(rt.alloc(), "foo")?;
 /// assert_eq!(rt; intern_and_end(&rt, &mut interner, text)?, End::Left);
 /// ```
