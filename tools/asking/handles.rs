@@ -98,7 +98,14 @@ pub(crate) fn lives<R: Machine>(asked: &mut Asked<'_, R>) -> Result<()> {
             (life.is_static, seen) = (true, now);
         } else if step < 5 && at < handles.len() {
             let handle = handles.swap_remove(at);
-            let ended = if step < 3 { handle.end().0 } else { handle.end_after(&seen).0 };
+            let ended = match step {
+                0 | 1 => handle.end().0,
+                2 => match handle.into_shared() {
+                    Some(shared) => shared.end().0,
+                    None => End::Ended,
+                },
+                _ => handle.end_after(&seen).0,
+            };
             same!(asked; ended, life.end());
         } else {
             let handle = takes!(asked; (0, 0), again(asked, &first, &seen)?);
