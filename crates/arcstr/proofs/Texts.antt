@@ -3,9 +3,9 @@ use Rattle.std.proofs.Common.{◌≡◌, ℕ, zero, suc, List, [], ◌∷◌, le
 use Rattle.std.specs.List.{repeat}
 use Rattle.std.specs.Str.{IsUtf8}
 use Rattle.std.proofs.lemmas.Str.{IsCharBoundary-start, IsCharBoundary-end}
-use Rattle.arcstr_range.proofs.FoundParts.{lawful_both, lawful_start}
+use Rattle.arcstr_range.proofs.FoundParts.{lawful_both, lawful_end, lawful_start}
 use Rattle.arcstr_range.specs.Ends.{IsLawful}
-use Rattle.arcstr_range.specs.Trim.{Trims, TrimsStart}
+use Rattle.arcstr_range.specs.Trim.{Trims, TrimsEnd, TrimsStart}
 use Rattle.arcstr_range.specs.View.{View, end_of, view_at}
 
 -- copies of an empty text are the empty text
@@ -28,6 +28,12 @@ pub IsLawful-trim_start : (text : List ℕ) (old new : View) (start end : ℕ) �
 IsLawful-trim_start text old new start end utf8 is trims at_start at_end =
     subst (λ e. IsLawful text start e) (sym at_end)
     (subst (λ s. IsLawful text s (end_of new)) (sym at_start) (lawful_start text new utf8 (subst (λ o. TrimsStart o new) is trims)))
+
+pub IsLawful-trim_end : (text : List ℕ) (old new : View) (start end : ℕ) → IsUtf8 text → old ≡ view_at text 0 → TrimsEnd old new →
+    start ≡ new.place → end ≡ end_of new → IsLawful text start end
+IsLawful-trim_end text old new start end utf8 is trims at_start at_end =
+    subst (λ e. IsLawful text start e) (sym at_end)
+    (subst (λ s. IsLawful text s (end_of new)) (sym at_start) (lawful_end text new utf8 (subst (λ o. TrimsEnd o new) is trims)))
 
 pub IsLawful-trim : (text : List ℕ) (old new : View) (start end : ℕ) → IsUtf8 text → old ≡ view_at text 0 → Trims old new →
     start ≡ new.place → end ≡ end_of new → IsLawful text start end
