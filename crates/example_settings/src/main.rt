@@ -42,7 +42,10 @@ fn print_change<R: AllocGlobal + Print + Threads + Wait + Sync>(
     let all = live.change(rt, rt.alloc(), settings)?;
     for (number, greetings) in all.into_iter().enumerate() {
         let Greetings { before, after } = greetings?;
-        print!(rt; "worker {number}: {:?} {:?}, ", before.greeting, before.name)?;
+        print!(rt;
+            "worker {number}: {:?} {:?}, ",
+            before.greeting, before.name
+        )?;
         println!(rt; "then {:?} {:?}", after.greeting, after.name)?;
     }
     Ok(())

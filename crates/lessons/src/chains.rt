@@ -61,7 +61,12 @@ pub fn last_value(rt: &impl Wait, lines: &[Substr], key: &str) -> Option<Substr>
             continue;
         };
         let value = match rest.trim_start().strip_prefix('"') {
-            Some(rest) => rest.trim_end().strip_suffix(';')?.trim_end().strip_suffix('"')?.trim(),
+            Some(rest) => rest
+                .trim_end()
+                .strip_suffix(';')?
+                .trim_end()
+                .strip_suffix('"')?
+                .trim(),
             None => rest.trim().strip_suffix(';')?.trim_end(),
         };
         if own.trim_end().text() == key {
