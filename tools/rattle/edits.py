@@ -7,6 +7,7 @@ Before the clauses may stand further edits of these functions, each after ` ~ `.
 with `NAME | `, and goes on in lines that begin with white space.
 """
 import re
+import shutil
 from collections.abc import Iterable
 from dataclasses import dataclass, field
 from functools import cache
@@ -274,8 +275,9 @@ def leave_out_bodies(planted: set[Key], crate: str, room: Path) -> None:
 
 
 def leave_out_proof(key: Key, crate: str, room: Path) -> None:
-    """Has a hole in place of what proves a function."""
+    """Has a hole in place of what proves a function, and nothing for those that its body has."""
     folder = folder_of_proofs(key, room)
+    shutil.rmtree(folder.parent / "fn" / folder.name, ignore_errors=True)
     folder.mkdir(parents=True, exist_ok=True)
     for file in folder.glob("*.antt"):
         file.unlink()
