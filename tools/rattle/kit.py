@@ -51,7 +51,7 @@ def version() -> str:
 
 def words_of_check(crate: str, kept: Path) -> list[str | Path]:
     """A check of a copy of a crate over the libraries that are built, to be run in its folder.
-    `kept` is the folder of what earlier checks proved. `--only PATH` for each function may follow."""
+    `kept` is the folder of what earlier checks proved. `--only PATH` may follow for functions."""
     root = f"src/{'lib' if is_library(crate) else 'main'}.rt"
     libraries = folder() / "rlibs"
     built = {name: BUILT / name / "out/rlib" for name in below(crate)}
@@ -66,7 +66,7 @@ def words_of_check(crate: str, kept: Path) -> list[str | Path]:
 
 
 def c_words(source: Path, made: Path) -> list[str | Path]:
-    """Compiles a C file to an object file, or to a library that may be loaded before the C library."""
+    """Compiles a C file to an object file, or to a library to be loaded before the C library."""
     tools = folder() / "toolchain/bin"
     words: list[str | Path] = [tools / "clang", "-O1", "-fPIC", "-o", made, source]
     shared = ["-shared", "-nostdlib", f"-fuse-ld={tools}/ld.lld"]
@@ -125,7 +125,8 @@ def prove(crates: Iterable[str]) -> bool:
     # `rt` would prove again what `rt ci` built.
     for crate in () if "ARCSTR_BUILT" in os.environ else crates:
         words = ["rt", "lib"] if is_library(crate) else ["rt", "run", "--", "script"]
-        pipes = {"stdin": subprocess.DEVNULL, "stdout": subprocess.PIPE, "stderr": subprocess.STDOUT}
+        pipes = {"stdin": subprocess.DEVNULL, "stdout": subprocess.PIPE}
+        pipes["stderr"] = subprocess.STDOUT
         said = []
         with subprocess.Popen(words, cwd=CRATES / crate, text=True, **pipes) as ran:
             for line in ran.stdout or ():

@@ -285,7 +285,7 @@ impl ArcStrBuilder {
 
     /// Returns the built text. An empty one is a literal. If the text fills its capacity, the call
     /// neither copies nor allocates, and cannot fail. Otherwise it copies the text once, to a block
-    /// of its length, and frees the old one.
+    /// of its length, and frees the old one. Bytes that `read_from` holds back are dropped.
     ///
     /// Fails only with `Memory`, if the allocation for a text that does not fill its capacity
     /// fails.

@@ -21,7 +21,8 @@ pub struct Entry {
 }
 
 impl Entry {
-    /// Reads a line `TIME LEVEL [MODULE] MESSAGE`. Each slice comes after seven views.
+    /// Reads a line `TIME LEVEL [MODULE] MESSAGE`. Each slice comes after seven views. The clauses
+    /// say where the parts lie if there are any; the example tests that a line has them.
     ///
     /// ```
     /// let line = Substr::from_static("10:02 WARN [net] slow peer");
