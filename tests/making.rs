@@ -57,15 +57,15 @@ fn lengths_are_refused_before_memory(ref rt: HostRuntime) -> Result<(), Fail> {
     Ok(())
 }
 
-/// A builder grows to twice its capacity, from 8 bytes on.
+/// A builder grows to four times its capacity, from 8 bytes on, and from 1 MiB on to twice.
 #[test]
-fn the_capacity_doubles(ref rt: HostRuntime) -> Result<(), Fail> {
+fn the_capacity_grows_by_four(ref rt: HostRuntime) -> Result<(), Fail> {
     let mut builder = ArcStrBuilder::new(rt.alloc());
     for (text, capacity) in [
         ("", 0),
         ("a", 8),
         ("bcdefgh", 8),
-        ("i", 16),
+        ("i", 32),
         ("01234567", 32),
     ] {
         builder.push_str(text)?;
@@ -78,6 +78,10 @@ fn the_capacity_doubles(ref rt: HostRuntime) -> Result<(), Fail> {
     );
     let text = builder.finish()?;
     assert_eq!(rt; (text.len(), count(&text)), (17, Some(1)));
+    let mut large = ArcStrBuilder::with_capacity(rt.alloc(), 1 << 20)?;
+    large.push_str(&ArcStr::repeat(rt.alloc(), "a", 1 << 20)?)?;
+    large.push('a')?;
+    assert_eq!(rt; large.capacity(), 2 << 20);
     Ok(())
 }
 

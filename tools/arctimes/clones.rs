@@ -72,13 +72,18 @@ fn clone_unread<R: Wait>(rt: &R, text: &ArcStr, operations: usize) -> usize {
 
 /// Clones eight handles in turn.
 fn time_handles<M: Machine>(rt: &M, request: &Request, one: ArcStr) -> Result<()> {
-    let mut all = Vec::new(rt.alloc());
-    for _ in 0..8 {
-        all.push(one.clone(rt))?;
-    }
+    let all = eight_clones(rt, &one)?;
     if request.figure == "clone_drop_marked" {
         // The handles were counted before their block is marked static.
         let _ = one.leak();
     }
     request.time_each(rt, &all, 8, |text| text.clone(rt).len())
+}
+
+pub(crate) fn eight_clones<M: Machine>(rt: &M, one: &ArcStr) -> Result<Vec<ArcStr>> {
+    let mut all = Vec::new(rt.alloc());
+    for _ in 0..8 {
+        all.push(one.clone(rt))?;
+    }
+    Ok(all)
 }

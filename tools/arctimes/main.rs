@@ -31,7 +31,7 @@ enum Family {
 }
 
 /// The names of the figures, each of which has an arm in its family's function.
-const FIGURES: [(Family, &str); 12] = [
+const FIGURES: [(Family, &str); 13] = [
     (
         Family::Clones,
         "clone_drop clone_drop_bare clone_drop_slice",
@@ -43,8 +43,9 @@ const FIGURES: [(Family, &str); 12] = [
     (Family::Clones, "clone_drop_literal clone_drop_empty"),
     (Family::Clones, "clone_drop_fixed clone_drop_marked"),
     (Family::Makings, "make_drop build build_full build_string"),
+    (Family::Makings, "format read_from"),
     (Family::Makings, "substr substr_of_substr to_json from_json"),
-    (Family::Reads, "eq cmp hash get eq_slice get_slice"),
+    (Family::Reads, "eq eq_clone cmp hash get eq_slice get_slice"),
     (Family::Reads, "read_len read_byte read_slice"),
     (
         Family::Words,

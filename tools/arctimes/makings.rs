@@ -1,13 +1,14 @@
 //! Making and dropping of texts, of slices and of JSON strings. The length of each is read.
 //!
 //! `build` pushes 8 bytes at a time into a builder, `build_full` into one with the capacity of the
-//! text, and `build_string` into a `String` that is copied. The slices are 1000..3000 of a text and
-//! of a slice.
+//! text, and `build_string` into a `String` that is copied. `format` writes a text and a number.
+//! `read_from` reads standard input once a round, or a few bytes in a short one. The slices are
+//! 1000..3000 of a text and of a slice.
 
 use crate::no_figure;
 use crate::requests::{Machine, Request, letters};
 use anyhow::Result;
-use arcstr::{ArcStr, ArcStrBuilder, Substr, TextFault};
+use arcstr::{ArcStr, ArcStrBuilder, Substr, TextFault, format_arcstr};
 use serde_json::Value;
 use std::alloc::{AllocError, Global};
 
@@ -22,6 +23,11 @@ pub(crate) fn run<M: Machine>(rt: &M, request: &Request) -> Result<()> {
         "build" => request.time_operations(rt, || len_of(built(alloc, 0, size))),
         "build_full" => request.time_operations(rt, || len_of(built(alloc, size, size))),
         "build_string" => request.time_operations(rt, || len_of(built_string(alloc, size))),
+        "format" => request.time_operations(
+            rt,
+            || len_of(format_arcstr!(alloc; "{}: {}", text, size)),
+        ),
+        "read_from" => request.time(rt, || len_of_input(rt, request.is_short)),
         "substr" => {
             let text = request.text(alloc)?;
             request.time_operations(rt, || slice_len(text.substr(rt, 1000..3000)))
@@ -71,6 +77,16 @@ fn built_string(alloc: Global, size: usize) -> Result<ArcStr, TextFault> {
         string.push_str(PIECE)?;
     }
     ArcStr::from_str(alloc, &string)
+}
+
+/// Returns the length of a text of what standard input gives.
+fn len_of_input<M: Machine>(rt: &M, is_short: bool) -> Result<usize> {
+    let made = if is_short {
+        ArcStr::read_from(rt.alloc(), PIECE.as_bytes())
+    } else {
+        ArcStr::read_from(rt.alloc(), rt.reader())
+    };
+    Ok(made?.len())
 }
 
 /// Returns the length of a slice, and drops it.

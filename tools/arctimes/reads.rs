@@ -1,10 +1,12 @@
 //! Comparisons of texts, and reads of many short ones.
 //!
-//! `eq` and `cmp` compare eight texts in turn, each in its own block, with one more. `hash` hashes
-//! them, and `get` takes all but their first byte. `eq_slice` and `get_slice` do so with slices of
-//! whole texts. A figure with `read` reads COUNT texts of 16 bytes in mixed order N / 1000 times:
-//! the length, the last byte, or the last byte of the slice 1..15.
+//! `eq` and `cmp` compare eight texts in turn, each in its own block, with one more, and `eq_clone`
+//! eight clones of that one. `hash` hashes the eight, and `get` takes all but their first byte.
+//! `eq_slice` and `get_slice` do so with slices of whole texts. A figure with `read` reads COUNT
+//! texts of 16 bytes in mixed order N / 1000 times: the length, the last byte, or the last byte of
+//! the slice 1..15.
 
+use crate::clones::eight_clones;
 use crate::no_figure;
 use crate::requests::{Machine, Request, many};
 use anyhow::Result;
@@ -26,6 +28,10 @@ pub(crate) fn run<M: Machine>(rt: &M, request: &Request) -> Result<()> {
     let slices = slices_of(rt, &all, (..).into())?;
     match request.figure {
         "eq" => request.time_each(rt, &all, 8, |text| (*text == one) as usize),
+        "eq_clone" => {
+            let all = eight_clones(rt, &one)?;
+            request.time_each(rt, &all, 8, |text| (*text == one) as usize)
+        }
         "cmp" => request.time_each(rt, &all, 8, |text| rank(text.cmp(&one))),
         "hash" => request.time_each(rt, &all, 8, hash_of),
         "get" => request.time_each(rt, &all, 8, |text| length(text.get(1..))),

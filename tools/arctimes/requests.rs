@@ -124,12 +124,13 @@ impl<'a> Request<'a> {
     }
 
     /// How many units a round's time is divided by in the table: texts that were read (N / 1000
-    /// rounds over COUNT texts), words or operations.
+    /// rounds over COUNT texts), words, whole readings or operations.
     fn units(&self, sum: usize) -> usize {
         match self.figure {
             "read_len" | "read_byte" | "read_slice" => {
                 (self.operations / 1000).saturating_mul(self.count)
             }
+            "read_from" => 1,
             "count_words_only" | "word_ranges_only" | "words" | "token_list" => sum,
             _ => self.operations,
         }

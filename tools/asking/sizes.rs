@@ -11,19 +11,22 @@ use std::collections::BTreeMap;
 use std::io::ErrorKind;
 use std::{fs, str};
 
-/// The bytes of a long text, the parts of another, which are also words of interners and bytes that
-/// are read one by one, the words of one shard and of JSON, and how often a file is read.
+/// The bytes of a long text, the words of another and of a word list, the words of other interners,
+/// those of one shard, of JSON and of lists of slices, which are also bytes that are read one by
+/// one, and how often a file is read.
 const BYTES: usize = 17 << 20;
-const PARTS: usize = 1_100_000;
+const WORDS: usize = 1_100_000;
+const MANY: usize = 300_000;
 const SOME: usize = 70_000;
 const FILES: usize = 2_000;
 
 pub(crate) fn ask<R: Machine>(asked: &mut Asked<'_, R>) -> Result<()> {
     let mut words = String::new(asked.alloc);
-    for number in 0..PARTS {
+    for number in 0..WORDS {
         writeln!(words, "{number}")?;
     }
     let words = words.as_str();
+    let (many, _) = words.split_once("300000\n").context("no part")?;
     let (some, _) = words.split_once("70000\n").context("no part")?;
     for number in 0..7 {
         let (kind, ended) = match number {
@@ -31,8 +34,8 @@ pub(crate) fn ask<R: Machine>(asked: &mut Asked<'_, R>) -> Result<()> {
             1 => ("many reads", reads(asked)),
             2 => ("many files", files(asked)),
             3 => ("many parts", parts(asked, words, some)),
-            4 => ("many words", interners(asked, words, some)),
-            5 => ("many shared words", shared(asked, words, some)),
+            4 => ("many words", interners(asked, words, many, some)),
+            5 => ("many shared words", shared(asked, many, some)),
             _ => ("words of shards", shards(asked)),
         };
         asked.ended(kind, ended)?;
@@ -46,19 +49,20 @@ fn long<R: Machine>(asked: &mut Asked<'_, R>) -> Result<()> {
     let bytes = vec![in alloc; b'x'; BYTES]?;
     let text = str::from_utf8(bytes.as_slice())?;
     let (part, rest) = text.split_at_checked(BYTES / 17).context("no part")?;
-    let read = ArcStr::read_from(alloc, bytes.as_slice())?;
-    same!(asked; read.eq_str(text), true);
-    fs::write(rt, "long", bytes.as_slice())?;
-    same!(asked; ArcStr::read_file(rt, "long")? == read, true);
-    same!(asked; ArcStr::from_utf8(alloc, bytes.as_slice())? == read, true);
-    same!(asked; ArcStr::join(alloc, &[part, rest], "")? == read, true);
-    same!(asked; ArcStr::repeat(alloc, part, 17)? == read, true);
-    same!(asked; read.substr(rt, BYTES - 1..)?.as_str(), "x");
+    let all = bytes.as_slice();
+    same!(asked; ArcStr::read_from(alloc, all).is_ok_and(|it| it.eq_str(text)), true);
+    fs::write(rt, "long", all)?;
+    same!(asked; ArcStr::read_file(rt, "long").is_ok_and(|it| it.eq_str(text)), true);
+    same!(asked; ArcStr::from_utf8(alloc, all).is_ok_and(|it| it.eq_str(text)), true);
+    same!(asked; ArcStr::join(alloc, &[part, rest], "").is_ok_and(|it| it.eq_str(text)), true);
+    same!(asked; ArcStr::repeat(alloc, part, 17).is_ok_and(|it| it.eq_str(text)), true);
+    let whole = ArcStr::from_str(alloc, text)?;
+    same!(asked; whole.substr(rt, BYTES - 1..)?.as_str(), "x");
     let mut builder = ArcStrBuilder::new(alloc);
-    for _ in 0..17 {
-        builder.push_str(part)?;
+    for number in 0..17 {
+        same!(asked; (number, builder.push_str(part)), (number, Ok(())));
     }
-    same!(asked; builder.finish()? == read, true);
+    same!(asked; builder.finish().is_ok_and(|it| it.eq_str(text)), true);
     let json = serde_json::to_string(alloc, &part)?;
     let written: ArcStr = serde_json::from_str(alloc, json.as_str())?;
     same!(asked; written.eq_str(part), true);
@@ -69,7 +73,7 @@ fn long<R: Machine>(asked: &mut Asked<'_, R>) -> Result<()> {
 }
 
 fn reads<R: Machine>(asked: &mut Asked<'_, R>) -> Result<()> {
-    let bytes = vec![in asked.alloc; b'x'; PARTS]?;
+    let bytes = vec![in asked.alloc; b'x'; SOME]?;
     let (rest, kind) = (bytes.as_slice(), ErrorKind::Other);
     let (often, fails_at) = (usize::MAX, usize::MAX);
     let reader = Pieces { rest, most: 1, reads: 0, often, fails_at, kind };
@@ -89,7 +93,7 @@ fn files<R: Machine>(asked: &mut Asked<'_, R>) -> Result<()> {
 fn parts<R: Machine>(asked: &mut Asked<'_, R>, words: &str, some: &str) -> Result<()> {
     let (rt, alloc, text) = (asked.rt, asked.alloc, ArcStr::from_str(asked.alloc, words)?);
     let list = token_list(rt, alloc, &text)?;
-    same!(asked; (list.len(), list.as_str(PARTS - 1)), (PARTS, Some("1099999")));
+    same!(asked; (list.len(), list.as_str(WORDS - 1)), (WORDS, Some("1099999")));
     let text = ArcStr::from_str(alloc, some)?;
     for slices in [
         tokens(rt, alloc, &text)?,
@@ -102,39 +106,45 @@ fn parts<R: Machine>(asked: &mut Asked<'_, R>, words: &str, some: &str) -> Resul
     Ok(())
 }
 
-/// How many words a call gives another number than the one that each has.
-fn wrong<F: FnMut(&str) -> Result<Option<usize>>>(words: &str, mut number_of: F) -> Result<usize> {
+/// How many words a call gives another number than the one that each has, or none.
+fn wrong<F: FnMut(&str) -> Option<usize>>(words: &str, mut number_of: F) -> usize {
     let mut wrong = 0;
     for (number, word) in words.lines().enumerate() {
-        wrong += usize::from(number_of(word)? != Some(number));
+        wrong += usize::from(number_of(word) != Some(number));
     }
-    Ok(wrong)
+    wrong
 }
 
-/// Numbers the words, finds each, and writes and reads some.
+/// Numbers the words, finds many, and writes and reads some.
 macro_rules! numbered {
-    ($asked:expr, $words:expr, $some:expr, $type:ty) => {{
-        let mut here = <$type>::new($asked.alloc);
-        let added = wrong($words, |word| Ok(Some(here.intern(word)?.index())))?;
-        let found = wrong($words, |word| Ok(here.get(word).map(|it| it.index())))?;
-        let some: Vec<&str> = $some.lines().collect($asked.alloc)?;
-        let json = serde_json::to_string($asked.alloc, &some)?;
-        let read: $type = serde_json::from_str($asked.alloc, json.as_str())?;
-        let json = json == serde_json::to_string($asked.alloc, &read)?;
-        same!($asked; (added, found, read.len(), json), (0, 0, SOME, true));
+    ($asked:expr, $words:expr, $many:expr, $some:expr, $type:ty) => {{
+        let (alloc, mut here) = ($asked.alloc, <$type>::new($asked.alloc));
+        let added = wrong($words, |word| here.intern(word).ok().map(|it| it.index()));
+        let found = wrong($many, |word| here.get(word).map(|it| it.index()));
+        same!($asked; (added, found, here.len()), (0, 0, $words.lines().count()));
+        let some: Vec<&str> = $some.lines().collect(alloc)?;
+        let json = serde_json::to_string(alloc, &some)?;
+        let read = serde_json::from_str::<$type>(alloc, json.as_str()).ok();
+        let written = read.and_then(|it| serde_json::to_string(alloc, &it).ok());
+        same!($asked; written.is_some_and(|it| it == json), true);
         here
     }};
 }
 
-fn interners<R: Machine>(asked: &mut Asked<'_, R>, words: &str, some: &str) -> Result<()> {
-    let list = numbered!(asked, words, some, WordList);
-    let texts = numbered!(asked, words, some, Interner);
+fn interners<R: Machine>(
+    asked: &mut Asked<'_, R>,
+    words: &str,
+    many: &str,
+    some: &str,
+) -> Result<()> {
+    drop(numbered!(asked, many, many, some, Interner));
+    let list = numbered!(asked, words, many, some, WordList);
     let mut values: SymbolMap<usize> = SymbolMap::new(asked.alloc);
-    for (number, (symbol, _)) in texts.pairs().enumerate() {
+    for (number, (symbol, _)) in list.pairs().enumerate() {
         values.insert(symbol, number)?;
     }
     let sum: usize = values.iter().map(|it| *it.1).sum();
-    same!(asked; (list.len(), texts.len(), sum), (PARTS, PARTS, PARTS * (PARTS - 1) / 2));
+    same!(asked; sum, WORDS * (WORDS - 1) / 2);
     Ok(())
 }
 
@@ -144,10 +154,10 @@ fn shared<R: Machine>(asked: &mut Asked<'_, R>, words: &str, some: &str) -> Resu
     for (shards, words) in [(64, words), (1, some)] {
         let shared = SharedInterner::new(asked.alloc, shards)?;
         let added = wrong(words, |word| {
-            let number = shared.intern(rt, word)?.number();
-            Ok(shared.symbol_at(number).map(|it| it.number().index()))
-        })?;
-        let found = wrong(words, |word| Ok(shared.get(word).map(|it| it.number().index())))?;
+            let number = shared.intern(rt, word).ok()?.number();
+            shared.symbol_at(number).map(|it| it.number().index())
+        });
+        let found = wrong(words, |word| shared.get(word).map(|it| it.number().index()));
         same!(asked; (added, found, shared.len()), (0, 0, words.lines().count()));
     }
     Ok(())
