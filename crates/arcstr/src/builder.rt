@@ -265,6 +265,7 @@ impl ArcStrBuilder {
     pub fn write_fmt<D: Display + Drop>(&mut self, value: D) -> Result<(), TextFault>
         ensures written { OnOk result (IfSome (D.output value)
             (λ bytes. self.new.text ≡ self.old.text ++ bytes)) }
+        ensures refused { IfErr result (λ fault. fault ≡ TextFault.Memory) }
     {
         match Write::write(self, value) {
             Ok(()) => Ok(()),
@@ -276,6 +277,7 @@ impl ArcStrBuilder {
     pub fn writeln<D: Display + Drop>(&mut self, value: D) -> Result<(), TextFault>
         ensures written { OnOk result (IfSome (with_newline (D.output value))
             (λ bytes. self.new.text ≡ self.old.text ++ bytes)) }
+        ensures refused { IfErr result (λ fault. fault ≡ TextFault.Memory) }
     {
         match Write::writeln(self, value) {
             Ok(()) => Ok(()),

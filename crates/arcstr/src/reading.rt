@@ -115,6 +115,7 @@ impl ArcStr {
     /// Reads a file as a text, as `fs::read_to_string` does. The length of the file gives the
     /// capacity, so the call makes one allocation of the text's size. If the file changes meanwhile
     /// the text is what the reads gave, and may be copied once. An empty text is the empty literal.
+    /// The path `/dev/stdin` names standard input, from its beginning if it is a file.
     ///
     /// Errors are those of `read_from`, and `Io` if the file cannot be opened.
     ///

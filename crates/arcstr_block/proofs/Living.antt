@@ -1,12 +1,13 @@
 -- A handle whose seat is free lives in each prefix of the history in which it was born, and nobody has freed its block: no step brings a handle back to life.
 --
 -- We show for each step that a handle which lives after it lived before it, then the same of the steps that follow a prefix.
-use Rattle.arcstr_block.proofs.Names.{◌≡◌, ℕ, ◌+◌, ◌<◌, ◌≤◌, zero, suc, Bool, true, false, List, [], ◌∷◌, ◌++◌, length, refl, sym, subst, ap, ◌∙◌, arith}
-use Rattle.arcstr_block.proofs.Names.{inl, inr, Option, Some, None, slice_get, set, dite, ℕ_discrete, IsPrefix, length-append, eq-eqb, if◌then◌else◌}
+use Rattle.arcstr_block.proofs.Names.{◌≡◌, ℕ, ◌<◌, ◌≤◌, zero, suc, Bool, true, List, [], ◌∷◌, ◌++◌, length, refl, sym, subst, ap, ◌∙◌, arith}
+use Rattle.arcstr_block.proofs.Names.{inl, inr, Option, Some, None, slice_get, dite, ℕ_discrete, IsPrefix, eq-eqb, if◌then◌else◌}
 use Rattle.arcstr_block.proofs.Names.{Step, Make, Look, Clone, Begin, Sub, Back, Leak, HandleState, Free, Dropping, Owing, Gone, FlagAndCount, Keeps}
-use Rattle.std.specs.Prelude.{◌&&◌, ◌==◌, Contains, filter, get_or}
+use Rattle.std.specs.Prelude.{Contains, filter, get_or}
 use Rattle.std.proofs.lemmas.Bool.{cases_lt}
-use Rattle.std.proofs.lemmas.List.{length-map, length_push}
+use Rattle.std.proofs.lemmas.Grind.{get_or_default_zero}
+use Rattle.std.proofs.lemmas.List.{length_push}
 use Rattle.std.proofs.lemmas.List.Elements.{Contains-append_left, Contains-append_right, filter-append}
 use Rattle.std.proofs.lemmas.Option.{slice_get-map}
 use Rattle.arcstr_count.specs.declared.faults.StepFault.{StepFault}
@@ -14,12 +15,13 @@ use Rattle.arcstr_count.specs.declared.steps.HandleState.TheVariants.{Raw}
 use Rattle.arcstr_count.specs.declared.steps.HandleSummary.{HandleSummary}
 use Rattle.arcstr_count.specs.declared.steps.Step.TheVariants.{IntoRaw, FromRaw}
 use Rattle.arcstr_count.specs.Model.{State, start, step, accepted, after, after_from, refusal_in, unless_refused, handles_with_state, no_handle}
-use Rattle.arcstr_count.specs.Model.{block_on, state_on, state_in, lives, living_after, numbers_below}
+use Rattle.arcstr_count.specs.Model.{block_on, state_on, lives, living_after, numbers_below}
 use Rattle.arcstr_count.proofs.LawsOfBlocks.{IsIn, is_in_state, finds, at_set, born_earlier, length-moved, lawful_after}
 use Rattle.arcstr_count.proofs.LawsOfHistories.{after_from-append, made_stays}
-use Rattle.arcstr_block.specs.Ending.{IsBornIn}
-use Rattle.arcstr_block.specs.Handle.{SawBack}
-use Rattle.arcstr_block.proofs.Histories.{alone_by_free, as_long, nothing_follows_the_free}
+use Rattle.arcstr_count.proofs.OneBlock.{looking_is_born}
+use Rattle.arcstr_block.specs.Book.{IsLater}
+use Rattle.arcstr_block.specs.Handle.{IsBornIn, SawBack, SawCount}
+use Rattle.arcstr_block.proofs.Histories.{alone_by_free, as_long, living_by_look, nothing_follows_the_free}
 
 -- ---- one handle, before and after a step
 
@@ -74,6 +76,9 @@ went limit w (s ∷ later) h born =
     let rest = went limit (step limit w s).0 later h first.born in
     record { born = rest.born; lived = λ alive. first.lived (rest.lived alive) }
 
+went_on : (limit : ℕ) (before now : List Step) (starts : IsPrefix before now) → after limit now ≡ after_from limit (after limit before) starts.0
+went_on limit before now starts = ap (after limit) (sym starts.1) ∙ after_from-append limit start before starts.0
+
 -- ---- what a free seat says
 
 -- nobody has freed the block in the history, and handle h lives in it if it was born in it
@@ -95,13 +100,9 @@ module _ (limit : ℕ) (now : List Step) (word : FlagAndCount) (seats : List Han
       ∙ ap (λ states. slice_get states h) (sym keeps.states) ∙ seat)
 
   module _ (before : List Step) (starts : IsPrefix before now) where
-    now_is : after limit now ≡ after_from limit (after limit before) starts.0
-    now_is = ap (after limit) (sym starts.1) ∙ after_from-append limit start before starts.0
-
     lives_in : IsBornIn limit before h → Contains (living_after limit before 0) h
-    lives_in early =
-        let born : h < length (after limit before).handles =
-        omega (arith, early, length-map (after limit before).handles (λ (it : HandleSummary). it.state)) in
+    lives_in born =
+        let now_is = went_on limit before now starts in
         let alive = subst (λ (w : State). lives (state_on w h) ≡ true) now_is (ap lives free_now.state) in
         let lived = (went limit (after limit before) starts.0 h born).lived alive in
         let made = made_stays limit (after limit before) starts.0 (block_on (after limit before) h) ((lawful_after limit before).made h born) in
@@ -114,8 +115,7 @@ module _ (limit : ℕ) (now : List Step) (word : FlagAndCount) (seats : List Han
       | inl less ↦ nothing_follows_the_free limit before now k freed keeps.one_block (starts, less)
       | inr most ↦ (
           let whole : before ≡ now = as_long before now starts most in
-          let born : IsBornIn limit before h = subst (λ r. IsBornIn limit r h) (sym whole)
-          (let early = free_now.born in omega (arith, early, length-map (after limit now).handles (λ (it : HandleSummary). it.state))) in
+          let born : IsBornIn limit before h = subst (λ r. IsBornIn limit r h) (sym whole) free_now.born in
           let found = subst (λ hs. Contains hs h) (alone_by_free limit before k freed) (lives_in born) in
           let past = found.1 in
           absurd (omega (arith, past))
@@ -124,3 +124,23 @@ module _ (limit : ℕ) (now : List Step) (word : FlagAndCount) (seats : List Han
 
     pub free_lives : Lives limit before h
     free_lives = (unfreed, lives_in)
+
+-- ---- two handles
+
+-- two numbers that differ are two entries of a list
+two_entries : (xs : List ℕ) (h k : ℕ) → Contains xs h → Contains xs k → (h ≡ k → ⊥) → 2 ≤ length xs
+two_entries xs h k one other apart = dite (ℕ_discrete one.0 other.0)
+    (λ same. absurd (apart (sym one.2 ∙ get_or_default_zero xs one.0 h one.1 ∙ ap (λ i. get_or xs i 0) same
+    ∙ sym (get_or_default_zero xs other.0 k other.1) ∙ other.2)))
+    (λ differ. let below = one.1 in let beside = other.1 in omega (arith, differ, below, beside))
+
+-- a look by a handle counts at least two, if it comes after another one was born, and both live in what it has seen if they were born in it
+pub counts_two : (limit : ℕ) (before history : List Step) (h k n : ℕ) → (IsBornIn limit history h → Contains (living_after limit history 0) h)
+    → (IsBornIn limit history k → Contains (living_after limit history 0) k) → (h ≡ k → ⊥) → IsBornIn limit before k → IsLater before history
+    → SawCount limit history h n → 2 ≤ n
+counts_two limit before history h k n one other apart born later counted =
+    let there : IsBornIn limit history k = subst (λ (w : State). k < length w.handles) (sym (went_on limit before history later.0))
+    (went limit (after limit before) later.0.0 k born).born in
+    let least = two_entries (living_after limit history 0) h k (one (looking_is_born limit history h _ counted)) (other there) apart in
+    let all = living_by_look limit history h n counted in
+    omega (arith, least, all)

@@ -1,12 +1,12 @@
 -- The names of the kit, of `arcstr_count` and of this crate's definitions that the proofs use, and the operators that a proof opens. Assumes `Logic`.
 pub use Rattle.std.proofs.Common.{◌≡◌, ℕ, ◌-◌, ◌^◌, Bool, true, [], ◌∷◌, refl, arith, lit<, false, List, sym, subst, inl, inr, ◌≢◌, ap, length, zero, suc, ◌+◌}
-pub use Rattle.std.proofs.Common.{◌<◌, ◌++◌, set, Some, if◌then◌else◌, eqb, eq-eqb, ne_eqb, ◌∙◌, ◌||◌, ◌==◌, Option, None, ◌≤◌, ◌*◌, w64, T, ◌/◌, append_assoc}
+pub use Rattle.std.proofs.Common.{◌<◌, ◌++◌, set, Some, if◌then◌else◌, eqb, eq-eqb, ne_eqb, ◌∙◌, ◌==◌, Option, None, ◌≤◌, ◌*◌, w64, T, ◌/◌, append_assoc}
 pub use Rattle.std.proofs.Common.{length-append, get_or, ◌%◌, replicate, eqb-true}
 pub use Rattle.std.proofs.Math.Seq.{take-append_seam, take-length}
-pub use Rattle.std.proofs.lemmas.List.{append-nil, length-take-le, nil_from_length, take_all}
+pub use Rattle.std.proofs.lemmas.List.{append-nil, length-take-le, nil_from_length}
 pub use Rattle.std.proofs.lemmas.Str.{IsUtf8-append, IsUtf8-nil}
 pub use Rattle.std.specs.List.{repeat, join_by, flat_map}
-pub use Rattle.std.specs.Prelude.{slice_get, bit_or, take, IsUtf8, ◌⊎◌, SomeIff}
+pub use Rattle.std.specs.Prelude.{slice_get, bit_or, take, IsUtf8, ◌⊎◌}
 pub use mathlib.Core.List.{IsPrefix, cons≢nil, head-eq_of_cons-eq, tail-eq_of_cons-eq, Mem, not-mem-nil}
 pub use mathlib.Core.Logic.{dite}
 pub use native.Mathlib.Decide.{ℕ_discrete, dec_le}
@@ -34,7 +34,7 @@ pub use contract.Monad.{fact, fact_i, Fun}
 pub use contract.Running.{tables}
 unfoldable pub use contract.Running.{tables_of}
 pub use denote.Array.{Array, Array-row_laws}
-pub use denote.Builtin.{u8, usize, u64, RefOf, RefMutOf, SliceRefMutOf, unit}
+pub use denote.Builtin.{u8, usize, u64, RefMutOf, SliceRefMutOf, unit}
 pub use denote.Exit.{no, left, yes}
 pub use denote.Laws.{Is, shows}
 pub use denote.Memory.{cell_at, part_at, mem, hidden_shr}
@@ -96,7 +96,7 @@ pub use Rattle.arcstr_count.specs.OneBlock.{Keeps, EndsIn, IsOneBlock}
 pub use Rattle.arcstr_count.specs.Word.{FlagAndCount, looked_of, cloned_of, is_last, marked_of, dropped_of, bits_of, fresh_word}
 pub use Rattle.arcstr_count.specs.declared.steps.HandleState.{HandleState}
 pub use Rattle.arcstr_count.specs.declared.steps.HandleState.TheVariants.{Free, Dropping, Owing, Gone}
-pub use Rattle.arcstr_count.specs.declared.steps.Reply.TheVariants.{Ended, Looked, Owes, Left, Handle, Marked, Given, Count, Static}
+pub use Rattle.arcstr_count.specs.declared.steps.Reply.TheVariants.{Ended, Looked, Owes, Left, Handle, Marked, Given, Count}
 pub use Rattle.arcstr_count.specs.declared.steps.Step.{Step}
 pub use Rattle.arcstr_count.specs.declared.steps.Step.TheVariants.{Make, Look, Clone, Begin, Sub, Back, Leak}
 pub use Rattle.arcstr_block.specs.Book.{BlockName, IsLater, Book, reached, seat, steps, state_code, seat_share, book, Ends, reached_ending}
@@ -108,7 +108,7 @@ pub use Rattle.arcstr_block.specs.Memory.{block_owns, block_shares, word_at, Fit
 pub use Rattle.arcstr_block.specs.Memory.{length_lies, text_lies, rim, IsText, sole_owns, in_memory}
 pub use Rattle.arcstr_block.specs.Rights.{uncounted, counted, HasSeat, Right, dropping, owed, MaySee, IsFree, Looks, Finds, Gains, Begins, Leaves, fixed, Loads}
 pub use Rattle.arcstr_block.specs.Rights.{right_index, right_at, right_at_index}
-pub use Rattle.arcstr_block.specs.Steps.{LoadEnds, LoadedAs, BornAs, ClonedAs}
+pub use Rattle.arcstr_block.specs.Steps.{LoadEnds, BornAs, ClonedAs}
 pub use Rattle.arcstr_block.specs.Word.{IsLimit, word_of, IsMarked, IsClone, IsUnmarked, IsLast, one, IsCountWord}
 
 pub record Operators {M : Type 1} (𝓤 : Ura M) : Type 3 where

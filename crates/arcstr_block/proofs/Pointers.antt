@@ -62,27 +62,14 @@ module _ (B : RattleType) (g : Ghosts B.Denot) where
       (ptr_val p ∷ (ws ++ []))) ∷ []) is.1.1.1.0.1.0
 
   pub made : {M : Type 1} {𝓤 : Ura M} (𝓛 : Logic 𝓤) (p : Ptr) → ent 𝓤 (emp 𝓤) (sem 𝓛 (Words.own_val (p, (tt, tt)) (pointer_val p ∷ [])))
-  made 𝓛 p = makes_shadow 𝓛 (Words.own_val (p, (tt, tt)) (pointer_val p ∷ [])) (λ vss. (
-    tt,
-    (
-      tt,
-      (
-        (λ uss.
-            (tt, tt)),
-        tt,
-      ),
-    ),
-  )) ((ptr_val p ∷ [], (vstruct vnil ∷ [], tt)), (refl, (refl, ((tt, (refl, tt)), tt))))
+  made 𝓛 p =
+      let own : Fml = Words.own_val (p, (tt, tt)) (pointer_val p ∷ []) in
+      makes_shadow 𝓛 own (λ vss. (tt, (tt, ((λ uss. (tt, tt)), tt)))) ((ptr_val p ∷ [], (vstruct vnil ∷ [], tt)), (refl, (refl, ((tt, (refl, tt)), tt))))
 
   pub opened : {M : Type 1} {𝓤 : Ura M} (𝓛 : Logic 𝓤) → Opens 𝓛 Words
-  opened {M} {𝓤 = 𝓤} 𝓛 = (Struct-Copied 𝓛 (shape (C.the_type B g)) (refl, (refl, tt)) (
-    RawPtr-copy.copied M 𝓤 𝓛,
-    (
-      (field_copy
-          (Marker.the_type B) tt).copied M 𝓤 𝓛,
-      tt,
-    ),
-  )).opens
+  opened {M} {𝓤 = 𝓤} 𝓛 =
+      let mark = (field_copy (Marker.the_type B) tt).copied M 𝓤 𝓛 in
+      (Struct-Copied 𝓛 (shape (C.the_type B g)) (refl, (refl, tt)) (RawPtr-copy.copied M 𝓤 𝓛, (mark, tt))).opens
 
 -- ---- what the steps have in common: the share and the seat that a step through `&` borrows, and the pointer that a step returns
 

@@ -1,32 +1,13 @@
 -- Texts that are copied one after another, and texts joined by a separator.
-use Rattle.arcstr_block.proofs.Names.{◌≡◌, ℕ, [], ◌∷◌, refl, arith, List, sym, ap, length, zero, suc, ◌+◌, ◌<◌, ◌++◌, ◌∙◌, ◌≤◌, ◌*◌, append_assoc}
-use Rattle.arcstr_block.proofs.Names.{length-append, get_or, take-append_seam, append-nil, length-take-le, nil_from_length, IsUtf8-append, IsUtf8-nil, repeat}
-use Rattle.arcstr_block.proofs.Names.{join_by, flat_map, take, IsUtf8, subst, suc-mul}
-use Rattle.std_alloc.proofs.Concat.{separated_first, separated_more}
+use Rattle.arcstr_block.proofs.Names.{◌≡◌, ℕ, [], ◌∷◌, refl, arith, List, sym, ap, length, zero, suc, ◌+◌, ◌<◌, ◌++◌, ◌∙◌, ◌≤◌, ◌*◌}
+use Rattle.arcstr_block.proofs.Names.{length-append, get_or, take-append_seam, length-take-le, IsUtf8-append, repeat}
+use Rattle.arcstr_block.proofs.Names.{join_by, flat_map, take, IsUtf8, subst, suc-mul, mul-le-mul_right}
+use Rattle.std_alloc.proofs.Concat.{separated_first, separated_more, length-repeat, repeat_push, repeat-nil}
 
--- copies of the empty text are empty
-none_of : (n : ℕ) → repeat n (let none : List ℕ = [] in none) ≡ []
-none_of zero = refl
-none_of (suc n) = none_of n
+pub copies_room : (k n : ℕ) (text : List ℕ) → k < n → length (repeat k text) + length text ≤ n * length text
+copies_room k n text below = omega (arith, length-repeat k text, suc-mul k (length text), mul-le-mul_right {m = suc k} {n = n} (length text) below)
 
-pub empty_copies : (n : ℕ) (text items : List ℕ) → length text ≡ 0 → length items ≡ 0 → items ≡ repeat n text
-empty_copies n text items e none = nil_from_length items none ∙ sym (ap (repeat n) (nil_from_length text e) ∙ none_of n)
-
--- one more copy comes after the others
-one_more : (n : ℕ) (text : List ℕ) → repeat (suc n) text ≡ repeat n text ++ text
-one_more zero text = append-nil text
-one_more (suc n) text = ap (λ rest. text ++ rest) (one_more n text) ∙ sym (append_assoc text (repeat n text) text)
-
-pub next_copy : (k m : ℕ) (old text rest : List ℕ) → length text ≡ m → k * m ≤ length old → take (k * m) old ≡ repeat k text
-    → take (suc k * m) ((take (k * m) old ++ text) ++ rest) ≡ repeat (suc k) text
-next_copy k m old text rest long within made =
-    let prefix : List ℕ = take (k * m) old in let all : List ℕ = prefix ++ text in
-    let end : suc k * m ≡ length all = omega (arith, suc-mul k m, length-append prefix text, length-take-le (k * m) old within, long) in
-    ap (λ n. take n (all ++ rest)) end ∙ take-append_seam all rest ∙ ap (λ xs. xs ++ text) made ∙ sym (one_more k text)
-
-pub copies_are_text : (n : ℕ) (text : List ℕ) → IsUtf8 text → IsUtf8 (repeat n text)
-copies_are_text zero text is = IsUtf8-nil
-copies_are_text (suc n) text is = IsUtf8-append text (repeat n text) is (copies_are_text n text is)
+pub ruleset copies = (copies_room, length-repeat, repeat_push, repeat-nil)
 
 -- ---- joined texts
 
@@ -63,14 +44,10 @@ module _ {X : Type 0} (f : X → List ℕ) (sep : List ℕ) where
       → (length (join_by f sep (take i xs)) + length gap) + length (f (get_or xs i d)) ≤ length (join_by f sep xs)
   joined_room xs i d gap within first later =
       let prefix : List ℕ = join_by f sep (take i xs) in let last : List ℕ = f (get_or xs i d) in
-      omega (
-        arith,
-        joined_within xs (i + 1),
-        ap length (joined_more xs i d gap within first later),
-        length-append
-            (prefix ++ gap) last,
-        length-append prefix gap,
-      )
+      let more = ap length (joined_more xs i d gap within first later) in
+      omega (arith, joined_within xs (i + 1), more, length-append (prefix ++ gap) last, length-append prefix gap)
+
+pub ruleset joins = (joined_room, joined_more)
 
 -- a text after a text is a text
 pub two_texts : (xs ys zs : List ℕ) → zs ≡ xs ++ ys → IsUtf8 xs → IsUtf8 ys → IsUtf8 zs

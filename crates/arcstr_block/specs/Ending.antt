@@ -1,10 +1,10 @@
 -- How a handle ended, as the history of its block says.
-use Rattle.std.specs.Prelude.{◌≡◌, ◌↔◌, ◌<◌, ℕ, IsFalse, List, [], length}
+use Rattle.std.specs.Prelude.{◌≡◌, ◌↔◌, ℕ, IsFalse, List, []}
 use Rattle.arcstr_count.specs.declared.steps.Step.{Step}
 use Rattle.arcstr_count.specs.declared.steps.Step.TheVariants.{Begin, Sub}
 use Rattle.arcstr_count.specs.declared.steps.Reply.TheVariants.{Ended as EndedReply, Left as LeftReply, Owes as OwesReply}
 use Rattle.arcstr_count.specs.Model.{marked_after, living_after, dropping_after, owing_after, given_after}
-use Rattle.arcstr_count.specs.OneBlock.{EndsIn, IsInUse, IsOneBlock, states_after}
+use Rattle.arcstr_count.specs.OneBlock.{EndsIn, IsInUse, IsOneBlock}
 use Rattle.arcstr_block.specs.Book.{IsLater}
 use Rattle.arcstr_block.specs.Handle.{SawBack, IsMarkedIn}
 use Rattle.arcstr_block.specs.declared.ending.End.{End}
@@ -34,7 +34,3 @@ pub record IsFreeLast (first second : List Step) : Type 0 where
 abbrev pub IsFreedExactly : ℕ → List Step → Type 0
 IsFreedExactly limit history = IsOneBlock limit history → living_after limit history 0 ≡ [] → dropping_after limit history 0 ≡ []
     → owing_after limit history 0 ≡ [] → ((given_after limit history 0 ≡ 1) ↔ IsFalse (marked_after limit history 0))
-
--- handle h was born in the history
-abbrev pub IsBornIn : ℕ → List Step → ℕ → Type 0
-IsBornIn limit history h = h < length (states_after limit history)

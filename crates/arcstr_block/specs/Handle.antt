@@ -1,9 +1,9 @@
 -- What contracts see of a handle on a block, and what was seen of its block's history.
-use Rattle.std.specs.Prelude.{ℕ, IsTrue, List}
+use Rattle.std.specs.Prelude.{ℕ, ◌<◌, IsTrue, List, length}
 use Rattle.arcstr_count.specs.declared.steps.Step.{Step}
 use Rattle.arcstr_count.specs.declared.steps.Step.TheVariants.{Look, Clone, Leak, Back}
 use Rattle.arcstr_count.specs.declared.steps.Reply.TheVariants.{Count, Static, Handle as HandleReply, Marked, Given}
-use Rattle.arcstr_count.specs.Model.{marked_after}
+use Rattle.arcstr_count.specs.Model.{after, marked_after}
 use Rattle.arcstr_count.specs.OneBlock.{IsOneBlock, EndsIn}
 use Rattle.arcstr_block.specs.Book.{BlockName}
 
@@ -53,6 +53,10 @@ SawLeak limit history h = EndsIn limit history (Leak h) Marked
 -- the history ends when handle h frees the block
 abbrev pub SawBack : ℕ → List Step → ℕ → Type 0
 SawBack limit history h = EndsIn limit history (Back h) Given
+
+-- handle h was born in the history
+abbrev pub IsBornIn : ℕ → List Step → ℕ → Type 0
+IsBornIn limit history h = h < length (after limit history).handles
 
 -- the history has one block, number 0, which is marked after it
 pub record IsMarkedIn (limit : ℕ) (history : List Step) : Type 0 where

@@ -1,5 +1,5 @@
 -- What the steps of a handle say: of another pointer to its block, and of how the handle ended.
-use Rattle.std.specs.Prelude.{◌≡◌, ◌⊎◌, ℕ, Bool, true, false, List}
+use Rattle.std.specs.Prelude.{◌≡◌, ℕ, Bool, true, false, List}
 use Rattle.arcstr_count.specs.declared.steps.Step.{Step}
 use Rattle.arcstr_count.specs.declared.steps.Step.TheVariants.{Look, Begin, Sub, Leak}
 use Rattle.arcstr_count.specs.declared.steps.Reply.{Reply}
@@ -52,7 +52,7 @@ module _ {A : Type 0} where
 
   -- an exchange by p of the count word old for its clone, which found the count word, after the history `before`
   abbrev pub ClonedAs : Pointer A → List Step → ℕ → ℕ → Pointer A → Type 0
-  ClonedAs p before old word q = IsMarked word ⊎ (word ≡ old) → IsBornOf p before q
+  ClonedAs p before old word q = (IsMarked word → IsBornOf p before q) × (word ≡ old → IsBornOf p before q)
 
   -- the mark by p, which marks the block, after the history `before`
   abbrev pub LeakedAs : Pointer A → List Step → Pointer A → Type 0

@@ -19,6 +19,9 @@ use std::alloc::Allocator;
 use std::marker::Model;
 use std::mem;
 
+/// The capacity, in bytes, from which on a block only doubles.
+const LARGE: usize = 1 << 20;
+
 /// A text that is being built in the block that is to hold it. Contracts see the text so far, and
 /// the capacity: the number of bytes that the block has room for. Its drop frees the block.
 ///
@@ -137,7 +140,7 @@ impl<A: Allocator + Copy> Draft<A> {
     /// let mut draft = Draft::new(rt.alloc(), 3)?;
     /// draft.append("aé");
     /// draft.reserve(1)?;
-    /// assert_eq!(rt; (draft.as_str(), draft.capacity()), ("aé", 6));
+    /// assert_eq!(rt; (draft.as_str(), draft.capacity()), ("aé", 12));
     /// ```
     pub fn reserve(&mut self, additional: usize) -> Result<(), TextFault>
         ensures text { self.new.text ≡ self.old.text }
@@ -154,9 +157,11 @@ impl<A: Allocator + Copy> Draft<A> {
             ↔ IsTooLong (length self.old.text + additional) }
         ensures refused { IfErr result (IsFaultOfMaking (length self.old.text + additional)) }
     {
+        if additional <= self.capacity - self.len {
+            return Ok(());
+        }
         match self.len.checked_add(additional) {
-            Some(needed) if needed <= self.capacity => Ok(()),
-            Some(needed) if needed < TOO_LONG => self.grow(doubled(self.capacity, needed)),
+            Some(needed) if needed < TOO_LONG => self.grow(larger(self.capacity, needed)),
             _ => Err(TextFault::Length),
         }
     }
@@ -225,8 +230,8 @@ impl<A: Allocator + Copy> Draft<A> {
         Shared::from_text(self.alloc, self.as_str())
     }
 
-    /// The first handle on a text that fills its block.
-    fn close<const LIMIT: u64>(self) -> Shared<LIMIT, A>
+    /// Returns the first handle on a text that fills its block.
+    pub(crate) fn close<const LIMIT: u64>(self) -> Shared<LIMIT, A>
         requires limit { LIMIT ≤ RC_MAX }
         requires full { length self.text ≡ self.capacity }
         ensures text { result.text ≡ self.text }
@@ -259,14 +264,19 @@ impl<A: Allocator + Copy> Drop for Draft<A> {
     }
 }
 
-/// The capacity after a move: twice the one before, but at least what is needed, and below the
-/// least that is too long.
-fn doubled(capacity: usize, needed: usize) -> usize
+/// The capacity after a move: four times the one before, or twice if that is `LARGE`, but at least
+/// what is needed, and below the least that is too long. Memory that is not written costs nothing,
+/// and `finish` leaves none, but an allocator refuses more than the machine may have.
+fn larger(capacity: usize, needed: usize) -> usize
     requires capacity { Fits capacity }
     requires needed { Fits needed }
     ensures fits { Fits result }
     ensures enough { needed ≤ result }
     ensures doubles { IsDoubled capacity result }
 {
-    needed.max((2 * capacity).min(TOO_LONG - 1))
+    let twice = (2 * capacity).min(TOO_LONG - 1);
+    if capacity >= LARGE {
+        return needed.max(twice);
+    }
+    needed.max((2 * twice).min(TOO_LONG - 1))
 }

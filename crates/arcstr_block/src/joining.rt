@@ -1,15 +1,12 @@
 //! Makes a block that holds texts one after another, with a separator between each two.
 ghost use Rattle.std.specs.Prelude.{◌≡◌, ◌↔◌, ◌≤◌, ◌<◌, ◌+◌, ◌^◌, [], ◌++◌, length, take, SomeIff, IfOk, IfErr, IsErrOf, IsUtf8};
 ghost use Rattle.std.specs.List.{join_by};
-ghost use Rattle.core.specs.Mem.Slots.{SamePlaces, slots_len, slots_items, slots_filled};
-ghost use Rattle.core.specs.Mem.Slots.Ownership.{Filled};
 ghost use Rattle.arcstr_block.specs.Making.{IsTooLong, IsFaultOfMaking};
 
-use crate::fault::{TOO_LONG, TextFault};
-use crate::making::blank_block;
+use crate::building::Draft;
+use crate::fault::TextFault;
 use crate::shared::Shared;
 use arcstr_count::RC_MAX;
-use core::slots::Slots;
 use std::alloc::Allocator;
 use std::convert::AsStr;
 
@@ -24,6 +21,7 @@ impl<const LIMIT: u64, A: Allocator + Copy> Shared<LIMIT, A> {
     /// let text = Shared::<5, _>::join(rt.alloc(), &["a", "b"], ", ", 4)?;
     /// assert_eq!(rt; text.as_str(), "a, b");
     /// ```
+    #[tactic(auto, using(crate::proofs::Texts::joins, std::proofs::lemmas::List::take_all))]
     pub fn join<S: AsStr>(
         alloc: A,
         texts: &[S],
@@ -41,12 +39,13 @@ impl<const LIMIT: u64, A: Allocator + Copy> Shared<LIMIT, A> {
         ensures too_long { IsErrOf result TextFault.Length ↔ IsTooLong len }
         ensures refused { IfErr result (IsFaultOfMaking len) }
     {
-        if len >= TOO_LONG {
-            return Err(TextFault::Length);
+        let mut draft = Draft::new(alloc, len)?;
+        for i in 0..texts.len() {
+            let text = texts[i].as_str();
+            draft.append(gap_before(i, separator));
+            draft.append(text);
         }
-        let (blank, mut bytes) = blank_block(alloc, len)?;
-        write_joined(&mut bytes, texts, separator);
-        Ok(Shared::first_handle(blank.close(bytes), len, alloc))
+        Ok(draft.close())
     }
 }
 
@@ -71,23 +70,6 @@ pub fn joined_len<S: AsStr>(texts: &[S], separator: &str) -> Option<usize>
     Some(len)
 }
 
-/// Writes the texts from the first slot on, with the separator between each two.
-#[tactic(auto, using(crate::proofs::Texts::joined_room))]
-fn write_joined<S: AsStr>(bytes: &mut Slots<u8>, texts: &[S], separator: &str)
-    requires { slots_len bytes.old ≡ length (join_by S.text separator.now texts.now) }
-    ensures items { slots_items bytes.new ≡ join_by S.text separator.now texts.now }
-    ensures utf8 { IsUtf8 (slots_items bytes.new) }
-    ensures written { Filled (slots_filled bytes.new) 0 (slots_len bytes.old) }
-    ensures places { SamePlaces bytes.old bytes.new }
-{
-    let mut at = 0;
-    for i in 0..texts.len() {
-        let text = texts[i].as_str();
-        at = write(bytes, at, gap_before(i, separator));
-        at = write(bytes, at, text);
-    }
-}
-
 /// Returns what is written before the text with this index: nothing before the first, else the
 /// separator.
 fn gap_before(i: usize, separator: &str) -> &str
@@ -95,18 +77,4 @@ fn gap_before(i: usize, separator: &str) -> &str
     ensures later { 0 < i → result.now ≡ separator.now }
 {
     if i == 0 { "" } else { separator }
-}
-
-/// Writes a text after the first `at` bytes, and returns where it ends.
-fn write(bytes: &mut Slots<u8>, at: usize, text: &str) -> usize
-    requires room { at + length text.now ≤ slots_len bytes.old }
-    requires written { Filled (slots_filled bytes.old) 0 at }
-    ensures end { result ≡ at + length text.now }
-    ensures items { take result (slots_items bytes.new)
-        ≡ take at (slots_items bytes.old) ++ text.now }
-    ensures written { Filled (slots_filled bytes.new) 0 result }
-    ensures places { SamePlaces bytes.old bytes.new }
-{
-    bytes.copy_in(at, text.as_bytes());
-    at + text.len()
 }

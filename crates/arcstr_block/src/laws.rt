@@ -1,10 +1,12 @@
 //! The laws of blocks. A law does nothing when it runs: it takes no atomic step, and does not
 //! allocate.
-ghost use Rattle.std.specs.Prelude.{◌≡◌, ◌≢◌, ℕ, Contains};
+ghost use Rattle.std.specs.Prelude.{◌≡◌, ◌≢◌, ◌≤◌, ℕ, List, Contains};
 ghost use Rattle.arcstr_count.specs.Laws.{HoldsInEveryInterleaving};
 ghost use Rattle.arcstr_count.specs.Model.{living_after};
-ghost use Rattle.arcstr_block.specs.Ending.{IsBornIn, IsFreedExactly, IsFreeLast};
-ghost use Rattle.arcstr_block.specs.Handle.{SawBack};
+ghost use Rattle.arcstr_count.specs.declared.steps.Step.{Step};
+ghost use Rattle.arcstr_block.specs.Book.{IsLater};
+ghost use Rattle.arcstr_block.specs.Ending.{IsFreedExactly, IsFreeLast};
+ghost use Rattle.arcstr_block.specs.Handle.{IsBornIn, SawBack, SawCount};
 ghost use Rattle.arcstr_block.specs.Rights.{owed, HasSeat, IsFree, MaySee};
 
 use crate::fixed::Fixed;
@@ -111,6 +113,35 @@ impl<const LIMIT: u64, A: Allocator + Copy> Shared<LIMIT, A> {
             → Contains (living_after LIMIT seen.now.history 0) self.now.seat }
     {
         self.handle.pointer.a_free_handle_lives(seen);
+    }
+
+    /// Proves that two handles that are not dropped are both counted: a look by one of them, after
+    /// what the other has seen, counts at least two. It returns both, in their order.
+    ///
+    /// ```
+    /// let text = Shared::<5, _>::from_text(rt.alloc(), "aé")?;
+    /// let clone = text.up(&rt);
+    /// let (count, seen) = text.look_after(&clone.seen());
+    /// let (text, clone) = text.two_handles_are_counted(clone, &seen);
+    /// assert_eq!(rt; (count, text.len(), clone.len()), (Some(2), 3, 3));
+    /// ```
+    pub fn two_handles_are_counted(
+        self,
+        other: Shared<LIMIT, A>,
+        seen: &Seen,
+    ) -> (Shared<LIMIT, A>, Shared<LIMIT, A>)
+        requires block { seen.now.block ≡ self.block }
+        requires same { other.block ≡ self.block }
+        ensures first { result.0 ≡ self }
+        ensures second { result.1 ≡ other }
+        // Promise: A look after the other handle was born counts at least two.
+        ensures two { (before : List Step) (n : ℕ) → IsBornIn LIMIT before other.seat
+            → IsLater before seen.now.history → SawCount LIMIT seen.now.history self.seat n
+            → 2 ≤ n }
+    {
+        self.lives(seen);
+        other.lives(seen);
+        self.two_handles_have_two_seats(other)
     }
 }
 

@@ -10,6 +10,7 @@ ghost use Rattle.arcstr_block.specs.Memory.{Fits};
 ghost use Rattle.arcstr_block.specs.Making.{IsTooLong, IsFaultOfMaking, IsFaultOfBytes, IsFaultOfFilling};
 
 use crate::block::{Blank, offset_of_word, size_of_block};
+use crate::building::Draft;
 use crate::fault::{TOO_LONG, TextFault};
 use crate::shared::Shared;
 use arcstr_count::{RC_MAX, Word};
@@ -38,12 +39,7 @@ impl<const LIMIT: u64, A: Allocator + Copy> Shared<LIMIT, A> {
         ensures too_long { IsErrOf result TextFault.Length ↔ IsTooLong (length text.now) }
         ensures refused { IfErr result (IsFaultOfMaking (length text.now)) }
     {
-        if text.len() >= TOO_LONG {
-            return Err(TextFault::Length);
-        }
-        let (blank, mut bytes) = blank_block(alloc, text.len())?;
-        bytes.copy_in(0, text.as_bytes());
-        Ok(Shared::first_handle(blank.close(bytes), text.len(), alloc))
+        Ok(Draft::new(alloc, text.len())?.fill(text))
     }
 
     /// Returns the first handle on a new block with the text that `fill` leaves in `n` zero bytes.
@@ -108,6 +104,7 @@ impl<const LIMIT: u64, A: Allocator + Copy> Shared<LIMIT, A> {
     /// let text = Shared::<5, _>::repeat(rt.alloc(), "ab", 3)?;
     /// assert_eq!(rt; text.as_str(), "ababab");
     /// ```
+    #[tactic(auto, using(crate::proofs::Texts::copies))]
     pub fn repeat(alloc: A, text: &str, n: usize) -> Result<Shared<LIMIT, A>, TextFault>
         requires { LIMIT ≤ RC_MAX }
         ensures made { IfOk result (λ made. made.text ≡ repeat n text.now) }
@@ -119,13 +116,18 @@ impl<const LIMIT: u64, A: Allocator + Copy> Shared<LIMIT, A> {
         ensures too_long { IsErrOf result TextFault.Length ↔ IsTooLong (n * length text.now) }
         ensures refused { IfErr result (IsFaultOfMaking (n * length text.now)) }
     {
-        let len = match n.checked_mul(text.len()) {
-            Some(len) if len < TOO_LONG => len,
-            _ => return Err(TextFault::Length),
+        let Some(len) = n.checked_mul(text.len()) else {
+            return Err(TextFault::Length);
         };
-        let (blank, mut bytes) = blank_block(alloc, len)?;
-        write_copies(&mut bytes, text.as_bytes(), n);
-        Ok(Shared::first_handle(blank.close(bytes), len, alloc))
+        let mut draft = Draft::new(alloc, len)?;
+        // Copies of an empty text are not made one by one: there may be `usize::MAX` of them.
+        if text.is_empty() {
+            return Ok(draft.close());
+        }
+        for _ in 0..n {
+            draft.append(text);
+        }
+        Ok(draft.close())
     }
 }
 
@@ -156,24 +158,6 @@ pub(crate) fn write_zeros(bytes: &mut Slots<u8>)
 {
     for place in 0..bytes.len() {
         bytes.put(place, 0);
-    }
-}
-
-/// Writes `n` copies of a text, one after another.
-fn write_copies(bytes: &mut Slots<u8>, text: &[u8], n: usize)
-    requires places { slots_len bytes.old ≡ n * length text.now }
-    requires utf8 { IsUtf8 text.now }
-    ensures items { slots_items bytes.new ≡ repeat n text.now }
-    ensures utf8 { IsUtf8 (slots_items bytes.new) }
-    ensures written { Filled (slots_filled bytes.new) 0 (slots_len bytes.old) }
-    ensures places { SamePlaces bytes.old bytes.new }
-{
-    // Copies of an empty text are not made one by one, since there may be `usize::MAX` of them.
-    if text.is_empty() {
-        return;
-    }
-    for copy in 0..n {
-        bytes.copy_in(copy * text.len(), text);
     }
 }
 

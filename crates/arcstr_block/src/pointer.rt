@@ -14,7 +14,7 @@ ghost use Rattle.arcstr_count.specs.Word.{bits_of, fresh_word};
 ghost use Rattle.arcstr_block.specs.Word.{IsLimit, IsCountWord, IsClone};
 ghost use Rattle.arcstr_block.specs.Rights.{Right, right_code, nothing, counted, fixed, dropping, owed};
 ghost use Rattle.arcstr_block.specs.Rights.{IsFree, MaySee, IsIdle, Loads, Gains, Begins, Leaves};
-ghost use Rattle.arcstr_block.specs.Handle.{SawBack};
+ghost use Rattle.arcstr_block.specs.Handle.{IsBornIn, SawBack};
 ghost use Rattle.arcstr_block.specs.Memory.{Fits, word_offset};
 ghost use Rattle.arcstr_block.specs.Book.{BlockName, IsLater, name_code};
 ghost use Rattle.arcstr_block.specs.Ledger.{pointer_owns, pointer_shares};
@@ -61,6 +61,7 @@ impl<A: Allocator> Pointer<A> {
         requires limit { IsLimit limit }
         ensures home { result.home ≡ block.home }
         ensures text { result.text ≡ block.text }
+        ensures born { IsBornIn limit result.history result.seat }
         ensures limit { result.limit ≡ limit }
         ensures right { result.right ≡ counted }
         ensures first { result.seat ≡ 0 }

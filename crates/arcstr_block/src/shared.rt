@@ -5,7 +5,7 @@ ghost use Rattle.arcstr_block.specs.Book.{IsLater};
 ghost use Rattle.arcstr_block.specs.Memory.{Fits};
 ghost use Rattle.arcstr_block.specs.Word.{IsLimit, IsUnmarked, IsCountWord, IsOtherWord};
 ghost use Rattle.arcstr_block.specs.Rights.{IsFree, is_free_once};
-ghost use Rattle.arcstr_block.specs.Handle.{Handle, SawCount, SawMark, SawClone, SawLeak, IsMarkedIn, kept_of};
+ghost use Rattle.arcstr_block.specs.Handle.{Handle, IsBornIn, SawCount, SawMark, SawClone, SawLeak, IsMarkedIn, kept_of};
 ghost use Rattle.arcstr_block.specs.Steps.{handle_of};
 
 use crate::block::{Sole, offset_of_word};
@@ -31,6 +31,7 @@ pub(crate) struct Counted<const LIMIT: u64, A: Allocator + Copy> {
     ghost home: { alloc ≡ pointer.home },
     ghost limit: { pointer.limit ≡ LIMIT },
     ghost low: { IsLimit LIMIT },
+    ghost born: { IsBornIn LIMIT pointer.history pointer.seat },
 }
 
 /// One handle on a block, through which its text is read; the block stays while it has a handle.
@@ -116,7 +117,9 @@ impl<const LIMIT: u64, A: Allocator + Copy> Shared<LIMIT, A> {
     /// assert_eq!(rt; clone.look_after(&seen).0, Some(2));
     /// ```
     pub fn seen(&self) -> Seen
-        ensures { result.block ≡ self.now.block }
+        ensures block { result.block ≡ self.now.block }
+        // Promise: The handle was born in the history seen.
+        ensures born { IsBornIn LIMIT result.history self.now.seat }
     {
         self.handle.pointer.seen()
     }
@@ -495,6 +498,7 @@ impl<const LIMIT: u64, A: Allocator + Copy> Counted<LIMIT, A> {
 
     /// The load of a clone: another handle if the block is marked, else the unmarked count word
     /// that was found.
+    #[tactic(auto, using(arcstr_count::proofs::OneBlock::clone_is_born))]
     fn clone_if_marked(&self, before: &Seen) -> Result<Counted<LIMIT, A>, u64>
         requires before { before.now.block ≡ self.now.pointer.block }
         ensures clone { IfOk result (λ clone. IsCloneOf clone.pointer self.now.pointer) }
@@ -515,6 +519,7 @@ impl<const LIMIT: u64, A: Allocator + Copy> Counted<LIMIT, A> {
 
     /// One try of a clone from the unmarked count word `old`: another handle, or the unmarked count
     /// word that was found.
+    #[tactic(auto, using(arcstr_count::proofs::OneBlock::clone_is_born))]
     fn exchange(&self, old: u64, before: &Seen) -> Result<Counted<LIMIT, A>, u64>
         requires unmarked { IsUnmarked old }
         requires word { IsCountWord LIMIT old }
@@ -564,6 +569,7 @@ impl<const LIMIT: u64, A: Allocator + Copy> Counted<LIMIT, A> {
         requires same { IsSameBlock pointer self.now.pointer }
         requires free { IsFree pointer.right }
         requires len { len ≡ length self.now.pointer.text }
+        requires born { IsBornIn LIMIT pointer.history pointer.seat }
         ensures { result.pointer ≡ pointer }
     {
         Counted {

@@ -339,6 +339,24 @@ counted_is_living limit history h n ends =
     count_was true k e = cc
     count_was false k e = cc
 
+-- ==== which handles were born in a history of one block
+
+-- the handle of a look
+pub looking_is_born : (limit : ℕ) (history : List Step) (h : ℕ) (reply : Reply) → EndsIn limit history (Look h) reply → h < length (after limit history).handles
+looking_is_born limit history h reply ends = subst (λ (v : State). h < length v.handles) (sym (last_state limit history (Look h) reply ends))
+    (last_found limit history (Look h) reply ends).born
+
+-- the handle that a clone answers
+pub clone_is_born : (limit : ℕ) (history : List Step) (h j : ℕ) → EndsIn limit history (Clone h) (Handle j) → j < length (after limit history).handles
+clone_is_born limit history h j ends =
+    let old : State = after limit ends.prefix in
+    let is : length old.handles ≡ j = number (length old.handles) (last_reply limit history (Clone h) (Handle j) ends) in
+    let long = ap (λ (v : State). length v.handles) (last_state limit history (Clone h) (Handle j) ends) in
+    omega (arith, is, long, length_push old.handles (record { block = block_on old h; state = Free }))
+  where
+    number : (k : ℕ) → Handle k ≡ Handle j → k ≡ j
+    number k same = cc
+
 -- ==== how a history of one block ends with a handle of it
 
 -- a drop that ended at its look found the one block marked

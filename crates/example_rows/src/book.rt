@@ -109,6 +109,18 @@ pub struct Book {
 
 impl fmt::Display for Book {
     fn fmt<W: fmt::Write>(&self, f: &mut fmt::Formatter<W>) -> fmt::Result {
-        write!(f, "{}: {} ({})", self.author, self.title, self.year)
+        write_name(&self.author, f)?;
+        write!(f, ": ")?;
+        write_name(&self.title, f)?;
+        write!(f, " ({})", self.year)
     }
+}
+
+/// Writes a name, escaped if it has a control character: a stranger picks it, and a terminal obeys
+/// such characters.
+fn write_name<W: fmt::Write>(name: &str, f: &mut fmt::Formatter<W>) -> fmt::Result {
+    if name.chars().any(char::is_control) {
+        return write!(f, "{}", name.escape_debug());
+    }
+    write!(f, "{name}")
 }

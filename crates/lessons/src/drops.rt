@@ -1,10 +1,10 @@
 //! How handles end: what follows for two handles on one text, which end in any order and in any
-//! threads, for one that ends while another is kept, and for a text that was leaked.
-ghost use Rattle.std.specs.Prelude.{[], ◌≡◌, ◌≢◌, IfOk, IfSome, ℕ};
+//! threads, for one that ends while another is kept, and for a text that was leaked; and how many
+//! handles a count finds.
+ghost use Rattle.std.specs.Prelude.{◌≡◌, ◌≢◌, ◌≤◌, IfSome, ℕ};
 ghost use Rattle.arcstr_block.specs.Ending.{IsFreedExactly};
 ghost use Rattle.arcstr_block.specs.declared.ending.End.TheVariants.{Ended, Freed};
 
-use arcintern::{InternFault, Interner};
 use arcstr::block::{End, Seen, Shared};
 use arcstr::count::RC_MAX;
 use arcstr::{ArcStr, Substr};
@@ -75,6 +75,26 @@ pub fn end_slices(one: Substr, other: Substr) -> (End, End)
     end_handles(one, other)
 }
 
+/// Counts the handles on a text, by one of two that the caller has.
+///
+/// ```
+/// let text = ArcStr::from_str(rt.alloc(), "foo")?;
+/// let other = text.clone(&rt);
+/// assert_eq!(rt; count_of_two(text, other), Some(2));
+/// ```
+pub fn count_of_two(one: ArcStr, other: ArcStr) -> Option<u64>
+    requires same { one.kind ≡ other.kind }
+    // Promise: Both are counted, unless the block is marked static.
+    ensures two { IfSome result (λ count. 2 ≤ count) }
+{
+    let (Some(one), Some(other)) = (one.into_shared(), other.into_shared()) else {
+        return None;
+    };
+    let (count, seen) = one.look_after(&other.seen());
+    one.two_handles_are_counted(other, &seen);
+    count
+}
+
 /// Drops a handle while another one on the same text is kept.
 ///
 /// ```
@@ -107,31 +127,6 @@ pub fn end_in_order(one: ArcStr, other: ArcStr) -> (End, End)
     other.lives(&seen);
     let (second, _) = other.end_after(&seen);
     (first, second)
-}
-
-/// Interns a text as the first one of an interner, and drops the handle. The interner keeps a clone
-/// of it.
-///
-/// ```
-/// let mut interner = arcintern::Interner::new(rt.alloc());
-/// let text = ArcStr::from_str(rt.alloc(), "foo")?;
-/// assert_eq!(rt; intern_and_end(&rt, &mut interner, text)?, End::Left);
-/// ```
-pub fn intern_and_end(
-    rt: &impl Wait,
-    interner: &mut Interner,
-    text: ArcStr,
-) -> Result<End, InternFault>
-    requires new { interner.old ≡ [] }
-    // Promise: The drop does not free the block.
-    ensures stays { IfOk result (λ end. end ≢ Freed) }
-{
-    let symbol = interner.intern_arc(rt, &text)?;
-    let (end, seen) = text.end();
-    if let Some(held) = interner.resolve(symbol) {
-        held.lives(&seen);
-    }
-    Ok(end)
 }
 
 /// Drops a handle. Returns how it ended, and what the drop has seen.

@@ -1,4 +1,4 @@
-//! Uses of `arcstr` and `arcintern`, as a caller writes them.
+//! Uses of `arcstr`, as a caller writes them.
 //! Each has a contract of its own, and none has a proof file. The first is the one to read.
 ghost use Rattle.std.specs.Prelude.{◌≡◌, ◌↔◌, Contains, IfSome, IsSome};
 ghost use Rattle.std.specs.Str.{chars, trim};
@@ -37,9 +37,7 @@ ghost use Rattle.std.specs.List.{join_by};
 ghost use Rattle.arcstr_range.specs.Pieces.{texts_between};
 ghost use Rattle.arcstr.specs.Slicing.{LiesBetween};
 ghost use Rattle.arcstr.specs.TextView.{TextView};
-ghost use Rattle.arcintern.specs.Texts.{IsWordAt};
 
-use arcintern::{InternFault, Interner, Symbol};
 use arcstr::{RangeFault, TextFault};
 use std::alloc::{AllocError, AllocFailed, Global};
 use std::collections::HashMap;
@@ -213,26 +211,9 @@ pub fn value_of(settings: &HashMap<ArcStr, u64>, key: &str) -> Option<u64>
     settings.get(key).copied()
 }
 
-/// Interns both names of a link. Each symbol then has its name.
-///
-/// ```
-/// let mut names = arcintern::Interner::new(rt.alloc());
-/// let (from, to) = link(&mut names, "a", "b")?;
-/// assert_eq!(rt; (names[from].as_str(), names[to].as_str()), ("a", "b"));
-/// ```
-pub fn link(names: &mut Interner, from: &str, to: &str) -> Result<(Symbol, Symbol), InternFault>
-    ensures from { IfOk result (λ link. IsWordAt names.new link.0 from.now) }
-    ensures to { IfOk result (λ link. IsWordAt names.new link.1 to.now) }
-{
-    let from = names.intern(from)?;
-    let to = names.intern(to)?;
-    Ok((from, to))
-}
-
 // ---- which texts share a block
-ghost use Rattle.std.specs.Prelude.{◌≢◌, slice_get};
+ghost use Rattle.std.specs.Prelude.{◌≢◌};
 ghost use Rattle.arcstr.specs.TextView.{IsStatic, block_of};
-ghost use Rattle.arcintern.specs.Texts.{HasWord};
 
 use arcstr::block::Shared;
 
@@ -281,22 +262,6 @@ pub fn permanent(text: &ArcStr) -> ArcStr
     ensures permanent { IsStatic result.kind }
 {
     text.leak().to_arc_str()
-}
-
-/// Interns the name. A new name becomes a clone of it, in the same block.
-///
-/// ```
-/// let mut names = arcintern::Interner::new(rt.alloc());
-/// let name = ArcStr::from_str(rt.alloc(), "foo")?;
-/// let symbol = register(&rt, &mut names, &name)?;
-/// assert_eq!(rt; names[symbol].as_str(), "foo");
-/// assert_eq!(rt; ArcStr::strong_count(&name), Some(2));
-/// ```
-pub fn register(rt: &impl Wait, names: &mut Interner, name: &ArcStr) -> Result<Symbol, InternFault>
-    ensures shared { (¬ HasWord names.old name.now.text)
-        → OnOk result (slice_get names.new (length names.old) ≡ Some name.now) }
-{
-    names.intern_arc(rt, name)
 }
 
 /// Makes two copies of a text, which lie in two blocks. The law of two handles says so, since

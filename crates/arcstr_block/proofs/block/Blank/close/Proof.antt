@@ -24,14 +24,8 @@ close_spec 𝓤 𝓛 𝓜 𝓡 wired Y K g d dd met md =
     let inst = bounded (a_type ∷ []) (Y, tt) (dcons d (dcons dd dnil)) in let fn = inst_fn inst code.function in
     let Open : RattleType = N.the_row B g in let Alone : RattleType = S.the_row B g in
     proved 𝓛 En (all_dropped En) c 𝓜 𝓡 (all_go 𝓛 En (λ κs x f. refl, (λ κs x f. refl, tt))) (#self inst) fn (code.unfolded 𝓤 H 𝓜 𝓡 wired (Y, tt) d dd)
-    (λ κs. ((λ x. pointer_val x.at ∷ []), ((λ x. words_val x.ptr x.len ∷ []), tt))) (λ κs. (
-      (λ x vs so. told B g x.at vs so.0),
-      (
-        (λ x vs so.
-            (words_told x.ptr x.len vs so.0).0),
-        tt,
-      ),
-    )) (λ κs qs bounds a gh are.
+    (λ κs. ((λ x. pointer_val x.at ∷ []), ((λ x. words_val x.ptr x.len ∷ []), tt)))
+    (λ κs. ((λ x vs so. told B g x.at vs so.0), ((λ x vs so. (words_told x.ptr x.len vs so.0).0), tt))) (λ κs qs bounds a gh are.
     let h : Open.Denot = a.0 in let p : Ptr = h.at in let row : Bytes.Denot = a.1.0 in let xs : List ℕ = row.items in let fs : List Bool = row.filled in
     let n : ℕ = length xs in let b : ℕ = block_of p in let o : ℕ = count_of p in
     let holds = g.dealloc_token h.home in let u : Val = words_val row.ptr row.len in let small : row.len < 2 ^ 64 = row.small in

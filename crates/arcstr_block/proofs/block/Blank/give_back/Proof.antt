@@ -30,15 +30,9 @@ give_back_spec 𝓤 𝓛 𝓜 𝓡 wired Y K g d dd met md =
     let Open : RattleType = N.the_row B g in let Z : Al = record { row = Y; laws = K; g = g; d = d; drops = dd } in
     proved 𝓛 En (all_dropped En) c 𝓜 𝓡 (all_go 𝓛 En (λ κs x f. refl, (λ κs x f. refl, (λ κs x f. refl, (λ κs x f. refl, tt)))))
     (#self inst) fn (code.unfolded 𝓤 H 𝓜 𝓡 wired (Y, tt) d dd)
-    (λ κs. ((λ x. pointer_val x.at ∷ []), ((λ x. words_val x.ptr x.len ∷ []), (shr_vals, (uint_vals w64, tt))))) (λ κs. (
-      (λ x vs so.
-          told B g x.at vs so.0),
-      (
-        (λ x vs so.
-            (words_told x.ptr x.len vs so.0).0),
-        (shr_Tells (named 0) κs.0 B, (uint_Tells w64, tt)),
-      ),
-    )) (λ κs qs bounds a gh are.
+    (λ κs. ((λ x. pointer_val x.at ∷ []), ((λ x. words_val x.ptr x.len ∷ []), (shr_vals, (uint_vals w64, tt)))))
+    (λ κs. ((λ x vs so. told B g x.at vs so.0), ((λ x vs so. (words_told x.ptr x.len vs so.0).0), (shr_Tells (named 0) κs.0 B, (uint_Tells w64, tt)))))
+    (λ κs qs bounds a gh are.
     let h : Open.Denot = a.0 in let p : Ptr = h.at in let n : ℕ = h.length in let row : Bytes.Denot = a.1.0 in let xs : List ℕ = row.items in
     let fs : List Bool = row.filled in let hp : ℕ × ℕ = a.1.1.0.ref_ptr in let heap : Y.Denot = a.1.1.0.now in let size : ℕ = a.1.1.1.0 in
     let b : ℕ = block_of p in let o : ℕ = count_of p in let p' : Ptr = block_ptr b o in let u : Val = words_val row.ptr row.len in

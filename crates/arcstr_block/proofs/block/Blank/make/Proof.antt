@@ -49,28 +49,9 @@ make_spec 𝓤 𝓛 𝓜 𝓡 wired Y K g d dd met md =
     let fit_n : WT (vint w64 n) = record { fits = are.1.1.0.1 } in let fit_offset : WT (vint w64 offset) = record { fits = are.1.1.1.0.1 } in
     let small : size < 2 ^ 64 = are.1.1.1.1.0.1 in
     let us : List Val = vptr hp.0 hp.1 ∷ vint w64 w ∷ vint w64 n ∷ vint w64 offset ∷ vint w64 size ∷ [] in
-    let y : (Walk 𝓛 En c).Ghost = (
-      (
-        κs,
-        qs,
-        bounds,
-        a,
-        (
-          vptr hp.0 hp.1 ∷ [],
-          (
-            vint w64 w ∷ [],
-            (
-              vint w64 n ∷ [],
-              (
-                vint w64 offset ∷ [],
-                (vint w64 size ∷ [], tt),
-              ),
-            ),
-          ),
-        ),
-      ),
-      gh,
-    ) in
+    let vs : Valss (types_at En.signature.params κs) =
+    (vptr hp.0 hp.1 ∷ [], (vint w64 w ∷ [], (vint w64 n ∷ [], (vint w64 offset ∷ [], (vint w64 size ∷ [], tt))))) in
+    let y : (Walk 𝓛 En c).Ghost = ((κs, qs, bounds, a, vs), gh) in
     let Post : Val → SProp 𝓤 = (Walk 𝓛 En c).post y in
     let others : Fml = fsep (flft κs.1.0 qs.1.0) ftrue in
     qed 𝓛 (((‵ (flft κ q) ⊛ ‵ others) ⊛ ‵ (owns (types_at En.signature.params κs) a y.0.4)) ∷ raw (fact 𝓤 (κs.1.0 ⊑ Y.lives)) ∷ raw (fact 𝓤
@@ -129,10 +110,8 @@ make_spec 𝓤 𝓛 𝓜 𝓡 wired Y K g d dd met md =
     use0 𝓛 (‵ ((Words B g).own_val (p, (tt, tt)) (pointer_val p ∷ []))) (made B g 𝓛 p) $ fjoin ! $ move ! (0 ∷ 1 ∷ 2 ∷ []) $ fjoin3 ! $
     feq_i ! (List Val) (pair ∷ []) (pair ∷ []) refl $ fjoin ! $
     let h : Open.Denot = record { at = p; marker = record {}; home = heap; word = w; length = n } in
-    fpack ! (Valss (Open ∷ Bytes ∷ [])) (within (declared.shape (tuple_type (Open ∷ Bytes ∷ []))) (h, (r, tt)) (pair ∷ [])) (
-      pointer_val p ∷ [],
-      (wv ∷ [], tt),
-    ) $
+    let words : Valss (Open ∷ Bytes ∷ []) = (pointer_val p ∷ [], (wv ∷ [], tt)) in
+    fpack ! (Valss (Open ∷ Bytes ∷ [])) (within (declared.shape (tuple_type (Open ∷ Bytes ∷ []))) (h, (r, tt)) (pair ∷ [])) words $
     use1 𝓛 (‵ (Out.own_val (Ok (h, r)) (val ∷ []))) (ok_of 𝓛 Two refusal.the_row (h, r) pair) $
     returns ! (look_at ! 0 refl) $ free_all ! refl $ keep ! (0 ∷ 1 ∷ []) $ by ! (ends 𝓛 En c y val (Ok (h, r)) (tt, (tt, (tt, (tt, (tt, tt)))))
     (also 𝓛 {X = heap ≡ heap} refl (also 𝓛 {X = w ≡ w} refl (framed.three 𝓛 {X = (n ≡ n) × (r.len ≡ n)} (refl, is.0.1) is.0.0 is.0.2))))))))

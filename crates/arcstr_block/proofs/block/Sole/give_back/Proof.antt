@@ -24,11 +24,8 @@ give_back_spec 𝓤 𝓛 𝓜 𝓡 wired Y K g d dd met md =
     let Z : Al = record { row = Y; laws = K; g = g; d = d; drops = dd } in
     proved 𝓛 En (all_dropped En) c 𝓜 𝓡 (all_go 𝓛 En (λ κs x f. refl, (λ κs x f. refl, (λ κs x f. refl, tt))))
     (#self inst) fn (code.unfolded 𝓤 H 𝓜 𝓡 wired (Y, tt) d dd)
-    (λ κs. ((λ x. pointer_val x.at ∷ []), (shr_vals, (uint_vals w64, tt)))) (λ κs. (
-      (λ x vs so.
-          told B g x.at vs so.0),
-      (shr_Tells (named 0) κs.0 B, (uint_Tells w64, tt)),
-    )) (λ κs qs bounds a gh are.
+    (λ κs. ((λ x. pointer_val x.at ∷ []), (shr_vals, (uint_vals w64, tt))))
+    (λ κs. ((λ x vs so. told B g x.at vs so.0), (shr_Tells (named 0) κs.0 B, (uint_Tells w64, tt)))) (λ κs qs bounds a gh are.
     let v : Alone.Denot = a.0 in let p : Ptr = v.at in let xs : List ℕ = v.text in let n : ℕ = length xs in let hp : ℕ × ℕ = a.1.0.ref_ptr in
     let heap : Y.Denot = a.1.0.now in let size : ℕ = a.1.1.0 in
     let κ : Lft = κs.0 in let q : Share = qs.0 in let token : Ty → Ptr → Fml = g.dealloc_token heap in let τ : Ty = bare (block_type n) in

@@ -1,5 +1,5 @@
 -- The bytes before the end of the text so far and the appended text are written, and are a text.
-use Rattle.arcstr_block.proofs.Names.{◌≡◌, arith, ap, sym, length, ◌+◌, ◌≤◌, ◌++◌, ◌∙◌, length-take-le, take}
+use Rattle.arcstr_block.proofs.Names.{◌≡◌, ℕ, arith, ap, sym, length, ◌+◌, ◌≤◌, ◌++◌, ◌∙◌, length-take-le, take}
 use Rattle.core.proofs.slots.Fills.{Filled-around, Filled-none}
 use Rattle.arcstr_block.proofs.Texts.{two_texts, appended}
 use Rattle.arcstr_block.proofs.building.Draft.append.Goals as goal
@@ -10,13 +10,8 @@ invariant_of-self-inside g c =
     let got = c.replace_with.ensures in let within : n ≤ length old = omega (arith, was.inside, was.room) in
     let long : length (take n old) ≡ n = length-take-le n old within in
     let text : take (n + length more) now.items ≡ take n old ++ more = appended n old more _ _ within got.1.1.0 in
-    let room = c.requires.room in let view = c.self.view_is in (
-      omega (arith, long, room, ap (λ v. length v.text) view, ap (λ v. v.capacity) view),
-      (
-        two_texts (take n old) more _ text was.text c.utf8.text,
-        (
-          Filled-around was.bytes.filled now.filled n (n + length more) (n + length more) got.1.1.1.0 got.1.1.1.1 was.written (Filled-none _ _ _ (omega arith)),
-          (got.0 ∙ was.here, (was.room ∙ sym got.1.0, (was.long, (was.fits, (was.word, (was.home, tt)))))),
-        ),
-      ),
-    )
+    let room = c.requires.room in let view = c.self.view_is in let end : ℕ = n + length more in
+    let inside : end ≤ was.capacity = omega (arith, long, room, ap (λ v. length v.text) view, ap (λ v. v.capacity) view) in
+    let written = Filled-around was.bytes.filled now.filled n end end got.1.1.1.0 got.1.1.1.1 was.written (Filled-none _ _ _ (omega arith)) in
+    let utf8 = two_texts (take n old) more _ text was.text c.utf8.text in let here = got.0 ∙ was.here in
+    (inside, (utf8, (written, (here, (was.room ∙ sym got.1.0, (was.long, (was.fits, (was.word, (was.home, tt)))))))))

@@ -6,7 +6,7 @@ use Rattle.arcstr_block.proofs.Names.{Valss, owns, block_of, Ptr, block_ptr, cou
 use Rattle.arcstr_block.proofs.Names.{free_all, look_at, get, sets, lands_last, env, through, is, ‵, ◌⊛◌, ◌$◌, ◌∵◌, !, qed, move, use1, split, fsplit, raw, by}
 use Rattle.arcstr_block.proofs.Names.{keep, fsplit3, drop, use3, at_ret, mean, sub, whole, agg, look_in, stop, fld, of_opd, no_more, and_then, first, blocks}
 use Rattle.arcstr_block.proofs.Names.{exec, returns, enter, load, addr, bin, Calls-last, tail, found, fm, finds, exchanges, proved, Free, Step, reached}
-use Rattle.arcstr_block.proofs.Names.{seat_share, block_owns, block_shares, word_at, word_offset, IsFree, IsClone}
+use Rattle.arcstr_block.proofs.Names.{seat_share, block_owns, block_shares, word_at, word_offset, IsFree, IsClone, ClonedAs, inl, inr}
 use Rattle.arcstr_block.proofs.Memory.{shares_laws}
 use Rattle.arcstr_block.proofs.Pointers.{pointer_val, typed, found_val, found_typed}
 use Rattle.arcstr_block.proofs.Endings.{all_dropped, all_go, Walk, ends, also}
@@ -79,6 +79,7 @@ clone_exchange_spec 𝓤 𝓛 𝓜 𝓡 wired Y K g d dd met md =
     returned B g h 𝓛 t inb named κ q out ! tt (λ g ok. rights.raised 𝓛 P lim pb po t s sl h.seat before old new n h.history g (ok.1, ok.2, ok.3, ok.4))
     (λ _ ok k says j r saw.
     let h' : Row.Denot = record h { right = k; seat = j; history = r } in let together : IsSameBlock h' h = (refl, refl, refl, refl) in
+    let born : ClonedAs h before old n h' = ((λ odd. saw (inl odd)), (λ e. saw (inr e))) in
     use1 𝓛 (‵ (fex (Valss (u64 ∷ Row ∷ [])) (framed.found_as 𝓛 B g h' n))) (framed.found_in 𝓛 B g h' n fits) $
     returns ! (look_at ! 0 refl) $ free_all ! refl $
-    by ! (ends 𝓛 En c y (found_val n p) (n, h') (tt, (tt, (tt, (tt, (tt, tt))))) (also 𝓛 ok.0 (framed.three 𝓛 says saw together)))))))))))))
+    by ! (ends 𝓛 En c y (found_val n p) (n, h') (tt, (tt, (tt, (tt, (tt, tt))))) (also 𝓛 ok.0 (framed.three 𝓛 says born together)))))))))))))

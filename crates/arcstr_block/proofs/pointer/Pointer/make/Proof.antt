@@ -4,7 +4,8 @@ use Rattle.arcstr_block.proofs.Names.{ftrue, Incl-refl, SProp, fact, tables, par
 use Rattle.arcstr_block.proofs.Names.{at_block, types_at, heard, alloc_all, pass_all, free_all, look_at, get, get_in, sets, is, ‵, ◌⊛◌, later, ◌$◌, ◌∵◌, !, qed}
 use Rattle.arcstr_block.proofs.Names.{move, use2, split, join, fsplit, fjoin, fpick, await, raw, by, keep, fsplit3, drop, rewrite, use3, Item, sub, whole, agg}
 use Rattle.arcstr_block.proofs.Names.{stop, fld, of_opd, no_more, and_then, returns, enter, word, proved, bits_of, fresh_word, Make, reached, Id}
-use Rattle.arcstr_block.proofs.Names.{held_with, block_owns, block_shares, word_offset, counted, IsLimit}
+use Rattle.arcstr_block.proofs.Names.{held_with, block_owns, block_shares, word_offset, counted, IsLimit, arith}
+use Rattle.arcstr_block.specs.Handle.{IsBornIn}
 use Rattle.arcstr_block.proofs.Blocks.{begins}
 use Rattle.arcstr_block.proofs.Pointers.{pointer_val, typed, told}
 use Rattle.arcstr_block.proofs.Memory.{shares_laws, lends_block}
@@ -59,4 +60,5 @@ make_spec 𝓤 𝓛 𝓜 𝓡 wired Y K g d dd met md =
     sets ! (of_opd ! (get_in ! (fld ! refl (stop !)) (sub ! 1 refl (whole !)))) refl (tt, tt) $
     sets ! (is ! (agg ! (and_then ! (get ! refl) (and_then ! (get ! refl) (no_more !)))) (ap pointer_val (sym at))) refl (typed p) $
     returns ! (look_at ! 0 refl) $ free_all ! refl $ by ! (ends 𝓛 En c y (pointer_val p) h' (tt, tt)
-    (also 𝓛 {X = v.home ≡ v.home} refl (also 𝓛 {X = xs ≡ xs} refl (framed.three 𝓛 {X = lim ≡ lim} {Y = counted ≡ counted} {Z = 0 ≡ 0} refl refl refl)))))))))))
+    (also 𝓛 {X = v.home ≡ v.home} refl (also 𝓛 {X = xs ≡ xs} refl (also 𝓛 {X = IsBornIn lim (Make ∷ []) 0} (omega arith)
+    (framed.three 𝓛 {X = lim ≡ lim} {Y = counted ≡ counted} {Z = 0 ≡ 0} refl refl refl))))))))))))
