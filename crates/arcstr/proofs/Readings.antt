@@ -1,6 +1,7 @@
 -- What a builder has after several reads, and what a fault says of it.
-use Rattle.std.proofs.Common.{◌≡◌, List, ℕ, Option, Some, None, ◌+◌, ◌++◌, take, drop, sym, ap, ◌∙◌, append_assoc, take-add}
-use Rattle.std.specs.Io.KnownBytes.{Consumes}
+use Rattle.std.proofs.Common.{◌≡◌, List, ℕ, Option, Some, None, ◌+◌, ◌++◌, take, drop, [], IfSome, sym, ap, ◌∙◌, append_assoc, take-add}
+use Rattle.std.proofs.lemmas.List.{append-nil}
+use Rattle.std.specs.Io.KnownBytes.{Consumes, IsAtEnd}
 use mathlib.Core.List.{IsPrefix}
 use Rattle.arcstr_block.specs.declared.fault.TextFault.{TextFault}
 use Rattle.arcstr_block.specs.declared.fault.TextFault.TheVariants.{Length, Memory, Utf8}
@@ -32,6 +33,15 @@ read_more a b c old now new first more = (
   consumed_by_both a b c first.0 more.0 first.1 more.1,
   more.2 ∙ ap (λ l. l ++ more.0) first.2 ∙ append_assoc (old.text ++ old.held) first.0 more.0,
 )
+
+-- at the end of the input the text has all bytes behind what it had
+pub has_all : (a c : Option (List ℕ)) (old new : Building) → HasRead a c old new → new.held ≡ [] → IsAtEnd c
+    → IfSome a (λ bytes. new.text ≡ (old.text ++ old.held) ++ bytes)
+has_all None c old new read none end = tt
+has_all (Some first) None old new read none end = absurd read.1
+has_all (Some first) (Some last) old new read none end =
+    sym (append-nil new.text) ∙ ap (λ xs. new.text ++ xs) (sym none) ∙ read.2
+    ∙ ap (λ xs. (old.text ++ old.held) ++ xs) (sym (append-nil read.0) ∙ ap (λ xs. read.0 ++ xs) (sym end) ∙ sym read.1)
 
 pub prefix_of_longer : (xs ys zs : List ℕ) → IsPrefix xs ys → IsPrefix ys zs → IsPrefix xs zs
 prefix_of_longer xs ys zs one two = (one.0 ++ two.0, sym (append_assoc xs one.0 two.0) ∙ ap (λ l. l ++ two.0) one.1 ∙ two.1)
