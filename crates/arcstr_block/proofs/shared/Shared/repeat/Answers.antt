@@ -11,6 +11,6 @@ append-requires g c = let was = c.loop.invariant in record {
 
 pub loop-preserved : goal.loop-preserved
 loop-preserved g c = let was = c.loop.invariant in (
-      c.append.ensures.text ∙ ap (λ ys. ys ++ c.args.text.now) was.0 ∙ repeat_push c.loop.counter c.args.text.now,
-      c.append.ensures.capacity ∙ was.1,
-    )
+  c.append.ensures.text ∙ ap (λ ys. ys ++ c.args.text.now) was.0 ∙ repeat_push c.loop.counter c.args.text.now,
+  c.append.ensures.capacity ∙ was.1,
+)
