@@ -41,11 +41,12 @@ fn a_struct_of_texts_is_written_and_read_as_json(ref rt: HostRuntime) -> Result<
 
 /// The code that docs/GUIDE.md shows.
 #[test]
-fn a_struct_of_texts_is_read_from_json(ref rt: HostRuntime) {
+fn a_struct_of_texts_is_read_from_json(rt: HostRuntime) -> Result<(), Fail> {
     let json = "{\"value\":\"\\u00e9 b\",\"name\":\"ab\"}";
-    let entry: Entry = serde_json::from_str(rt.alloc(), json).expect(rt, "not read");
+    let entry: Entry = serde_json::from_str(rt.alloc(), json)?;
     assert_eq!(rt; entry.name.as_str(), "ab");
     assert_eq!(rt; entry.value.as_str(), "é b");
+    Ok(())
 }
 
 #[test]
