@@ -75,7 +75,8 @@ pub fn end_slices(one: Substr, other: Substr) -> (End, End)
     end_handles(one, other)
 }
 
-/// Counts the handles on a text, by one of two that the caller has.
+/// Counts the handles on a text, by one of two that the caller has. The contract does not exclude
+/// `None`; the example does.
 ///
 /// ```
 /// let text = ArcStr::from_str(rt.alloc(), "foo")?;
