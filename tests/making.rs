@@ -50,34 +50,26 @@ fn lengths_are_refused_before_memory(ref rt: HostRuntime) -> Result<(), Fail> {
         let mut builder = ArcStrBuilder::new(alloc);
         builder.push_str("foo")?;
         assert_eq!(rt; builder.reserve(capacity - 3), Err(fault));
-        assert_eq!(rt; (builder.as_str(), builder.capacity()), ("foo", 8));
+        assert_eq!(rt; (builder.as_str(), builder.capacity()), ("foo", 64));
         builder.push_str("bar")?;
         assert_eq!(rt; builder.finish()?.as_str(), "foobar");
     }
     Ok(())
 }
 
-/// A builder grows to four times its capacity, from 8 bytes on, and from 1 MiB on to twice.
+/// A builder grows to four times its capacity, from 64 bytes on, and from 1 MiB on to twice.
 #[test]
 fn the_capacity_grows_by_four(ref rt: HostRuntime) -> Result<(), Fail> {
     let mut builder = ArcStrBuilder::new(rt.alloc());
-    for (text, capacity) in [
-        ("", 0),
-        ("a", 8),
-        ("bcdefgh", 8),
-        ("i", 32),
-        ("01234567", 32),
-    ] {
+    let rest = ArcStr::repeat(rt.alloc(), "b", 63)?;
+    for (text, capacity) in [("", 0), ("a", 64), (rest.as_str(), 64), ("c", 256)] {
         builder.push_str(text)?;
         assert_eq!(rt; builder.capacity(), capacity);
     }
     builder.reserve(1000)?;
-    assert_eq!(rt;
-        (builder.as_str(), builder.capacity()),
-        ("abcdefghi01234567", 1017)
-    );
+    assert_eq!(rt; (builder.len(), builder.capacity()), (65, 1065));
     let text = builder.finish()?;
-    assert_eq!(rt; (text.len(), count(&text)), (17, Some(1)));
+    assert_eq!(rt; (text.len(), count(&text)), (65, Some(1)));
     let mut large = ArcStrBuilder::with_capacity(rt.alloc(), 1 << 20)?;
     large.push_str(&ArcStr::repeat(rt.alloc(), "a", 1 << 20)?)?;
     large.push('a')?;

@@ -14,8 +14,9 @@ use std::fmt;
 use std::fmt::{Display, Write};
 use std::marker::Model;
 
-/// The capacity in bytes of the first block that a push makes.
-const FIRST: usize = 8;
+/// The least capacity in bytes of the first block that a push makes. From it a block that grows by
+/// four fills 256, 1,024 and 4,096 bytes.
+const FIRST: usize = 64;
 
 /// An `ArcStr` that is being built. In a contract it has the text so far, a capacity, which is the
 /// number of bytes that its block has room for, and the bytes that `read_from` holds back. It

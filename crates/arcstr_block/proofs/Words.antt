@@ -1,7 +1,7 @@
 -- The count words that a step finds and leaves, as numbers, and whether a right is a given one.
 use Rattle.arcstr_block.proofs.Names.{◌≡◌, ℕ, ◌-◌, ◌^◌, true, refl, arith, lit<, false, sym, inl, inr, ◌≢◌, ap, ◌+◌, ◌<◌, if◌then◌else◌, eq-eqb, ne_eqb, ◌∙◌}
 use Rattle.arcstr_block.proofs.Names.{◌==◌, ◌≤◌, ◌*◌, ◌/◌, ◌%◌, bit_or, ◌⊎◌, dite, ℕ_discrete, dec_le, cloned_of, is_last, marked_of, dropped_of, Right}
-use Rattle.arcstr_block.proofs.Names.{right_index, right_at, right_at_index, word_of, IsMarked, IsClone, IsUnmarked}
+use Rattle.arcstr_block.proofs.Names.{Bool, right_index, right_at, right_at_index, word_of, IsMarked, IsClone, IsUnmarked}
 use Rattle.std.specs.Int.Bits.{or_zero_r}
 use Rattle.std.proofs.lemmas.Nat.{or_block}
 use Rattle.std.proofs.lemmas.Bool.{lt-ltb, le-ltb}
@@ -43,6 +43,13 @@ unmarked_word n even = ap (λ f. record { flag = f; count = n / 2 }) (ne_eqb (n 
 
 pub odd_or_even : (n : ℕ) → IsMarked n ⊎ IsUnmarked n
 odd_or_even n = dite (ℕ_discrete (n % 2) 1) (λ e. inl e) (λ ne. inr (omega arith))
+
+-- a count word that a test does not find marked is unmarked
+pub unmarked_by : (n : ℕ) (found : Bool) → found ≡ false → (IsMarked n → found ≡ true) → IsUnmarked n
+unmarked_by n found fails test = elim (odd_or_even n) [
+  | inl marked ↦ let both : false ≡ true = sym fails ∙ test marked in cc
+  | inr even ↦ even
+]
 
 pub word_marked : (n : ℕ) → word_of (bit_or n 1) ≡ marked_of (word_of n)
 word_marked n = elim (odd_or_even n) [

@@ -21,7 +21,7 @@ pub(crate) struct Tail {
     pub(crate) length: usize,
 }
 
-/// A new block, of whose bytes some may not be written yet. They are in a separate `Slots`.
+/// A new block, of whose bytes some may not be written yet. They are in a separate `Row`.
 pub(crate) struct Blank<A: Allocator> {
     at: *mut u8,
     marker: PhantomData<A>,
@@ -58,22 +58,22 @@ impl<A: Allocator> Blank<A> {
         len: usize,
         offset: usize,
         size: usize,
-    ) -> Result<(Blank<A>, Slots<u8>), AllocError>
+    ) -> Result<(Blank<A>, Row), AllocError>
         requires offset { offset ≡ word_offset len }
         requires size { size ≡ block_size len }
         requires fits { Fits len }
         ensures home { IfOk result (λ made. made.0.home ≡ alloc.now) }
         ensures word { IfOk result (λ made. made.0.word ≡ word) }
-        ensures length { IfOk result (λ made. (made.0.length ≡ len) × (slots_len made.1 ≡ len)) }
-        ensures bytes { IfOk result (λ made. slots_ptr made.1 ≡ made.0.at) }
-        ensures empty { IfOk result (λ made. slots_items made.1 ≡ replicate len 0) }
+        ensures length { IfOk result (λ made. (made.0.length ≡ len) × (length made.1.items ≡ len)) }
+        ensures bytes { IfOk result (λ made. made.1.at ≡ made.0.at) }
+        ensures empty { IfOk result (λ made. made.1.items ≡ replicate len 0) }
     {
         match alloc.allocate(size, align_of::<Tail>()) {
             Ok(at) => unsafe {
                 let tail = at.add(offset) as *mut Tail;
                 (&raw mut (*tail).word).write(word);
                 (&raw mut (*tail).length).write(len);
-                let bytes = Slots::from_raw_parts(at, len);
+                let bytes = Row { at };
                 let blank = Blank {
                     at,
                     marker: PhantomData,
@@ -85,16 +85,16 @@ impl<A: Allocator> Blank<A> {
     }
 
     /// Returns the block, once each of its bytes is written.
-    pub(crate) fn close(self, bytes: Slots<u8>) -> Sole<A>
-        requires here { slots_ptr bytes ≡ self.at }
-        requires long { slots_len bytes ≡ self.length }
-        requires written { Filled (slots_filled bytes) 0 self.length }
+    pub(crate) fn close(self, bytes: Row) -> Sole<A>
+        requires here { bytes.at ≡ self.at }
+        requires long { length bytes.items ≡ self.length }
+        requires written { Filled bytes.filled 0 self.length }
         ensures home { result.home ≡ self.home }
         ensures word { result.word ≡ self.word }
-        ensures text { result.text ≡ slots_items bytes }
+        ensures text { result.text ≡ bytes.items }
     {
         let Blank { at, marker } = self;
-        let _parts = unsafe { bytes.into_raw_parts() };
+        let Row { at: _ } = bytes;
         Sole { at, marker }
     }
 
@@ -123,14 +123,14 @@ impl<A: Allocator> Blank<A> {
 
     /// Frees the memory, whichever bytes are written. Nothing of it is left that a clause could
     /// name.
-    pub(crate) fn give_back(self, bytes: Slots<u8>, alloc: &A, size: usize)
-        requires here { slots_ptr bytes ≡ self.at }
-        requires long { slots_len bytes ≡ self.length }
+    pub(crate) fn give_back(self, bytes: Row, alloc: &A, size: usize)
+        requires here { bytes.at ≡ self.at }
+        requires long { length bytes.items ≡ self.length }
         requires home { self.home ≡ alloc.now }
         requires size { size ≡ block_size self.length }
     {
         let Blank { at, marker: _ } = self;
-        let _parts = unsafe { bytes.into_raw_parts() };
+        let Row { at: _ } = bytes;
         unsafe { alloc.deallocate(at, size, align_of::<Tail>()) }
     }
 }

@@ -77,7 +77,7 @@ impl<A: Allocator + Copy> Draft<A> {
         let (blank, bytes) = blank_block(alloc, capacity)?;
         Ok(Draft {
             blank,
-            bytes: Row::of(bytes),
+            bytes,
             len: 0,
             capacity,
             alloc,
@@ -245,7 +245,7 @@ impl<A: Allocator + Copy> Draft<A> {
             capacity,
             alloc,
         } = self;
-        Shared::first_handle(blank.close(bytes.into_slots(capacity)), len, alloc)
+        Shared::first_handle(blank.close(bytes), len, alloc)
     }
 }
 
@@ -259,7 +259,6 @@ impl<A: Allocator + Copy> Drop for Draft<A> {
             capacity,
             alloc,
         } = self;
-        let bytes = bytes.into_slots(capacity);
         blank.give_back(bytes, &alloc, size_of_block(capacity));
     }
 }

@@ -21,7 +21,6 @@ impl<const LIMIT: u64, A: Allocator + Copy> Shared<LIMIT, A> {
     /// let text = Shared::<5, _>::join(rt.alloc(), &["a", "b"], ", ", 4)?;
     /// assert_eq!(rt; text.as_str(), "a, b");
     /// ```
-    #[tactic(auto, using(crate::proofs::Texts::joins, std::proofs::lemmas::List::take_all))]
     pub fn join<S: AsStr>(
         alloc: A,
         texts: &[S],
@@ -40,12 +39,23 @@ impl<const LIMIT: u64, A: Allocator + Copy> Shared<LIMIT, A> {
         ensures refused { IfErr result (IsFaultOfMaking len) }
     {
         let mut draft = Draft::new(alloc, len)?;
-        for i in 0..texts.len() {
-            let text = texts[i].as_str();
-            draft.append(gap_before(i, separator));
-            draft.append(text);
-        }
+        append_joined(&mut draft, texts, separator);
         Ok(draft.close())
+    }
+}
+
+/// Appends these texts, joined by the separator, to an empty text.
+#[tactic(auto, using(crate::proofs::Texts::joins, std::proofs::lemmas::List::take_all))]
+fn append_joined<S: AsStr, A: Allocator + Copy>(draft: &mut Draft<A>, texts: &[S], separator: &str)
+    requires empty { draft.old.text ≡ [] }
+    requires room { length (join_by S.text separator.now texts.now) ≤ draft.old.capacity }
+    ensures text { draft.new.text ≡ join_by S.text separator.now texts.now }
+    ensures capacity { draft.new.capacity ≡ draft.old.capacity }
+{
+    for i in 0..texts.len() {
+        let text = texts[i].as_str();
+        draft.append(gap_before(i, separator));
+        draft.append(text);
     }
 }
 

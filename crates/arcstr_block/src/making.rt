@@ -9,7 +9,7 @@ ghost use Rattle.arcstr_count.specs.Word.{bits_of, fresh_word};
 ghost use Rattle.arcstr_block.specs.Memory.{Fits};
 ghost use Rattle.arcstr_block.specs.Making.{IsTooLong, IsFaultOfMaking, IsFaultOfBytes, IsFaultOfFilling};
 
-use crate::block::{Blank, offset_of_word, size_of_block};
+use crate::block::{Blank, Row, offset_of_word, size_of_block};
 use crate::building::Draft;
 use crate::fault::{TOO_LONG, TextFault};
 use crate::shared::Shared;
@@ -83,9 +83,10 @@ impl<const LIMIT: u64, A: Allocator + Copy> Shared<LIMIT, A> {
         if n >= TOO_LONG {
             return Err(TextFault::Length);
         }
-        let (blank, mut bytes) = blank_block(alloc, n)?;
-        write_zeros(&mut bytes);
-        let mut block = blank.close(bytes);
+        let (blank, bytes) = blank_block(alloc, n)?;
+        let mut slots = bytes.into_slots(n);
+        write_zeros(&mut slots);
+        let mut block = blank.close(Row::of(slots));
         match fill_and_check(block.lend(n), fill) {
             Ok(()) => Ok(Shared::first_handle(block, n, alloc)),
             Err(fault) => {
@@ -131,17 +132,17 @@ impl<const LIMIT: u64, A: Allocator + Copy> Shared<LIMIT, A> {
     }
 }
 
-/// Makes the memory of a new block, whose count word counts one handle, and the slots of its bytes.
+/// Makes the memory of a new block, whose count word counts one handle, and the row of its bytes.
 pub(crate) fn blank_block<A: Allocator + Copy>(
     alloc: A,
     len: usize,
-) -> Result<(Blank<A>, Slots<u8>), TextFault>
+) -> Result<(Blank<A>, Row), TextFault>
     requires { Fits len }
     ensures home { IfOk result (λ made. made.0.home ≡ alloc) }
     ensures word { IfOk result (λ made. made.0.word ≡ bits_of fresh_word) }
-    ensures length { IfOk result (λ made. (made.0.length ≡ len) × (slots_len made.1 ≡ len)) }
-    ensures bytes { IfOk result (λ made. slots_ptr made.1 ≡ made.0.at) }
-    ensures empty { IfOk result (λ made. slots_items made.1 ≡ replicate len 0) }
+    ensures length { IfOk result (λ made. (made.0.length ≡ len) × (length made.1.items ≡ len)) }
+    ensures bytes { IfOk result (λ made. made.1.at ≡ made.0.at) }
+    ensures empty { IfOk result (λ made. made.1.items ≡ replicate len 0) }
     ensures refused { IfErr result (λ fault. fault ≡ TextFault.Memory) }
 {
     let offset = offset_of_word(len);

@@ -438,7 +438,6 @@ impl<const LIMIT: u64, A: Allocator + Copy> Shared<LIMIT, A> {
     ///     Down::Left | Down::Ended => return Err(Fail::from("another handle is left")),
     /// }
     /// ```
-    #[tactic(auto, using(crate::proofs::Histories::marked_is_not_begun))]
     pub fn down_after(self, before: &Seen) -> (Down<A>, Seen)
         requires before { before.now.block ≡ self.block }
         ensures seen { EndsAs LIMIT result.1.history self.seat result.0 }

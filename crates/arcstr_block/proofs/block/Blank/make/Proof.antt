@@ -1,14 +1,14 @@
--- `make` allocates a block's room, cuts it in three, writes the word and the length, and makes slots of the bytes.
+-- `make` allocates a block's room, cuts it in three, writes the word and the length, and makes a row of the bytes.
 use Rattle.arcstr_block.proofs.Names.{◌≡◌, ℕ, ◌^◌, Bool, true, [], ◌∷◌, refl, arith, lit<, false, List, sym, ap, length, ◌+◌, ◌<◌, ◌∙◌, w64, replicate}
 use Rattle.arcstr_block.proofs.Names.{inst_fn, bare, Ty, w8, ty_int, ty_array, dcons, dnil, a_type, named, Body, Val, vint, vptr, vstruct, WT, vcons, vnil, Wp}
 use Rattle.arcstr_block.proofs.Names.{after_seq, at_return, Lft, Share, Incl-trans, Fml, fsep, flft, ftrue, fwand, froom, full_share, SProp, ◌⊑◌, fact, tables}
-use Rattle.arcstr_block.proofs.Names.{u8, usize, part_at, param, bounded, uint_vals, uint_Tells, RattleType, Valss, owns, Ptr, block_ptr, InBlock, shr_vals}
+use Rattle.arcstr_block.proofs.Names.{usize, part_at, param, bounded, uint_vals, uint_Tells, RattleType, Valss, owns, Ptr, block_ptr, InBlock, shr_vals}
 use Rattle.arcstr_block.proofs.Names.{shr_Tells, makes_shadow, types_at, nothing, heard, within, Tuple, tuple_type, calls_at, alloc_all, pass_all, free_all}
-use Rattle.arcstr_block.proofs.Names.{look_at, get, get_in, sets, env, through, sets_last, is, get_tag, lands_as, ‵, ◌⊛◌, some, later, ◌$◌, ◌∵◌, !, qed, move}
-use Rattle.arcstr_block.proofs.Names.{pick, use0, use1, use2, split, join, fsplit, fjoin, fjoin3, fpack, await, raw, by, keep, fsplit3, given, learn, rewrite}
+use Rattle.arcstr_block.proofs.Names.{look_at, get, get_in, sets, env, through, sets_last, is, get_tag, lands_as, ‵, ◌⊛◌, later, ◌$◌, ◌∵◌, !, qed, move}
+use Rattle.arcstr_block.proofs.Names.{use0, use1, use2, split, join, fsplit, fjoin, fjoin3, fpack, await, raw, by, keep, fsplit3, rewrite}
 use Rattle.arcstr_block.proofs.Names.{feq_i, at_ret, any_q, agg, stop, fld, lit, of_opd, no_more, and_then, first, exec, returns, enter, addr, bin, switches_on}
-use Rattle.arcstr_block.proofs.Names.{init, assigns, Al, Answer-typed, Takes, at_takes, Answered, Takes-goes, Takes-gives, answers, words_val, word_in, slots}
-use Rattle.arcstr_block.proofs.Names.{Slots, fm, proved, Fits, word_offset, block_size, block_type, rooms}
+use Rattle.arcstr_block.proofs.Names.{◌*◌, flt_i, init, assigns, Al, Answer-typed, Takes, at_takes, Answered, Takes-goes, Takes-gives, answers, word_in, slots}
+use Rattle.arcstr_block.proofs.Names.{fm, proved, Fits, word_offset, block_size, block_type, rooms}
 use types.Part.{whole as all_of_it}
 use lib.ListN.{length-replicate}
 use types.Match.{live, vrt, in_variant}
@@ -17,15 +17,14 @@ use Rattle.core.proofs.once.Made.{ok_of, err_of}
 use Rattle.core.proofs.slots.Bodies.{after, head, arm_body}
 use Rattle.core.proofs.slots.Places.{of_room}
 use Rattle.arcstr_block.proofs.Pointers.{pointer_val, typed, Words, made}
-use Rattle.arcstr_block.proofs.Memory.{byte_laws, block_bytes, block_align, spreads, Bytes, byte, R, MakeContract, at_makes, IsSlotsMade, makes_goes}
-use Rattle.arcstr_block.proofs.Memory.{makes_gives, words_typed}
+use Rattle.arcstr_block.proofs.Memory.{block_bytes, block_align, spreads, byte, R, RowFields, row_val, row_typed, row_made}
 use Rattle.arcstr_block.specs.contracts.block.Blank.make.{ended, clauses}
 use Rattle.arcstr_block.specs.contracts.block.Blank.make.Key.{name as #self}
 use Rattle.arcstr_block.proofs.block.Blank.make.Statement.{statement}
 use denote.Struct.Declared as declared
 use Rattle.core.specs.contracts.alloc.AllocError as refusal
 use Rattle.core.specs.contracts.result.Result as Res
-use Rattle.core.proofs.slots.Slots.from_raw_parts.Met as callee
+use Rattle.arcstr_block.specs.contracts.block.Row as RW
 use Rattle.arcstr_block.specs.contracts.block.Blank as N
 use Rattle.arcstr_block.proofs.block.Blank.make.Code as code
 use Rattle.arcstr_block.proofs.Endings.{all_dropped, all_go, Walk, ends, also}
@@ -36,7 +35,7 @@ make_spec 𝓤 𝓛 𝓜 𝓡 wired Y K g d dd met md =
     let H = 𝓛.H in let 𝓣 = tables 𝓤 H 𝓜 𝓡 𝓡.env in let B : RattleType = param 0 Y in let En = ended Y g d dd in let c = clauses Y g d dd 𝓛 𝓜.mem 𝓡.returns in
     let inst = bounded (a_type ∷ []) (Y, tt) (dcons d (dcons dd dnil)) in let fn = inst_fn inst code.function in
     let Open : RattleType = N.the_row B g in
-    let Z : Al = record { row = Y; laws = K; g = g; d = d; drops = dd } in let Two : RattleType = Tuple (Open ∷ Bytes ∷ []) in
+    let Z : Al = record { row = Y; laws = K; g = g; d = d; drops = dd } in let Two : RattleType = Tuple (Open ∷ RW.the_row ∷ []) in
     let Out : RattleType = Res.the_row Two refusal.the_row in
     proved 𝓛 En (all_dropped En) c 𝓜 𝓡 (all_go 𝓛 En (λ κs x f. refl, (λ κs x f. refl, (λ κs x f. refl, (λ κs x f. refl, (λ κs x f. refl, tt))))))
     (#self inst) fn (code.unfolded 𝓤 H 𝓜 𝓡 wired (Y, tt) d dd)
@@ -88,33 +87,29 @@ make_spec 𝓤 𝓛 𝓜 𝓡 wired Y K g d dd met md =
     assigns ! (of_opd ! (get ! refl)) (through ! refl (stop !)) (init ! 0 refl (tt, fit_n)) $ move ! (2 ∷ []) $
     rewrite ! 0 (λ (m : ℕ). ‵ (froom (ty_array (ty_int w8) m) b o)) long refl $
     use1 𝓛 (‵ (slots R (block_ptr b o) zs fs)) (of_room byte 𝓛 b zs o) $
-    let Row = MakeContract 𝓛 𝓜.mem 𝓡.returns in let x : Row.Ghost = at_makes 𝓛 𝓜.mem 𝓡.returns b o n zs fs in
-    use1 𝓛 (raw (Row.pre x)) (makes_goes 𝓛 𝓜.mem 𝓡.returns b o n zs fs long (long ∙ sym (length-replicate (length zs) false)) (omega arith)) $
-    calls_at ! (fm 𝓛 𝓜 𝓡) Row (callee.met 𝓤 𝓛 𝓜 𝓡 (code.calls-core::slots::Slots::from_raw_parts 𝓡.env wired) u8 byte_laws) x (and_then ! (get ! refl)
-    (and_then ! (get ! refl) (no_more !))) (λ v.
-    use1 𝓛 (later (some (λ (r : Slots ℕ). given (IsSlotsMade 𝓛 𝓜.mem 𝓡.returns b o n zs fs r ×
-    (v ≡ words_val (block_ptr b o) n)) (‵ (Bytes.own_val r (v ∷ [])))))) (makes_gives 𝓛 𝓜.mem 𝓡.returns b o n zs fs v) $ await ! tt $ pick ! (λ r.
-    learn ! (λ is.
-    let wv : Val = words_val (block_ptr b o) n in let wt = words_typed (block_ptr b o) n fit_n.fits in
+    flt_i ! (length zs * 1) (2 ^ 63) (omega arith) $ fjoin ! $
+    use0 𝓛 (‵ (RowFields.own_val (p, tt) (row_val p ∷ []))) (row_made 𝓛 p) $ fjoin ! $
+    let r : RW.the_row.Denot = record { at = p; items = zs; filled = fs; counts = sym (length-replicate (length zs) false) } in
+    let wv : Val = row_val p in let wt = row_typed p in
     let pair : Val = vstruct (vcons (pointer_val p) (vcons wv vnil)) in let val : Val = live 0 (vcons pair vnil) in
     let good : WT val = (record { fits = lit< tt }, (((tt, (tt, tt)), (wt.1, tt)), tt)) in
-    rewrite ! 0 (λ (t : Val). ‵ (Bytes.own_val r (t ∷ []))) is.1 refl $ lands_as ! is.1 refl wt $
+    sets ! (agg ! (and_then ! (get ! refl) (no_more !))) refl wt $
     sets ! (agg ! (no_more !)) refl (tt, tt) $ sets ! (agg ! (and_then ! (get ! refl) (and_then ! (get ! refl) (no_more !)))) refl (typed p) $
     sets ! (of_opd ! (get ! refl)) refl (typed p) $ sets ! (of_opd ! (get ! refl)) refl wt $
     sets ! (agg ! (and_then ! (get ! refl) (and_then ! (get ! refl) (no_more !)))) refl (tt, ((tt, (tt, tt)), (wt.1, tt))) $
     sets_last ! (agg ! (and_then ! (lit ! tt) (and_then ! (get ! refl) (no_more !)))) refl (tt, good) $
     exec ! 𝓣.C 𝓣.Λ Ev (after 2 fn.body) (at_ret Ev Post) $ sets ! (of_opd ! (get ! refl)) refl (tt, good) $
-    -- [the slots; the length; nothing; the word; the rim; the tokens]
+    -- [the row; the length; nothing; the word; the rim; the tokens]
     move ! (1 ∷ []) $ use1 𝓛 (‵ (part_at usize full_share n b (t + 8))) (word_in 𝓛 b (t + 8) n) $ move ! (3 ∷ 0 ∷ 4 ∷ []) $ fjoin3 ! $ nothing ! $
     fpack ! (InBlock p × Fits n) (λ _. ftrue) (tt, fits) $ fjoin ! $
     use0 𝓛 (‵ ((Words B g).own_val (p, (tt, tt)) (pointer_val p ∷ []))) (made B g 𝓛 p) $ fjoin ! $ move ! (0 ∷ 1 ∷ 2 ∷ []) $ fjoin3 ! $
     feq_i ! (List Val) (pair ∷ []) (pair ∷ []) refl $ fjoin ! $
     let h : Open.Denot = record { at = p; marker = record {}; home = heap; word = w; length = n } in
-    let words : Valss (Open ∷ Bytes ∷ []) = (pointer_val p ∷ [], (wv ∷ [], tt)) in
-    fpack ! (Valss (Open ∷ Bytes ∷ [])) (within (declared.shape (tuple_type (Open ∷ Bytes ∷ []))) (h, (r, tt)) (pair ∷ [])) words $
+    let words : Valss (Open ∷ RW.the_row ∷ []) = (pointer_val p ∷ [], (wv ∷ [], tt)) in
+    fpack ! (Valss (Open ∷ RW.the_row ∷ [])) (within (declared.shape (tuple_type (Open ∷ RW.the_row ∷ []))) (h, (r, tt)) (pair ∷ [])) words $
     use1 𝓛 (‵ (Out.own_val (Ok (h, r)) (val ∷ []))) (ok_of 𝓛 Two refusal.the_row (h, r) pair) $
     returns ! (look_at ! 0 refl) $ free_all ! refl $ keep ! (0 ∷ 1 ∷ []) $ by ! (ends 𝓛 En c y val (Ok (h, r)) (tt, (tt, (tt, (tt, (tt, tt)))))
-    (also 𝓛 {X = heap ≡ heap} refl (also 𝓛 {X = w ≡ w} refl (framed.three 𝓛 {X = (n ≡ n) × (r.len ≡ n)} (refl, is.0.1) is.0.0 is.0.2))))))))
+    (also 𝓛 {X = heap ≡ heap} refl (also 𝓛 {X = w ≡ w} refl (framed.three 𝓛 {X = (n ≡ n) × (length zs ≡ n)} (refl, sym long) refl refl)))))
     (λ e. let val : Val = live 1 (vcons (vstruct vnil) vnil) in let good : WT val = (record { fits = lit< tt }, (tt, tt)) in
     let F : Fml = refusal.the_row.own_val (record {}) (vstruct vnil ∷ []) in let so : Unit {0} = tt in
     lands_as ! e refl (Answer-typed false 0 0) $ first ! $ switches_on ! (get_tag ! (vrt ! refl (fld ! refl (stop !))) (all_of_it !)) $
