@@ -14,8 +14,7 @@ use std::fmt;
 use std::fmt::{Display, Write};
 use std::marker::Model;
 
-/// The least capacity in bytes of the first block that a push makes. From it a block that grows by
-/// four fills 256, 1,024 and 4,096 bytes.
+/// The least capacity in bytes of the first block that a push makes.
 const FIRST: usize = 64;
 
 /// An `ArcStr` that is being built. In a contract it has the text so far, a capacity, which is the

@@ -140,7 +140,7 @@ impl<A: Allocator + Copy> Draft<A> {
     /// let mut draft = Draft::new(rt.alloc(), 3)?;
     /// draft.append("aé");
     /// draft.reserve(1)?;
-    /// assert_eq!(rt; (draft.as_str(), draft.capacity()), ("aé", 12));
+    /// assert_eq!(rt; (draft.as_str(), draft.capacity()), ("aé", 24));
     /// ```
     pub fn reserve(&mut self, additional: usize) -> Result<(), TextFault>
         ensures text { self.new.text ≡ self.old.text }
@@ -263,7 +263,7 @@ impl<A: Allocator + Copy> Drop for Draft<A> {
     }
 }
 
-/// The capacity after a move: four times the one before, or twice if that is `LARGE`, but at least
+/// The capacity after a move: eight times the one before, or twice if that is `LARGE`, but at least
 /// what is needed, and below the least that is too long. Memory that is not written costs nothing,
 /// and `finish` leaves none, but an allocator refuses more than the machine may have.
 fn larger(capacity: usize, needed: usize) -> usize
@@ -273,9 +273,6 @@ fn larger(capacity: usize, needed: usize) -> usize
     ensures enough { needed ≤ result }
     ensures doubles { IsDoubled capacity result }
 {
-    let twice = (2 * capacity).min(TOO_LONG - 1);
-    if capacity >= LARGE {
-        return needed.max(twice);
-    }
-    needed.max((2 * twice).min(TOO_LONG - 1))
+    let times = if capacity >= LARGE { 2 } else { 8 };
+    needed.max(capacity.saturating_mul(times).min(TOO_LONG - 1))
 }
