@@ -57,7 +57,7 @@ fn lengths_are_refused_before_memory(ref rt: HostRuntime) -> Result<(), Fail> {
     Ok(())
 }
 
-/// A builder grows to eight times its capacity, from 64 bytes on, and from 1 MiB on to twice.
+/// A builder grows from 64 bytes on by eight up to 128 MiB, and then by two.
 #[test]
 fn the_capacity_grows_by_eight(ref rt: HostRuntime) -> Result<(), Fail> {
     let mut builder = ArcStrBuilder::new(rt.alloc());
@@ -70,10 +70,11 @@ fn the_capacity_grows_by_eight(ref rt: HostRuntime) -> Result<(), Fail> {
     assert_eq!(rt; (builder.len(), builder.capacity()), (65, 5065));
     let text = builder.finish()?;
     assert_eq!(rt; (text.len(), count(&text)), (65, Some(1)));
-    let mut large = ArcStrBuilder::with_capacity(rt.alloc(), 1 << 20)?;
-    large.push_str(&ArcStr::repeat(rt.alloc(), "a", 1 << 20)?)?;
-    large.push('a')?;
-    assert_eq!(rt; large.capacity(), 2 << 20);
+    for (capacity, grown) in [(16, 128), (20, 128), (100, 200), (128, 256)] {
+        let mut large = ArcStrBuilder::with_capacity(rt.alloc(), capacity << 20)?;
+        large.reserve((capacity << 20) + 1)?;
+        assert_eq!(rt; large.capacity(), grown << 20);
+    }
     Ok(())
 }
 

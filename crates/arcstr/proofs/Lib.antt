@@ -1,5 +1,4 @@
 pub mod Builders
-pub mod Differences
 pub mod FirstMatches
 pub mod JoinedSlices
 pub mod LinesBefore

@@ -1,5 +1,5 @@
 //! Builds a text piece by piece in the block that is to hold it. No call here takes an atomic step.
-ghost use Rattle.std.specs.Prelude.{◌≡◌, ◌↔◌, ◌+◌, ◌≤◌, ◌<◌, [], ◌++◌, length, encode_utf8, IsTrue};
+ghost use Rattle.std.specs.Prelude.{◌≡◌, ◌↔◌, ◌+◌, ◌≤◌, ◌<◌, [], ◌++◌, length, encode_utf8, IsTrue, IsFalse};
 ghost use Rattle.std.specs.Prelude.{Ok, IsOk, IfSome, IfOk, IfErr, IsErrOf, OnOk};
 ghost use Rattle.std.specs.Fmt.{with_newline};
 ghost use Rattle.arcstr.specs.TextView.{literal_of};
@@ -8,7 +8,7 @@ ghost use Rattle.arcstr.specs.Making.{IsTooLong, IsFaultOfMaking};
 
 use crate::arc_str::ArcStr;
 use crate::reading::Held;
-use arcstr_block::{Draft, TextFault};
+use arcstr_block::{Draft, TOO_LONG, TextFault};
 use std::alloc::Global;
 use std::fmt;
 use std::fmt::{Display, Write};
@@ -217,9 +217,13 @@ impl ArcStrBuilder {
         ensures refused { IfErr result
             (IsFaultOfMaking (length self.old.text + length text.now)) }
     {
-        self.reserve(text.len())?;
-        if let Some(draft) = &mut self.draft {
-            draft.append(text);
+        if !self.has_room(text.len()) && !self.make_room(text.len()) {
+            return Err(self.fault_of_room(text.len()));
+        }
+        match &mut self.draft {
+            Some(draft) => draft.append(text),
+            None if text.is_empty() => {}
+            None => unreachable!(),
         }
         Ok(())
     }
@@ -347,6 +351,44 @@ impl ArcStrBuilder {
         match draft {
             Some(draft) => ArcStr::from_shared(draft.fill(rest)),
             None => unreachable!(),
+        }
+    }
+
+    fn has_room(&self, additional: usize) -> bool
+        ensures room { IsTrue result ↔ HasRoom self.now additional }
+        ensures fits { IsTrue result → ¬ IsTooLong (length self.now.text + additional) }
+    {
+        match &self.draft {
+            Some(draft) => draft.has_room(additional),
+            None => additional == 0,
+        }
+    }
+
+    /// Makes room as `reserve` does, and returns whether there is. It is out of line and returns no
+    /// fault, so that a push that finds room takes few instructions.
+    #[cold]
+    #[inline(never)]
+    fn make_room(&mut self, additional: usize) -> bool
+        ensures text { self.new.text ≡ self.old.text }
+        ensures held { self.new.held ≡ self.old.held }
+        ensures room { IsTrue result → HasRoom self.new additional }
+        ensures fits { IsTrue result → ¬ IsTooLong (length self.old.text + additional) }
+        ensures left { IsFalse result → self.new.capacity ≡ self.old.capacity }
+        ensures doubles { self.old.capacity < length self.old.text + additional
+            → IsTrue result → IsDoubled self.old.capacity self.new.capacity }
+    {
+        self.reserve(additional).is_ok()
+    }
+
+    /// Returns why there is no room: the text would be too long, or there is no memory.
+    fn fault_of_room(&self, additional: usize) -> TextFault
+        ensures too_long { (result ≡ TextFault.Length) ↔ IsTooLong (length self.now.text + additional) }
+        ensures refused { IsFaultOfMaking (length self.now.text + additional) result }
+    {
+        if self.len().saturating_add(additional) >= TOO_LONG {
+            TextFault::Length
+        } else {
+            TextFault::Memory
         }
     }
 }

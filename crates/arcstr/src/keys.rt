@@ -12,7 +12,6 @@ ghost use Rattle.arcstr.specs.Substr.{text_of};
 
 use crate::arc_str::ArcStr;
 use crate::substr::Substr;
-use crate::vectors::{compare, is_equal};
 use std::cmp::Ordering;
 use std::collections::btree_map::Comparable;
 use std::collections::hash_map::Equivalent;
@@ -29,7 +28,7 @@ impl Equivalent<ArcStr> for &str {
         ensures value { result ≡ bytes_eq self.now.now key.now.text }
         ensures same { IsTrue result ↔ (self.now.now ≡ key.now.text) }
     {
-        is_equal(*self, ArcStr::as_str(key))
+        *self == ArcStr::as_str(key)
     }
 }
 
@@ -45,7 +44,7 @@ impl Equivalent<Substr> for &str {
         ensures value { result ≡ bytes_eq self.now.now (text_of key.now) }
         ensures same { IsTrue result ↔ (self.now.now ≡ text_of key.now) }
     {
-        is_equal(*self, Substr::as_str(key))
+        *self == Substr::as_str(key)
     }
 }
 
@@ -60,7 +59,7 @@ impl Comparable<ArcStr> for &str {
     fn compare(&self, key: &ArcStr) -> Ordering
         ensures value { result ≡ slice_cmp nat_cmp self.now.now key.now.text }
     {
-        compare(*self, ArcStr::as_str(key))
+        (*self).cmp(ArcStr::as_str(key))
     }
 }
 
@@ -75,7 +74,7 @@ impl Comparable<Substr> for &str {
     fn compare(&self, key: &Substr) -> Ordering
         ensures value { result ≡ slice_cmp nat_cmp self.now.now (text_of key.now) }
     {
-        compare(*self, Substr::as_str(key))
+        (*self).cmp(Substr::as_str(key))
     }
 }
 
@@ -130,7 +129,7 @@ impl Equivalent<ArcStr> for &Substr {
         ensures value { result ≡ bytes_eq (text_of self.now.now) key.now.text }
         ensures same { IsTrue result ↔ (text_of self.now.now ≡ key.now.text) }
     {
-        is_equal(Substr::as_str(*self), ArcStr::as_str(key))
+        Substr::as_str(*self) == ArcStr::as_str(key)
     }
 }
 
@@ -146,7 +145,7 @@ impl Equivalent<Substr> for &ArcStr {
         ensures value { result ≡ bytes_eq self.now.now.text (text_of key.now) }
         ensures same { IsTrue result ↔ (self.now.now.text ≡ text_of key.now) }
     {
-        is_equal(ArcStr::as_str(*self), Substr::as_str(key))
+        ArcStr::as_str(*self) == Substr::as_str(key)
     }
 }
 
@@ -161,7 +160,7 @@ impl Comparable<ArcStr> for &Substr {
     fn compare(&self, key: &ArcStr) -> Ordering
         ensures value { result ≡ slice_cmp nat_cmp (text_of self.now.now) key.now.text }
     {
-        compare(Substr::as_str(*self), ArcStr::as_str(key))
+        Substr::as_str(*self).cmp(ArcStr::as_str(key))
     }
 }
 
@@ -176,7 +175,7 @@ impl Comparable<Substr> for &ArcStr {
     fn compare(&self, key: &Substr) -> Ordering
         ensures value { result ≡ slice_cmp nat_cmp self.now.now.text (text_of key.now) }
     {
-        compare(ArcStr::as_str(*self), Substr::as_str(key))
+        ArcStr::as_str(*self).cmp(Substr::as_str(key))
     }
 }
 

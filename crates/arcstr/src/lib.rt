@@ -39,4 +39,3 @@ mod substr;
 mod text;
 mod trimming;
 mod values;
-mod vectors;

@@ -14,7 +14,6 @@ ghost use Rattle.arcstr.specs.Substr.{text_of};
 use crate::arc_str::ArcStr;
 use crate::static_str::StaticStr;
 use crate::substr::Substr;
-use crate::vectors::{compare, is_equal};
 use std::cmp::Ordering;
 use std::hash::{Hash, Hasher};
 
@@ -29,7 +28,7 @@ impl ArcStr {
     pub fn eq_str(&self, other: &str) -> bool
         ensures { IsTrue result ↔ (self.now.text ≡ other.now) }
     {
-        is_equal(self.as_str(), other)
+        self.as_str() == other
     }
 }
 
@@ -78,7 +77,7 @@ impl Ord for ArcStr {
         ensures value { result ≡ slice_cmp nat_cmp self.now.text other.now.text }
         ensures order { IsTextOrder self.now.text other.now.text result }
     {
-        compare(self.as_str(), other.as_str())
+        self.as_str().cmp(other.as_str())
     }
 }
 
@@ -98,7 +97,7 @@ impl Substr {
     pub fn eq_str(&self, other: &str) -> bool
         ensures { IsTrue result ↔ (text_of self.now ≡ other.now) }
     {
-        is_equal(self.as_str(), other)
+        self.as_str() == other
     }
 }
 
@@ -147,7 +146,7 @@ impl Ord for Substr {
         ensures value { result ≡ slice_cmp nat_cmp (text_of self.now) (text_of other.now) }
         ensures order { IsTextOrder (text_of self.now) (text_of other.now) result }
     {
-        compare(self.as_str(), other.as_str())
+        self.as_str().cmp(other.as_str())
     }
 }
 
@@ -177,6 +176,6 @@ impl Ord for StaticStr {
         ensures value { result ≡ slice_cmp nat_cmp self.now.text other.now.text }
         ensures order { IsTextOrder self.now.text other.now.text result }
     {
-        compare(StaticStr::as_str(self), StaticStr::as_str(other))
+        StaticStr::as_str(self).cmp(StaticStr::as_str(other))
     }
 }

@@ -1,7 +1,7 @@
 //! Builds a text in the memory of its block: the block is made first, and the text is appended to
 //! it.
 ghost use Rattle.std.specs.Prelude.{◌≡◌, ◌↔◌, ◌+◌, ◌≤◌, ◌<◌, [], ◌++◌, length, take};
-ghost use Rattle.std.specs.Prelude.{IfOk, IfErr, IsErrOf, IsOk, IsUtf8};
+ghost use Rattle.std.specs.Prelude.{IfOk, IfErr, IsErrOf, IsOk, IsTrue, IsUtf8};
 ghost use Rattle.std.proofs.Props.{props};
 ghost use Rattle.core.specs.Mem.Slots.Ownership.{Filled};
 ghost use Rattle.arcstr_count.specs.Word.{bits_of, fresh_word};
@@ -19,8 +19,8 @@ use std::alloc::Allocator;
 use std::marker::Model;
 use std::mem;
 
-/// The capacity, in bytes, from which on a block only doubles.
-const LARGE: usize = 1 << 20;
+/// The capacity, in bytes, up to which a block grows by eight.
+const LARGE: usize = 1 << 27;
 
 /// A text that is being built in the block that is to hold it. Contracts see the text so far, and
 /// the capacity: the number of bytes that the block has room for. Its drop frees the block.
@@ -112,6 +112,15 @@ impl<A: Allocator + Copy> Draft<A> {
         self.capacity
     }
 
+    /// Returns whether there is room for `additional` bytes more.
+    pub fn has_room(&self, additional: usize) -> bool
+        ensures room { IsTrue result ↔ HasRoom self.now additional }
+        // Promise: A text for which there is room is not too long.
+        ensures fits { IsTrue result → Fits (length self.now.text + additional) }
+    {
+        additional <= self.capacity - self.len
+    }
+
     /// Appends a text for which there is room. It cannot fail.
     ///
     /// ```
@@ -157,7 +166,7 @@ impl<A: Allocator + Copy> Draft<A> {
             ↔ IsTooLong (length self.old.text + additional) }
         ensures refused { IfErr result (IsFaultOfMaking (length self.old.text + additional)) }
     {
-        if additional <= self.capacity - self.len {
+        if self.has_room(additional) {
             return Ok(());
         }
         match self.len.checked_add(additional) {
@@ -263,9 +272,10 @@ impl<A: Allocator + Copy> Drop for Draft<A> {
     }
 }
 
-/// The capacity after a move: eight times the one before, or twice if that is `LARGE`, but at least
-/// what is needed, and below the least that is too long. Memory that is not written costs nothing,
-/// and `finish` leaves none, but an allocator refuses more than the machine may have.
+/// The capacity after a move: twice the one before, or up to eight times if that is at most
+/// `LARGE`, but at least what is needed, and below the least that is too long. Memory that is not
+/// written costs nothing, and `finish` leaves none, but an allocator refuses more than the machine
+/// may have.
 fn larger(capacity: usize, needed: usize) -> usize
     requires capacity { Fits capacity }
     requires needed { Fits needed }
@@ -273,6 +283,7 @@ fn larger(capacity: usize, needed: usize) -> usize
     ensures enough { needed ≤ result }
     ensures doubles { IsDoubled capacity result }
 {
-    let times = if capacity >= LARGE { 2 } else { 8 };
-    needed.max(capacity.saturating_mul(times).min(TOO_LONG - 1))
+    let by_eight = capacity.saturating_mul(8).min(LARGE);
+    let grown = capacity.saturating_mul(2).max(by_eight);
+    needed.max(grown.min(TOO_LONG - 1))
 }

@@ -10,7 +10,7 @@ use std::io::ErrorKind;
 use std::{fmt, io};
 
 /// The least number of bytes that is too long for a block.
-pub(crate) const TOO_LONG: usize = (1 << 63) - 25;
+pub const TOO_LONG: usize = (1 << 63) - 25;
 
 /// Why a text cannot be made. It is plain data of 16 bytes, and prints what is wrong. `?` converts
 /// it to an `io::Error` or an `anyhow::Error`.

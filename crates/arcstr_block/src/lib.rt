@@ -7,7 +7,7 @@
 
 pub use building::Draft;
 pub use ending::End;
-pub use fault::TextFault;
+pub use fault::{TOO_LONG, TextFault};
 pub use fixed::Fixed;
 pub use joining::joined_len;
 pub use owed::{Down, Owed};

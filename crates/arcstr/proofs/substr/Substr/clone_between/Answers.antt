@@ -1,9 +1,8 @@
 -- The slice of a slice is one slice of the parent, at the sums of the offsets.
-use Rattle.std.proofs.Common.{ap, ◌∙◌}
+use Rattle.std.proofs.Common.{ap, ◌∙◌, arith}
 use Rattle.arcstr_range.proofs.Boundaries.{cut-cut}
 use Rattle.arcstr_range.proofs.FoundParts.{length-cut}
 use Rattle.arcstr.specs.Substr.{text_of}
-use Rattle.arcstr.proofs.Orders.{arith}
 use Rattle.arcstr.proofs.substr.Substr.clone_between.Goals as goal
 
 pub returns-clause-slice : goal.returns-clause-slice

@@ -1,9 +1,0 @@
-use Rattle.arcstr.proofs.Orders.{◌≡◌, ◌≤◌, ◌+◌, ◌-◌, take}
-use Rattle.arcstr.proofs.vectors.compare_from.Given as goal
-
--- the bytes passed so far are equal
-abbrev pub invariant-loop-from : goal.invariant-loop-from
-invariant-loop-from g l = record { within : l.from ≤ l.last + g.row.N; equal : take l.from l.one ≡ take l.from l.other }
-
-abbrev pub decreases-loop-from : goal.decreases-loop-from
-decreases-loop-from g l = l.last + g.row.N - l.from
