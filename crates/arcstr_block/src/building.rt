@@ -113,6 +113,11 @@ impl<A: Allocator + Copy> Draft<A> {
     }
 
     /// Returns whether there is room for `additional` bytes more.
+    ///
+    /// ```
+    /// let draft = Draft::new(rt.alloc(), 3)?;
+    /// assert_eq!(rt; (draft.has_room(3), draft.has_room(4)), (true, false));
+    /// ```
     pub fn has_room(&self, additional: usize) -> bool
         ensures room { IsTrue result ↔ HasRoom self.now additional }
         // Promise: A text for which there is room is not too long.

@@ -10,6 +10,10 @@ use std::io::ErrorKind;
 use std::{fmt, io};
 
 /// The least number of bytes that is too long for a block.
+///
+/// ```
+/// assert_eq!(rt; TOO_LONG, 9_223_372_036_854_775_783);
+/// ```
 pub const TOO_LONG: usize = (1 << 63) - 25;
 
 /// Why a text cannot be made. It is plain data of 16 bytes, and prints what is wrong. `?` converts
