@@ -222,7 +222,6 @@ impl ArcStrBuilder {
         }
         match &mut self.draft {
             Some(draft) => draft.append(text),
-            // Without a block there is room for the empty text alone.
             None if text.is_empty() => {}
             None => unreachable!(),
         }
